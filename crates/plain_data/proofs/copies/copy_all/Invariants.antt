@@ -1,0 +1,7 @@
+-- proofs/copies/copy_all/Invariants.antt
+use Rattle.std.proofs.Common.{◌≡◌, take}
+use Rattle.plain_data.proofs.copies.copy_all.Given as goal
+
+-- the copies so far are the items so far
+abbrev pub invariant-loop-item : goal.invariant-loop-item
+invariant-loop-item g l = l.copied.items ≡ take l.item-index l.items
