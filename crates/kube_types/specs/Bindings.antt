@@ -1,0 +1,142 @@
+-- The words of bindings: the class of an object, completed, for, carries, protected.
+-- Source: Kubernetes documentation, "Persistent Volumes", and the constants of `pv_controller.go` and of the protection controllers.
+use Rattle.std.specs.Prelude.{ℕ, ◌==◌, Bool, true, false, not, ◌&&◌, List, Option, Some, None, bytes_eq, codes, is_some, unwrap_or, [], ◌∷◌}
+use Rattle.std.specs.List.{list_any}
+use Rattle.plain_data.specs.Pairs.{Pair, value_at}
+use Rattle.kube_types.specs.declared.uid.Uid.{Uid}
+use Rattle.kube_types.specs.declared.parts.VolumePhase.{VolumePhase}
+use Rattle.kube_types.specs.declared.parts.VolumePhase.TheVariants as phases
+use Rattle.kube_types.specs.declared.parts.Policy.{Policy}
+use Rattle.kube_types.specs.declared.parts.Policy.TheVariants as policies
+use Rattle.kube_types.specs.declared.objects.Meta.{Meta}
+use Rattle.kube_types.specs.declared.objects.Ref.{Ref}
+use Rattle.kube_types.specs.declared.objects.Volume.{Volume}
+use Rattle.kube_types.specs.declared.objects.Claim.{Claim}
+use Rattle.kube_types.specs.declared.objects.Pod.{Pod}
+
+-- the claim was bound by the controller or a user's binding, and all of it was written
+abbrev pub bind_completed : List ℕ
+bind_completed = codes "pv.kubernetes.io/bind-completed"
+
+-- the controller made the binding, so it may take it back
+abbrev pub bound_by_controller : List ℕ
+bound_by_controller = codes "pv.kubernetes.io/bound-by-controller"
+
+-- the provisioner that made the volume
+abbrev pub provisioned_by : List ℕ
+provisioned_by = codes "pv.kubernetes.io/provisioned-by"
+
+-- the node that the scheduler chose for the claim's first pod
+abbrev pub selected_node : List ℕ
+selected_node = codes "volume.kubernetes.io/selected-node"
+
+-- the class is that of claims which name none
+abbrev pub is_default_class : List ℕ
+is_default_class = codes "storageclass.kubernetes.io/is-default-class"
+
+-- the older place of a class's name
+abbrev pub beta_class : List ℕ
+beta_class = codes "volume.beta.kubernetes.io/storage-class"
+
+abbrev pub pvc_protection : List ℕ
+pvc_protection = codes "kubernetes.io/pvc-protection"
+
+abbrev pub pv_protection : List ℕ
+pv_protection = codes "kubernetes.io/pv-protection"
+
+-- the value of the first two annotations
+abbrev pub yes : List ℕ
+yes = codes "yes"
+
+-- the provisioner that provisions nothing
+abbrev pub no_provisioner : List ℕ
+no_provisioner = codes "kubernetes.io/no-provisioner"
+
+abbrev pub is_empty : List ℕ → Bool
+is_empty [] = true
+is_empty (x ∷ xs) = false
+
+abbrev pub has_key : List ℕ → List Pair → Bool
+has_key key pairs = is_some (value_at key pairs)
+
+-- the name stands in the list
+abbrev pub has_name : List ℕ → List (List ℕ) → Bool
+has_name name names = list_any (λ n. bytes_eq n name) names
+
+-- the annotation, else the field, else the empty text
+abbrev pub class_of_volume : Volume → List ℕ
+class_of_volume v = unwrap_or (value_at beta_class v.meta.annotations) v.class
+
+abbrev pub class_of_claim : Claim → List ℕ
+class_of_claim c = unwrap_or (value_at beta_class c.meta.annotations) (unwrap_or c.class [])
+
+abbrev pub is_completed : Claim → Bool
+is_completed c = has_key bind_completed c.meta.annotations
+
+abbrev pub is_deleting : Meta → Bool
+is_deleting m = is_some m.deleted
+
+abbrev pub is_scheduled : Pod → Bool
+is_scheduled p = not (is_empty p.node)
+
+abbrev pub is_protected_volume : Volume → Bool
+is_protected_volume v = has_name pv_protection v.meta.finalizers
+
+abbrev pub is_protected_claim : Claim → Bool
+is_protected_claim c = has_name pvc_protection c.meta.finalizers
+
+-- one of the two phases after Bound
+abbrev pub is_released : VolumePhase → Bool
+is_released phases.Released = true
+is_released phases.Failed = true
+is_released _ = false
+
+abbrev pub is_bound : VolumePhase → Bool
+is_bound phases.Bound = true
+is_bound _ = false
+
+abbrev pub is_available : VolumePhase → Bool
+is_available phases.Available = true
+is_available _ = false
+
+abbrev pub is_delete : Policy → Bool
+is_delete policies.Delete = true
+is_delete _ = false
+
+-- the UID is this one
+abbrev pub is_uid : Option Uid → Uid → Bool
+is_uid None u = false
+is_uid (Some v) u = v.0 == u.0
+
+abbrev pub names_claim : Ref → Claim → Bool
+names_claim r c = bytes_eq r.namespace c.meta.namespace && bytes_eq r.name c.meta.name
+
+-- the UID of a reference is the claim's, or the reference has none
+abbrev pub uid_fits : Option Uid → Claim → Bool
+uid_fits None c = true
+uid_fits (Some u) c = is_uid c.meta.uid u
+
+abbrev pub uid_carries : Option Uid → Claim → Bool
+uid_carries None c = false
+uid_carries (Some u) c = is_uid c.meta.uid u
+
+abbrev pub refers_for : Option Ref → Claim → Bool
+refers_for None c = false
+refers_for (Some r) c = names_claim r c && uid_fits r.uid c
+
+abbrev pub refers_carrying : Option Ref → Claim → Bool
+refers_carrying None c = false
+refers_carrying (Some r) c = names_claim r c && uid_carries r.uid c
+
+-- the volume's reference has the claim's namespace and name, and its UID or none
+abbrev pub is_for : Volume → Claim → Bool
+is_for v c = refers_for v.claim_ref c
+
+-- the UID is there too
+abbrev pub carries : Volume → Claim → Bool
+carries v c = refers_carrying v.claim_ref c
+
+-- the UID in the reference, if any
+abbrev pub ref_uid : Option Ref → Option Uid
+ref_uid None = None
+ref_uid (Some r) = r.uid
