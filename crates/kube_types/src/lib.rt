@@ -1,9 +1,11 @@
 //! The objects of the store.
 #![tactic(auto)]
 
+pub mod key;
 pub mod names;
 pub mod objects;
 pub mod parts;
+pub mod table;
 pub mod uid;
 
 pub use plain_data::{copies, items, pairs, rows, text};
