@@ -1,12 +1,11 @@
 //! The objects of the store.
 #![tactic(auto)]
 
+pub mod key;
+pub mod names;
 pub mod objects;
 pub mod parts;
+pub mod table;
 pub mod uid;
 
-pub use plain_data::copies;
-pub use plain_data::items;
-pub use plain_data::pairs;
-pub use plain_data::rows;
-pub use plain_data::text;
+pub use plain_data::{copies, items, pairs, rows, text};

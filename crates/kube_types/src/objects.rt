@@ -401,3 +401,23 @@ impl Plain for Object {
         }
     }
 }
+
+/// The name of data on a back end: a driver, and the id that it gave.
+#[derive(Debug, Drop)]
+pub struct DataId {
+    pub driver: Text,
+    pub id: Text,
+}
+
+impl Plain for DataId {
+    fn copy(&self, alloc: Global) -> Result<DataId, OutOfMemory> {
+        Ok(DataId {
+            driver: self.driver.copy(alloc)?,
+            id: self.id.copy(alloc)?,
+        })
+    }
+
+    fn same(&self, other: &DataId) -> bool {
+        self.driver.same(&other.driver) && self.id.same(&other.id)
+    }
+}

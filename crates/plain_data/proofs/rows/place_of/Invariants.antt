@@ -1,9 +1,5 @@
 -- proofs/rows/place_of/Invariants.antt
-use Rattle.std.proofs.Common.{◌-◌, ◌≤◌, length}
-use Rattle.std.specs.declared.cmp.Ordering.TheVariants.{Less, Greater}
-use Rattle.std.specs.Ordering.{ordering_index}
-use Rattle.std.specs.List.Sorted.{IsNonDecreasingBy, IsPartitionPoint}
-use Rattle.std.specs.List.{AllWithin}
+use Rattle.std.proofs.Common.{◌-◌}
 use Rattle.plain_data.proofs.RowFacts.{Parted}
 use Rattle.plain_data.proofs.rows.place_of.Given as goal
 

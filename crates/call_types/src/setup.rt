@@ -1,0 +1,55 @@
+//! What a world begins with.
+
+use kube_types::copies::{OutOfMemory, Plain, copy_option, same_option};
+use kube_types::items::Items;
+use kube_types::text::Text;
+use std::alloc::Global;
+
+/// A pool of a back end. With a topology, a label and its value, it serves the nodes that have
+/// this label.
+#[derive(Debug, Drop)]
+pub struct Pool {
+    pub name: Text,
+    pub provisioner: Text,
+    pub bytes: u64,
+    pub topology: Option<(Text, Text)>,
+}
+
+impl Plain for Pool {
+    fn copy(&self, alloc: Global) -> Result<Pool, OutOfMemory> {
+        Ok(Pool {
+            name: self.name.copy(alloc)?,
+            provisioner: self.provisioner.copy(alloc)?,
+            bytes: self.bytes,
+            topology: copy_option(alloc, &self.topology)?,
+        })
+    }
+
+    fn same(&self, other: &Pool) -> bool {
+        self.name.same(&other.name)
+            && self.provisioner.same(&other.provisioner)
+            && self.bytes == other.bytes
+            && same_option(&self.topology, &other.topology)
+    }
+}
+
+/// What is there before the first call: the pools in their order, and the numbers of the
+/// Provision and Erase calls that fail.
+#[derive(Debug, Drop)]
+pub struct Setup {
+    pub pools: Items<Pool>,
+    pub faults: Items<u64>,
+}
+
+impl Plain for Setup {
+    fn copy(&self, alloc: Global) -> Result<Setup, OutOfMemory> {
+        Ok(Setup {
+            pools: self.pools.copy(alloc)?,
+            faults: self.faults.copy(alloc)?,
+        })
+    }
+
+    fn same(&self, other: &Setup) -> bool {
+        self.pools.same(&other.pools) && self.faults.same(&other.faults)
+    }
+}
