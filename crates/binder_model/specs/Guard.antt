@@ -1,0 +1,92 @@
+-- What a user may write: the rules on annotations, finalizers, references and policy.
+-- A choice of this project. In Kubernetes these fields are the controllers' by convention alone.
+use Rattle.std.specs.Prelude.{ℕ, Bool, true, false, not, ◌&&◌, ◌||◌, List, [], ◌∷◌, Option, Some, None, bytes_eq, is_some, is_none}
+use Rattle.std.specs.Bool.{xor}
+use Rattle.std.specs.List.{list_any}
+use Rattle.plain_data.specs.Pairs.{Pair, value_at}
+use Rattle.kube_types.specs.declared.names.Rule.{Rule}
+use Rattle.kube_types.specs.declared.names.Rule.TheVariants as rules
+use Rattle.kube_types.specs.declared.parts.VolumePhase.{VolumePhase}
+use Rattle.kube_types.specs.declared.parts.VolumePhase.TheVariants.{Released}
+use Rattle.kube_types.specs.declared.objects.Ref.{Ref}
+use Rattle.kube_types.specs.declared.objects.Volume.{Volume as VolumeData}
+use Rattle.kube_types.specs.declared.objects.Object.{Object}
+use Rattle.kube_types.specs.declared.objects.Object.TheVariants.{Volume, Claim}
+use Rattle.kube_types.specs.Keys.{meta_of}
+use Rattle.kube_types.specs.Bindings.{bind_completed, bound_by_controller, provisioned_by, pv_protection, pvc_protection, has_name, is_released, is_delete, ref_uid}
+use Rattle.binder_model.specs.Same.{same_option, same_ref}
+
+abbrev pub annotations_before : Option Object → List Pair
+annotations_before None = []
+annotations_before (Some o) = (meta_of o).annotations
+
+abbrev pub finalizers_before : Option Object → List (List ℕ)
+finalizers_before None = []
+finalizers_before (Some o) = (meta_of o).finalizers
+
+abbrev pub is_in_phase_released : VolumePhase → Bool
+is_in_phase_released Released = true
+is_in_phase_released _ = false
+
+-- the one exception: a user may clear the reference of a volume in phase Released that is not to be deleted
+abbrev pub clears_released : Option Object → Object → Bool
+clears_released (Some (Volume old)) (Volume new) = is_in_phase_released old.phase && not (is_delete old.policy) && is_none new.claim_ref
+clears_released _ _ = false
+
+abbrev pub changes_annotation : Option Object → Object → List ℕ → Bool
+changes_annotation old new name = not (same_option bytes_eq (value_at name (annotations_before old)) (value_at name (meta_of new).annotations))
+
+-- the write that clears a reference may drop this annotation too
+abbrev pub drops_with_reference : Option Object → Object → Bool
+drops_with_reference old new = clears_released old new && is_none (value_at bound_by_controller (meta_of new).annotations)
+
+abbrev pub breaks_annotation : Option Object → Object → Bool
+breaks_annotation old new =
+    changes_annotation old new bind_completed
+    || changes_annotation old new provisioned_by
+    || (changes_annotation old new bound_by_controller && not (drops_with_reference old new))
+
+-- the finalizer that admission would add to a new object
+abbrev pub is_admitted : Option Object → Object → List ℕ → Bool
+is_admitted None (Volume v) name = bytes_eq name pv_protection
+is_admitted None (Claim c) name = bytes_eq name pvc_protection
+is_admitted _ _ name = false
+
+abbrev pub changes_finalizer : Option Object → Object → List ℕ → Bool
+changes_finalizer old new name = xor (has_name name (finalizers_before old)) (has_name name (meta_of new).finalizers) && not (is_admitted old new name)
+
+abbrev pub breaks_finalizer : Option Object → Object → Bool
+breaks_finalizer old new = changes_finalizer old new pv_protection || changes_finalizer old new pvc_protection
+
+abbrev pub reference_before : Option Object → Option Ref
+reference_before (Some (Volume v)) = v.claim_ref
+reference_before _ = None
+
+abbrev pub has_uid : Option Ref → Bool
+has_uid r = is_some (ref_uid r)
+
+-- a reference with a UID was set, changed or dropped
+abbrev pub breaks_reference : Option Object → Object → Bool
+breaks_reference old (Volume new) =
+    not (same_option same_ref (reference_before old) new.claim_ref)
+    && (has_uid (reference_before old) || has_uid new.claim_ref)
+    && not (clears_released old (Volume new))
+breaks_reference old _ = false
+
+-- what is to be deleted once released stays so
+abbrev pub breaks_policy : Option Object → Object → Bool
+breaks_policy (Some (Volume old)) (Volume new) = is_released old.phase && is_delete old.policy && not (is_delete new.policy)
+breaks_policy _ _ = false
+
+-- the rule where the test holds, else what comes next
+unfoldable pub breaks : Bool → Rule → Option Rule → Option Rule
+breaks true rule next = Some rule
+breaks false rule next = next
+
+-- the first rule that a user's write breaks, beside the one on verbs
+unfoldable pub guard : Option Object → Object → Option Rule
+guard old new =
+    breaks (breaks_annotation old new) rules.Annotation
+    (breaks (breaks_finalizer old new) rules.Finalizer
+    (breaks (breaks_reference old new) rules.ClaimRef
+    (breaks (breaks_policy old new) rules.Policy None)))

@@ -1,0 +1,6 @@
+pub mod Answers
+pub mod Edits
+pub mod Fields
+pub mod Guard
+pub mod Same
+pub mod Store

@@ -1,0 +1,139 @@
+-- The store: its objects in the order of their keys, and the number of its writes; what a write makes of an object.
+-- Source: Kubernetes API conventions, "Metadata", "Concurrency Control and Consistency"; one number for all kinds is this project's choice.
+use Rattle.std.specs.Prelude.{ℕ, ◌+◌, ◌^◌, ◌&&◌, ◌||◌, Bool, true, false, not, List, [], ◌∷◌, ◌++◌, Option, Some, None, bytes_eq, codes, is_some, is_none, if◌then◌else◌}
+use Rattle.std.specs.Cmp.Lexicographic.{slice_cmp}
+use Rattle.std.specs.Ordering.{nat_cmp, is_lt}
+use Rattle.plain_data.specs.Pairs.{value_at, without_key, put_pair}
+use Rattle.kube_types.specs.declared.uid.Uid.{Uid}
+use Rattle.kube_types.specs.declared.parts.ClaimPhase.TheVariants as claims
+use Rattle.kube_types.specs.declared.parts.VolumePhase.TheVariants as volumes
+use Rattle.kube_types.specs.declared.parts.Modes.{Modes}
+use Rattle.kube_types.specs.declared.parts.Kind.TheVariants as kinds
+use Rattle.kube_types.specs.declared.key.Key.{Key}
+use Rattle.kube_types.specs.declared.objects.Meta.{Meta}
+use Rattle.kube_types.specs.declared.objects.Class.{Class as ClassData}
+use Rattle.kube_types.specs.declared.objects.Object.{Object}
+use Rattle.kube_types.specs.declared.objects.Object.TheVariants.{Class, Node, Volume, Claim, Pod}
+use Rattle.kube_types.specs.Keys.{meta_of, row_at}
+use Rattle.kube_types.specs.Bindings.{beta_class, is_default_class, pv_protection, pvc_protection, has_name, is_deleting, is_scheduled, has_key, is_empty}
+
+pub record State : Type 0 where
+  pub rows : List Object
+  pub version : ℕ
+
+abbrev pub no_store : State
+no_store = record { rows = []; version = 0 }
+
+-- the UID of the object that the nth write creates: a UUID of version 8, a choice of this project
+abbrev pub uid_of_write : ℕ → Uid
+uid_of_write n = record { 0 = 2 ^ 79 + 2 ^ 63 + n }
+
+unfoldable pub with_meta : Object → Meta → Object
+with_meta (Class x) m = Class (record x { meta = m })
+with_meta (Node x) m = Node (record x { meta = m })
+with_meta (Volume x) m = Volume (record x { meta = m })
+with_meta (Claim x) m = Claim (record x { meta = m })
+with_meta (Pod x) m = Pod (record x { meta = m })
+
+-- the object at this version
+unfoldable pub at_version : Object → ℕ → Object
+at_version o version = with_meta o (record (meta_of o) { version = version })
+
+-- the object at this version, to be deleted since this moment
+unfoldable pub marked : Object → ℕ → List ℕ → Object
+marked o version moment = with_meta o (record (meta_of o) { version = version; deleted = Some moment })
+
+-- admission. Source: Kubernetes documentation, "Storage Object in Use Protection" and "DefaultStorageClass"
+
+abbrev pub with_finalizer : List ℕ → List (List ℕ) → List (List ℕ)
+with_finalizer name names = if has_name name names then names else names ++ name ∷ []
+
+abbrev pub text_lt : List ℕ → List ℕ → Bool
+text_lt a b = is_lt (slice_cmp nat_cmp a b)
+
+abbrev pub is_default : ClassData → Bool
+is_default x = is_true_text (value_at is_default_class x.meta.annotations)
+  where
+    is_true_text : Option (List ℕ) → Bool
+    is_true_text None = false
+    is_true_text (Some v) = bytes_eq v (codes "true")
+
+-- of two default classes the newer one, and of two of one moment the first by name
+abbrev pub newer_class : ClassData → Option ClassData → Option ClassData
+newer_class x None = Some x
+newer_class x (Some y) = if text_lt x.meta.created y.meta.created then Some y else Some x
+
+abbrev pub default_class : List Object → Option ClassData
+default_class [] = None
+default_class (Class x ∷ os) = if is_default x then newer_class x (default_class os) else default_class os
+default_class (o ∷ os) = default_class os
+
+abbrev pub class_name : Option ClassData → Option (List ℕ)
+class_name None = None
+class_name (Some x) = Some x.meta.name
+
+-- the class that a claim gets which names none
+abbrev pub admitted_class : Option (List ℕ) → Option (List ℕ) → Bool → Option (List ℕ)
+admitted_class (Some given) default names_beta = Some given
+admitted_class None default true = None
+admitted_class None default false = default
+
+-- with the protection finalizer of its kind, and a claim with a class
+unfoldable pub admitted : Option (List ℕ) → Object → Object
+admitted default (Volume v) = Volume (record v { meta = record v.meta { finalizers = with_finalizer pv_protection v.meta.finalizers } })
+admitted default (Claim c) = Claim (record c {
+    meta = record c.meta { finalizers = with_finalizer pvc_protection c.meta.finalizers };
+    class = admitted_class c.class default (has_key beta_class c.meta.annotations) })
+admitted default o = o
+
+abbrev pub no_modes : Modes
+no_modes = record { rwo = false; rox = false; rwx = false; rwop = false }
+
+-- a create does not look at the status of the manifest
+unfoldable pub without_status : Object → Object
+without_status (Volume v) = Volume (record v { phase = volumes.Pending })
+without_status (Claim c) = Claim (record c { phase = claims.Pending; got_modes = no_modes; got = None })
+without_status o = o
+
+-- the object as the write of this version creates it
+unfoldable pub created : Option (List ℕ) → Object → ℕ → List ℕ → Object
+created default o version moment =
+    let new = admitted default (without_status o) in
+    with_meta new (record (meta_of new) { uid = Some (uid_of_write version); version = version; created = moment; deleted = None })
+
+-- an update keeps UID, both timestamps and status
+unfoldable pub with_status_of : Object → Object → Object
+with_status_of (Volume old) (Volume new) = Volume (record new { phase = old.phase })
+with_status_of (Claim old) (Claim new) = Claim (record new { phase = old.phase; got_modes = old.got_modes; got = old.got })
+with_status_of old new = new
+
+unfoldable pub updated : Object → Object → ℕ → Object
+updated old new version =
+    let kept = with_status_of old new in
+    with_meta kept (record (meta_of kept) { uid = (meta_of old).uid; version = version; created = (meta_of old).created; deleted = (meta_of old).deleted })
+
+-- an object leaves at the write after which it is to be deleted and has no finalizers; a pod by its own verbs alone.
+-- Source: Kubernetes documentation, "Finalizers"
+unfoldable pub leaves : Object → Bool
+leaves (Pod p) = false
+leaves o = is_deleting (meta_of o) && is_empty_list (meta_of o).finalizers
+  where
+    is_empty_list : List (List ℕ) → Bool
+    is_empty_list [] = true
+    is_empty_list (f ∷ fs) = false
+
+-- deleting a pod that no node runs removes it at once
+unfoldable pub leaves_at_once : Object → Bool
+leaves_at_once (Pod p) = not (is_scheduled p)
+leaves_at_once o = false
+
+abbrev pub node_key : List ℕ → Key
+node_key name = record { kind = kinds.Node; namespace = []; name = name }
+
+-- the pod names a node, and the store has none of that name
+abbrev pub lacks_named_node : List ℕ → List Object → Bool
+lacks_named_node node rows = not (is_empty node) && is_none (row_at (node_key node) rows)
+
+unfoldable pub lacks_node : Object → List Object → Bool
+lacks_node (Pod p) rows = lacks_named_node p.node rows
+lacks_node o rows = false

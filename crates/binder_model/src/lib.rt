@@ -1,0 +1,2 @@
+//! The definitions of the store, of runs and of safety, and laws over them alone.
+#![tactic(auto)]

@@ -1,0 +1,2 @@
+//! Label selectors and node selector terms.
+#![tactic(auto)]
