@@ -1,10 +1,9 @@
 -- The store: its objects in the order of their keys, and the number of its writes; what a write makes of an object.
 -- Source: Kubernetes API conventions, "Metadata", "Concurrency Control and Consistency"; one number for all kinds is this project's choice.
-use Rattle.std.specs.Prelude.{ℕ, ◌+◌, ◌^◌, ◌&&◌, ◌||◌, Bool, true, false, not, List, [], ◌∷◌, ◌++◌, Option, Some, None, bytes_eq, codes, is_some, is_none, if◌then◌else◌}
+use Rattle.std.specs.Prelude.{ℕ, ◌&&◌, ◌||◌, Bool, true, false, not, List, [], ◌∷◌, ◌++◌, Option, Some, None, bytes_eq, codes, is_some, is_none, if◌then◌else◌}
 use Rattle.std.specs.Cmp.Lexicographic.{slice_cmp}
 use Rattle.std.specs.Ordering.{nat_cmp, is_lt}
 use Rattle.plain_data.specs.Pairs.{value_at, without_key, put_pair}
-use Rattle.kube_types.specs.declared.uid.Uid.{Uid}
 use Rattle.kube_types.specs.declared.parts.ClaimPhase.TheVariants as claims
 use Rattle.kube_types.specs.declared.parts.VolumePhase.TheVariants as volumes
 use Rattle.kube_types.specs.declared.parts.Modes.{Modes}
@@ -15,6 +14,7 @@ use Rattle.kube_types.specs.declared.objects.Class.{Class as ClassData}
 use Rattle.kube_types.specs.declared.objects.Object.{Object}
 use Rattle.kube_types.specs.declared.objects.Object.TheVariants.{Class, Node, Volume, Claim, Pod}
 use Rattle.kube_types.specs.Keys.{meta_of, row_at}
+use Rattle.kube_types.specs.Uids.{uid_of_serial}
 use Rattle.kube_types.specs.Bindings.{beta_class, is_default_class, pv_protection, pvc_protection, has_name, is_deleting, is_scheduled, has_key, is_empty}
 
 pub record State : Type 0 where
@@ -23,10 +23,6 @@ pub record State : Type 0 where
 
 abbrev pub no_store : State
 no_store = record { rows = []; version = 0 }
-
--- the UID of the object that the nth write creates: a UUID of version 8, a choice of this project
-abbrev pub uid_of_write : ℕ → Uid
-uid_of_write n = record { 0 = 2 ^ 79 + 2 ^ 63 + n }
 
 unfoldable pub with_meta : Object → Meta → Object
 with_meta (Class x) m = Class (record x { meta = m })
@@ -99,7 +95,7 @@ without_status o = o
 unfoldable pub created : Option (List ℕ) → Object → ℕ → List ℕ → Object
 created default o version moment =
     let new = admitted default (without_status o) in
-    with_meta new (record (meta_of new) { uid = Some (uid_of_write version); version = version; created = moment; deleted = None })
+    with_meta new (record (meta_of new) { uid = Some (uid_of_serial version); version = version; created = moment; deleted = None })
 
 -- an update keeps UID, both timestamps and status
 unfoldable pub with_status_of : Object → Object → Object
