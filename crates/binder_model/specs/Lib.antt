@@ -1,6 +1,10 @@
 pub mod Answers
+pub mod Devices
 pub mod Edits
 pub mod Fields
 pub mod Guard
+pub mod Matching
 pub mod Same
 pub mod Store
+pub mod Watching
+pub mod World

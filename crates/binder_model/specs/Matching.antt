@@ -1,0 +1,113 @@
+-- Which volume a claim is bound to: eligible, and the best of the eligible.
+-- Source: Kubernetes documentation, "Persistent Volumes" (Binding), and the volume index of `pv_controller.go`;
+-- that a pre-bound volume must fit too, and that ties go by name, is this project's choice.
+use Rattle.std.specs.Prelude.{ℕ, ◌≡◌, ◌≢◌, ◌==◌, ◌+◌, nat_le, Bool, true, false, not, ◌&&◌, ◌||◌, List, [], ◌∷◌, Option, Some, None, bytes_eq, is_none, slice_get, if◌then◌else◌}
+use Rattle.std.specs.Bool.{beq}
+use Rattle.std.specs.List.{list_any}
+use Rattle.std.specs.declared.cmp.Ordering.{Ordering}
+use Rattle.std.specs.declared.cmp.Ordering.TheVariants.{Greater}
+use Rattle.std.specs.Ordering.{nat_cmp, ordering_then}
+use Rattle.plain_data.specs.Pairs.{Pair, text_cmp}
+use Rattle.kube_types.specs.declared.parts.Modes.{Modes}
+use Rattle.kube_types.specs.declared.parts.Kind.TheVariants as kinds
+use Rattle.kube_types.specs.declared.objects.Selector.{Selector}
+use Rattle.kube_types.specs.declared.objects.Class.{Class as ClassData}
+use Rattle.kube_types.specs.declared.objects.Node.{Node as NodeData}
+use Rattle.kube_types.specs.declared.objects.Volume.{Volume as VolumeData}
+use Rattle.kube_types.specs.declared.objects.Claim.{Claim as ClaimData}
+use Rattle.kube_types.specs.declared.objects.Object.{Object}
+use Rattle.kube_types.specs.declared.objects.Object.TheVariants.{Class, Volume}
+use Rattle.kube_types.specs.declared.key.Key.{Key}
+use Rattle.kube_types.specs.Keys.{rows_of, row_at}
+use Rattle.kube_types.specs.Bindings.{class_of_volume, class_of_claim, is_deleting, is_protected_volume, is_for, is_released, is_available}
+use Rattle.label_rules.specs.Selectors.{selects, admits}
+
+-- each mode of the first is one of the second
+abbrev pub covers : Modes → Modes → Bool
+covers wanted given = (not wanted.rwo || given.rwo) && (not wanted.rox || given.rox) && (not wanted.rwx || given.rwx) && (not wanted.rwop || given.rwop)
+
+abbrev pub count_one : Bool → ℕ
+count_one true = 1
+count_one false = 0
+
+abbrev pub mode_count : Modes → ℕ
+mode_count m = count_one m.rwo + count_one m.rox + count_one m.rwx + count_one m.rwop
+
+-- size, class, volume mode and access modes fit
+abbrev pub fits : VolumeData → ClaimData → Bool
+fits v c = nat_le c.amount.bytes v.amount.bytes && bytes_eq (class_of_volume v) (class_of_claim c) && beq v.block c.block && covers c.modes v.modes
+
+abbrev pub selected : Option Selector → List Pair → Bool
+selected None labels = true
+selected (Some s) labels = selects s labels
+
+abbrev pub admitted_on : VolumeData → Option NodeData → Bool
+admitted_on v None = true
+admitted_on v (Some n) = admits v.terms n.meta.labels
+
+-- for this claim and not ended, or free
+abbrev pub may_serve : VolumeData → ClaimData → Bool
+may_serve v c = (is_for v c && not (is_released v.phase)) || (is_available v.phase && is_none v.claim_ref)
+
+-- the volume may be bound to the claim, on the node where one is given
+abbrev pub eligible : VolumeData → ClaimData → Option NodeData → Bool
+eligible v c node =
+    not (is_deleting v.meta) && is_protected_volume v && fits v c
+    && selected c.selector v.meta.labels && admitted_on v node && may_serve v c
+
+abbrev pub for_last : VolumeData → ClaimData → ℕ
+for_last v c = if is_for v c then 0 else 1
+
+-- the order in which a claim prefers volumes: those for it, then fewer modes, fewer bytes, the name
+abbrev pub match_cmp : ClaimData → VolumeData → VolumeData → Ordering
+match_cmp c v u =
+    ordering_then (ordering_then (ordering_then
+        (nat_cmp (for_last v c) (for_last u c))
+        (nat_cmp (mode_count v.modes) (mode_count u.modes)))
+        (nat_cmp v.amount.bytes u.amount.bytes))
+        (text_cmp v.meta.name u.meta.name)
+
+abbrev pub is_excluded : List ℕ → ℕ → Bool
+is_excluded excluded place = list_any (λ p. p == place) excluded
+
+abbrev pub only_own_passes : Bool → VolumeData → ClaimData → Bool
+only_own_passes true v c = is_for v c
+only_own_passes false v c = true
+
+-- the volume at a place among the volumes may be taken
+pub record IsCandidate (rows : List Object) (c : ClaimData) (node : Option NodeData) (only_own : Bool) (excluded : List ℕ) (place : ℕ) (v : VolumeData) : Type 0 where
+  pub there : slice_get (rows_of kinds.PersistentVolume rows) place ≡ Some (Volume v)
+  pub open_to : is_excluded excluded place ≡ false
+  pub own : only_own_passes only_own v c ≡ true
+  pub eligible : eligible v c node ≡ true
+
+-- no candidate stands before the one at this place
+pub record IsBestAt (rows : List Object) (c : ClaimData) (node : Option NodeData) (only_own : Bool) (excluded : List ℕ) (place : ℕ) : Type 0 where
+  pub volume : VolumeData
+  pub candidate : IsCandidate rows c node only_own excluded place volume
+  pub first : (other : ℕ) (u : VolumeData) → IsCandidate rows c node only_own excluded other u → match_cmp c volume u ≢ Greater
+
+-- the best candidate, or none where there is no candidate
+abbrev pub IsBest : List Object → ClaimData → Option NodeData → Bool → List ℕ → Option ℕ → Type 0
+IsBest rows c node only_own excluded (Some place) = IsBestAt rows c node only_own excluded place
+IsBest rows c node only_own excluded None = (place : ℕ) (v : VolumeData) → IsCandidate rows c node only_own excluded place v → ⊥
+
+abbrev pub class_key : List ℕ → Key
+class_key name = record { kind = kinds.StorageClass; namespace = []; name = name }
+
+abbrev pub is_delayed : Option Object → Bool
+is_delayed (Some (Class x)) = x.delayed
+is_delayed _ = false
+
+-- the claim waits for its first pod. Source: "Volume Binding Mode"
+abbrev pub waits_for_pod : List Object → ClaimData → Bool
+waits_for_pod rows c = is_delayed (row_at (class_key (class_of_claim c)) rows)
+
+-- the binder may take the volume for the claim: under a delayed class only one that is for it
+abbrev pub binder_takes : List Object → ClaimData → Object → Bool
+binder_takes rows c (Volume v) = eligible v c None && only_own_passes (waits_for_pod rows c) v c
+binder_takes rows c o = false
+
+-- some volume can be taken
+abbrev pub has_match : List Object → ClaimData → Bool
+has_match rows c = list_any (binder_takes rows c) rows

@@ -1,0 +1,38 @@
+-- What a watch tells: the writes after a version, of a kind, in order. The log begins with the newest write.
+-- Source: Kubernetes API concepts, "Efficient detection of changes"; the window and the limit are this project's choice.
+use Rattle.std.specs.Prelude.{ℕ, ◌-◌, ◌==◌, nat_lt, Bool, ◌&&◌, List, [], ◌∷◌, Option, Some, None, reverse, filter, take, length, if◌then◌else◌}
+use Rattle.kube_types.specs.declared.parts.Kind.{Kind}
+use Rattle.kube_types.specs.Keys.{is_of_kind}
+use Rattle.call_types.specs.declared.reply.Event.{Event}
+use Rattle.call_types.specs.declared.reply.Events.{Events}
+
+-- how far back a watch may begin, and how many events one answer has
+abbrev pub window : ℕ
+window = 512
+
+abbrev pub most_events : ℕ
+most_events = 64
+
+-- the least version from which a watch is served
+abbrev pub oldest : ℕ → ℕ
+oldest version = version - window
+
+abbrev pub is_later : Kind → ℕ → Event → Bool
+is_later kind from e = nat_lt from e.version && is_of_kind kind e.object
+
+-- the events of the kind after the version, the oldest first
+abbrev pub events_after : Kind → ℕ → List Event → List Event
+events_after kind from log = reverse (filter (is_later kind from) log)
+
+abbrev pub last_version : ℕ → List Event → ℕ
+last_version none [] = none
+last_version none (e ∷ es) = last_version e.version es
+
+-- a full answer reaches to its last event, any other to the store's version
+abbrev pub reached : ℕ → List Event → ℕ
+reached version es = if length es == most_events then last_version version es else version
+
+abbrev pub told_events : Kind → ℕ → ℕ → List Event → Events
+told_events kind from version log =
+    let es = take most_events (events_after kind from log) in
+    record { events = es; upto = reached version es }

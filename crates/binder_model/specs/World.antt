@@ -1,0 +1,104 @@
+-- The world of a history: store, moment, watch log and devices, moved by one whole call at a time.
+-- A history's newest entry stands first. A choice of this project: one event is one whole call by one seat.
+use Rattle.std.specs.Prelude.{ℕ, ◌≡◌, nat_lt, nat_le, ◌==◌, Bool, true, false, not, ◌&&◌, ◌||◌, List, [], ◌∷◌, Option, Some, None, codes, if◌then◌else◌, ⊤}
+use lib.Pointwise.{pointwise}
+use Rattle.kube_types.specs.declared.names.Field.TheVariants as fields
+use Rattle.kube_types.specs.declared.names.Rule.TheVariants as rules
+use Rattle.kube_types.specs.declared.objects.Object.{Object}
+use Rattle.kube_types.specs.declared.parts.Kind.{Kind}
+use Rattle.kube_types.specs.Keys.{meta_of}
+use Rattle.call_types.specs.declared.entry.Entry.{Entry}
+use Rattle.call_types.specs.declared.setup.Setup.{Setup}
+use Rattle.call_types.specs.declared.request.SeatKind.{SeatKind}
+use Rattle.call_types.specs.declared.request.Request.{Request}
+use Rattle.call_types.specs.declared.request.Request.TheVariants as requests
+use Rattle.call_types.specs.declared.reply.Change.TheVariants.{Deleted}
+use Rattle.call_types.specs.declared.reply.Event.{Event}
+use Rattle.call_types.specs.declared.reply.Refusal.TheVariants.{Invalid, Forbidden, Gone}
+use Rattle.call_types.specs.declared.reply.Reply.{Reply}
+use Rattle.call_types.specs.declared.reply.Reply.TheVariants.{Events, Timed, Refused}
+use Rattle.binder_model.specs.Store.{State, no_store}
+use Rattle.binder_model.specs.Answers.{Outcome, Says, Stores, Removes, is_user, outcome, reply_of, after}
+use Rattle.binder_model.specs.Devices.{Devices, Answered, no_devices, device_answer, stale}
+use Rattle.binder_model.specs.Watching.{oldest, told_events}
+
+pub record World : Type 0 where
+  pub store : State
+  pub moment : List ℕ
+  -- each write, the newest first
+  pub log : List Event
+  pub devices : Devices
+
+abbrev pub first_moment : List ℕ
+first_moment = codes "2000-01-01T00:00:00Z"
+
+abbrev pub no_world : World
+no_world = record { store = no_store; moment = first_moment; log = []; devices = no_devices }
+
+-- what a request comes to: on the store, on the devices, or on the moment
+pub data Effect : Type 0 where
+  OnStore : Outcome → Effect
+  OnDevices : Answered → Effect
+  SetsMoment : List ℕ → Effect
+
+abbrev pub fits_shape : ℕ → ℕ → Bool
+fits_shape shape c = if shape == 100 then nat_le 48 c && nat_le c 57 else shape == c
+
+-- the shape of RFC 3339 in UTC with whole seconds, a 'd' for each digit
+abbrev pub is_time : List ℕ → Bool
+is_time text = pointwise fits_shape (codes "dddd-dd-ddTdd:dd:ddZ") text
+
+abbrev pub refused_rule : Effect
+refused_rule = OnStore (Says (Refused (Forbidden rules.Verb)))
+
+unfoldable pub set_time : List ℕ → Effect
+set_time at = if is_time at then SetsMoment at else OnStore (Says (Refused (Invalid fields.Time)))
+
+unfoldable pub watch : World → Kind → ℕ → Effect
+watch w kind from =
+    if nat_lt w.store.version from then OnStore (Says (Refused (Invalid fields.From)))
+    else if nat_lt from (oldest w.store.version) then OnStore (Says (Refused (Gone (oldest w.store.version))))
+    else OnStore (Says (Events (told_events kind from w.store.version w.log)))
+
+-- the current epoch of the node that a FinishPod names, where it has another
+abbrev pub stale_epoch : Devices → Request → Option ℕ
+stale_epoch d (requests.FinishPod key uid node epoch) = stale d node epoch
+stale_epoch d _ = None
+
+-- users make no device calls
+unfoldable pub on_devices : World → SeatKind → Request → Option Answered → Effect
+on_devices w kind request (Some answered) = if is_user kind then refused_rule else OnDevices answered
+on_devices w kind request None = OnStore (outcome w.store kind request w.moment (stale_epoch w.devices request))
+
+unfoldable pub effect : Setup → World → SeatKind → Request → Effect
+effect setup w kind (requests.SetTime at) = set_time at
+effect setup w kind (requests.Watch k from) = watch w k from
+effect setup w kind request = on_devices w kind request (device_answer setup w.devices request)
+
+-- the reply to an effect
+unfoldable pub reply_to : Effect → Reply
+reply_to (OnStore o) = reply_of o
+reply_to (OnDevices a) = a.reply
+reply_to (SetsMoment at) = Timed
+
+-- the log after an outcome: an event for each write
+unfoldable pub logged : Outcome → List Event → List Event
+logged (Says reply) log = log
+logged (Stores change o) log = (record { change = change; object = o; version = (meta_of o).version }) ∷ log
+logged (Removes o) log = (record { change = Deleted; object = o; version = (meta_of o).version }) ∷ log
+
+-- the world after an effect
+unfoldable pub world_after : World → Effect → World
+world_after w (OnStore o) = record w { store = after w.store o; log = logged o w.log }
+world_after w (OnDevices a) = record w { devices = a.devices }
+world_after w (SetsMoment at) = record w { moment = at }
+
+-- the world after these entries. Their replies are not looked at
+abbrev pub world : Setup → List Entry → World
+world setup [] = no_world
+world setup (e ∷ past) = world_after (world setup past) (effect setup (world setup past) e.kind e.request)
+
+-- each reply is what the world of the entries before it answers
+abbrev pub IsHistory : Setup → List Entry → Type 0
+IsHistory setup [] = ⊤
+IsHistory setup (e ∷ past) = IsHistory setup past × (e.reply ≡ reply_to (effect setup (world setup past) e.kind e.request))
