@@ -1,9 +1,12 @@
 pub mod Answers
+pub mod BindWrites
+pub mod BinderDue
 pub mod Devices
 pub mod Edits
 pub mod Fields
 pub mod Guard
 pub mod Matching
+pub mod Safe
 pub mod Same
 pub mod Store
 pub mod Watching

@@ -1,0 +1,82 @@
+-- What the binder has still to do for a volume and for a claim, where every look-up and live read sees the store itself.
+-- Source: `syncVolume`, `syncUnboundClaim` and `syncBoundClaim` of `pv_controller.go`.
+use Rattle.std.specs.Prelude.{ℕ, Bool, true, false, not, ◌&&◌, ◌||◌, List, Option, Some, None, bytes_eq, is_none, is_some, if◌then◌else◌}
+use Rattle.kube_types.specs.declared.uid.Uid.{Uid}
+use Rattle.kube_types.specs.declared.names.Due.{Due}
+use Rattle.kube_types.specs.declared.names.Due.TheVariants.{Available, Bound, Release, Unbind, Bind, Lost}
+use Rattle.kube_types.specs.declared.objects.Ref.{Ref}
+use Rattle.kube_types.specs.declared.objects.Volume.{Volume as VolumeData}
+use Rattle.kube_types.specs.declared.objects.Claim.{Claim as ClaimData}
+use Rattle.kube_types.specs.declared.objects.Object.{Object}
+use Rattle.kube_types.specs.declared.objects.Object.TheVariants.{Volume, Claim}
+use Rattle.kube_types.specs.Keys.{row_at}
+use Rattle.kube_types.specs.Bindings.{provisioned_by, has_key, is_uid, is_available, is_bound, is_released, is_delete, is_deleting, is_protected_volume, is_completed, is_empty, is_for, carries, ref_uid}
+use Rattle.binder_model.specs.Matching.{fits, has_match}
+use Rattle.binder_model.specs.BindWrites.{claim_key, volume_key, next_write}
+
+-- the claim under this key that has the UID
+unfoldable pub claim_with : Uid → Option Object → Option ClaimData
+claim_with uid (Some (Claim c)) = if is_uid c.meta.uid uid then Some c else None
+claim_with uid _ = None
+
+-- the volume's reference is the controller's to take back, and its data are to be erased
+abbrev pub is_reclaimed : VolumeData → Bool
+is_reclaimed v = has_key provisioned_by v.meta.annotations && is_delete v.policy
+
+-- the volume has the UID of this claim, or of one that is gone
+unfoldable pub referred_due : VolumeData → Option ClaimData → Option Due
+referred_due v None = Some Release
+referred_due v (Some c) =
+    if is_empty c.volume_name then None
+    else if bytes_eq c.volume_name v.meta.name then (if is_bound v.phase || not (is_protected_volume v) then None else Some Bound)
+    else if is_reclaimed v then Some Release else Some Unbind
+
+unfoldable pub reference_due : List Object → VolumeData → Option Ref → Option Due
+reference_due rows v None = if is_available v.phase then None else Some Available
+reference_due rows v (Some r) = by_uid r.uid
+  where
+    by_uid : Option Uid → Option Due
+    by_uid None = if is_available v.phase then None else Some Available
+    by_uid (Some uid) =
+        if is_released v.phase then None
+        else referred_due v (claim_with uid (row_at (claim_key r.namespace r.name) rows))
+
+unfoldable pub volume_due : List Object → VolumeData → Option Due
+volume_due rows v = reference_due rows v v.claim_ref
+
+-- the claim names this volume, or one that is absent, and is not completed
+unfoldable pub named_due : ClaimData → Option Object → Option Due
+named_due c (Some (Volume v)) =
+    if is_deleting v.meta || not (is_protected_volume v) || is_released v.phase then None
+    else if is_none v.claim_ref then (if fits v c then Some Bind else None)
+    else if is_for v c then Some Bind else None
+named_due c _ = None
+
+-- the reference has a UID, and it is not the claim's
+abbrev pub has_other_uid : VolumeData → ClaimData → Bool
+has_other_uid v c = is_other (ref_uid v.claim_ref)
+  where
+    is_other : Option Uid → Bool
+    is_other None = false
+    is_other (Some uid) = not (is_uid c.meta.uid uid)
+
+-- the claim is completed and names this volume, or one that is absent
+unfoldable pub completed_due : ClaimData → Option Object → Option Due
+completed_due c (Some (Volume v)) =
+    if has_other_uid v c then Some Lost
+    else if (is_none v.claim_ref || carries v c) && is_some (next_write v c) then Some Bind
+    else None
+completed_due c _ = Some Lost
+
+unfoldable pub claim_due : List Object → ClaimData → Option Due
+claim_due rows c =
+    if is_completed c then (if is_empty c.volume_name then Some Lost else completed_due c (row_at (volume_key c.volume_name) rows))
+    else if is_deleting c.meta then None
+    else if is_empty c.volume_name then (if has_match rows c then Some Bind else None)
+    else named_due c (row_at (volume_key c.volume_name) rows)
+
+-- what the binder has to do for an object of the store
+unfoldable pub binder_due : List Object → Object → Option Due
+binder_due rows (Volume v) = volume_due rows v
+binder_due rows (Claim c) = claim_due rows c
+binder_due rows o = None
