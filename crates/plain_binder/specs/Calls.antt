@@ -1,0 +1,76 @@
+-- The calls of a run on plain objects: each is created once, in order; then the binder alone asks.
+-- A choice of this project: seat 1 is the user's, seat 5 the binder's, and every call is told.
+use Rattle.std.specs.Prelude.{ℕ, ◌≡◌, Bool, true, false, List, [], ◌∷◌, Option, Some, None, All}
+use Rattle.kube_types.specs.declared.objects.Volume.{Volume as VolumeData}
+use Rattle.kube_types.specs.declared.objects.Claim.{Claim as ClaimData}
+use Rattle.kube_types.specs.declared.objects.Object.{Object}
+use Rattle.kube_types.specs.declared.objects.Object.TheVariants.{Volume, Claim}
+use Rattle.kube_types.specs.declared.key.Key.{Key}
+use Rattle.kube_types.specs.Keys.{row_at}
+use Rattle.call_types.specs.declared.entry.Entry.{Entry}
+use Rattle.call_types.specs.declared.setup.Setup.{Setup}
+use Rattle.call_types.specs.declared.request.SeatKind.{SeatKind}
+use Rattle.call_types.specs.declared.request.SeatKind.TheVariants as seats
+use Rattle.call_types.specs.declared.request.Request.{Request}
+use Rattle.call_types.specs.declared.request.Request.TheVariants as requests
+use Rattle.binder_model.specs.Store.{State}
+use Rattle.binder_model.specs.Answers.{outcome, reply_of}
+use Rattle.binder_model.specs.World.{world, first_moment}
+use Rattle.binder_model.specs.BinderDue.{binder_due}
+
+-- nothing but the store: no pools, no faults
+abbrev pub no_setup : Setup
+no_setup = record { pools = []; faults = [] }
+
+-- a volume that no user has bound, in no namespace, that carries no annotation and no finalizer
+pub record IsPlainVolume (v : VolumeData) : Type 0 where
+  pub global : v.meta.namespace ≡ []
+  pub unreferred : v.claim_ref ≡ None
+  pub unguarded : v.meta.finalizers ≡ []
+
+-- a claim that names no volume and carries no annotation and no finalizer
+pub record IsPlainClaim (c : ClaimData) : Type 0 where
+  pub unnamed : c.volume_name ≡ []
+  pub unmarked : c.meta.annotations ≡ []
+  pub unguarded : c.meta.finalizers ≡ []
+
+-- the objects of a plain run
+abbrev pub IsPlain : Object → Type 0
+IsPlain (Volume v) = IsPlainVolume v
+IsPlain (Claim c) = IsPlainClaim c
+IsPlain _ = ⊥
+
+-- the user's create of the object, told
+pub record IsCreateOf (o : Object) (e : Entry) : Type 0 where
+  pub seat : e.seat ≡ 1
+  pub kind : e.kind ≡ seats.User
+  pub request : e.request ≡ requests.Create o
+  pub told : e.told ≡ true
+
+-- a call of the binder, told
+pub record IsBinderCall (e : Entry) : Type 0 where
+  pub seat : e.seat ≡ 5
+  pub kind : e.kind ≡ seats.Binder
+  pub told : e.told ≡ true
+
+-- the entries, the oldest first, are the creates of the objects in order and then the binder's calls alone
+abbrev pub AreCalls : List Object → List Entry → Type 0
+AreCalls [] entries = All IsBinderCall entries
+AreCalls (o ∷ os) [] = ⊥
+AreCalls (o ∷ os) (e ∷ es) = IsCreateOf o e × AreCalls os es
+
+-- the store and its objects after these entries, the newest first
+abbrev pub store_after : List Entry → State
+store_after past = (world no_setup past).store
+
+abbrev pub rows_after : List Entry → List Object
+rows_after past = (store_after past).rows
+
+-- the told entry of a request that the store is asked after these entries
+abbrev pub asked : List Entry → ℕ → SeatKind → Request → Entry
+asked past seat kind request =
+    record { seat = seat; kind = kind; request = request; reply = reply_of (outcome (store_after past) kind request first_moment None); told = true }
+
+-- the binder has nothing to do for any object that stands in the store
+abbrev pub IsNothingDue : List Object → Type 0
+IsNothingDue rows = (key : Key) (o : Object) → row_at key rows ≡ Some o → binder_due rows o ≡ None

@@ -1,0 +1,2 @@
+//! The binder over a plain list of volumes and claims: their creates, and then the binder's calls.
+#![tactic(auto)]
