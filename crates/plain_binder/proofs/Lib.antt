@@ -1,5 +1,10 @@
+pub mod Binding
+pub mod Due
+pub mod Fresh
+pub mod Matches
 pub mod Outcomes
 pub mod Places
 pub mod Same
+pub mod Served
 pub mod Standing
 pub mod Valid
