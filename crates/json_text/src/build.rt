@@ -1,14 +1,15 @@
 //! Objects and arrays as they grow.
 
-ghost use Rattle.std.specs.Prelude.{◌≡◌, OnOk, IfOk, option_map};
-ghost use Rattle.serde_json.specs.Data.{object, array, no_members, no_items, put as put_member};
+ghost use Rattle.std.specs.Prelude.{◌≡◌, OnOk, IfOk, Some, option_map};
+ghost use Rattle.serde_json.specs.Data.{boolean, number, unsigned, string, object, array, no_members, no_items, put as put_member};
 ghost use Rattle.serde_json.specs.Find.{as_object};
 ghost use Rattle.serde_json.specs.View.{view, members_view};
-ghost use Rattle.json_text.specs.Build.{put_some};
+ghost use Rattle.json_text.specs.Build.{put_some, number_data};
 ghost use Rattle.json_text.specs.Trees.{tree_data, fields, elements, with_item, members_in, others, is_empty};
 
 use crate::tree::Tree;
 use plain_data::copies::OutOfMemory;
+use plain_data::text::Text;
 use serde_json::{Map, Value, put};
 use std::alloc::{AllocError, Global};
 
@@ -86,7 +87,11 @@ impl Fields {
     }
 
     /// Copies of the members whose names are not known.
-    pub fn others<N: KnownNames>(alloc: Global, names: &N, value: &Value) -> Result<Fields, OutOfMemory>
+    pub fn others<N: KnownNames>(
+        alloc: Global,
+        names: &N,
+        value: &Value,
+    ) -> Result<Fields, OutOfMemory>
         ensures { IfOk result (λ f. fields f ≡ others (N.known names.now) (members_in (view value.now))) }
     {
         match value.as_object() {
@@ -109,6 +114,91 @@ impl Fields {
         match value {
             Some(value) => self.put(alloc, key, value),
             None => Ok(()),
+        }
+    }
+
+    /// With a text as the member, over any that stood there.
+    pub fn put_text(&mut self, alloc: Global, key: &str, text: &str) -> Result<(), OutOfMemory>
+        ensures ok { OnOk result (fields self.new ≡ put_some key.now (Some (string text.now)) (fields self.old)) }
+    {
+        let value = Tree::text(alloc, text)?;
+        self.put_some(alloc, key, Some(value))
+    }
+
+    /// With a number as the member.
+    pub fn put_number(&mut self, alloc: Global, key: &str, n: u64) -> Result<(), OutOfMemory>
+        ensures ok { OnOk result (fields self.new ≡ put_some key.now (Some (number (unsigned n))) (fields self.old)) }
+    {
+        self.put_some(alloc, key, Some(Tree::number(n)))
+    }
+
+    /// With a boolean as the member.
+    pub fn put_boolean(&mut self, alloc: Global, key: &str, b: bool) -> Result<(), OutOfMemory>
+        ensures ok { OnOk result (fields self.new ≡ put_some key.now (Some (boolean b)) (fields self.old)) }
+    {
+        self.put_some(alloc, key, Some(Tree::boolean(b)))
+    }
+
+    /// With a tree as the member.
+    pub fn put_tree(&mut self, alloc: Global, key: &str, value: Tree) -> Result<(), OutOfMemory>
+        ensures ok { OnOk result (fields self.new ≡ put_some key.now (Some (tree_data value)) (fields self.old)) }
+    {
+        self.put_some(alloc, key, Some(value))
+    }
+
+    /// With an array as the member.
+    pub fn put_array(
+        &mut self,
+        alloc: Global,
+        key: &str,
+        items: Elements,
+    ) -> Result<(), OutOfMemory>
+        ensures ok { OnOk result (fields self.new ≡ put_some key.now (Some (array (elements items))) (fields self.old)) }
+    {
+        self.put_tree(alloc, key, items.into_tree())
+    }
+
+    /// With a nested object as the member.
+    pub fn put_object(
+        &mut self,
+        alloc: Global,
+        key: &str,
+        members: Fields,
+    ) -> Result<(), OutOfMemory>
+        ensures ok { OnOk result (fields self.new ≡ put_some key.now (Some (object (fields members))) (fields self.old)) }
+    {
+        self.put_tree(alloc, key, members.into_tree())
+    }
+
+    /// With the text as the member, if there is one.
+    pub fn put_optional_text(
+        &mut self,
+        alloc: Global,
+        key: &str,
+        text: &Option<Text>,
+    ) -> Result<(), OutOfMemory>
+        ensures ok { OnOk result (fields self.new
+            ≡ put_some key.now (option_map string text.now) (fields self.old)) }
+    {
+        match text {
+            Some(text) => self.put_text(alloc, key, text.as_str()),
+            None => self.put_some(alloc, key, None),
+        }
+    }
+
+    /// With the number as the member, if there is one.
+    pub fn put_optional_number(
+        &mut self,
+        alloc: Global,
+        key: &str,
+        n: Option<u64>,
+    ) -> Result<(), OutOfMemory>
+        ensures ok { OnOk result (fields self.new
+            ≡ put_some key.now (option_map number_data n) (fields self.old)) }
+    {
+        match n {
+            Some(n) => self.put_number(alloc, key, n),
+            None => self.put_some(alloc, key, None),
         }
     }
 
@@ -152,6 +242,20 @@ impl Elements {
     {
         self.list.push(value.into_value())?;
         Ok(())
+    }
+
+    /// With a text at the end.
+    pub fn push_text(&mut self, alloc: Global, text: &str) -> Result<(), OutOfMemory>
+        ensures ok { OnOk result (elements self.new ≡ with_item (elements self.old) (string text.now)) }
+    {
+        self.push(Tree::text(alloc, text)?)
+    }
+
+    /// With a number at the end.
+    pub fn push_number(&mut self, n: u64) -> Result<(), OutOfMemory>
+        ensures ok { OnOk result (elements self.new ≡ with_item (elements self.old) (number (unsigned n))) }
+    {
+        self.push(Tree::number(n))
     }
 
     pub fn into_tree(self) -> Tree
