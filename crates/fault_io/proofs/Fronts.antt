@@ -1,7 +1,7 @@
 -- What pieces that were taken or written one after another make together.
 use Rattle.std.proofs.Common.{◌≡◌, ℕ, ◌+◌, ◌-◌, ◌<◌, ◌≤◌, List, [], ◌++◌, length, take, drop, Some, None, refl, sym, ◌∙◌, ap, subst, arith, append_assoc, append-nil, length-append, take_all, length-drop, take-append-drop}
 use Rattle.std.specs.declared.option.Option.{Option}
-use Rattle.std.proofs.Math.Seq.{take-add}
+use Rattle.std.proofs.Math.Seq.{take-add, take-append-add}
 use Rattle.std.proofs.lemmas.List.{drop-drop, take-append-le, length-take-le, take-take}
 use Rattle.fault_io.specs.Reading.{Takes, IsLeft, IsLongerThan, TakesFront}
 use Rattle.fault_io.specs.Writing.{Appends, WritesFront}
@@ -48,6 +48,24 @@ appends_more None (Some y) c xs ys p q = absurd p
 appends_more (Some x) None c xs ys p q = absurd p
 appends_more (Some x) (Some y) None xs ys p q = absurd q
 appends_more (Some x) (Some y) (Some z) xs ys p q = q ∙ ap (λ l. l ++ ys) p ∙ append_assoc x xs ys
+
+-- all of some bytes, and then a front of more, is a front of both
+pub front_after : (a b c : Option (List ℕ)) (xs ys : List ℕ) → Appends a b xs → WritesFront b c ys → WritesFront a c (xs ++ ys)
+front_after a b c xs ys p q =
+    let n = length xs + q.count in
+    record {
+      count = n;
+      within = omega (arith, length-append xs ys, q.within);
+      appended = subst (Appends a c) (sym (take-append-add xs ys q.count)) (appends_more a b c xs (take q.count ys) p q.appended);
+    }
+
+-- a front of some bytes is a front of those and more
+pub front_longer : (a b : Option (List ℕ)) (xs ys : List ℕ) → WritesFront a b xs → WritesFront a b (xs ++ ys)
+front_longer a b xs ys q = record {
+  count = q.count;
+  within = omega (arith, length-append xs ys, q.within);
+  appended = subst (Appends a b) (sym (take-append-le q.count xs ys (omega (arith, q.within)))) q.appended;
+}
 
 -- the slice from a place on
 rest_slice : (xs : List ℕ) (at : ℕ) → take (length xs - at) (drop at xs) ≡ drop at xs

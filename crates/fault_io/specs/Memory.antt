@@ -1,5 +1,5 @@
 -- A source and a sink in memory, as others see them.
-use Rattle.std.specs.Prelude.{◌≡◌, ℕ, List, drop, take, ◌++◌, length, min}
+use Rattle.std.specs.Prelude.{ℕ, List, drop, length, min}
 use Rattle.fault_io.specs.Faults.{one_more}
 
 -- what is left, how many bytes a read gives at most, the numbers of the calls that fail, the calls and the faults so far

@@ -80,8 +80,8 @@ pub fn read_all<S: Source>(alloc: Global, source: &mut S, most: usize) -> Result
     ensures short { IfOk result (λ bytes. length bytes ≤ most) }
 
     // Too long exactly where more bytes stand before the end, but for a fault and want of memory.
-    ensures long { result ≡ Err ReadError.TooLong → IsLongerThan most (S.left source.old) }
-    ensures too_long { (bytes : List ℕ) → S.left source.old ≡ Some bytes → most < length bytes → IsErr result }
+    ensures too_long { result ≡ Err ReadError.TooLong → IsLongerThan most (S.left source.old) }
+    ensures too_much { (bytes : List ℕ) → S.left source.old ≡ Some bytes → most < length bytes → IsErr result }
 
     ensures fault { result ≡ Err ReadError.ReadFault → Rose (S.faults source.old) (S.faults source.new) }
     ensures later { S.faults source.old ≤ S.faults source.new }

@@ -5,3 +5,5 @@ pub mod ends;
 pub mod gate;
 pub mod memory;
 pub mod standard;
+#[cfg(test)]
+mod tests;
