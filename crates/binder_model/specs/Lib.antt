@@ -1,6 +1,8 @@
 pub mod Answers
+pub mod At
 pub mod BindWrites
 pub mod BinderDue
+pub mod BinderLicence
 pub mod Devices
 pub mod Edits
 pub mod Fields
@@ -9,5 +11,6 @@ pub mod Matching
 pub mod Safe
 pub mod Same
 pub mod Store
+pub mod Told
 pub mod Watching
 pub mod World
