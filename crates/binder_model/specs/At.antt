@@ -1,9 +1,7 @@
 -- "At o": a write carries the version of a told object o of its key, and is o with the named change alone.
 use Rattle.std.specs.Prelude.{ℕ, ◌≡◌, ◌≢◌, List, [], Option, Some}
 use Rattle.kube_types.specs.declared.uid.Uid.{Uid}
-use Rattle.kube_types.specs.declared.key.Key.{Key}
 use Rattle.kube_types.specs.declared.objects.Meta.{Meta}
-use Rattle.kube_types.specs.declared.objects.Volume.{Volume as VolumeData}
 use Rattle.kube_types.specs.declared.objects.Claim.{Claim as ClaimData}
 
 -- the write has the version and the name that the told object has

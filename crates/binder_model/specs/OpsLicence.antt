@@ -1,6 +1,6 @@
 -- Where the provisioner and reclaimer may write and call the back end, after its own earlier entries.
 -- A choice of this project; each row restates the evidence on which `pv_controller.go` provisions and reclaims.
-use Rattle.std.specs.Prelude.{ℕ, ◌≡◌, ◌⊎◌, ◌&&◌, Bool, true, false, List, Option, Some, None, is_some, ⊤}
+use Rattle.std.specs.Prelude.{ℕ, ◌≡◌, ◌⊎◌, Bool, true, false, List, [], ◌∷◌, Option, Some, None, is_some, if◌then◌else◌}
 use Rattle.plain_data.specs.Pairs.{Pair, value_at, without_key}
 use Rattle.kube_types.specs.declared.uid.Uid.{Uid}
 use Rattle.kube_types.specs.declared.objects.DataId.{DataId}
@@ -8,10 +8,9 @@ use Rattle.kube_types.specs.declared.objects.Class.{Class as ClassData}
 use Rattle.kube_types.specs.declared.objects.Claim.{Claim as ClaimData}
 use Rattle.kube_types.specs.declared.objects.Volume.{Volume as VolumeData}
 use Rattle.kube_types.specs.declared.objects.Node.{Node as NodeData}
-use Rattle.kube_types.specs.declared.objects.Object.{Object}
 use Rattle.kube_types.specs.declared.objects.Object.TheVariants.{Class, Node, Volume, Claim}
 use Rattle.kube_types.specs.Sources.{data_id_of}
-use Rattle.kube_types.specs.Bindings.{selected_node, class_of_claim, has_key, is_completed, is_deleting, is_released, is_delete, ref_uid}
+use Rattle.kube_types.specs.Bindings.{selected_node, class_of_claim, is_completed, is_deleting, is_released, is_delete, ref_uid}
 use Rattle.call_types.specs.declared.entry.Entry.{Entry}
 use Rattle.call_types.specs.declared.request.Request.{Request}
 use Rattle.call_types.specs.declared.request.Request.TheVariants as requests
@@ -19,10 +18,11 @@ use Rattle.call_types.specs.declared.reply.Refusal.TheVariants.{Exhausted, BackF
 use Rattle.call_types.specs.declared.reply.Reply.{Reply}
 use Rattle.call_types.specs.declared.reply.Reply.TheVariants.{Found, Provisioned, Erased, Refused}
 use Rattle.binder_model.specs.Store.{node_key}
+use Rattle.binder_model.specs.Devices.{same_id}
 use Rattle.binder_model.specs.Matching.{class_key}
 use Rattle.binder_model.specs.BindWrites.{claim_key}
 use Rattle.binder_model.specs.Provisioning.{data_name, provisioned_volume, is_wanting, provisions}
-use Rattle.binder_model.specs.Told.{ToldVolume, ToldClaim, After, IsNewest, IsNewestAbsent}
+use Rattle.binder_model.specs.Told.{first_some, ToldVolume, ToldClaim, After, IsNewest, IsNewestAbsent}
 use Rattle.binder_model.specs.At.{IsSameObject, HasUid}
 
 -- the labels that a request carries: those of the newest told selected node under a delayed class, else none
@@ -75,18 +75,21 @@ pub record IsToErase (v : VolumeData) : Type 0 where
   pub referring : is_some (ref_uid v.claim_ref) ≡ true
   pub staying : is_deleting v.meta ≡ false
 
--- the last volume with this data id that a Get found is one of which P holds
-abbrev pub LastFound : DataId → (VolumeData → Type 0) → List Entry → Type 0
-LastFound id P [] = ⊥
-LastFound id P (e ∷ mine) = FoundHere e.told e.reply
-  where
-    FoundHere : Bool → Reply → Type 0
-    FoundHere true (Found (Volume v)) = ((data_id_of v.source ≡ id) × P v) ⊎ ((data_id_of v.source ≡ id → ⊥) × LastFound id P mine)
-    FoundHere told reply = LastFound id P mine
+-- the volume with this data id that a told Get found
+abbrev pub found_over : DataId → Bool → Reply → Option VolumeData
+found_over id true (Found (Volume v)) = if same_id (data_id_of v.source) id then Some v else None
+found_over id told reply = None
+
+-- the last such volume
+abbrev pub last_found : DataId → List Entry → Option VolumeData
+last_found id [] = None
+last_found id (e ∷ mine) = first_some (found_over id e.told e.reply) (last_found id mine)
 
 -- the row Erase
-abbrev pub MayErase : List Entry → DataId → Type 0
-MayErase mine id = LastFound id IsToErase mine
+pub record MayErase (mine : List Entry) (id : DataId) : Type 0 where
+  pub volume : VolumeData
+  pub last : last_found id mine ≡ Some volume
+  pub ended : IsToErase volume
 
 -- this volume, told so
 abbrev pub IsThisVolume : VolumeData → VolumeData → Type 0

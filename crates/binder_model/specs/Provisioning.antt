@@ -1,20 +1,19 @@
 -- What a provisioner makes of a claim: the name of the data, and the volume over it.
 -- Source: `provisionClaimOperation` of `pv_controller.go`.
-use Rattle.std.specs.Prelude.{ℕ, Bool, true, false, not, ◌&&◌, ◌||◌, List, [], ◌∷◌, ◌++◌, Option, Some, None, codes, bytes_eq, is_none}
-use Rattle.plain_data.specs.Pairs.{Pair, put_pair}
+use Rattle.std.specs.Prelude.{ℕ, Bool, not, ◌&&◌, List, [], ◌∷◌, ◌++◌, Option, Some, None, codes, bytes_eq, is_none}
+use Rattle.plain_data.specs.Pairs.{put_pair}
 use Rattle.kube_types.specs.declared.uid.Uid.{Uid}
 use Rattle.kube_types.specs.declared.parts.Op.TheVariants.{In}
 use Rattle.kube_types.specs.declared.parts.SourceKind.TheVariants.{Csi}
 use Rattle.kube_types.specs.declared.parts.VolumePhase.TheVariants as volumes
 use Rattle.kube_types.specs.declared.objects.DataId.{DataId}
-use Rattle.kube_types.specs.declared.objects.Expr.{Expr}
 use Rattle.kube_types.specs.declared.objects.Meta.{Meta}
 use Rattle.kube_types.specs.declared.objects.NodeTerms.{NodeTerms}
 use Rattle.kube_types.specs.declared.objects.Class.{Class as ClassData}
 use Rattle.kube_types.specs.declared.objects.Claim.{Claim as ClaimData}
 use Rattle.kube_types.specs.declared.objects.Volume.{Volume as VolumeData}
 use Rattle.kube_types.specs.Uids.{uid_text}
-use Rattle.kube_types.specs.Bindings.{bound_by_controller, provisioned_by, no_provisioner, yes, is_completed, is_deleting, is_empty, class_of_claim}
+use Rattle.kube_types.specs.Bindings.{bound_by_controller, provisioned_by, no_provisioner, yes, is_completed, is_deleting, is_empty}
 use Rattle.binder_model.specs.BindWrites.{ref_to}
 
 -- pvc- and the claim's UID

@@ -1,6 +1,6 @@
 -- Where the scheduler's volume binding may write, after its own earlier entries.
 -- A choice of this project; each row restates the evidence on which the volume binding plugin acts.
-use Rattle.std.specs.Prelude.{ℕ, ◌≡◌, Bool, true, false, List, [], ◌∷◌, Option, Some, None, ⊤, All}
+use Rattle.std.specs.Prelude.{ℕ, ◌≡◌, true, false, List, [], Some, All}
 use Rattle.plain_data.specs.Pairs.{put_pair}
 use Rattle.kube_types.specs.declared.uid.Uid.{Uid}
 use Rattle.kube_types.specs.declared.key.Key.{Key}
@@ -9,7 +9,6 @@ use Rattle.kube_types.specs.declared.objects.Claim.{Claim as ClaimData}
 use Rattle.kube_types.specs.declared.objects.Node.{Node as NodeData}
 use Rattle.kube_types.specs.declared.objects.Pod.{Pod as PodData}
 use Rattle.kube_types.specs.declared.objects.Volume.{Volume as VolumeData}
-use Rattle.kube_types.specs.declared.objects.Object.{Object}
 use Rattle.kube_types.specs.declared.objects.Object.TheVariants.{Class, Node, Volume, Claim, Pod}
 use Rattle.kube_types.specs.Bindings.{selected_node, class_of_claim, is_completed}
 use Rattle.label_rules.specs.Selectors.{admits}

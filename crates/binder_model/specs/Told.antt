@@ -1,15 +1,12 @@
 -- What a seat was told. Its own entries stand newest first; only those whose answer reached it tell anything.
 -- A choice of this project: this is the evidence on which a controller may act, whatever its caches and queues are.
-use Rattle.std.specs.Prelude.{ℕ, ◌≡◌, ◌≢◌, ◌⊎◌, ◌==◌, nat_lt, Bool, true, false, ◌&&◌, List, [], ◌∷◌, ◌++◌, Option, Some, None, bytes_eq, if◌then◌else◌, ⊤}
-use Rattle.kube_types.specs.declared.parts.Kind.{Kind}
+use Rattle.std.specs.Prelude.{ℕ, ◌≡◌, ◌⊎◌, ◌==◌, nat_lt, Bool, true, false, ◌&&◌, List, [], ◌∷◌, ◌++◌, Option, Some, None, bytes_eq, if◌then◌else◌}
 use Rattle.kube_types.specs.declared.key.Key.{Key}
 use Rattle.kube_types.specs.declared.objects.Volume.{Volume as VolumeData}
 use Rattle.kube_types.specs.declared.objects.Claim.{Claim as ClaimData}
-use Rattle.kube_types.specs.declared.objects.Class.{Class as ClassData}
 use Rattle.kube_types.specs.declared.objects.Pod.{Pod as PodData}
-use Rattle.kube_types.specs.declared.objects.Node.{Node as NodeData}
 use Rattle.kube_types.specs.declared.objects.Object.{Object}
-use Rattle.kube_types.specs.declared.objects.Object.TheVariants.{Class, Node, Volume, Claim, Pod}
+use Rattle.kube_types.specs.declared.objects.Object.TheVariants.{Volume, Claim, Pod}
 use Rattle.kube_types.specs.Keys.{meta_of, key_of, kind_index, row_at}
 use Rattle.call_types.specs.declared.entry.Entry.{Entry}
 use Rattle.call_types.specs.declared.request.Request.{Request}
@@ -25,6 +22,11 @@ use Rattle.call_types.specs.declared.reply.Reply.TheVariants.{Done, Left, Found,
 abbrev pub SomeOf : {X : Type 0} → (X → Type 0) → List X → Type 0
 SomeOf P [] = ⊥
 SomeOf P (x ∷ xs) = P x ⊎ SomeOf P xs
+
+-- the first of two values that may be absent
+abbrev pub first_some : {X : Type 0} → Option X → Option X → Option X
+first_some (Some a) b = Some a
+first_some None b = b
 
 abbrev pub same_key : Key → Key → Bool
 same_key a b = kind_index a.kind == kind_index b.kind && bytes_eq a.namespace b.namespace && bytes_eq a.name b.name
