@@ -1,13 +1,12 @@
 -- What the store answers a request, and what it then has: the outcome, its reply, the store after it.
 -- Source: Kubernetes API conventions (verbs, optimistic concurrency); the order of refusals is this project's choice.
-use Rattle.std.specs.Prelude.{ℕ, ◌+◌, ◌==◌, Bool, true, false, not, ◌&&◌, List, Option, Some, None, bytes_eq, filter, is_some}
+use Rattle.std.specs.Prelude.{ℕ, ◌+◌, ◌==◌, Bool, true, false, not, List, Option, Some, None, bytes_eq, filter}
 use Rattle.kube_types.specs.declared.uid.Uid.{Uid}
 use Rattle.kube_types.specs.declared.names.Field.{Field}
 use Rattle.kube_types.specs.declared.names.Field.TheVariants as fields
 use Rattle.kube_types.specs.declared.names.Rule.{Rule}
 use Rattle.kube_types.specs.declared.names.Rule.TheVariants as rules
 use Rattle.kube_types.specs.declared.parts.Kind.{Kind}
-use Rattle.kube_types.specs.declared.key.Key.{Key}
 use Rattle.kube_types.specs.declared.objects.Pod.{Pod as PodData}
 use Rattle.kube_types.specs.declared.objects.Object.{Object}
 use Rattle.kube_types.specs.declared.objects.Object.TheVariants.{Volume, Claim, Pod}

@@ -1,8 +1,8 @@
 -- The four writes of a binding, in order, each at the version of the object on which it was decided; and unbinding.
 -- Source: `bind` and `unbindVolume` of `pv_controller.go`. That a write over Released or Failed, or Bound without the
 -- protection finalizer, is not made is this project's choice.
-use Rattle.std.specs.Prelude.{ℕ, Bool, true, false, not, ◌&&◌, ◌||◌, List, [], Option, Some, None, bytes_eq, is_none, is_some, if◌then◌else◌}
-use Rattle.plain_data.specs.Pairs.{Pair, put_pair, without_key}
+use Rattle.std.specs.Prelude.{ℕ, Bool, true, false, not, ◌&&◌, ◌||◌, List, [], Option, Some, None, bytes_eq, is_none, if◌then◌else◌}
+use Rattle.plain_data.specs.Pairs.{put_pair, without_key}
 use Rattle.kube_types.specs.declared.parts.Kind.TheVariants as kinds
 use Rattle.kube_types.specs.declared.parts.ClaimPhase.{ClaimPhase}
 use Rattle.kube_types.specs.declared.parts.ClaimPhase.TheVariants as claims

@@ -1,6 +1,6 @@
 -- What the binder has still to do for a volume and for a claim, where every look-up and live read sees the store itself.
 -- Source: `syncVolume`, `syncUnboundClaim` and `syncBoundClaim` of `pv_controller.go`.
-use Rattle.std.specs.Prelude.{ℕ, Bool, true, false, not, ◌&&◌, ◌||◌, List, Option, Some, None, bytes_eq, is_none, is_some, if◌then◌else◌}
+use Rattle.std.specs.Prelude.{Bool, false, not, ◌&&◌, ◌||◌, List, Option, Some, None, bytes_eq, is_none, is_some, if◌then◌else◌}
 use Rattle.kube_types.specs.declared.uid.Uid.{Uid}
 use Rattle.kube_types.specs.declared.names.Due.{Due}
 use Rattle.kube_types.specs.declared.names.Due.TheVariants.{Available, Bound, Release, Unbind, Bind, Lost}

@@ -5,7 +5,6 @@ use Rattle.std.specs.List.{list_any}
 use Rattle.plain_data.specs.Pairs.{Pair, value_at}
 use Rattle.kube_types.specs.declared.uid.Uid.{Uid}
 use Rattle.kube_types.specs.declared.objects.DataId.{DataId}
-use Rattle.kube_types.specs.Bindings.{has_name}
 use Rattle.call_types.specs.declared.setup.Pool.{Pool}
 use Rattle.call_types.specs.declared.setup.Setup.{Setup}
 use Rattle.call_types.specs.declared.request.Request.{Request}

@@ -1,7 +1,6 @@
 -- What a typed edit makes of an object. It takes the place of patches, a choice of this project.
 use Rattle.std.specs.Prelude.{ℕ, not, List, Option, Some, None, bytes_eq, filter}
 use Rattle.plain_data.specs.Pairs.{put_pair, without_key}
-use Rattle.kube_types.specs.declared.objects.Meta.{Meta}
 use Rattle.kube_types.specs.declared.objects.Object.{Object}
 use Rattle.kube_types.specs.declared.objects.Object.TheVariants.{Volume, Claim}
 use Rattle.kube_types.specs.Keys.{meta_of}

@@ -1,7 +1,7 @@
 -- Which fields of an object are invalid, at its creation and at an update: the first in the order of the tests.
 -- Source: Kubernetes API validation of these kinds, "Object Names and IDs"; which fields are fixed after creation
 -- is this project's profile, a little stricter than the real API.
-use Rattle.std.specs.Prelude.{ℕ, ◌==◌, nat_lt, nat_le, Bool, true, false, not, ◌&&◌, ◌||◌, List, [], ◌∷◌, Option, Some, None, bytes_eq, length, if◌then◌else◌}
+use Rattle.std.specs.Prelude.{ℕ, ◌==◌, nat_le, Bool, true, false, not, ◌&&◌, ◌||◌, List, [], ◌∷◌, Option, Some, None, bytes_eq, length, if◌then◌else◌}
 use Rattle.std.specs.Bool.{beq}
 use Rattle.std.specs.List.{list_all, list_any}
 use Rattle.kube_types.specs.declared.names.Field.{Field}

@@ -1,15 +1,13 @@
 -- What a user may write: the rules on annotations, finalizers, references and policy.
 -- A choice of this project. In Kubernetes these fields are the controllers' by convention alone.
-use Rattle.std.specs.Prelude.{ℕ, Bool, true, false, not, ◌&&◌, ◌||◌, List, [], ◌∷◌, Option, Some, None, bytes_eq, is_some, is_none}
+use Rattle.std.specs.Prelude.{ℕ, Bool, true, false, not, ◌&&◌, ◌||◌, List, [], Option, Some, None, bytes_eq, is_some, is_none}
 use Rattle.std.specs.Bool.{xor}
-use Rattle.std.specs.List.{list_any}
 use Rattle.plain_data.specs.Pairs.{Pair, value_at}
 use Rattle.kube_types.specs.declared.names.Rule.{Rule}
 use Rattle.kube_types.specs.declared.names.Rule.TheVariants as rules
 use Rattle.kube_types.specs.declared.parts.VolumePhase.{VolumePhase}
 use Rattle.kube_types.specs.declared.parts.VolumePhase.TheVariants.{Released}
 use Rattle.kube_types.specs.declared.objects.Ref.{Ref}
-use Rattle.kube_types.specs.declared.objects.Volume.{Volume as VolumeData}
 use Rattle.kube_types.specs.declared.objects.Object.{Object}
 use Rattle.kube_types.specs.declared.objects.Object.TheVariants.{Volume, Claim}
 use Rattle.kube_types.specs.Keys.{meta_of}

@@ -1,6 +1,6 @@
 -- What a watch tells: the writes after a version, of a kind, in order. The log begins with the newest write.
 -- Source: Kubernetes API concepts, "Efficient detection of changes"; the window and the limit are this project's choice.
-use Rattle.std.specs.Prelude.{ℕ, ◌-◌, ◌==◌, nat_lt, Bool, ◌&&◌, List, [], ◌∷◌, Option, Some, None, reverse, filter, take, length, if◌then◌else◌}
+use Rattle.std.specs.Prelude.{ℕ, ◌-◌, ◌==◌, nat_lt, Bool, ◌&&◌, List, [], ◌∷◌, reverse, filter, take, length, if◌then◌else◌}
 use Rattle.kube_types.specs.declared.parts.Kind.{Kind}
 use Rattle.kube_types.specs.Keys.{is_of_kind}
 use Rattle.call_types.specs.declared.reply.Event.{Event}

@@ -1,10 +1,9 @@
 -- The world of a history: store, moment, watch log and devices, moved by one whole call at a time.
 -- A history's newest entry stands first. A choice of this project: one event is one whole call by one seat.
-use Rattle.std.specs.Prelude.{ℕ, ◌≡◌, nat_lt, nat_le, ◌==◌, Bool, true, false, not, ◌&&◌, ◌||◌, List, [], ◌∷◌, Option, Some, None, codes, if◌then◌else◌, ⊤}
+use Rattle.std.specs.Prelude.{ℕ, ◌≡◌, nat_lt, nat_le, ◌==◌, Bool, ◌&&◌, List, [], ◌∷◌, Option, Some, None, codes, if◌then◌else◌, ⊤}
 use lib.Pointwise.{pointwise}
 use Rattle.kube_types.specs.declared.names.Field.TheVariants as fields
 use Rattle.kube_types.specs.declared.names.Rule.TheVariants as rules
-use Rattle.kube_types.specs.declared.objects.Object.{Object}
 use Rattle.kube_types.specs.declared.parts.Kind.{Kind}
 use Rattle.kube_types.specs.Keys.{meta_of}
 use Rattle.call_types.specs.declared.entry.Entry.{Entry}

@@ -1,6 +1,8 @@
 //! The objects of the store.
 #![tactic(auto)]
 
+pub mod bindings;
+pub mod data;
 pub mod key;
 pub mod lookup;
 pub mod names;

@@ -35,7 +35,7 @@ fn name_if(alloc: Global, is_set: bool, name: &str, names: &mut Names) -> Result
 {
     if is_set {
         let name = Text::new(alloc, name)?;
-        names.push(alloc, &name)?;
+        names.push(&name)?;
     }
     Ok(())
 }

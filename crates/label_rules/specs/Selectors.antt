@@ -1,9 +1,9 @@
 -- Label selectors and node selector terms.
 -- Source: Kubernetes documentation, "Labels and Selectors" and "Assigning Pods to Nodes" (node selector terms).
-use Rattle.std.specs.Prelude.{ℕ, Bool, true, false, not, ◌&&◌, List, [], ◌∷◌, Option, Some, None, bytes_eq, is_some}
+use Rattle.std.specs.Prelude.{ℕ, Bool, true, false, not, ◌&&◌, List, [], ◌∷◌, Option, Some, None, is_some}
 use Rattle.std.specs.List.{list_all, list_any}
 use Rattle.plain_data.specs.Pairs.{Pair, value_at}
-use Rattle.kube_types.specs.Bindings.{has_key, has_name}
+use Rattle.kube_types.specs.Bindings.{has_name}
 use Rattle.kube_types.specs.declared.parts.Op.{Op}
 use Rattle.kube_types.specs.declared.parts.Op.TheVariants.{In, NotIn, Exists, DoesNotExist}
 use Rattle.kube_types.specs.declared.objects.Expr.{Expr}

@@ -112,20 +112,24 @@ impl Pairs {
         &self.items
     }
 
+    /// The value of a key.
     pub fn get(&self, key: &str) -> Option<&Text>
         ensures { option_copied result ≡ value_at key.now self.now }
     {
         value_in(&self.items, key)
     }
 
-    pub fn set(&mut self, alloc: Global, key: &Text, value: &Text) -> Result<(), OutOfMemory>
+    /// Puts a copy of the pair in place of the one of its key, or in its place in the order.
+    pub fn set(&mut self, key: &Text, value: &Text) -> Result<(), OutOfMemory>
         ensures ok { OnOk result (self.new ≡ put_pair key.now value.now self.old) }
         ensures err { OnErr result (self.new ≡ self.old) }
     {
+        let alloc = *self.items.allocator();
         let pair = (key.copy(alloc)?, value.copy(alloc)?);
         put_in(&mut self.items, pair)
     }
 
+    /// Takes out the pair of the key. An absent key changes nothing.
     pub fn drop_key(&mut self, key: &Text)
         ensures { self.new ≡ without_key key.now self.old }
     {

@@ -1,0 +1,167 @@
+-- Where a node agent may mount, unmount and finish pods, after its own earlier entries.
+-- A choice of this project: it stands for kubelet's volume manager. "The last" entries stand first.
+use Rattle.std.specs.Prelude.{ℕ, ◌≡◌, ◌==◌, ◌&&◌, not, Bool, true, false, List, [], ◌∷◌, ◌++◌, Option, Some, None, bytes_eq, is_some, if◌then◌else◌, ⊤}
+use Rattle.std.specs.List.{list_any}
+use Rattle.kube_types.specs.declared.uid.Uid.{Uid}
+use Rattle.kube_types.specs.declared.key.Key.{Key}
+use Rattle.kube_types.specs.declared.parts.Kind.TheVariants as kinds
+use Rattle.kube_types.specs.declared.objects.Claim.{Claim as ClaimData}
+use Rattle.kube_types.specs.declared.objects.Pod.{Pod as PodData}
+use Rattle.kube_types.specs.declared.objects.Volume.{Volume as VolumeData}
+use Rattle.kube_types.specs.declared.objects.Object.TheVariants.{Volume, Claim, Pod}
+use Rattle.kube_types.specs.Bindings.{is_deleting, is_protected_claim, is_completed, carries}
+use Rattle.call_types.specs.declared.entry.Entry.{Entry}
+use Rattle.call_types.specs.declared.request.Request.{Request}
+use Rattle.call_types.specs.declared.request.Request.TheVariants as requests
+use Rattle.call_types.specs.declared.reply.MountRow.{MountRow}
+use Rattle.call_types.specs.declared.reply.Reply.{Reply}
+use Rattle.call_types.specs.declared.reply.Reply.TheVariants as replies
+use Rattle.binder_model.specs.Same.{same_uid}
+use Rattle.binder_model.specs.BindWrites.{claim_key, volume_key, is_claim_bound}
+use Rattle.binder_model.specs.Told.{SomeOf, first_some, same_key, ToldPod, TellsObject, IsPodWith, IsNewest}
+
+abbrev pub pod_key : List ℕ → List ℕ → Key
+pod_key namespace name = record { kind = kinds.Pod; namespace = namespace; name = name }
+
+-- the epoch that the answer to a TakeNode of the node tells
+abbrev pub epoch_told : List ℕ → Request → Reply → Option ℕ
+epoch_told node (requests.TakeNode taken) (replies.Epoch epoch) = if bytes_eq taken node then Some epoch else None
+epoch_told node request reply = None
+
+abbrev pub epoch_in : List ℕ → Entry → Option ℕ
+epoch_in node e = if e.told then epoch_told node e.request e.reply else None
+
+-- the last epoch of the node that the seat was told
+abbrev pub last_epoch : List ℕ → List Entry → Option ℕ
+last_epoch node [] = None
+last_epoch node (e ∷ mine) = first_some (epoch_in node e) (last_epoch node mine)
+
+-- the entries since then
+abbrev pub since_epoch : List ℕ → List Entry → List Entry
+since_epoch node [] = []
+since_epoch node (e ∷ mine) = if is_some (epoch_in node e) then [] else e ∷ since_epoch node mine
+
+abbrev pub is_pod_list : Request → Reply → Bool
+is_pod_list (requests.List kinds.Pod None) (replies.Listed items version) = true
+is_pod_list request reply = false
+
+-- a list of all pods was told
+abbrev pub ListedPods : List Entry → Type 0
+ListedPods mine = SomeOf (λ e. (e.told ≡ true) × (is_pod_list e.request e.reply ≡ true)) mine
+
+abbrev pub is_get_of : Key → Request → Bool
+is_get_of key (requests.Get asked) = same_key asked key
+is_get_of key _ = false
+
+-- the answer of the last Get of the key that was told
+abbrev pub last_get : Key → List Entry → Option Reply
+last_get key [] = None
+last_get key (e ∷ mine) = if e.told && is_get_of key e.request then Some e.reply else last_get key mine
+
+-- the entries since that Get
+abbrev pub since_get : Key → List Entry → List Entry
+since_get key [] = []
+since_get key (e ∷ mine) = if e.told && is_get_of key e.request then [] else e ∷ since_get key mine
+
+-- the last Get found the claim bound and protected, and the last Get of its volume after that found it carrying the claim
+pub record IsReadReady (recent : List Entry) (namespace name : List ℕ) (uid : Uid) : Type 0 where
+  pub claim : ClaimData
+  pub read : last_get (claim_key namespace name) recent ≡ Some (replies.Found (Claim claim))
+  pub same : claim.meta.uid ≡ Some uid
+  pub staying : is_deleting claim.meta ≡ false
+  pub guarded : is_protected_claim claim ≡ true
+  pub completed : is_completed claim ≡ true
+  pub bound : is_claim_bound claim.phase ≡ true
+  pub volume : VolumeData
+  pub volume_read : last_get (volume_key claim.volume_name) (since_get (claim_key namespace name) recent) ≡ Some (replies.Found (Volume volume))
+  pub carries : carries volume claim ≡ true
+
+-- each of the claims, in order, is ready with its UID
+abbrev pub AreReadReady : List Entry → List ℕ → List (List ℕ) → List Uid → Type 0
+AreReadReady recent namespace [] [] = ⊤
+AreReadReady recent namespace (name ∷ names) (uid ∷ uids) = IsReadReady recent namespace name uid × AreReadReady recent namespace names uids
+AreReadReady recent namespace _ _ = ⊥
+
+-- the pod with the UID, on the node
+pub record IsPodOn (uid : Uid) (node : List ℕ) (p : PodData) : Type 0 where
+  pub same : p.meta.uid ≡ Some uid
+  pub placed : p.node ≡ node
+
+abbrev pub is_finish_of : Uid → Request → Bool
+is_finish_of pod (requests.FinishPod key uid node epoch) = same_uid uid pod
+is_finish_of pod _ = false
+
+-- the seat never asked to finish the pod, told or not
+abbrev pub never_finished : Uid → List Entry → Bool
+never_finished pod mine = not (list_any (λ e. is_finish_of pod e.request) mine)
+
+-- the row Mount, for Mounts
+abbrev pub MayReadMounts : List Entry → List ℕ → ℕ → Type 0
+MayReadMounts mine node epoch = last_epoch node mine ≡ Some epoch
+
+-- the row Mount, for Mount: the entries since the epoch are those after the pod was told, the one that told it, and
+-- earlier ones; a list of pods is among the last two
+pub record MayMount (mine : List Entry) (node : List ℕ) (epoch : ℕ) (pod : Uid) (claims : List Uid) : Type 0 where
+  pub current : last_epoch node mine ≡ Some epoch
+  pub recent : List Entry
+  pub teller : Entry
+  pub earlier : List Entry
+  pub since : since_epoch node mine ≡ recent ++ teller ∷ earlier
+  pub listed : ListedPods (teller ∷ earlier)
+  pub shown : PodData
+  pub on_node : IsPodOn pod node shown
+  pub told : TellsObject (IsPodWith (λ p. p ≡ shown)) teller
+  pub latest : PodData
+  pub newest : IsNewest mine (pod_key shown.meta.namespace shown.meta.name) (Pod latest)
+  pub same : latest.meta.uid ≡ Some pod
+  pub staying : is_deleting latest.meta ≡ false
+  pub ready : AreReadReady recent shown.meta.namespace shown.claims claims
+  pub unfinished : never_finished pod mine ≡ true
+
+-- the pod with the UID, on the node, to be deleted
+pub record IsEndingPod (uid : Uid) (node : List ℕ) (p : PodData) : Type 0 where
+  pub same : p.meta.uid ≡ Some uid
+  pub placed : p.node ≡ node
+  pub deleting : is_deleting p.meta ≡ true
+
+-- the row FinishPod, for Unmount
+pub record MayUnmount (mine : List Entry) (node : List ℕ) (epoch : ℕ) (pod : Uid) : Type 0 where
+  pub current : last_epoch node mine ≡ Some epoch
+  pub told : ToldPod (IsEndingPod pod node) mine
+
+abbrev pub has_row : Uid → List MountRow → Bool
+has_row pod rows = list_any (λ r. same_uid r.pod pod) rows
+
+-- the request is one of this node and epoch that is answered by the node's mounts
+abbrev pub is_of_epoch : List ℕ → ℕ → Request → Bool
+is_of_epoch node epoch (requests.Mounts n e) = bytes_eq n node && e == epoch
+is_of_epoch node epoch (requests.Mount n e pod claims) = bytes_eq n node && e == epoch
+is_of_epoch node epoch (requests.Unmount n e pod) = bytes_eq n node && e == epoch
+is_of_epoch node epoch _ = false
+
+abbrev pub lacks_pod : Uid → Reply → Bool
+lacks_pod pod (replies.Mounted rows) = not (has_row pod rows)
+lacks_pod pod _ = false
+
+abbrev pub is_mount_of : Uid → Request → Bool
+is_mount_of pod (requests.Mount n e p claims) = same_uid p pod
+is_mount_of pod _ = false
+
+-- a list of the node's mounts without the pod was told, after each Mount of the pod that was asked, told or not
+abbrev pub was_told_unmounted : List ℕ → ℕ → Uid → List Entry → Bool
+was_told_unmounted node epoch pod [] = false
+was_told_unmounted node epoch pod (e ∷ mine) =
+    if e.told && is_of_epoch node epoch e.request && lacks_pod pod e.reply then true
+    else if is_mount_of pod e.request then false
+    else was_told_unmounted node epoch pod mine
+
+-- the pod of this key, too
+pub record IsEndingPodAt (key : Key) (uid : Uid) (node : List ℕ) (p : PodData) : Type 0 where
+  pub ending : IsEndingPod uid node p
+  pub keyed : same_key (pod_key p.meta.namespace p.meta.name) key ≡ true
+
+-- the row FinishPod, for FinishPod
+pub record MayFinish (mine : List Entry) (key : Key) (pod : Uid) (node : List ℕ) (epoch : ℕ) : Type 0 where
+  pub current : last_epoch node mine ≡ Some epoch
+  pub told : ToldPod (IsEndingPodAt key pod node) mine
+  pub unmounted : was_told_unmounted node epoch pod (since_epoch node mine) ≡ true

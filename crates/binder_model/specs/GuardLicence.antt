@@ -1,0 +1,62 @@
+-- Where the protection controllers may write, after their own earlier entries.
+-- A choice of this project; each row restates the evidence on which the pvc-protection and pv-protection controllers act.
+use Rattle.std.specs.Prelude.{ℕ, ◌≡◌, ◌&&◌, Bool, true, false, List, [], ◌∷◌, ◌++◌, Some, None, bytes_eq}
+use Rattle.std.specs.List.{list_any}
+use Rattle.kube_types.specs.declared.parts.Kind.TheVariants as kinds
+use Rattle.kube_types.specs.declared.objects.Meta.{Meta}
+use Rattle.kube_types.specs.declared.objects.Volume.{Volume as VolumeData}
+use Rattle.kube_types.specs.declared.objects.Claim.{Claim as ClaimData}
+use Rattle.kube_types.specs.declared.objects.Object.{Object}
+use Rattle.kube_types.specs.declared.objects.Object.TheVariants.{Pod}
+use Rattle.kube_types.specs.Bindings.{has_name, pv_protection, pvc_protection, is_deleting, is_bound, is_scheduled}
+use Rattle.call_types.specs.declared.entry.Entry.{Entry}
+use Rattle.call_types.specs.declared.request.Request.{Request}
+use Rattle.call_types.specs.declared.request.Request.TheVariants as requests
+use Rattle.call_types.specs.declared.reply.Reply.{Reply}
+use Rattle.call_types.specs.declared.reply.Reply.TheVariants.{Listed}
+use Rattle.binder_model.specs.Edits.{without_name}
+use Rattle.binder_model.specs.Told.{ToldClaim, After}
+use Rattle.binder_model.specs.At.{IsSameObject}
+
+abbrev pub guarded : List ℕ → Meta → Meta
+guarded name m = record m { finalizers = m.finalizers ++ name ∷ [] }
+
+abbrev pub unguarded : List ℕ → Meta → Meta
+unguarded name m = record m { finalizers = without_name name m.finalizers }
+
+-- the row AddGuard, for the finalizer of the object's kind
+pub record MayGuard (name : List ℕ) (o new : Meta) : Type 0 where
+  pub staying : is_deleting o ≡ false
+  pub lacks : has_name name o.finalizers ≡ false
+  pub change : new ≡ guarded name o
+
+-- the row DropVolumeGuard
+pub record MayUnguardVolume (o new : VolumeData) : Type 0 where
+  pub deleting : is_deleting o.meta ≡ true
+  pub loose : is_bound o.phase ≡ false
+  pub change : new ≡ record o { meta = unguarded pv_protection o.meta }
+
+-- this claim, told to be deleted
+pub record IsDeletingVersion (o c : ClaimData) : Type 0 where
+  pub same : IsSameObject o.meta c.meta
+  pub deleting : is_deleting c.meta ≡ true
+
+-- a pod of the claim's namespace that a node runs or is to run, and that names the claim
+abbrev pub uses : ClaimData → Object → Bool
+uses c (Pod p) = is_scheduled p && bytes_eq p.meta.namespace c.meta.namespace && has_name c.meta.name p.claims
+uses c o = false
+
+-- a list of the pods of the claim's namespace, or of all pods, told none that uses it
+abbrev pub IsPodList : ClaimData → Request → Reply → Type 0
+IsPodList o (requests.List kinds.Pod None) (Listed items version) = list_any (uses o) items ≡ false
+IsPodList o (requests.List kinds.Pod (Some namespace)) (Listed items version) = (namespace ≡ o.meta.namespace) × (list_any (uses o) items ≡ false)
+IsPodList o request reply = ⊥
+
+abbrev pub TellsUnused : ClaimData → Entry → Type 0
+TellsUnused o e = (e.told ≡ true) × IsPodList o e.request e.reply
+
+-- the row DropClaimGuard
+pub record MayUnguardClaim (mine : List Entry) (o new : ClaimData) : Type 0 where
+  pub deleting : is_deleting o.meta ≡ true
+  pub unused : After (ToldClaim (IsDeletingVersion o)) (TellsUnused o) mine
+  pub change : new ≡ record o { meta = unguarded pvc_protection o.meta }

@@ -1,0 +1,136 @@
+//! The words of bindings: classes, completed, for, carries, protected.
+
+ghost use Rattle.std.specs.Prelude.{◌≡◌};
+ghost use Rattle.kube_types.specs.Bindings.{carries, class_of_claim, class_of_volume, is_completed, is_deleting, is_for, is_protected_claim, is_protected_volume, is_scheduled, is_uid, names_claim};
+
+use crate::objects::{Claim, Meta, Pod, Ref, Volume};
+use crate::uid::Uid;
+
+/// The annotation of a claim whose binding was written whole.
+pub const BIND_COMPLETED: &str = "pv.kubernetes.io/bind-completed";
+/// The annotation of a binding that the controller made.
+pub const BOUND_BY_CONTROLLER: &str = "pv.kubernetes.io/bound-by-controller";
+/// The annotation that names the provisioner that made a volume.
+pub const PROVISIONED_BY: &str = "pv.kubernetes.io/provisioned-by";
+/// The annotation that names the node chosen for a claim's first pod.
+pub const SELECTED_NODE: &str = "volume.kubernetes.io/selected-node";
+/// The annotation of the class of claims that name none.
+pub const IS_DEFAULT_CLASS: &str = "storageclass.kubernetes.io/is-default-class";
+/// The older place of a class's name, an annotation.
+pub const BETA_CLASS: &str = "volume.beta.kubernetes.io/storage-class";
+/// The protection finalizer of claims.
+pub const PVC_PROTECTION: &str = "kubernetes.io/pvc-protection";
+/// The protection finalizer of volumes.
+pub const PV_PROTECTION: &str = "kubernetes.io/pv-protection";
+/// The value that the binder writes for its annotations.
+pub const YES: &str = "yes";
+/// The provisioner that provisions nothing.
+pub const NO_PROVISIONER: &str = "kubernetes.io/no-provisioner";
+
+/// The class of a volume, empty where it has none.
+pub fn class_of_volume(volume: &Volume) -> &str
+    ensures { result.now ≡ class_of_volume volume.now }
+{
+    match volume.meta.annotations.get(BETA_CLASS) {
+        Some(class) => class.as_str(),
+        None => volume.class.as_str(),
+    }
+}
+
+/// The class of a claim, empty where it has none.
+pub fn class_of_claim(claim: &Claim) -> &str
+    ensures { result.now ≡ class_of_claim claim.now }
+{
+    match claim.meta.annotations.get(BETA_CLASS) {
+        Some(class) => class.as_str(),
+        None => match &claim.class {
+            Some(class) => class.as_str(),
+            None => "",
+        },
+    }
+}
+
+/// Whether the binding of the claim was written whole.
+pub fn is_completed(claim: &Claim) -> bool
+    ensures { result ≡ is_completed claim.now }
+{
+    claim.meta.annotations.get(BIND_COMPLETED).is_some()
+}
+
+/// Whether the object is being deleted.
+pub fn is_deleting(meta: &Meta) -> bool
+    ensures { result ≡ is_deleting meta.now }
+{
+    meta.deleted.is_some()
+}
+
+/// Whether the pod has a node.
+pub fn is_scheduled(pod: &Pod) -> bool
+    ensures { result ≡ is_scheduled pod.now }
+{
+    !pod.node.as_str().is_empty()
+}
+
+/// Whether the volume has its protection finalizer.
+pub fn is_protected_volume(volume: &Volume) -> bool
+    ensures { result ≡ is_protected_volume volume.now }
+{
+    volume.meta.finalizers.contains(PV_PROTECTION)
+}
+
+/// Whether the claim has its protection finalizer.
+pub fn is_protected_claim(claim: &Claim) -> bool
+    ensures { result ≡ is_protected_claim claim.now }
+{
+    claim.meta.finalizers.contains(PVC_PROTECTION)
+}
+
+/// Whether an object's id is this one.
+pub fn is_uid(given: Option<Uid>, uid: Uid) -> bool
+    ensures { result ≡ is_uid given uid }
+{
+    match given {
+        None => false,
+        Some(own) => own.0 == uid.0,
+    }
+}
+
+/// Whether the reference has the namespace and the name of the claim.
+pub fn names_claim(reference: &Ref, claim: &Claim) -> bool
+    ensures { result ≡ names_claim reference.now claim.now }
+{
+    reference.namespace.is(claim.meta.namespace.as_str())
+        && reference.name.is(claim.meta.name.as_str())
+}
+
+/// Whether the volume's reference names the claim, with its id or with none.
+pub fn is_for(volume: &Volume, claim: &Claim) -> bool
+    ensures { result ≡ is_for volume.now claim.now }
+{
+    match &volume.claim_ref {
+        None => false,
+        Some(reference) => {
+            names_claim(reference, claim)
+                && match reference.uid {
+                    None => true,
+                    Some(uid) => is_uid(claim.meta.uid, uid),
+                }
+        }
+    }
+}
+
+/// Whether the volume's reference names the claim with its id.
+pub fn carries(volume: &Volume, claim: &Claim) -> bool
+    ensures { result ≡ carries volume.now claim.now }
+{
+    match &volume.claim_ref {
+        None => false,
+        Some(reference) => {
+            names_claim(reference, claim)
+                && match reference.uid {
+                    None => false,
+                    Some(uid) => is_uid(claim.meta.uid, uid),
+                }
+        }
+    }
+}
