@@ -4,6 +4,7 @@ pub mod Fresh
 pub mod Matches
 pub mod Outcomes
 pub mod Places
+pub mod Runs
 pub mod Same
 pub mod Served
 pub mod Standing

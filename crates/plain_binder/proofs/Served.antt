@@ -140,21 +140,10 @@ module _ (old rows : List Object) (volume claim : Key) (b : IsBinding 4 old rows
       by (inr differs) (inl is) = let here : slice_get (keys_of kinds.PersistentVolumeClaim old) place ≡ Some key = subst (λ i. slice_get (keys_of kinds.PersistentVolumeClaim old) i ≡ Some key) is unmoved in let same : key ≡ claim = cc in absurd (differs same)
       by (inr differs) (inr less) = kept differs (before j key d less unmoved (claim_before 4 old rows volume claim b key d at differs))
 
--- a claim that names no volume is open
-open_claim : (rows : List Object) (c : ClaimData) → c.volume_name ≡ [] → IsServedClaim rows c → IsOpen c
-open_claim rows c unnamed (Open o) = o
-open_claim rows c unnamed (Done v p) =
-    let named : v.meta.name ≡ [] = sym p.named ∙ unnamed in
-    let empty : is_empty v.meta.name ≡ true = rw named refl in
-    absurd (true≢false (sym empty ∙ name_stands v.meta.name (volume_parts v p.sound_volume.valid).name))
-
--- a claim that names one is completed
-pub named_completed : (rows : List Object) (c : ClaimData) → AreServed rows → row_at (key_of (Claim c)) rows ≡ Some (Claim c) → c.volume_name ≢ [] → is_completed c ≡ true
-named_completed rows c served at named = by (served (key_of (Claim c)) (Claim c) at)
-  where
-    by : IsServedClaim rows c → is_completed c ≡ true
-    by (Open o) = absurd (named o.unnamed)
-    by (Done v p) = p.completed
+-- a claim that is not completed is open
+open_claim : (rows : List Object) (c : ClaimData) → is_completed c ≡ false → IsServedClaim rows c → IsOpen c
+open_claim rows c pending (Open o) = o
+open_claim rows c pending (Done v p) = absurd (true≢false (sym p.completed ∙ pending))
 
 last_true : (a b c d e m : Bool) → (a && b && c && d && e && m) ≡ true → m ≡ true
 last_true true true true true true m h = h
@@ -176,11 +165,11 @@ eligible_free rows v c at opened may (Taken d p) = by (key_tells (key_of (Claim 
     by (inr differs) = absurd (true≢false (sym may ∙ takes_no_other v d c p.reference differs))
 
 -- a binding of an open claim to its best volume begins
-pub binding_begins : (rows : List Object) (c : ClaimData) (place : ℕ) (v : VolumeData) → AreRows rows → AreServed rows → row_at (key_of (Claim c)) rows ≡ Some (Claim c) → c.volume_name ≡ []
+pub binding_begins : (rows : List Object) (c : ClaimData) (place : ℕ) (v : VolumeData) → AreRows rows → AreServed rows → row_at (key_of (Claim c)) rows ≡ Some (Claim c) → is_completed c ≡ false
     → slice_get (rows_of kinds.PersistentVolume rows) place ≡ Some (Volume v) → eligible v c None ≡ true → IsBinding 0 rows rows (key_of (Volume v)) (key_of (Claim c))
-binding_begins rows c place v order served at unnamed there may =
+binding_begins rows c place v order served at pending there may =
     let v_at = row_at_place kinds.PersistentVolume place (Volume v) rows order there in
-    let opened = open_claim rows c unnamed (served (key_of (Claim c)) (Claim c) at) in
+    let opened = open_claim rows c pending (served (key_of (Claim c)) (Claim c) at) in
     let free = eligible_free rows v c at opened (last_true (not (is_deleting v.meta)) (is_protected_volume v) (fits v c) (selected c.selector v.meta.labels) (admitted_on v None) (may_serve v c) may) (served (key_of (Volume v)) (Volume v) v_at) in
     record {
         v = v; c = c; volume_is = refl; claim_is = refl; volume_there = v_at; claim_there = at;

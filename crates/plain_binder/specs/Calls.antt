@@ -1,6 +1,6 @@
 -- The calls of a run on plain objects: each is created once, in order; then the binder alone asks.
 -- A choice of this project: seat 1 is the user's, seat 5 the binder's, and every call is told.
-use Rattle.std.specs.Prelude.{ℕ, ◌≡◌, Bool, true, false, List, [], ◌∷◌, Option, Some, None, All}
+use Rattle.std.specs.Prelude.{ℕ, ◌≡◌, Bool, true, false, List, [], ◌∷◌, ◌++◌, Option, Some, None, All, ⊤}
 use Rattle.kube_types.specs.declared.objects.Volume.{Volume as VolumeData}
 use Rattle.kube_types.specs.declared.objects.Claim.{Claim as ClaimData}
 use Rattle.kube_types.specs.declared.objects.Object.{Object}
@@ -14,8 +14,9 @@ use Rattle.call_types.specs.declared.request.SeatKind.TheVariants as seats
 use Rattle.call_types.specs.declared.request.Request.{Request}
 use Rattle.call_types.specs.declared.request.Request.TheVariants as requests
 use Rattle.binder_model.specs.Store.{State}
-use Rattle.binder_model.specs.Answers.{outcome, reply_of}
-use Rattle.binder_model.specs.World.{world, first_moment}
+use Rattle.binder_model.specs.Answers.{outcome, reply_of, after}
+use Rattle.binder_model.specs.World.{world, first_moment, IsHistory}
+use Rattle.binder_model.specs.Safe.{AreBindingsThroughout}
 use Rattle.binder_model.specs.BinderDue.{binder_due}
 
 -- nothing but the store: no pools, no faults
@@ -53,11 +54,19 @@ pub record IsBinderCall (e : Entry) : Type 0 where
   pub kind : e.kind ≡ seats.Binder
   pub told : e.told ≡ true
 
--- the entries, the oldest first, are the creates of the objects in order and then the binder's calls alone
-abbrev pub AreCalls : List Object → List Entry → Type 0
-AreCalls [] entries = All IsBinderCall entries
-AreCalls (o ∷ os) [] = ⊥
-AreCalls (o ∷ os) (e ∷ es) = IsCreateOf o e × AreCalls os es
+-- each of the objects is created once, in order: the entries, the oldest first
+abbrev pub AreCreates : List Object → List Entry → Type 0
+AreCreates [] [] = ⊤
+AreCreates (o ∷ os) (e ∷ es) = IsCreateOf o e × AreCreates os es
+AreCreates _ _ = ⊥
+
+-- the entries, the oldest first, are the creates of the objects, and then calls of the binder alone
+pub record AreCalls (objects : List Object) (entries : List Entry) : Type 0 where
+  pub creates : List Entry
+  pub others : List Entry
+  pub whole : entries ≡ creates ++ others
+  pub created : AreCreates objects creates
+  pub alone : All IsBinderCall others
 
 -- the store and its objects after these entries, the newest first
 abbrev pub store_after : List Entry → State
@@ -70,6 +79,27 @@ rows_after past = (store_after past).rows
 abbrev pub asked : List Entry → ℕ → SeatKind → Request → Entry
 asked past seat kind request =
     record { seat = seat; kind = kind; request = request; reply = reply_of (outcome (store_after past) kind request first_moment None); told = true }
+
+-- the requests of a plain run
+abbrev pub is_asked : Request → Bool
+is_asked (requests.Create o) = true
+is_asked (requests.Update o version) = true
+is_asked (requests.UpdateStatus key status version) = true
+is_asked (requests.List kind namespace) = true
+is_asked _ = false
+
+-- the store after one more request
+abbrev pub store_with : List Entry → SeatKind → Request → State
+store_with past kind request = after (store_after past) (outcome (store_after past) kind request first_moment None)
+
+-- what is known of a run: the entries are a history at the first moment, the store is what they made of it, and at each
+-- point of it the completed claims were bound
+pub record IsRun (past : List Entry) (store : State) (moment : List ℕ) : Type 0 where
+  pub history : IsHistory no_setup past
+  pub at_first : (world no_setup past).moment ≡ first_moment
+  pub first : moment ≡ first_moment
+  pub state : store ≡ store_after past
+  pub bindings : AreBindingsThroughout no_setup past
 
 -- the binder has nothing to do for any object that stands in the store
 abbrev pub IsNothingDue : List Object → Type 0

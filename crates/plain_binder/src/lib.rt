@@ -1,2 +1,6 @@
 //! The binder over a plain list of volumes and claims: their creates, and then the binder's calls.
 #![tactic(auto)]
+
+mod run;
+
+pub use run::Run;
