@@ -23,6 +23,7 @@ use Rattle.binder_model.specs.World.{first_moment}
 use Rattle.binder_model.specs.Matching.{IsBestAt, eligible, may_serve, has_match, class_key}
 use Rattle.binder_model.specs.BindWrites.{ref_to, volume_key, next_write, claim_write, write_reference, write_bound, write_completion, write_claim_status, shows_bound, is_completed_with}
 use Rattle.binder_model.specs.Safe.{IsBoundTo, CompletedAreBound}
+use Rattle.plain_binder.specs.Calls.{is_asked}
 use Rattle.plain_binder.specs.Stages.{keys_of, IsSoundVolume, IsSoundClaim, IsFree, IsOpen, IsPair, IsServed, IsServedVolume, IsServedClaim, Free, Taken, Open, Done, AreServed, SettledUpTo, IsStage, IsBinding}
 use Rattle.plain_binder.proofs.Same.{bytes_own, number_own, modes_own, amount_own}
 use Rattle.plain_binder.proofs.Valid.{volume_parts, volume_whole, claim_parts, claim_whole, name_stands}
@@ -124,9 +125,10 @@ sound_shown v c n s =
 pub record Advances (n : ℕ) (s : State) (old : List Object) (volume claim : Key) (v : VolumeData) (c : ClaimData) : Type 0 where
   pub request : Request
   pub next : next_write v c ≡ Some request
+  pub asked : is_asked request ≡ true
   pub reached : IsBinding n old (after s (outcome s Binder request first_moment None)).rows volume claim
 
-stored : (s : State) (x : Object) (request : Request) → outcome s Binder request first_moment None ≡ Stores Modified x → (after s (outcome s Binder request first_moment None)).rows ≡ put_row x s.rows
+pub stored : (s : State) (x : Object) (request : Request) → outcome s Binder request first_moment None ≡ Stores Modified x → (after s (outcome s Binder request first_moment None)).rows ≡ put_row x s.rows
 unfolding after
 stored s x request e = rw e refl
 
@@ -139,6 +141,7 @@ module _ (s : State) (order : AreRows s.rows) (old : List Object) (volume claim 
       record {
           request = write_reference b.v b.c;
           next = next_first b.v b.c b.sound_volume b.sound_claim b.stage_is;
+          asked = refl;
           reached = subst (λ rows. IsBinding 1 old rows volume claim) (sym store)
               (put_volume 0 1 old s.rows volume claim b x order b.volume_is (sound_referenced b.v b.c (s.version + 1) b.sound_volume b.sound_claim) refl (refl, b.stage_is.1, b.stage_is.2)) }
 
@@ -150,6 +153,7 @@ module _ (s : State) (order : AreRows s.rows) (old : List Object) (volume claim 
       record {
           request = write_bound b.v;
           next = next_second b.v b.c b.sound_volume b.sound_claim b.stage_is;
+          asked = refl;
           reached = subst (λ rows. IsBinding 2 old rows volume claim) (sym store)
               (put_volume 1 2 old s.rows volume claim b x order b.volume_is (sound_in_phase volumes.Bound (s.version + 1) b.v b.sound_volume) b.stage_is.0 (b.stage_is.0, refl, b.stage_is.2)) }
 
@@ -161,6 +165,7 @@ module _ (s : State) (order : AreRows s.rows) (old : List Object) (volume claim 
       record {
           request = write_completion b.v b.c;
           next = next_third b.v b.c b.sound_volume b.sound_claim b.stage_is;
+          asked = refl;
           reached = subst (λ rows. IsBinding 3 old rows volume claim) (sym store)
               (put_claim 2 3 old s.rows volume claim b x order b.claim_is (sound_completed b.v b.c (s.version + 1) b.sound_claim) (b.stage_is.0, b.stage_is.1, has_put bind_completed yes (put_pair bound_by_controller yes b.c.meta.annotations), refl, b.stage_is.2.pending)) }
 
@@ -173,6 +178,7 @@ module _ (s : State) (order : AreRows s.rows) (old : List Object) (volume claim 
       record {
           request = write_claim_status b.v b.c;
           next = next_fourth b.v b.c b.sound_volume b.sound_claim b.stage_is;
+          asked = refl;
           reached = subst (λ rows. IsBinding 4 old rows volume claim) (sym store)
               (put_claim 3 4 old s.rows volume claim b x order b.claim_is (sound_shown b.v b.c (s.version + 1) b.sound_claim) (b.stage_is.0, b.stage_is.1, b.stage_is.2, b.stage_is.3, shows)) }
 

@@ -3,6 +3,7 @@ pub mod Due
 pub mod Fresh
 pub mod Matches
 pub mod Outcomes
+pub mod Parts
 pub mod Places
 pub mod Runs
 pub mod Same

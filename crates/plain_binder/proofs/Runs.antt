@@ -18,7 +18,7 @@ use Rattle.call_types.specs.declared.request.Request.TheVariants as requests
 use Rattle.call_types.specs.declared.reply.Reply.{Reply}
 use Rattle.binder_model.specs.Store.{State, no_store}
 use Rattle.binder_model.specs.Answers.{Outcome, Says, Stores, Removes, outcome, after, reply_of, is_for_store}
-use Rattle.binder_model.specs.Devices.{device_answer}
+use Rattle.binder_model.specs.Devices.{device_answer, no_devices}
 use Rattle.binder_model.specs.World.{World, Effect, OnStore, OnDevices, SetsMoment, world, effect, on_devices, world_after, reply_to, first_moment, IsHistory}
 use Rattle.binder_model.specs.Safe.{AreBindings, CompletedAreBound, AreBindingsThroughout}
 use Rattle.plain_binder.specs.Calls.{no_setup, store_after, rows_after, asked, store_with, is_asked, IsRun, AreCreates, AreCalls, IsCreateOf, IsBinderCall}
@@ -56,16 +56,21 @@ module _ (past : List Entry) (seat : ℕ) (kind : SeatKind) (request : Request) 
   unfolding reply_to
   reply_asked = sym (ap (λ f. reply_to f) its_effect)
 
+  devices_asked : (world no_setup (asked past seat kind request ∷ past)).devices ≡ no_devices
+  unfolding world_after
+  devices_asked = ap (λ f. (world_after (world no_setup past) f).devices) its_effect ∙ run.unasked
+
   pub run_asked : (new : State) → new ≡ store_with past kind request → CompletedAreBound (store_with past kind request).rows → IsRun (asked past seat kind request ∷ past) new moment
   run_asked new made bound = record {
       history = (run.history, reply_asked);
       at_first = moment_asked;
       first = run.first;
       state = made ∙ sym store_asked;
-      bindings = (subst (λ (s : State). AreBindings s.rows) (sym store_asked) (bound_apart (store_with past kind request).rows bound), run.bindings) }
+      bindings = (subst (λ (s : State). AreBindings s.rows) (sym store_asked) (bound_apart (store_with past kind request).rows bound), run.bindings);
+      unasked = devices_asked }
 
 pub run_begins : (moment : List ℕ) → moment ≡ first_moment → IsRun [] no_store moment
-run_begins moment is = record { history = tt; at_first = refl; first = is; state = refl; bindings = bound_apart [] (fresh_bound [] no_rows) }
+run_begins moment is = record { history = tt; at_first = refl; first = is; state = refl; bindings = bound_apart [] (fresh_bound [] no_rows); unasked = refl }
 
 -- how many objects and writes a history can have made
 

@@ -1,6 +1,6 @@
 -- The calls of a run on plain objects: each is created once, in order; then the binder alone asks.
 -- A choice of this project: seat 1 is the user's, seat 5 the binder's, and every call is told.
-use Rattle.std.specs.Prelude.{ℕ, ◌≡◌, Bool, true, false, List, [], ◌∷◌, ◌++◌, Option, Some, None, All, ⊤}
+use Rattle.std.specs.Prelude.{ℕ, ◌≡◌, Bool, true, false, List, [], ◌∷◌, ◌++◌, Option, Some, None, All, ⊤, reverse}
 use Rattle.kube_types.specs.declared.objects.Volume.{Volume as VolumeData}
 use Rattle.kube_types.specs.declared.objects.Claim.{Claim as ClaimData}
 use Rattle.kube_types.specs.declared.objects.Object.{Object}
@@ -15,6 +15,7 @@ use Rattle.call_types.specs.declared.request.Request.{Request}
 use Rattle.call_types.specs.declared.request.Request.TheVariants as requests
 use Rattle.binder_model.specs.Store.{State}
 use Rattle.binder_model.specs.Answers.{outcome, reply_of, after}
+use Rattle.binder_model.specs.Devices.{no_devices}
 use Rattle.binder_model.specs.World.{world, first_moment, IsHistory}
 use Rattle.binder_model.specs.Safe.{AreBindingsThroughout}
 use Rattle.binder_model.specs.BinderDue.{binder_due}
@@ -100,7 +101,19 @@ pub record IsRun (past : List Entry) (store : State) (moment : List ℕ) : Type 
   pub first : moment ≡ first_moment
   pub state : store ≡ store_after past
   pub bindings : AreBindingsThroughout no_setup past
+  pub unasked : (world no_setup past).devices ≡ no_devices
 
 -- the binder has nothing to do for any object that stands in the store
 abbrev pub IsNothingDue : List Object → Type 0
 IsNothingDue rows = (key : Key) (o : Object) → row_at key rows ≡ Some o → binder_due rows o ≡ None
+
+-- what a plain run on these objects is, its entries the newest first: their creates and then the binder's calls, and no
+-- call without an object; a history, with safe bindings at each point of it, after which nothing is due; the devices were
+-- not asked
+pub record IsReplay (objects : List Object) (past : List Entry) : Type 0 where
+  pub calls : AreCalls objects (reverse past)
+  pub empty : objects ≡ [] → past ≡ []
+  pub history : IsHistory no_setup past
+  pub bindings : AreBindingsThroughout no_setup past
+  pub due : IsNothingDue (rows_after past)
+  pub unasked : (world no_setup past).devices ≡ no_devices

@@ -4,8 +4,14 @@ use Rattle.kube_types.specs.declared.parts.Kind.{Kind}
 use Rattle.kube_types.specs.declared.parts.Kind.TheVariants as kinds
 use Rattle.kube_types.specs.declared.key.Key.{Key}
 use Rattle.kube_types.specs.declared.objects.Object.{Object}
+use Rattle.kube_types.specs.declared.objects.Volume.{Volume as VolumeData}
+use Rattle.kube_types.specs.declared.objects.Claim.{Claim as ClaimData}
+use Rattle.kube_types.specs.declared.objects.Object.TheVariants.{Volume, Claim}
+use Rattle.kube_types.specs.Keys.{row_at}
 use Rattle.call_types.specs.declared.entry.Entry.{Entry}
-use Rattle.plain_binder.specs.Calls.{AreCalls, rows_after}
+use Rattle.call_types.specs.declared.request.Request.{Request}
+use Rattle.binder_model.specs.BindWrites.{next_write}
+use Rattle.plain_binder.specs.Calls.{AreCalls, IsNothingDue, rows_after}
 use Rattle.plain_binder.specs.Stages.{keys_of, AreFresh, AvailableUpTo, AreServed, SettledUpTo, IsBinding}
 
 -- the new entries are calls of the binder alone, and so many at most
@@ -43,6 +49,11 @@ pub record IsUnderWay (rows : List Object) (volume claim : Key) : Type 0 where
   pub open_stage : stage < 4
   pub binding : IsBinding stage before rows volume claim
 
+-- the next write for the volume and the claim that stand under these keys
+abbrev pub IsNextWrite : List Object → Key → Key → Option Request → Type 0
+IsNextWrite rows volume claim write =
+    (v : VolumeData) (c : ClaimData) → row_at volume rows ≡ Some (Volume v) → row_at claim rows ≡ Some (Claim c) → write ≡ next_write v c
+
 -- the next write of a binding is made
 pub record Writes (old : List Entry) (volume claim : Key) (new : List Entry) : Type 0 where
   pub adds : Adds 1 old new
@@ -53,8 +64,17 @@ pub record Binds (old : List Entry) (volume claim : Key) (new : List Entry) : Ty
   pub adds : Adds 4 old new
   pub bound : IsBinding 4 (rows_after old) (rows_after new) volume claim
 
--- the volumes are Available
-pub record AreAllAvailable (old new : List Entry) : Type 0 where
+-- a list is told, and nothing changes
+pub record Lists (old new : List Entry) : Type 0 where
+  pub adds : Adds 1 old new
+  pub rows : rows_after new ≡ rows_after old
+
+-- each volume is made Available
+pub record MakesAllAvailable (old new : List Entry) : Type 0 where
   pub adds : Adds (length (keys_of kinds.PersistentVolume (rows_after old))) old new
-  pub fresh : AreFresh (rows_after new)
-  pub reached : AvailableUpTo (rows_after new) (length (keys_of kinds.PersistentVolume (rows_after new)))
+  pub served : AreServed (rows_after new)
+
+-- each claim is bound, or has no match, and nothing is due
+pub record Serves (old new : List Entry) : Type 0 where
+  pub calls : (objects : List Object) → AreCalls objects (reverse old) → AreCalls objects (reverse new)
+  pub due : IsNothingDue (rows_after new)

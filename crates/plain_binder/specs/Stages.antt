@@ -20,6 +20,21 @@ use Rattle.binder_model.specs.BindWrites.{volume_key, claim_key, ref_to, shows_b
 abbrev pub keys_of : Kind → List Object → List Key
 keys_of kind rows = map key_of (rows_of kind rows)
 
+abbrev pub as_volume : Option Object → Option VolumeData
+as_volume (Some (Volume v)) = Some v
+as_volume _ = None
+
+abbrev pub as_claim : Option Object → Option ClaimData
+as_claim (Some (Claim c)) = Some c
+as_claim _ = None
+
+-- the volume at a place among the volumes, and the claim at a place among the claims
+abbrev pub volume_at : List Object → ℕ → Option VolumeData
+volume_at rows place = as_volume (slice_get (rows_of kinds.PersistentVolume rows) place)
+
+abbrev pub claim_at : List Object → ℕ → Option ClaimData
+claim_at rows place = as_claim (slice_get (rows_of kinds.PersistentVolumeClaim rows) place)
+
 -- a volume that was admitted and stays
 pub record IsSoundVolume (v : VolumeData) : Type 0 where
   pub global : v.meta.namespace ≡ []

@@ -1,6 +1,7 @@
 //! The binder over a plain list of volumes and claims: their creates, and then the binder's calls.
 #![tactic(auto)]
 
+mod binder;
 mod run;
 
 pub use run::Run;

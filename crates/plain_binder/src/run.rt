@@ -1,6 +1,6 @@
 //! A run: a store, and each call that was made of it.
 
-ghost use Rattle.std.specs.Prelude.{◌≡◌, ◌<◌, ◌-◌, ◌^◌, ◌∷◌, [], IfOk, length, true};
+ghost use Rattle.std.specs.Prelude.{◌≡◌, ◌<◌, ◌-◌, ◌^◌, ◌∷◌, [], IfOk, length, reverse, true};
 ghost use Rattle.binder_model.specs.Safe.{CompletedAreBound};
 ghost use Rattle.plain_binder.specs.Calls.{asked, is_asked, store_after, store_with};
 
@@ -10,7 +10,7 @@ use kube_types::copies::OutOfMemory;
 use kube_types::items::Items;
 use kube_types::key::Key;
 use kube_types::lookup::Lookup;
-use kube_types::objects::Object;
+use kube_types::objects::{Object, Version};
 use kube_types::parts::Kind;
 use kube_types::text::Text;
 use std::alloc::Global;
@@ -57,7 +57,6 @@ impl Run {
     /// Makes one call, whose answer is told.
     pub fn ask(
         self,
-        alloc: Global,
         seat: u64,
         kind: SeatKind,
         request: Request,
@@ -73,7 +72,7 @@ impl Run {
             moment,
             mut entries,
         } = self;
-        let reply = store.call(alloc, kind, &request, &moment)?;
+        let reply = store.call(kind, &request, &moment)?;
         entries.push(Entry {
             seat,
             kind,
@@ -87,6 +86,20 @@ impl Run {
             entries,
         })
     }
+
+    /// The calls that were made, the oldest first.
+    pub fn entries(&self) -> &[Entry]
+        ensures { reverse result.now ≡ self.now }
+    {
+        self.entries.as_slice()
+    }
+
+    /// The number of writes that were made.
+    pub fn version(&self) -> Version
+        ensures { result ≡ (store_after self.now).version }
+    {
+        self.store.version()
+    }
 }
 
 impl Lookup for Run {
@@ -95,14 +108,14 @@ impl Lookup for Run {
     ghost rows = { λ past. rows_after past };
 
     fn count(&self, kind: Kind) -> usize {
-        self.store.count(kind)
+        Lookup::count(&self.store, kind)
     }
 
     fn at(&self, kind: Kind, place: usize) -> Option<&Object> {
-        self.store.at(kind, place)
+        Lookup::at(&self.store, kind, place)
     }
 
     fn row(&self, key: &Key) -> Option<&Object> {
-        self.store.row(key)
+        Lookup::row(&self.store, key)
     }
 }
