@@ -3,6 +3,7 @@
 ghost use Rattle.std.specs.Prelude.{◌≡◌, Some, None, OnOk, OnErr, IfOk, bytes_eq, filter, not};
 ghost use Rattle.call_types.specs.declared.edit.Edit.TheVariants as edits;
 ghost use Rattle.plain_data.specs.Pairs.{put_pair, without_key};
+ghost use Rattle.kube_types.specs.Bindings.{bound_by_controller};
 ghost use Rattle.kube_types.specs.Keys.{meta_of};
 ghost use Rattle.binder_model.specs.Store.{with_meta, with_finalizer};
 ghost use Rattle.binder_model.specs.Edits.{edited, with_volume_name, without_name};
@@ -179,11 +180,21 @@ fn with_named_claim(
     }
 }
 
-/// The volume without its reference, and without this annotation.
-fn cleared(mut volume: Volume, annotation: &Text) -> Volume
-    ensures { result ≡ record volume { claim_ref = None; meta = record volume.meta { annotations = without_key annotation.now volume.meta.annotations } } }
+/// The annotations without the one that says who made the binding.
+fn without_maker(alloc: Global, annotations: &Pairs) -> Result<Pairs, OutOfMemory>
+    ensures { IfOk result (λ left. left ≡ without_key bound_by_controller annotations.now) }
 {
-    volume.meta.annotations.drop_key(annotation);
+    let by_controller = Text::new(alloc, "pv.kubernetes.io/bound-by-controller")?;
+    let mut left = annotations.copy(alloc)?;
+    left.drop_key(&by_controller);
+    Ok(left)
+}
+
+/// The volume without its reference, and with these annotations.
+fn cleared(mut volume: Volume, annotations: Pairs) -> Volume
+    ensures { result ≡ record volume { claim_ref = None; meta = record volume.meta { annotations = annotations } } }
+{
+    volume.meta.annotations = annotations;
     with_reference(volume, None)
 }
 
@@ -193,8 +204,8 @@ fn without_claim(alloc: Global, object: &Object) -> Result<Option<Object>, OutOf
 {
     match object {
         Object::Volume(volume) => {
-            let by_controller = Text::new(alloc, "pv.kubernetes.io/bound-by-controller")?;
-            let volume = cleared(volume.copy(alloc)?, &by_controller);
+            let annotations = without_maker(alloc, &volume.meta.annotations)?;
+            let volume = cleared(volume.copy(alloc)?, annotations);
             Ok(Some(Object::Volume(volume)))
         }
         _ => Ok(None),

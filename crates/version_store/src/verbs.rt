@@ -4,9 +4,11 @@ ghost use Rattle.std.specs.Prelude.{◌≡◌, ◌+◌, ◌<◌, ◌^◌, List, 
 ghost use Rattle.std.specs.Option.{option_copied};
 ghost use Rattle.std.specs.Result.{result_err};
 ghost use Rattle.kube_types.specs.declared.objects.Object.{Object};
+ghost use Rattle.kube_types.specs.declared.objects.Object.TheVariants as objects;
 ghost use Rattle.kube_types.specs.Bindings.{is_uid};
 ghost use Rattle.kube_types.specs.Keys.{AreRows, key_of, is_of_kind, row_at, rows_of};
 ghost use Rattle.call_types.specs.declared.reply.Reply.TheVariants as replies;
+ghost use Rattle.binder_model.specs.Store.{at_version};
 ghost use Rattle.binder_model.specs.Answers.{Says, is_user, guard_on, is_other_version, is_other_uid, written, written_if_fits, create, update, update_status, edit, edit_to, delete, get, list, listed, is_in_namespace, pod_with, bind, finish, outcome};
 ghost use Rattle.version_store.specs.Made.{is_listed, is_wanted, outcome_of, state_of};
 
@@ -323,6 +325,20 @@ fn with_node(mut pod: Pod, node: Text) -> Pod
     pod
 }
 
+/// The pod on this node.
+fn bound(
+    alloc: Global,
+    pod: &Pod,
+    node: &Text,
+    version: Version,
+) -> Result<Object, OutOfMemory>
+    ensures { IfOk result (λ o. o ≡ at_version (objects.Pod (record pod.now { node = node.now })) version) }
+{
+    let node = node.copy(alloc)?;
+    let bound = with_node(pod.copy(alloc)?, node);
+    Ok(at_version(Object::Pod(bound), version))
+}
+
 #[tactic(auto, unfolding(binder_model::specs::Answers::bind, binder_model::specs::Answers::refuse))]
 fn bind(
     alloc: Global,
@@ -345,9 +361,8 @@ fn bind(
     if lacks_named_node(alloc, node, rows)? {
         return Ok(refused(Refusal::Invalid(Field::NodeName)));
     }
-    let node = node.copy(alloc)?;
-    let bound = with_node(pod.copy(alloc)?, node);
-    Ok(Made::Stores(Change::Modified, at_version(Object::Pod(bound), version + 1)))
+    let bound = bound(alloc, pod, node, version + 1)?;
+    Ok(Made::Stores(Change::Modified, bound))
 }
 
 #[tactic(auto, unfolding(binder_model::specs::Answers::finish, binder_model::specs::Answers::refuse, binder_model::specs::Answers::refuse_stale))]
