@@ -1,0 +1,7 @@
+use Rattle.std.proofs.lemmas.Bool.Decides.{same_from_decides}
+use Rattle.binder_model.specs.Same.{same_terms}
+use Rattle.field_rules.proofs.Equalities.{same_option-Decides, same_terms-Decides}
+use Rattle.field_rules.proofs.same.are_same_terms.Goals as goal
+
+pub returns : goal.returns
+returns c = same_from_decides _ _ c.same_option.ensures (same_option-Decides same_terms same_terms-Decides c.args.a.now c.args.b.now)

@@ -1,0 +1,19 @@
+-- A test that finds a fault, followed by another, and names read byte by byte.
+use Rattle.std.specs.Prelude.{ℕ, ◌==◌, Bool, Option, Some, None, if◌then◌else◌}
+use Rattle.std.specs.declared.result.Result.{Result}
+use Rattle.std.specs.declared.result.Result.TheVariants.{Ok, Err}
+use Rattle.binder_model.specs.Fields.{is_lower_or_digit, is_name_byte}
+
+-- the fault that the first test found, else that of the next
+abbrev pub fault_or : {X E : Type 0} → Result X E → Option E → Option E
+fault_or (Ok x) next = next
+fault_or (Err e) next = Some e
+
+-- whether the byte may stand after the last byte of a part of a name, or at the start of a part; a dot ends a part
+abbrev pub byte_fits : Option ℕ → ℕ → Bool
+byte_fits None byte = is_lower_or_digit byte
+byte_fits (Some last) byte = if byte == 46 then is_lower_or_digit last else is_name_byte last
+
+-- the last byte of the part that the byte stands in
+abbrev pub after_byte : ℕ → Option ℕ
+after_byte byte = if byte == 46 then None else Some byte

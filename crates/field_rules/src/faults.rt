@@ -1,0 +1,336 @@
+//! Which fields of an object are invalid.
+
+ghost use Rattle.std.specs.Prelude.{◌≡◌, ◌&&◌, ◌||◌, Option, false};
+ghost use Rattle.std.specs.List.{list_all};
+ghost use Rattle.std.specs.Result.{result_err};
+ghost use Rattle.kube_types.specs.declared.names.Field.{Field};
+ghost use Rattle.kube_types.specs.declared.objects.Object.TheVariants as objects;
+ghost use Rattle.kube_types.specs.Bindings.{is_deleting};
+ghost use Rattle.binder_model.specs.Fields.{adds_finalizer, dot_parts, is_lower_or_digit, is_name_byte, ends_well, is_label, is_subdomain, is_namespace, has_no_mode, has_twice, is_nameless, volume_fault, claim_fault, class_fault, pod_fault, kind_fault, create_fault, changed_field, update_fault};
+ghost use Rattle.field_rules.specs.Faults.{after_byte, byte_fits, fault_or};
+
+use crate::same::{
+    are_same_names, are_same_pairs, are_same_terms, is_same_amount, is_same_class, is_same_flag, is_same_modes,
+    is_same_policy, is_same_selector, is_same_source, is_same_text,
+};
+use finalizer_rules::{adds_while_deleting, has_name};
+use kube_types::key::meta_of;
+use kube_types::names::Field;
+use kube_types::objects::{Claim, Class, Meta, Object, Pod, Ref, Volume};
+use kube_types::parts::Modes;
+use kube_types::text::{Names, Text};
+
+/// Answers the field where the test holds.
+macro_rules! refuse {
+    ($($fault:expr => $field:expr),+) => {
+        $(if $fault {
+            return Err($field);
+        })+
+    };
+}
+
+/// Answers the first field of which the new object has another.
+macro_rules! keep {
+    ($old:ident, $new:ident, $($same:ident($part:ident) => $field:expr),+) => {
+        $(if !$same(&$old.$part, &$new.$part) {
+            return Err($field);
+        })+
+    };
+}
+
+fn is_lower_or_digit(byte: u8) -> bool
+    ensures { result ≡ is_lower_or_digit byte }
+{
+    (97 <= byte && byte <= 122) || (48 <= byte && byte <= 57)
+}
+
+fn is_name_byte(byte: u8) -> bool
+    ensures { result ≡ is_name_byte byte }
+{
+    is_lower_or_digit(byte) || byte == 45
+}
+
+/// Whether the bytes after this one are bytes of names, up to a last one that is a letter or digit.
+fn ends_well(first: u8, bytes: &[u8]) -> bool
+    ensures { result ≡ ends_well first bytes.now }
+{
+    let mut last = first;
+    for byte in bytes {
+        if !is_name_byte(last) {
+            return false;
+        }
+        last = *byte;
+    }
+    is_lower_or_digit(last)
+}
+
+/// Whether the text is a part of a DNS name.
+fn is_label(bytes: &[u8]) -> bool
+    ensures { result ≡ is_label bytes.now }
+{
+    match bytes {
+        [] => false,
+        [first, rest @ ..] => is_lower_or_digit(*first) && ends_well(*first, rest),
+    }
+}
+
+/// Whether the byte may stand after the last byte of a part, or at the start of a part. A dot ends a
+/// part.
+fn byte_fits(last: Option<u8>, byte: u8) -> bool
+    ensures { result ≡ byte_fits last byte }
+{
+    match last {
+        None => is_lower_or_digit(byte),
+        Some(last) => {
+            if byte == 46 {
+                is_lower_or_digit(last)
+            } else {
+                is_name_byte(last)
+            }
+        }
+    }
+}
+
+/// The last byte of the part of a name that this byte stands in.
+fn after_byte(byte: u8) -> Option<u8>
+    ensures { result ≡ after_byte byte }
+{
+    if byte == 46 { None } else { Some(byte) }
+}
+
+/// Whether the bytes are parts of a DNS name with dots between them.
+fn are_labels(bytes: &[u8]) -> bool
+    ensures { result ≡ list_all is_label (dot_parts bytes.now) }
+{
+    let mut last = None;
+    for byte in bytes {
+        if !byte_fits(last, *byte) {
+            return false;
+        }
+        last = after_byte(*byte);
+    }
+    match last {
+        None => false,
+        Some(last) => is_lower_or_digit(last),
+    }
+}
+
+/// Whether the text is a DNS subdomain.
+fn is_subdomain(name: &Text) -> bool
+    ensures { result ≡ is_subdomain name.now }
+{
+    let bytes = name.as_str().as_bytes();
+    bytes.len() <= 253 && are_labels(bytes)
+}
+
+/// Whether the text is a DNS label.
+fn is_namespace(name: &Text) -> bool
+    ensures { result ≡ is_namespace name.now }
+{
+    let bytes = name.as_str().as_bytes();
+    bytes.len() <= 63 && is_label(bytes)
+}
+
+fn has_no_mode(modes: Modes) -> bool
+    ensures { result ≡ has_no_mode modes }
+{
+    !(modes.rwo || modes.rox || modes.rwx || modes.rwop)
+}
+
+/// Whether a name stands twice in the list.
+fn has_twice(names: &Names) -> bool
+    ensures { result ≡ has_twice names.now }
+{
+    let names = names.as_slice();
+    for (i, name) in names.iter().enumerate() {
+        if has_name(name.as_str(), &names[i + 1..]) {
+            return true;
+        }
+    }
+    false
+}
+
+fn is_nameless(reference: &Option<Ref>) -> bool
+    ensures { result ≡ is_nameless reference.now }
+{
+    match reference {
+        None => false,
+        Some(r) => r.name.as_str().is_empty() || r.namespace.as_str().is_empty(),
+    }
+}
+
+#[tactic(auto, unfolding(binder_model::specs::Fields::volume_fault, binder_model::specs::Fields::faulty))]
+fn check_volume(volume: &Volume) -> Result<(), Field>
+    ensures { result_err result ≡ volume_fault volume.now }
+{
+    refuse!(
+        volume.amount.bytes == 0 => Field::Capacity,
+        has_no_mode(volume.modes) => Field::AccessModes,
+        is_nameless(&volume.claim_ref) => Field::ClaimRef,
+        has_twice(&volume.meta.finalizers) => Field::Finalizers
+    );
+    Ok(())
+}
+
+#[tactic(auto, unfolding(binder_model::specs::Fields::claim_fault, binder_model::specs::Fields::faulty))]
+fn check_claim(claim: &Claim) -> Result<(), Field>
+    ensures { result_err result ≡ claim_fault claim.now }
+{
+    refuse!(
+        !is_namespace(&claim.meta.namespace) => Field::Namespace,
+        claim.amount.bytes == 0 => Field::Request,
+        has_no_mode(claim.modes) => Field::AccessModes,
+        has_twice(&claim.meta.finalizers) => Field::Finalizers
+    );
+    Ok(())
+}
+
+#[tactic(auto, unfolding(binder_model::specs::Fields::class_fault, binder_model::specs::Fields::faulty))]
+fn check_class(class: &Class) -> Result<(), Field>
+    ensures { result_err result ≡ class_fault class.now }
+{
+    refuse!(
+        class.provisioner.as_str().is_empty() => Field::Provisioner,
+        has_twice(&class.meta.finalizers) => Field::Finalizers
+    );
+    Ok(())
+}
+
+#[tactic(auto, unfolding(binder_model::specs::Fields::pod_fault, binder_model::specs::Fields::faulty))]
+fn check_pod(lacks_node: bool, pod: &Pod) -> Result<(), Field>
+    ensures { result_err result ≡ pod_fault lacks_node pod.now }
+{
+    refuse!(
+        !is_namespace(&pod.meta.namespace) => Field::Namespace,
+        lacks_node => Field::NodeName,
+        has_name("", pod.claims.as_slice()) || has_twice(&pod.claims) => Field::Claims,
+        !pod.meta.finalizers.as_slice().is_empty() => Field::Finalizers
+    );
+    Ok(())
+}
+
+#[tactic(auto, unfolding(binder_model::specs::Fields::kind_fault, binder_model::specs::Fields::faulty))]
+fn check_kind(lacks_node: bool, object: &Object) -> Result<(), Field>
+    ensures { result_err result ≡ kind_fault lacks_node object.now }
+{
+    match object {
+        Object::Class(class) => check_class(class),
+        Object::Node(node) => {
+            refuse!(has_twice(&node.meta.finalizers) => Field::Finalizers);
+            Ok(())
+        }
+        Object::Volume(volume) => check_volume(volume),
+        Object::Claim(claim) => check_claim(claim),
+        Object::Pod(pod) => check_pod(lacks_node, pod),
+    }
+}
+
+/// Answers the first invalid field of a new object. `lacks_node` says that a pod names a node that is
+/// not there.
+#[tactic(auto, unfolding(binder_model::specs::Fields::create_fault, binder_model::specs::Fields::faulty))]
+pub fn check_new(lacks_node: bool, object: &Object) -> Result<(), Field>
+    ensures { result_err result ≡ create_fault lacks_node object.now }
+{
+    refuse!(!is_subdomain(&meta_of(object).name) => Field::Name);
+    check_kind(lacks_node, object)
+}
+
+/// Answers the first invalid field of a new object. Whether a pod's node is there is not tested.
+pub fn check_create(object: &Object) -> Result<(), Field>
+    ensures { result_err result ≡ create_fault false object.now }
+{
+    check_new(false, object)
+}
+
+#[tactic(auto, unfolding(binder_model::specs::Fields::changed_field, binder_model::specs::Fields::faulty))]
+fn keep_claim(old: &Claim, new: &Claim) -> Result<(), Field>
+    ensures { (next : Option Field) → changed_field (objects.Claim old.now) (objects.Claim new.now) next ≡ fault_or result next }
+{
+    keep!(
+        old, new,
+        is_same_modes(modes) => Field::Spec,
+        is_same_amount(amount) => Field::Spec,
+        is_same_flag(block) => Field::Spec,
+        is_same_class(class) => Field::Spec,
+        is_same_selector(selector) => Field::Spec,
+        is_same_text(extra) => Field::Spec
+    );
+    if old.volume_name.as_str().is_empty() {
+        return Ok(());
+    }
+    keep!(old, new, is_same_text(volume_name) => Field::VolumeName);
+    Ok(())
+}
+
+#[tactic(auto, unfolding(binder_model::specs::Fields::changed_field, binder_model::specs::Fields::faulty))]
+fn keep_pod(old: &Pod, new: &Pod) -> Result<(), Field>
+    ensures { (next : Option Field) → changed_field (objects.Pod old.now) (objects.Pod new.now) next ≡ fault_or result next }
+{
+    keep!(
+        old, new,
+        are_same_names(claims) => Field::Spec,
+        is_same_text(node) => Field::Spec,
+        is_same_text(extra) => Field::Spec
+    );
+    Ok(())
+}
+
+#[tactic(auto, unfolding(binder_model::specs::Fields::changed_field, binder_model::specs::Fields::faulty))]
+fn keep_volume(old: &Volume, new: &Volume) -> Result<(), Field>
+    ensures { (next : Option Field) → changed_field (objects.Volume old.now) (objects.Volume new.now) next ≡ fault_or result next }
+{
+    keep!(
+        old, new,
+        is_same_source(source) => Field::Source,
+        is_same_flag(block) => Field::VolumeMode,
+        is_same_amount(amount) => Field::Capacity,
+        are_same_terms(terms) => Field::NodeAffinity
+    );
+    Ok(())
+}
+
+#[tactic(auto, unfolding(binder_model::specs::Fields::changed_field, binder_model::specs::Fields::faulty))]
+fn keep_class(old: &Class, new: &Class) -> Result<(), Field>
+    ensures { (next : Option Field) → changed_field (objects.Class old.now) (objects.Class new.now) next ≡ fault_or result next }
+{
+    keep!(
+        old, new,
+        is_same_text(provisioner) => Field::Provisioner,
+        are_same_pairs(parameters) => Field::Parameters,
+        is_same_policy(policy) => Field::Policy,
+        is_same_flag(delayed) => Field::BindingMode
+    );
+    Ok(())
+}
+
+/// Answers the first field that was fixed and is another now.
+#[tactic(auto, unfolding(binder_model::specs::Fields::changed_field))]
+fn keep_fixed(old: &Object, new: &Object) -> Result<(), Field>
+    ensures { (next : Option Field) → changed_field old.now new.now next ≡ fault_or result next }
+{
+    match (old, new) {
+        (Object::Claim(old), Object::Claim(new)) => keep_claim(old, new),
+        (Object::Pod(old), Object::Pod(new)) => keep_pod(old, new),
+        (Object::Volume(old), Object::Volume(new)) => keep_volume(old, new),
+        (Object::Class(old), Object::Class(new)) => keep_class(old, new),
+        _ => Ok(()),
+    }
+}
+
+/// Whether finalizers are added to an object that is to be deleted, or one stands twice.
+fn has_wrong_finalizers(old: &Meta, finalizers: &Names) -> bool
+    ensures { result ≡ ((is_deleting old.now && adds_finalizer old.now.finalizers finalizers.now) || has_twice finalizers.now) }
+{
+    adds_while_deleting(old, finalizers.as_slice()) || has_twice(finalizers)
+}
+
+/// Answers the first invalid field of an object that takes the place of the old one.
+#[tactic(auto, unfolding(binder_model::specs::Fields::update_fault, binder_model::specs::Fields::faulty))]
+pub fn check_update(old: &Object, new: &Object) -> Result<(), Field>
+    ensures { result_err result ≡ update_fault old.now new.now }
+{
+    keep_fixed(old, new)?;
+    let finalizers = &meta_of(new).finalizers;
+    refuse!(has_wrong_finalizers(meta_of(old), finalizers) => Field::Finalizers);
+    check_create(new)
+}

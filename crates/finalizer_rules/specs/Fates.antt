@@ -1,0 +1,25 @@
+-- What a delete, and a new list of finalizers, come to.
+-- Source: Kubernetes documentation, "Finalizers"; that a pod leaves by its own verbs alone is a choice of this project.
+use Rattle.std.specs.Prelude.{ℕ, Bool, true, false, ◌&&◌, ◌||◌, List, if◌then◌else◌}
+use Rattle.kube_types.specs.declared.objects.Object.{Object}
+use Rattle.kube_types.specs.Keys.{meta_of}
+use Rattle.kube_types.specs.Bindings.{is_deleting}
+use Rattle.binder_model.specs.Store.{with_meta, marked, leaves, leaves_at_once}
+use Rattle.binder_model.specs.Fields.{adds_finalizer}
+use Rattle.finalizer_rules.specs.declared.Fate.{Fate}
+use Rattle.finalizer_rules.specs.declared.Fate.TheVariants.{Keep, Leave, AddedWhileDeleting}
+
+abbrev pub leave_if : Bool → Fate
+leave_if gone = if gone then Leave else Keep
+
+-- an object that is to be deleted since this moment
+unfoldable pub fate_on_delete : Object → ℕ → List ℕ → Fate
+fate_on_delete o version moment = leave_if (leaves_at_once o || leaves (marked o version moment))
+
+unfoldable pub with_finalizers : Object → List (List ℕ) → Object
+with_finalizers o finalizers = with_meta o (record (meta_of o) { finalizers = finalizers })
+
+-- no finalizer can be added to an object that is to be deleted
+unfoldable pub fate_on_update : Object → List (List ℕ) → Fate
+fate_on_update o finalizers =
+    if is_deleting (meta_of o) && adds_finalizer (meta_of o).finalizers finalizers then AddedWhileDeleting else leave_if (leaves (with_finalizers o finalizers))

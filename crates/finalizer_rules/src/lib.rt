@@ -1,0 +1,102 @@
+//! Which objects leave the store, and when a finalizer may be added.
+#![tactic(auto)]
+
+ghost use Rattle.std.specs.Prelude.{◌≡◌, ◌&&◌, ℕ, List};
+ghost use Rattle.kube_types.specs.Bindings.{has_name, is_deleting};
+ghost use Rattle.binder_model.specs.Store.{leaves, leaves_at_once};
+ghost use Rattle.binder_model.specs.Fields.{adds_finalizer};
+ghost use Rattle.finalizer_rules.specs.Fates.{fate_on_delete, fate_on_update, leave_if};
+
+use kube_types::key::meta_of;
+use kube_types::objects::{Meta, Object};
+use kube_types::text::{Names, Text};
+
+/// What an object comes to at a write.
+#[derive(Clone, Copy, Debug, PartialEq, Eq)]
+pub enum Fate {
+    /// It stays in the store.
+    Keep,
+    /// It leaves the store.
+    Leave,
+    /// The write would add a finalizer to an object that is to be deleted.
+    AddedWhileDeleting,
+}
+
+/// Whether the name is one of these.
+pub fn has_name(name: &str, names: &[Text]) -> bool
+    ensures { result ≡ has_name name.now names.now }
+{
+    names.iter().any(|n| n.as_str() == name)
+}
+
+/// Whether one of the new finalizers is not among the old ones.
+pub fn adds_finalizer(old: &[Text], new: &[Text]) -> bool
+    ensures { result ≡ adds_finalizer old.now new.now }
+{
+    new.iter().any(|f| !has_name(f.as_str(), old))
+}
+
+/// Whether the object leaves the store at the write that made it so: it is to be deleted, and has no
+/// finalizers. A pod leaves by its own verbs alone.
+#[tactic(auto, unfolding(binder_model::specs::Store::leaves))]
+pub fn leaves(object: &Object) -> bool
+    ensures { result ≡ leaves object.now }
+{
+    match object {
+        Object::Pod(_) => false,
+        _ => {
+            let meta = meta_of(object);
+            meta.deleted.is_some() && meta.finalizers.as_slice().is_empty()
+        }
+    }
+}
+
+/// Whether a delete removes the object whatever its finalizers: a pod that no node runs.
+#[tactic(auto, unfolding(binder_model::specs::Store::leaves_at_once))]
+pub fn leaves_at_once(object: &Object) -> bool
+    ensures { result ≡ leaves_at_once object.now }
+{
+    match object {
+        Object::Pod(pod) => pod.node.as_str().is_empty(),
+        _ => false,
+    }
+}
+
+/// What a delete makes of the object.
+#[tactic(auto, unfolding(crate::specs::Fates::fate_on_delete, binder_model::specs::Store::marked, binder_model::specs::Store::with_meta, binder_model::specs::Store::leaves, binder_model::specs::Store::leaves_at_once))]
+pub fn on_delete(object: &Object) -> Fate
+    ensures { (version : ℕ) → (moment : List ℕ) → result ≡ fate_on_delete object.now version moment }
+{
+    match object {
+        Object::Pod(_) => leave_if(leaves_at_once(object)),
+        _ => leave_if(meta_of(object).finalizers.as_slice().is_empty()),
+    }
+}
+
+/// Whether the finalizers would be added to an object that is to be deleted.
+pub fn adds_while_deleting(old: &Meta, finalizers: &[Text]) -> bool
+    ensures { result ≡ (is_deleting old.now && adds_finalizer old.now.finalizers finalizers.now) }
+{
+    old.deleted.is_some() && adds_finalizer(old.finalizers.as_slice(), finalizers)
+}
+
+/// What a write with these finalizers makes of the object.
+#[tactic(auto, unfolding(crate::specs::Fates::fate_on_update, crate::specs::Fates::with_finalizers, binder_model::specs::Store::with_meta, binder_model::specs::Store::leaves))]
+pub fn on_update(old: &Object, finalizers: &Names) -> Fate
+    ensures { result ≡ fate_on_update old.now finalizers.now }
+{
+    let finalizers = finalizers.as_slice();
+    if adds_while_deleting(meta_of(old), finalizers) {
+        return Fate::AddedWhileDeleting;
+    }
+    match old {
+        Object::Pod(_) => Fate::Keep,
+        _ => leave_if(meta_of(old).deleted.is_some() && finalizers.is_empty()),
+    }
+}
+
+fn leave_if(leaves: bool) -> Fate
+    ensures { result ≡ leave_if leaves }
+{
+    if leaves { Fate::Leave } else { Fate::Keep }
+}

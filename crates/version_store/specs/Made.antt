@@ -1,0 +1,32 @@
+-- What the store makes of a request, as the outcome that it stands for; a default class and a list, object by object.
+use Rattle.std.specs.Prelude.{ℕ, Bool, true, ◌&&◌, List, Option, Some, None, if◌then◌else◌}
+use Rattle.kube_types.specs.declared.parts.Kind.{Kind}
+use Rattle.kube_types.specs.declared.objects.Class.{Class as ClassData}
+use Rattle.kube_types.specs.declared.objects.Object.{Object}
+use Rattle.kube_types.specs.declared.objects.Object.TheVariants.{Class}
+use Rattle.kube_types.specs.Keys.{is_of_kind}
+use Rattle.binder_model.specs.Store.{State, is_default, newer_class}
+use Rattle.binder_model.specs.Answers.{Outcome, Says, Stores, Removes, is_in_namespace}
+use Rattle.version_store.specs.declared.outcome.Made.{Made}
+use Rattle.version_store.specs.declared.outcome.Made.TheVariants as made
+
+abbrev pub outcome_of : Made → Outcome
+outcome_of (made.Says reply) = Says reply
+outcome_of (made.Stores change o) = Stores change o
+outcome_of (made.Removes o) = Removes o
+
+abbrev pub state_of : List Object → ℕ → State
+state_of rows version = record { rows = rows; version = version }
+
+-- the default class of an object and of those after it
+abbrev pub default_from : Object → Option ClassData → Option ClassData
+default_from (Class x) later = if is_default x then newer_class x later else later
+default_from o later = later
+
+-- in the namespace, where one is given
+abbrev pub is_listed : Option (List ℕ) → Object → Bool
+is_listed None o = true
+is_listed (Some namespace) o = is_in_namespace namespace o
+
+abbrev pub is_wanted : Kind → Option (List ℕ) → Object → Bool
+is_wanted kind namespace o = is_of_kind kind o && is_listed namespace o

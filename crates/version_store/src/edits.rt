@@ -1,0 +1,238 @@
+//! What an edit makes of an object.
+
+ghost use Rattle.std.specs.Prelude.{◌≡◌, Some, None, OnOk, OnErr, IfOk, bytes_eq, filter, not};
+ghost use Rattle.call_types.specs.declared.edit.Edit.TheVariants as edits;
+ghost use Rattle.plain_data.specs.Pairs.{put_pair, without_key};
+ghost use Rattle.kube_types.specs.Bindings.{bound_by_controller};
+ghost use Rattle.kube_types.specs.Keys.{meta_of};
+ghost use Rattle.binder_model.specs.Store.{with_meta, with_finalizer};
+ghost use Rattle.binder_model.specs.Edits.{edited, with_volume_name, without_name};
+
+use call_types::edit::Edit;
+use field_rules::add_finalizer;
+use kube_types::copies::{OutOfMemory, Plain};
+use kube_types::key::meta_of;
+use kube_types::objects::{Object, Ref, Volume};
+use kube_types::pairs::Pairs;
+use kube_types::parts::Policy;
+use kube_types::text::{Names, Text};
+use std::alloc::Global;
+
+/// The names without this one.
+fn without_name(alloc: Global, name: &Text, names: &Names) -> Result<Names, OutOfMemory>
+    ensures { IfOk result (λ left. left ≡ without_name name.now names.now) }
+{
+    let names = names.as_slice();
+    let mut left = Names::new(alloc);
+    for n in names {
+        if n.as_str() != name.as_str() {
+            left.push(alloc, n)?;
+        }
+    }
+    Ok(left)
+}
+
+#[tactic(auto, unfolding(binder_model::specs::Store::with_meta))]
+fn with_finalizers(mut object: Object, finalizers: Names) -> Object
+    ensures { result ≡ with_meta object (record (meta_of object) { finalizers = finalizers }) }
+{
+    set_meta!(object, finalizers);
+    object
+}
+
+#[tactic(auto, unfolding(binder_model::specs::Store::with_meta))]
+fn with_labels(mut object: Object, labels: Pairs) -> Object
+    ensures { result ≡ with_meta object (record (meta_of object) { labels = labels }) }
+{
+    set_meta!(object, labels);
+    object
+}
+
+#[tactic(auto, unfolding(binder_model::specs::Store::with_meta))]
+fn with_annotations(mut object: Object, annotations: Pairs) -> Object
+    ensures { result ≡ with_meta object (record (meta_of object) { annotations = annotations }) }
+{
+    set_meta!(object, annotations);
+    object
+}
+
+#[tactic(auto, unfolding(binder_model::specs::Edits::with_volume_name))]
+fn with_volume_name(
+    alloc: Global,
+    name: &Text,
+    object: &Object,
+) -> Result<Option<Object>, OutOfMemory>
+    ensures { IfOk result (λ o. o ≡ with_volume_name name.now object.now) }
+{
+    match object {
+        Object::Claim(claim) => {
+            let name = name.copy(alloc)?;
+            let mut claim = claim.copy(alloc)?;
+            claim.volume_name = name;
+            Ok(Some(Object::Claim(claim)))
+        }
+        _ => Ok(None),
+    }
+}
+
+fn with_reference(mut volume: Volume, reference: Option<Ref>) -> Volume
+    ensures { result ≡ record volume { claim_ref = reference } }
+{
+    volume.claim_ref = reference;
+    volume
+}
+
+fn finalizer_added(alloc: Global, name: &Text, object: &Object) -> Result<Object, OutOfMemory>
+    ensures { IfOk result (λ o. o ≡ with_meta object.now (record (meta_of object.now) { finalizers = with_finalizer name.now (meta_of object.now).finalizers })) }
+{
+    let mut finalizers = meta_of(object).finalizers.copy(alloc)?;
+    add_finalizer(alloc, &mut finalizers, name.as_str())?;
+    Ok(with_finalizers(object.copy(alloc)?, finalizers))
+}
+
+fn finalizer_dropped(alloc: Global, name: &Text, object: &Object) -> Result<Object, OutOfMemory>
+    ensures { IfOk result (λ o. o ≡ with_meta object.now (record (meta_of object.now) { finalizers = without_name name.now (meta_of object.now).finalizers })) }
+{
+    let finalizers = without_name(alloc, name, &meta_of(object).finalizers)?;
+    Ok(with_finalizers(object.copy(alloc)?, finalizers))
+}
+
+fn label_set(
+    alloc: Global,
+    key: &Text,
+    value: &Text,
+    object: &Object,
+) -> Result<Object, OutOfMemory>
+    ensures { IfOk result (λ o. o ≡ with_meta object.now (record (meta_of object.now) { labels = put_pair key.now value.now (meta_of object.now).labels })) }
+{
+    let mut labels = meta_of(object).labels.copy(alloc)?;
+    labels.set(alloc, key, value)?;
+    Ok(with_labels(object.copy(alloc)?, labels))
+}
+
+fn label_dropped(alloc: Global, key: &Text, object: &Object) -> Result<Object, OutOfMemory>
+    ensures { IfOk result (λ o. o ≡ with_meta object.now (record (meta_of object.now) { labels = without_key key.now (meta_of object.now).labels })) }
+{
+    let mut labels = meta_of(object).labels.copy(alloc)?;
+    labels.drop_key(key);
+    Ok(with_labels(object.copy(alloc)?, labels))
+}
+
+fn annotation_set(
+    alloc: Global,
+    key: &Text,
+    value: &Text,
+    object: &Object,
+) -> Result<Object, OutOfMemory>
+    ensures { IfOk result (λ o. o ≡ with_meta object.now (record (meta_of object.now) { annotations = put_pair key.now value.now (meta_of object.now).annotations })) }
+{
+    let mut annotations = meta_of(object).annotations.copy(alloc)?;
+    annotations.set(alloc, key, value)?;
+    Ok(with_annotations(object.copy(alloc)?, annotations))
+}
+
+fn annotation_dropped(alloc: Global, key: &Text, object: &Object) -> Result<Object, OutOfMemory>
+    ensures { IfOk result (λ o. o ≡ with_meta object.now (record (meta_of object.now) { annotations = without_key key.now (meta_of object.now).annotations })) }
+{
+    let mut annotations = meta_of(object).annotations.copy(alloc)?;
+    annotations.drop_key(key);
+    Ok(with_annotations(object.copy(alloc)?, annotations))
+}
+
+#[tactic(auto, unfolding(binder_model::specs::Edits::edited))]
+fn with_policy(
+    alloc: Global,
+    policy: Policy,
+    object: &Object,
+) -> Result<Option<Object>, OutOfMemory>
+    ensures { IfOk result (λ o. o ≡ edited (edits.SetPolicy policy) object.now) }
+{
+    match object {
+        Object::Volume(volume) => {
+            let mut volume = volume.copy(alloc)?;
+            volume.policy = policy;
+            Ok(Some(Object::Volume(volume)))
+        }
+        _ => Ok(None),
+    }
+}
+
+#[tactic(auto, unfolding(binder_model::specs::Edits::edited))]
+fn with_named_claim(
+    alloc: Global,
+    namespace: &Text,
+    name: &Text,
+    object: &Object,
+) -> Result<Option<Object>, OutOfMemory>
+    ensures { IfOk result (λ o. o ≡ edited (edits.SetClaimRef namespace.now name.now) object.now) }
+{
+    match object {
+        Object::Volume(volume) => {
+            let reference = Ref {
+                namespace: namespace.copy(alloc)?,
+                name: name.copy(alloc)?,
+                uid: None,
+            };
+            let volume = with_reference(volume.copy(alloc)?, Some(reference));
+            Ok(Some(Object::Volume(volume)))
+        }
+        _ => Ok(None),
+    }
+}
+
+/// The annotations without the one that says who made the binding.
+fn without_maker(alloc: Global, annotations: &Pairs) -> Result<Pairs, OutOfMemory>
+    ensures { IfOk result (λ left. left ≡ without_key bound_by_controller annotations.now) }
+{
+    let by_controller = Text::new(alloc, "pv.kubernetes.io/bound-by-controller")?;
+    let mut left = annotations.copy(alloc)?;
+    left.drop_key(&by_controller);
+    Ok(left)
+}
+
+/// The volume without its reference, and with these annotations.
+fn cleared(mut volume: Volume, annotations: Pairs) -> Volume
+    ensures { result ≡ record volume { claim_ref = None; meta = record volume.meta { annotations = annotations } } }
+{
+    volume.meta.annotations = annotations;
+    with_reference(volume, None)
+}
+
+#[tactic(auto, unfolding(binder_model::specs::Edits::edited))]
+fn without_claim(alloc: Global, object: &Object) -> Result<Option<Object>, OutOfMemory>
+    ensures { IfOk result (λ o. o ≡ edited edits.ClearClaimRef object.now) }
+{
+    match object {
+        Object::Volume(volume) => {
+            let annotations = without_maker(alloc, &volume.meta.annotations)?;
+            let volume = cleared(volume.copy(alloc)?, annotations);
+            Ok(Some(Object::Volume(volume)))
+        }
+        _ => Ok(None),
+    }
+}
+
+/// The object with the edit, or none where the edit does not fit its kind.
+#[tactic(auto, unfolding(binder_model::specs::Edits::edited))]
+pub fn edited(
+    alloc: Global,
+    edit: &Edit,
+    object: &Object,
+) -> Result<Option<Object>, OutOfMemory>
+    ensures { IfOk result (λ o. o ≡ edited edit.now object.now) }
+{
+    match edit {
+        Edit::AddFinalizer(name) => Ok(Some(finalizer_added(alloc, name, object)?)),
+        Edit::DropFinalizer(name) => Ok(Some(finalizer_dropped(alloc, name, object)?)),
+        Edit::DropLabel(key) => Ok(Some(label_dropped(alloc, key, object)?)),
+        Edit::DropAnnotation(key) => Ok(Some(annotation_dropped(alloc, key, object)?)),
+        Edit::SetLabel { key, value } => Ok(Some(label_set(alloc, key, value, object)?)),
+        Edit::SetAnnotation { key, value } => {
+            Ok(Some(annotation_set(alloc, key, value, object)?))
+        }
+        Edit::SetVolumeName(name) => with_volume_name(alloc, name, object),
+        Edit::SetPolicy(policy) => with_policy(alloc, *policy, object),
+        Edit::SetClaimRef { namespace, name } => with_named_claim(alloc, namespace, name, object),
+        Edit::ClearClaimRef => without_claim(alloc, object),
+    }
+}

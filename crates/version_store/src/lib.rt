@@ -1,0 +1,32 @@
+//! A store of objects, with a number for each write.
+#![tactic(auto)]
+
+/// Sets fields of the metadata of an object to the values of these names.
+macro_rules! set_meta {
+    ($object:ident, $($field:ident),+) => {
+        match &mut $object {
+            Object::Class(x) => {
+                $(x.meta.$field = $field;)+
+            }
+            Object::Node(x) => {
+                $(x.meta.$field = $field;)+
+            }
+            Object::Volume(x) => {
+                $(x.meta.$field = $field;)+
+            }
+            Object::Claim(x) => {
+                $(x.meta.$field = $field;)+
+            }
+            Object::Pod(x) => {
+                $(x.meta.$field = $field;)+
+            }
+        }
+    };
+}
+
+mod classes;
+mod edits;
+pub mod outcome;
+pub mod store;
+mod verbs;
+mod writes;

@@ -1,0 +1,208 @@
+//! The store.
+
+ghost use Rattle.std.specs.Prelude.{◌≡◌, ◌+◌, ◌-◌, ◌^◌, ◌<◌, true, IfOk, OnOk, OnErr, length, slice_get};
+ghost use Rattle.std.specs.Option.{option_copied};
+ghost use Rattle.kube_types.specs.Keys.{AreRows, key_of, put_row, row_at, rows_of, without_row};
+ghost use Rattle.call_types.specs.declared.reply.Reply.TheVariants as replies;
+ghost use Rattle.binder_model.specs.Store.{no_store};
+ghost use Rattle.binder_model.specs.Answers.{after, is_for_store, outcome, reply_of};
+ghost use Rattle.version_store.specs.Made.{outcome_of};
+
+use crate::outcome::Made;
+use crate::verbs::outcome;
+use call_types::reply::Reply;
+use call_types::request::{Request, SeatKind};
+use kube_types::copies::OutOfMemory;
+use kube_types::key::{Key, key_of};
+use kube_types::lookup::Lookup;
+use kube_types::objects::{Object, Version};
+use kube_types::parts::Kind;
+use kube_types::table::{at_of_kind, count_of_kind, put_in, row, take_out};
+use kube_types::text::Text;
+use std::alloc::Global;
+use std::marker::Model;
+
+/// Objects by key, and the number of their writes. Contracts see it as the objects in the order of
+/// their keys, and the version.
+#[derive(Debug, Drop)]
+pub struct Store {
+    alloc: Global,
+    rows: Vec<Object>,
+    version: Version,
+}
+
+impl Model for Store {
+    ghost use Rattle.kube_types.specs.Keys.{AreRows};
+    ghost use Rattle.binder_model.specs.Store.{State};
+
+    ghost Value = { State };
+
+    ghost view = { λ s. record { rows = s.rows.items; version = s.version } };
+
+    ghost invariant = { λ s. AreRows s.rows.items };
+}
+
+/// Puts in the object of the next write, and answers a copy of it.
+fn store_row(
+    alloc: Global,
+    rows: &mut Vec<Object>,
+    version: &mut Version,
+    object: Object,
+) -> Result<Reply, OutOfMemory>
+    requires rows { AreRows rows.old.items }
+    requires room { version.old + 1 < 2 ^ 62 }
+    ensures reply { IfOk result (λ reply. reply ≡ replies.Done object) }
+    ensures rows { OnOk result (rows.new.items ≡ put_row object rows.old.items) }
+    ensures version { OnOk result (version.new ≡ version.old + 1) }
+    ensures err { OnErr result ((rows.new.items ≡ rows.old.items) × (version.new ≡ version.old)) }
+    ensures rising { AreRows rows.new.items }
+{
+    let key = key_of(alloc, &object)?;
+    let told = put_in(alloc, rows, &key, object)?;
+    *version += 1;
+    Ok(Reply::Done(told))
+}
+
+/// Takes out the object that leaves with the next write, and answers it as it leaves.
+fn remove_row(
+    alloc: Global,
+    rows: &mut Vec<Object>,
+    version: &mut Version,
+    object: Object,
+) -> Result<Reply, OutOfMemory>
+    requires rows { AreRows rows.old.items }
+    requires room { version.old + 1 < 2 ^ 62 }
+    ensures reply { IfOk result (λ reply. reply ≡ replies.Left object) }
+    ensures rows { OnOk result (rows.new.items ≡ without_row (key_of object) rows.old.items) }
+    ensures version { OnOk result (version.new ≡ version.old + 1) }
+    ensures err { OnErr result ((rows.new.items ≡ rows.old.items) × (version.new ≡ version.old)) }
+    ensures rising { AreRows rows.new.items }
+{
+    let key = key_of(alloc, &object)?;
+    let _ = take_out(rows, &key);
+    *version += 1;
+    Ok(Reply::Left(object))
+}
+
+impl Store {
+    /// A store without objects. It takes no memory.
+    pub fn new(alloc: Global) -> Store
+        ensures { result ≡ no_store }
+    {
+        Store {
+            alloc,
+            rows: Vec::new(alloc),
+            version: 0,
+        }
+    }
+
+    /// The number of writes that were made.
+    pub fn version(&self) -> Version
+        ensures { result ≡ self.now.version }
+    {
+        self.version
+    }
+
+    /// What the request comes to here. `stale` is the current epoch of the node that a FinishPod names,
+    /// where the request has another.
+    pub fn outcome(
+        &self,
+        kind: SeatKind,
+        request: &Request,
+        moment: &Text,
+        stale: Option<u64>,
+    ) -> Result<Made, OutOfMemory>
+        requires { self.now.version < 2 ^ 62 - 1 }
+        ensures { IfOk result (λ made. outcome_of made ≡ outcome self.now kind request.now moment.now stale) }
+    {
+        outcome(self.alloc, &self.rows, self.version, kind, request, moment, stale)
+    }
+
+    /// Makes the one write of an outcome, if any, and answers it.
+    #[tactic(auto, unfolding(binder_model::specs::Answers::after, binder_model::specs::Answers::reply_of))]
+    pub fn apply(&mut self, made: Made) -> Result<Reply, OutOfMemory>
+        requires { self.old.version < 2 ^ 62 - 1 }
+        ensures state { OnOk result (self.new ≡ after self.old (outcome_of made)) }
+        ensures reply { IfOk result (λ reply. reply ≡ reply_of (outcome_of made)) }
+        ensures err { OnErr result (self.new ≡ self.old) }
+    {
+        match made {
+            Made::Says(reply) => Ok(reply),
+            Made::Stores(_, object) => {
+                store_row(self.alloc, &mut self.rows, &mut self.version, object)
+            }
+            Made::Removes(object) => {
+                remove_row(self.alloc, &mut self.rows, &mut self.version, object)
+            }
+        }
+    }
+
+    /// Answers a request that is the store's. A FinishPod's epoch has been tested before.
+    pub fn call(
+        &mut self,
+        kind: SeatKind,
+        request: &Request,
+        moment: &Text,
+    ) -> Result<Reply, OutOfMemory>
+        requires request { is_for_store request.now ≡ true }
+        requires room { self.old.version < 2 ^ 62 - 1 }
+        ensures state { OnOk result (self.new ≡ after self.old (outcome self.old kind request.now moment.now None)) }
+        ensures reply { IfOk result (λ reply. reply ≡ reply_of (outcome self.old kind request.now moment.now None)) }
+        ensures err { OnErr result (self.new ≡ self.old) }
+    {
+        let made = self.outcome(kind, request, moment, None)?;
+        self.apply(made)
+    }
+
+    /// The reply that `call` would give.
+    pub fn answer(
+        &self,
+        kind: SeatKind,
+        request: &Request,
+        moment: &Text,
+    ) -> Result<Reply, OutOfMemory>
+        requires request { is_for_store request.now ≡ true }
+        requires room { self.now.version < 2 ^ 62 - 1 }
+        ensures { IfOk result (λ reply. reply ≡ reply_of (outcome self.now kind request.now moment.now None)) }
+    {
+        let made = self.outcome(kind, request, moment, None)?;
+        Ok(made.into_reply())
+    }
+
+    /// The object of a key.
+    pub fn row(&self, key: &Key) -> Option<&Object>
+        ensures { option_copied result ≡ row_at key.now self.now.rows }
+    {
+        row(&self.rows, key)
+    }
+
+    /// How many objects of the kind there are.
+    pub fn count(&self, kind: Kind) -> usize
+        ensures { result ≡ length (rows_of kind self.now.rows) }
+    {
+        count_of_kind(&self.rows, kind)
+    }
+
+    /// The object at a place, from 0, among those of the kind in the order of namespace and name.
+    pub fn at(&self, kind: Kind, place: usize) -> Option<&Object>
+        ensures { option_copied result ≡ slice_get (rows_of kind self.now.rows) place }
+    {
+        at_of_kind(&self.rows, kind, place)
+    }
+}
+
+impl Lookup for Store {
+    ghost rows = { λ s. s.rows };
+
+    fn count(&self, kind: Kind) -> usize {
+        count_of_kind(&self.rows, kind)
+    }
+
+    fn at(&self, kind: Kind, place: usize) -> Option<&Object> {
+        at_of_kind(&self.rows, kind, place)
+    }
+
+    fn row(&self, key: &Key) -> Option<&Object> {
+        row(&self.rows, key)
+    }
+}

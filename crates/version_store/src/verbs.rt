@@ -1,0 +1,448 @@
+//! What each request comes to, over the rows.
+
+ghost use Rattle.std.specs.Prelude.{◌≡◌, ◌+◌, ◌<◌, ◌^◌, List, Some, None, IfOk};
+ghost use Rattle.std.specs.Option.{option_copied};
+ghost use Rattle.std.specs.Result.{result_err};
+ghost use Rattle.kube_types.specs.declared.objects.Object.{Object};
+ghost use Rattle.kube_types.specs.declared.objects.Object.TheVariants as objects;
+ghost use Rattle.kube_types.specs.Bindings.{is_uid};
+ghost use Rattle.kube_types.specs.Keys.{AreRows, key_of, is_of_kind, row_at, rows_of};
+ghost use Rattle.call_types.specs.declared.reply.Reply.TheVariants as replies;
+ghost use Rattle.binder_model.specs.Store.{at_version};
+ghost use Rattle.binder_model.specs.Answers.{Says, is_user, guard_on, is_other_version, is_other_uid, written, written_if_fits, create, update, update_status, edit, edit_to, delete, get, list, listed, is_in_namespace, pod_with, bind, finish, outcome};
+ghost use Rattle.version_store.specs.Made.{is_listed, is_wanted, outcome_of, state_of};
+
+use crate::classes::{default_class_name, lacks_named_node, lacks_node};
+use crate::edits::edited;
+use crate::outcome::Made;
+use crate::writes::{at_version, created, marked, updated, with_status};
+use call_types::edit::Edit;
+use call_types::reply::{Change, Refusal, Reply};
+use call_types::request::{NewStatus, Request, SeatKind};
+use field_rules::{check_new, check_update, guard};
+use finalizer_rules::{leaves, leaves_at_once};
+use kube_types::copies::{OutOfMemory, Plain};
+use kube_types::items::Items;
+use kube_types::key::{key_of, kind_index, kind_of, meta_of};
+use kube_types::names::{Field, Rule};
+use kube_types::objects::{Object, Pod, Version};
+use kube_types::parts::Kind;
+use kube_types::table::row;
+use kube_types::text::Text;
+use kube_types::uid::Uid;
+use std::alloc::Global;
+
+fn refused(refusal: Refusal) -> Made
+    ensures { outcome_of result ≡ Says (replies.Refused refusal) }
+{
+    Made::Says(Reply::Refused(refusal))
+}
+
+/// The write of an object, which leaves where it is to be deleted and has no finalizers.
+fn written(object: Object) -> Made
+    ensures { outcome_of result ≡ written object }
+{
+    if leaves(&object) {
+        Made::Removes(object)
+    } else {
+        Made::Stores(Change::Modified, object)
+    }
+}
+
+fn is_user(kind: SeatKind) -> bool
+    ensures { result ≡ is_user kind }
+{
+    match kind {
+        SeatKind::User => true,
+        _ => false,
+    }
+}
+
+/// Answers the first rule that the write breaks, where a user makes it.
+#[tactic(auto, unfolding(binder_model::specs::Answers::guard_on))]
+fn guard_on(kind: SeatKind, old: Option<&Object>, new: &Object) -> Result<(), Rule>
+    ensures { result_err result ≡ guard_on kind (option_copied old.entry) new.now }
+{
+    match kind {
+        SeatKind::User => guard(old, new),
+        _ => Ok(()),
+    }
+}
+
+fn is_other_version(given: Option<Version>, current: Version) -> bool
+    ensures { result ≡ is_other_version given current }
+{
+    match given {
+        None => false,
+        Some(given) => given != current,
+    }
+}
+
+fn is_other_uid(given: Option<Uid>, current: Option<Uid>) -> bool
+    ensures { result ≡ is_other_uid given current }
+{
+    match given {
+        None => false,
+        Some(given) => !is_uid(current, given),
+    }
+}
+
+fn is_uid(current: Option<Uid>, uid: Uid) -> bool
+    ensures { result ≡ is_uid current uid }
+{
+    match current {
+        None => false,
+        Some(current) => current.0 == uid.0,
+    }
+}
+
+#[tactic(auto, unfolding(binder_model::specs::Answers::create, binder_model::specs::Answers::refuse_rule, binder_model::specs::Answers::refuse_field))]
+fn create(
+    alloc: Global,
+    rows: &[Object],
+    version: Version,
+    kind: SeatKind,
+    object: &Object,
+    moment: &Text,
+) -> Result<Made, OutOfMemory>
+    requires rows { AreRows rows.now }
+    requires room { version + 1 < 2 ^ 62 }
+    ensures { IfOk result (λ made. outcome_of made ≡ create (state_of rows.now version) kind object.now moment.now (row_at (key_of object.now) rows.now)) }
+{
+    let key = key_of(alloc, object)?;
+    if row(rows, &key).is_some() {
+        return Ok(refused(Refusal::AlreadyExists));
+    }
+    if let Err(rule) = guard_on(kind, None, object) {
+        return Ok(refused(Refusal::Forbidden(rule)));
+    }
+    let lacks = lacks_node(alloc, object, rows)?;
+    if let Err(field) = check_new(lacks, object) {
+        return Ok(refused(Refusal::Invalid(field)));
+    }
+    let made = created(alloc, default_class_name(rows), object, version + 1, moment)?;
+    Ok(Made::Stores(Change::Added, made))
+}
+
+#[tactic(auto, unfolding(binder_model::specs::Answers::update, binder_model::specs::Answers::refuse, binder_model::specs::Answers::refuse_rule, binder_model::specs::Answers::refuse_field))]
+fn update(
+    alloc: Global,
+    version: Version,
+    kind: SeatKind,
+    new: &Object,
+    given: Option<Version>,
+    old: Option<&Object>,
+) -> Result<Made, OutOfMemory>
+    requires { version + 1 < 2 ^ 62 }
+    ensures { IfOk result (λ made. (rows : List Object) → outcome_of made ≡ update (state_of rows version) kind new.now given (option_copied old.entry)) }
+{
+    let Some(old) = old else {
+        return Ok(refused(Refusal::NotFound));
+    };
+    let current = meta_of(old).version;
+    if is_other_version(given, current) {
+        return Ok(refused(Refusal::Conflict { current }));
+    }
+    if let Err(rule) = guard_on(kind, Some(old), new) {
+        return Ok(refused(Refusal::Forbidden(rule)));
+    }
+    if let Err(field) = check_update(old, new) {
+        return Ok(refused(Refusal::Invalid(field)));
+    }
+    Ok(written(updated(alloc, old, new, version + 1)?))
+}
+
+#[tactic(auto, unfolding(binder_model::specs::Answers::update_status, binder_model::specs::Answers::written_if_fits, binder_model::specs::Answers::refuse))]
+fn update_status(
+    alloc: Global,
+    version: Version,
+    kind: SeatKind,
+    status: &NewStatus,
+    given: Option<Version>,
+    old: Option<&Object>,
+) -> Result<Made, OutOfMemory>
+    requires { version + 1 < 2 ^ 62 }
+    ensures { IfOk result (λ made. (rows : List Object) → outcome_of made ≡ update_status (state_of rows version) kind status.now given (option_copied old.entry)) }
+{
+    if is_user(kind) {
+        return Ok(refused(Refusal::Forbidden(Rule::Verb)));
+    }
+    let Some(old) = old else {
+        return Ok(refused(Refusal::NotFound));
+    };
+    let current = meta_of(old).version;
+    if is_other_version(given, current) {
+        return Ok(refused(Refusal::Conflict { current }));
+    }
+    match with_status(alloc, status, old)? {
+        None => Ok(refused(Refusal::Invalid(Field::Kind))),
+        Some(new) => Ok(written(at_version(new, version + 1))),
+    }
+}
+
+#[tactic(auto, unfolding(binder_model::specs::Answers::edit, binder_model::specs::Answers::edit_to, binder_model::specs::Answers::refuse_rule, binder_model::specs::Answers::refuse_field))]
+fn edit(
+    alloc: Global,
+    version: Version,
+    kind: SeatKind,
+    change: &Edit,
+    old: Option<&Object>,
+) -> Result<Made, OutOfMemory>
+    requires { version + 1 < 2 ^ 62 }
+    ensures { IfOk result (λ made. (rows : List Object) → outcome_of made ≡ edit (state_of rows version) kind change.now (option_copied old.entry)) }
+{
+    let Some(old) = old else {
+        return Ok(refused(Refusal::NotFound));
+    };
+    let Some(new) = edited(alloc, change, old)? else {
+        return Ok(refused(Refusal::Invalid(Field::Kind)));
+    };
+    if let Err(rule) = guard_on(kind, Some(old), &new) {
+        return Ok(refused(Refusal::Forbidden(rule)));
+    }
+    if let Err(field) = check_update(old, &new) {
+        return Ok(refused(Refusal::Invalid(field)));
+    }
+    Ok(written(updated(alloc, old, &new, version + 1)?))
+}
+
+#[tactic(auto, unfolding(binder_model::specs::Answers::delete, binder_model::specs::Answers::delete_of, binder_model::specs::Answers::refuse))]
+fn delete(
+    alloc: Global,
+    version: Version,
+    moment: &Text,
+    given: Option<Uid>,
+    old: Option<&Object>,
+) -> Result<Made, OutOfMemory>
+    requires { version + 1 < 2 ^ 62 }
+    ensures { IfOk result (λ made. (rows : List Object) → outcome_of made ≡ delete (state_of rows version) moment.now given (option_copied old.entry)) }
+{
+    let Some(old) = old else {
+        return Ok(refused(Refusal::NotFound));
+    };
+    let meta = meta_of(old);
+    if is_other_uid(given, meta.uid) {
+        return Ok(refused(Refusal::Conflict {
+            current: meta.version,
+        }));
+    }
+    if leaves_at_once(old) {
+        return Ok(Made::Removes(marked(alloc, old, version + 1, moment)?));
+    }
+    if meta.deleted.is_some() {
+        return Ok(Made::Says(Reply::Done(old.copy(alloc)?)));
+    }
+    Ok(written(marked(alloc, old, version + 1, moment)?))
+}
+
+#[tactic(auto, unfolding(binder_model::specs::Answers::get))]
+fn get(alloc: Global, row: Option<&Object>) -> Result<Made, OutOfMemory>
+    ensures { IfOk result (λ made. outcome_of made ≡ get (option_copied row.entry)) }
+{
+    match row {
+        None => Ok(refused(Refusal::NotFound)),
+        Some(found) => Ok(Made::Says(Reply::Found(found.copy(alloc)?))),
+    }
+}
+
+fn is_of_kind(kind: Kind, object: &Object) -> bool
+    ensures { result ≡ is_of_kind kind object.now }
+{
+    kind_index(kind_of(object)) == kind_index(kind)
+}
+
+/// Whether the object is in the namespace, where one is given.
+fn is_listed(namespace: &Option<Text>, object: &Object) -> bool
+    ensures { result ≡ is_listed namespace.now object.now }
+{
+    match namespace {
+        None => true,
+        Some(namespace) => meta_of(object).namespace.as_str() == namespace.as_str(),
+    }
+}
+
+/// Whether the object is of the kind, and of the namespace where one is given.
+fn is_wanted(kind: Kind, namespace: &Option<Text>, object: &Object) -> bool
+    ensures { result ≡ is_wanted kind namespace.now object.now }
+{
+    is_of_kind(kind, object) && is_listed(namespace, object)
+}
+
+/// The objects of the kind, and of the namespace where one is given.
+fn listed(
+    alloc: Global,
+    rows: &[Object],
+    kind: Kind,
+    namespace: &Option<Text>,
+) -> Result<Items<Object>, OutOfMemory>
+    ensures { IfOk result (λ items. items ≡ listed namespace.now (rows_of kind rows.now)) }
+{
+    let mut items = Items::new(alloc);
+    for object in rows {
+        if is_wanted(kind, namespace, object) {
+            let copied = object.copy(alloc)?;
+            items.push(copied)?;
+        }
+    }
+    Ok(items)
+}
+
+#[tactic(auto, unfolding(binder_model::specs::Answers::list))]
+fn list(
+    alloc: Global,
+    rows: &[Object],
+    version: Version,
+    kind: Kind,
+    namespace: &Option<Text>,
+) -> Result<Made, OutOfMemory>
+    ensures { IfOk result (λ made. outcome_of made ≡ list (state_of rows.now version) kind namespace.now) }
+{
+    let items = listed(alloc, rows, kind, namespace)?;
+    Ok(Made::Says(Reply::Listed { items, version }))
+}
+
+/// The row, where it is the pod with this UID.
+#[tactic(auto, unfolding(binder_model::specs::Answers::pod_with))]
+fn pod_with<'a>(uid: Uid, row: Option<&'a Object>) -> Option<&'a Pod>
+    ensures { option_copied result ≡ pod_with uid (option_copied row.entry) }
+{
+    match row {
+        Some(Object::Pod(pod)) => {
+            if is_uid(pod.meta.uid, uid) {
+                Some(pod)
+            } else {
+                None
+            }
+        }
+        _ => None,
+    }
+}
+
+fn with_node(mut pod: Pod, node: Text) -> Pod
+    ensures { result ≡ record pod { node = node } }
+{
+    pod.node = node;
+    pod
+}
+
+/// The pod on this node.
+fn bound(
+    alloc: Global,
+    pod: &Pod,
+    node: &Text,
+    version: Version,
+) -> Result<Object, OutOfMemory>
+    ensures { IfOk result (λ o. o ≡ at_version (objects.Pod (record pod.now { node = node.now })) version) }
+{
+    let node = node.copy(alloc)?;
+    let bound = with_node(pod.copy(alloc)?, node);
+    Ok(at_version(Object::Pod(bound), version))
+}
+
+#[tactic(auto, unfolding(binder_model::specs::Answers::bind, binder_model::specs::Answers::refuse))]
+fn bind(
+    alloc: Global,
+    rows: &[Object],
+    version: Version,
+    node: &Text,
+    pod: Option<&Pod>,
+) -> Result<Made, OutOfMemory>
+    requires rows { AreRows rows.now }
+    requires room { version + 1 < 2 ^ 62 }
+    ensures { IfOk result (λ made. outcome_of made ≡ bind (state_of rows.now version) node.now (option_copied pod.entry)) }
+{
+    let Some(pod) = pod else {
+        return Ok(refused(Refusal::NotFound));
+    };
+    if !pod.node.as_str().is_empty() {
+        let node = pod.node.copy(alloc)?;
+        return Ok(refused(Refusal::Assigned { node }));
+    }
+    if lacks_named_node(alloc, node, rows)? {
+        return Ok(refused(Refusal::Invalid(Field::NodeName)));
+    }
+    let bound = bound(alloc, pod, node, version + 1)?;
+    Ok(Made::Stores(Change::Modified, bound))
+}
+
+#[tactic(auto, unfolding(binder_model::specs::Answers::finish, binder_model::specs::Answers::refuse, binder_model::specs::Answers::refuse_stale))]
+fn finish(
+    alloc: Global,
+    version: Version,
+    stale: Option<u64>,
+    node: &Text,
+    pod: Option<&Pod>,
+) -> Result<Made, OutOfMemory>
+    requires { version + 1 < 2 ^ 62 }
+    ensures { IfOk result (λ made. (rows : List Object) → outcome_of made ≡ finish (state_of rows version) stale node.now (option_copied pod.entry)) }
+{
+    let Some(pod) = pod else {
+        return Ok(refused(Refusal::NotFound));
+    };
+    if let Some(current) = stale {
+        return Ok(refused(Refusal::StaleEpoch { current }));
+    }
+    if pod.meta.deleted.is_none() {
+        return Ok(refused(Refusal::Invalid(Field::Deletion)));
+    }
+    if pod.node.as_str() != node.as_str() {
+        return Ok(refused(Refusal::Invalid(Field::NodeName)));
+    }
+    let finished = Object::Pod(pod.copy(alloc)?);
+    Ok(Made::Removes(at_version(finished, version + 1)))
+}
+
+/// What the request comes to. `stale` is the current epoch of the node that a FinishPod names, where
+/// the request has another.
+#[tactic(auto, unfolding(binder_model::specs::Answers::outcome, binder_model::specs::Answers::refuse))]
+pub fn outcome(
+    alloc: Global,
+    rows: &[Object],
+    version: Version,
+    kind: SeatKind,
+    request: &Request,
+    moment: &Text,
+    stale: Option<u64>,
+) -> Result<Made, OutOfMemory>
+    requires rows { AreRows rows.now }
+    requires room { version + 1 < 2 ^ 62 }
+    ensures { IfOk result (λ made. outcome_of made ≡ outcome (state_of rows.now version) kind request.now moment.now stale) }
+{
+    match request {
+        Request::Create { object } => create(alloc, rows, version, kind, object, moment),
+        Request::Update {
+            object,
+            version: given,
+        } => {
+            let key = key_of(alloc, object)?;
+            update(alloc, version, kind, object, *given, row(rows, &key))
+        }
+        Request::UpdateStatus {
+            key,
+            status,
+            version: given,
+        } => update_status(alloc, version, kind, status, *given, row(rows, key)),
+        Request::Edit { key, edit: change } => edit(alloc, version, kind, change, row(rows, key)),
+        Request::Delete { key, uid } => delete(alloc, version, moment, *uid, row(rows, key)),
+        Request::Get { key } => get(alloc, row(rows, key)),
+        Request::List { kind, namespace } => list(alloc, rows, version, *kind, namespace),
+        Request::BindPod { key, uid, node } => {
+            if is_user(kind) {
+                return Ok(refused(Refusal::Forbidden(Rule::Verb)));
+            }
+            bind(alloc, rows, version, node, pod_with(*uid, row(rows, key)))
+        }
+        Request::FinishPod {
+            key,
+            uid,
+            node,
+            epoch: _,
+        } => {
+            if is_user(kind) {
+                return Ok(refused(Refusal::Forbidden(Rule::Verb)));
+            }
+            finish(alloc, version, stale, node, pod_with(*uid, row(rows, key)))
+        }
+        _ => Ok(refused(Refusal::Invalid(Field::Kind))),
+    }
+}
