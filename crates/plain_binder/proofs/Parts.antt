@@ -1,5 +1,5 @@
 -- What each part of a run does, from what one call does.
-use Rattle.std.proofs.Common.{◌≡◌, ◌⊎◌, ℕ, zero, suc, ◌+◌, ◌*◌, ◌<◌, ◌≤◌, length, map, List, [], ◌∷◌, reverse, Bool, true, false, true≢false, Option, Some, None, Result, Ok, Err, IfOk, inl, inr, refl, sym, ◌∙◌, ap, subst, arith}
+use Rattle.std.proofs.Common.{◌≡◌, ◌⊎◌, ℕ, zero, suc, ◌+◌, ◌*◌, ◌<◌, ◌≤◌, length, map, take, get_or, List, [], ◌∷◌, reverse, Bool, true, false, true≢false, Option, Some, None, Result, Ok, Err, IfOk, inl, inr, refl, sym, ◌∙◌, ap, subst, arith}
 use Rattle.std.specs.Prelude.{slice_get}
 use Rattle.std.proofs.lemmas.Option.{slice_get_within}
 use Rattle.kube_types.specs.declared.parts.Kind.{Kind}
@@ -33,7 +33,7 @@ use Rattle.plain_binder.proofs.Matches.{no_best}
 use Rattle.plain_binder.proofs.Binding.{stored, global_key, advances, Advances}
 use Rattle.plain_binder.proofs.Served.{served_bound, binding_bound, binding_served, binding_settled, binding_begins, settled_step}
 use Rattle.plain_binder.proofs.Due.{nothing_due}
-use Rattle.plain_binder.proofs.Runs.{calls_next}
+use Rattle.plain_binder.proofs.Runs.{calls_next, created_next, in_order_after}
 
 -- calls
 
@@ -78,12 +78,12 @@ of_kind kind rows place o at = passes (is_of_kind kind) rows place o at
 
 -- Available
 
-module _ (past : List Entry) (place : ℕ) (v : VolumeData) (order : AreRows (rows_after past)) (fresh : AreFresh (rows_after past)) (at : slice_get (rows_of kinds.PersistentVolume (rows_after past)) place ≡ Some (Volume v)) where
+module _ (past : List Entry) (place : ℕ) (v : VolumeData) (fresh : AreFresh (rows_after past)) (at : slice_get (rows_of kinds.PersistentVolume (rows_after past)) place ≡ Some (Volume v)) where
   abbrev made : VolumeData
   made = in_phase volumes.Available ((store_after past).version + 1) v
 
   found : row_at (key_of (Volume v)) (rows_after past) ≡ Some (Volume v)
-  found = row_at_place kinds.PersistentVolume place (Volume v) (rows_after past) order at
+  found = row_at_place kinds.PersistentVolume place (Volume v) (rows_after past) (in_order_after past) at
 
   made_rows : (store_with past Binder (write_available v)).rows ≡ put_row (Volume made) (rows_after past)
   made_rows =
@@ -102,9 +102,9 @@ module _ (past : List Entry) (place : ℕ) (v : VolumeData) (order : AreRows (ro
       let rows : rows_after new ≡ put_row (Volume made) (rows_after past) = ap (λ (s : State). s.rows) store ∙ made_rows in
       record {
           adds = adds_one past new (write_available v) call;
-          count = ap (λ os. length (keys_of kinds.PersistentVolume os)) rows ∙ ap length (keys_of-put (Volume made) (Volume v) (rows_after past) order found kinds.PersistentVolume);
+          count = ap (λ os. length (keys_of kinds.PersistentVolume os)) rows ∙ ap length (keys_of-put (Volume made) (Volume v) (rows_after past) (in_order_after past) found kinds.PersistentVolume);
           fresh = subst AreFresh (sym rows) made_fresh;
-          reached = subst (λ os. AvailableUpTo os (place + 1)) (sym rows) (available_step (rows_after past) ((store_after past).version + 1) place v order at before) }
+          reached = subst (λ os. AvailableUpTo os (place + 1)) (sym rows) (available_step (rows_after past) ((store_after past).version + 1) place v (in_order_after past) at before) }
 
 pub available_left : (past : List Entry) (place : ℕ) → AreFresh (rows_after past) → AvailableUpTo (rows_after past) place → slice_get (rows_of kinds.PersistentVolume (rows_after past)) place ≡ None → MakesAvailable past place past
 available_left past place fresh before none = record { adds = adds_none past 1; count = refl; fresh = fresh; reached = available_none (rows_after past) place none before }
@@ -131,7 +131,7 @@ create_made past new o fresh plain store = subst (λ (s : State). AreFresh s.row
 
 -- writes of a binding
 
-module _ (past : List Entry) (volume claim : Key) (order : AreRows (rows_after past)) (request : Request) (v : VolumeData) (c : ClaimData)
+module _ (past : List Entry) (volume claim : Key) (request : Request) (v : VolumeData) (c : ClaimData)
     (v_at : row_at volume (rows_after past) ≡ Some (Volume v)) (c_at : row_at claim (rows_after past) ≡ Some (Claim c)) (next : Some request ≡ next_write v c) where
   same_volume : (u w : VolumeData) (o : Option Object) → o ≡ Some (Volume u) → o ≡ Some (Volume w) → u ≡ w
   same_volume u w o e f = cc
@@ -147,13 +147,13 @@ module _ (past : List Entry) (volume claim : Key) (order : AreRows (rows_after p
 
   step : (n : ℕ) (before : List Object) → n < 4 → IsBinding n before (rows_after past) volume claim → IsBinding (suc n) before (store_with past Binder request).rows volume claim
   step n before lt b =
-      let a = advances (store_after past) order before volume claim n lt b in
+      let a = advances (store_after past) (in_order_after past) before volume claim n lt b in
       let same : a.request ≡ request = same_request a.request request _ a.next (sym (next_known n before b)) in
       subst (λ r. IsBinding (suc n) before (store_with past Binder r).rows volume claim) same a.reached
 
   pub step_asked : IsUnderWay (rows_after past) volume claim → is_asked request ≡ true
   step_asked u =
-      let a = advances (store_after past) order u.before volume claim u.stage u.open_stage u.binding in
+      let a = advances (store_after past) (in_order_after past) u.before volume claim u.stage u.open_stage u.binding in
       ap is_asked (same_request request a.request _ (sym (next_known u.stage u.before u.binding)) a.next) ∙ a.asked
 
   pub step_bound : IsUnderWay (rows_after past) volume claim → CompletedAreBound (store_with past Binder request).rows
@@ -165,8 +165,8 @@ module _ (past : List Entry) (volume claim : Key) (order : AreRows (rows_after p
       advances = λ n before lt b. subst (λ (s : State). IsBinding (suc n) before s.rows volume claim) (sym store) (step n before lt b) }
 
 -- a binding that is under way has a next write
-pub step_stands : (past : List Entry) (volume claim : Key) → AreRows (rows_after past) → (u : IsUnderWay (rows_after past) volume claim) → None ≡ next_write u.binding.v u.binding.c → ⊥
-step_stands past volume claim order u none = let a = advances (store_after past) order u.before volume claim u.stage u.open_stage u.binding in let some = a.next in absurd cc
+pub step_stands : (past : List Entry) (volume claim : Key) (u : IsUnderWay (rows_after past) volume claim) → None ≡ next_write u.binding.v u.binding.c → ⊥
+step_stands past volume claim u none = let a = advances (store_after past) (in_order_after past) u.before volume claim u.stage u.open_stage u.binding in let some = a.next in absurd cc
 
 -- results
 
@@ -229,11 +229,14 @@ no_claim rows place h = by (slice_get (rows_of kinds.PersistentVolumeClaim rows)
 
 -- the whole parts
 
-pub all_available : (old new : List Entry) (n count : ℕ) → AreRows (rows_after old) → Adds n old new → AreFresh (rows_after new) → AvailableUpTo (rows_after new) n → AreRows (rows_after new)
-    → count ≡ length (keys_of kinds.PersistentVolume (rows_after new)) → count ≡ length (keys_of kinds.PersistentVolume (rows_after old)) → count ≤ n → n ≤ count → MakesAllAvailable old new
-all_available old new n count order adds fresh reached new_order now before le ge = record {
+pub all_available : (old new : List Entry) (n : ℕ) → Adds n old new → AreFresh (rows_after new) → AvailableUpTo (rows_after new) n
+    → n ≡ length (keys_of kinds.PersistentVolume (rows_after new)) → n ≡ length (keys_of kinds.PersistentVolume (rows_after old)) → MakesAllAvailable old new
+all_available old new n adds fresh reached now before = record {
     adds = adds_then n 0 (length (keys_of kinds.PersistentVolume (rows_after old))) old new new adds (adds_none new 0) (omega arith);
-    served = fresh_served (rows_after new) n new_order fresh reached (omega arith) }
+    served = fresh_served (rows_after new) n (in_order_after new) fresh reached (omega arith) }
+
+pub all_settled : (old new : List Entry) (n m : ℕ) → Adds m old new → AreServed (rows_after new) → SettledUpTo (rows_after new) n → length (keys_of kinds.PersistentVolumeClaim (rows_after new)) ≤ n → Serves old new
+all_settled old new n m adds served reached all = record { calls = adds.calls; due = nothing_due (rows_after new) n (in_order_after new) served reached all }
 
 pub settles_bound : (past new : List Entry) (place : ℕ) (volume claim : Key) → SettledUpTo (rows_after past) place → slice_get (keys_of kinds.PersistentVolumeClaim (rows_after past)) place ≡ Some claim
     → Binds past volume claim new → Settles past place new
@@ -242,3 +245,10 @@ settles_bound past new place volume claim before at b = record {
     count = ap length (b.bound.places kinds.PersistentVolumeClaim);
     served = binding_served (rows_after past) (rows_after new) volume claim b.bound;
     reached = binding_settled (rows_after past) (rows_after new) volume claim b.bound place at before }
+
+-- creates
+
+pub create_next : (objects : List Object) (i : ℕ) (past new : List Entry) (o : Object) → i < length objects → o ≡ get_or objects i o → AreCreates (take i objects) (reverse past)
+    → new ≡ asked past 1 User (requests.Create o) ∷ past → AreCreates (take (i + 1) objects) (reverse new)
+create_next objects i past new o lt is h call =
+    subst (λ es. AreCreates (take (i + 1) objects) (reverse es)) (sym call) (created_next objects i past o (asked past 1 User (requests.Create o)) lt is h (record { seat = refl; kind = refl; request = refl; told = refl }))

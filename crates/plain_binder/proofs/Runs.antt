@@ -1,15 +1,19 @@
 -- Plain runs as histories, one request at a time.
-use Rattle.std.proofs.Common.{◌≡◌, ℕ, zero, suc, ◌+◌, ◌<◌, ◌≤◌, length, List, [], ◌∷◌, ◌++◌, take, get_or, reverse, All, Bool, true, false, true≢false, Option, Some, None, refl, sym, ◌∙◌, ap, subst, arith, append_assoc, append-nil, if◌then◌else◌}
+use Rattle.std.proofs.Common.{◌≡◌, ℕ, zero, suc, ◌+◌, ◌<◌, ◌≤◌, length, List, [], ◌∷◌, ◌++◌, take, get_or, reverse, All, Bool, true, false, true≢false, Option, Some, None, refl, sym, ◌∙◌, ap, subst, arith, append_assoc, append-nil, if◌then◌else◌, cond, filter, map}
 use Rattle.std.specs.Bool.{⊤}
 use Rattle.std.proofs.Math.Seq.{take-suc}
-use Rattle.std.proofs.lemmas.List.{reverse-append}
+use Rattle.std.proofs.lemmas.List.{reverse-append, length-map}
 use Rattle.std.proofs.lemmas.List.Elements.{All-append, All-nil}
 use Rattle.std.specs.declared.cmp.Ordering.{Ordering}
 use Rattle.std.specs.declared.cmp.Ordering.TheVariants.{Less, Equal, Greater}
 use Rattle.std.specs.Ordering.{is_eq, match_ordering}
 use Rattle.plain_data.specs.Rows.{put, without}
 use Rattle.kube_types.specs.declared.objects.Object.{Object}
-use Rattle.kube_types.specs.Keys.{key_cmp, key_of, put_row, without_row}
+use Rattle.plain_data.proofs.RowFacts.{rising_put, rising_without}
+use Rattle.kube_types.specs.declared.parts.Kind.{Kind}
+use Rattle.kube_types.specs.Keys.{AreRows, key_cmp, key_of, put_row, without_row, rows_of, is_of_kind}
+use Rattle.kube_types.proofs.KeyOrder.{key_cmp_total}
+use Rattle.plain_binder.specs.Stages.{keys_of}
 use Rattle.kube_types.specs.declared.key.Key.{Key}
 use Rattle.call_types.specs.declared.entry.Entry.{Entry}
 use Rattle.call_types.specs.declared.request.SeatKind.{SeatKind}
@@ -110,6 +114,39 @@ small_effect w (SetsMoment at) n h = record { rows = omega (arith, h.rows); vers
 pub is_small : (past : List Entry) → IsSmall (store_after past) (length past)
 is_small [] = record { rows = omega arith; version = omega arith }
 is_small (e ∷ past) = small_effect (world no_setup past) (effect no_setup (world no_setup past) e.kind e.request) (length past) (is_small past)
+
+-- the objects stand in the order of their keys
+
+order_after : (s : State) (out : Outcome) → AreRows s.rows → AreRows (after s out).rows
+unfolding after
+order_after s (Says reply) h = h
+order_after s (Stores change o) h = rising_put key_cmp_total key_of o s.rows h
+order_after s (Removes o) h = rising_without key_cmp_total key_of (key_of o) s.rows h
+
+order_effect : (w : World) (e : Effect) → AreRows w.store.rows → AreRows (world_after w e).store.rows
+unfolding world_after
+order_effect w (OnStore out) h = order_after w.store out h
+order_effect w (OnDevices a) h = h
+order_effect w (SetsMoment at) h = h
+
+pub in_order_after : (past : List Entry) → AreRows (rows_after past)
+in_order_after [] = tt
+in_order_after (e ∷ past) = order_effect (world no_setup past) (effect no_setup (world no_setup past) e.kind e.request) (in_order_after past)
+
+length-filter : {X : Type 0} (p : X → Bool) (xs : List X) → length (filter p xs) ≤ length xs
+length-filter p [] = omega arith
+length-filter {X = X} p (x ∷ xs) = by (p x) (length-filter p xs)
+  where
+    by : (b : Bool) → length (filter p xs) ≤ length xs → length (cond b (x ∷ filter p xs) (filter p xs)) ≤ suc (length xs)
+    by true h = omega arith
+    by false h = omega arith
+
+pub keys_few : (past : List Entry) (kind : Kind) → length (keys_of kind (rows_after past)) ≤ length past
+keys_few past kind =
+    let all = length-map (rows_of kind (rows_after past)) key_of in
+    let some = length-filter (is_of_kind kind) (rows_after past) in
+    let few = (is_small past).rows in
+    omega (arith, all, some, few)
 
 -- the calls, the oldest first
 

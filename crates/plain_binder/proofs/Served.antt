@@ -23,7 +23,7 @@ use Rattle.plain_binder.proofs.Fresh.{both, named_key, open_not_completed, in_or
 use Rattle.plain_binder.proofs.Matches.{no_best, takes_no_other}
 use Rattle.plain_binder.proofs.Binding.{kinds_apart, global_key, carries_ref}
 
-same_volume : (v u : VolumeData) (o : Option Object) → o ≡ Some (Volume v) → o ≡ Some (Volume u) → v ≡ u
+pub same_volume : (v u : VolumeData) (o : Option Object) → o ≡ Some (Volume v) → o ≡ Some (Volume u) → v ≡ u
 same_volume v u o e f = cc
 
 same_claim : (c d : ClaimData) (o : Option Object) → o ≡ Some (Claim c) → o ≡ Some (Claim d) → c ≡ d

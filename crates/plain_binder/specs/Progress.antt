@@ -11,7 +11,7 @@ use Rattle.kube_types.specs.Keys.{row_at}
 use Rattle.call_types.specs.declared.entry.Entry.{Entry}
 use Rattle.call_types.specs.declared.request.Request.{Request}
 use Rattle.binder_model.specs.BindWrites.{next_write}
-use Rattle.plain_binder.specs.Calls.{AreCalls, IsNothingDue, rows_after}
+use Rattle.plain_binder.specs.Calls.{AreCalls, AreCreates, IsNothingDue, rows_after}
 use Rattle.plain_binder.specs.Stages.{keys_of, AreFresh, AvailableUpTo, AreServed, SettledUpTo, IsBinding}
 
 -- the new entries are calls of the binder alone, and so many at most
@@ -78,3 +78,9 @@ pub record MakesAllAvailable (old new : List Entry) : Type 0 where
 pub record Serves (old new : List Entry) : Type 0 where
   pub calls : (objects : List Object) → AreCalls objects (reverse old) → AreCalls objects (reverse new)
   pub due : IsNothingDue (rows_after new)
+
+-- each object is created, in order
+pub record Creates (objects : List Object) (new : List Entry) : Type 0 where
+  pub created : AreCreates objects (reverse new)
+  pub fresh : AreFresh (rows_after new)
+  pub few : length new ≤ length objects

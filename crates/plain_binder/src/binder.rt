@@ -2,7 +2,6 @@
 
 ghost use Rattle.std.specs.Prelude.{◌≡◌, ◌<◌, ◌-◌, ◌^◌, IfOk, length};
 ghost use Rattle.std.specs.Option.{option_copied};
-ghost use Rattle.kube_types.specs.Keys.{AreRows};
 ghost use Rattle.plain_binder.specs.Calls.{rows_after};
 ghost use Rattle.plain_binder.specs.Stages.{AreFresh, AreServed, AvailableUpTo, IsBinding, SettledUpTo, claim_at, volume_at};
 ghost use Rattle.plain_binder.specs.Progress.{Binds, IsChoice, IsNextWrite, IsUnderWay, Lists, MakesAllAvailable, MakesAvailable, Serves, Settles, Writes};
@@ -50,8 +49,7 @@ fn list(run: Run, kind: Kind) -> Result<Run, OutOfMemory>
 
 /// The volume at a place among the volumes.
 fn volume_at(run: &Run, place: usize) -> Option<&Volume>
-    ensures order { AreRows (rows_after run.now) }
-    ensures volume { option_copied result ≡ volume_at (rows_after run.now) place }
+    ensures { option_copied result ≡ volume_at (rows_after run.now) place }
 {
     match run.at(Kind::PersistentVolume, place) {
         Some(Object::Volume(volume)) => Some(volume),
@@ -61,8 +59,7 @@ fn volume_at(run: &Run, place: usize) -> Option<&Volume>
 
 /// The claim at a place among the claims.
 fn claim_at(run: &Run, place: usize) -> Option<&Claim>
-    ensures order { AreRows (rows_after run.now) }
-    ensures claim { option_copied result ≡ claim_at (rows_after run.now) place }
+    ensures { option_copied result ≡ claim_at (rows_after run.now) place }
 {
     match run.at(Kind::PersistentVolumeClaim, place) {
         Some(Object::Claim(claim)) => Some(claim),
@@ -129,8 +126,7 @@ fn settle(run: Run, alloc: Global, place: usize) -> Result<Run, OutOfMemory>
 fn chosen(run: &Run, alloc: Global, place: usize) -> Result<Option<(Key, Key)>, OutOfMemory>
     requires served { AreServed (rows_after run.now) }
     requires before { SettledUpTo (rows_after run.now) place }
-    ensures order { AreRows (rows_after run.now) }
-    ensures choice { IfOk result (λ choice. IsChoice (rows_after run.now) place choice) }
+    ensures { IfOk result (λ choice. IsChoice (rows_after run.now) place choice) }
 {
     let claim = match claim_at(run, place) {
         None => return Ok(None),
@@ -194,8 +190,7 @@ fn request(
     volume: &Key,
     claim: &Key,
 ) -> Result<Option<Request>, OutOfMemory>
-    ensures order { AreRows (rows_after run.now) }
-    ensures write { IfOk result (λ write. IsNextWrite (rows_after run.now) volume.now claim.now write) }
+    ensures { IfOk result (λ write. IsNextWrite (rows_after run.now) volume.now claim.now write) }
 {
     match (run.row(volume), run.row(claim)) {
         (Some(Object::Volume(volume)), Some(Object::Claim(claim))) => {

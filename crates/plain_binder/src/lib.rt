@@ -2,6 +2,8 @@
 #![tactic(auto)]
 
 mod binder;
+mod plain;
 mod run;
 
+pub use plain::replay;
 pub use run::Run;

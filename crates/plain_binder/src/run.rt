@@ -15,7 +15,7 @@ use kube_types::parts::Kind;
 use kube_types::text::Text;
 use std::alloc::Global;
 use std::marker::Model;
-use version_store::Store;
+use version_store::store::Store;
 
 /// The moment of every call.
 const FIRST_MOMENT: &str = "2000-01-01T00:00:00Z";

@@ -5,8 +5,8 @@ use Rattle.plain_binder.specs.Calls.{store_after}
 use Rattle.plain_binder.proofs.Runs.{IsPushed, is_small, run_pushed}
 use Rattle.plain_binder.proofs.run.Run.ask.Goals as goal
 
-pub call-requires-clause-version : goal.call-requires-clause-version
-call-requires-clause-version c =
+pub call-requires-clause-room : goal.call-requires-clause-room
+call-requires-clause-room c =
     let state = ap (λ (s : State). s.version) (c.self.invariant.state ∙ ap store_after c.self.view_is) in
     let small : (store_after c.args.self).version ≤ length c.args.self = (is_small c.args.self).version in
     omega (arith, state, small, c.requires.few)
