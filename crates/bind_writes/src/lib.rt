@@ -1,13 +1,13 @@
-// A library with one function.
+//! The four writes of a binding, and unbinding.
 #![tactic(auto)]
 
-ghost use Rattle.std.specs.Prelude.{◌≡◌};
-ghost use Rattle.bind_writes.specs.Echo.{echo_of};
+mod request;
+mod step;
+mod unbinding;
 
-// The `ensures` clause is the contract: what `echo` returns is `echo_of` of its argument, a definition
-// in `specs/Echo.antt`, which a caller's clause can cite too.
-pub fn echo(x: usize) -> usize
-    ensures { result ≡ echo_of x }
-{
-    x
-}
+pub use request::{
+    completed_with, next_write, taken_for, write_bound, write_claim_status, write_completion,
+    write_reference,
+};
+pub use step::{Write, next_step};
+pub use unbinding::{unbind, unbound, write_available};

@@ -1,0 +1,78 @@
+//! Exact tables.
+
+ghost use Rattle.std.specs.Prelude.{◌≡◌, ◌≤◌, ◌↔◌, IsOk, IfOk, IfErr};
+ghost use Rattle.case_table.specs.Cases.{IsExact, action_of};
+ghost use Rattle.case_table.specs.Errors.{Tells};
+
+use crate::conditions::least_gap;
+use crate::overlaps::least_overlap;
+use crate::rows::{CaseRow, fits};
+use std::marker::Model;
+
+/// A table in which each list of conditions fits exactly one row. Contracts see its rows.
+#[derive(Drop)]
+pub struct Table<const K: usize, const N: usize> {
+    rows: [CaseRow<K>; N],
+}
+
+impl<const K: usize, const N: usize> Model for Table<K, N> {
+    ghost use Rattle.std.specs.Prelude.{List};
+    ghost use Rattle.case_table.specs.declared.rows.CaseRow.{CaseRow};
+    ghost use Rattle.case_table.specs.Cases.{IsExact};
+
+    ghost Value = { List (CaseRow K) };
+
+    ghost view = { λ t. t.rows };
+
+    ghost invariant = { λ t. IsExact t.rows };
+}
+
+/// Why rows make no table.
+#[derive(Clone, Copy, Debug)]
+pub enum TableError<const K: usize> {
+    /// No row fits these conditions, and they are the least such list, as a binary number of which
+    /// the first condition is the most significant digit.
+    Gap([bool; K]),
+    /// The rows at these two places fit one list of conditions.
+    Overlap(usize, usize),
+}
+
+impl<const K: usize, const N: usize> Table<K, N> {
+    /// The table of the rows, where each list of conditions fits exactly one. Else the least list
+    /// that no row fits; where there is none, the least pair of rows that fit one list.
+    pub fn new(rows: [CaseRow<K>; N]) -> Result<Table<K, N>, TableError<K>>
+        requires conditions { K ≤ 12 }
+        requires rows { N ≤ 4096 }
+        ensures ok { IsOk result ↔ IsExact rows.entry }
+        ensures table { IfOk result (λ table. table ≡ rows.entry) }
+        ensures error { IfErr result (Tells rows.entry) }
+    {
+        match least_gap(&rows) {
+            Some(conditions) => Err(TableError::Gap(conditions)),
+            None => match least_overlap(&rows) {
+                Some((first, second)) => Err(TableError::Overlap(first, second)),
+                None => Ok(Table { rows }),
+            },
+        }
+    }
+
+    /// The table of rows of which each list of conditions fits exactly one.
+    pub fn exact(rows: [CaseRow<K>; N]) -> Table<K, N>
+        requires { IsExact rows }
+        ensures { result ≡ rows.entry }
+    {
+        Table { rows }
+    }
+
+    /// The action of the row that the conditions fit.
+    pub fn pick(&self, conditions: [bool; K]) -> u8
+        ensures { result ≡ action_of self.now conditions.entry }
+    {
+        for i in 0..N {
+            if fits(&self.rows[i].needs, &conditions) {
+                return self.rows[i].action;
+            }
+        }
+        0
+    }
+}
