@@ -1,0 +1,124 @@
+//! A JSON value that is owned. What looks into one takes `&Value`, which drops nothing.
+
+ghost use Rattle.std.specs.Prelude.{◌≡◌, ◌≤◌, Some, None, IfOk, false};
+ghost use Rattle.std.specs.declared.result.Result.TheVariants.{Err};
+ghost use Rattle.serde_json.specs.Data.{number, unsigned, string, boolean, depth};
+ghost use Rattle.serde_json.specs.Read.{read, max_depth};
+ghost use Rattle.serde_json.specs.Written.{compact_text, has_float};
+ghost use Rattle.serde_json.specs.View.{view};
+ghost use Rattle.json_text.specs.Trees.{tree_data};
+ghost use Rattle.json_text.specs.declared.tree.NoTree.TheVariants.{NotJson};
+
+use plain_data::copies::OutOfMemory;
+use plain_data::text::{Bytes, Text};
+use serde_json::{Category, Value};
+use std::alloc::{AllocError, Global};
+
+/// Why a text gave no value.
+#[derive(Clone, Copy, Debug)]
+pub enum NoTree {
+    OutOfMemory,
+    NotJson,
+}
+
+/// A JSON value.
+pub struct Tree {
+    value: Value,
+}
+
+impl Drop for Tree {
+    fn drop(self) {
+        let Tree { value } = self;
+        drop(value);
+    }
+}
+
+impl Tree {
+    pub(crate) fn of_value(value: Value) -> Tree
+        ensures { tree_data result ≡ view value }
+    {
+        Tree { value }
+    }
+
+    pub(crate) fn into_value(self) -> Value
+        ensures { view result ≡ tree_data self }
+    {
+        let Tree { value } = self;
+        value
+    }
+
+    /// The value of a text.
+    pub fn read(alloc: Global, text: &str) -> Result<Tree, NoTree>
+        ensures ok { IfOk result (λ t. read text.now ≡ Some (tree_data t)) }
+        ensures depth { IfOk result (λ t. depth (tree_data t) ≤ max_depth) }
+        ensures none { result ≡ Err NotJson → read text.now ≡ None }
+    {
+        match Value::from_str(alloc, text) {
+            Ok(value) => Ok(Tree { value }),
+            Err(e) => {
+                if e.classify() == Category::Memory {
+                    Err(NoTree::OutOfMemory)
+                } else {
+                    Err(NoTree::NotJson)
+                }
+            }
+        }
+    }
+
+    /// What others may look into.
+    pub fn value(&self) -> &Value
+        ensures { view result.now ≡ tree_data self.now }
+    {
+        &self.value
+    }
+
+    pub fn text(alloc: Global, text: &str) -> Result<Tree, OutOfMemory>
+        ensures { IfOk result (λ t. tree_data t ≡ string text.now) }
+    {
+        Ok(Tree {
+            value: Value::try_from_str(alloc, text)?,
+        })
+    }
+
+    pub fn number(n: u64) -> Tree
+        ensures { tree_data result ≡ number (unsigned n) }
+    {
+        Tree {
+            value: Value::from(n),
+        }
+    }
+
+    pub fn boolean(b: bool) -> Tree
+        ensures { tree_data result ≡ boolean b }
+    {
+        Tree {
+            value: Value::Bool(b),
+        }
+    }
+
+    /// A copy of a value.
+    pub fn copy(value: &Value) -> Result<Tree, OutOfMemory>
+        ensures { IfOk result (λ t. tree_data t ≡ view value.now) }
+    {
+        Ok(Tree {
+            value: value.clone()?,
+        })
+    }
+
+    /// The compact text.
+    pub fn print(&self, alloc: Global) -> Result<Bytes, OutOfMemory>
+        ensures text { IfOk result (λ b. has_float (tree_data self.now) ≡ false
+            → b ≡ compact_text (tree_data self.now)) }
+    {
+        Ok(Bytes::from_vec(self.value.to_vec(alloc)?))
+    }
+
+    /// The same, as a text.
+    pub fn print_text(&self, alloc: Global) -> Result<Text, OutOfMemory>
+        ensures text { IfOk result (λ b. has_float (tree_data self.now) ≡ false
+            → b ≡ compact_text (tree_data self.now)) }
+    {
+        let text = self.value.to_string(alloc)?;
+        Text::new(alloc, text.as_str())
+    }
+}
