@@ -1,0 +1,2 @@
+//! Definitions of the canonical texts of objects, requests, replies and histories, and laws over them.
+#![tactic(auto)]
