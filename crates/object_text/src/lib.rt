@@ -1,0 +1,5 @@
+//! Objects as JSON.
+#![tactic(auto)]
+
+pub mod build;
+pub mod metadata;
