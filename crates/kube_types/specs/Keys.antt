@@ -1,5 +1,6 @@
 -- Keys of objects, in order.
-use Rattle.std.specs.Prelude.{ℕ, ◌==◌, List, Option, Bool, filter}
+use Rattle.std.specs.Prelude.{ℕ, ◌==◌, ◌<◌, ◌≤◌, List, Option, Bool, filter}
+use Rattle.std.specs.List.Sorted.{IsPartitionPoint}
 use Rattle.std.specs.declared.cmp.Ordering.{Ordering}
 use Rattle.std.specs.Ordering.{nat_cmp, ordering_then}
 use Rattle.plain_data.specs.Pairs.{text_cmp}
@@ -67,3 +68,7 @@ is_of_kind kind o = kind_index (kind_of o) == kind_index kind
 -- the objects of a kind, in the order of namespace and name
 abbrev pub rows_of : Kind → List Object → List Object
 rows_of kind os = filter (is_of_kind kind) os
+
+-- the objects of earlier kinds stand before this place, and those of this kind and of later ones from it on
+abbrev pub IsKindStart : ℕ → List Object → ℕ → Type 0
+IsKindStart index os i = IsPartitionPoint (λ o. kind_index (kind_of o) < index) (λ o. index ≤ kind_index (kind_of o)) os i

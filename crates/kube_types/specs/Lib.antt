@@ -1,3 +1,4 @@
 pub mod Bindings
 pub mod Keys
+pub mod Uids
 pub mod Words

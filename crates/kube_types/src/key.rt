@@ -1,11 +1,11 @@
 //! Keys of objects, and their order.
 
-ghost use Rattle.std.specs.Prelude.{◌≡◌, IfOk};
+ghost use Rattle.std.specs.Prelude.{◌≡◌, ◌<◌, IfOk};
 ghost use Rattle.kube_types.specs.Keys.{kind_index, kind_of, meta_of, key_of, key_cmp};
 
-use plain_data::copies::{OutOfMemory, Plain};
 use crate::objects::{Meta, Object};
 use crate::parts::Kind;
+use plain_data::copies::{OutOfMemory, Plain};
 use plain_data::rows::Ranked;
 use plain_data::text::Text;
 use std::alloc::Global;
@@ -75,7 +75,8 @@ pub fn kind_of(object: &Object) -> Kind
 
 /// The place of a kind in the order of kinds, from 0.
 pub fn kind_index(kind: Kind) -> u8
-    ensures { result ≡ kind_index kind }
+    ensures value { result ≡ kind_index kind }
+    ensures below { result < 5 }
 {
     match kind {
         Kind::StorageClass => 0,

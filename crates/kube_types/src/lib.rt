@@ -2,6 +2,7 @@
 #![tactic(auto)]
 
 pub mod key;
+pub mod lookup;
 pub mod names;
 pub mod objects;
 pub mod parts;

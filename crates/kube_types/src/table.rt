@@ -1,15 +1,19 @@
 //! Objects in the order of their keys.
 
-ghost use Rattle.std.specs.Prelude.{◌≡◌, IfOk, IfErr, IfNone, OnOk, OnErr, length};
+ghost use Rattle.std.specs.Prelude.{◌≡◌, ◌≤◌, ◌+◌, ℕ, [], IfOk, IfErr, IfNone, OnOk, OnErr, length, take, drop, slice_get};
 ghost use Rattle.std.specs.Option.{option_copied};
 ghost use Rattle.std.specs.List.Sorted.{IsSearchInRange};
-ghost use Rattle.kube_types.specs.Keys.{AreRows, IsRowAt, IsRowGap, key_of, row_at, put_row, without_row};
+ghost use Rattle.kube_types.specs.Keys.{AreRows, IsRowAt, IsRowGap, key_of, row_at, put_row, without_row, rows_of, IsKindStart};
 
-use crate::key::Key;
+use crate::key::{Key, key_of, kind_index, kind_of};
+use crate::lookup::Lookup;
 use crate::objects::Object;
+use crate::parts::Kind;
 use plain_data::copies::OutOfMemory;
-use plain_data::rows::{place_of, put_at};
+use plain_data::rows::{Ranked, place_of, put_at};
 use std::alloc::Global;
+use std::cmp::Ordering;
+use std::marker::Model;
 
 /// Where the row of the key is, or where it would stand.
 pub fn row_place(rows: &[Object], key: &Key) -> Result<usize, usize>
@@ -61,5 +65,144 @@ pub fn take_out(rows: &mut Vec<Object>, key: &Key) -> Option<Object>
     match row_place(rows, key) {
         Ok(at) => Some(rows.remove(at)),
         Err(_) => None,
+    }
+}
+
+/// The kinds from a place in the order of kinds on.
+#[derive(Clone, Copy)]
+struct KindsFrom {
+    index: u8,
+}
+
+impl Ranked<KindsFrom> for Object {
+    ghost use Rattle.std.specs.Prelude.{nat_lt, if◌then◌else◌};
+    ghost use Rattle.std.specs.declared.cmp.Ordering.TheVariants.{Less, Greater};
+    ghost use Rattle.kube_types.specs.Keys.{kind_index, kind_of};
+
+    ghost rank = { λ o k. if nat_lt (kind_index (kind_of o)) k.index then Less else Greater };
+
+    fn rank(&self, key: &KindsFrom) -> Ordering {
+        if kind_index(kind_of(self)) < key.index {
+            Ordering::Less
+        } else {
+            Ordering::Greater
+        }
+    }
+}
+
+/// Where the objects of the kinds from this place in the order of kinds on begin.
+fn kind_start(rows: &[Object], index: u8) -> usize
+    requires { AreRows rows.now }
+    ensures bound { result ≤ length rows.now }
+    ensures start { IsKindStart index rows.now result }
+{
+    match place_of(rows, &KindsFrom { index }) {
+        Ok(at) => at,
+        Err(at) => at,
+    }
+}
+
+/// Where the objects of a kind begin, and how many they are.
+fn kind_span(rows: &[Object], kind: Kind) -> (usize, usize)
+    requires { AreRows rows.now }
+    ensures bound { result.0 + result.1 ≤ length rows.now }
+    ensures span { rows_of kind rows.now ≡ take result.1 (drop result.0 rows.now) }
+{
+    let index = kind_index(kind);
+    let start = kind_start(rows, index);
+    let end = kind_start(rows, index + 1);
+    (start, end - start)
+}
+
+/// How many objects are of a kind.
+pub fn count_of_kind(rows: &[Object], kind: Kind) -> usize
+    requires { AreRows rows.now }
+    ensures { result ≡ length (rows_of kind rows.now) }
+{
+    kind_span(rows, kind).1
+}
+
+/// The object at a place among those of its kind, from 0.
+pub fn at_of_kind<'a>(rows: &'a [Object], kind: Kind, place: usize) -> Option<&'a Object>
+    requires { AreRows rows.now }
+    ensures { option_copied result ≡ slice_get (rows_of kind rows.now) place }
+{
+    let (start, count) = kind_span(rows, kind);
+    if place < count {
+        Some(&rows[start + place])
+    } else {
+        None
+    }
+}
+
+/// Objects in the order of their keys, no key twice. Contracts see the list of them.
+#[derive(Debug, Drop)]
+pub struct Table {
+    rows: Vec<Object>,
+}
+
+impl Model for Table {
+    ghost use Rattle.std.specs.Prelude.{List};
+    ghost use Rattle.kube_types.specs.declared.objects.Object.{Object};
+    ghost use Rattle.kube_types.specs.Keys.{AreRows};
+
+    ghost Value = { List Object };
+
+    ghost view = { λ t. t.rows.items };
+
+    ghost invariant = { λ t. AreRows t.rows.items };
+}
+
+impl Table {
+    /// A table without objects. It takes no memory.
+    pub fn new(alloc: Global) -> Table
+        ensures { result ≡ [] }
+    {
+        Table {
+            rows: Vec::new(alloc),
+        }
+    }
+
+    pub fn as_slice(&self) -> &[Object]
+        ensures rows { result.now ≡ self.now }
+        ensures order { AreRows self.now }
+    {
+        &self.rows
+    }
+
+    /// Puts the object in place of the one of its key, or in its place in the order, and answers a
+    /// copy of it.
+    pub fn put(&mut self, alloc: Global, object: Object) -> Result<Object, OutOfMemory>
+        ensures told { IfOk result (λ told. told ≡ object) }
+        ensures ok { OnOk result (self.new ≡ put_row object self.old) }
+        ensures err { OnErr result (self.new ≡ self.old) }
+    {
+        let key = key_of(alloc, &object)?;
+        put_in(alloc, &mut self.rows, &key, object)
+    }
+
+    /// Takes out the object of the key.
+    pub fn take(&mut self, key: &Key) -> Option<Object>
+        ensures taken { result ≡ row_at key.now self.old }
+        ensures without { self.new ≡ without_row key.now self.old }
+        ensures none { IfNone result (self.new ≡ self.old) }
+    {
+        take_out(&mut self.rows, key)
+    }
+}
+
+impl Lookup for Table {
+    ghost rows = { λ t. t };
+
+    fn count(&self, kind: Kind) -> usize {
+        count_of_kind(&self.rows, kind)
+    }
+
+    fn at(&self, kind: Kind, place: usize) -> Option<&Object> {
+        at_of_kind(&self.rows, kind, place)
+    }
+
+    fn row(&self, key: &Key) -> Option<&Object> {
+        row(&self.rows, key)
     }
 }

@@ -1,4 +1,4 @@
-use Rattle.std.proofs.Common.{◌≡◌, sym, ap, Some, get_or, ◌∙◌}
+use Rattle.std.proofs.Common.{sym, ap, Some, ◌∙◌}
 use Rattle.plain_data.proofs.RowFacts.{find_at, find_gap}
 use Rattle.kube_types.specs.Keys.{key_of}
 use Rattle.kube_types.proofs.KeyOrder.{key_cmp_total}

@@ -1,0 +1,38 @@
+//! Looking up objects.
+
+ghost use Rattle.std.specs.Prelude.{◌≡◌, List, length, slice_get};
+ghost use Rattle.std.specs.Option.{option_copied};
+ghost use Rattle.kube_types.specs.Keys.{AreRows, row_at, rows_of};
+ghost use Rattle.kube_types.specs.declared.objects.Object.{Object};
+
+use crate::key::Key;
+use crate::objects::Object;
+use crate::parts::Kind;
+
+/// Objects that can be looked up. `rows` are all of them, in the order of their keys.
+pub trait Lookup {
+    ghost rows: { Self → List Object };
+
+    /// How many objects of the kind there are.
+    fn count(&self, kind: Kind) -> usize
+        ensures count { result ≡ length (rows_of kind (rows self.now)) }
+        ensures order { AreRows (rows self.now) };
+
+    /// The object at a place, from 0, among those of the kind in the order of namespace and name.
+    fn at(&self, kind: Kind, place: usize) -> Option<&Object>
+        ensures object { option_copied result ≡ slice_get (rows_of kind (rows self.now)) place }
+        ensures order { AreRows (rows self.now) };
+
+    /// The object of a key.
+    fn row(&self, key: &Key) -> Option<&Object>
+        ensures object { option_copied result ≡ row_at key.now (rows self.now) }
+        ensures order { AreRows (rows self.now) };
+}
+
+/// What is known of an object that was read by itself.
+#[derive(Clone, Copy, Debug)]
+pub enum Live<'a> {
+    NotAsked,
+    Absent,
+    Present(&'a Object),
+}
