@@ -16,7 +16,6 @@ use kube_types::pairs::Pairs;
 use kube_types::text::Text;
 use kube_types::uid::Uid;
 use std::alloc::Global;
-use uuid::Uuid;
 
 /// A value that is printed as JSON.
 pub trait AsTree {
@@ -24,16 +23,16 @@ pub trait AsTree {
     ghost use Rattle.serde_json.specs.Data.{Data};
     ghost use Rattle.json_text.specs.Trees.{tree_data};
 
-    ghost data: { Self → Data };
+    ghost json: { Self → Data };
 
     fn tree(&self, alloc: Global) -> Result<Tree, OutOfMemory>
-        ensures { IfOk result (λ t. tree_data t ≡ data self.now) };
+        ensures { IfOk result (λ t. tree_data t ≡ json self.now) };
 }
 
 impl AsTree for Text {
     ghost use Rattle.serde_json.specs.Data.{string};
 
-    ghost data = { string };
+    ghost json = { string };
 
     fn tree(&self, alloc: Global) -> Result<Tree, OutOfMemory> {
         Tree::text(alloc, self.as_str())
@@ -43,22 +42,12 @@ impl AsTree for Text {
 impl AsTree for Uid {
     ghost use Rattle.text_model.specs.Metadata.{uid_data};
 
-    ghost data = { uid_data };
+    ghost json = { uid_data };
 
     fn tree(&self, alloc: Global) -> Result<Tree, OutOfMemory> {
-        uid_tree(alloc, *self)
+        let text = self.text(alloc)?;
+        Tree::text(alloc, text.as_str())
     }
-}
-
-#[tactic(auto, unfolding(text_model::specs::Metadata::uid_text))]
-fn uid_tree(alloc: Global, uid: Uid) -> Result<Tree, OutOfMemory>
-    ensures { IfOk result (λ t. tree_data t ≡ uid_data uid) }
-{
-    let mut buffer = Uuid::encode_buffer();
-    let text = Uuid::from_u128(uid.0)
-        .hyphenated()
-        .encode_lower(&mut buffer);
-    Tree::text(alloc, text)
 }
 
 /// The member, if there is one.
@@ -68,7 +57,7 @@ pub fn put_optional<T: AsTree>(
     key: &str,
     value: &Option<T>,
 ) -> Result<(), OutOfMemory>
-    ensures ok { OnOk result (fields out.new ≡ put_some key.now (option_map T.data value.now) (fields out.old)) }
+    ensures ok { OnOk result (fields out.new ≡ put_some key.now (option_map T.json value.now) (fields out.old)) }
 {
     match value {
         Some(value) => out.put_tree(alloc, key, value.tree(alloc)?),
@@ -106,7 +95,7 @@ pub fn put_counted(out: &mut Fields, alloc: Global, key: &str, n: u64) -> Result
 
 /// The trees of a list.
 pub fn elements_of<T: AsTree>(alloc: Global, items: &[T]) -> Result<Elements, OutOfMemory>
-    ensures { IfOk result (λ e. elements e ≡ items_data T.data items.now) }
+    ensures { IfOk result (λ e. elements e ≡ items_data T.json items.now) }
 {
     let mut out = Elements::new(alloc);
     for item in items {
@@ -122,7 +111,7 @@ pub fn put_list<T: AsTree>(
     key: &str,
     items: &[T],
 ) -> Result<(), OutOfMemory>
-    ensures ok { OnOk result (fields out.new ≡ put_some key.now (Some (array_data T.data items.now)) (fields out.old)) }
+    ensures ok { OnOk result (fields out.new ≡ put_some key.now (Some (array_data T.json items.now)) (fields out.old)) }
 {
     let items = elements_of(alloc, items)?;
     out.put_array(alloc, key, items)
@@ -135,7 +124,7 @@ pub fn put_filled_list<T: AsTree>(
     key: &str,
     items: &[T],
 ) -> Result<(), OutOfMemory>
-    ensures ok { OnOk result (fields out.new ≡ put_some key.now (filled_array T.data items.now) (fields out.old)) }
+    ensures ok { OnOk result (fields out.new ≡ put_some key.now (filled_array T.json items.now) (fields out.old)) }
 {
     if items.is_empty() {
         out.put_some(alloc, key, None)
@@ -158,7 +147,7 @@ pub fn pairs_tree(alloc: Global, pairs: &[(Text, Text)]) -> Result<Tree, OutOfMe
 impl AsTree for Pairs {
     ghost use Rattle.text_model.specs.Members.{pairs_data};
 
-    ghost data = { pairs_data };
+    ghost json = { pairs_data };
 
     fn tree(&self, alloc: Global) -> Result<Tree, OutOfMemory> {
         pairs_tree(alloc, self.as_slice())

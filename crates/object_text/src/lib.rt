@@ -2,4 +2,7 @@
 #![tactic(auto)]
 
 pub mod build;
+pub mod kinds;
 pub mod metadata;
+pub mod parts;
+pub mod print;

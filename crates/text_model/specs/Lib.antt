@@ -4,3 +4,7 @@ pub mod Parts
 pub mod Volumes
 pub mod Claims
 pub mod Objects
+pub mod Laws
+pub mod Requests
+pub mod Replies
+pub mod Entries

@@ -8,6 +8,10 @@ use Rattle.json_text.specs.Build.{put_some, put_all, number_data}
 use Rattle.json_text.specs.Trees.{members_in}
 use Rattle.plain_data.specs.Pairs.{Pair}
 
+-- names of members, and the values of those that are there
+abbrev pub MemberList : Type 0
+MemberList = List (List ℕ × Option Data)
+
 abbrev pub text : List ℕ → Option Data
 text s = Some (string s)
 
@@ -27,7 +31,7 @@ abbrev pub counted : ℕ → Option Data
 counted n = if n == 0 then None else text (decimal n)
 
 -- an object of these members alone
-abbrev pub object_of : List (List ℕ × Option Data) → Data
+abbrev pub object_of : MemberList → Data
 object_of ps = object (put_all ps no_members)
 
 -- an array of a list

@@ -1,2 +1,4 @@
 //! Definitions of the canonical texts of objects, requests, replies and histories, and laws over them.
 #![tactic(auto)]
+
+pub mod laws;
