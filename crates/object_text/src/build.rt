@@ -39,6 +39,16 @@ impl AsTree for Text {
     }
 }
 
+impl AsTree for u64 {
+    ghost use Rattle.json_text.specs.Build.{number_data};
+
+    ghost json = { number_data };
+
+    fn tree(&self, _alloc: Global) -> Result<Tree, OutOfMemory> {
+        Ok(Tree::number(*self))
+    }
+}
+
 impl AsTree for Uid {
     ghost use Rattle.text_model.specs.Metadata.{uid_data};
 

@@ -6,3 +6,4 @@ pub mod kinds;
 pub mod metadata;
 pub mod parts;
 pub mod print;
+pub mod rows;

@@ -8,3 +8,5 @@ pub mod Laws
 pub mod Requests
 pub mod Replies
 pub mod Entries
+pub mod Summaries
+pub mod Output
