@@ -2,5 +2,8 @@
 #![tactic(auto)]
 
 pub mod asks;
+pub mod counts;
 pub mod entries;
+pub mod lines;
 pub mod replies;
+pub mod summaries;

@@ -12,6 +12,7 @@ use Rattle.kube_types.specs.declared.parts.ClaimPhase.TheVariants as claim_phase
 use Rattle.kube_types.specs.declared.objects.Object.{Object}
 use Rattle.kube_types.specs.declared.objects.Object.TheVariants as objects
 use Rattle.kube_types.specs.declared.key.Key.{Key}
+use Rattle.kube_types.specs.declared.names.Due.{Due}
 use Rattle.text_model.specs.declared.summary.VolumeCounts.{VolumeCounts}
 use Rattle.text_model.specs.declared.summary.ClaimCounts.{ClaimCounts}
 use Rattle.text_model.specs.declared.summary.Ending.{Ending}
@@ -133,21 +134,32 @@ pods_line pods mounted = codes "pods " ++ (decimal pods ++ (codes " mounted " ++
 unfoldable pub data_line : ℕ → ℕ → List ℕ
 data_line stored calls = codes "data " ++ (decimal stored ++ (codes " calls " ++ decimal calls))
 
-unfoldable pub ending_line : Ending → List ℕ
-ending_line endings.Settled = codes "settled"
-ending_line (endings.Unsettled calls key due) =
+unfoldable pub unsettled_line : ℕ → Key → Due → List ℕ
+unsettled_line calls key due =
     codes "unsettled after " ++ (decimal calls
     ++ (codes " calls: " ++ (kind_word key.kind
     ++ (codes " " ++ (full_name key
     ++ (codes " " ++ due_word due))))))
 
-abbrev pub summary_lines : Summary → List (List ℕ)
-summary_lines s =
+abbrev pub ending_line : Ending → List ℕ
+ending_line endings.Settled = codes "settled"
+ending_line (endings.Unsettled calls key due) = unsettled_line calls key due
+
+abbrev pub count_lines : Summary → List (List ℕ)
+count_lines s =
     writes_line s.writes
     ∷ objects_line s.objects
     ∷ volumes_line s.volumes
     ∷ claims_line s.claims
-    ∷ pods_line s.pods s.mounted
+    ∷ []
+
+abbrev pub end_lines : Summary → List (List ℕ)
+end_lines s =
+    pods_line s.pods s.mounted
     ∷ data_line s.stored s.calls
     ∷ ending_line s.ending
     ∷ []
+
+-- the seven lines
+abbrev pub summary_lines : Summary → List (List ℕ)
+summary_lines s = count_lines s ++ end_lines s
