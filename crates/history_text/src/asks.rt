@@ -66,17 +66,17 @@ fn put_edit(out: &mut Fields, alloc: Global, edit: &Edit) -> Result<(), OutOfMem
         Edit::SetVolumeName(name) => out.put_text(alloc, "setVolumeName", name.as_str()),
         Edit::SetPolicy(policy) => out.put_text(alloc, "setPolicy", policy.name()),
         Edit::SetClaimRef { namespace, name } => {
-            out.put_tree(alloc, "setClaimRef", claim_ref_tree(alloc, namespace, name)?)
+            out.put_tree(
+                alloc,
+                "setClaimRef",
+                claim_ref_tree(alloc, namespace, name)?,
+            )
         }
         Edit::ClearClaimRef => out.put_boolean(alloc, "clearClaimRef", true),
     }
 }
 
-fn put_amount(
-    out: &mut Fields,
-    alloc: Global,
-    amount: &Option<Amount>,
-) -> Result<(), OutOfMemory>
+fn put_amount(out: &mut Fields, alloc: Global, amount: &Option<Amount>) -> Result<(), OutOfMemory>
     ensures ok { OnOk result (fields out.new
         ≡ put_some (codes "amount") (option_map amount_text amount.now) (fields out.old)) }
 {
@@ -213,24 +213,14 @@ fn put_list_ask(
     out.put_optional_text(alloc, "namespace", namespace)
 }
 
-fn put_watch(
-    out: &mut Fields,
-    alloc: Global,
-    kind: Kind,
-    from: Version,
-) -> Result<(), OutOfMemory>
+fn put_watch(out: &mut Fields, alloc: Global, kind: Kind, from: Version) -> Result<(), OutOfMemory>
     ensures ok { OnOk result (fields out.new ≡ put_all (watch_pairs kind from) (fields out.old)) }
 {
     out.put_text(alloc, "kind", kind.name())?;
     out.put_number(alloc, "from", from)
 }
 
-fn put_pod_node(
-    out: &mut Fields,
-    alloc: Global,
-    uid: Uid,
-    node: &Text,
-) -> Result<(), OutOfMemory>
+fn put_pod_node(out: &mut Fields, alloc: Global, uid: Uid, node: &Text) -> Result<(), OutOfMemory>
     ensures ok { OnOk result (fields out.new ≡ put_all (pod_node_pairs uid node.now) (fields out.old)) }
 {
     out.put_tree(alloc, "uid", uid.tree(alloc)?)?;

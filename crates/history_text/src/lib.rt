@@ -7,3 +7,5 @@ pub mod entries;
 pub mod lines;
 pub mod replies;
 pub mod summaries;
+#[cfg(test)]
+mod tests;

@@ -66,11 +66,7 @@ impl Lines {
 }
 
 /// Puts the lines of the entries at the end, the oldest first.
-pub fn push_entries(
-    lines: &mut Lines,
-    alloc: Global,
-    entries: &[Entry],
-) -> Result<(), OutOfMemory>
+pub fn push_entries(lines: &mut Lines, alloc: Global, entries: &[Entry]) -> Result<(), OutOfMemory>
     ensures ok { OnOk result (lines.new ≡ with_lines lines.old (map entry_line entries.now)) }
 {
     for entry in entries {
@@ -80,11 +76,7 @@ pub fn push_entries(
 }
 
 /// Puts the lines of the objects at the end, in their order.
-pub fn push_objects(
-    lines: &mut Lines,
-    alloc: Global,
-    objects: &[Object],
-) -> Result<(), OutOfMemory>
+pub fn push_objects(lines: &mut Lines, alloc: Global, objects: &[Object]) -> Result<(), OutOfMemory>
     ensures ok { OnOk result (lines.new ≡ with_lines lines.old (map object_line objects.now)) }
 {
     for object in objects {
@@ -125,11 +117,7 @@ pub fn push_final(
 }
 
 /// The text of a history.
-pub fn print_history(
-    alloc: Global,
-    setup: &Setup,
-    entries: &[Entry],
-) -> Result<Bytes, OutOfMemory>
+pub fn print_history(alloc: Global, setup: &Setup, entries: &[Entry]) -> Result<Bytes, OutOfMemory>
     ensures { IfOk result (λ b. b ≡ history_text setup.now entries.now) }
 {
     let mut lines = Lines::new(alloc);

@@ -32,11 +32,7 @@ fn volumes_line(alloc: Global, counts: &VolumeCounts) -> Result<String, OutOfMem
 {
     Ok(format!(in alloc;
         "volumes Pending {} Available {} Bound {} Released {} Failed {}",
-        counts.pending,
-        counts.available,
-        counts.bound,
-        counts.released,
-        counts.failed
+        counts.pending, counts.available, counts.bound, counts.released, counts.failed
     )?)
 }
 
@@ -46,9 +42,7 @@ fn claims_line(alloc: Global, counts: &ClaimCounts) -> Result<String, OutOfMemor
 {
     Ok(format!(in alloc;
         "claims Pending {} Bound {} Lost {}",
-        counts.pending,
-        counts.bound,
-        counts.lost
+        counts.pending, counts.bound, counts.lost
     )?)
 }
 

@@ -76,12 +76,7 @@ pub fn put_optional<T: AsTree>(
 }
 
 /// The member, left out where the text is empty.
-pub fn put_filled(
-    out: &mut Fields,
-    alloc: Global,
-    key: &str,
-    text: &str,
-) -> Result<(), OutOfMemory>
+pub fn put_filled(out: &mut Fields, alloc: Global, key: &str, text: &str) -> Result<(), OutOfMemory>
     ensures ok { OnOk result (fields out.new ≡ put_some key.now (filled text.now) (fields out.old)) }
 {
     if text.is_empty() {

@@ -9,7 +9,10 @@ ghost use Rattle.text_model.specs.Volumes.{volume_front, volume_back, volume_spe
 ghost use Rattle.text_model.specs.Claims.{claim_front, claim_back, got_modes, claim_spec, claim_status, claim_data};
 ghost use Rattle.text_model.specs.Objects.{binding_mode, class_back, class_data, pod_spec, pod_data, node_data, object_data};
 
-use crate::build::{AsTree, extra_fields, put_filled, put_filled_list, put_filled_object, put_filled_pairs, put_optional};
+use crate::build::{
+    AsTree, extra_fields, put_filled, put_filled_list, put_filled_object, put_filled_pairs,
+    put_optional,
+};
 use crate::metadata::meta_tree;
 use crate::parts::{modes_tree, requests_tree, volume_mode};
 use json_text::build::Fields;
@@ -153,7 +156,14 @@ impl AsTree for Claim {
     #[tactic(auto, unfolding(text_model::specs::Claims::claim_data))]
     fn tree(&self, alloc: Global) -> Result<Tree, OutOfMemory> {
         let mut out = Fields::new(alloc);
-        put_head(&mut out, alloc, "v1", "PersistentVolumeClaim", true, &self.meta)?;
+        put_head(
+            &mut out,
+            alloc,
+            "v1",
+            "PersistentVolumeClaim",
+            true,
+            &self.meta,
+        )?;
         out.put_tree(alloc, "spec", claim_spec(alloc, self)?)?;
         out.put_tree(alloc, "status", claim_status(alloc, self)?)?;
         Ok(out.into_tree())
@@ -164,7 +174,11 @@ impl AsTree for Claim {
 pub fn binding_mode(delayed: bool) -> &'static str
     ensures { result.now ≡ binding_mode delayed }
 {
-    if delayed { "WaitForFirstConsumer" } else { "Immediate" }
+    if delayed {
+        "WaitForFirstConsumer"
+    } else {
+        "Immediate"
+    }
 }
 
 fn put_class_back(out: &mut Fields, alloc: Global, class: &Class) -> Result<(), OutOfMemory>
@@ -184,7 +198,14 @@ impl AsTree for Class {
     #[tactic(auto, unfolding(text_model::specs::Objects::class_data))]
     fn tree(&self, alloc: Global) -> Result<Tree, OutOfMemory> {
         let mut out = extra_fields(alloc, self.extra.as_str())?;
-        put_head(&mut out, alloc, "storage.k8s.io/v1", "StorageClass", false, &self.meta)?;
+        put_head(
+            &mut out,
+            alloc,
+            "storage.k8s.io/v1",
+            "StorageClass",
+            false,
+            &self.meta,
+        )?;
         put_class_back(&mut out, alloc, self)?;
         Ok(out.into_tree())
     }
@@ -222,7 +243,12 @@ impl AsTree for Node {
     fn tree(&self, alloc: Global) -> Result<Tree, OutOfMemory> {
         let mut out = Fields::new(alloc);
         put_head(&mut out, alloc, "v1", "Node", false, &self.meta)?;
-        put_filled_object(&mut out, alloc, "spec", extra_fields(alloc, self.extra.as_str())?)?;
+        put_filled_object(
+            &mut out,
+            alloc,
+            "spec",
+            extra_fields(alloc, self.extra.as_str())?,
+        )?;
         Ok(out.into_tree())
     }
 }

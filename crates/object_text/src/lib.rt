@@ -7,3 +7,5 @@ pub mod metadata;
 pub mod parts;
 pub mod print;
 pub mod rows;
+#[cfg(test)]
+mod tests;
