@@ -7,7 +7,7 @@ use lib.ListN.{get_elem?}
 use Rattle.atomic_table.proofs.Lists.{set_here, set_else}
 use Rattle.seat_lock.specs.declared.keeps.Entry.{Entry}
 use Rattle.seat_lock.specs.declared.known.Known.{Known}
-use Rattle.seat_lock.specs.Rule.{Tie, Own, Held, Met, IsMet, HasNumber, IsPlaced, is_live}
+use Rattle.seat_lock.specs.Rule.{Tie, Own, Held, Met, IsMet, HasNumber, IsPlaced, live_count}
 use Rattle.seat_lock.proofs.Views.{at_below}
 
 module _ {E : Type 0} where
@@ -34,14 +34,14 @@ module _ {A R B : Type 0} where
   numbers_stay n Held v w number held met h = held h.0 h.1
   numbers_stay n Met v w number held met h = met h
 
-  pub place_stays : (vs : List (Known A R B)) (me : ℕ) (v w : Known A R B) (n : ℕ) (x : ℕ × Tie) → get_elem? vs me ≡ some v → is_live w.stage ≡ 1 → (HasNumber n x.1 v → HasNumber n x.1 w) → IsPlaced vs n x → IsPlaced (set vs me w) n x
-  place_stays vs me v w n x at live keep old = found_stays (λ u. (is_live u.stage ≡ 1) × HasNumber n x.1 u) vs me v w x.0 at (λ h. (live, keep h.1)) old
+  pub place_stays : (vs : List (Known A R B)) (me : ℕ) (v w : Known A R B) (n : ℕ) (x : ℕ × Tie) → get_elem? vs me ≡ some v → live_count w.stage ≡ 1 → (HasNumber n x.1 v → HasNumber n x.1 w) → IsPlaced vs n x → IsPlaced (set vs me w) n x
+  place_stays vs me v w n x at live keep old = found_stays (λ u. (live_count u.stage ≡ 1) × HasNumber n x.1 u) vs me v w x.0 at (λ h. (live, keep h.1)) old
 
   -- the same where the view has the numbers that it had
   abbrev pub numbers_of : Known A R B → ℕ × ℕ × ℕ × List (ℕ × List (Entry A R))
   numbers_of v = (v.number, v.from, v.upto, v.met)
 
-  pub same_place : (vs : List (Known A R B)) (me : ℕ) (v w : Known A R B) (n : ℕ) (x : ℕ × Tie) → get_elem? vs me ≡ some v → is_live w.stage ≡ 1 → numbers_of w ≡ numbers_of v → IsPlaced vs n x → IsPlaced (set vs me w) n x
+  pub same_place : (vs : List (Known A R B)) (me : ℕ) (v w : Known A R B) (n : ℕ) (x : ℕ × Tie) → get_elem? vs me ≡ some v → live_count w.stage ≡ 1 → numbers_of w ≡ numbers_of v → IsPlaced vs n x → IsPlaced (set vs me w) n x
   same_place vs me v w n x at live same old =
       let from : w.from ≡ v.from = ap (λ z. z.1) same in let upto : w.upto ≡ v.upto = ap (λ z. z.2) same in
       place_stays vs me v w n x at live (numbers_stay n x.1 v w (ap (λ z. z.0) same) (λ a b. (omega arith, omega arith)) (subst (IsMet n) (sym (ap (λ z. z.3) same)))) old
