@@ -41,7 +41,10 @@ impl Counter {
 
     fn has(&self, seat: u64, ask: u64, answer: u64, at: usize) -> bool {
         match self.log.get(at) {
-            Some(entry) => entry.seat == seat && entry.ask == ask && entry.answer == answer && entry.told,
+            Some(entry) => entry.seat == seat
+                && entry.ask == ask
+                && entry.answer == answer
+                && entry.told,
             None => false,
         }
     }
@@ -106,13 +109,25 @@ fn two_passes<R: Abort>(rt: &R, alloc: Global) -> (SeatLock<Counter>, Mine, Mine
 }
 
 /// An end of the lock that is refused: what comes back, and how many passes are missing.
-fn refused<R: Abort>(rt: &R, alloc: Global, lock: SeatLock<Counter>, pass: Mine) -> (SeatLock<Counter>, Mine, u64)
+fn refused<R: Abort>(
+    rt: &R,
+    alloc: Global,
+    lock: SeatLock<Counter>,
+    pass: Mine,
+) -> (SeatLock<Counter>, Mine, u64)
     requires { IsPassOf lock pass }
     ensures lock { result.0 ≡ lock }
     ensures pass { IsPassOf lock result.1 }
 {
     let passes = vec![in alloc; pass].expect(rt, "memory");
-    let Err(StillShared { lock, mut passes, missing }) = lock.close(passes) else {
+    let Err(
+        StillShared {
+            lock,
+            mut passes,
+            missing,
+        },
+    ) = lock.close(passes)
+    else {
         panic!(rt; "a pass is missing")
     };
     let Some(pass) = passes.pop() else {
@@ -129,7 +144,13 @@ fn add<R: Wait>(rt: &R, lock: &SeatLock<Counter>, pass: &mut Mine, ask: u64) -> 
 }
 
 /// The end of the lock, with these passes.
-fn close<R: Abort>(rt: &R, alloc: Global, lock: SeatLock<Counter>, first: Mine, second: Mine) -> Counter
+fn close<R: Abort>(
+    rt: &R,
+    alloc: Global,
+    lock: SeatLock<Counter>,
+    first: Mine,
+    second: Mine,
+) -> Counter
     requires { IsPassOf lock first × IsPassOf lock second }
 {
     let passes = vec![in alloc; first, second].expect(rt, "memory");
@@ -155,7 +176,10 @@ fn a_fork_and_a_meeting(rt: HostRuntime) {
     let alloc = rt.alloc();
     let (lock, mut first, second) = two_passes(&rt, alloc);
     let mut fork = lock.fork(&mut first);
-    assert_eq!(rt; (first.forks(), fork.forks(), fork.number()), (4_294_967_295, 0, 3));
+    assert_eq!(rt;
+        (first.forks(), fork.forks(), fork.number()),
+        (4_294_967_295, 0, 3)
+    );
     assert_eq!(rt; add(&rt, &lock, &mut fork, 5), Some(15));
     lock.meet(&mut first, fork);
     assert_eq!(rt; (first.number(), first.met()), (1, 1));
@@ -185,7 +209,12 @@ fn work<R: Wait>(rt: &R, lock: &SeatLock<Counter>, pass: Mine) -> Mine
     pass
 }
 
-fn both<R: Threads + Wait + Sync>(rt: &R, lock: &SeatLock<Counter>, a: Mine, b: Mine) -> (Mine, Mine)
+fn both<R: Threads + Wait + Sync>(
+    rt: &R,
+    lock: &SeatLock<Counter>,
+    a: Mine,
+    b: Mine,
+) -> (Mine, Mine)
     requires { IsPassOf lock.now a × IsPassOf lock.now b }
     ensures { IsPassOf lock.now result.0 × IsPassOf lock.now result.1 }
 {
