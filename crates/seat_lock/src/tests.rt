@@ -27,7 +27,8 @@ impl Model for Counter {
 
     ghost view = { λ c. (c.first, reverse c.log.items) };
 
-    ghost invariant = { λ c. IsSummed c.first (reverse c.log.items) × (c.sum ≡ sum_of c.first (reverse c.log.items)) };
+    ghost invariant = { λ c. IsSummed c.first (reverse c.log.items)
+        × (c.sum ≡ sum_of c.first (reverse c.log.items)) };
 }
 
 impl Counter {
