@@ -6,3 +6,5 @@ pub mod entry;
 pub mod reply;
 pub mod request;
 pub mod setup;
+#[cfg(test)]
+mod tests;

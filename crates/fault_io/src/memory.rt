@@ -55,6 +55,13 @@ impl MemorySource {
         })
     }
 
+    /// What is left to be read.
+    pub fn left(&self) -> &[u8]
+        ensures { result.now ≡ self.now.left }
+    {
+        &self.bytes[self.at..]
+    }
+
     /// How many reads failed.
     pub fn faults(&self) -> u64
         ensures { result ≡ self.now.faults }
@@ -128,6 +135,13 @@ impl MemorySink {
         ensures { result.now ≡ self.now.written }
     {
         &self.bytes
+    }
+
+    /// How many more bytes it takes.
+    pub fn room(&self) -> usize
+        ensures { result ≡ self.now.room }
+    {
+        self.room
     }
 
     /// How many writes failed.

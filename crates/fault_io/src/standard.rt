@@ -1,6 +1,11 @@
 //! Sources and sinks over std's readers and writers, such as standard input and output. They tell no content.
 
-ghost use Rattle.std.specs.Prelude.{◌≡◌};
+ghost use Rattle.std.specs.Prelude.{◌≡◌, ◌<◌, length, None, Ok, OnOk};
+ghost use Rattle.std.specs.Io.{ReadsAtMost, WritesAtMost};
+ghost use Rattle.std.specs.Io.KnownBytes.{ReadConsumes, WriteAppends};
+ghost use Rattle.fault_io.specs.Faults.{HasCause, Rose};
+ghost use Rattle.fault_io.specs.Reading.{Reads};
+ghost use Rattle.fault_io.specs.Writing.{Writes};
 
 use crate::ends::{Failed, Sink, Source};
 use std::io::{Read, Write};
@@ -28,13 +33,19 @@ impl<R: Read> StdSource<R> {
 }
 
 impl<R: Read> Source for StdSource<R> {
-    ghost use Rattle.std.specs.Prelude.{None};
-
     ghost left = { λ _. None };
 
     ghost faults = { λ s. s.faults };
 
-    fn read(&mut self, buf: &mut [u8]) -> Result<usize, Failed> {
+    fn read(&mut self, buf: &mut [u8]) -> Result<usize, Failed>
+        ensures bound { ReadsAtMost result buf.new }
+        ensures bytes { Reads None None result buf.new }
+        ensures cause { HasCause self.old.faults self.new.faults result }
+
+        // What the reader gave, where it tells that.
+        ensures given { ReadConsumes (R.remaining self.old.inner) (R.remaining self.new.inner) result buf.new }
+        ensures unfailed { OnOk result (self.new.faults ≡ self.old.faults) }
+    {
         match self.inner.read(buf) {
             Ok(count) => Ok(count),
             Err(_) => {
@@ -68,13 +79,20 @@ impl<W: Write> StdSink<W> {
 }
 
 impl<W: Write> Sink for StdSink<W> {
-    ghost use Rattle.std.specs.Prelude.{None};
-
     ghost written = { λ _. None };
 
     ghost faults = { λ s. s.faults };
 
-    fn write(&mut self, bytes: &[u8]) -> Result<usize, Failed> {
+    fn write(&mut self, bytes: &[u8]) -> Result<usize, Failed>
+        ensures bound { WritesAtMost result bytes.now }
+        ensures bytes { Writes None None result bytes.now }
+        ensures cause { HasCause self.old.faults self.new.faults result }
+        ensures stuck { result ≡ Ok 0 → 0 < length bytes.now → Rose self.old.faults self.new.faults }
+
+        // What the writer took, where it tells that.
+        ensures taken { WriteAppends (W.contents self.old.inner) (W.contents self.new.inner) result bytes.now }
+        ensures unfailed { OnOk result (self.new.faults ≡ self.old.faults) }
+    {
         match self.inner.write(bytes) {
             Ok(count) if count > 0 || bytes.is_empty() => Ok(count),
             _ => {

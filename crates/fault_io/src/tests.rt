@@ -40,7 +40,7 @@ fn reads_and_writes_memory(rt: HostRuntime) -> Result<(), Fail> {
     ] {
         assert_eq!(rt; write_all(&mut sink, text), want);
     }
-    assert_eq!(rt; sink.faults(), 2);
+    assert_eq!(rt; (sink.faults(), sink.room()), (2, 0));
     let end = b"abcdefghijklmnopqrstuvwx".as_slice();
     assert!(rt; sink.written().len() == 100 && sink.written().ends_with(end));
     NoGate.before(1, 1);

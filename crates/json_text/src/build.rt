@@ -1,6 +1,6 @@
 //! Objects and arrays as they grow.
 
-ghost use Rattle.std.specs.Prelude.{◌≡◌, OnOk, IfOk, Some, option_map};
+ghost use Rattle.std.specs.Prelude.{◌≡◌, OnOk, OnErr, IfOk, Some, option_map};
 ghost use Rattle.serde_json.specs.Data.{boolean, number, unsigned, string, object, array, no_members, no_items, put as put_member};
 ghost use Rattle.serde_json.specs.Find.{as_object};
 ghost use Rattle.serde_json.specs.View.{view, members_view};
@@ -13,12 +13,13 @@ use plain_data::text::Text;
 use serde_json::{Map, Value, put};
 use std::alloc::{AllocError, Global};
 
-/// Names that are known.
+/// Which names of members are known to a reader, which keeps the others as they are.
 pub trait KnownNames {
     ghost use Rattle.std.specs.Prelude.{ℕ, List, Bool};
 
     ghost known: { Self → List ℕ → Bool };
 
+    /// Whether the name is known.
     fn is_known(&self, name: &str) -> bool
         ensures { result ≡ known self.now name.now };
 }
@@ -52,6 +53,7 @@ impl Drop for Fields {
 }
 
 impl Fields {
+    /// No members. It takes no memory.
     pub fn new(alloc: Global) -> Fields
         ensures { fields result ≡ no_members }
     {
@@ -79,8 +81,10 @@ impl Fields {
         }
     }
 
+    /// With the member, over any of that name.
     pub fn put(&mut self, alloc: Global, key: &str, value: Tree) -> Result<(), OutOfMemory>
         ensures ok { OnOk result (fields self.new ≡ put_member key.now (tree_data value) (fields self.old)) }
+        ensures err { OnErr result (fields self.new ≡ fields self.old) }
     {
         put(&mut self.map, alloc, key, value.into_value())?;
         Ok(())
@@ -110,6 +114,7 @@ impl Fields {
     ) -> Result<(), OutOfMemory>
         ensures ok { OnOk result (fields self.new
             ≡ put_some key.now (option_map tree_data value) (fields self.old)) }
+        ensures err { OnErr result (fields self.new ≡ fields self.old) }
     {
         match value {
             Some(value) => self.put(alloc, key, value),
@@ -117,9 +122,10 @@ impl Fields {
         }
     }
 
-    /// With a text as the member, over any that stood there.
+    /// With a text as the member.
     pub fn put_text(&mut self, alloc: Global, key: &str, text: &str) -> Result<(), OutOfMemory>
         ensures ok { OnOk result (fields self.new ≡ put_some key.now (Some (string text.now)) (fields self.old)) }
+        ensures err { OnErr result (fields self.new ≡ fields self.old) }
     {
         let value = Tree::text(alloc, text)?;
         self.put_some(alloc, key, Some(value))
@@ -128,6 +134,7 @@ impl Fields {
     /// With a number as the member.
     pub fn put_number(&mut self, alloc: Global, key: &str, n: u64) -> Result<(), OutOfMemory>
         ensures ok { OnOk result (fields self.new ≡ put_some key.now (Some (number (unsigned n))) (fields self.old)) }
+        ensures err { OnErr result (fields self.new ≡ fields self.old) }
     {
         self.put_some(alloc, key, Some(Tree::number(n)))
     }
@@ -135,6 +142,7 @@ impl Fields {
     /// With a boolean as the member.
     pub fn put_boolean(&mut self, alloc: Global, key: &str, b: bool) -> Result<(), OutOfMemory>
         ensures ok { OnOk result (fields self.new ≡ put_some key.now (Some (boolean b)) (fields self.old)) }
+        ensures err { OnErr result (fields self.new ≡ fields self.old) }
     {
         self.put_some(alloc, key, Some(Tree::boolean(b)))
     }
@@ -142,6 +150,7 @@ impl Fields {
     /// With a tree as the member.
     pub fn put_tree(&mut self, alloc: Global, key: &str, value: Tree) -> Result<(), OutOfMemory>
         ensures ok { OnOk result (fields self.new ≡ put_some key.now (Some (tree_data value)) (fields self.old)) }
+        ensures err { OnErr result (fields self.new ≡ fields self.old) }
     {
         self.put_some(alloc, key, Some(value))
     }
@@ -154,6 +163,7 @@ impl Fields {
         items: Elements,
     ) -> Result<(), OutOfMemory>
         ensures ok { OnOk result (fields self.new ≡ put_some key.now (Some (array (elements items))) (fields self.old)) }
+        ensures err { OnErr result (fields self.new ≡ fields self.old) }
     {
         self.put_tree(alloc, key, items.into_tree())
     }
@@ -166,6 +176,7 @@ impl Fields {
         members: Fields,
     ) -> Result<(), OutOfMemory>
         ensures ok { OnOk result (fields self.new ≡ put_some key.now (Some (object (fields members))) (fields self.old)) }
+        ensures err { OnErr result (fields self.new ≡ fields self.old) }
     {
         self.put_tree(alloc, key, members.into_tree())
     }
@@ -179,6 +190,7 @@ impl Fields {
     ) -> Result<(), OutOfMemory>
         ensures ok { OnOk result (fields self.new
             ≡ put_some key.now (option_map string text.now) (fields self.old)) }
+        ensures err { OnErr result (fields self.new ≡ fields self.old) }
     {
         match text {
             Some(text) => self.put_text(alloc, key, text.as_str()),
@@ -195,6 +207,7 @@ impl Fields {
     ) -> Result<(), OutOfMemory>
         ensures ok { OnOk result (fields self.new
             ≡ put_some key.now (option_map number_data n) (fields self.old)) }
+        ensures err { OnErr result (fields self.new ≡ fields self.old) }
     {
         match n {
             Some(n) => self.put_number(alloc, key, n),
@@ -202,12 +215,14 @@ impl Fields {
         }
     }
 
+    /// Whether there is no member.
     pub fn is_empty(&self) -> bool
         ensures { result ≡ is_empty (fields self.now) }
     {
         self.map.is_empty()
     }
 
+    /// The object of these members.
     pub fn into_tree(self) -> Tree
         ensures { tree_data result ≡ object (fields self) }
     {
@@ -229,6 +244,7 @@ impl Drop for Elements {
 }
 
 impl Elements {
+    /// No items. It takes no memory.
     pub fn new(alloc: Global) -> Elements
         ensures { elements result ≡ no_items }
     {
@@ -237,8 +253,10 @@ impl Elements {
         }
     }
 
+    /// With the value at the end.
     pub fn push(&mut self, value: Tree) -> Result<(), OutOfMemory>
         ensures ok { OnOk result (elements self.new ≡ with_item (elements self.old) (tree_data value)) }
+        ensures err { OnErr result (elements self.new ≡ elements self.old) }
     {
         self.list.push(value.into_value())?;
         Ok(())
@@ -247,6 +265,7 @@ impl Elements {
     /// With a text at the end.
     pub fn push_text(&mut self, alloc: Global, text: &str) -> Result<(), OutOfMemory>
         ensures ok { OnOk result (elements self.new ≡ with_item (elements self.old) (string text.now)) }
+        ensures err { OnErr result (elements self.new ≡ elements self.old) }
     {
         self.push(Tree::text(alloc, text)?)
     }
@@ -254,10 +273,12 @@ impl Elements {
     /// With a number at the end.
     pub fn push_number(&mut self, n: u64) -> Result<(), OutOfMemory>
         ensures ok { OnOk result (elements self.new ≡ with_item (elements self.old) (number (unsigned n))) }
+        ensures err { OnErr result (elements self.new ≡ elements self.old) }
     {
         self.push(Tree::number(n))
     }
 
+    /// The array of these items.
     pub fn into_tree(self) -> Tree
         ensures { tree_data result ≡ array (elements self) }
     {

@@ -18,10 +18,11 @@ use std::alloc::{AllocError, Global};
 #[derive(Clone, Copy, Debug)]
 pub enum NoTree {
     OutOfMemory,
+    /// It is no JSON text of at most 127 levels.
     NotJson,
 }
 
-/// A JSON value.
+/// A JSON value that is owned. Contracts see the data that it stands for, by `tree_data`.
 pub struct Tree {
     value: Value,
 }
@@ -47,7 +48,7 @@ impl Tree {
         value
     }
 
-    /// The value of a text.
+    /// The value of a text (RFC 8259). Of a name that stands twice in an object, the last member counts.
     pub fn read(alloc: Global, text: &str) -> Result<Tree, NoTree>
         ensures ok { IfOk result (λ t. read text.now ≡ Some (tree_data t)) }
         ensures depth { IfOk result (λ t. depth (tree_data t) ≤ max_depth) }
@@ -72,6 +73,7 @@ impl Tree {
         &self.value
     }
 
+    /// A text as a value.
     pub fn text(alloc: Global, text: &str) -> Result<Tree, OutOfMemory>
         ensures { IfOk result (λ t. tree_data t ≡ string text.now) }
     {
@@ -80,6 +82,7 @@ impl Tree {
         })
     }
 
+    /// A number as a value.
     pub fn number(n: u64) -> Tree
         ensures { tree_data result ≡ number (unsigned n) }
     {
@@ -88,6 +91,7 @@ impl Tree {
         }
     }
 
+    /// A boolean as a value.
     pub fn boolean(b: bool) -> Tree
         ensures { tree_data result ≡ boolean b }
     {
@@ -105,7 +109,7 @@ impl Tree {
         })
     }
 
-    /// The compact text.
+    /// The compact text: no blanks, members in the order of their names' bytes.
     pub fn print(&self, alloc: Global) -> Result<Bytes, OutOfMemory>
         ensures text { IfOk result (λ b. has_float (tree_data self.now) ≡ false
             → b ≡ compact_text (tree_data self.now)) }

@@ -4,7 +4,6 @@
 ghost use Rattle.std.specs.Prelude.{◌≡◌};
 ghost use Rattle.std.specs.List.{list_all, list_any};
 ghost use Rattle.std.specs.Option.{option_copied};
-ghost use Rattle.kube_types.specs.Bindings.{has_name};
 ghost use Rattle.label_rules.specs.Selectors.{admits, has_pair, holds, holds_by, is_one_of, selects, term_matches};
 
 use kube_types::items::Items;
@@ -64,7 +63,7 @@ fn has_pair(labels: &Pairs, key: &Text, value: &Text) -> bool
 {
     match labels.get(key.as_str()) {
         None => false,
-        Some(found) => value.as_str() == found.as_str(),
+        Some(found) => value.is(found.as_str()),
     }
 }
 
@@ -96,17 +95,6 @@ fn is_one_of(found: Option<&Text>, values: &Names) -> bool
 {
     match found {
         None => false,
-        Some(value) => has_name(value.as_str(), values),
+        Some(value) => values.contains(value.as_str()),
     }
-}
-
-fn has_name(name: &str, names: &Names) -> bool
-    ensures { result ≡ has_name name.now names.now }
-{
-    for item in names.as_slice() {
-        if item.as_str() == name {
-            return true;
-        }
-    }
-    false
 }

@@ -5,4 +5,6 @@ pub mod copies;
 pub mod items;
 pub mod pairs;
 pub mod rows;
+#[cfg(test)]
+mod tests;
 pub mod text;

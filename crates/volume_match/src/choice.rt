@@ -1,0 +1,145 @@
+//! The best volume for a claim.
+
+ghost use Rattle.std.specs.Prelude.{◌≡◌, ◌+◌, ◌≤◌, ◌<◌, length};
+ghost use Rattle.std.specs.List.{list_any};
+ghost use Rattle.std.specs.Option.{option_copied};
+ghost use Rattle.binder_model.specs.Matching.{IsBest, count_one, for_last, is_excluded, match_cmp, mode_count};
+ghost use Rattle.volume_match.specs.Scan.{IsBestBelow, is_open, is_preferred, volume_at};
+
+use crate::eligible::satisfies;
+use kube_types::bindings::is_for;
+use kube_types::lookup::Lookup;
+use kube_types::objects::{Claim, Node, Object, Volume};
+use kube_types::parts::{Kind, Modes};
+use std::cmp::Ordering;
+
+/// The place, among the volumes of the look-up, of the best eligible volume: those for the claim
+/// first, then those with fewer access modes, then the smaller ones, then by name. Places in
+/// `excluded` are passed over; with `only_own` only volumes that are for the claim are taken.
+pub fn best<L: Lookup>(
+    lookup: &L,
+    claim: &Claim,
+    node: Option<&Node>,
+    only_own: bool,
+    excluded: &[usize],
+) -> Option<usize>
+    ensures { IsBest (L.rows lookup.now) claim.now (option_copied node.entry) only_own excluded.now result }
+{
+    let mut best = None;
+    for place in 0..lookup.count(Kind::PersistentVolume) {
+        best = better(lookup, claim, node, only_own, excluded, best, place);
+    }
+    best
+}
+
+/// The best of the volumes up to this place and with it, where `before` is the best of those before.
+fn better<L: Lookup>(
+    lookup: &L,
+    claim: &Claim,
+    node: Option<&Node>,
+    only_own: bool,
+    excluded: &[usize],
+    before: Option<usize>,
+    place: usize,
+) -> Option<usize>
+    requires { IsBestBelow (L.rows lookup.now) claim.now (option_copied node) only_own excluded.now place before }
+    ensures { IsBestBelow (L.rows lookup.now) claim.now (option_copied node.entry) only_own excluded.now (place + 1) result }
+{
+    match volume_at(lookup, place) {
+        None => before,
+        Some(volume) => {
+            if is_open(volume, claim, node, only_own, excluded, place)
+                && is_preferred(lookup, claim, volume, before)
+            {
+                Some(place)
+            } else {
+                before
+            }
+        }
+    }
+}
+
+/// The volume at a place among the volumes.
+fn volume_at<L: Lookup>(lookup: &L, place: usize) -> Option<&Volume>
+    ensures { option_copied result ≡ volume_at (L.rows lookup.now) place }
+{
+    match lookup.at(Kind::PersistentVolume, place) {
+        Some(Object::Volume(volume)) => Some(volume),
+        _ => None,
+    }
+}
+
+/// Whether the volume at this place may be taken.
+fn is_open(
+    volume: &Volume,
+    claim: &Claim,
+    node: Option<&Node>,
+    only_own: bool,
+    excluded: &[usize],
+    place: usize,
+) -> bool
+    ensures { result ≡ is_open claim.now (option_copied node.entry) only_own excluded.now place volume.now }
+{
+    !is_excluded(excluded, place)
+        && (!only_own || is_for(volume, claim))
+        && satisfies(volume, claim, node)
+}
+
+fn is_excluded(excluded: &[usize], place: usize) -> bool
+    ensures { result ≡ is_excluded excluded.now place }
+{
+    for other in excluded {
+        if *other == place {
+            return true;
+        }
+    }
+    false
+}
+
+/// Whether the claim prefers the volume to the one that was the best before.
+fn is_preferred<L: Lookup>(
+    lookup: &L,
+    claim: &Claim,
+    volume: &Volume,
+    before: Option<usize>,
+) -> bool
+    ensures { result ≡ is_preferred (L.rows lookup.now) claim.now volume.now before }
+{
+    match before {
+        None => true,
+        Some(place) => match volume_at(lookup, place) {
+            None => true,
+            Some(other) => compare(claim, volume, other).is_lt(),
+        },
+    }
+}
+
+/// The order in which the claim prefers volumes.
+fn compare(claim: &Claim, left: &Volume, right: &Volume) -> Ordering
+    ensures { result ≡ match_cmp claim.now left.now right.now }
+{
+    for_last(left, claim)
+        .cmp(&for_last(right, claim))
+        .then(mode_count(left.modes).cmp(&mode_count(right.modes)))
+        .then(left.amount.bytes.cmp(&right.amount.bytes))
+        .then(left.meta.name.as_str().cmp(right.meta.name.as_str()))
+}
+
+fn for_last(volume: &Volume, claim: &Claim) -> u8
+    ensures { result ≡ for_last volume.now claim.now }
+{
+    if is_for(volume, claim) { 0 } else { 1 }
+}
+
+fn mode_count(modes: Modes) -> u8
+    ensures { result ≡ mode_count modes }
+{
+    count_one(modes.rwo) + count_one(modes.rox) + count_one(modes.rwx) + count_one(modes.rwop)
+}
+
+fn count_one(is_set: bool) -> u8
+    ensures value { result ≡ count_one is_set }
+    ensures bound { result ≤ 1 }
+{
+    if is_set { 1 } else { 0 }
+}
