@@ -1,2 +1,10 @@
+pub mod Changes
+pub mod Effects
+pub mod Givings
+pub mod Histories
+pub mod Identity
+pub mod Kept
+pub mod OnOutcome
 pub mod Steps
+pub mod Uids
 pub mod Versions

@@ -21,10 +21,11 @@ use Rattle.call_types.specs.declared.reply.Refusal.{Refusal}
 use Rattle.call_types.specs.declared.reply.Reply.{Reply}
 use Rattle.binder_model.specs.Store.{State, with_meta, at_version, marked, created, updated, admitted, without_status, with_status_of, leaves, leaves_at_once, class_name, default_class}
 use Rattle.binder_model.specs.Edits.{edited}
-use Rattle.binder_model.specs.Answers.{Outcome, Says, Stores, Removes, refuse, refuse_field, refuse_rule, refuse_stale, is_user, written, create, update, with_status, written_if_fits, update_status, edit_to, edit, delete_of, delete, get, list, pod_with, bind, finish, outcome, reply_of, after}
+use Rattle.binder_model.specs.Answers.{Outcome, Says, Stores, Removes, is_user, written, create, update, with_status, written_if_fits, update_status, edit_to, edit, delete_of, delete, get, list, pod_with, bind, finish, outcome, reply_of, after}
 use Rattle.binder_model.specs.Devices.{Answered, device_answer}
 use Rattle.binder_model.specs.Watching.{oldest}
 use Rattle.binder_model.specs.World.{World, Effect, OnStore, OnDevices, SetsMoment, effect, reply_to, world_after, logged, watch, on_devices, set_time, stale_epoch, is_time}
+use Rattle.model_laws.proofs.OnOutcome.{OnOutcome, OfAnswers, says, refused_or, field_or, rule_or, stale_or}
 use Rattle.model_laws.specs.Steps.{KeepsStore, WritesOnce, VersionsCountWrites}
 
 pub meta-with_meta : (o : Object) (m : Meta) → meta_of (with_meta o m) ≡ m
@@ -40,43 +41,16 @@ NextOf version (Says reply) = ⊤
 NextOf version (Stores change o) = (meta_of o).version ≡ version
 NextOf version (Removes o) = (meta_of o).version ≡ version
 
--- what is written stands at this version
-record IsNext (version : ℕ) (x : Outcome) : Type 0 where
-  next : NextOf version x
-
-says : (n : ℕ) (reply : Reply) → IsNext n (Says reply)
-says n reply = record { next = tt }
-
-refused_or : (n : ℕ) (b : Bool) (r : Refusal) (x : Outcome) → IsNext n x → IsNext n (refuse b r x)
-unfolding refuse
-refused_or n true r x k = says n _
-refused_or n false r x k = k
-
-field_or : (n : ℕ) (f : Option Field) (x : Outcome) → IsNext n x → IsNext n (refuse_field f x)
-unfolding refuse_field
-field_or n (Some f) x k = says n _
-field_or n None x k = k
-
-rule_or : (n : ℕ) (f : Option Rule) (x : Outcome) → IsNext n x → IsNext n (refuse_rule f x)
-unfolding refuse_rule
-rule_or n (Some f) x k = says n _
-rule_or n None x k = k
-
-stale_or : (n : ℕ) (f : Option ℕ) (x : Outcome) → IsNext n x → IsNext n (refuse_stale f x)
-unfolding refuse_stale
-stale_or n (Some f) x k = says n _
-stale_or n None x k = k
-
-wrote : (n : ℕ) (o : Object) → (meta_of o).version ≡ n → IsNext n (written o)
+wrote : (n : ℕ) (o : Object) → (meta_of o).version ≡ n → OnOutcome (NextOf n) (written o)
 wrote n o e = by_leaving (leaves o) refl
   where
-    by_leaving : (b : Bool) → leaves o ≡ b → IsNext n (written o)
-    by_leaving true is = rw is (record { next = e })
-    by_leaving false is = rw is (record { next = e })
+    by_leaving : (b : Bool) → leaves o ≡ b → OnOutcome (NextOf n) (written o)
+    by_leaving true is = rw is (record { holds = e })
+    by_leaving false is = rw is (record { holds = e })
 
-if_fits : (s : State) (o : Option Object) → IsNext (s.version + 1) (written_if_fits s o)
+if_fits : (s : State) (o : Option Object) → OnOutcome (NextOf (s.version + 1)) (written_if_fits s o)
 unfolding written_if_fits at_version
-if_fits s None = says _ _
+if_fits s None = says (λ r. tt) _
 if_fits s (Some o) = wrote _ _ (ap (λ m. m.version) (meta-with_meta o _))
 
 created_next : (default : Option (List ℕ)) (o : Object) (n : ℕ) (moment : List ℕ) → (meta_of (created default o n moment)).version ≡ n
@@ -91,57 +65,57 @@ marked_next : (o : Object) (n : ℕ) (moment : List ℕ) → (meta_of (marked o 
 unfolding marked
 marked_next o n moment = ap (λ m. m.version) (meta-with_meta o _)
 
-create_next : (s : State) (kind : SeatKind) (o : Object) (moment : List ℕ) (x : Option Object) → IsNext (s.version + 1) (create s kind o moment x)
+create_next : (s : State) (kind : SeatKind) (o : Object) (moment : List ℕ) (x : Option Object) → OnOutcome (NextOf (s.version + 1)) (create s kind o moment x)
 unfolding create
-create_next s kind o moment (Some old) = says _ _
-create_next s kind o moment None = rule_or _ _ _ (field_or _ _ _ (record { next = created_next _ o _ moment }))
+create_next s kind o moment (Some old) = says (λ r. tt) _
+create_next s kind o moment None = rule_or (λ r. tt) _ _ (field_or (λ r. tt) _ _ (λ e. record { holds = created_next _ o _ moment }))
 
-update_next : (s : State) (kind : SeatKind) (o : Object) (given : Option ℕ) (x : Option Object) → IsNext (s.version + 1) (update s kind o given x)
+update_next : (s : State) (kind : SeatKind) (o : Object) (given : Option ℕ) (x : Option Object) → OnOutcome (NextOf (s.version + 1)) (update s kind o given x)
 unfolding update
-update_next s kind o given None = says _ _
-update_next s kind o given (Some old) = refused_or _ _ _ _ (rule_or _ _ _ (field_or _ _ _ (wrote _ _ (updated_next old o _))))
+update_next s kind o given None = says (λ r. tt) _
+update_next s kind o given (Some old) = refused_or (λ r. tt) _ _ _ (rule_or (λ r. tt) _ _ (field_or (λ r. tt) _ _ (λ e. wrote _ _ (updated_next old o _))))
 
-status_next : (s : State) (kind : SeatKind) (status : NewStatus) (given : Option ℕ) (x : Option Object) → IsNext (s.version + 1) (update_status s kind status given x)
+status_next : (s : State) (kind : SeatKind) (status : NewStatus) (given : Option ℕ) (x : Option Object) → OnOutcome (NextOf (s.version + 1)) (update_status s kind status given x)
 unfolding update_status
-status_next s kind status given None = refused_or _ _ _ _ (says _ _)
-status_next s kind status given (Some old) = refused_or _ _ _ _ (refused_or _ _ _ _ (if_fits s _))
+status_next s kind status given None = refused_or (λ r. tt) _ _ _ (says (λ r. tt) _)
+status_next s kind status given (Some old) = refused_or (λ r. tt) _ _ _ (refused_or (λ r. tt) _ _ _ (if_fits s _))
 
-edit_next : (s : State) (kind : SeatKind) (change : Edit) (x : Option Object) → IsNext (s.version + 1) (edit s kind change x)
+edit_next : (s : State) (kind : SeatKind) (change : Edit) (x : Option Object) → OnOutcome (NextOf (s.version + 1)) (edit s kind change x)
 unfolding edit edit_to
-edit_next s kind change None = says _ _
+edit_next s kind change None = says (λ r. tt) _
 edit_next s kind change (Some old) = edited_next (edited change old)
   where
-    edited_next : (new : Option Object) → IsNext (s.version + 1) (edit_to s kind old new)
-    edited_next None = says _ _
-    edited_next (Some new) = rule_or _ _ _ (field_or _ _ _ (wrote _ _ (updated_next old new _)))
+    edited_next : (new : Option Object) → OnOutcome (NextOf (s.version + 1)) (edit_to s kind old new)
+    edited_next None = says (λ r. tt) _
+    edited_next (Some new) = rule_or (λ r. tt) _ _ (field_or (λ r. tt) _ _ (λ e. wrote _ _ (updated_next old new _)))
 
-delete_of_next : (s : State) (moment : List ℕ) (old : Object) (at_once deleting : Bool) → IsNext (s.version + 1) (delete_of s moment old at_once deleting)
+delete_of_next : (s : State) (moment : List ℕ) (old : Object) (at_once deleting : Bool) → OnOutcome (NextOf (s.version + 1)) (delete_of s moment old at_once deleting)
 unfolding delete_of
-delete_of_next s moment old true deleting = record { next = marked_next old _ moment }
-delete_of_next s moment old false true = says _ _
+delete_of_next s moment old true deleting = record { holds = marked_next old _ moment }
+delete_of_next s moment old false true = says (λ r. tt) _
 delete_of_next s moment old false false = wrote _ _ (marked_next old _ moment)
 
-delete_next : (s : State) (moment : List ℕ) (given : Option Uid) (x : Option Object) → IsNext (s.version + 1) (delete s moment given x)
+delete_next : (s : State) (moment : List ℕ) (given : Option Uid) (x : Option Object) → OnOutcome (NextOf (s.version + 1)) (delete s moment given x)
 unfolding delete
-delete_next s moment given None = says _ _
-delete_next s moment given (Some old) = refused_or _ _ _ _ (delete_of_next s moment old _ _)
+delete_next s moment given None = says (λ r. tt) _
+delete_next s moment given (Some old) = refused_or (λ r. tt) _ _ _ (delete_of_next s moment old _ _)
 
-get_next : (n : ℕ) (x : Option Object) → IsNext n (get x)
+get_next : (n : ℕ) (x : Option Object) → OnOutcome (NextOf n) (get x)
 unfolding get
-get_next n None = says _ _
-get_next n (Some o) = says _ _
+get_next n None = says (λ r. tt) _
+get_next n (Some o) = says (λ r. tt) _
 
-bind_next : (s : State) (node : List ℕ) (p : Option PodData) → IsNext (s.version + 1) (bind s node p)
+bind_next : (s : State) (node : List ℕ) (p : Option PodData) → OnOutcome (NextOf (s.version + 1)) (bind s node p)
 unfolding bind at_version
-bind_next s node None = says _ _
-bind_next s node (Some p) = refused_or _ _ _ _ (refused_or _ _ _ _ (record { next = ap (λ m. m.version) (meta-with_meta (Pod (record p { node = node })) _) }))
+bind_next s node None = says (λ r. tt) _
+bind_next s node (Some p) = refused_or (λ r. tt) _ _ _ (refused_or (λ r. tt) _ _ _ (record { holds = ap (λ m. m.version) (meta-with_meta (Pod (record p { node = node })) _) }))
 
-finish_next : (s : State) (stale : Option ℕ) (node : List ℕ) (p : Option PodData) → IsNext (s.version + 1) (finish s stale node p)
+finish_next : (s : State) (stale : Option ℕ) (node : List ℕ) (p : Option PodData) → OnOutcome (NextOf (s.version + 1)) (finish s stale node p)
 unfolding finish at_version
-finish_next s stale node None = says _ _
-finish_next s stale node (Some p) = stale_or _ _ _ (refused_or _ _ _ _ (refused_or _ _ _ _ (record { next = ap (λ m. m.version) (meta-with_meta (Pod p) _) })))
+finish_next s stale node None = says (λ r. tt) _
+finish_next s stale node (Some p) = stale_or (λ r. tt) _ _ (refused_or (λ r. tt) _ _ _ (refused_or (λ r. tt) _ _ _ (record { holds = ap (λ m. m.version) (meta-with_meta (Pod p) _) })))
 
-outcome_next : (s : State) (kind : SeatKind) (request : Request) (moment : List ℕ) (stale : Option ℕ) → IsNext (s.version + 1) (outcome s kind request moment stale)
+outcome_next : (s : State) (kind : SeatKind) (request : Request) (moment : List ℕ) (stale : Option ℕ) → OnOutcome (NextOf (s.version + 1)) (outcome s kind request moment stale)
 unfolding outcome list
 outcome_next s kind (requests.Create o) moment stale = create_next s kind o moment _
 outcome_next s kind (requests.Update o given) moment stale = update_next s kind o given _
@@ -149,23 +123,23 @@ outcome_next s kind (requests.UpdateStatus key status given) moment stale = stat
 outcome_next s kind (requests.Edit key change) moment stale = edit_next s kind change _
 outcome_next s kind (requests.Delete key given) moment stale = delete_next s moment given _
 outcome_next s kind (requests.Get key) moment stale = get_next _ _
-outcome_next s kind (requests.List k namespace) moment stale = says _ _
-outcome_next s kind (requests.BindPod key uid node) moment stale = refused_or _ _ _ _ (bind_next s node _)
-outcome_next s kind (requests.FinishPod key uid node epoch) moment stale = refused_or _ _ _ _ (finish_next s stale node _)
-outcome_next s kind _ moment stale = says _ _
+outcome_next s kind (requests.List k namespace) moment stale = says (λ r. tt) _
+outcome_next s kind (requests.BindPod key uid node) moment stale = refused_or (λ r. tt) _ _ _ (bind_next s node _)
+outcome_next s kind (requests.FinishPod key uid node epoch) moment stale = refused_or (λ r. tt) _ _ _ (finish_next s stale node _)
+outcome_next s kind _ moment stale = says (λ r. tt) _
 
 -- a write at the next version, or none
 record IsCounted (w : World) (x : Effect) : Type 0 where
   counted : KeepsStore w (world_after w x) ⊎ WritesOnce w (world_after w x) (reply_to x)
 
-store_counted : (w : World) (o : Outcome) → IsNext (w.store.version + 1) o → IsCounted w (OnStore o)
+store_counted : (w : World) (o : Outcome) → OnOutcome (NextOf (w.store.version + 1)) o → IsCounted w (OnStore o)
 unfolding reply_to world_after reply_of after logged
 store_counted w (Says reply) n = record { counted = inl (record { store = refl; log = refl }) }
-store_counted w (Stores change o) n = record { counted = inr (record { event = _; version = refl; log = refl; at = refl; next = n.next; told = inl refl }) }
-store_counted w (Removes o) n = record { counted = inr (record { event = _; version = refl; log = refl; at = refl; next = n.next; told = inr refl }) }
+store_counted w (Stores change o) n = record { counted = inr (record { event = _; version = refl; log = refl; at = refl; next = n.holds; told = inl refl }) }
+store_counted w (Removes o) n = record { counted = inr (record { event = _; version = refl; log = refl; at = refl; next = n.holds; told = inr refl }) }
 
 said : (w : World) (reply : Reply) → IsCounted w (OnStore (Says reply))
-said w reply = store_counted w (Says reply) (says _ _)
+said w reply = store_counted w (Says reply) (says (λ r. tt) reply)
 
 devices_counted : (w : World) (a : Answered) → IsCounted w (OnDevices a)
 unfolding world_after

@@ -3,6 +3,7 @@
 //! Each is a function with nothing to do, whose contract is the law.
 #![tactic(auto)]
 
+ghost use Rattle.model_laws.specs.Histories.{CallsKeepIdentity, RowsStandInOrder, UidsAreGivenOnce};
 ghost use Rattle.model_laws.specs.Steps.{RefusalsChangeNothing, VersionsCountWrites};
 
 /// A refusal changes nothing but the number of device calls.
@@ -16,5 +17,26 @@ pub fn refusals_change_nothing()
 #[tactic(auto, using(crate::proofs::Versions::versions_count_writes))]
 pub fn versions_count_writes()
     ensures { VersionsCountWrites }
+{
+}
+
+/// No key stands twice, and objects stand in the order of their keys.
+#[tactic(auto, using(crate::proofs::Histories::rows_stand_in_order))]
+pub fn rows_stand_in_order()
+    ensures { RowsStandInOrder }
+{
+}
+
+/// What stands under a key before a call and after it has one UID and one creation; a deletion timestamp stays, and
+/// the name of a claim's volume goes once from empty to a name.
+pub fn calls_keep_identity()
+    ensures { CallsKeepIdentity }
+{
+}
+
+/// No UID is given twice.
+#[tactic(auto, using(crate::proofs::Uids::uids_are_given_once))]
+pub fn uids_are_given_once()
+    ensures { UidsAreGivenOnce }
 {
 }
