@@ -115,9 +115,11 @@ bind_changes : (s : State) (key : Key) (node : List ℕ) (x : Option PodData) �
 unfolding bind
 bind_changes s key node None is = says (λ r. tt) _
 bind_changes s key node (Some p) is =
-    refused_or (λ r. tt) _ _ _ (refused_or (λ r. tt) _ _ _ (record { holds =
-        over s.rows key (Pod p) _ (is p refl) (key-at_version (Pod (record p { node = node })) _ ∙ row_at_key key (Pod p) s.rows (is p refl))
-        (at_version_keeps (Pod p) (Pod (record p { node = node })) _ refl tt) }))
+    refused_or (λ r. tt) _ _ _ (refused_or (λ r. tt) _ _ _ (record {
+      holds =
+          over s.rows key (Pod p) _ (is p refl) (key-at_version (Pod (record p { node = node })) _ ∙ row_at_key key (Pod p) s.rows (is p refl))
+          (at_version_keeps (Pod p) (Pod (record p { node = node })) _ refl tt);
+    }))
 
 finish_changes : (s : State) (stale : Option ℕ) (node : List ℕ) (x : Option PodData) → IsChange s.rows (finish s stale node x)
 unfolding finish

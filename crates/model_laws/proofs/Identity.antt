@@ -117,19 +117,21 @@ names_once old new e = tt
 pub updated_keeps : (old new : Object) (n : ℕ) → update_fault old new ≡ None → KeepsIdentity old (updated old new n)
 unfolding updated
 updated_keeps old new n e = record {
-    uid = ap (λ m. m.uid) (meta-with_meta (with_status_of old new) _);
-    created = ap (λ m. m.created) (meta-with_meta (with_status_of old new) _);
-    deleted = inr (ap (λ m. m.deleted) (meta-with_meta (with_status_of old new) _));
-    named = names-with_meta old _ _ (names-with_status_of old new (names_once old new e)) }
+  uid = ap (λ m. m.uid) (meta-with_meta (with_status_of old new) _);
+  created = ap (λ m. m.created) (meta-with_meta (with_status_of old new) _);
+  deleted = inr (ap (λ m. m.deleted) (meta-with_meta (with_status_of old new) _));
+  named = names-with_meta old _ _ (names-with_status_of old new (names_once old new e));
+}
 
 -- another version of an object keeps its identity
 pub at_version_keeps : (old new : Object) (n : ℕ) → meta_of new ≡ meta_of old → NamesOnce old new → KeepsIdentity old (at_version new n)
 unfolding at_version
 at_version_keeps old new n e named = record {
-    uid = ap (λ m. m.uid) (meta-with_meta new _) ∙ ap (λ m. m.uid) e;
-    created = ap (λ m. m.created) (meta-with_meta new _) ∙ ap (λ m. m.created) e;
-    deleted = inr (ap (λ m. m.deleted) (meta-with_meta new _) ∙ ap (λ m. m.deleted) e);
-    named = names-with_meta old new _ named }
+  uid = ap (λ m. m.uid) (meta-with_meta new _) ∙ ap (λ m. m.uid) e;
+  created = ap (λ m. m.created) (meta-with_meta new _) ∙ ap (λ m. m.created) e;
+  deleted = inr (ap (λ m. m.deleted) (meta-with_meta new _) ∙ ap (λ m. m.deleted) e);
+  named = names-with_meta old new _ named;
+}
 
 not_there : {X : Type 0} (o : Option X) → is_some o ≡ false → o ≡ None
 not_there None e = refl
@@ -139,10 +141,11 @@ not_there (Some x) e = absurd (true≢false e)
 pub marked_keeps : (old : Object) (n : ℕ) (moment : List ℕ) → is_deleting (meta_of old) ≡ false → KeepsIdentity old (marked old n moment)
 unfolding marked
 marked_keeps old n moment e = record {
-    uid = ap (λ m. m.uid) (meta-with_meta old _);
-    created = ap (λ m. m.created) (meta-with_meta old _);
-    deleted = inl (not_there (meta_of old).deleted e);
-    named = names-with_meta old old _ (names-own old) }
+  uid = ap (λ m. m.uid) (meta-with_meta old _);
+  created = ap (λ m. m.created) (meta-with_meta old _);
+  deleted = inl (not_there (meta_of old).deleted e);
+  named = names-with_meta old old _ (names-own old);
+}
 
 -- the changed object, if there is one, has the key
 abbrev pub IsKeyKept : Object → Option Object → Type 0

@@ -23,6 +23,7 @@ key_tells a b = by (key_cmp a b) refl
   where
     apart : (r : Ordering) → key_cmp a b ≡ r → is_eq r ≡ false → a ≢ b
     apart r e other is = true≢false (sym (ap is_eq (subst (λ k. key_cmp a k ≡ Equal) is (tied_itself key_cmp_total a))) ∙ ap is_eq e ∙ other)
+
     by : (r : Ordering) → key_cmp a b ≡ r → (a ≡ b) ⊎ (a ≢ b)
     by Less e = inr (apart Less e refl)
     by Equal e = inl (same_key a b e)

@@ -1,10 +1,12 @@
 pub mod Changes
 pub mod Effects
+pub mod Epochs
 pub mod Givings
 pub mod Histories
 pub mod Identity
 pub mod Kept
 pub mod OnOutcome
+pub mod Readings
 pub mod Steps
 pub mod Uids
 pub mod Versions

@@ -4,39 +4,50 @@
 #![tactic(auto)]
 
 ghost use Rattle.model_laws.specs.Histories.{CallsKeepIdentity, RowsStandInOrder, UidsAreGivenOnce};
+ghost use Rattle.model_laws.specs.Reads.{EpochsRise, GetsTellWhatStands, ListsTellWhatStands};
 ghost use Rattle.model_laws.specs.Steps.{RefusalsChangeNothing, VersionsCountWrites};
 
 /// A refusal changes nothing but the number of device calls.
 #[tactic(auto, using(crate::proofs::Steps::refusals_change_nothing))]
 pub fn refusals_change_nothing()
     ensures { RefusalsChangeNothing }
-{
-}
+{}
 
 /// The version rises by one at each write that succeeds, and at nothing else.
 #[tactic(auto, using(crate::proofs::Versions::versions_count_writes))]
 pub fn versions_count_writes()
     ensures { VersionsCountWrites }
-{
-}
+{}
 
 /// No key stands twice, and objects stand in the order of their keys.
 #[tactic(auto, using(crate::proofs::Histories::rows_stand_in_order))]
 pub fn rows_stand_in_order()
     ensures { RowsStandInOrder }
-{
-}
+{}
 
 /// What stands under a key before a call and after it has one UID and one creation; a deletion timestamp stays, and
 /// the name of a claim's volume goes once from empty to a name.
 pub fn calls_keep_identity()
     ensures { CallsKeepIdentity }
-{
-}
+{}
 
 /// No UID is given twice.
 #[tactic(auto, using(crate::proofs::Uids::uids_are_given_once))]
 pub fn uids_are_given_once()
     ensures { UidsAreGivenOnce }
-{
-}
+{}
+
+/// A Get tells what stands in the store at that moment.
+pub fn gets_tell_what_stands()
+    ensures { GetsTellWhatStands }
+{}
+
+/// A list has the objects of its kind and namespace that stand in the store at that moment, and tells its version.
+pub fn lists_tell_what_stands()
+    ensures { ListsTellWhatStands }
+{}
+
+/// Each epoch of a node is told once, and later ones are greater: so it is told to at most one seat.
+pub fn epochs_rise()
+    ensures { EpochsRise }
+{}
