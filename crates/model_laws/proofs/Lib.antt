@@ -8,5 +8,7 @@ pub mod Kept
 pub mod OnOutcome
 pub mod Readings
 pub mod Steps
+pub mod Stored
 pub mod Uids
 pub mod Versions
+pub mod Watched

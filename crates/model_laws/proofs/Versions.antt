@@ -36,7 +36,7 @@ meta-with_meta (Volume x) m = refl
 meta-with_meta (Claim x) m = refl
 meta-with_meta (Pod x) m = refl
 
-abbrev NextOf : ℕ → Outcome → Type 0
+abbrev pub NextOf : ℕ → Outcome → Type 0
 NextOf version (Says reply) = ⊤
 NextOf version (Stores change o) = (meta_of o).version ≡ version
 NextOf version (Removes o) = (meta_of o).version ≡ version
@@ -115,7 +115,7 @@ unfolding finish at_version
 finish_next s stale node None = says (λ r. tt) _
 finish_next s stale node (Some p) = stale_or (λ r. tt) _ _ (refused_or (λ r. tt) _ _ _ (refused_or (λ r. tt) _ _ _ (record { holds = ap (λ m. m.version) (meta-with_meta (Pod p) _) })))
 
-outcome_next : (s : State) (kind : SeatKind) (request : Request) (moment : List ℕ) (stale : Option ℕ) → OnOutcome (NextOf (s.version + 1)) (outcome s kind request moment stale)
+pub outcome_next : (s : State) (kind : SeatKind) (request : Request) (moment : List ℕ) (stale : Option ℕ) → OnOutcome (NextOf (s.version + 1)) (outcome s kind request moment stale)
 unfolding outcome list
 outcome_next s kind (requests.Create o) moment stale = create_next s kind o moment _
 outcome_next s kind (requests.Update o given) moment stale = update_next s kind o given _

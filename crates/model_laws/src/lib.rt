@@ -4,7 +4,7 @@
 #![tactic(auto)]
 
 ghost use Rattle.model_laws.specs.Histories.{CallsKeepIdentity, RowsStandInOrder, UidsAreGivenOnce};
-ghost use Rattle.model_laws.specs.Reads.{EpochsRise, GetsTellWhatStands, ListsTellWhatStands};
+ghost use Rattle.model_laws.specs.Reads.{DataIdsAreGivenOnce, EpochsRise, GetsTellWhatStands, ListsTellWhatStands, WatchesTellWhatCameAfter};
 ghost use Rattle.model_laws.specs.Steps.{RefusalsChangeNothing, VersionsCountWrites};
 
 /// A refusal changes nothing but the number of device calls.
@@ -51,3 +51,15 @@ pub fn lists_tell_what_stands()
 pub fn epochs_rise()
     ensures { EpochsRise }
 {}
+
+/// A data id is given once.
+pub fn data_ids_are_given_once()
+    ensures { DataIdsAreGivenOnce }
+{
+}
+
+/// A watch from the version of an earlier world gives just the events of its kind after it, in order.
+pub fn watches_tell_what_came_after()
+    ensures { WatchesTellWhatCameAfter }
+{
+}
