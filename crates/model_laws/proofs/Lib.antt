@@ -1,4 +1,5 @@
 pub mod Changes
+pub mod Computed
 pub mod Effects
 pub mod Epochs
 pub mod Givings
@@ -7,6 +8,7 @@ pub mod Identity
 pub mod Kept
 pub mod OnOutcome
 pub mod Readings
+pub mod Releases
 pub mod Steps
 pub mod Stored
 pub mod Uids
