@@ -20,7 +20,7 @@ use Rattle.text_model.specs.Objects.{object_data}
 use Rattle.text_model.specs.Requests.{key_pairs, two_texts, label_data, edit_pairs, amount_text, status_pairs, ask_word, argument_pairs, request_data}
 use Rattle.text_model.specs.Replies.{event_pairs, event_data, mount_pairs, mount_data, topology_pairs, refusal_pairs, reply_pairs, reply_data}
 use Rattle.text_model.specs.Entries.{entry_pairs, entry_data, pool_pairs, pool_data, setup_pairs, setup_data}
-use Rattle.text_model.proofs.NoFloats.{NoFloat, NoFloats, FloatFree, float_object_of, float_filled, float_option, float_array, float_pairs, float_within, string_free}
+use Rattle.text_model.proofs.NoFloats.{NoFloats, FloatFree, float_object_of, float_filled, float_option, float_array, float_pairs, float_within, string_free}
 use Rattle.text_model.proofs.ObjectFloats.{uid_free, modes_free, object_free}
 
 number_free : FloatFree number_data

@@ -1,16 +1,15 @@
 -- Objects hold no float.
-use Rattle.std.proofs.Common.{◌≡◌, ℕ, List, [], ◌∷◌, ◌++◌, Bool, true, false, Option, Some, None, codes, option_map, refl}
-use Rattle.serde_json.specs.Data.{string, object}
+use Rattle.std.proofs.Common.{◌≡◌, ℕ, List, [], ◌∷◌, ◌++◌, Bool, true, false, Option, Some, None, codes, refl}
+use Rattle.serde_json.specs.Data.{string}
 use Rattle.serde_json.specs.Written.{has_float}
-use Rattle.json_text.specs.Build.{put_all}
-use Rattle.kube_types.specs.Words.{source_word, mode_words}
+use Rattle.kube_types.specs.Words.{mode_words}
 use Rattle.kube_types.specs.declared.parts.Modes.{Modes}
 use Rattle.kube_types.specs.declared.parts.SourceKind.{SourceKind}
 use Rattle.kube_types.specs.declared.parts.SourceKind.TheVariants.{Csi, Nfs, Local, HostPath}
 use Rattle.kube_types.specs.declared.objects.Amount.{Amount}
 use Rattle.kube_types.specs.declared.objects.Meta.{Meta}
 use Rattle.kube_types.specs.declared.objects.Object.TheVariants as objects
-use Rattle.text_model.specs.Members.{MemberList, filled, extra_members}
+use Rattle.text_model.specs.Members.{filled, extra_members}
 use Rattle.text_model.specs.Metadata.{uid_data, filled_or_always, front_pairs, back_pairs, head_pairs, meta_data}
 use Rattle.text_model.specs.Parts.{modes_data, storage_pairs, ref_pairs, expr_pairs, term_pairs, selector_pairs, storage_data, requests_data, ref_data, source_pairs, source_data, expr_data, term_data, node_terms_data, selector_data}
 use Rattle.text_model.specs.Volumes.{volume_front, volume_back, volume_status_pairs, volume_pairs, volume_spec, volume_status, volume_data}

@@ -1,7 +1,7 @@
 -- Claims.
 -- Source: Kubernetes API, PersistentVolumeClaim.
-use Rattle.std.specs.Prelude.{ℕ, List, [], ◌∷◌, ◌++◌, Bool, true, false, Option, Some, None, codes, option_map}
-use Rattle.serde_json.specs.Data.{Data, string, object, Members}
+use Rattle.std.specs.Prelude.{[], ◌∷◌, ◌++◌, true, Option, Some, None, codes, option_map}
+use Rattle.serde_json.specs.Data.{Data, string, object}
 use Rattle.json_text.specs.Build.{put_all}
 use Rattle.kube_types.specs.Words.{mode_words, claim_phase_word}
 use Rattle.kube_types.specs.declared.parts.Modes.{Modes}

@@ -1,8 +1,7 @@
 -- Metadata of objects.
 -- Source: Kubernetes API, ObjectMeta.
-use Rattle.std.specs.Prelude.{ℕ, List, [], ◌∷◌, ◌++◌, Bool, true, false, Option, Some, None, codes, option_map}
-use Rattle.serde_json.specs.Data.{Data, string, Members, no_members}
-use Rattle.json_text.specs.Build.{put_all}
+use Rattle.std.specs.Prelude.{ℕ, List, [], ◌∷◌, ◌++◌, Bool, true, false, Option, Some, codes, option_map}
+use Rattle.serde_json.specs.Data.{Data, string}
 use Rattle.kube_types.specs.Uids.{uid_text}
 use Rattle.kube_types.specs.declared.uid.Uid.{Uid}
 use Rattle.kube_types.specs.declared.objects.Meta.{Meta}

@@ -1,7 +1,7 @@
 -- Objects of every kind, and their lines.
 -- Source: Kubernetes API, StorageClass, Node, Pod; the line is a choice of this project.
-use Rattle.std.specs.Prelude.{ℕ, List, [], ◌∷◌, ◌++◌, Bool, true, false, Option, Some, None, codes}
-use Rattle.serde_json.specs.Data.{Data, object, Members, no_members}
+use Rattle.std.specs.Prelude.{ℕ, List, [], ◌∷◌, ◌++◌, Bool, true, false, codes}
+use Rattle.serde_json.specs.Data.{Data, object, Members}
 use Rattle.serde_json.specs.Written.{compact_text}
 use Rattle.json_text.specs.Build.{put_all}
 use Rattle.kube_types.specs.Words.{policy_word}

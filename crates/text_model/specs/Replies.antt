@@ -1,6 +1,6 @@
 -- Replies, as the member `reply` of an entry shows them.
 -- A choice of this project: the history format; the words of changes are those of the Kubernetes API, WatchEvent.
-use Rattle.std.specs.Prelude.{ℕ, List, [], ◌∷◌, ◌++◌, Bool, true, Option, Some, None, codes}
+use Rattle.std.specs.Prelude.{ℕ, List, [], ◌∷◌, ◌++◌, true, Option, Some, None, codes}
 use Rattle.serde_json.specs.Data.{Data}
 use Rattle.kube_types.specs.Words.{field_word, rule_word}
 use Rattle.kube_types.specs.declared.objects.DataId.{DataId}

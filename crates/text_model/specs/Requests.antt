@@ -1,6 +1,6 @@
 -- Requests, as the member `ask` of an entry shows them.
 -- A choice of this project: the history format.
-use Rattle.std.specs.Prelude.{ℕ, List, [], ◌∷◌, ◌++◌, Bool, true, Option, Some, None, codes, option_map}
+use Rattle.std.specs.Prelude.{ℕ, List, [], ◌∷◌, ◌++◌, true, Option, Some, codes, option_map}
 use Rattle.serde_json.specs.Data.{Data, string}
 use Rattle.json_text.specs.Build.{number_data}
 use Rattle.kube_types.specs.Words.{kind_word, policy_word, volume_phase_word, claim_phase_word}

@@ -66,35 +66,35 @@ count_pods rows = count_by is_pod rows
 
 abbrev pub volume_counts : List Object → VolumeCounts
 volume_counts rows =
-    record
-    { pending = count_volumes volume_phases.Pending rows
-    ; available = count_volumes volume_phases.Available rows
-    ; bound = count_volumes volume_phases.Bound rows
-    ; released = count_volumes volume_phases.Released rows
-    ; failed = count_volumes volume_phases.Failed rows
+    record {
+      pending = count_volumes volume_phases.Pending rows;
+      available = count_volumes volume_phases.Available rows;
+      bound = count_volumes volume_phases.Bound rows;
+      released = count_volumes volume_phases.Released rows;
+      failed = count_volumes volume_phases.Failed rows;
     }
 
 abbrev pub claim_counts : List Object → ClaimCounts
 claim_counts rows =
-    record
-    { pending = count_claims claim_phases.Pending rows
-    ; bound = count_claims claim_phases.Bound rows
-    ; lost = count_claims claim_phases.Lost rows
+    record {
+      pending = count_claims claim_phases.Pending rows;
+      bound = count_claims claim_phases.Bound rows;
+      lost = count_claims claim_phases.Lost rows;
     }
 
 -- the summary of these objects at a version of the store, with the counts of the devices
 abbrev pub summary_of : List Object → ℕ → ℕ → ℕ → ℕ → Ending → Summary
 summary_of rows version mounted stored calls ending =
-    record
-    { writes = version
-    ; objects = length rows
-    ; volumes = volume_counts rows
-    ; claims = claim_counts rows
-    ; pods = count_pods rows
-    ; mounted = mounted
-    ; stored = stored
-    ; calls = calls
-    ; ending = ending
+    record {
+      writes = version;
+      objects = length rows;
+      volumes = volume_counts rows;
+      claims = claim_counts rows;
+      pods = count_pods rows;
+      mounted = mounted;
+      stored = stored;
+      calls = calls;
+      ending = ending;
     }
 
 -- claims and pods are named with their namespace

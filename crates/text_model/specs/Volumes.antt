@@ -1,7 +1,7 @@
 -- Volumes.
 -- Source: Kubernetes API, PersistentVolume.
-use Rattle.std.specs.Prelude.{ℕ, List, [], ◌∷◌, ◌++◌, Bool, false, Option, Some, None, codes, option_map}
-use Rattle.serde_json.specs.Data.{Data, string, object, Members}
+use Rattle.std.specs.Prelude.{[], ◌∷◌, ◌++◌, false, Some, codes, option_map}
+use Rattle.serde_json.specs.Data.{Data, object}
 use Rattle.json_text.specs.Build.{put_all}
 use Rattle.kube_types.specs.Words.{policy_word, source_word, volume_phase_word}
 use Rattle.kube_types.specs.declared.objects.Volume.{Volume}
