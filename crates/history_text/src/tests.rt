@@ -99,7 +99,7 @@ fn stored_volume(alloc: Global) -> Result<Volume, OutOfMemory> {
     volume
         .meta
         .finalizers
-        .push(alloc, &Text::new(alloc, "kubernetes.io/pv-protection")?)?;
+        .push(&Text::new(alloc, "kubernetes.io/pv-protection")?)?;
     Ok(volume)
 }
 

@@ -28,7 +28,7 @@ const NONE: Modes = Modes {
 fn pairs(alloc: Global, listed: &[(&str, &str)]) -> Result<Pairs, OutOfMemory> {
     let mut out = Pairs::new(alloc);
     for (key, value) in listed {
-        out.set(alloc, &Text::new(alloc, key)?, &Text::new(alloc, value)?)?;
+        out.set(&Text::new(alloc, key)?, &Text::new(alloc, value)?)?;
     }
     Ok(out)
 }
@@ -36,7 +36,7 @@ fn pairs(alloc: Global, listed: &[(&str, &str)]) -> Result<Pairs, OutOfMemory> {
 fn names(alloc: Global, listed: &[&str]) -> Result<Names, OutOfMemory> {
     let mut out = Names::new(alloc);
     for name in listed {
-        out.push(alloc, &Text::new(alloc, name)?)?;
+        out.push(&Text::new(alloc, name)?)?;
     }
     Ok(out)
 }
