@@ -6,7 +6,7 @@ ghost use Rattle.kube_types.specs.declared.objects.Object.TheVariants as objects
 ghost use Rattle.kube_types.specs.Bindings.{has_key};
 ghost use Rattle.binder_model.specs.Store.{admitted, admitted_class, with_finalizer};
 
-use finalizer_rules::has_name;
+use kube_types::bindings::{BETA_CLASS, PV_PROTECTION, PVC_PROTECTION};
 use kube_types::copies::{OutOfMemory, Plain, copy_option};
 use kube_types::objects::{Claim, Object};
 use kube_types::pairs::Pairs;
@@ -18,11 +18,11 @@ pub fn add_finalizer(alloc: Global, finalizers: &mut Names, name: &str) -> Resul
     ensures ok { OnOk result (finalizers.new ≡ with_finalizer name.now finalizers.old) }
     ensures err { OnErr result (finalizers.new ≡ finalizers.old) }
 {
-    if has_name(name, finalizers.as_slice()) {
+    if finalizers.contains(name) {
         return Ok(());
     }
     let name = Text::new(alloc, name)?;
-    finalizers.push(alloc, &name)
+    finalizers.push(&name)
 }
 
 fn has_key(pairs: &Pairs, key: &str) -> bool
@@ -76,10 +76,10 @@ fn admit_claim(
 ) -> Result<Object, OutOfMemory>
     ensures { IfOk result (λ o. o ≡ admitted (option_copied default_class.entry) (objects.Claim claim.now)) }
 {
-    let names_beta = has_key(&claim.meta.annotations, "volume.beta.kubernetes.io/storage-class");
+    let names_beta = has_key(&claim.meta.annotations, BETA_CLASS);
     let class = admitted_class(alloc, &claim.class, default_class, names_beta)?;
     let mut admitted = with_class(claim.copy(alloc)?, class);
-    add_finalizer(alloc, &mut admitted.meta.finalizers, "kubernetes.io/pvc-protection")?;
+    add_finalizer(alloc, &mut admitted.meta.finalizers, PVC_PROTECTION)?;
     Ok(Object::Claim(admitted))
 }
 
@@ -96,7 +96,7 @@ pub fn admit(
     match object {
         Object::Volume(volume) => {
             let mut volume = volume.copy(alloc)?;
-            add_finalizer(alloc, &mut volume.meta.finalizers, "kubernetes.io/pv-protection")?;
+            add_finalizer(alloc, &mut volume.meta.finalizers, PV_PROTECTION)?;
             Ok(Object::Volume(volume))
         }
         Object::Claim(claim) => admit_claim(alloc, claim, default_class),

@@ -5,15 +5,15 @@ ghost use Rattle.std.specs.List.{list_all};
 ghost use Rattle.std.specs.Result.{result_err};
 ghost use Rattle.kube_types.specs.declared.names.Field.{Field};
 ghost use Rattle.kube_types.specs.declared.objects.Object.TheVariants as objects;
-ghost use Rattle.kube_types.specs.Bindings.{is_deleting};
+ghost use Rattle.kube_types.specs.Bindings.{has_name, is_deleting};
 ghost use Rattle.binder_model.specs.Fields.{adds_finalizer, dot_parts, is_lower_or_digit, is_name_byte, ends_well, is_label, is_subdomain, is_namespace, has_no_mode, has_twice, is_nameless, volume_fault, claim_fault, class_fault, pod_fault, kind_fault, create_fault, changed_field, update_fault};
 ghost use Rattle.field_rules.specs.Faults.{after_byte, byte_fits, fault_or};
 
 use crate::same::{
-    are_same_names, are_same_pairs, are_same_terms, is_same_amount, is_same_class, is_same_flag, is_same_modes,
-    is_same_policy, is_same_selector, is_same_source, is_same_text,
+    are_same_names, are_same_pairs, are_same_terms, is_same_amount, is_same_class, is_same_flag,
+    is_same_modes, is_same_policy, is_same_selector, is_same_source, is_same_text,
 };
-use finalizer_rules::{adds_while_deleting, has_name};
+use finalizer_rules::adds_while_deleting;
 use kube_types::key::meta_of;
 use kube_types::names::Field;
 use kube_types::objects::{Claim, Class, Meta, Object, Pod, Ref, Volume};
@@ -137,6 +137,13 @@ fn has_no_mode(modes: Modes) -> bool
     !(modes.rwo || modes.rox || modes.rwx || modes.rwop)
 }
 
+/// Whether the name is one of these.
+fn has_name(name: &str, names: &[Text]) -> bool
+    ensures { result ≡ has_name name.now names.now }
+{
+    names.iter().any(|n| n.is(name))
+}
+
 /// Whether a name stands twice in the list.
 fn has_twice(names: &Names) -> bool
     ensures { result ≡ has_twice names.now }
@@ -203,7 +210,7 @@ fn check_pod(lacks_node: bool, pod: &Pod) -> Result<(), Field>
     refuse!(
         !is_namespace(&pod.meta.namespace) => Field::Namespace,
         lacks_node => Field::NodeName,
-        has_name("", pod.claims.as_slice()) || has_twice(&pod.claims) => Field::Claims,
+        pod.claims.contains("") || has_twice(&pod.claims) => Field::Claims,
         !pod.meta.finalizers.as_slice().is_empty() => Field::Finalizers
     );
     Ok(())
@@ -321,7 +328,7 @@ fn keep_fixed(old: &Object, new: &Object) -> Result<(), Field>
 fn has_wrong_finalizers(old: &Meta, finalizers: &Names) -> bool
     ensures { result ≡ ((is_deleting old.now && adds_finalizer old.now.finalizers finalizers.now) || has_twice finalizers.now) }
 {
-    adds_while_deleting(old, finalizers.as_slice()) || has_twice(finalizers)
+    adds_while_deleting(old, finalizers) || has_twice(finalizers)
 }
 
 /// Answers the first invalid field of an object that takes the place of the old one.

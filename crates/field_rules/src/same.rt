@@ -13,7 +13,7 @@ use kube_types::text::{Names, Text};
 pub fn is_same_text(a: &Text, b: &Text) -> bool
     ensures { result ≡ bytes_eq a.now b.now }
 {
-    a.as_str() == b.as_str()
+    a.is(b.as_str())
 }
 
 pub fn is_same_class(a: &Option<Text>, b: &Option<Text>) -> bool

@@ -11,7 +11,9 @@ ghost use Rattle.binder_model.specs.Same.{same_option, same_ref};
 ghost use Rattle.binder_model.specs.Guard.{annotations_before, finalizers_before, clears_released, changes_annotation, drops_with_reference, breaks_annotation, is_admitted, changes_finalizer, breaks_finalizer, reference_before, has_uid, breaks_reference, breaks_policy, guard};
 
 use crate::same::{is_same_reference, is_same_text};
-use finalizer_rules::has_name;
+use kube_types::bindings::{
+    BIND_COMPLETED, BOUND_BY_CONTROLLER, PROVISIONED_BY, PV_PROTECTION, PVC_PROTECTION,
+};
 use kube_types::key::meta_of;
 use kube_types::names::Rule;
 use kube_types::objects::{Object, Ref};
@@ -86,7 +88,7 @@ fn changes_annotation(old: Option<&Object>, new: &Object, name: &str) -> bool
 fn drops_with_reference(old: Option<&Object>, new: &Object) -> bool
     ensures { result ≡ drops_with_reference (option_copied old.entry) new.now }
 {
-    clears_released(old, new) && lacks_annotation(new, "pv.kubernetes.io/bound-by-controller")
+    clears_released(old, new) && lacks_annotation(new, BOUND_BY_CONTROLLER)
 }
 
 fn lacks_annotation(object: &Object, name: &str) -> bool
@@ -101,10 +103,9 @@ fn lacks_annotation(object: &Object, name: &str) -> bool
 fn breaks_annotation(old: Option<&Object>, new: &Object) -> bool
     ensures { result ≡ breaks_annotation (option_copied old.entry) new.now }
 {
-    changes_annotation(old, new, "pv.kubernetes.io/bind-completed")
-        || changes_annotation(old, new, "pv.kubernetes.io/provisioned-by")
-        || (changes_annotation(old, new, "pv.kubernetes.io/bound-by-controller")
-            && !drops_with_reference(old, new))
+    changes_annotation(old, new, BIND_COMPLETED)
+        || changes_annotation(old, new, PROVISIONED_BY)
+        || (changes_annotation(old, new, BOUND_BY_CONTROLLER) && !drops_with_reference(old, new))
 }
 
 /// Whether admission would add the finalizer to the new object.
@@ -112,8 +113,8 @@ fn is_admitted(old: Option<&Object>, new: &Object, name: &str) -> bool
     ensures { result ≡ is_admitted (option_copied old.entry) new.now name.now }
 {
     match (old, new) {
-        (None, Object::Volume(_)) => name == "kubernetes.io/pv-protection",
-        (None, Object::Claim(_)) => name == "kubernetes.io/pvc-protection",
+        (None, Object::Volume(_)) => name == PV_PROTECTION,
+        (None, Object::Claim(_)) => name == PVC_PROTECTION,
         _ => false,
     }
 }
@@ -123,7 +124,7 @@ fn had_finalizer(old: Option<&Object>, name: &str) -> bool
 {
     match old {
         None => false,
-        Some(object) => has_name(name, meta_of(object).finalizers.as_slice()),
+        Some(object) => meta_of(object).finalizers.contains(name),
     }
 }
 
@@ -136,15 +137,14 @@ fn differ(before: bool, after: bool) -> bool
 fn changes_finalizer(old: Option<&Object>, new: &Object, name: &str) -> bool
     ensures { result ≡ changes_finalizer (option_copied old.entry) new.now name.now }
 {
-    let has = has_name(name, meta_of(new).finalizers.as_slice());
+    let has = meta_of(new).finalizers.contains(name);
     differ(had_finalizer(old, name), has) && !is_admitted(old, new, name)
 }
 
 fn breaks_finalizer(old: Option<&Object>, new: &Object) -> bool
     ensures { result ≡ breaks_finalizer (option_copied old.entry) new.now }
 {
-    changes_finalizer(old, new, "kubernetes.io/pv-protection")
-        || changes_finalizer(old, new, "kubernetes.io/pvc-protection")
+    changes_finalizer(old, new, PV_PROTECTION) || changes_finalizer(old, new, PVC_PROTECTION)
 }
 
 fn is_same_before(old: Option<&Object>, new: &Option<Ref>) -> bool

@@ -2,14 +2,15 @@
 #![tactic(auto)]
 
 ghost use Rattle.std.specs.Prelude.{◌≡◌, ◌&&◌, ℕ, List};
-ghost use Rattle.kube_types.specs.Bindings.{has_name, is_deleting};
+ghost use Rattle.kube_types.specs.Bindings.{is_deleting};
 ghost use Rattle.binder_model.specs.Store.{leaves, leaves_at_once};
 ghost use Rattle.binder_model.specs.Fields.{adds_finalizer};
 ghost use Rattle.finalizer_rules.specs.Fates.{fate_on_delete, fate_on_update, leave_if};
 
+use kube_types::bindings::{is_deleting, is_scheduled};
 use kube_types::key::meta_of;
 use kube_types::objects::{Meta, Object};
-use kube_types::text::{Names, Text};
+use kube_types::text::Names;
 
 /// What an object comes to at a write.
 #[derive(Clone, Copy, Debug, PartialEq, Eq)]
@@ -22,18 +23,11 @@ pub enum Fate {
     AddedWhileDeleting,
 }
 
-/// Whether the name is one of these.
-pub fn has_name(name: &str, names: &[Text]) -> bool
-    ensures { result ≡ has_name name.now names.now }
-{
-    names.iter().any(|n| n.as_str() == name)
-}
-
 /// Whether one of the new finalizers is not among the old ones.
-pub fn adds_finalizer(old: &[Text], new: &[Text]) -> bool
+fn adds_finalizer(old: &Names, new: &Names) -> bool
     ensures { result ≡ adds_finalizer old.now new.now }
 {
-    new.iter().any(|f| !has_name(f.as_str(), old))
+    new.as_slice().iter().any(|f| !old.contains(f.as_str()))
 }
 
 /// Whether the object leaves the store at the write that made it so: it is to be deleted, and has no
@@ -46,7 +40,7 @@ pub fn leaves(object: &Object) -> bool
         Object::Pod(_) => false,
         _ => {
             let meta = meta_of(object);
-            meta.deleted.is_some() && meta.finalizers.as_slice().is_empty()
+            is_deleting(meta) && meta.finalizers.as_slice().is_empty()
         }
     }
 }
@@ -57,7 +51,7 @@ pub fn leaves_at_once(object: &Object) -> bool
     ensures { result ≡ leaves_at_once object.now }
 {
     match object {
-        Object::Pod(pod) => pod.node.as_str().is_empty(),
+        Object::Pod(pod) => !is_scheduled(pod),
         _ => false,
     }
 }
@@ -74,10 +68,10 @@ pub fn on_delete(object: &Object) -> Fate
 }
 
 /// Whether the finalizers would be added to an object that is to be deleted.
-pub fn adds_while_deleting(old: &Meta, finalizers: &[Text]) -> bool
+pub fn adds_while_deleting(old: &Meta, finalizers: &Names) -> bool
     ensures { result ≡ (is_deleting old.now && adds_finalizer old.now.finalizers finalizers.now) }
 {
-    old.deleted.is_some() && adds_finalizer(old.finalizers.as_slice(), finalizers)
+    is_deleting(old) && adds_finalizer(&old.finalizers, finalizers)
 }
 
 /// What a write with these finalizers makes of the object.
@@ -85,13 +79,12 @@ pub fn adds_while_deleting(old: &Meta, finalizers: &[Text]) -> bool
 pub fn on_update(old: &Object, finalizers: &Names) -> Fate
     ensures { result ≡ fate_on_update old.now finalizers.now }
 {
-    let finalizers = finalizers.as_slice();
     if adds_while_deleting(meta_of(old), finalizers) {
         return Fate::AddedWhileDeleting;
     }
     match old {
         Object::Pod(_) => Fate::Keep,
-        _ => leave_if(meta_of(old).deleted.is_some() && finalizers.is_empty()),
+        _ => leave_if(is_deleting(meta_of(old)) && finalizers.as_slice().is_empty()),
     }
 }
 

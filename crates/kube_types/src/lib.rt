@@ -8,6 +8,7 @@ pub mod lookup;
 pub mod names;
 pub mod objects;
 pub mod parts;
+pub mod plain;
 pub mod table;
 pub mod uid;
 

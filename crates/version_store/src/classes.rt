@@ -6,6 +6,7 @@ ghost use Rattle.kube_types.specs.Keys.{AreRows};
 ghost use Rattle.binder_model.specs.Store.{is_default, newer_class, default_class, class_name, text_lt, lacks_named_node, lacks_node};
 ghost use Rattle.version_store.specs.Made.{default_from};
 
+use kube_types::bindings::IS_DEFAULT_CLASS;
 use kube_types::copies::{OutOfMemory, Plain};
 use kube_types::key::Key;
 use kube_types::objects::{Class, Object};
@@ -23,9 +24,9 @@ fn is_earlier(a: &Text, b: &Text) -> bool
 fn is_default(class: &Class) -> bool
     ensures { result ≡ is_default class.now }
 {
-    match class.meta.annotations.get("storageclass.kubernetes.io/is-default-class") {
+    match class.meta.annotations.get(IS_DEFAULT_CLASS) {
         None => false,
-        Some(value) => value.as_str() == "true",
+        Some(value) => value.is("true"),
     }
 }
 

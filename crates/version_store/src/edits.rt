@@ -1,6 +1,6 @@
 //! What an edit makes of an object.
 
-ghost use Rattle.std.specs.Prelude.{◌≡◌, Some, None, OnOk, OnErr, IfOk, bytes_eq, filter, not};
+ghost use Rattle.std.specs.Prelude.{◌≡◌, None, IfOk};
 ghost use Rattle.call_types.specs.declared.edit.Edit.TheVariants as edits;
 ghost use Rattle.plain_data.specs.Pairs.{put_pair, without_key};
 ghost use Rattle.kube_types.specs.Bindings.{bound_by_controller};
@@ -10,6 +10,7 @@ ghost use Rattle.binder_model.specs.Edits.{edited, with_volume_name, without_nam
 
 use call_types::edit::Edit;
 use field_rules::add_finalizer;
+use kube_types::bindings::BOUND_BY_CONTROLLER;
 use kube_types::copies::{OutOfMemory, Plain};
 use kube_types::key::meta_of;
 use kube_types::objects::{Object, Ref, Volume};
@@ -17,20 +18,6 @@ use kube_types::pairs::Pairs;
 use kube_types::parts::Policy;
 use kube_types::text::{Names, Text};
 use std::alloc::Global;
-
-/// The names without this one.
-fn without_name(alloc: Global, name: &Text, names: &Names) -> Result<Names, OutOfMemory>
-    ensures { IfOk result (λ left. left ≡ without_name name.now names.now) }
-{
-    let names = names.as_slice();
-    let mut left = Names::new(alloc);
-    for n in names {
-        if n.as_str() != name.as_str() {
-            left.push(alloc, n)?;
-        }
-    }
-    Ok(left)
-}
 
 #[tactic(auto, unfolding(binder_model::specs::Store::with_meta))]
 fn with_finalizers(mut object: Object, finalizers: Names) -> Object
@@ -90,6 +77,12 @@ fn finalizer_added(alloc: Global, name: &Text, object: &Object) -> Result<Object
     Ok(with_finalizers(object.copy(alloc)?, finalizers))
 }
 
+fn without_name(alloc: Global, name: &Text, names: &Names) -> Result<Names, OutOfMemory>
+    ensures { IfOk result (λ left. left ≡ without_name name.now names.now) }
+{
+    names.without(alloc, name.as_str())
+}
+
 fn finalizer_dropped(alloc: Global, name: &Text, object: &Object) -> Result<Object, OutOfMemory>
     ensures { IfOk result (λ o. o ≡ with_meta object.now (record (meta_of object.now) { finalizers = without_name name.now (meta_of object.now).finalizers })) }
 {
@@ -106,7 +99,7 @@ fn label_set(
     ensures { IfOk result (λ o. o ≡ with_meta object.now (record (meta_of object.now) { labels = put_pair key.now value.now (meta_of object.now).labels })) }
 {
     let mut labels = meta_of(object).labels.copy(alloc)?;
-    labels.set(alloc, key, value)?;
+    labels.set(key, value)?;
     Ok(with_labels(object.copy(alloc)?, labels))
 }
 
@@ -127,7 +120,7 @@ fn annotation_set(
     ensures { IfOk result (λ o. o ≡ with_meta object.now (record (meta_of object.now) { annotations = put_pair key.now value.now (meta_of object.now).annotations })) }
 {
     let mut annotations = meta_of(object).annotations.copy(alloc)?;
-    annotations.set(alloc, key, value)?;
+    annotations.set(key, value)?;
     Ok(with_annotations(object.copy(alloc)?, annotations))
 }
 
@@ -184,7 +177,7 @@ fn with_named_claim(
 fn without_maker(alloc: Global, annotations: &Pairs) -> Result<Pairs, OutOfMemory>
     ensures { IfOk result (λ left. left ≡ without_key bound_by_controller annotations.now) }
 {
-    let by_controller = Text::new(alloc, "pv.kubernetes.io/bound-by-controller")?;
+    let by_controller = Text::new(alloc, BOUND_BY_CONTROLLER)?;
     let mut left = annotations.copy(alloc)?;
     left.drop_key(&by_controller);
     Ok(left)
@@ -214,11 +207,7 @@ fn without_claim(alloc: Global, object: &Object) -> Result<Option<Object>, OutOf
 
 /// The object with the edit, or none where the edit does not fit its kind.
 #[tactic(auto, unfolding(binder_model::specs::Edits::edited))]
-pub fn edited(
-    alloc: Global,
-    edit: &Edit,
-    object: &Object,
-) -> Result<Option<Object>, OutOfMemory>
+pub fn edited(alloc: Global, edit: &Edit, object: &Object) -> Result<Option<Object>, OutOfMemory>
     ensures { IfOk result (λ o. o ≡ edited edit.now object.now) }
 {
     match edit {

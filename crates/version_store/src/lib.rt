@@ -28,5 +28,7 @@ mod classes;
 mod edits;
 pub mod outcome;
 pub mod store;
+#[cfg(test)]
+mod tests;
 mod verbs;
 mod writes;

@@ -115,7 +115,15 @@ impl Store {
         requires { self.now.version < 2 ^ 62 - 1 }
         ensures { IfOk result (λ made. outcome_of made ≡ outcome self.now kind request.now moment.now stale) }
     {
-        outcome(self.alloc, &self.rows, self.version, kind, request, moment, stale)
+        outcome(
+            self.alloc,
+            &self.rows,
+            self.version,
+            kind,
+            request,
+            moment,
+            stale,
+        )
     }
 
     /// Makes the one write of an outcome, if any, and answers it.

@@ -5,7 +5,6 @@ ghost use Rattle.std.specs.Option.{option_copied};
 ghost use Rattle.std.specs.Result.{result_err};
 ghost use Rattle.kube_types.specs.declared.objects.Object.{Object};
 ghost use Rattle.kube_types.specs.declared.objects.Object.TheVariants as objects;
-ghost use Rattle.kube_types.specs.Bindings.{is_uid};
 ghost use Rattle.kube_types.specs.Keys.{AreRows, key_of, is_of_kind, row_at, rows_of};
 ghost use Rattle.call_types.specs.declared.reply.Reply.TheVariants as replies;
 ghost use Rattle.binder_model.specs.Store.{at_version};
@@ -21,6 +20,7 @@ use call_types::reply::{Change, Refusal, Reply};
 use call_types::request::{NewStatus, Request, SeatKind};
 use field_rules::{check_new, check_update, guard};
 use finalizer_rules::{leaves, leaves_at_once};
+use kube_types::bindings::{is_deleting, is_scheduled, is_uid};
 use kube_types::copies::{OutOfMemory, Plain};
 use kube_types::items::Items;
 use kube_types::key::{key_of, kind_index, kind_of, meta_of};
@@ -84,15 +84,6 @@ fn is_other_uid(given: Option<Uid>, current: Option<Uid>) -> bool
     match given {
         None => false,
         Some(given) => !is_uid(current, given),
-    }
-}
-
-fn is_uid(current: Option<Uid>, uid: Uid) -> bool
-    ensures { result ≡ is_uid current uid }
-{
-    match current {
-        None => false,
-        Some(current) => current.0 == uid.0,
     }
 }
 
@@ -229,7 +220,7 @@ fn delete(
     if leaves_at_once(old) {
         return Ok(Made::Removes(marked(alloc, old, version + 1, moment)?));
     }
-    if meta.deleted.is_some() {
+    if is_deleting(meta) {
         return Ok(Made::Says(Reply::Done(old.copy(alloc)?)));
     }
     Ok(written(marked(alloc, old, version + 1, moment)?))
@@ -257,7 +248,7 @@ fn is_listed(namespace: &Option<Text>, object: &Object) -> bool
 {
     match namespace {
         None => true,
-        Some(namespace) => meta_of(object).namespace.as_str() == namespace.as_str(),
+        Some(namespace) => meta_of(object).namespace.is(namespace.as_str()),
     }
 }
 
@@ -326,12 +317,7 @@ fn with_node(mut pod: Pod, node: Text) -> Pod
 }
 
 /// The pod on this node.
-fn bound(
-    alloc: Global,
-    pod: &Pod,
-    node: &Text,
-    version: Version,
-) -> Result<Object, OutOfMemory>
+fn bound(alloc: Global, pod: &Pod, node: &Text, version: Version) -> Result<Object, OutOfMemory>
     ensures { IfOk result (λ o. o ≡ at_version (objects.Pod (record pod.now { node = node.now })) version) }
 {
     let node = node.copy(alloc)?;
@@ -354,7 +340,7 @@ fn bind(
     let Some(pod) = pod else {
         return Ok(refused(Refusal::NotFound));
     };
-    if !pod.node.as_str().is_empty() {
+    if is_scheduled(pod) {
         let node = pod.node.copy(alloc)?;
         return Ok(refused(Refusal::Assigned { node }));
     }
@@ -382,10 +368,10 @@ fn finish(
     if let Some(current) = stale {
         return Ok(refused(Refusal::StaleEpoch { current }));
     }
-    if pod.meta.deleted.is_none() {
+    if !is_deleting(&pod.meta) {
         return Ok(refused(Refusal::Invalid(Field::Deletion)));
     }
-    if pod.node.as_str() != node.as_str() {
+    if !pod.node.is(node.as_str()) {
         return Ok(refused(Refusal::Invalid(Field::NodeName)));
     }
     let finished = Object::Pod(pod.copy(alloc)?);

@@ -1,1 +1,2 @@
+pub mod KindFind
 pub mod Scans

@@ -3,6 +3,8 @@
 
 mod choice;
 mod eligible;
+mod named;
 
 pub use choice::best;
 pub use eligible::{covers, fits, satisfies};
+pub use named::{place_named, row_named};

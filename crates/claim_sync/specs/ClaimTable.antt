@@ -1,0 +1,46 @@
+-- The table of the decisions on a claim. Source: `syncUnboundClaim` and `syncBoundClaim` of `pv_controller.go`.
+use Rattle.std.specs.Prelude.{ℕ, ◌==◌, if◌then◌else◌, List, [], ◌∷◌}
+use Rattle.case_table.specs.declared.rows.Need.{Need}
+use Rattle.case_table.specs.declared.rows.Need.TheVariants.{Yes, No, Any}
+use Rattle.case_table.specs.declared.rows.CaseRow.{CaseRow}
+use Rattle.claim_sync.specs.declared.action.ClaimStep.{ClaimStep}
+use Rattle.claim_sync.specs.declared.action.ClaimStep.TheVariants as steps
+
+-- the number of a step in the table
+abbrev pub step_number : ClaimStep → ℕ
+step_number steps.Nothing = 0
+step_number steps.ReadVolume = 1
+step_number steps.Bind = 2
+step_number steps.Lost = 3
+
+abbrev pub step_numbered : ℕ → ClaimStep
+step_numbered n =
+    if n == 1 then steps.ReadVolume
+    else if n == 2 then steps.Bind
+    else if n == 3 then steps.Lost
+    else steps.Nothing
+
+abbrev pub row : List Need → ClaimStep → CaseRow 12
+row needs step = record { needs = needs; action = step_number step }
+
+-- completed, deleting, names a volume, a match exists, the volume is seen, it was asked for, it is deleting or unprotected
+-- or Released or Failed, it has no reference, it fits, it is for the claim, its reference has another UID, a write would
+-- change something and may be made
+unfoldable pub claim_rows : List (CaseRow 12)
+claim_rows =
+    row (No ∷ Yes ∷ Any ∷ Any ∷ Any ∷ Any ∷ Any ∷ Any ∷ Any ∷ Any ∷ Any ∷ Any ∷ []) steps.Nothing
+    ∷ row (No ∷ No ∷ No ∷ Yes ∷ Any ∷ Any ∷ Any ∷ Any ∷ Any ∷ Any ∷ Any ∷ Any ∷ []) steps.Bind
+    ∷ row (No ∷ No ∷ No ∷ No ∷ Any ∷ Any ∷ Any ∷ Any ∷ Any ∷ Any ∷ Any ∷ Any ∷ []) steps.Nothing
+    ∷ row (No ∷ No ∷ Yes ∷ Any ∷ No ∷ Any ∷ Any ∷ Any ∷ Any ∷ Any ∷ Any ∷ Any ∷ []) steps.Nothing
+    ∷ row (No ∷ No ∷ Yes ∷ Any ∷ Yes ∷ Any ∷ Yes ∷ Any ∷ Any ∷ Any ∷ Any ∷ Any ∷ []) steps.Nothing
+    ∷ row (No ∷ No ∷ Yes ∷ Any ∷ Yes ∷ Any ∷ No ∷ Yes ∷ Yes ∷ Any ∷ Any ∷ Any ∷ []) steps.Bind
+    ∷ row (No ∷ No ∷ Yes ∷ Any ∷ Yes ∷ Any ∷ No ∷ Yes ∷ No ∷ Any ∷ Any ∷ Any ∷ []) steps.Nothing
+    ∷ row (No ∷ No ∷ Yes ∷ Any ∷ Yes ∷ Any ∷ No ∷ No ∷ Any ∷ Yes ∷ Any ∷ Any ∷ []) steps.Bind
+    ∷ row (No ∷ No ∷ Yes ∷ Any ∷ Yes ∷ Any ∷ No ∷ No ∷ Any ∷ No ∷ Any ∷ Any ∷ []) steps.Nothing
+    ∷ row (Yes ∷ Any ∷ No ∷ Any ∷ Any ∷ Any ∷ Any ∷ Any ∷ Any ∷ Any ∷ Any ∷ Any ∷ []) steps.Lost
+    ∷ row (Yes ∷ Any ∷ Yes ∷ Any ∷ No ∷ No ∷ Any ∷ Any ∷ Any ∷ Any ∷ Any ∷ Any ∷ []) steps.ReadVolume
+    ∷ row (Yes ∷ Any ∷ Yes ∷ Any ∷ No ∷ Yes ∷ Any ∷ Any ∷ Any ∷ Any ∷ Any ∷ Any ∷ []) steps.Lost
+    ∷ row (Yes ∷ Any ∷ Yes ∷ Any ∷ Yes ∷ Any ∷ Any ∷ Any ∷ Any ∷ Any ∷ Yes ∷ Any ∷ []) steps.Lost
+    ∷ row (Yes ∷ Any ∷ Yes ∷ Any ∷ Yes ∷ Any ∷ Any ∷ Any ∷ Any ∷ Any ∷ No ∷ Yes ∷ []) steps.Bind
+    ∷ row (Yes ∷ Any ∷ Yes ∷ Any ∷ Yes ∷ Any ∷ Any ∷ Any ∷ Any ∷ Any ∷ No ∷ No ∷ []) steps.Nothing
+    ∷ []

@@ -1,0 +1,2 @@
+pub mod ClaimDecision
+pub mod ClaimTable

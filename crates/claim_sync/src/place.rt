@@ -1,0 +1,46 @@
+//! The place of the volume to be bound.
+
+ghost use Rattle.std.specs.Prelude.{◌≡◌};
+ghost use Rattle.kube_types.specs.Bindings.{is_empty};
+ghost use Rattle.binder_model.specs.Matching.{waits_for_pod};
+ghost use Rattle.claim_sync.specs.ClaimDecision.{IsChoice, has_best};
+
+use kube_types::bindings::class_of_claim;
+use kube_types::lookup::Lookup;
+use kube_types::objects::{Claim, Object};
+use kube_types::parts::Kind;
+use kube_types::text::Text;
+use volume_match::{best, place_named, row_named};
+
+/// The place of the best match where the claim names no volume, else of the volume that it names.
+pub(crate) fn bind_place<L: Lookup>(lookup: &L, claim: &Claim) -> Option<usize>
+    ensures { IsChoice (is_empty claim.now.volume_name) (L.rows lookup.now) claim.now result }
+{
+    if is_empty(&claim.volume_name) {
+        best(lookup, claim, None, waits_for_pod(lookup, claim), &[])
+    } else {
+        place_named(
+            lookup,
+            Kind::PersistentVolume,
+            "",
+            claim.volume_name.as_str(),
+        )
+    }
+}
+
+/// Whether the claim's class is delayed.
+fn waits_for_pod<L: Lookup>(lookup: &L, claim: &Claim) -> bool
+    ensures { result ≡ waits_for_pod (L.rows lookup.now) claim.now }
+{
+    match row_named(lookup, Kind::StorageClass, "", class_of_claim(claim)) {
+        Some(Object::Class(class)) => class.delayed,
+        _ => false,
+    }
+}
+
+#[tactic(auto, using(crate::proofs::Says::is_empty_by_length))]
+pub(crate) fn is_empty(text: &Text) -> bool
+    ensures { result ≡ is_empty text.now }
+{
+    text.as_str().is_empty()
+}

@@ -1,0 +1,16 @@
+pub mod Changes
+pub mod Computed
+pub mod Effects
+pub mod Epochs
+pub mod Givings
+pub mod Histories
+pub mod Identity
+pub mod Kept
+pub mod OnOutcome
+pub mod Readings
+pub mod Releases
+pub mod Steps
+pub mod Stored
+pub mod Uids
+pub mod Versions
+pub mod Watched

@@ -1,0 +1,240 @@
+-- Worked runs, computed: what the definitions say of small literal worlds. Each shows a run that the rows of this
+-- project's tests have too.
+use Rattle.std.specs.Prelude.{ℕ, ◌≡◌, ◌*◌, ◌^◌, Bool, true, false, List, [], ◌∷◌, ◌++◌, Option, Some, None, codes, filter}
+use Rattle.std.specs.declared.cmp.Ordering.TheVariants.{Less}
+use Rattle.plain_data.specs.Pairs.{Pair}
+use Rattle.kube_types.specs.declared.uid.Uid.{Uid}
+use Rattle.kube_types.specs.declared.names.Field.TheVariants as fields
+use Rattle.kube_types.specs.declared.names.Rule.TheVariants as rules
+use Rattle.kube_types.specs.declared.key.Key.{Key}
+use Rattle.kube_types.specs.declared.parts.Modes.{Modes}
+use Rattle.kube_types.specs.declared.parts.Kind.TheVariants as kinds
+use Rattle.kube_types.specs.declared.parts.Policy.TheVariants as policies
+use Rattle.kube_types.specs.declared.parts.SourceKind.TheVariants as sources
+use Rattle.kube_types.specs.declared.parts.VolumePhase.{VolumePhase}
+use Rattle.kube_types.specs.declared.parts.VolumePhase.TheVariants as volumes
+use Rattle.kube_types.specs.declared.parts.ClaimPhase.TheVariants as claims
+use Rattle.kube_types.specs.declared.objects.Amount.{Amount}
+use Rattle.kube_types.specs.declared.objects.Meta.{Meta}
+use Rattle.kube_types.specs.declared.objects.Volume.{Volume as VolumeData}
+use Rattle.kube_types.specs.declared.objects.Claim.{Claim as ClaimData}
+use Rattle.kube_types.specs.declared.objects.Object.{Object}
+use Rattle.kube_types.specs.declared.objects.Object.TheVariants.{Volume, Claim}
+use Rattle.kube_types.specs.Uids.{uid_of_serial}
+use Rattle.kube_types.specs.Bindings.{bind_completed, bound_by_controller, pv_protection, pvc_protection, yes}
+use Rattle.call_types.specs.declared.edit.Edit.TheVariants as edits
+use Rattle.call_types.specs.declared.setup.Setup.{Setup}
+use Rattle.call_types.specs.declared.request.NewStatus.TheVariants as statuses
+use Rattle.call_types.specs.declared.request.SeatKind.{SeatKind}
+use Rattle.call_types.specs.declared.request.SeatKind.TheVariants as seats
+use Rattle.call_types.specs.declared.request.Request.{Request}
+use Rattle.call_types.specs.declared.request.Request.TheVariants as requests
+use Rattle.call_types.specs.declared.reply.Refusal.{Refusal}
+use Rattle.call_types.specs.declared.reply.Refusal.TheVariants as refusals
+use Rattle.call_types.specs.declared.reply.Reply.{Reply}
+use Rattle.call_types.specs.declared.reply.Reply.TheVariants as replies
+use Rattle.binder_model.specs.Store.{no_modes}
+use Rattle.binder_model.specs.BindWrites.{claim_key, volume_key, write_reference, write_bound, write_completion, write_claim_status, write_available}
+use Rattle.binder_model.specs.BinderDue.{binder_due}
+use Rattle.binder_model.specs.Matching.{eligible, match_cmp}
+use Rattle.binder_model.specs.World.{World, no_world, first_moment, effect, reply_to, world_after}
+
+abbrev pub no_setup : Setup
+no_setup = record { pools = []; faults = [] }
+
+pub record Call : Type 0 where
+  pub kind : SeatKind
+  pub request : Request
+
+abbrev pub by : SeatKind → Request → Call
+by kind request = record { kind = kind; request = request }
+
+-- the world after some calls, and what each of them is answered
+abbrev pub world_of : World → List Call → World
+world_of w [] = w
+world_of w (c ∷ cs) = world_of (world_after w (effect no_setup w c.kind c.request)) cs
+
+abbrev pub answers : World → List Call → List Reply
+answers w [] = []
+answers w (c ∷ cs) = reply_to (effect no_setup w c.kind c.request) ∷ answers (world_after w (effect no_setup w c.kind c.request)) cs
+
+-- manifests
+
+abbrev pub named : List ℕ → List ℕ → Meta
+named namespace name = record { namespace = namespace; name = name; uid = None; version = 0; created = []; deleted = None; labels = []; annotations = []; finalizers = [] }
+
+abbrev pub once : Modes
+once = record no_modes { rwo = true }
+
+abbrev pub amount : ℕ → Amount
+amount gibibytes = record { text = codes "n"; bytes = gibibytes * 2 ^ 30 }
+
+abbrev pub volume : List ℕ → ℕ → VolumeData
+volume name size = record {
+    meta = named [] name; amount = amount size; modes = once; block = false; class = codes "slow"; policy = policies.Retain; claim_ref = None;
+    source = record { kind = sources.Nfs; first = codes "s"; second = codes "/x" }; terms = None; extra = []; phase = volumes.Pending }
+
+abbrev pub claim : List ℕ → ℕ → ClaimData
+claim name size = record {
+    meta = named (codes "default") name; modes = once; amount = amount size; block = false; class = Some (codes "slow"); selector = None;
+    volume_name = []; extra = []; phase = claims.Pending; got_modes = no_modes; got = None }
+
+-- as the store keeps them
+
+abbrev pub stands : Meta → ℕ → ℕ → List ℕ → List Pair → Meta
+stands m serial version finalizer annotations =
+    record m { uid = Some (uid_of_serial serial); version = version; created = first_moment; annotations = annotations; finalizers = finalizer ∷ [] }
+
+abbrev pub volume_at : List ℕ → ℕ → ℕ → ℕ → VolumePhase → VolumeData
+volume_at name size serial version phase =
+    let v = volume name size in record v { meta = stands v.meta serial version pv_protection []; phase = phase }
+
+abbrev pub claim_at : List ℕ → ℕ → ℕ → ℕ → ClaimData
+claim_at name size serial version = let c = claim name size in record c { meta = stands c.meta serial version pvc_protection [] }
+
+-- a volume that carries a claim
+abbrev pub volume_for : VolumeData → ClaimData → ℕ → VolumePhase → VolumeData
+volume_for v c version phase = record v {
+    meta = record v.meta { version = version; annotations = (bound_by_controller, yes) ∷ [] };
+    claim_ref = Some (record { namespace = c.meta.namespace; name = c.meta.name; uid = c.meta.uid }); phase = phase }
+
+-- the first run: a volume of 5 gibibytes and a claim of 3
+abbrev pub a : ℕ → VolumePhase → VolumeData
+a version phase = volume_at (codes "a") 5 1 version phase
+
+abbrev pub c : ℕ → ClaimData
+c version = claim_at (codes "c") 3 2 version
+
+abbrev pub completed_c : ℕ → ClaimData
+completed_c version = let old = c 2 in record old {
+    meta = record old.meta { version = version; annotations = (bind_completed, yes) ∷ (bound_by_controller, yes) ∷ [] }; volume_name = codes "a" }
+
+abbrev pub creates : List Call
+creates = by seats.User (requests.Create (Volume (volume (codes "a") 5))) ∷ by seats.User (requests.Create (Claim (claim (codes "c") 3))) ∷ []
+
+-- the volume is made Available and bound
+abbrev pub binding_of_volume : List Call
+binding_of_volume =
+    by seats.Binder (write_available (a 1 volumes.Pending))
+    ∷ by seats.Binder (write_reference (a 3 volumes.Available) (c 2))
+    ∷ by seats.Binder (write_bound (volume_for (a 1 volumes.Pending) (c 2) 4 volumes.Available)) ∷ []
+
+abbrev pub bound_a : VolumeData
+bound_a = volume_for (a 1 volumes.Pending) (c 2) 5 volumes.Bound
+
+abbrev pub binding_of_claim : List Call
+binding_of_claim = by seats.Binder (write_completion bound_a (c 2)) ∷ by seats.Binder (write_claim_status bound_a (completed_c 6)) ∷ []
+
+abbrev pub bound_c : ClaimData
+bound_c = let done = completed_c 7 in record done { phase = claims.Bound; got_modes = once; got = Some (amount 5) }
+
+-- seven writes, after which the volume is Bound and the claim completed, and the binder has nothing to do
+pub record IsFirstRun (w : World) : Type 0 where
+  pub rows : w.store.rows ≡ Volume bound_a ∷ Claim bound_c ∷ []
+  pub version : w.store.version ≡ 7
+  pub volume_due : binder_due w.store.rows (Volume bound_a) ≡ None
+  pub claim_due : binder_due w.store.rows (Claim bound_c) ≡ None
+
+abbrev pub FirstRun : Type 0
+FirstRun = IsFirstRun (world_of no_world (creates ++ binding_of_volume ++ binding_of_claim))
+
+-- the claim is deleted between the second and the third write, and leaves: the completion finds none
+abbrev pub leaving_c : ClaimData
+leaving_c = let old = c 2 in record old { meta = record old.meta { version = 6; deleted = Some first_moment; finalizers = [] } }
+
+abbrev pub left_c : ClaimData
+left_c = record leaving_c { meta = record leaving_c.meta { version = 7 } }
+
+abbrev pub deleted_c : ClaimData
+deleted_c = let old = c 2 in record old { meta = record old.meta { version = 6; deleted = Some first_moment } }
+
+abbrev pub ClaimGoneBetweenWrites : Type 0
+ClaimGoneBetweenWrites =
+    answers (world_of no_world (creates ++ binding_of_volume))
+        (by seats.User (requests.Delete (claim_key (codes "default") (codes "c")) None)
+        ∷ by seats.ClaimProtect (requests.Update (Claim leaving_c) (Some 6))
+        ∷ by seats.Binder (write_completion bound_a (c 2)) ∷ [])
+    ≡ replies.Done (Claim deleted_c) ∷ replies.Left (Claim left_c) ∷ replies.Refused refusals.NotFound ∷ []
+
+-- two claims name one volume: the reference to the second, decided on the volume as it was, is a conflict
+abbrev pub TwoClaimsOneVolume : Type 0
+TwoClaimsOneVolume =
+    answers (world_of no_world (creates ++ binding_of_volume))
+        (by seats.Binder (write_reference (a 3 volumes.Available) (claim_at (codes "d") 3 9 9)) ∷ [])
+    ≡ replies.Refused (refusals.Conflict 5) ∷ []
+
+-- a volume that is deleted stays until its finalizer is dropped, and refuses what the guard and the fields forbid
+abbrev pub key_a : Key
+key_a = volume_key (codes "a")
+
+abbrev pub deleted_a : ℕ → List (List ℕ) → VolumeData
+deleted_a version finalizers = let old = a 1 volumes.Pending in record old { meta = record old.meta { version = version; deleted = Some first_moment; finalizers = finalizers } }
+
+abbrev pub DeletedVolumeRefuses : Type 0
+DeletedVolumeRefuses =
+    answers no_world
+        (by seats.User (requests.Create (Volume (volume (codes "a") 5)))
+        ∷ by seats.User (requests.Delete key_a None)
+        ∷ by seats.User (requests.Delete key_a None)
+        ∷ by seats.User (requests.Edit key_a (edits.DropFinalizer pv_protection))
+        ∷ by seats.User (requests.Edit key_a (edits.AddFinalizer (codes "x/y")))
+        ∷ by seats.VolumeProtect (requests.Update (Volume (deleted_a 2 [])) (Some 1))
+        ∷ by seats.VolumeProtect (requests.Update (Volume (deleted_a 2 [])) (Some 2))
+        ∷ by seats.User (requests.Get key_a) ∷ [])
+    ≡ replies.Done (Volume (a 1 volumes.Pending))
+    ∷ replies.Done (Volume (deleted_a 2 (pv_protection ∷ [])))
+    ∷ replies.Done (Volume (deleted_a 2 (pv_protection ∷ [])))
+    ∷ replies.Refused (refusals.Forbidden rules.Finalizer)
+    ∷ replies.Refused (refusals.Invalid fields.Finalizers)
+    ∷ replies.Refused (refusals.Conflict 2)
+    ∷ replies.Left (Volume (deleted_a 3 []))
+    ∷ replies.Refused refusals.NotFound ∷ []
+
+-- a user may not set a guarded annotation
+abbrev pub GuardOnAnnotations : Type 0
+GuardOnAnnotations =
+    answers no_world
+        (by seats.User (requests.Create (Claim (claim (codes "c") 5)))
+        ∷ by seats.User (requests.Edit (claim_key (codes "default") (codes "c")) (edits.SetAnnotation bind_completed yes)) ∷ [])
+    ≡ replies.Done (Claim (claim_at (codes "c") 5 1 1)) ∷ replies.Refused (refusals.Forbidden rules.Annotation) ∷ []
+
+-- watches of a store at version 600 with an empty log
+abbrev pub at_600 : World
+at_600 = record no_world { store = record { rows = []; version = 600 } }
+
+abbrev pub watching : ℕ → Call
+watching from = by seats.Binder (requests.Watch kinds.PersistentVolume from)
+
+abbrev pub Watches : Type 0
+Watches =
+    answers at_600 (watching 3 ∷ watching 87 ∷ watching 88 ∷ watching 601 ∷ [])
+    ≡ replies.Refused (refusals.Gone 88) ∷ replies.Refused (refusals.Gone 88)
+    ∷ replies.Events (record { events = []; upto = 600 })
+    ∷ replies.Refused (refusals.Invalid fields.From) ∷ []
+
+-- of two volumes of one size the first by name, and both before a larger one
+pub record IsTieByName : Type 0 where
+  pub first : eligible (a 3 volumes.Available) (claim (codes "c") 5) None ≡ true
+  pub by_name : match_cmp (claim (codes "c") 5) (a 3 volumes.Available) (volume_at (codes "b") 5 2 4 volumes.Available) ≡ Less
+  pub by_size : match_cmp (claim (codes "c") 5) (volume_at (codes "b") 5 2 4 volumes.Available) (volume_at (codes "big") 10 3 5 volumes.Available) ≡ Less
+
+-- fewer modes come before fewer bytes, and what is too small is not eligible
+abbrev pub m1 : VolumeData
+m1 = let v = volume_at (codes "m1") 1 1 1 volumes.Available in record v { modes = record once { rox = true; rwx = true } }
+
+abbrev pub m2 : VolumeData
+m2 = volume_at (codes "m2") 5 2 2 volumes.Available
+
+pub record IsModesBeforeSize : Type 0 where
+  pub both : eligible m1 (claim (codes "c") 1) None ≡ true
+  pub modes_first : match_cmp (claim (codes "c") 1) m2 m1 ≡ Less
+  pub too_small : eligible m2 (claim (codes "c") 6) None ≡ false
+
+-- a node that was taken twice refuses its first epoch
+abbrev pub StaleEpochs : Type 0
+StaleEpochs =
+    answers no_world
+        (by seats.Agent (requests.TakeNode (codes "n1")) ∷ by seats.Agent (requests.TakeNode (codes "n1"))
+        ∷ by seats.Agent (requests.Mounts (codes "n1") 1) ∷ by seats.Agent (requests.Mounts (codes "n1") 2)
+        ∷ by seats.User (requests.Mounts (codes "n1") 2) ∷ [])
+    ≡ replies.Epoch 1 ∷ replies.Epoch 2 ∷ replies.Refused (refusals.StaleEpoch 2) ∷ replies.Mounted [] ∷ replies.Refused (refusals.Forbidden rules.Verb) ∷ []

@@ -1,0 +1,127 @@
+//! Laws over the definitions of the store, of worlds and of histories, and computed examples of them.
+//!
+//! Each is a function with nothing to do, whose contract is the law.
+#![tactic(auto)]
+
+ghost use Rattle.model_laws.specs.Histories.{CallsKeepIdentity, RowsStandInOrder, UidsAreGivenOnce};
+ghost use Rattle.model_laws.specs.Reads.{DataIdsAreGivenOnce, EpochsRise, GetsTellWhatStands, ListsTellWhatStands, WatchesTellWhatCameAfter};
+ghost use Rattle.model_laws.specs.ReleaseOrder.{IsReleaseOrder};
+ghost use Rattle.model_laws.specs.Steps.{RefusalsChangeNothing, VersionsCountWrites};
+ghost use Rattle.model_laws.specs.Worked.{ClaimGoneBetweenWrites, DeletedVolumeRefuses, FirstRun, GuardOnAnnotations, IsModesBeforeSize, IsTieByName, StaleEpochs, TwoClaimsOneVolume, Watches};
+
+/// A refusal changes nothing but the number of device calls.
+#[tactic(auto, using(crate::proofs::Steps::refusals_change_nothing))]
+pub fn refusals_change_nothing()
+    ensures { RefusalsChangeNothing }
+{}
+
+/// The version rises by one at each write that succeeds, and at nothing else.
+#[tactic(auto, using(crate::proofs::Versions::versions_count_writes))]
+pub fn versions_count_writes()
+    ensures { VersionsCountWrites }
+{}
+
+/// No key stands twice, and objects stand in the order of their keys.
+#[tactic(auto, using(crate::proofs::Histories::rows_stand_in_order))]
+pub fn rows_stand_in_order()
+    ensures { RowsStandInOrder }
+{}
+
+/// What stands under a key before a call and after it has one UID and one creation; a deletion timestamp stays, and
+/// the name of a claim's volume goes once from empty to a name.
+pub fn calls_keep_identity()
+    ensures { CallsKeepIdentity }
+{}
+
+/// No UID is given twice.
+#[tactic(auto, using(crate::proofs::Uids::uids_are_given_once))]
+pub fn uids_are_given_once()
+    ensures { UidsAreGivenOnce }
+{}
+
+/// A Get tells what stands in the store at that moment.
+pub fn gets_tell_what_stands()
+    ensures { GetsTellWhatStands }
+{}
+
+/// A list has the objects of its kind and namespace that stand in the store at that moment, and tells its version.
+pub fn lists_tell_what_stands()
+    ensures { ListsTellWhatStands }
+{}
+
+/// Each epoch of a node is told once, and later ones are greater: so it is told to at most one seat.
+pub fn epochs_rise()
+    ensures { EpochsRise }
+{}
+
+/// A data id is given once.
+pub fn data_ids_are_given_once()
+    ensures { DataIdsAreGivenOnce }
+{
+}
+
+/// A watch from the version of an earlier world gives just the events of its kind after it, in order.
+pub fn watches_tell_what_came_after()
+    ensures { WatchesTellWhatCameAfter }
+{
+}
+
+/// The first run: seven writes bind a volume and a claim, and the binder has nothing more to do.
+pub fn first_run()
+    ensures { FirstRun }
+{
+}
+
+/// A claim that left between the second and the third write: its completion is answered NotFound.
+pub fn claim_gone_between_writes()
+    ensures { ClaimGoneBetweenWrites }
+{
+}
+
+/// A second claim is refused the volume at the version before it was taken.
+pub fn two_claims_one_volume()
+    ensures { TwoClaimsOneVolume }
+{
+}
+
+/// A volume that is deleted stays until its finalizer is dropped, and refuses what the guard and the fields forbid.
+pub fn deleted_volume_refuses()
+    ensures { DeletedVolumeRefuses }
+{
+}
+
+/// A user may not set a guarded annotation.
+pub fn guard_on_annotations()
+    ensures { GuardOnAnnotations }
+{
+}
+
+/// Watches of a store at version 600: below the window, at its edge, and above the version.
+pub fn watches()
+    ensures { Watches }
+{
+}
+
+/// Of two volumes of one size the first by name is preferred.
+pub fn tie_by_name()
+    ensures { IsTieByName }
+{
+}
+
+/// Fewer modes come before fewer bytes.
+pub fn modes_before_size()
+    ensures { IsModesBeforeSize }
+{
+}
+
+/// A node that was taken twice refuses its first epoch.
+pub fn stale_epochs()
+    ensures { StaleEpochs }
+{
+}
+
+/// A binder may write Released only where it read the claim gone after it was told the volume.
+pub fn release_order()
+    ensures { IsReleaseOrder }
+{
+}

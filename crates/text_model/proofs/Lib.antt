@@ -1,0 +1,4 @@
+pub mod NoFloats
+pub mod ObjectFloats
+pub mod EntryFloats
+pub mod LineLaws

@@ -1,0 +1,12 @@
+pub mod Members
+pub mod Metadata
+pub mod Parts
+pub mod Volumes
+pub mod Claims
+pub mod Objects
+pub mod Laws
+pub mod Requests
+pub mod Replies
+pub mod Entries
+pub mod Summaries
+pub mod Output

@@ -1,0 +1,46 @@
+//! What the summary of a run says.
+
+use kube_types::key::Key;
+use kube_types::names::Due;
+
+/// The number of volumes in each phase.
+#[derive(Clone, Copy, Debug, PartialEq, Eq)]
+pub struct VolumeCounts {
+    pub pending: u64,
+    pub available: u64,
+    pub bound: u64,
+    pub released: u64,
+    pub failed: u64,
+}
+
+/// The number of claims in each phase.
+#[derive(Clone, Copy, Debug, PartialEq, Eq)]
+pub struct ClaimCounts {
+    pub pending: u64,
+    pub bound: u64,
+    pub lost: u64,
+}
+
+/// How a run ended: with nothing left to do, or after so many calls with the action `due` for the
+/// object of the key.
+#[derive(Debug, Drop)]
+pub enum Ending {
+    Settled,
+    Unsettled { calls: u64, key: Key, due: Due },
+}
+
+/// The numbers of a run. `writes` is the version of the store, `mounted` the number of mounted pods
+/// over all nodes, `stored` the number of data that are there, and `calls` the number of calls of
+/// Provision and Erase.
+#[derive(Debug, Drop)]
+pub struct Summary {
+    pub writes: u64,
+    pub objects: u64,
+    pub volumes: VolumeCounts,
+    pub claims: ClaimCounts,
+    pub pods: u64,
+    pub mounted: u64,
+    pub stored: u64,
+    pub calls: u64,
+    pub ending: Ending,
+}

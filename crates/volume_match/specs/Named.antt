@@ -1,0 +1,15 @@
+-- Keys by their parts.
+use Rattle.std.specs.Prelude.{ℕ, Bool, false, List, Option, Some, None}
+use Rattle.std.specs.Ordering.{is_eq}
+use Rattle.kube_types.specs.declared.parts.Kind.{Kind}
+use Rattle.kube_types.specs.declared.objects.Object.{Object}
+use Rattle.kube_types.specs.declared.key.Key.{Key}
+use Rattle.kube_types.specs.Keys.{key_cmp, key_of}
+
+abbrev pub key_at : Kind → List ℕ → List ℕ → Key
+key_at kind namespace name = record { kind = kind; namespace = namespace; name = name }
+
+-- there is an object, and its key has these parts
+abbrev pub has_key_at : Kind → List ℕ → List ℕ → Option Object → Bool
+has_key_at kind namespace name None = false
+has_key_at kind namespace name (Some o) = is_eq (key_cmp (key_of o) (key_at kind namespace name))

@@ -1,0 +1,6 @@
+use Rattle.volume_sync.specs.VolumeDecision.{conditions_on}
+use Rattle.volume_sync.proofs.decision.conditions_on.Goals as goal
+
+pub returns : goal.returns
+unfolding conditions_on
+returns c = cc

@@ -1,0 +1,2 @@
+pub mod VolumeDecision
+pub mod VolumeTable

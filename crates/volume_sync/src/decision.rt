@@ -1,0 +1,124 @@
+//! The decision on a volume.
+
+ghost use Rattle.std.specs.Prelude.{◌≡◌, is_some};
+ghost use Rattle.std.specs.Option.{option_copied};
+ghost use Rattle.kube_types.specs.Bindings.{is_available, is_empty, is_released};
+ghost use Rattle.binder_model.specs.BinderDue.{is_reclaimed};
+ghost use Rattle.volume_sync.specs.VolumeDecision.{has_uid, is_settled, names, names_none, conditions_on, volume_decision};
+
+use crate::action::VolumeAction;
+use crate::seen::{is_asked, seen_claim};
+use crate::table::volume_table;
+use kube_types::bindings::{PROVISIONED_BY, is_protected_volume};
+use kube_types::lookup::{Live, Lookup};
+use kube_types::objects::{Claim, Volume};
+use kube_types::parts::{Policy, VolumePhase};
+use kube_types::text::Text;
+
+/// What to do about the volume, as the table says. Where the look-up lacks a claim of the UID that
+/// is in the volume's reference, it is `live` that tells of the claim.
+pub fn decide_volume<L: Lookup>(lookup: &L, volume: &Volume, live: Live) -> VolumeAction
+    ensures { result ≡ volume_decision (L.rows lookup.now) volume.now live.entry }
+{
+    let claim = seen_claim(lookup, volume, live);
+    let conditions = conditions_on(volume, is_asked(live), claim);
+    VolumeAction::numbered(volume_table().pick(conditions))
+}
+
+/// The conditions of the table, on the claim that is seen.
+fn conditions_on(volume: &Volume, asked: bool, claim: Option<&Claim>) -> [bool; 9]
+    ensures { result ≡ conditions_on volume.now asked (option_copied claim.entry) }
+{
+    [
+        has_uid(volume),
+        is_available(volume.phase),
+        is_released(volume.phase),
+        is_seen(claim),
+        asked,
+        names_none(claim),
+        names(claim, volume),
+        is_settled(volume),
+        is_reclaimed(volume),
+    ]
+}
+
+fn is_seen(claim: Option<&Claim>) -> bool
+    ensures { result ≡ is_some (option_copied claim.entry) }
+{
+    match claim {
+        None => false,
+        Some(_) => true,
+    }
+}
+
+fn has_uid(volume: &Volume) -> bool
+    ensures { result ≡ has_uid volume.now }
+{
+    match &volume.claim_ref {
+        None => false,
+        Some(reference) => reference.uid.is_some(),
+    }
+}
+
+fn is_released(phase: VolumePhase) -> bool
+    ensures { result ≡ is_released phase }
+{
+    match phase {
+        VolumePhase::Released | VolumePhase::Failed => true,
+        _ => false,
+    }
+}
+
+fn is_available(phase: VolumePhase) -> bool
+    ensures { result ≡ is_available phase }
+{
+    match phase {
+        VolumePhase::Available => true,
+        _ => false,
+    }
+}
+
+fn names_none(claim: Option<&Claim>) -> bool
+    ensures { result ≡ names_none (option_copied claim.entry) }
+{
+    match claim {
+        None => false,
+        Some(claim) => is_empty(&claim.volume_name),
+    }
+}
+
+#[tactic(auto, using(crate::proofs::Says::is_empty_by_length))]
+fn is_empty(text: &Text) -> bool
+    ensures { result ≡ is_empty text.now }
+{
+    text.as_str().is_empty()
+}
+
+fn names(claim: Option<&Claim>, volume: &Volume) -> bool
+    ensures { result ≡ names (option_copied claim.entry) volume.now }
+{
+    match claim {
+        None => false,
+        Some(claim) => claim.volume_name.is(volume.meta.name.as_str()),
+    }
+}
+
+/// Whether phase Bound is there already, or may not be written.
+fn is_settled(volume: &Volume) -> bool
+    ensures { result ≡ is_settled volume.now }
+{
+    match volume.phase {
+        VolumePhase::Bound => true,
+        _ => !is_protected_volume(volume),
+    }
+}
+
+/// Whether the volume was provisioned, and goes with its claim.
+fn is_reclaimed(volume: &Volume) -> bool
+    ensures { result ≡ is_reclaimed volume.now }
+{
+    match volume.policy {
+        Policy::Delete => volume.meta.annotations.get(PROVISIONED_BY).is_some(),
+        _ => false,
+    }
+}

@@ -1,0 +1,78 @@
+//! The table of the decisions on a volume.
+
+ghost use Rattle.std.specs.Prelude.{◌≡◌};
+ghost use Rattle.case_table.specs.Cases.{IsExact};
+ghost use Rattle.volume_sync.specs.VolumeTable.{row, volume_rows};
+
+use crate::action::VolumeAction;
+use case_table::Need::{Any, No, Yes};
+use case_table::{CaseRow, Need, Table};
+
+fn row(needs: [Need; 9], action: VolumeAction) -> CaseRow<9>
+    ensures { result ≡ row needs action }
+{
+    CaseRow {
+        needs,
+        action: action.number(),
+    }
+}
+
+/// The rows. The conditions, in order: the reference has a UID; the phase is Available; the phase is
+/// Released or Failed; a claim of that UID is seen; it was asked for by itself; it names no volume;
+/// it names this one; this one is Bound, or lacks its protection finalizer; this one was
+/// provisioned, and has policy Delete.
+#[tactic(auto, using(crate::proofs::Rows::rows_exact), unfolding(crate::specs::VolumeTable::volume_rows))]
+pub fn volume_rows() -> [CaseRow<9>; 10]
+    ensures rows { result ≡ volume_rows }
+    ensures exact { IsExact result }
+{
+    [
+        row(
+            [No, Yes, Any, Any, Any, Any, Any, Any, Any],
+            VolumeAction::Nothing,
+        ),
+        row(
+            [No, No, Any, Any, Any, Any, Any, Any, Any],
+            VolumeAction::Available,
+        ),
+        row(
+            [Yes, Any, No, No, No, Any, Any, Any, Any],
+            VolumeAction::ReadClaim,
+        ),
+        row(
+            [Yes, Any, No, No, Yes, Any, Any, Any, Any],
+            VolumeAction::Release,
+        ),
+        row(
+            [Yes, Any, Yes, Any, Any, Any, Any, Any, Any],
+            VolumeAction::Nothing,
+        ),
+        row(
+            [Yes, Any, No, Yes, Any, Yes, Any, Any, Any],
+            VolumeAction::QueueClaim,
+        ),
+        row(
+            [Yes, Any, No, Yes, Any, No, Yes, Yes, Any],
+            VolumeAction::Nothing,
+        ),
+        row(
+            [Yes, Any, No, Yes, Any, No, Yes, No, Any],
+            VolumeAction::Bound,
+        ),
+        row(
+            [Yes, Any, No, Yes, Any, No, No, Any, Yes],
+            VolumeAction::Release,
+        ),
+        row(
+            [Yes, Any, No, Yes, Any, No, No, Any, No],
+            VolumeAction::Unbind,
+        ),
+    ]
+}
+
+/// The table of these rows.
+pub fn volume_table() -> Table<9, 10>
+    ensures { result ≡ volume_rows }
+{
+    Table::exact(volume_rows())
+}
