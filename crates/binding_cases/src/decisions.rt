@@ -1,14 +1,16 @@
 //! What the binder does.
 
-use crate::objects::{CLAIM_UID, GIB, RWO, claim, reference, volume};
+use crate::objects::{CLAIM_UID, GIB, RWO, claim, put, reference, volume};
 use bind_writes::{Write, next_step, next_write, unbind, unbound};
 use claim_sync::{ClaimAction, decide_claim};
 use kube_types::bindings::BIND_COMPLETED;
+use kube_types::copies::OutOfMemory;
 use kube_types::lookup::Live;
-use kube_types::objects::Object;
+use kube_types::objects::{Claim, Object};
 use kube_types::parts::VolumePhase;
 use kube_types::table::Table;
 use kube_types::text::Text;
+use std::alloc::Global;
 use std::test::Fail;
 use volume_sync::{VolumeAction, decide_volume};
 
@@ -34,24 +36,34 @@ fn a_volume_waits_for_its_claim(rt: HostRuntime) -> Result<(), Fail> {
 }
 
 #[test]
-fn a_claim_is_bound_or_lost(rt: HostRuntime) -> Result<(), Fail> {
+fn a_claim_is_bound(rt: HostRuntime) -> Result<(), Fail> {
     let alloc = rt.alloc();
     let mut table = Table::new(alloc);
     let mut wanted = claim(alloc, "c", GIB)?;
     assert!(rt; decide_claim(&table, &wanted, Live::NotAsked) == ClaimAction::Nothing);
-    table.put(alloc, Object::Volume(volume(alloc, "v", GIB, RWO)?))?;
+    put(alloc, &mut table, volume(alloc, "v", GIB, RWO)?)?;
     assert!(rt; decide_claim(&table, &wanted, Live::NotAsked) == ClaimAction::Bind(0));
     let mut others = volume(alloc, "w", GIB, RWO)?;
     others.claim_ref = Some(reference(alloc, "d", None)?);
-    table.put(alloc, Object::Volume(others))?;
+    put(alloc, &mut table, others)?;
     wanted.volume_name = Text::new(alloc, "w")?;
     assert!(rt; decide_claim(&table, &wanted, Live::NotAsked) == ClaimAction::Nothing);
-    wanted.volume_name = Text::new(alloc, "x")?;
+    Ok(())
+}
+
+fn completed(alloc: Global, volume_name: &str) -> Result<Claim, OutOfMemory> {
+    let mut done = claim(alloc, "c", GIB)?;
+    done.volume_name = Text::new(alloc, volume_name)?;
     let key = Text::new(alloc, BIND_COMPLETED)?;
-    wanted
-        .meta
-        .annotations
-        .set(&key, &Text::new(alloc, "yes")?)?;
+    done.meta.annotations.set(&key, &Text::new(alloc, "yes")?)?;
+    Ok(done)
+}
+
+#[test]
+fn a_claim_is_lost_once_its_volume_is_read(rt: HostRuntime) -> Result<(), Fail> {
+    let alloc = rt.alloc();
+    let table = Table::new(alloc);
+    let wanted = completed(alloc, "x")?;
     assert!(rt; decide_claim(&table, &wanted, Live::NotAsked) == ClaimAction::ReadVolume);
     assert!(rt; decide_claim(&table, &wanted, Live::Absent) == ClaimAction::Lost);
     let object = Object::Volume(volume(alloc, "x", GIB, RWO)?);

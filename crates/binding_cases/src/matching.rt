@@ -1,18 +1,10 @@
 //! Matching.
 
-use crate::objects::{GIB, RWO, claim, reference, volume};
-use kube_types::copies::OutOfMemory;
-use kube_types::objects::{Object, Volume};
+use crate::objects::{GIB, RWO, claim, put, reference, volume};
 use kube_types::parts::{Modes, VolumePhase};
 use kube_types::table::Table;
-use std::alloc::Global;
 use std::test::Fail;
 use volume_match::{best, satisfies};
-
-fn put(alloc: Global, table: &mut Table, volume: Volume) -> Result<(), OutOfMemory> {
-    table.put(alloc, Object::Volume(volume))?;
-    Ok(())
-}
 
 #[test]
 fn the_smallest_fits_and_ties_go_by_name(rt: HostRuntime) -> Result<(), Fail> {

@@ -2,9 +2,10 @@
 
 use kube_types::bindings::PV_PROTECTION;
 use kube_types::copies::OutOfMemory;
-use kube_types::objects::{Amount, Claim, Meta, Ref, Source, Volume};
+use kube_types::objects::{Amount, Claim, Meta, Object, Ref, Source, Volume};
 use kube_types::pairs::Pairs;
 use kube_types::parts::{ClaimPhase, Modes, Policy, SourceKind, VolumePhase};
+use kube_types::table::Table;
 use kube_types::text::{Names, Text};
 use kube_types::uid::Uid;
 use std::alloc::Global;
@@ -94,4 +95,10 @@ pub fn reference(alloc: Global, name: &str, uid: Option<Uid>) -> Result<Ref, Out
         name: Text::new(alloc, name)?,
         uid,
     })
+}
+
+/// Puts the volume into the table.
+pub fn put(alloc: Global, table: &mut Table, volume: Volume) -> Result<(), OutOfMemory> {
+    table.put(alloc, Object::Volume(volume))?;
+    Ok(())
 }
