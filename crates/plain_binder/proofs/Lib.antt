@@ -1,0 +1,12 @@
+pub mod Binding
+pub mod Due
+pub mod Fresh
+pub mod Matches
+pub mod Outcomes
+pub mod Parts
+pub mod Places
+pub mod Runs
+pub mod Same
+pub mod Served
+pub mod Standing
+pub mod Valid
