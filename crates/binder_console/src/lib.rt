@@ -2,5 +2,6 @@
 #![tactic(auto)]
 
 pub mod errors;
+pub mod plain_lines;
 mod plain_members;
 mod plain_objects;
