@@ -1,0 +1,4 @@
+pub mod Readings
+pub mod PlainMembers
+pub mod PlainObjects
+pub mod PlainLines

@@ -1,0 +1,7 @@
+//! The program: it reads its words and its input, replays, and prints.
+#![tactic(auto)]
+
+pub mod errors;
+pub mod plain_lines;
+mod plain_members;
+mod plain_objects;
