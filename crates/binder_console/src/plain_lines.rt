@@ -1,10 +1,11 @@
 //! Lists of plain lines.
 
-ghost use Rattle.std.specs.Prelude.{◌≡◌, ◌==◌, List, ℕ, map, filter, not, IfOk};
+ghost use Rattle.std.specs.Prelude.{◌≡◌, ◌==◌, ◌≤◌, List, ℕ, map, filter, not, length, IfOk, All};
 ghost use Rattle.std.specs.List.{list_all, slice_split};
 ghost use Rattle.json_text.specs.Trees.{tree_data};
 ghost use Rattle.binder_console.specs.Readings.{Gives, GivesBy};
 ghost use Rattle.binder_console.specs.PlainLines.{is_blank, filled_lines, json_of, line_object, objects_of, plain_objects};
+ghost use Rattle.plain_binder.specs.Calls.{IsPlain};
 
 use crate::errors::PlainError;
 use crate::plain_members::{member, object_of, with_text};
@@ -83,7 +84,9 @@ fn objects_of(alloc: Global, lines: &[&[u8]]) -> Result<Items<Object>, PlainErro
 /// The objects that the input creates, in order, where it is a list of at most 1,024 plain lines.
 #[tactic(auto, unfolding(crate::specs::PlainLines::plain_objects))]
 pub fn read_plain(alloc: Global, bytes: &[u8]) -> Result<Items<Object>, PlainError>
-    ensures { Gives result (plain_objects bytes.now) }
+    ensures objects { Gives result (plain_objects bytes.now) }
+    ensures plain { IfOk result (All IsPlain) }
+    ensures few { IfOk result (λ objects. length objects ≤ 1024) }
 {
     let lines = filled_lines(alloc, bytes)?;
     if lines.len() > MOST_LINES {

@@ -100,10 +100,7 @@ pub fn is_plain_name(name: &[u8]) -> bool
 pub fn is_plain_amount(amount: &[u8]) -> bool
     ensures { result ≡ is_plain_amount amount.now }
 {
-    1 <= amount.len()
-        && amount.len() <= 18
-        && amount[0] != 48
-        && are_digits(amount)
+    1 <= amount.len() && amount.len() <= 18 && amount[0] != 48 && are_digits(amount)
 }
 
 /// The number that the digits write.
