@@ -1,5 +1,5 @@
 -- The decision is what is due.
-use Rattle.std.proofs.Common.{ℕ, ◌≡◌, ◌∙◌, Bool, true, false, not, ◌||◌, List, Option, Some, None, bytes_eq, refl, sym, ap, if◌then◌else◌}
+use Rattle.std.proofs.Common.{◌≡◌, ◌∙◌, Bool, true, false, List, Option, Some, None, bytes_eq, refl, ap, if◌then◌else◌}
 use Rattle.kube_types.specs.declared.uid.Uid.{Uid}
 use Rattle.kube_types.specs.declared.names.Due.{Due}
 use Rattle.kube_types.specs.declared.names.Due.TheVariants as dues
@@ -14,7 +14,7 @@ use Rattle.binder_model.specs.BindWrites.{claim_key}
 use Rattle.binder_model.specs.BinderDue.{claim_with, is_reclaimed, reference_due, referred_due, volume_due}
 use Rattle.volume_sync.specs.declared.action.VolumeAction.{VolumeAction}
 use Rattle.volume_sync.specs.declared.action.VolumeAction.TheVariants as actions
-use Rattle.volume_sync.specs.VolumeDecision.{is_asked, is_settled, live_claim, or_else, referred_action, volume_decision}
+use Rattle.volume_sync.specs.VolumeDecision.{is_settled, live_claim, or_else, referred_action, volume_decision}
 use Rattle.volume_sync.specs.VolumeLaw.{ReadsRows, due_of}
 
 unreferred : (b : Bool) → due_of (if b then actions.Nothing else actions.Available) ≡ (if b then None else Some dues.Available)
