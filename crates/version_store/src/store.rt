@@ -177,6 +177,13 @@ impl Store {
         Ok(made.into_reply())
     }
 
+    /// The objects, in the order of their keys.
+    pub fn objects(&self) -> &[Object]
+        ensures { result.now ≡ self.now.rows }
+    {
+        &self.rows
+    }
+
     /// The object of a key.
     pub fn row(&self, key: &Key) -> Option<&Object>
         ensures { option_copied result ≡ row_at key.now self.now.rows }
