@@ -4,3 +4,4 @@ pub mod Objects
 pub mod Utf8
 pub mod Ends
 pub mod Plain
+pub mod KindOrder

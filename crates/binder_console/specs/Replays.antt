@@ -1,5 +1,5 @@
 -- What a replay writes: its history, the objects that stand after it, and its numbers. The format is a choice of this project.
-use Rattle.std.specs.Prelude.{ℕ, ◌≡◌, List, length, reverse}
+use Rattle.std.specs.Prelude.{ℕ, ◌≡◌, List, [], ◌∷◌, Option, Some, None, length, reverse}
 use Rattle.std.specs.List.{count_by}
 use Rattle.kube_types.specs.declared.objects.Object.{Object}
 use Rattle.call_types.specs.declared.entry.Entry.{Entry}
@@ -9,6 +9,11 @@ use Rattle.text_model.specs.declared.summary.Summary.{Summary}
 use Rattle.text_model.specs.declared.summary.Ending.TheVariants.{Settled}
 use Rattle.text_model.specs.Summaries.{summary_of}
 use Rattle.text_model.specs.Output.{final_lines, history_text, with_lines}
+
+-- the list of an object that may be absent
+abbrev pub listed : Option Object → List Object
+listed None = []
+listed (Some o) = o ∷ []
 
 -- the numbers of a settled world
 unfoldable pub settled_summary : World → Summary

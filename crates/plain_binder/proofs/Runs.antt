@@ -2,7 +2,7 @@
 use Rattle.std.proofs.Common.{◌≡◌, ℕ, zero, suc, ◌+◌, ◌<◌, ◌≤◌, length, List, [], ◌∷◌, ◌++◌, take, get_or, reverse, All, Bool, true, false, true≢false, Option, Some, None, refl, sym, ◌∙◌, ap, subst, arith, append_assoc, append-nil, if◌then◌else◌, cond, filter, map}
 use Rattle.std.specs.Bool.{⊤}
 use Rattle.std.proofs.Math.Seq.{take-suc}
-use Rattle.std.proofs.lemmas.List.{reverse-append, length-map}
+use Rattle.std.proofs.lemmas.List.{reverse-append, reverse-reverse, length-map}
 use Rattle.std.proofs.lemmas.List.Elements.{All-append, All-nil}
 use Rattle.std.specs.declared.cmp.Ordering.{Ordering}
 use Rattle.std.specs.declared.cmp.Ordering.TheVariants.{Less, Equal, Greater}
@@ -205,3 +205,6 @@ run_pushed entries pushed past store new moment seat kind request reply view run
         run = subst (λ p. IsRun p new moment) (sym call) (run_asked past seat kind request is store moment run new made bound);
         call = call;
         store = ap (λ p. store_after p) call ∙ store_asked past seat kind request is store moment run }
+
+pub oldest_first : (entries : List Entry) → entries ≡ reverse (reverse entries)
+oldest_first entries = sym (reverse-reverse entries)

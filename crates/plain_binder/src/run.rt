@@ -2,7 +2,7 @@
 
 ghost use Rattle.std.specs.Prelude.{◌≡◌, ◌<◌, ◌-◌, ◌^◌, ◌∷◌, [], IfOk, length, reverse, true};
 ghost use Rattle.binder_model.specs.Safe.{CompletedAreBound};
-ghost use Rattle.plain_binder.specs.Calls.{asked, is_asked, store_after, store_with};
+ghost use Rattle.plain_binder.specs.Calls.{asked, is_asked, rows_after, store_after, store_with};
 
 use call_types::entry::Entry;
 use call_types::request::{Request, SeatKind};
@@ -88,10 +88,18 @@ impl Run {
     }
 
     /// The calls that were made, the oldest first.
+    #[tactic(auto, using(crate::proofs::Runs::oldest_first))]
     pub fn entries(&self) -> &[Entry]
-        ensures { reverse result.now ≡ self.now }
+        ensures { result.now ≡ reverse self.now }
     {
         self.entries.as_slice()
+    }
+
+    /// The objects that stand after the calls, in the order of their keys.
+    pub fn objects(&self) -> &[Object]
+        ensures { result.now ≡ rows_after self.now }
+    {
+        self.store.objects()
     }
 
     /// The number of writes that were made.
