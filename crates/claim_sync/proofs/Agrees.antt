@@ -1,5 +1,5 @@
 -- The decision is what is due.
-use Rattle.std.proofs.Common.{◌≡◌, ◌∙◌, Bool, true, false, not, ◌&&◌, ◌||◌, List, Option, Some, None, is_none, is_some, refl, sym, ap, if◌then◌else◌}
+use Rattle.std.proofs.Common.{◌≡◌, ◌∙◌, Bool, true, false, ◌&&◌, List, Option, Some, None, is_none, refl, sym, ap, if◌then◌else◌}
 use Rattle.kube_types.specs.declared.names.Due.{Due}
 use Rattle.kube_types.specs.declared.names.Due.TheVariants as dues
 use Rattle.kube_types.specs.declared.objects.Volume.{Volume as VolumeData}
@@ -15,7 +15,7 @@ use Rattle.binder_model.specs.BinderDue.{claim_due, completed_due, has_other_uid
 use Rattle.volume_match.specs.Scan.{as_volume}
 use Rattle.claim_sync.specs.declared.action.ClaimStep.{ClaimStep}
 use Rattle.claim_sync.specs.declared.action.ClaimStep.TheVariants as steps
-use Rattle.claim_sync.specs.ClaimDecision.{claim_decision, completed_step, has_best, has_write, is_asked, is_blocked, is_present, lacks_claim, live_volume, lost_alone, named_step, named_volume, reads_live, table_step}
+use Rattle.claim_sync.specs.ClaimDecision.{claim_decision, completed_step, has_best, has_write, is_asked, is_blocked, is_present, lacks_claim, lost_alone, named_step, named_volume, reads_live, table_step}
 use Rattle.claim_sync.specs.ClaimLaw.{ReadsRows, due_of}
 
 lost_or_bound : (other writes : Bool) → due_of (if other then steps.Lost else if writes then steps.Bind else steps.Nothing) ≡ (if other then Some dues.Lost else if writes then Some dues.Bind else None)
