@@ -1,5 +1,5 @@
 -- Plain amounts have a number that fits 64 bits.
-use Rattle.std.proofs.Common.{◌≡◌, ℕ, ◌+◌, ◌^◌, ◌<◌, ◌≤◌, List, [], ◌∷◌, Bool, true, false, ◌&&◌, not, ◌==◌, nat_le, length, Ok, Err, refl, arith, tests, rules}
+use Rattle.std.proofs.Common.{◌≡◌, ℕ, ◌≤◌, List, Bool, true, false, ◌&&◌, not, ◌==◌, nat_le, length, Ok, refl, arith, tests, rules}
 use Rattle.std.specs.List.{list_all}
 use Rattle.std.specs.Prelude.{slice_index}
 use Rattle.std.specs.declared.result.Result.{Result}

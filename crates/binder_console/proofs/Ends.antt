@@ -1,12 +1,12 @@
 -- How the program ends.
-use Rattle.std.proofs.Common.{◌≡◌, ℕ, ◌≤◌, List, [], ◌∷◌, length, map, get_or, String, string_bytes, Some, None, refl, sym, ap, ◌∙◌, arith}
+use Rattle.std.proofs.Common.{◌≡◌, ℕ, ◌≤◌, List, [], ◌∷◌, length, get_or, String, None, refl, sym, ap, arith}
 use Rattle.std.specs.declared.option.Option.{Option}
 use Rattle.std.specs.declared.alloc.Global.{Global}
 use Rattle.fault_io.specs.Reading.{IsLeft}
 use Rattle.binder_console.specs.declared.status.Status.{Status}
 use Rattle.binder_console.specs.declared.status.Status.TheVariants.{Refused, WriteFault}
 use Rattle.binder_console.specs.PlainLines.{plain_objects}
-use Rattle.binder_console.specs.Outcomes.{AreReplay, EndsCut, EndsRefused, IsDueText, IsInput, OfRefusal, RefusedWith, Unbuilt, Written, Whole, Front, most_input, unbuilt_text}
+use Rattle.binder_console.specs.Outcomes.{AreReplay, EndsCut, EndsRefused, OfRefusal, RefusedWith, Unbuilt, Written, Whole, Front, most_input, unbuilt_text}
 
 -- a list of one word
 pub one_word : (words : List (String Global)) (word : String Global) → length words ≡ 1 → word ≡ get_or words 0 word → words ≡ word ∷ []

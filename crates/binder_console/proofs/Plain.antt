@@ -8,10 +8,7 @@ use Rattle.std.proofs.lemmas.List.Elements.{All-nil, All-cons}
 use Rattle.serde_json.specs.Data.{Data}
 use Rattle.serde_json.specs.Find.{get}
 use Rattle.kube_types.specs.declared.objects.Meta.{Meta}
-use Rattle.kube_types.specs.declared.objects.Volume.{Volume as VolumeData}
-use Rattle.kube_types.specs.declared.objects.Claim.{Claim as ClaimData}
 use Rattle.kube_types.specs.declared.objects.Object.{Object}
-use Rattle.kube_types.specs.declared.objects.Object.TheVariants.{Volume, Claim}
 use Rattle.binder_console.specs.declared.errors.PlainError.{PlainError}
 use Rattle.binder_console.specs.Readings.{◌>>=◌, Gives}
 use Rattle.binder_console.specs.PlainMembers.{object_of, object_at, text_at, with_text, modes_at}

@@ -1,7 +1,6 @@
 -- What a member of a plain object gives. The plain form of names and amounts is a choice of this project.
 use Rattle.std.specs.Prelude.{ℕ, suc, List, Bool, true, false, not, ◌==◌, ◌&&◌, ◌||◌, nat_le, length, slice_index, Option, Some, None, codes, bytes_eq, if◌then◌else◌}
 use Rattle.std.specs.List.{list_all}
-use Rattle.std.specs.Str.Parse.{digits_value}
 use Rattle.serde_json.specs.Data.{Data, Items, no_items, item, Members, no_members, member}
 use Rattle.serde_json.specs.Find.{get, as_str, as_array, as_object}
 use Rattle.kube_types.specs.declared.parts.Modes.{Modes}

@@ -3,7 +3,6 @@
 use Rattle.std.specs.Prelude.{ℕ, List, [], false, Option, Some, None, codes, bytes_eq, if◌then◌else◌}
 use Rattle.std.specs.Str.Parse.{digits_value}
 use Rattle.serde_json.specs.Data.{Data}
-use Rattle.serde_json.specs.Find.{get}
 use Rattle.kube_types.specs.declared.objects.Meta.{Meta}
 use Rattle.kube_types.specs.declared.objects.Amount.{Amount}
 use Rattle.kube_types.specs.declared.objects.Source.{Source}

@@ -1,19 +1,17 @@
 -- At the end the binder has nothing to do.
-use Rattle.std.proofs.Common.{◌≡◌, ◌⊎◌, ℕ, ◌≤◌, length, List, [], ◌==◌, Bool, true, false, true≢false, not, ◌&&◌, ◌||◌, Option, Some, None, inl, inr, refl, sym, ◌∙◌, ap, bytes_eq, is_none, is_some}
+use Rattle.std.proofs.Common.{◌≡◌, ◌⊎◌, ℕ, ◌≤◌, length, List, true, false, true≢false, ◌&&◌, ◌||◌, Some, None, inl, inr, refl, sym, ◌∙◌, ap, bytes_eq, is_none, is_some}
 use Rattle.kube_types.specs.declared.parts.Kind.TheVariants as kinds
-use Rattle.kube_types.specs.declared.key.Key.{Key}
-use Rattle.kube_types.specs.declared.names.Due.{Due}
 use Rattle.kube_types.specs.declared.objects.Volume.{Volume as VolumeData}
 use Rattle.kube_types.specs.declared.objects.Claim.{Claim as ClaimData}
 use Rattle.kube_types.specs.declared.objects.Object.{Object}
 use Rattle.kube_types.specs.declared.objects.Object.TheVariants.{Class, Node, Volume, Claim, Pod}
-use Rattle.kube_types.specs.Keys.{AreRows, key_of, row_at}
+use Rattle.kube_types.specs.Keys.{AreRows, row_at}
 use Rattle.kube_types.specs.Bindings.{is_completed, is_empty, is_bound, is_deleting, carries, is_uid}
 use Rattle.binder_model.specs.Matching.{has_match}
-use Rattle.binder_model.specs.BindWrites.{ref_to, volume_key, claim_key, next_write, claim_write, is_completed_with, shows_bound}
+use Rattle.binder_model.specs.BindWrites.{volume_key, next_write, claim_write}
 use Rattle.binder_model.specs.BinderDue.{binder_due, volume_due, claim_due, reference_due, referred_due, claim_with, completed_due, has_other_uid}
 use Rattle.plain_binder.specs.Calls.{IsNothingDue}
-use Rattle.plain_binder.specs.Stages.{keys_of, IsSoundVolume, IsSoundClaim, IsFree, IsOpen, IsPair, IsServed, IsServedVolume, IsServedClaim, Free, Taken, Open, Done, AreServed, SettledUpTo}
+use Rattle.plain_binder.specs.Stages.{keys_of, IsServedVolume, IsServedClaim, Free, Taken, Open, Done, AreServed, SettledUpTo}
 use Rattle.plain_binder.proofs.Same.{bytes_own, number_own}
 use Rattle.plain_binder.proofs.Valid.{volume_parts, name_stands}
 use Rattle.plain_binder.proofs.Fresh.{open_not_completed}

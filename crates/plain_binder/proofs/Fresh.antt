@@ -1,5 +1,5 @@
 -- Rows of objects that were created and not yet bound.
-use Rattle.std.proofs.Common.{◌≡◌, ◌≢◌, ◌⊎◌, ℕ, suc, ◌+◌, ◌<◌, ◌≤◌, List, [], length, Bool, true, false, true≢false, Option, Some, None, inl, inr, refl, sym, ◌∙◌, ap, subst, arith, eq-or-lt_of_le}
+use Rattle.std.proofs.Common.{◌≡◌, ◌≢◌, ◌⊎◌, ℕ, ◌+◌, ◌<◌, ◌≤◌, List, [], length, Bool, true, false, true≢false, Option, Some, None, inl, inr, refl, sym, ◌∙◌, ap, subst, arith, eq-or-lt_of_le}
 use Rattle.std.specs.Prelude.{slice_get}
 use Rattle.std.proofs.lemmas.Option.{slice_get_within}
 use Rattle.kube_types.specs.declared.parts.Kind.TheVariants as kinds
@@ -12,15 +12,15 @@ use Rattle.kube_types.specs.declared.objects.Claim.{Claim as ClaimData}
 use Rattle.kube_types.specs.declared.objects.Object.{Object}
 use Rattle.kube_types.specs.declared.objects.Object.TheVariants.{Class, Node, Volume, Claim, Pod}
 use Rattle.kube_types.specs.Keys.{AreRows, key_of, row_at, put_row, rows_of}
-use Rattle.kube_types.specs.Bindings.{is_completed, names_claim, refers_carrying, uid_carries}
+use Rattle.kube_types.specs.Bindings.{is_completed, names_claim, refers_carrying}
 use Rattle.kube_types.proofs.KeyOrder.{row_at_key}
 use Rattle.std.proofs.lemmas.Slice.Eq.{bytes_eq-Decides}
-use Rattle.std.specs.Prelude.{bytes_eq, ◌&&◌}
+use Rattle.std.specs.Prelude.{◌&&◌}
 use Rattle.binder_model.specs.Answers.{Outcome, Says, Stores, Removes, after}
 use Rattle.binder_model.specs.Store.{State}
-use Rattle.binder_model.specs.Safe.{IsBoundTo, CompletedAreBound, CompletedAreApart, AreBindings}
+use Rattle.binder_model.specs.Safe.{IsBoundTo, CompletedAreBound, AreBindings}
 use Rattle.binder_model.specs.BindWrites.{volume_key, claim_key}
-use Rattle.plain_binder.specs.Stages.{keys_of, IsSoundVolume, IsFree, IsOpen, IsFresh, AreFresh, AvailableUpTo, AreServed, IsServed, Free, Open}
+use Rattle.plain_binder.specs.Stages.{keys_of, IsSoundVolume, IsFree, IsOpen, IsFresh, AreFresh, AvailableUpTo, AreServed, Free, Open}
 use Rattle.plain_binder.proofs.Valid.{volume_parts, volume_whole}
 use Rattle.plain_binder.proofs.Standing.{row_put, keys_of-put, row_at_place, key_at_place, place_of_row}
 use Rattle.plain_binder.proofs.Outcomes.{in_phase, FreshOutcome}
@@ -83,10 +83,11 @@ pub sound_in_phase : (phase : VolumePhase) (n : ℕ) (v : VolumeData) → IsSoun
 sound_in_phase phase n v s =
     let parts = volume_parts v s.valid in
     record {
-        global = s.global;
-        valid = volume_whole (in_phase phase n v) (record { name = parts.name; amount = parts.amount; modes = parts.modes; reference = parts.reference; finalizers = parts.finalizers });
-        protected = s.protected;
-        kept = s.kept }
+      global = s.global;
+      valid = volume_whole (in_phase phase n v) (record { name = parts.name; amount = parts.amount; modes = parts.modes; reference = parts.reference; finalizers = parts.finalizers });
+      protected = s.protected;
+      kept = s.kept;
+    }
 
 pub free_in_phase : (phase : VolumePhase) (n : ℕ) (v : VolumeData) → IsFree v → IsFree (in_phase phase n v)
 free_in_phase phase n v f = record { sound = sound_in_phase phase n v f.sound; unreferred = f.unreferred }
@@ -104,6 +105,7 @@ available_step rows n place v order stands before j key u lt there at = by (row_
   where
     unmoved : slice_get (keys_of kinds.PersistentVolume rows) j ≡ Some key
     unmoved = subst (λ ks. slice_get ks j ≡ Some key) (keys_of-put (Volume (in_phase volumes.Available n v)) (Volume v) rows order (row_at_place kinds.PersistentVolume place (Volume v) rows order stands) kinds.PersistentVolume) there
+
     by : ((key_of (Volume v) ≡ key) × (Volume (in_phase volumes.Available n v) ≡ Volume u)) ⊎ ((key_of (Volume v) ≢ key) × (row_at key rows ≡ Some (Volume u))) → (j ≡ place) ⊎ (j < place) → u.phase ≡ volumes.Available
     by (inl new) order = let same : in_phase volumes.Available n v ≡ u = cc (new.1) in sym (ap (λ (w : VolumeData). w.phase) same)
     by (inr old) (inr less) = before j key u less unmoved old.1

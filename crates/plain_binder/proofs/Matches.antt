@@ -1,17 +1,16 @@
 -- A claim for which no volume can be taken.
-use Rattle.std.proofs.Common.{◌≡◌, ◌≢◌, ℕ, List, [], Bool, true, false, true≢false, not, ◌&&◌, ◌||◌, Option, Some, None, refl, sym, ◌∙◌, ap, is_none}
+use Rattle.std.proofs.Common.{◌≡◌, ◌≢◌, ℕ, List, [], Bool, true, false, true≢false, not, ◌&&◌, Some, None, refl, sym, ◌∙◌, ap}
 use Rattle.std.specs.Prelude.{slice_get}
 use Rattle.std.specs.List.{list_any}
 use Rattle.kube_types.specs.declared.parts.Kind.TheVariants as kinds
-use Rattle.kube_types.specs.declared.key.Key.{Key}
 use Rattle.kube_types.specs.declared.objects.Volume.{Volume as VolumeData}
 use Rattle.kube_types.specs.declared.objects.Claim.{Claim as ClaimData}
 use Rattle.kube_types.specs.declared.objects.Object.{Object}
 use Rattle.kube_types.specs.declared.objects.Object.TheVariants.{Class, Node, Volume, Claim, Pod}
-use Rattle.kube_types.specs.Keys.{AreRows, key_of, row_at, put_row, rows_of, is_of_kind}
-use Rattle.kube_types.specs.Bindings.{names_claim, uid_fits, is_for, is_released, is_available, is_deleting, is_protected_volume, class_of_claim}
+use Rattle.kube_types.specs.Keys.{key_of, put_row, rows_of, is_of_kind}
+use Rattle.kube_types.specs.Bindings.{names_claim, is_deleting, is_protected_volume, class_of_claim}
 use Rattle.kube_types.proofs.KeyOrder.{row_at-put_row_other}
-use Rattle.binder_model.specs.Matching.{IsBest, IsCandidate, eligible, may_serve, fits, selected, admitted_on, only_own_passes, binder_takes, has_match, waits_for_pod, is_delayed, class_key}
+use Rattle.binder_model.specs.Matching.{IsBest, eligible, may_serve, fits, selected, only_own_passes, binder_takes, has_match, waits_for_pod, is_delayed, class_key}
 use Rattle.binder_model.specs.BindWrites.{ref_to}
 use Rattle.plain_binder.proofs.Places.{any_alike, any_place}
 use Rattle.plain_binder.proofs.Standing.{any_put_row}
@@ -39,6 +38,7 @@ no_best rows c none = by (has_match rows c) refl
     one place (Node x) there takes = true≢false (sym takes)
     one place (Claim x) there takes = true≢false (sym takes)
     one place (Pod x) there takes = true≢false (sym takes)
+
     by : (b : Bool) → has_match rows c ≡ b → b ≡ false
     by false e = refl
     by true e = let found = any_place (binder_takes rows c) (is_of_kind kinds.PersistentVolume) rows (takes_volumes rows c) e in absurd (one found.0 found.1 found.2 found.3)

@@ -1,5 +1,5 @@
 -- What the calls of a plain run come to on the store.
-use Rattle.std.proofs.Common.{◌≡◌, ℕ, ◌+◌, ◌==◌, ◌&&◌, ◌||◌, List, [], ◌∷◌, Bool, true, false, not, Option, Some, None, refl, sym, ◌∙◌, ap, bytes_eq}
+use Rattle.std.proofs.Common.{◌≡◌, ℕ, ◌+◌, ◌&&◌, ◌||◌, List, [], true, false, not, Option, Some, None, refl, ◌∙◌, ap, bytes_eq}
 use Rattle.std.specs.Bool.{⊤}
 use Rattle.std.proofs.lemmas.Cmp.{nat_list_cmp_total}
 use Rattle.plain_data.specs.Pairs.{Pair, put_pair, key_of as pair_key}
@@ -8,29 +8,28 @@ use Rattle.kube_types.specs.declared.names.Field.{Field}
 use Rattle.kube_types.specs.declared.names.Rule.{Rule}
 use Rattle.kube_types.specs.declared.parts.ClaimPhase.TheVariants as claims
 use Rattle.kube_types.specs.declared.parts.VolumePhase.{VolumePhase}
-use Rattle.kube_types.specs.declared.parts.VolumePhase.TheVariants as volumes
 use Rattle.kube_types.specs.declared.key.Key.{Key}
 use Rattle.kube_types.specs.declared.objects.Volume.{Volume as VolumeData}
 use Rattle.kube_types.specs.declared.objects.Claim.{Claim as ClaimData}
 use Rattle.kube_types.specs.declared.objects.Object.{Object}
 use Rattle.kube_types.specs.declared.objects.Object.TheVariants.{Volume, Claim}
 use Rattle.kube_types.specs.Keys.{key_of, meta_of, row_at}
-use Rattle.kube_types.specs.Bindings.{bind_completed, bound_by_controller, yes, is_completed, is_empty, has_key, is_deleting, pv_protection}
+use Rattle.kube_types.specs.Bindings.{bind_completed, bound_by_controller, yes, is_empty, has_key, is_deleting}
 use Rattle.call_types.specs.declared.request.SeatKind.TheVariants.{User, Binder}
 use Rattle.call_types.specs.declared.request.NewStatus.{NewStatus}
 use Rattle.call_types.specs.declared.request.NewStatus.TheVariants as statuses
 use Rattle.call_types.specs.declared.request.Request.TheVariants as requests
 use Rattle.call_types.specs.declared.reply.Change.TheVariants.{Added, Modified}
-use Rattle.binder_model.specs.Store.{State, at_version, updated, with_status_of, with_meta, leaves, created, admitted, without_status, lacks_node, default_class, class_name}
+use Rattle.binder_model.specs.Store.{State, at_version, updated, with_status_of, with_meta, leaves, created, admitted, without_status, lacks_node}
 use Rattle.binder_model.specs.Fields.{create_fault, update_fault, changed_field, faulty, adds_finalizer, is_nameless, has_twice, same_claim_spec}
 use Rattle.binder_model.specs.Answers.{Outcome, Says, Stores, Removes, outcome, create, update, update_status, with_status, written_if_fits, guard_on, refuse, refuse_rule, refuse_field}
-use Rattle.binder_model.specs.BindWrites.{ref_to, taken_for, completed_with, write_reference, write_bound, write_available, write_completion, write_claim_status, volume_key, claim_key}
-use Rattle.binder_model.specs.Same.{same_option, same_selector, same_terms}
+use Rattle.binder_model.specs.BindWrites.{ref_to, taken_for, completed_with, write_reference, write_completion, write_claim_status, volume_key, claim_key}
+use Rattle.binder_model.specs.Same.{same_selector, same_terms}
 use Rattle.binder_model.specs.World.{first_moment}
 use Rattle.plain_binder.specs.Calls.{IsPlain, IsPlainVolume, IsPlainClaim}
-use Rattle.plain_binder.specs.Stages.{IsSoundVolume, IsSoundClaim, IsFree, IsOpen, IsFresh}
+use Rattle.plain_binder.specs.Stages.{IsSoundVolume, IsSoundClaim, IsFresh}
 use Rattle.plain_binder.proofs.Same.{number_own, bytes_own, beq_own, option_own, modes_own, amount_own, selector_own, terms_own, source_own}
-use Rattle.plain_binder.proofs.Valid.{ValidVolume, ValidClaim, volume_parts, volume_whole, claim_parts, claim_whole, name_stands, namespace_stands}
+use Rattle.plain_binder.proofs.Valid.{ValidClaim, volume_parts, volume_whole, claim_parts, claim_whole, name_stands, namespace_stands}
 
 -- a controller's update of an object that stands, at its version
 update_stores : (s : State) (old new : Object) → row_at (key_of new) s.rows ≡ Some old → update_fault old new ≡ None → leaves (updated old new (s.version + 1)) ≡ false
@@ -70,7 +69,7 @@ unfolding update_fault changed_field faulty
 referenced_fault v c n v_sound c_sound =
     let parts = volume_parts v v_sound.valid in
     let valid : create_fault false (Volume (referenced c n v)) ≡ None =
-        volume_whole (referenced c n v) (record { name = parts.name; amount = parts.amount; modes = parts.modes; reference = reference_stands c (claim_parts c c_sound.valid); finalizers = parts.finalizers }) in
+    volume_whole (referenced c n v) (record { name = parts.name; amount = parts.amount; modes = parts.modes; reference = reference_stands c (claim_parts c c_sound.valid); finalizers = parts.finalizers }) in
     let quiet : ((is_deleting v.meta && adds_finalizer v.meta.finalizers v.meta.finalizers) || has_twice v.meta.finalizers) ≡ false = rw (v_sound.kept, parts.finalizers) refl in
     rw (source_own v.source, beq_own v.block, amount_own v.amount, option_own same_terms terms_own v.terms, quiet) valid
 
@@ -95,7 +94,7 @@ unfolding update_fault changed_field faulty
 completed_fault v c n unnamed c_sound =
     let parts = claim_parts c c_sound.valid in
     let valid : create_fault false (Claim (completed v n c)) ≡ None =
-        claim_whole (completed v n c) (record { name = parts.name; namespace = parts.namespace; amount = parts.amount; modes = parts.modes; finalizers = parts.finalizers }) in
+    claim_whole (completed v n c) (record { name = parts.name; namespace = parts.namespace; amount = parts.amount; modes = parts.modes; finalizers = parts.finalizers }) in
     let quiet : ((is_deleting c.meta && adds_finalizer c.meta.finalizers c.meta.finalizers) || has_twice c.meta.finalizers) ≡ false = rw (c_sound.kept, parts.finalizers) refl in
     let spec : same_claim_spec c (completed v n c) ≡ true = rw (modes_own c.modes, amount_own c.amount, beq_own c.block, option_own bytes_eq bytes_own c.class, option_own same_selector selector_own c.selector, bytes_own c.extra) refl in
     let name : (not (is_empty c.volume_name) && not (bytes_eq c.volume_name v.meta.name)) ≡ false = rw unnamed refl in
@@ -142,29 +141,37 @@ fresh_volume : (default : Option (List ℕ)) (v : VolumeData) (version : ℕ) (m
     → FreshOutcome rows (Stores Added (created default (Volume v) version moment))
 unfolding created admitted without_status with_meta
 fresh_volume default v version moment rows plain new fault =
-    let parts = volume_parts v fault in
-    (record {
+    let parts = volume_parts v fault in (
+      record {
         sound = record {
-            global = plain.global;
-            valid = volume_whole _ (record { name = parts.name; amount = parts.amount; modes = parts.modes; reference = parts.reference; finalizers = rw plain.unguarded refl });
-            protected = rw plain.unguarded refl;
-            kept = refl };
-        unreferred = plain.unreferred }, new)
+          global = plain.global;
+          valid = volume_whole _ (record { name = parts.name; amount = parts.amount; modes = parts.modes; reference = parts.reference; finalizers = rw plain.unguarded refl });
+          protected = rw plain.unguarded refl;
+          kept = refl;
+        };
+        unreferred = plain.unreferred;
+      },
+      new,
+    )
 
 fresh_claim : (default : Option (List ℕ)) (c : ClaimData) (version : ℕ) (moment : List ℕ) (rows : List Object) → IsPlainClaim c → row_at (key_of (Claim c)) rows ≡ None → create_fault false (Claim c) ≡ None
     → FreshOutcome rows (Stores Added (created default (Claim c) version moment))
 unfolding created admitted without_status with_meta
 fresh_claim default c version moment rows plain new fault =
-    let parts = claim_parts c fault in
-    (record {
+    let parts = claim_parts c fault in (
+      record {
         sound = record {
-            uid = _;
-            known = refl;
-            valid = claim_whole _ (record { name = parts.name; namespace = parts.namespace; amount = parts.amount; modes = parts.modes; finalizers = rw plain.unguarded refl });
-            kept = refl };
+          uid = _;
+          known = refl;
+          valid = claim_whole _ (record { name = parts.name; namespace = parts.namespace; amount = parts.amount; modes = parts.modes; finalizers = rw plain.unguarded refl });
+          kept = refl;
+        };
         unmarked = plain.unmarked;
         unnamed = plain.unnamed;
-        pending = refl }, new)
+        pending = refl;
+      },
+      new,
+    )
 
 pub create_fresh : (s : State) (o : Object) → IsPlain o → FreshOutcome s.rows (outcome s User (requests.Create o) first_moment None)
 unfolding outcome create lacks_node

@@ -1,7 +1,6 @@
 -- What each part of a run does, from what one call does.
-use Rattle.std.proofs.Common.{◌≡◌, ◌⊎◌, ℕ, zero, suc, ◌+◌, ◌*◌, ◌<◌, ◌≤◌, length, map, take, get_or, List, [], ◌∷◌, reverse, Bool, true, false, true≢false, Option, Some, None, Result, Ok, Err, IfOk, inl, inr, refl, sym, ◌∙◌, ap, subst, arith}
+use Rattle.std.proofs.Common.{◌≡◌, ◌⊎◌, ℕ, zero, suc, ◌+◌, ◌<◌, ◌≤◌, length, map, take, get_or, List, [], ◌∷◌, reverse, true, false, true≢false, Option, Some, None, Result, Ok, Err, IfOk, inl, inr, refl, sym, ◌∙◌, ap, subst, arith}
 use Rattle.std.specs.Prelude.{slice_get}
-use Rattle.std.proofs.lemmas.Option.{slice_get_within}
 use Rattle.kube_types.specs.declared.parts.Kind.{Kind}
 use Rattle.kube_types.specs.declared.parts.Kind.TheVariants as kinds
 use Rattle.kube_types.specs.declared.parts.VolumePhase.TheVariants as volumes
@@ -10,28 +9,27 @@ use Rattle.kube_types.specs.declared.objects.Volume.{Volume as VolumeData}
 use Rattle.kube_types.specs.declared.objects.Claim.{Claim as ClaimData}
 use Rattle.kube_types.specs.declared.objects.Object.{Object}
 use Rattle.kube_types.specs.declared.objects.Object.TheVariants.{Class, Node, Volume, Claim, Pod}
-use Rattle.kube_types.specs.Keys.{AreRows, key_of, row_at, put_row, rows_of, is_of_kind}
+use Rattle.kube_types.specs.Keys.{key_of, row_at, put_row, rows_of, is_of_kind}
 use Rattle.kube_types.specs.Bindings.{is_completed}
 use Rattle.call_types.specs.declared.entry.Entry.{Entry}
 use Rattle.call_types.specs.declared.request.SeatKind.TheVariants.{User, Binder}
 use Rattle.call_types.specs.declared.request.Request.{Request}
 use Rattle.call_types.specs.declared.request.Request.TheVariants as requests
 use Rattle.binder_model.specs.Store.{State}
-use Rattle.binder_model.specs.Answers.{Outcome, outcome, after, list}
+use Rattle.binder_model.specs.Answers.{outcome, after, list}
 use Rattle.binder_model.specs.World.{first_moment}
-use Rattle.binder_model.specs.Matching.{IsBest, IsBestAt, has_match}
+use Rattle.binder_model.specs.Matching.{has_match}
 use Rattle.binder_model.specs.BindWrites.{next_write, write_available, volume_key}
 use Rattle.binder_model.specs.Safe.{CompletedAreBound}
-use Rattle.plain_binder.specs.Calls.{IsPlain, IsCreateOf, IsBinderCall, AreCreates, AreCalls, store_after, rows_after, asked, store_with, is_asked}
+use Rattle.plain_binder.specs.Calls.{IsPlain, AreCreates, AreCalls, store_after, rows_after, asked, store_with, is_asked}
 use Rattle.plain_binder.specs.Stages.{as_volume, as_claim, volume_at, claim_at, keys_of, AreFresh, AvailableUpTo, AreServed, SettledUpTo, IsBinding}
-use Rattle.plain_binder.specs.Progress.{Adds, KeepsCount, MakesAvailable, Settles, IsChoice, IsUnderWay, Writes, Binds, Lists, MakesAllAvailable, Serves}
-use Rattle.plain_binder.proofs.Places.{slice_get-map, passes}
-use Rattle.plain_binder.proofs.Standing.{keys_of-put, row_at_place, key_at_place}
+use Rattle.plain_binder.specs.Progress.{Adds, MakesAvailable, Settles, IsUnderWay, Writes, Binds, Lists, MakesAllAvailable, Serves}
+use Rattle.plain_binder.proofs.Places.{passes}
+use Rattle.plain_binder.proofs.Standing.{keys_of-put, row_at_place}
 use Rattle.plain_binder.proofs.Outcomes.{in_phase, phase_stores, create_fresh}
 use Rattle.plain_binder.proofs.Fresh.{fresh_bound, fresh_put, fresh_after, free_in_phase, available_step, fresh_served, in_order}
-use Rattle.plain_binder.proofs.Matches.{no_best}
-use Rattle.plain_binder.proofs.Binding.{stored, global_key, advances, Advances}
-use Rattle.plain_binder.proofs.Served.{served_bound, binding_bound, binding_served, binding_settled, binding_begins, settled_step}
+use Rattle.plain_binder.proofs.Binding.{stored, global_key, advances}
+use Rattle.plain_binder.proofs.Served.{binding_bound, binding_served, binding_settled}
 use Rattle.plain_binder.proofs.Due.{nothing_due}
 use Rattle.plain_binder.proofs.Runs.{calls_next, created_next, in_order_after}
 
@@ -39,8 +37,9 @@ use Rattle.plain_binder.proofs.Runs.{calls_next, created_next, in_order_after}
 
 pub adds_one : (past new : List Entry) (request : Request) → new ≡ asked past 5 Binder request ∷ past → Adds 1 past new
 adds_one past new request call = record {
-    calls = λ objects h. subst (λ es. AreCalls objects (reverse es)) (sym call) (calls_next objects past (asked past 5 Binder request) (record { seat = refl; kind = refl; told = refl }) h);
-    few = rw call (omega arith) }
+  calls = λ objects h. subst (λ es. AreCalls objects (reverse es)) (sym call) (calls_next objects past (asked past 5 Binder request) (record { seat = refl; kind = refl; told = refl }) h);
+  few = rw call (omega arith);
+}
 
 pub adds_none : (past : List Entry) (n : ℕ) → Adds n past past
 adds_none past n = record { calls = λ objects h. h; few = omega arith }
@@ -101,10 +100,11 @@ module _ (past : List Entry) (place : ℕ) (v : VolumeData) (fresh : AreFresh (r
   available_made new before call store =
       let rows : rows_after new ≡ put_row (Volume made) (rows_after past) = ap (λ (s : State). s.rows) store ∙ made_rows in
       record {
-          adds = adds_one past new (write_available v) call;
-          count = ap (λ os. length (keys_of kinds.PersistentVolume os)) rows ∙ ap length (keys_of-put (Volume made) (Volume v) (rows_after past) (in_order_after past) found kinds.PersistentVolume);
-          fresh = subst AreFresh (sym rows) made_fresh;
-          reached = subst (λ os. AvailableUpTo os (place + 1)) (sym rows) (available_step (rows_after past) ((store_after past).version + 1) place v (in_order_after past) at before) }
+        adds = adds_one past new (write_available v) call;
+        count = ap (λ os. length (keys_of kinds.PersistentVolume os)) rows ∙ ap length (keys_of-put (Volume made) (Volume v) (rows_after past) (in_order_after past) found kinds.PersistentVolume);
+        fresh = subst AreFresh (sym rows) made_fresh;
+        reached = subst (λ os. AvailableUpTo os (place + 1)) (sym rows) (available_step (rows_after past) ((store_after past).version + 1) place v (in_order_after past) at before);
+      }
 
 pub available_left : (past : List Entry) (place : ℕ) → AreFresh (rows_after past) → AvailableUpTo (rows_after past) place → slice_get (rows_of kinds.PersistentVolume (rows_after past)) place ≡ None → MakesAvailable past place past
 available_left past place fresh before none = record { adds = adds_none past 1; count = refl; fresh = fresh; reached = available_none (rows_after past) place none before }
@@ -161,8 +161,9 @@ module _ (past : List Entry) (volume claim : Key) (request : Request) (v : Volum
 
   pub step_made : (new : List Entry) → new ≡ asked past 5 Binder request ∷ past → store_after new ≡ store_with past Binder request → Writes past volume claim new
   step_made new call store = record {
-      adds = adds_one past new request call;
-      advances = λ n before lt b. subst (λ (s : State). IsBinding (suc n) before s.rows volume claim) (sym store) (step n before lt b) }
+    adds = adds_one past new request call;
+    advances = λ n before lt b. subst (λ (s : State). IsBinding (suc n) before s.rows volume claim) (sym store) (step n before lt b);
+  }
 
 -- a binding that is under way has a next write
 pub step_stands : (past : List Entry) (volume claim : Key) (u : IsUnderWay (rows_after past) volume claim) → None ≡ next_write u.binding.v u.binding.c → ⊥
@@ -232,8 +233,9 @@ no_claim rows place h = by (slice_get (rows_of kinds.PersistentVolumeClaim rows)
 pub all_available : (old new : List Entry) (n : ℕ) → Adds n old new → AreFresh (rows_after new) → AvailableUpTo (rows_after new) n
     → n ≡ length (keys_of kinds.PersistentVolume (rows_after new)) → n ≡ length (keys_of kinds.PersistentVolume (rows_after old)) → MakesAllAvailable old new
 all_available old new n adds fresh reached now before = record {
-    adds = adds_then n 0 (length (keys_of kinds.PersistentVolume (rows_after old))) old new new adds (adds_none new 0) (omega arith);
-    served = fresh_served (rows_after new) n (in_order_after new) fresh reached (omega arith) }
+  adds = adds_then n 0 (length (keys_of kinds.PersistentVolume (rows_after old))) old new new adds (adds_none new 0) (omega arith);
+  served = fresh_served (rows_after new) n (in_order_after new) fresh reached (omega arith);
+}
 
 pub all_settled : (old new : List Entry) (n m : ℕ) → Adds m old new → AreServed (rows_after new) → SettledUpTo (rows_after new) n → length (keys_of kinds.PersistentVolumeClaim (rows_after new)) ≤ n → Serves old new
 all_settled old new n m adds served reached all = record { calls = adds.calls; due = nothing_due (rows_after new) n (in_order_after new) served reached all }
@@ -241,10 +243,11 @@ all_settled old new n m adds served reached all = record { calls = adds.calls; d
 pub settles_bound : (past new : List Entry) (place : ℕ) (volume claim : Key) → SettledUpTo (rows_after past) place → slice_get (keys_of kinds.PersistentVolumeClaim (rows_after past)) place ≡ Some claim
     → Binds past volume claim new → Settles past place new
 settles_bound past new place volume claim before at b = record {
-    adds = b.adds;
-    count = ap length (b.bound.places kinds.PersistentVolumeClaim);
-    served = binding_served (rows_after past) (rows_after new) volume claim b.bound;
-    reached = binding_settled (rows_after past) (rows_after new) volume claim b.bound place at before }
+  adds = b.adds;
+  count = ap length (b.bound.places kinds.PersistentVolumeClaim);
+  served = binding_served (rows_after past) (rows_after new) volume claim b.bound;
+  reached = binding_settled (rows_after past) (rows_after new) volume claim b.bound place at before;
+}
 
 -- creates
 

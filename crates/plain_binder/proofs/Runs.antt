@@ -1,13 +1,11 @@
 -- Plain runs as histories, one request at a time.
-use Rattle.std.proofs.Common.{◌≡◌, ℕ, zero, suc, ◌+◌, ◌<◌, ◌≤◌, length, List, [], ◌∷◌, ◌++◌, take, get_or, reverse, All, Bool, true, false, true≢false, Option, Some, None, refl, sym, ◌∙◌, ap, subst, arith, append_assoc, append-nil, if◌then◌else◌, cond, filter, map}
-use Rattle.std.specs.Bool.{⊤}
+use Rattle.std.proofs.Common.{◌≡◌, ℕ, zero, suc, ◌+◌, ◌<◌, ◌≤◌, length, List, [], ◌∷◌, ◌++◌, take, get_or, reverse, All, Bool, true, false, true≢false, None, refl, sym, ◌∙◌, ap, subst, arith, append_assoc, append-nil, if◌then◌else◌, cond, filter}
 use Rattle.std.proofs.Math.Seq.{take-suc}
 use Rattle.std.proofs.lemmas.List.{reverse-append, reverse-reverse, length-map}
 use Rattle.std.proofs.lemmas.List.Elements.{All-append, All-nil}
 use Rattle.std.specs.declared.cmp.Ordering.{Ordering}
 use Rattle.std.specs.declared.cmp.Ordering.TheVariants.{Less, Equal, Greater}
 use Rattle.std.specs.Ordering.{is_eq, match_ordering}
-use Rattle.plain_data.specs.Rows.{put, without}
 use Rattle.kube_types.specs.declared.objects.Object.{Object}
 use Rattle.plain_data.proofs.RowFacts.{rising_put, rising_without}
 use Rattle.kube_types.specs.declared.parts.Kind.{Kind}
@@ -23,8 +21,8 @@ use Rattle.call_types.specs.declared.reply.Reply.{Reply}
 use Rattle.binder_model.specs.Store.{State, no_store}
 use Rattle.binder_model.specs.Answers.{Outcome, Says, Stores, Removes, outcome, after, reply_of, is_for_store}
 use Rattle.binder_model.specs.Devices.{device_answer, no_devices}
-use Rattle.binder_model.specs.World.{World, Effect, OnStore, OnDevices, SetsMoment, world, effect, on_devices, world_after, reply_to, first_moment, IsHistory}
-use Rattle.binder_model.specs.Safe.{AreBindings, CompletedAreBound, AreBindingsThroughout}
+use Rattle.binder_model.specs.World.{World, Effect, OnStore, OnDevices, SetsMoment, world, effect, on_devices, world_after, reply_to, first_moment}
+use Rattle.binder_model.specs.Safe.{AreBindings, CompletedAreBound}
 use Rattle.plain_binder.specs.Calls.{no_setup, store_after, rows_after, asked, store_with, is_asked, IsRun, AreCreates, AreCalls, IsCreateOf, IsBinderCall}
 use Rattle.plain_binder.proofs.Fresh.{bound_apart, fresh_bound, no_rows}
 
@@ -66,12 +64,13 @@ module _ (past : List Entry) (seat : ℕ) (kind : SeatKind) (request : Request) 
 
   pub run_asked : (new : State) → new ≡ store_with past kind request → CompletedAreBound (store_with past kind request).rows → IsRun (asked past seat kind request ∷ past) new moment
   run_asked new made bound = record {
-      history = (run.history, reply_asked);
-      at_first = moment_asked;
-      first = run.first;
-      state = made ∙ sym store_asked;
-      bindings = (subst (λ (s : State). AreBindings s.rows) (sym store_asked) (bound_apart (store_with past kind request).rows bound), run.bindings);
-      unasked = devices_asked }
+    history = (run.history, reply_asked);
+    at_first = moment_asked;
+    first = run.first;
+    state = made ∙ sym store_asked;
+    bindings = (subst (λ (s : State). AreBindings s.rows) (sym store_asked) (bound_apart (store_with past kind request).rows bound), run.bindings);
+    unasked = devices_asked;
+  }
 
 pub run_begins : (moment : List ℕ) → moment ≡ first_moment → IsRun [] no_store moment
 run_begins moment is = record { history = tt; at_first = refl; first = is; state = refl; bindings = bound_apart [] (fresh_bound [] no_rows); unasked = refl }
@@ -175,11 +174,12 @@ one_call e h (suc k) d lt = absurd (omega arith)
 
 pub calls_next : (objects : List Object) (past : List Entry) (e : Entry) → IsBinderCall e → AreCalls objects (reverse past) → AreCalls objects (reverse (e ∷ past))
 calls_next objects past e is h = record {
-    creates = h.creates;
-    others = h.others ++ (e ∷ []);
-    whole = reverse-next e past ∙ ap (λ es. es ++ (e ∷ [])) h.whole ∙ append_assoc h.creates h.others (e ∷ []);
-    created = h.created;
-    alone = All-append IsBinderCall h.others (e ∷ []) h.alone (one_call e is) }
+  creates = h.creates;
+  others = h.others ++ (e ∷ []);
+  whole = reverse-next e past ∙ ap (λ es. es ++ (e ∷ [])) h.whole ∙ append_assoc h.creates h.others (e ∷ []);
+  created = h.created;
+  alone = All-append IsBinderCall h.others (e ∷ []) h.alone (one_call e is);
+}
 
 pub record IsPushed (past pushed : List Entry) (seat : ℕ) (kind : SeatKind) (request : Request) (new : State) (moment : List ℕ) : Type 0 where
   pub run : IsRun (reverse pushed) new moment
@@ -199,12 +199,13 @@ run_pushed entries pushed past store new moment seat kind request reply view run
     let made : new ≡ store_with past kind request = state ∙ ap (λ s. after s (outcome s kind request moment None)) run.state ∙ ap (λ m. after (store_after past) (outcome (store_after past) kind request m None)) run.first in
     let told : reply ≡ reply_of (outcome (store_after past) kind request first_moment None) = answer ∙ ap (λ s. reply_of (outcome s kind request moment None)) run.state ∙ ap (λ m. reply_of (outcome (store_after past) kind request m None)) run.first in
     let call : reverse pushed ≡ asked past seat kind request ∷ past =
-        ap (λ es. reverse es) push ∙ reverse-last entries _ ∙ ap (λ es. record { seat = seat; kind = kind; request = request; reply = reply; told = true } ∷ es) view
-        ∙ ap (λ r. record { seat = seat; kind = kind; request = request; reply = r; told = true } ∷ past) told in
+    ap (λ es. reverse es) push ∙ reverse-last entries _ ∙ ap (λ es. record { seat = seat; kind = kind; request = request; reply = reply; told = true } ∷ es) view
+    ∙ ap (λ r. record { seat = seat; kind = kind; request = request; reply = r; told = true } ∷ past) told in
     record {
-        run = subst (λ p. IsRun p new moment) (sym call) (run_asked past seat kind request is store moment run new made bound);
-        call = call;
-        store = ap (λ p. store_after p) call ∙ store_asked past seat kind request is store moment run }
+      run = subst (λ p. IsRun p new moment) (sym call) (run_asked past seat kind request is store moment run new made bound);
+      call = call;
+      store = ap (λ p. store_after p) call ∙ store_asked past seat kind request is store moment run;
+    }
 
 pub oldest_first : (entries : List Entry) → entries ≡ reverse (reverse entries)
 oldest_first entries = sym (reverse-reverse entries)

@@ -1,19 +1,17 @@
 -- A part of an object is the same as itself.
-use Rattle.std.proofs.Common.{◌≡◌, ℕ, ◌==◌, ◌&&◌, List, [], ◌∷◌, Bool, true, false, Option, Some, None, refl, arith, bytes_eq}
+use Rattle.std.proofs.Common.{◌≡◌, ℕ, ◌==◌, List, [], ◌∷◌, Bool, true, false, Option, Some, None, refl, arith, bytes_eq}
 use Rattle.std.specs.Bool.{beq}
 use Rattle.std.proofs.lemmas.Bool.Decides.{nat_tests}
 use Rattle.std.proofs.lemmas.Slice.Eq.{bytes_eq-Decides}
 use lib.Pointwise.{pointwise}
 use Rattle.plain_data.specs.Pairs.{Pair}
 use Rattle.kube_types.specs.declared.parts.Modes.{Modes}
-use Rattle.kube_types.specs.declared.parts.Op.{Op}
-use Rattle.kube_types.specs.declared.parts.SourceKind.{SourceKind}
 use Rattle.kube_types.specs.declared.objects.Amount.{Amount}
 use Rattle.kube_types.specs.declared.objects.Source.{Source}
 use Rattle.kube_types.specs.declared.objects.Expr.{Expr}
 use Rattle.kube_types.specs.declared.objects.Selector.{Selector}
 use Rattle.kube_types.specs.declared.objects.NodeTerms.{NodeTerms}
-use Rattle.binder_model.specs.Same.{same_option, same_names, same_pair, same_pairs, same_modes, same_amount, op_index, same_expr, same_exprs, same_selector, same_terms, source_index, same_source}
+use Rattle.binder_model.specs.Same.{same_option, same_names, same_pair, same_modes, same_amount, op_index, same_expr, same_exprs, same_selector, same_terms, source_index, same_source}
 
 pub number_own : (n : ℕ) → (n == n) ≡ true
 number_own n = grind (arith, nat_tests)

@@ -1,26 +1,24 @@
 -- Between the bindings: how one begins and ends, and that the completed claims are bound all the way.
-use Rattle.std.proofs.Common.{◌≡◌, ◌≢◌, ◌⊎◌, ℕ, zero, suc, ◌+◌, ◌<◌, ◌≤◌, length, List, [], Bool, true, false, true≢false, not, ◌&&◌, ◌||◌, Option, Some, None, inl, inr, refl, sym, ◌∙◌, ap, subst, arith, bytes_eq, is_none}
+use Rattle.std.proofs.Common.{◌≡◌, ◌≢◌, ◌⊎◌, ℕ, zero, suc, ◌+◌, ◌<◌, ◌≤◌, length, List, Bool, true, false, true≢false, not, ◌&&◌, Option, Some, None, inl, inr, refl, sym, ◌∙◌, ap, subst, arith}
 use Rattle.std.specs.Prelude.{slice_get}
 use Rattle.std.proofs.lemmas.Option.{slice_get_within}
 use Rattle.kube_types.specs.declared.parts.Kind.TheVariants as kinds
 use Rattle.kube_types.specs.declared.parts.VolumePhase.TheVariants as volumes
 use Rattle.kube_types.specs.declared.key.Key.{Key}
-use Rattle.kube_types.specs.declared.objects.Ref.{Ref}
 use Rattle.kube_types.specs.declared.objects.Volume.{Volume as VolumeData}
 use Rattle.kube_types.specs.declared.objects.Claim.{Claim as ClaimData}
 use Rattle.kube_types.specs.declared.objects.Object.{Object}
 use Rattle.kube_types.specs.declared.objects.Object.TheVariants.{Class, Node, Volume, Claim, Pod}
 use Rattle.kube_types.specs.Keys.{AreRows, key_of, row_at, rows_of}
-use Rattle.kube_types.specs.Bindings.{is_completed, is_bound, is_empty, is_for, is_released, is_available, is_deleting, is_protected_volume}
+use Rattle.kube_types.specs.Bindings.{is_completed, is_deleting, is_protected_volume}
 use Rattle.kube_types.proofs.KeyOrder.{row_at_key}
 use Rattle.binder_model.specs.Matching.{eligible, may_serve, fits, selected, admitted_on, has_match}
-use Rattle.binder_model.specs.BindWrites.{ref_to, volume_key, claim_key, shows_bound}
+use Rattle.binder_model.specs.BindWrites.{ref_to, volume_key}
 use Rattle.binder_model.specs.Safe.{IsBoundTo, CompletedAreBound}
-use Rattle.plain_binder.specs.Stages.{keys_of, IsSoundVolume, IsSoundClaim, IsFree, IsOpen, IsPair, IsServed, IsServedVolume, IsServedClaim, Free, Taken, Open, Done, AreServed, SettledUpTo, IsStage, IsBinding}
-use Rattle.plain_binder.proofs.Valid.{volume_parts, name_stands}
+use Rattle.plain_binder.specs.Stages.{keys_of, IsSoundClaim, IsFree, IsOpen, IsPair, IsServed, IsServedVolume, IsServedClaim, Free, Taken, Open, Done, AreServed, SettledUpTo, IsStage, IsBinding}
 use Rattle.plain_binder.proofs.Standing.{key_tells, row_at_place, key_at_place, place_of_row}
-use Rattle.plain_binder.proofs.Fresh.{both, named_key, open_not_completed, in_order}
-use Rattle.plain_binder.proofs.Matches.{no_best, takes_no_other}
+use Rattle.plain_binder.proofs.Fresh.{open_not_completed, in_order}
+use Rattle.plain_binder.proofs.Matches.{takes_no_other}
 use Rattle.plain_binder.proofs.Binding.{kinds_apart, global_key, carries_ref}
 
 pub same_volume : (v u : VolumeData) (o : Option Object) → o ≡ Some (Volume v) → o ≡ Some (Volume u) → v ≡ u
@@ -32,10 +30,11 @@ same_claim c d o e f = cc
 -- the volume of a pair carries its claim and is Bound
 pair_bound : (rows : List Object) (v : VolumeData) (c : ClaimData) → IsPair rows v c → IsBoundTo rows c
 pair_bound rows v c p = record {
-    volume = v;
-    there = ap (λ n. row_at (volume_key n) rows) p.named ∙ p.volume;
-    carries = carries_ref v c p.sound_claim p.reference;
-    bound = rw p.bound refl }
+  volume = v;
+  there = ap (λ n. row_at (volume_key n) rows) p.named ∙ p.volume;
+  carries = carries_ref v c p.sound_claim p.reference;
+  bound = rw p.bound refl;
+}
 
 pub served_bound : (rows : List Object) → AreServed rows → CompletedAreBound rows
 served_bound rows served key c at done = by (served key (Claim c) at)
@@ -49,15 +48,21 @@ pair_stays : (n : ℕ) (old rows : List Object) (volume claim : Key) (b : IsBind
 pair_stays n old rows volume claim b v c p =
     let v_key = global_key v p.sound_volume in
     let not_volume : volume_key v.meta.name ≢ volume = λ e.
-        let none : v.claim_ref ≡ None = b.free v (ap (λ k. row_at k old) (sym e) ∙ p.volume) in
-        let some : v.claim_ref ≡ Some (ref_to c) = p.reference in
-        absurd cc in
+    let none : v.claim_ref ≡ None = b.free v (ap (λ k. row_at k old) (sym e) ∙ p.volume) in
+    let some : v.claim_ref ≡ Some (ref_to c) = p.reference in
+    absurd cc in
     let not_claim : key_of (Claim c) ≢ claim = λ e. true≢false (sym p.completed ∙ b.open_before c (ap (λ k. row_at k old) (sym e) ∙ p.claim)) in
     record {
-        volume = b.others (volume_key v.meta.name) not_volume (λ e. kinds_apart v b.c (sym v_key ∙ e ∙ sym b.claim_is)) ∙ p.volume;
-        claim = b.others (key_of (Claim c)) (λ e. kinds_apart b.v c (b.volume_is ∙ sym e)) not_claim ∙ p.claim;
-        sound_volume = p.sound_volume; sound_claim = p.sound_claim; reference = p.reference; bound = p.bound;
-        completed = p.completed; named = p.named; shown = p.shown }
+      volume = b.others (volume_key v.meta.name) not_volume (λ e. kinds_apart v b.c (sym v_key ∙ e ∙ sym b.claim_is)) ∙ p.volume;
+      claim = b.others (key_of (Claim c)) (λ e. kinds_apart b.v c (b.volume_is ∙ sym e)) not_claim ∙ p.claim;
+      sound_volume = p.sound_volume;
+      sound_claim = p.sound_claim;
+      reference = p.reference;
+      bound = p.bound;
+      completed = p.completed;
+      named = p.named;
+      shown = p.shown;
+    }
 
 -- the claim of a binding is not completed before its volume carries it and is Bound
 stage_bound : (n : ℕ) (rows : List Object) (v : VolumeData) (c : ClaimData) → row_at (volume_key v.meta.name) rows ≡ Some (Volume v) → IsSoundClaim c → IsStage n v c → is_completed c ≡ true → IsBoundTo rows c
@@ -84,8 +89,10 @@ module _ (n : ℕ) (old rows : List Object) (volume claim : Key) (b : IsBinding 
       before : IsServedClaim old d → IsBoundTo rows d
       before (Open o) = absurd (true≢false (sym done ∙ open_not_completed d o))
       before (Done v p) = pair_bound rows v d (pair_stays n old rows volume claim b v d p)
+
       own : b.c ≡ d → IsBoundTo rows d
       own is = subst (λ c. IsBoundTo rows c) is (stage_bound n rows b.v b.c volume_row b.sound_claim b.stage_is (ap (λ (c : ClaimData). is_completed c) is ∙ done))
+
       by : (key ≡ claim) ⊎ (key ≢ claim) → IsBoundTo rows d
       by (inl is) = own (same_claim b.c d (row_at claim rows) b.claim_there (ap (λ k. row_at k rows) (sym is) ∙ at))
       by (inr differs) = before (b.begun key (Claim d) (claim_before key d at differs))
@@ -93,9 +100,16 @@ module _ (n : ℕ) (old rows : List Object) (volume claim : Key) (b : IsBinding 
 module _ (old rows : List Object) (volume claim : Key) (b : IsBinding 4 old rows volume claim) where
   pair : IsPair rows b.v b.c
   pair = record {
-      volume = volume_row 4 old rows volume claim b; claim = claim_row 4 old rows volume claim b;
-      sound_volume = b.sound_volume; sound_claim = b.sound_claim; reference = b.stage_is.0; bound = b.stage_is.1;
-      completed = b.stage_is.2; named = b.stage_is.3; shown = b.stage_is.4 }
+    volume = volume_row 4 old rows volume claim b;
+    claim = claim_row 4 old rows volume claim b;
+    sound_volume = b.sound_volume;
+    sound_claim = b.sound_claim;
+    reference = b.stage_is.0;
+    bound = b.stage_is.1;
+    completed = b.stage_is.2;
+    named = b.stage_is.3;
+    shown = b.stage_is.4;
+  }
 
   moved_volume : (v : VolumeData) → IsServedVolume old v → IsServedVolume rows v
   moved_volume v (Free f available) = Free f available
@@ -130,9 +144,11 @@ module _ (old rows : List Object) (volume claim : Key) (b : IsBinding 4 old rows
     where
       unmoved : slice_get (keys_of kinds.PersistentVolumeClaim old) j ≡ Some key
       unmoved = subst (λ ks. slice_get ks j ≡ Some key) (b.places kinds.PersistentVolumeClaim) there
+
       kept : key ≢ claim → (is_completed d ≡ true) ⊎ (has_match old d ≡ false) → (is_completed d ≡ true) ⊎ (has_match rows d ≡ false)
       kept differs (inl done) = inl done
       kept differs (inr none) = inr (b.matches d (λ e. differs (sym (row_at_key key (Claim d) rows at) ∙ e)) none)
+
       by : (key ≡ claim) ⊎ (key ≢ claim) → (j ≡ place) ⊎ (j < place) → (is_completed d ≡ true) ⊎ (has_match rows d ≡ false)
       by (inl is) order =
           let same = same_claim b.c d (row_at claim rows) b.claim_there (ap (λ k. row_at k rows) (sym is) ∙ at) in
@@ -172,14 +188,22 @@ binding_begins rows c place v order served at pending there may =
     let opened = open_claim rows c pending (served (key_of (Claim c)) (Claim c) at) in
     let free = eligible_free rows v c at opened (last_true (not (is_deleting v.meta)) (is_protected_volume v) (fits v c) (selected c.selector v.meta.labels) (admitted_on v None) (may_serve v c) may) (served (key_of (Volume v)) (Volume v) v_at) in
     record {
-        v = v; c = c; volume_is = refl; claim_is = refl; volume_there = v_at; claim_there = at;
-        sound_volume = free.0.sound; sound_claim = opened.sound; stage_is = (free.0.unreferred, free.1, opened);
-        others = λ key not_volume not_claim. refl;
-        begun = served;
-        free = λ u u_at. sym (ap (λ (x : VolumeData). x.claim_ref) (same_volume v u _ v_at u_at)) ∙ free.0.unreferred;
-        open_before = λ d d_at. sym (ap (λ (x : ClaimData). is_completed x) (same_claim c d _ at d_at)) ∙ open_not_completed c opened;
-        matches = λ d other none. none;
-        places = λ kind. refl }
+      v = v;
+      c = c;
+      volume_is = refl;
+      claim_is = refl;
+      volume_there = v_at;
+      claim_there = at;
+      sound_volume = free.0.sound;
+      sound_claim = opened.sound;
+      stage_is = (free.0.unreferred, free.1, opened);
+      others = λ key not_volume not_claim. refl;
+      begun = served;
+      free = λ u u_at. sym (ap (λ (x : VolumeData). x.claim_ref) (same_volume v u _ v_at u_at)) ∙ free.0.unreferred;
+      open_before = λ d d_at. sym (ap (λ (x : ClaimData). is_completed x) (same_claim c d _ at d_at)) ∙ open_not_completed c opened;
+      matches = λ d other none. none;
+      places = λ kind. refl;
+    }
 
 some_key : (j k : Key) (o : Option Key) → o ≡ Some j → o ≡ Some k → j ≡ k
 some_key j k o e f = cc
@@ -191,8 +215,10 @@ settled_step rows place c order stands before now j key d lt there at = by (in_o
   where
     here : slice_get (keys_of kinds.PersistentVolumeClaim rows) place ≡ Some (key_of (Claim c))
     here = key_at_place kinds.PersistentVolumeClaim place (Claim c) rows stands
+
     found : row_at (key_of (Claim c)) rows ≡ Some (Claim c)
     found = row_at_place kinds.PersistentVolumeClaim place (Claim c) rows order stands
+
     by : (j ≡ place) ⊎ (j < place) → (is_completed d ≡ true) ⊎ (has_match rows d ≡ false)
     by (inl is) =
         let own : slice_get (keys_of kinds.PersistentVolumeClaim rows) place ≡ Some key = subst (λ i. slice_get (keys_of kinds.PersistentVolumeClaim rows) i ≡ Some key) is there in

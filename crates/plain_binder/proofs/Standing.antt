@@ -1,5 +1,5 @@
 -- What stands in rows of objects after a put, and at which place.
-use Rattle.std.proofs.Common.{◌≡◌, ◌≢◌, ◌⊎◌, ℕ, zero, List, map, Bool, true, false, true≢false, Option, Some, None, inl, inr, refl, sym, ◌∙◌, ap, subst, ◌==◌}
+use Rattle.std.proofs.Common.{◌≡◌, ◌≢◌, ◌⊎◌, ℕ, List, Bool, true, false, true≢false, Some, inl, inr, refl, sym, ◌∙◌, ap, subst, ◌==◌}
 use Rattle.std.specs.Prelude.{slice_get}
 use Rattle.std.specs.List.{list_any}
 use Rattle.std.specs.declared.cmp.Ordering.{Ordering}
@@ -12,7 +12,7 @@ use Rattle.kube_types.specs.declared.objects.Object.{Object}
 use Rattle.kube_types.specs.Keys.{AreRows, key_cmp, key_of, kind_index, row_at, put_row, rows_of, is_of_kind}
 use Rattle.kube_types.proofs.KeyOrder.{key_cmp_total, same_key, row_at-put_row, row_at-put_row_other}
 use Rattle.plain_binder.specs.Stages.{keys_of}
-use Rattle.plain_binder.proofs.Places.{slice_get-map, passes, place_of_found, found_at_place, keys_put, any_put}
+use Rattle.plain_binder.proofs.Places.{slice_get-map, place_of_found, found_at_place, keys_put, any_put}
 
 -- two keys are one, or they are not
 pub key_tells : (a b : Key) → (a ≡ b) ⊎ (a ≢ b)
@@ -20,6 +20,7 @@ key_tells a b = by (key_cmp a b) refl
   where
     apart : (r : Ordering) → key_cmp a b ≡ r → is_eq r ≡ false → a ≢ b
     apart r e other is = true≢false (sym (ap is_eq (subst (λ k. key_cmp a k ≡ Equal) is (tied_itself key_cmp_total a))) ∙ ap is_eq e ∙ other)
+
     by : (r : Ordering) → key_cmp a b ≡ r → (a ≡ b) ⊎ (a ≢ b)
     by Less e = inr (apart Less e refl)
     by Equal e = inl (same_key a b e)

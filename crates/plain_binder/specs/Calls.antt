@@ -1,6 +1,6 @@
 -- The calls of a run on plain objects: each is created once, in order; then the binder alone asks.
 -- A choice of this project: seat 1 is the user's, seat 5 the binder's, and every call is told.
-use Rattle.std.specs.Prelude.{ℕ, ◌≡◌, Bool, true, false, List, [], ◌∷◌, ◌++◌, Option, Some, None, All, ⊤, reverse}
+use Rattle.std.specs.Prelude.{ℕ, ◌≡◌, Bool, true, false, List, [], ◌∷◌, ◌++◌, Some, None, All, ⊤, reverse}
 use Rattle.kube_types.specs.declared.objects.Volume.{Volume as VolumeData}
 use Rattle.kube_types.specs.declared.objects.Claim.{Claim as ClaimData}
 use Rattle.kube_types.specs.declared.objects.Object.{Object}

@@ -1,5 +1,5 @@
 -- How far the binding of plain objects has come, by what stands in the store.
-use Rattle.std.specs.Prelude.{ℕ, zero, suc, ◌≡◌, ◌≢◌, ◌<◌, ◌⊎◌, Bool, true, false, List, [], ◌∷◌, Option, Some, None, map, slice_get}
+use Rattle.std.specs.Prelude.{ℕ, zero, suc, ◌≡◌, ◌≢◌, ◌<◌, ◌⊎◌, true, false, List, [], Option, Some, None, map, slice_get}
 use Rattle.kube_types.specs.declared.uid.Uid.{Uid}
 use Rattle.kube_types.specs.declared.parts.Kind.{Kind}
 use Rattle.kube_types.specs.declared.parts.Kind.TheVariants as kinds
@@ -10,7 +10,7 @@ use Rattle.kube_types.specs.declared.objects.Volume.{Volume as VolumeData}
 use Rattle.kube_types.specs.declared.objects.Claim.{Claim as ClaimData}
 use Rattle.kube_types.specs.declared.objects.Object.{Object}
 use Rattle.kube_types.specs.declared.objects.Object.TheVariants.{Volume, Claim}
-use Rattle.kube_types.specs.Keys.{AreRows, key_of, row_at, rows_of}
+use Rattle.kube_types.specs.Keys.{key_of, row_at, rows_of}
 use Rattle.kube_types.specs.Bindings.{is_completed, is_protected_volume}
 use Rattle.binder_model.specs.Fields.{create_fault}
 use Rattle.binder_model.specs.Matching.{has_match}

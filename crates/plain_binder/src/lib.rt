@@ -4,6 +4,8 @@
 mod binder;
 mod plain;
 mod run;
+#[cfg(test)]
+mod tests;
 
 pub use plain::replay;
 pub use run::Run;

@@ -55,12 +55,7 @@ impl Run {
     }
 
     /// Makes one call, whose answer is told.
-    pub fn ask(
-        self,
-        seat: u64,
-        kind: SeatKind,
-        request: Request,
-    ) -> Result<Run, OutOfMemory>
+    pub fn ask(self, seat: u64, kind: SeatKind, request: Request) -> Result<Run, OutOfMemory>
         requires asked { is_asked request ≡ true }
         requires few { length self < 2 ^ 62 - 1 }
         requires bound { CompletedAreBound (store_with self kind request).rows }

@@ -1,4 +1,4 @@
-use Rattle.std.proofs.Common.{◌≡◌, ◌∷◌, [], String, string_bytes, map, arith, ap}
+use Rattle.std.proofs.Common.{string_bytes, map, arith, ap}
 use Rattle.std.specs.declared.alloc.Global.{Global}
 use Rattle.binder_console.proofs.Ends.{one_word}
 use Rattle.binder_console.proofs.console.are_replay.Goals as goal

@@ -1,5 +1,5 @@
 -- All claims are settled after the loop.
-use Rattle.std.proofs.Common.{◌≡◌, ◌≤◌, ◌*◌, length, arith, sym, ◌∙◌}
+use Rattle.std.proofs.Common.{◌≤◌, ◌*◌, length, arith}
 use Rattle.std.proofs.lemmas.List.{length-map}
 use Rattle.kube_types.specs.declared.parts.Kind.TheVariants as kinds
 use Rattle.kube_types.specs.Keys.{key_of, rows_of}

@@ -10,5 +10,5 @@ invariant-loop-place l = record {
   adds : Adds (4 * l.place) l.initial.run l.run;
   served : AreServed (rows_after l.run);
   reached : SettledUpTo (rows_after l.run) l.place;
-  count : l.count ≡ length (keys_of kinds.PersistentVolumeClaim (rows_after l.run))
+  count : l.count ≡ length (keys_of kinds.PersistentVolumeClaim (rows_after l.run));
 }

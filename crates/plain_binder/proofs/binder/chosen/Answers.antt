@@ -21,12 +21,12 @@ returns-in-None c = settled_none (rows_after c.args.run.now) c.args.place (no_cl
 pub returns-then-is_completed : goal.returns-then-is_completed
 returns-then-is_completed c =
     settled_step (rows_after c.args.run.now) c.args.place c.in-Some.claim.now (in_order_after c.args.run.now) (claim_stands (rows_after c.args.run.now) c.args.place c.in-Some.claim.now c.in-Some.ensures)
-        c.requires.before (inl (sym c.is_completed.ensures ∙ c.if-is_completed.true))
+    c.requires.before (inl (sym c.is_completed.ensures ∙ c.if-is_completed.true))
 
 pub returns-in-None-best : goal.returns-in-None-best
 returns-in-None-best c =
     settled_step (rows_after c.args.run.now) c.args.place c.in-Some.claim.now (in_order_after c.args.run.now) (claim_stands (rows_after c.args.run.now) c.args.place c.in-Some.claim.now c.in-Some.ensures)
-        c.requires.before (inr (no_best (rows_after c.args.run.now) c.in-Some.claim.now c.in-None-best.ensures))
+    c.requires.before (inr (no_best (rows_after c.args.run.now) c.in-Some.claim.now c.in-None-best.ensures))
 
 pub returns-in_ok-key-in-Some-volume-2 : goal.returns-in_ok-key-in-Some-volume-2
 returns-in_ok-key-in-Some-volume-2 c =
@@ -40,7 +40,8 @@ returns-in_ok-key-in-Some-volume-2 c =
     let best = c.in-Some-best.ensures in
     let same : best.volume ≡ volume = same_volume best.volume volume (slice_get (rows_of kinds.PersistentVolume rows) c.in-Some-best.place) best.candidate.there volume_there in
     let may : eligible volume claim None ≡ true = ap (λ v. eligible v claim None) (sym same) ∙ best.candidate.eligible in
-    let begins = binding_begins rows claim c.in-Some-best.place volume (in_order_after c.args.run.now) c.requires.served found pending volume_there may in
-    (subst (λ k. IsBinding 0 rows rows k c.in_ok-key-in-Some-volume-2.field-0) (sym c.in_ok-key-in-Some-volume.ensures)
-        (subst (λ k. IsBinding 0 rows rows (key_of (Volume volume)) k) (sym c.in_ok-key-in-Some-volume-2.ensures) begins),
-     key_at_place kinds.PersistentVolumeClaim c.args.place (Claim claim) rows claim_there ∙ ap (λ k. Some k) (sym c.in_ok-key-in-Some-volume-2.ensures))
+    let begins = binding_begins rows claim c.in-Some-best.place volume (in_order_after c.args.run.now) c.requires.served found pending volume_there may in (
+      subst (λ k. IsBinding 0 rows rows k c.in_ok-key-in-Some-volume-2.field-0) (sym c.in_ok-key-in-Some-volume.ensures)
+          (subst (λ k. IsBinding 0 rows rows (key_of (Volume volume)) k) (sym c.in_ok-key-in-Some-volume-2.ensures) begins),
+      key_at_place kinds.PersistentVolumeClaim c.args.place (Claim claim) rows claim_there ∙ ap (λ k. Some k) (sym c.in_ok-key-in-Some-volume-2.ensures),
+    )

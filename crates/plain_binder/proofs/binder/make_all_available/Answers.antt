@@ -20,4 +20,4 @@ returns c =
     let all : length (keys_of kinds.PersistentVolume (rows_after c.args.run)) ≡ length (rows_of kinds.PersistentVolume (rows_after c.args.run)) = length-map (rows_of kinds.PersistentVolume (rows_after c.args.run)) key_of in
     let ended : c.loop-place.place ≡ c.count-count.result = omega arith in
     all_available c.args.run c.loop-place.run c.loop-place.place c.loop-place.invariant.adds c.loop-place.invariant.fresh c.loop-place.invariant.reached
-        (ended ∙ c.loop-place.invariant.count) (ended ∙ c.count-count.ensures.count ∙ sym all)
+    (ended ∙ c.loop-place.invariant.count) (ended ∙ c.count-count.ensures.count ∙ sym all)

@@ -10,5 +10,5 @@ invariant-loop-place l = record {
   adds : Adds l.place l.initial.run l.run;
   fresh : AreFresh (rows_after l.run);
   reached : AvailableUpTo (rows_after l.run) l.place;
-  count : l.count ≡ length (keys_of kinds.PersistentVolume (rows_after l.run))
+  count : l.count ≡ length (keys_of kinds.PersistentVolume (rows_after l.run));
 }

@@ -23,5 +23,5 @@ pub returns-in-Some : goal.returns-in-Some
 returns-in-Some c =
     let b = c.requires.open.binding in
     ok_asked c.ask.result c.args.run c.in-Some.request (λ new. Writes c.args.run c.args.volume.now c.args.claim.now new)
-        (step_made c.args.run c.args.volume.now c.args.claim.now c.in-Some.request b.v b.c b.volume_there b.claim_there (sym c.in-Some.is ∙ c.in_ok-request.ensures b.v b.c b.volume_there b.claim_there))
-        c.ask.ensures.call c.ask.ensures.store
+    (step_made c.args.run c.args.volume.now c.args.claim.now c.in-Some.request b.v b.c b.volume_there b.claim_there (sym c.in-Some.is ∙ c.in_ok-request.ensures b.v b.c b.volume_there b.claim_there))
+    c.ask.ensures.call c.ask.ensures.store

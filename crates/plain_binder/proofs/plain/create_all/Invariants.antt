@@ -7,5 +7,5 @@ abbrev pub invariant-loop-object : goal.invariant-loop-object
 invariant-loop-object l = record {
   created : AreCreates (take l.object-index l.objects) (reverse l.run);
   fresh : AreFresh (rows_after l.run);
-  few : length l.run ≤ l.object-index
+  few : length l.run ≤ l.object-index;
 }

@@ -1,5 +1,5 @@
 -- One more call: the store's answer is the world's.
-use Rattle.std.proofs.Common.{◌≡◌, ◌≤◌, length, arith, ap, ◌∙◌}
+use Rattle.std.proofs.Common.{◌≤◌, length, arith, ap, ◌∙◌}
 use Rattle.binder_model.specs.Store.{State}
 use Rattle.plain_binder.specs.Calls.{store_after}
 use Rattle.plain_binder.proofs.Runs.{IsPushed, is_small, run_pushed}
@@ -14,7 +14,7 @@ call-requires-clause-room c =
 pushed : (c : goal.In_ok-push) → IsPushed c.args.self c.push.new.self c.args.seat c.args.kind c.args.request c.call.new.self c.self.inside.moment
 pushed c =
     run_pushed c.self.inside.entries c.push.new.self c.args.self c.self.inside.store c.call.new.self c.self.inside.moment c.args.seat c.args.kind c.args.request c.in_ok-reply.reply
-        c.self.view_is c.self.invariant c.requires.asked c.requires.bound c.in_ok-reply.ensures.state c.in_ok-reply.ensures.reply c.in_ok-push.ensures.ok
+    c.self.view_is c.self.invariant c.requires.asked c.requires.bound c.in_ok-reply.ensures.state c.in_ok-reply.ensures.reply c.in_ok-push.ensures.ok
 
 pub invariant_of-result : goal.invariant_of-result
 invariant_of-result c = (pushed c).run
