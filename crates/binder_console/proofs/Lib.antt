@@ -4,4 +4,3 @@ pub mod Objects
 pub mod Utf8
 pub mod Ends
 pub mod Plain
-pub mod KindOrder

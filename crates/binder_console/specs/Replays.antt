@@ -10,11 +10,6 @@ use Rattle.text_model.specs.declared.summary.Ending.TheVariants.{Settled}
 use Rattle.text_model.specs.Summaries.{summary_of}
 use Rattle.text_model.specs.Output.{final_lines, history_text, with_lines}
 
--- the list of an object that may be absent
-abbrev pub listed : Option Object → List Object
-listed None = []
-listed (Some o) = o ∷ []
-
 -- the numbers of a settled world
 unfoldable pub settled_summary : World → Summary
 settled_summary w = summary_of w.store.rows w.store.version (length w.devices.mounts) (count_by (λ d. d.there) w.devices.stored) w.devices.calls Settled
