@@ -1,5 +1,5 @@
 -- What a replay writes: its history, the objects that stand after it, and its numbers. The format is a choice of this project.
-use Rattle.std.specs.Prelude.{ℕ, ◌≡◌, List, [], ◌∷◌, Option, Some, None, length, reverse}
+use Rattle.std.specs.Prelude.{ℕ, ◌≡◌, List, length, reverse}
 use Rattle.std.specs.List.{count_by}
 use Rattle.kube_types.specs.declared.objects.Object.{Object}
 use Rattle.call_types.specs.declared.entry.Entry.{Entry}
