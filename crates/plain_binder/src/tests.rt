@@ -130,25 +130,42 @@ fn already_exists(reply: &Reply) -> bool {
     }
 }
 
+// Whether the run has so many calls, writes and objects.
+fn has_counts(run: &Run, calls: usize, writes: u64, objects: usize) -> bool {
+    run.entries().len() == calls && run.version() == writes && run.objects().len() == objects
+}
+
+fn nothing_runs(alloc: Global) -> Result<bool, OutOfMemory> {
+    let run = replay(alloc, &[])?;
+    Ok(has_counts(&run, 0, 0, 0))
+}
+
+fn pair_is_bound(alloc: Global) -> Result<bool, OutOfMemory> {
+    let volume = volume(alloc)?;
+    let claim = claim(alloc)?;
+    let run = run_of(alloc, volume, claim)?;
+    Ok(has_counts(&run, 10, 7, 2) && are_bound(&run))
+}
+
+fn is_second_refused(run: &Run) -> bool {
+    match run.entries().get(1) {
+        Some(entry) => already_exists(&entry.reply),
+        None => false,
+    }
+}
+
+fn twin_is_refused(alloc: Global) -> Result<bool, OutOfMemory> {
+    let first = volume(alloc)?;
+    let second = volume(alloc)?;
+    let run = run_of(alloc, first, second)?;
+    Ok(has_counts(&run, 6, 2, 1) && is_second_refused(&run) && is_available(&run))
+}
+
 #[test]
 fn objects_are_bound(rt: HostRuntime) -> Result<(), Fail> {
     let alloc = rt.alloc();
-
-    let none = replay(alloc, &[])?;
-    assert_eq!(rt; none.entries().len(), 0);
-    assert_eq!(rt; none.version(), 0);
-
-    let pair = run_of(alloc, volume(alloc)?, claim(alloc)?)?;
-    assert_eq!(rt; pair.entries().len(), 10);
-    assert_eq!(rt; pair.version(), 7);
-    assert_eq!(rt; pair.objects().len(), 2);
-    assert!(rt; are_bound(&pair));
-
-    let twice = run_of(alloc, volume(alloc)?, volume(alloc)?)?;
-    assert_eq!(rt; twice.entries().len(), 6);
-    assert!(rt; already_exists(&twice.entries()[1].reply));
-    assert_eq!(rt; twice.version(), 2);
-    assert_eq!(rt; twice.objects().len(), 1);
-    assert!(rt; is_available(&twice));
+    assert!(rt; nothing_runs(alloc)?);
+    assert!(rt; pair_is_bound(alloc)?);
+    assert!(rt; twin_is_refused(alloc)?);
     Ok(())
 }
