@@ -1,5 +1,5 @@
 -- What is unbound where the controller had made the binding, and which texts are empty.
-use Rattle.std.proofs.Common.{ℕ, ◌≡◌, ◌∙◌, List, [], ◌∷◌, ◌==◌, Bool, true, None, length, refl, sym, ap, subst, arith}
+use Rattle.std.proofs.Common.{ℕ, ◌≡◌, ◌∙◌, List, [], ◌∷◌, ◌==◌, true, None, length, refl, ap, arith}
 use Rattle.plain_data.specs.Pairs.{Pair, without_key}
 use Rattle.kube_types.specs.declared.objects.Volume.{Volume as VolumeData}
 use Rattle.kube_types.specs.Bindings.{bound_by_controller, has_key, is_empty}

@@ -31,6 +31,7 @@ edited (SetPolicy policy) o = None
 edited (SetClaimRef namespace name) (Volume v) = Some (Volume (record v { claim_ref = Some (record { namespace = namespace; name = name; uid = None }) }))
 edited (SetClaimRef namespace name) o = None
 edited ClearClaimRef (Volume v) = Some (Volume (record v {
-    claim_ref = None;
-    meta = record v.meta { annotations = without_key bound_by_controller v.meta.annotations } }))
+  claim_ref = None;
+  meta = record v.meta { annotations = without_key bound_by_controller v.meta.annotations };
+}))
 edited ClearClaimRef o = None

@@ -61,10 +61,10 @@ for_last v c = if is_for v c then 0 else 1
 abbrev pub match_cmp : ClaimData → VolumeData → VolumeData → Ordering
 match_cmp c v u =
     ordering_then (ordering_then (ordering_then
-        (nat_cmp (for_last v c) (for_last u c))
-        (nat_cmp (mode_count v.modes) (mode_count u.modes)))
-        (nat_cmp v.amount.bytes u.amount.bytes))
-        (text_cmp v.meta.name u.meta.name)
+    (nat_cmp (for_last v c) (for_last u c))
+    (nat_cmp (mode_count v.modes) (mode_count u.modes)))
+    (nat_cmp v.amount.bytes u.amount.bytes))
+    (text_cmp v.meta.name u.meta.name)
 
 abbrev pub is_excluded : List ℕ → ℕ → Bool
 is_excluded excluded place = list_any (λ p. p == place) excluded

@@ -27,16 +27,32 @@ terms_for (Some pair) = Some (record { terms = ((record { key = pair.0; op = In;
 
 abbrev pub provisioned_meta : Uid → List ℕ → Meta
 provisioned_meta uid provisioner = record {
-    namespace = []; name = data_name uid; uid = None; version = 0; created = []; deleted = None; labels = [];
-    annotations = put_pair bound_by_controller yes (put_pair provisioned_by provisioner []); finalizers = [] }
+  namespace = [];
+  name = data_name uid;
+  uid = None;
+  version = 0;
+  created = [];
+  deleted = None;
+  labels = [];
+  annotations = put_pair bound_by_controller yes (put_pair provisioned_by provisioner []);
+  finalizers = [];
+}
 
 -- the volume over the data that a provisioner gave for the claim
 unfoldable pub provisioned_volume : ClaimData → Uid → ClassData → DataId → Option (List ℕ × List ℕ) → VolumeData
 provisioned_volume c uid class id topology = record {
-    meta = provisioned_meta uid class.provisioner;
-    amount = c.amount; modes = c.modes; block = c.block; class = class.meta.name; policy = class.policy;
-    claim_ref = Some (ref_to c); source = record { kind = Csi; first = id.driver; second = id.id };
-    terms = terms_for topology; extra = []; phase = volumes.Pending }
+  meta = provisioned_meta uid class.provisioner;
+  amount = c.amount;
+  modes = c.modes;
+  block = c.block;
+  class = class.meta.name;
+  policy = class.policy;
+  claim_ref = Some (ref_to c);
+  source = record { kind = Csi; first = id.driver; second = id.id };
+  terms = terms_for topology;
+  extra = [];
+  phase = volumes.Pending;
+}
 
 -- the claim is one that may be provisioned, as far as the claim itself says
 abbrev pub is_wanting : ClaimData → Bool

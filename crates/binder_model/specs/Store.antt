@@ -78,8 +78,9 @@ admitted_class None default false = default
 unfoldable pub admitted : Option (List ℕ) → Object → Object
 admitted default (Volume v) = Volume (record v { meta = record v.meta { finalizers = with_finalizer pv_protection v.meta.finalizers } })
 admitted default (Claim c) = Claim (record c {
-    meta = record c.meta { finalizers = with_finalizer pvc_protection c.meta.finalizers };
-    class = admitted_class c.class default (has_key beta_class c.meta.annotations) })
+  meta = record c.meta { finalizers = with_finalizer pvc_protection c.meta.finalizers };
+  class = admitted_class c.class default (has_key beta_class c.meta.annotations);
+})
 admitted default o = o
 
 abbrev pub no_modes : Modes

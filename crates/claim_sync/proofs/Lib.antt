@@ -1,3 +1,4 @@
+pub mod Agrees
 pub mod Matches
 pub mod Rows
 pub mod Says

@@ -2,12 +2,11 @@
 use Rattle.std.proofs.Common.{ℕ, zero, suc, ◌≡◌, ◌∙◌, Bool, true, false, ◌&&◌, ◌||◌, List, [], ◌∷◌, Option, Some, None, is_some, slice_get, cond, refl, sym, ap}
 use Rattle.std.specs.List.{list_any}
 use Rattle.kube_types.specs.declared.parts.Kind.TheVariants as kinds
-use Rattle.kube_types.specs.declared.objects.Volume.{Volume as VolumeData}
 use Rattle.kube_types.specs.declared.objects.Claim.{Claim as ClaimData}
 use Rattle.kube_types.specs.declared.objects.Object.{Object}
 use Rattle.kube_types.specs.declared.objects.Object.TheVariants.{Class, Node, Volume, Claim, Pod}
 use Rattle.kube_types.specs.Keys.{is_of_kind, rows_of}
-use Rattle.binder_model.specs.Matching.{IsBest, IsCandidate, binder_takes, eligible, has_match, only_own_passes, waits_for_pod}
+use Rattle.binder_model.specs.Matching.{IsBest, binder_takes, eligible, has_match, only_own_passes, waits_for_pod}
 
 any_of_volumes : (p : Object → Bool) → ((o : Object) → is_of_kind kinds.PersistentVolume o ≡ false → p o ≡ false) → (rows : List Object) → list_any p rows ≡ list_any p (rows_of kinds.PersistentVolume rows)
 any_of_volumes p refused [] = refl

@@ -1,5 +1,5 @@
 -- The rows are exact, and say what is chosen by the conditions.
-use Rattle.std.proofs.Common.{ℕ, ◌≡◌, Bool, true, false, not, List, [], ◌∷◌, count_by, refl, if◌then◌else◌}
+use Rattle.std.proofs.Common.{◌≡◌, Bool, true, false, not, [], ◌∷◌, count_by, refl, if◌then◌else◌}
 use Rattle.case_table.specs.Cases.{IsExact, action_of, row_fits}
 use Rattle.case_table.proofs.Each.{each_list}
 use Rattle.claim_sync.specs.declared.action.ClaimStep.{ClaimStep}

@@ -4,10 +4,8 @@ use Rattle.kube_types.specs.declared.objects.Volume.{Volume as VolumeData}
 use Rattle.kube_types.specs.declared.objects.Claim.{Claim as ClaimData}
 use Rattle.kube_types.specs.declared.objects.Object.{Object}
 use Rattle.kube_types.specs.declared.lookup.Live.{Live}
-use Rattle.kube_types.specs.Keys.{row_at}
 use Rattle.kube_types.specs.Bindings.{is_completed, is_deleting, is_empty, is_for}
 use Rattle.binder_model.specs.Matching.{fits, has_match}
-use Rattle.binder_model.specs.BindWrites.{volume_key}
 use Rattle.binder_model.specs.BinderDue.{has_other_uid}
 use Rattle.volume_match.specs.Scan.{as_volume}
 use Rattle.case_table.specs.declared.rows.CaseRow.{CaseRow}

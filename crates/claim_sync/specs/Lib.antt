@@ -1,2 +1,3 @@
 pub mod ClaimDecision
+pub mod ClaimLaw
 pub mod ClaimTable

@@ -3,6 +3,7 @@
 
 mod action;
 mod decision;
+pub mod laws;
 mod place;
 mod seen;
 mod table;

@@ -1,6 +1,6 @@
 -- What a delete, and a new list of finalizers, come to.
 -- Source: Kubernetes documentation, "Finalizers"; that a pod leaves by its own verbs alone is a choice of this project.
-use Rattle.std.specs.Prelude.{ℕ, Bool, true, false, ◌&&◌, ◌||◌, List, if◌then◌else◌}
+use Rattle.std.specs.Prelude.{ℕ, Bool, ◌&&◌, ◌||◌, List, if◌then◌else◌}
 use Rattle.kube_types.specs.declared.objects.Object.{Object}
 use Rattle.kube_types.specs.Keys.{meta_of}
 use Rattle.kube_types.specs.Bindings.{is_deleting}

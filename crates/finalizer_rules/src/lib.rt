@@ -93,3 +93,6 @@ fn leave_if(leaves: bool) -> Fate
 {
     if leaves { Fate::Leave } else { Fate::Keep }
 }
+
+#[cfg(test)]
+mod tests;

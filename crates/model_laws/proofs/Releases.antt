@@ -29,8 +29,13 @@ referring = record { same = itself; refers = refl }
 
 may_release : MayRelease (read_gone ∷ told_volume ∷ []) bound_a
 may_release = record {
-    live = refl; reference = ref_to (c 2); uid = uid_of_serial 2; refers = refl; known = refl;
-    why = inl (inl ((refl, refl, tt), inl (refl, inl referring))) }
+  live = refl;
+  reference = ref_to (c 2);
+  uid = uid_of_serial 2;
+  refers = refl;
+  known = refl;
+  why = inl (inl ((refl, refl, tt), inl (refl, inl referring)));
+}
 
 binders : (first second : Entry) → first.kind ≡ Binder → second.kind ≡ Binder → AreOfKind Binder (first ∷ second ∷ [])
 binders first second e f zero d h = e

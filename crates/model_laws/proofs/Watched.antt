@@ -70,7 +70,8 @@ since setup (e ∷ newer) past =
     let l = left_of setup e (newer ++ past) in
     record {
       between = joined _ _ _ _ (wider _ _ _ _ _ (rises setup newer past) (omega arith) l.between) (wider _ _ _ _ _ (omega arith) l.up s.between);
-      log = l.log ∙ ap (λ xs. left_by (effect_of setup e (newer ++ past)) ++ xs) s.log ∙ assoc (left_by (effect_of setup e (newer ++ past))) (events_by setup newer past) (world setup past).log }
+      log = l.log ∙ ap (λ xs. left_by (effect_of setup e (newer ++ past)) ++ xs) s.log ∙ assoc (left_by (effect_of setup e (newer ++ past))) (events_by setup newer past) (world setup past).log;
+    }
 
 -- all events of a log are at most at the world's version
 logs : (setup : Setup) (past : List Entry) → (low : ℕ) → AreBetween 0 (world setup past).store.version (world setup past).log
@@ -78,7 +79,7 @@ logs setup [] low = tt
 logs setup (e ∷ past) low =
     let l = left_of setup e past in
     subst (AreBetween 0 (world setup (e ∷ past)).store.version) (sym l.log)
-      (joined _ _ _ _ (wider _ _ _ _ _ (omega arith) (omega arith) l.between) (wider _ _ _ _ _ (omega arith) l.up (logs setup past low)))
+    (joined _ _ _ _ (wider _ _ _ _ _ (omega arith) (omega arith) l.between) (wider _ _ _ _ _ (omega arith) l.up (logs setup past low)))
 
 lt_true : (a b : ℕ) → a < b → nat_lt a b ≡ true
 lt_true a b h = grind (arith, nat_tests)

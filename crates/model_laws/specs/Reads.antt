@@ -85,7 +85,7 @@ abbrev pub WatchesTellWhatCameAfter : Type 0
 WatchesTellWhatCameAfter =
     (setup : Setup) (newer past : List Entry) (kind : SeatKind) (of_kind : Kind)
     → let from = (world setup past).store.version in
-      let w = world setup (newer ++ past) in
-      let es = take most_events (reverse (filter (λ e. is_of_kind of_kind e.object) (events_by setup newer past))) in
-      oldest w.store.version ≤ from
-      → reply_to (effect setup w kind (Watch of_kind from)) ≡ Events (record { events = es; upto = reached w.store.version es })
+    let w = world setup (newer ++ past) in
+    let es = take most_events (reverse (filter (λ e. is_of_kind of_kind e.object) (events_by setup newer past))) in
+    oldest w.store.version ≤ from
+    → reply_to (effect setup w kind (Watch of_kind from)) ≡ Events (record { events = es; upto = reached w.store.version es })

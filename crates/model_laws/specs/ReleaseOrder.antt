@@ -16,11 +16,21 @@ use Rattle.model_laws.specs.Worked.{bound_a}
 
 abbrev pub read_gone : Entry
 read_gone = record {
-    seat = 5; kind = Binder; request = requests.Get (claim_key (codes "default") (codes "c")); reply = replies.Refused NotFound; told = true }
+  seat = 5;
+  kind = Binder;
+  request = requests.Get (claim_key (codes "default") (codes "c"));
+  reply = replies.Refused NotFound;
+  told = true;
+}
 
 abbrev pub told_volume : Entry
 told_volume = record {
-    seat = 5; kind = Binder; request = requests.List kinds.PersistentVolume None; reply = replies.Listed (Volume bound_a ∷ []) 5; told = true }
+  seat = 5;
+  kind = Binder;
+  request = requests.List kinds.PersistentVolume None;
+  reply = replies.Listed (Volume bound_a ∷ []) 5;
+  told = true;
+}
 
 abbrev pub release : Request
 release = requests.UpdateStatus (volume_key (codes "a")) (statuses.Volume volumes.Released) (Some 5)

@@ -71,13 +71,33 @@ amount gibibytes = record { text = codes "n"; bytes = gibibytes * 2 ^ 30 }
 
 abbrev pub volume : List ℕ → ℕ → VolumeData
 volume name size = record {
-    meta = named [] name; amount = amount size; modes = once; block = false; class = codes "slow"; policy = policies.Retain; claim_ref = None;
-    source = record { kind = sources.Nfs; first = codes "s"; second = codes "/x" }; terms = None; extra = []; phase = volumes.Pending }
+  meta = named [] name;
+  amount = amount size;
+  modes = once;
+  block = false;
+  class = codes "slow";
+  policy = policies.Retain;
+  claim_ref = None;
+  source = record { kind = sources.Nfs; first = codes "s"; second = codes "/x" };
+  terms = None;
+  extra = [];
+  phase = volumes.Pending;
+}
 
 abbrev pub claim : List ℕ → ℕ → ClaimData
 claim name size = record {
-    meta = named (codes "default") name; modes = once; amount = amount size; block = false; class = Some (codes "slow"); selector = None;
-    volume_name = []; extra = []; phase = claims.Pending; got_modes = no_modes; got = None }
+  meta = named (codes "default") name;
+  modes = once;
+  amount = amount size;
+  block = false;
+  class = Some (codes "slow");
+  selector = None;
+  volume_name = [];
+  extra = [];
+  phase = claims.Pending;
+  got_modes = no_modes;
+  got = None;
+}
 
 -- as the store keeps them
 
@@ -95,8 +115,10 @@ claim_at name size serial version = let c = claim name size in record c { meta =
 -- a volume that carries a claim
 abbrev pub volume_for : VolumeData → ClaimData → ℕ → VolumePhase → VolumeData
 volume_for v c version phase = record v {
-    meta = record v.meta { version = version; annotations = (bound_by_controller, yes) ∷ [] };
-    claim_ref = Some (record { namespace = c.meta.namespace; name = c.meta.name; uid = c.meta.uid }); phase = phase }
+  meta = record v.meta { version = version; annotations = (bound_by_controller, yes) ∷ [] };
+  claim_ref = Some (record { namespace = c.meta.namespace; name = c.meta.name; uid = c.meta.uid });
+  phase = phase;
+}
 
 -- the first run: a volume of 5 gibibytes and a claim of 3
 abbrev pub a : ℕ → VolumePhase → VolumeData
@@ -107,7 +129,9 @@ c version = claim_at (codes "c") 3 2 version
 
 abbrev pub completed_c : ℕ → ClaimData
 completed_c version = let old = c 2 in record old {
-    meta = record old.meta { version = version; annotations = (bind_completed, yes) ∷ (bound_by_controller, yes) ∷ [] }; volume_name = codes "a" }
+  meta = record old.meta { version = version; annotations = (bind_completed, yes) ∷ (bound_by_controller, yes) ∷ [] };
+  volume_name = codes "a";
+}
 
 abbrev pub creates : List Call
 creates = by seats.User (requests.Create (Volume (volume (codes "a") 5))) ∷ by seats.User (requests.Create (Claim (claim (codes "c") 3))) ∷ []
@@ -151,16 +175,16 @@ deleted_c = let old = c 2 in record old { meta = record old.meta { version = 6; 
 abbrev pub ClaimGoneBetweenWrites : Type 0
 ClaimGoneBetweenWrites =
     answers (world_of no_world (creates ++ binding_of_volume))
-        (by seats.User (requests.Delete (claim_key (codes "default") (codes "c")) None)
-        ∷ by seats.ClaimProtect (requests.Update (Claim leaving_c) (Some 6))
-        ∷ by seats.Binder (write_completion bound_a (c 2)) ∷ [])
+    (by seats.User (requests.Delete (claim_key (codes "default") (codes "c")) None)
+    ∷ by seats.ClaimProtect (requests.Update (Claim leaving_c) (Some 6))
+    ∷ by seats.Binder (write_completion bound_a (c 2)) ∷ [])
     ≡ replies.Done (Claim deleted_c) ∷ replies.Left (Claim left_c) ∷ replies.Refused refusals.NotFound ∷ []
 
 -- two claims name one volume: the reference to the second, decided on the volume as it was, is a conflict
 abbrev pub TwoClaimsOneVolume : Type 0
 TwoClaimsOneVolume =
     answers (world_of no_world (creates ++ binding_of_volume))
-        (by seats.Binder (write_reference (a 3 volumes.Available) (claim_at (codes "d") 3 9 9)) ∷ [])
+    (by seats.Binder (write_reference (a 3 volumes.Available) (claim_at (codes "d") 3 9 9)) ∷ [])
     ≡ replies.Refused (refusals.Conflict 5) ∷ []
 
 -- a volume that is deleted stays until its finalizer is dropped, and refuses what the guard and the fields forbid
@@ -173,14 +197,14 @@ deleted_a version finalizers = let old = a 1 volumes.Pending in record old { met
 abbrev pub DeletedVolumeRefuses : Type 0
 DeletedVolumeRefuses =
     answers no_world
-        (by seats.User (requests.Create (Volume (volume (codes "a") 5)))
-        ∷ by seats.User (requests.Delete key_a None)
-        ∷ by seats.User (requests.Delete key_a None)
-        ∷ by seats.User (requests.Edit key_a (edits.DropFinalizer pv_protection))
-        ∷ by seats.User (requests.Edit key_a (edits.AddFinalizer (codes "x/y")))
-        ∷ by seats.VolumeProtect (requests.Update (Volume (deleted_a 2 [])) (Some 1))
-        ∷ by seats.VolumeProtect (requests.Update (Volume (deleted_a 2 [])) (Some 2))
-        ∷ by seats.User (requests.Get key_a) ∷ [])
+    (by seats.User (requests.Create (Volume (volume (codes "a") 5)))
+    ∷ by seats.User (requests.Delete key_a None)
+    ∷ by seats.User (requests.Delete key_a None)
+    ∷ by seats.User (requests.Edit key_a (edits.DropFinalizer pv_protection))
+    ∷ by seats.User (requests.Edit key_a (edits.AddFinalizer (codes "x/y")))
+    ∷ by seats.VolumeProtect (requests.Update (Volume (deleted_a 2 [])) (Some 1))
+    ∷ by seats.VolumeProtect (requests.Update (Volume (deleted_a 2 [])) (Some 2))
+    ∷ by seats.User (requests.Get key_a) ∷ [])
     ≡ replies.Done (Volume (a 1 volumes.Pending))
     ∷ replies.Done (Volume (deleted_a 2 (pv_protection ∷ [])))
     ∷ replies.Done (Volume (deleted_a 2 (pv_protection ∷ [])))
@@ -194,8 +218,8 @@ DeletedVolumeRefuses =
 abbrev pub GuardOnAnnotations : Type 0
 GuardOnAnnotations =
     answers no_world
-        (by seats.User (requests.Create (Claim (claim (codes "c") 5)))
-        ∷ by seats.User (requests.Edit (claim_key (codes "default") (codes "c")) (edits.SetAnnotation bind_completed yes)) ∷ [])
+    (by seats.User (requests.Create (Claim (claim (codes "c") 5)))
+    ∷ by seats.User (requests.Edit (claim_key (codes "default") (codes "c")) (edits.SetAnnotation bind_completed yes)) ∷ [])
     ≡ replies.Done (Claim (claim_at (codes "c") 5 1 1)) ∷ replies.Refused (refusals.Forbidden rules.Annotation) ∷ []
 
 -- watches of a store at version 600 with an empty log
@@ -234,7 +258,7 @@ pub record IsModesBeforeSize : Type 0 where
 abbrev pub StaleEpochs : Type 0
 StaleEpochs =
     answers no_world
-        (by seats.Agent (requests.TakeNode (codes "n1")) ∷ by seats.Agent (requests.TakeNode (codes "n1"))
-        ∷ by seats.Agent (requests.Mounts (codes "n1") 1) ∷ by seats.Agent (requests.Mounts (codes "n1") 2)
-        ∷ by seats.User (requests.Mounts (codes "n1") 2) ∷ [])
+    (by seats.Agent (requests.TakeNode (codes "n1")) ∷ by seats.Agent (requests.TakeNode (codes "n1"))
+    ∷ by seats.Agent (requests.Mounts (codes "n1") 1) ∷ by seats.Agent (requests.Mounts (codes "n1") 2)
+    ∷ by seats.User (requests.Mounts (codes "n1") 2) ∷ [])
     ≡ replies.Epoch 1 ∷ replies.Epoch 2 ∷ replies.Refused (refusals.StaleEpoch 2) ∷ replies.Mounted [] ∷ replies.Refused (refusals.Forbidden rules.Verb) ∷ []

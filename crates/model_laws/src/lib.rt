@@ -57,71 +57,59 @@ pub fn epochs_rise()
 /// A data id is given once.
 pub fn data_ids_are_given_once()
     ensures { DataIdsAreGivenOnce }
-{
-}
+{}
 
 /// A watch from the version of an earlier world gives just the events of its kind after it, in order.
 pub fn watches_tell_what_came_after()
     ensures { WatchesTellWhatCameAfter }
-{
-}
+{}
 
 /// The first run: seven writes bind a volume and a claim, and the binder has nothing more to do.
 pub fn first_run()
     ensures { FirstRun }
-{
-}
+{}
 
 /// A claim that left between the second and the third write: its completion is answered NotFound.
 pub fn claim_gone_between_writes()
     ensures { ClaimGoneBetweenWrites }
-{
-}
+{}
 
 /// A second claim is refused the volume at the version before it was taken.
 pub fn two_claims_one_volume()
     ensures { TwoClaimsOneVolume }
-{
-}
+{}
 
 /// A volume that is deleted stays until its finalizer is dropped, and refuses what the guard and the fields forbid.
 pub fn deleted_volume_refuses()
     ensures { DeletedVolumeRefuses }
-{
-}
+{}
 
 /// A user may not set a guarded annotation.
 pub fn guard_on_annotations()
     ensures { GuardOnAnnotations }
-{
-}
+{}
 
 /// Watches of a store at version 600: below the window, at its edge, and above the version.
 pub fn watches()
     ensures { Watches }
-{
-}
+{}
 
 /// Of two volumes of one size the first by name is preferred.
 pub fn tie_by_name()
     ensures { IsTieByName }
-{
-}
+{}
 
 /// Fewer modes come before fewer bytes.
 pub fn modes_before_size()
     ensures { IsModesBeforeSize }
-{
-}
+{}
 
 /// A node that was taken twice refuses its first epoch.
 pub fn stale_epochs()
     ensures { StaleEpochs }
-{
-}
+{}
 
 /// A binder may write Released only where it read the claim gone after it was told the volume.
 pub fn release_order()
     ensures { IsReleaseOrder }
-{
-}
+{}

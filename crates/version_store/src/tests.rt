@@ -782,20 +782,41 @@ const ENDS: [Row; 22] = [
     (USER, Ask::Delete(CLASS, "b", None), NOON, "Left 28 deleted"),
 ];
 
+fn creates(rt: &impl Abort, alloc: Global, store: &mut Store) -> Result<(), Fail> {
+    go_on(rt, alloc, store, &CREATES)
+}
+
+fn updates(rt: &impl Abort, alloc: Global, store: &mut Store) -> Result<(), Fail> {
+    go_on(rt, alloc, store, &UPDATES)
+}
+
+fn edits(rt: &impl Abort, alloc: Global, store: &mut Store) -> Result<(), Fail> {
+    go_on(rt, alloc, store, &EDITS)
+}
+
+fn ends(rt: &impl Abort, alloc: Global, store: &mut Store) -> Result<(), Fail> {
+    go_on(rt, alloc, store, &ENDS)
+}
+
+/// What the store shows through the trait for look-ups.
+fn shows(rt: &impl Abort, store: &Store, gone: &Key) {
+    assert_eq!(rt; Lookup::count(store, CLASS), 2);
+    assert!(rt; Lookup::at(store, CLASS, 1).is_some());
+    assert!(rt; Lookup::row(store, gone).is_none());
+}
+
 /// Each verb's answers and refusals, and what the store then shows.
 #[test]
 fn verbs_answer_and_refuse(rt: HostRuntime) -> Result<(), Fail> {
     let alloc = rt.alloc();
     let mut store = Store::new(alloc);
-    go_on(&rt, alloc, &mut store, &CREATES)?;
-    go_on(&rt, alloc, &mut store, &UPDATES)?;
-    go_on(&rt, alloc, &mut store, &EDITS)?;
-    go_on(&rt, alloc, &mut store, &ENDS)?;
+    creates(&rt, alloc, &mut store)?;
+    updates(&rt, alloc, &mut store)?;
+    edits(&rt, alloc, &mut store)?;
+    ends(&rt, alloc, &mut store)?;
     assert_eq!(rt; store.count(CLAIM), 1);
     assert!(rt; store.at(CLAIM, 0).is_some());
     assert!(rt; store.at(CLAIM, 1).is_none());
-    assert_eq!(rt; Lookup::count(&store, CLASS), 2);
-    assert!(rt; Lookup::at(&store, CLASS, 1).is_some());
-    assert!(rt; Lookup::row(&store, &key(alloc, CLASS, "b")?).is_none());
+    shows(&rt, &store, &key(alloc, CLASS, "b")?);
     Ok(())
 }

@@ -1,2 +1,3 @@
 pub mod VolumeDecision
+pub mod VolumeLaw
 pub mod VolumeTable

@@ -1,0 +1,6 @@
+pub mod Readings
+pub mod PlainMembers
+pub mod PlainObjects
+pub mod PlainLines
+pub mod Replays
+pub mod Outcomes

@@ -1,0 +1,34 @@
+//! Why an input is not read.
+
+use plain_data::copies::OutOfMemory;
+use std::alloc::AllocError;
+
+/// Why a text is no list of plain lines.
+#[derive(Clone, Copy, Debug, PartialEq, Eq)]
+pub enum PlainError {
+    /// It is none.
+    Unbuilt,
+    OutOfMemory,
+}
+
+impl From<OutOfMemory> for PlainError {
+    ghost use Rattle.std.specs.Prelude.{◌≡◌};
+    ghost use Rattle.binder_console.specs.declared.errors.PlainError.TheVariants.{OutOfMemory};
+
+    ghost from_gives = { λ _ e. e ≡ OutOfMemory };
+
+    fn from(_e: OutOfMemory) -> PlainError {
+        PlainError::OutOfMemory
+    }
+}
+
+impl From<AllocError> for PlainError {
+    ghost use Rattle.std.specs.Prelude.{◌≡◌};
+    ghost use Rattle.binder_console.specs.declared.errors.PlainError.TheVariants.{OutOfMemory};
+
+    ghost from_gives = { λ _ e. e ≡ OutOfMemory };
+
+    fn from(_e: AllocError) -> PlainError {
+        PlainError::OutOfMemory
+    }
+}

@@ -1,0 +1,9 @@
+//! The decision is what is due.
+
+ghost use Rattle.claim_sync.specs.ClaimLaw.{DecidesDue};
+
+/// The law that the decision on a claim is what is due for it, where the look-up and each read see
+/// the store itself.
+pub fn decides_due()
+    ensures { DecidesDue }
+{}
