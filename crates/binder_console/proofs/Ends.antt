@@ -1,32 +1,40 @@
 -- How the program ends.
-use Rattle.std.proofs.Common.{◌≡◌, ℕ, ◌≤◌, List, [], ◌∷◌, length, get_or, String, None, refl, sym, ap, arith}
+use Rattle.std.proofs.Common.{◌≡◌, ℕ, List, String, Some, refl, subst}
 use Rattle.std.specs.declared.option.Option.{Option}
 use Rattle.std.specs.declared.alloc.Global.{Global}
-use Rattle.fault_io.specs.Reading.{IsLeft}
+use Rattle.fault_io.specs.Reading.{IsLongerThan}
 use Rattle.binder_console.specs.declared.status.Status.{Status}
 use Rattle.binder_console.specs.declared.status.Status.TheVariants.{Refused, WriteFault}
-use Rattle.binder_console.specs.PlainLines.{plain_objects}
-use Rattle.binder_console.specs.Outcomes.{AreReplay, EndsCut, EndsRefused, OfRefusal, RefusedWith, Unbuilt, Written, Whole, Front, most_input, unbuilt_text}
+use Rattle.binder_console.specs.declared.commands.Command.{Command}
+use Rattle.binder_console.specs.declared.answers.Answer.{Answer}
+use Rattle.binder_console.specs.declared.answers.Answer.TheVariants.{Refusal}
+use Rattle.binder_console.specs.Commands.{command_of}
+use Rattle.binder_console.specs.Outcomes.{IsAnswer, Refuses, EndsCut, EndsRefused, OfRefusal, TooLong, OfInput, IsInput, Written, Whole, Front, most_input, too_long_text}
 
--- a list of one word
-pub one_word : (words : List (String Global)) (word : String Global) → length words ≡ 1 → word ≡ get_or words 0 word → words ≡ word ∷ []
-one_word [] word h e = absurd (omega arith)
-one_word (x ∷ []) word h e = ap (λ w. w ∷ []) (sym e)
-one_word (x ∷ y ∷ more) word h e = absurd (omega (arith, h))
+-- ---- of an input that the command refuses
 
-refused_unbuilt : (left : Option (List ℕ)) (input : List ℕ) → IsLeft left input → length input ≤ most_input → plain_objects input ≡ None → RefusedWith left unbuilt_text
-refused_unbuilt left input whole short none = Unbuilt input (record { whole = whole; short = short }) none refl
+pub of_refusal : (command : Command) (input text : List ℕ) (answer : Answer) → answer ≡ Refusal text → IsAnswer command input answer → Refuses command input text
+of_refusal command input text answer same h = subst (IsAnswer command input) same h
 
--- the line of an input that is no list of plain lines was written
-pub ends_refused : (left written now : Option (List ℕ)) (old new : ℕ) (input : List ℕ) (status : Status)
-    → IsLeft left input → length input ≤ most_input → plain_objects input ≡ None → Written written now old new unbuilt_text Refused status
-    → status ≡ Refused → EndsRefused left written now
-ends_refused left written now old new input status whole short none (Whole e a) h = record { text = unbuilt_text; refused = refused_unbuilt left input whole short none; appended = a }
-ends_refused left written now old new input status whole short none (Front e r f) h = absurd (cc)
+pub refused : (command : Command) (words : List (String Global)) (left written now : Option (List ℕ)) (old new : ℕ) (input text : List ℕ) (status : Status)
+    → command_of words ≡ Some command → IsInput left input → Refuses command input text → Written written now old new text Refused status
+    → status ≡ Refused → EndsRefused words left written now
+refused command words left written now old new input text status named read refuses (Whole e a) h =
+    record { command = command; text = text; named = named; refused = OfInput input read refuses; appended = a }
+refused command words left written now old new input text status named read refuses (Front e r f) h = absurd (cc)
 
--- a front of that line was written
-pub ends_cut : (words : List (String Global)) (left written now : Option (List ℕ)) (old new : ℕ) (input : List ℕ) (status : Status)
-    → AreReplay words → IsLeft left input → length input ≤ most_input → plain_objects input ≡ None → Written written now old new unbuilt_text Refused status
+pub refused_cut : (command : Command) (words : List (String Global)) (left written now : Option (List ℕ)) (old new : ℕ) (input text : List ℕ) (status : Status)
+    → command_of words ≡ Some command → IsInput left input → Refuses command input text → Written written now old new text Refused status
     → status ≡ WriteFault → EndsCut words left written now
-ends_cut words left written now old new input status replay whole short none (Whole e a) h = absurd (cc)
-ends_cut words left written now old new input status replay whole short none (Front e r f) h = record { text = unbuilt_text; due = OfRefusal replay (refused_unbuilt left input whole short none); front = f }
+refused_cut command words left written now old new input text status named read refuses (Whole e a) h = absurd (cc)
+refused_cut command words left written now old new input text status named read refuses (Front e r f) h =
+    record { text = text; due = OfRefusal command named (OfInput input read refuses); front = f }
+
+-- ---- of an input that is too long
+
+pub long_cut : (command : Command) (words : List (String Global)) (left written now : Option (List ℕ)) (old new : ℕ) (status : Status)
+    → command_of words ≡ Some command → IsLongerThan most_input left → Written written now old new too_long_text Refused status
+    → status ≡ WriteFault → EndsCut words left written now
+long_cut command words left written now old new status named long (Whole e a) h = absurd (cc)
+long_cut command words left written now old new status named long (Front e r f) h =
+    record { text = too_long_text; due = OfRefusal command named (TooLong long refl); front = f }

@@ -1,5 +1,6 @@
 //! Why an input is not read.
 
+use object_text::errors::ListError;
 use plain_data::copies::OutOfMemory;
 use std::alloc::AllocError;
 
@@ -30,5 +31,24 @@ impl From<AllocError> for PlainError {
 
     fn from(_e: AllocError) -> PlainError {
         PlainError::OutOfMemory
+    }
+}
+
+/// Why nothing is printed of a list of manifests.
+#[derive(Clone, Copy, Debug, PartialEq, Eq)]
+pub enum CheckError {
+    /// An item was refused, and it is the first.
+    Refused(ListError),
+    OutOfMemory,
+}
+
+impl From<OutOfMemory> for CheckError {
+    ghost use Rattle.std.specs.Prelude.{◌≡◌};
+    ghost use Rattle.binder_console.specs.declared.errors.CheckError.TheVariants.{OutOfMemory};
+
+    ghost from_gives = { λ _ e. e ≡ OutOfMemory };
+
+    fn from(_e: OutOfMemory) -> CheckError {
+        CheckError::OutOfMemory
     }
 }

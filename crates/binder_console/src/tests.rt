@@ -21,6 +21,37 @@ const EMPTY_RUN: &str =
 const TWICE_RUN: &str =
     "{\"setup\":{\"faults\":[],\"pools\":[]}}\n{\"ask\":{\"do\":\"create\",\"object\":{\"apiVersion\":\"v1\",\"kind\":\"PersistentVolume\",\"metadata\":{\"name\":\"a\"},\"spec\":{\"accessModes\":[\"ReadWriteOnce\"],\"capacity\":{\"storage\":\"5368709120\"},\"nfs\":{\"path\":\"/x\",\"server\":\"s\"},\"persistentVolumeReclaimPolicy\":\"Retain\",\"storageClassName\":\"slow\",\"volumeMode\":\"Filesystem\"},\"status\":{\"phase\":\"Pending\"}}},\"kind\":\"User\",\"reply\":{\"done\":{\"apiVersion\":\"v1\",\"kind\":\"PersistentVolume\",\"metadata\":{\"creationTimestamp\":\"2000-01-01T00:00:00Z\",\"finalizers\":[\"kubernetes.io/pv-protection\"],\"name\":\"a\",\"resourceVersion\":\"1\",\"uid\":\"00000000-0000-8000-8000-000000000001\"},\"spec\":{\"accessModes\":[\"ReadWriteOnce\"],\"capacity\":{\"storage\":\"5368709120\"},\"nfs\":{\"path\":\"/x\",\"server\":\"s\"},\"persistentVolumeReclaimPolicy\":\"Retain\",\"storageClassName\":\"slow\",\"volumeMode\":\"Filesystem\"},\"status\":{\"phase\":\"Pending\"}}},\"seat\":1,\"told\":true}\n{\"ask\":{\"do\":\"create\",\"object\":{\"apiVersion\":\"v1\",\"kind\":\"PersistentVolume\",\"metadata\":{\"name\":\"a\"},\"spec\":{\"accessModes\":[\"ReadWriteOnce\"],\"capacity\":{\"storage\":\"5368709120\"},\"nfs\":{\"path\":\"/x\",\"server\":\"s\"},\"persistentVolumeReclaimPolicy\":\"Retain\",\"storageClassName\":\"slow\",\"volumeMode\":\"Filesystem\"},\"status\":{\"phase\":\"Pending\"}}},\"kind\":\"User\",\"reply\":{\"refused\":\"AlreadyExists\"},\"seat\":1,\"told\":true}\n{\"ask\":{\"do\":\"list\",\"kind\":\"PersistentVolume\"},\"kind\":\"Binder\",\"reply\":{\"items\":[{\"apiVersion\":\"v1\",\"kind\":\"PersistentVolume\",\"metadata\":{\"creationTimestamp\":\"2000-01-01T00:00:00Z\",\"finalizers\":[\"kubernetes.io/pv-protection\"],\"name\":\"a\",\"resourceVersion\":\"1\",\"uid\":\"00000000-0000-8000-8000-000000000001\"},\"spec\":{\"accessModes\":[\"ReadWriteOnce\"],\"capacity\":{\"storage\":\"5368709120\"},\"nfs\":{\"path\":\"/x\",\"server\":\"s\"},\"persistentVolumeReclaimPolicy\":\"Retain\",\"storageClassName\":\"slow\",\"volumeMode\":\"Filesystem\"},\"status\":{\"phase\":\"Pending\"}}],\"listed\":1},\"seat\":5,\"told\":true}\n{\"ask\":{\"do\":\"list\",\"kind\":\"PersistentVolumeClaim\"},\"kind\":\"Binder\",\"reply\":{\"items\":[],\"listed\":1},\"seat\":5,\"told\":true}\n{\"ask\":{\"do\":\"list\",\"kind\":\"StorageClass\"},\"kind\":\"Binder\",\"reply\":{\"items\":[],\"listed\":1},\"seat\":5,\"told\":true}\n{\"ask\":{\"do\":\"status\",\"kind\":\"PersistentVolume\",\"name\":\"a\",\"phase\":\"Available\",\"version\":1},\"kind\":\"Binder\",\"reply\":{\"done\":{\"apiVersion\":\"v1\",\"kind\":\"PersistentVolume\",\"metadata\":{\"creationTimestamp\":\"2000-01-01T00:00:00Z\",\"finalizers\":[\"kubernetes.io/pv-protection\"],\"name\":\"a\",\"resourceVersion\":\"2\",\"uid\":\"00000000-0000-8000-8000-000000000001\"},\"spec\":{\"accessModes\":[\"ReadWriteOnce\"],\"capacity\":{\"storage\":\"5368709120\"},\"nfs\":{\"path\":\"/x\",\"server\":\"s\"},\"persistentVolumeReclaimPolicy\":\"Retain\",\"storageClassName\":\"slow\",\"volumeMode\":\"Filesystem\"},\"status\":{\"phase\":\"Available\"}}},\"seat\":5,\"told\":true}\nend\nobjects\n{\"apiVersion\":\"v1\",\"kind\":\"PersistentVolume\",\"metadata\":{\"creationTimestamp\":\"2000-01-01T00:00:00Z\",\"finalizers\":[\"kubernetes.io/pv-protection\"],\"name\":\"a\",\"resourceVersion\":\"2\",\"uid\":\"00000000-0000-8000-8000-000000000001\"},\"spec\":{\"accessModes\":[\"ReadWriteOnce\"],\"capacity\":{\"storage\":\"5368709120\"},\"nfs\":{\"path\":\"/x\",\"server\":\"s\"},\"persistentVolumeReclaimPolicy\":\"Retain\",\"storageClassName\":\"slow\",\"volumeMode\":\"Filesystem\"},\"status\":{\"phase\":\"Available\"}}\nsummary\nwrites 2\nobjects 1\nvolumes Pending 0 Available 1 Bound 0 Released 0 Failed 0\nclaims Pending 0 Bound 0 Lost 0\npods 0 mounted 0\ndata 0 calls 0\nsettled\n";
 
+const NEW_CLAIM: &str =
+    "{\"kind\":\"PersistentVolumeClaim\",\"apiVersion\":\"v1\",\"metadata\":{\"name\":\"c\"},\"spec\":{\"resources\":{\"requests\":{\"storage\":\"1.5Gi\"}},\"accessModes\":[\"ReadWriteOnce\"]}}";
+
+const NEW_CLAIM_LINE: &str =
+    "{\"apiVersion\":\"v1\",\"kind\":\"PersistentVolumeClaim\",\"metadata\":{\"name\":\"c\",\"namespace\":\"default\"},\"spec\":{\"accessModes\":[\"ReadWriteOnce\"],\"resources\":{\"requests\":{\"storage\":\"1.5Gi\"}},\"volumeMode\":\"Filesystem\"},\"status\":{\"phase\":\"Pending\"}}\n";
+
+const SECRET: &str = "{\"apiVersion\":\"v1\",\"kind\":\"Secret\",\"metadata\":{\"name\":\"c\"}}";
+
+const CLASS: &str =
+    "{\"apiVersion\":\"storage.k8s.io/v1\",\"kind\":\"StorageClass\",\"metadata\":{\"name\":\"s\"},\"provisioner\":\"x\"}";
+
+const CLASS_LINE: &str =
+    "{\"apiVersion\":\"storage.k8s.io/v1\",\"kind\":\"StorageClass\",\"metadata\":{\"name\":\"s\"},\"provisioner\":\"x\",\"reclaimPolicy\":\"Delete\",\"volumeBindingMode\":\"Immediate\"}\n";
+
+const OTHER_CLASS: &str =
+    "{\"apiVersion\":\"v1\",\"kind\":\"StorageClass\",\"metadata\":{\"name\":\"s\"},\"provisioner\":\"x\"}";
+
+const TWO: &str =
+    "{\"kind\":\"List\",\"metadata\":{\"resourceVersion\":\"\"},\"items\":[{\"apiVersion\":\"v1\",\"kind\":\"Node\",\"metadata\":{\"name\":\"m\"}},{\"apiVersion\":\"v1\",\"kind\":\"Pod\",\"metadata\":{\"name\":\"p\"}}]}";
+
+const TWO_LINES: &str =
+    "{\"apiVersion\":\"v1\",\"kind\":\"Node\",\"metadata\":{\"name\":\"m\"}}\n{\"apiVersion\":\"v1\",\"kind\":\"Pod\",\"metadata\":{\"name\":\"p\",\"namespace\":\"default\"}}\n";
+
+const SECOND_NAMELESS: &str =
+    "{\"kind\":\"List\",\"items\":[{\"apiVersion\":\"v1\",\"kind\":\"Node\",\"metadata\":{\"name\":\"m\"}},{\"apiVersion\":\"v1\",\"kind\":\"Node\",\"metadata\":{}}]}";
+
+const TENTH_UNKNOWN: &str =
+    "{\"kind\":\"List\",\"items\":[NODE,NODE,NODE,NODE,NODE,NODE,NODE,NODE,NODE,{\"kind\":\"List\"}]}";
+
+const NODE: &str = "{\"apiVersion\":\"v1\",\"kind\":\"Node\",\"metadata\":{\"name\":\"m\"}}";
+
 const USAGE: &str =
     "usage: pvbind replay|run|audit|check|gen [--workers N] [--seed N] [--calls N] [--budget N]\n";
 
@@ -118,6 +149,45 @@ fn replays(rt: HostRuntime) -> Result<(), Fail> {
 }
 
 #[test]
+fn checks(rt: HostRuntime) -> Result<(), Fail> {
+    let alloc = rt.alloc();
+    let mut tenth = String::from_str(alloc, TENTH_UNKNOWN)?;
+    for _ in 0..9 {
+        tenth = replaced(alloc, tenth.as_str(), "NODE", NODE)?;
+    }
+    for (input, want, written) in [
+        (NEW_CLAIM, 0, NEW_CLAIM_LINE),
+        (CLASS, 0, CLASS_LINE),
+        (TWO, 0, TWO_LINES),
+        ("{\"kind\":\"List\",\"items\":[]}", 0, ""),
+        (SECRET, 2, "item 1: UnknownKind\n"),
+        (OTHER_CLASS, 2, "item 1: WrongType apiVersion\n"),
+        (SECOND_NAMELESS, 2, "item 2: Missing name\n"),
+        (tenth.as_str(), 2, "item 10: UnknownKind\n"),
+        (
+            "{\"kind\":\"List\",\"items\":null}",
+            2,
+            "item 1: Missing items\n",
+        ),
+        (
+            "{\"kind\":\"List\",\"items\":{}}",
+            2,
+            "item 1: WrongType items\n",
+        ),
+        ("{\"kind\":\"Pod\",\"x\":0.5}", 2, "item 1: NotWhole\n"),
+        ("[]", 2, "item 1: NotObject\n"),
+        ("{", 2, "item 1: NotJson\n"),
+        ("", 2, "item 1: NotJson\n"),
+    ] {
+        let mut source = MemorySource::new(alloc, input.as_bytes(), 100, &[])?;
+        let (status, sink) = end(&rt, alloc, &["check"], &mut source, 4096)?;
+        assert_eq!(rt; status.number(), want, "{input}");
+        assert_eq!(rt; sink.written(), written.as_bytes(), "{input}");
+    }
+    Ok(())
+}
+
+#[test]
 fn ends_as_it_should(rt: HostRuntime) -> Result<(), Fail> {
     let alloc = rt.alloc();
     let mut long = Vec::new(alloc);
@@ -125,6 +195,7 @@ fn ends_as_it_should(rt: HostRuntime) -> Result<(), Fail> {
         long.push(b' ')?;
     }
     let replay: &[&str] = &["replay"];
+    let check: &[&str] = &["check"];
     for (words, input, limit, want, written) in [
         (replay, VOLUME.as_bytes(), 65536, 4, ""),
         (
@@ -137,9 +208,14 @@ fn ends_as_it_should(rt: HostRuntime) -> Result<(), Fail> {
         (replay, &long, 100, 2, "input: TooLong\n"),
         (replay, b"\n{}", 100, 2, "input: Unbuilt\n"),
         (replay, b"{}", 5, 5, "input"),
+        (check, VOLUME.as_bytes(), 65536, 4, ""),
+        (check, CLASS.as_bytes(), 12, 5, "{\"apiVersion"),
+        (check, &long, 100, 2, "input: TooLong\n"),
+        (check, b"{}", 8, 5, "item 1: "),
         (&[], b"", 100, 1, USAGE),
         (&["run"], b"", 100, 1, USAGE),
         (&["replay", "replay"], b"", 10, 5, "usage: pvb"),
+        (&["check", "replay"], b"", 100, 1, USAGE),
     ] {
         let fails = if want == 4 { 3 } else { 0 };
         let mut source = MemorySource::new(alloc, input, 100, &[fails])?;

@@ -1,1 +1,5 @@
 pub mod Loops
+pub mod WholeParts
+pub mod Versions
+pub mod Utf8Texts
+pub mod Refusals

@@ -1,11 +1,21 @@
-//! Objects as JSON.
+//! Objects as JSON: printed, and read.
 #![tactic(auto)]
 
 pub mod build;
+pub mod errors;
+pub mod extra;
+pub mod kind_readers;
 pub mod kinds;
+pub mod listing;
+pub mod member_readers;
+pub mod meta_readers;
 pub mod metadata;
+pub mod part_readers;
 pub mod parts;
 pub mod print;
+pub mod reading;
+#[cfg(test)]
+mod reading_tests;
 pub mod rows;
 #[cfg(test)]
 mod tests;

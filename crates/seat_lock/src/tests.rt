@@ -1,9 +1,9 @@
 //! A counter behind the lock, on one thread and on two.
-ghost use Rattle.std.specs.Prelude.{◌≡◌, ◌<◌, reverse};
+ghost use Rattle.std.specs.Prelude.{◌≡◌, ◌<◌, IfSome, reverse};
 ghost use Rattle.seat_lock.specs.Counter.{sum_of, IsSummed};
 ghost use Rattle.seat_lock.specs.Passes.{forks_of, IsPassOf};
 
-use crate::{Entry, Keeps, OutOfMemory, Pass, SeatLock, StillShared};
+use crate::{Entry, Keeps, OutOfMemory, Pass, SeatLock};
 use std::alloc::Global;
 use std::marker::Model;
 use std::process::Abort;
@@ -100,12 +100,8 @@ fn two_passes<R: Abort>(rt: &R, alloc: Global) -> (SeatLock<Counter>, Mine, Mine
     let Ok((lock, mut passes)) = SeatLock::new(alloc, Counter::new(alloc, 10), 2) else {
         panic!(rt; "memory")
     };
-    let Some(second) = passes.pop() else {
-        unreachable!()
-    };
-    let Some(first) = passes.pop() else {
-        unreachable!()
-    };
+    let second = passes.pop().unwrap();
+    let first = passes.pop().unwrap();
     (lock, first, second)
 }
 
@@ -121,20 +117,25 @@ fn refused<R: Abort>(
     ensures pass { IsPassOf lock result.1 }
 {
     let passes = vec![in alloc; pass].expect(rt, "memory");
-    let Err(
-        StillShared {
-            lock,
-            mut passes,
-            missing,
-        },
-    ) = lock.close(passes)
-    else {
+    let Err(mut left) = lock.close(passes) else {
         panic!(rt; "a pass is missing")
     };
-    let Some(pass) = passes.pop() else {
-        unreachable!()
-    };
-    (lock, pass, missing)
+    let pass = left.passes.pop().unwrap();
+    (left.lock, pass, left.missing)
+}
+
+/// How many passes are missing where a fork is lost. The clauses say that the end is refused.
+fn lost_fork(alloc: Global, lock: SeatLock<Counter>, pass: Mine) -> Option<u64>
+    requires { IsPassOf lock pass × (0 < forks_of pass) }
+    ensures { IfSome result (λ missing. 0 < missing) }
+{
+    let mut pass = pass;
+    drop(lock.fork(&mut pass));
+    let passes = vec![in alloc; pass].ok()?;
+    match lock.close(passes) {
+        Ok(_) => unreachable!(),
+        Err(left) => Some(left.missing),
+    }
 }
 
 fn add<R: Wait>(rt: &R, lock: &SeatLock<Counter>, pass: &mut Mine, ask: u64) -> Option<u64>
@@ -160,32 +161,34 @@ fn close<R: Abort>(
 
 #[test]
 fn two_passes_in_turn(rt: HostRuntime) {
-    let alloc = rt.alloc();
-    let (lock, mut first, mut second) = two_passes(&rt, alloc);
+    let (lock, mut first, mut second) = two_passes(&rt, rt.alloc());
     assert_eq!(rt; add(&rt, &lock, &mut second, 5), Some(15));
     assert_eq!(rt; add(&rt, &lock, &mut first, 7), Some(22));
-    let (lock, first, missing) = refused(&rt, alloc, lock, first);
+    let (lock, first, missing) = refused(&rt, rt.alloc(), lock, first);
     assert_eq!(rt; missing, 1);
-    let counter = close(&rt, alloc, lock, first, second);
+    let counter = close(&rt, rt.alloc(), lock, first, second);
     assert!(rt; counter.has(2, 5, 15, 0));
     assert!(rt; counter.has(1, 7, 22, 1));
     assert_eq!(rt; counter.count(), 2);
 }
 
 #[test]
+fn a_fork_is_lost(rt: HostRuntime) {
+    let (lock, first, _) = two_passes(&rt, rt.alloc());
+    assert_eq!(rt; lost_fork(rt.alloc(), lock, first), Some(2));
+}
+
+#[test]
 fn a_fork_and_a_meeting(rt: HostRuntime) {
-    let alloc = rt.alloc();
-    let (lock, mut first, second) = two_passes(&rt, alloc);
+    let (lock, mut first, second) = two_passes(&rt, rt.alloc());
     let mut fork = lock.fork(&mut first);
-    assert_eq!(rt;
-        (first.forks(), fork.forks(), fork.number()),
-        (4_294_967_295, 0, 3)
-    );
+    assert_eq!(rt; first.forks(), 4_294_967_295);
+    assert_eq!(rt; (fork.forks(), fork.number()), (0, 3));
     assert_eq!(rt; add(&rt, &lock, &mut fork, 5), Some(15));
     lock.meet(&mut first, fork);
     assert_eq!(rt; (first.number(), first.met()), (1, 1));
     assert_eq!(rt; add(&rt, &lock, &mut first, 5), Some(20));
-    let counter = close(&rt, alloc, lock, first, second);
+    let counter = close(&rt, rt.alloc(), lock, first, second);
     assert!(rt; counter.has(3, 5, 15, 0));
     assert!(rt; counter.has(1, 5, 20, 1));
     assert_eq!(rt; counter.count(), 2);
@@ -224,14 +227,13 @@ fn both<R: Threads + Wait + Sync>(
 
 #[test]
 fn two_threads(rt: HostRuntime) {
-    let alloc = rt.alloc();
-    let (lock, first, second) = two_passes(&rt, alloc);
+    let (lock, first, second) = two_passes(&rt, rt.alloc());
     let (first, second) = both(&rt, &lock, first, second);
-    let (lock, second, missing) = refused(&rt, alloc, lock, second);
+    let (lock, second, missing) = refused(&rt, rt.alloc(), lock, second);
     assert_eq!(rt; missing, 1 + ROUNDS);
     let (first, second) = both(&rt, &lock, first, second);
     assert_eq!(rt; (first.met(), second.met()), (2 * ROUNDS, 2 * ROUNDS));
-    let counter = close(&rt, alloc, lock, first, second);
+    let counter = close(&rt, rt.alloc(), lock, first, second);
     assert_eq!(rt; counter.count(), 8 * ROUNDS);
     assert_eq!(rt; counter.count_of(1) as u64, 2 * ROUNDS);
     assert_eq!(rt; counter.count_of(2) as u64, 2 * ROUNDS);

@@ -24,6 +24,8 @@ macro_rules! set_meta {
     };
 }
 
+#[cfg(test)]
+mod asks;
 mod classes;
 mod edits;
 pub mod outcome;

@@ -1,0 +1,9 @@
+//! The devices: data that pools give, the epochs of nodes, and what is mounted there.
+#![tactic(auto)]
+
+pub mod devices;
+pub mod kept;
+mod nodes;
+mod pools;
+#[cfg(test)]
+mod tests;

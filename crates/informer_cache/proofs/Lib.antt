@@ -1,0 +1,5 @@
+pub mod Found
+pub mod Kept
+pub mod Seen
+pub mod Stands
+pub mod Together

@@ -1,0 +1,8 @@
+use Rattle.informer_cache.proofs.Kept.{keeps_absent, tells_absent}
+use Rattle.informer_cache.proofs.rows.put_absent.Goals as goal
+
+pub returns-clause-told : goal.returns-clause-told
+returns-clause-told c = tells_absent c.requires.kept c.in_ok-mark.ensures.0 c.in_ok-mark.ensures.1 c.in_ok-put_in.ensures.ok c.take_out.ensures.without
+
+pub returns-clause-kept : goal.returns-clause-kept
+returns-clause-kept c = keeps_absent c.requires.kept c.in_ok-mark.ensures.0 c.in_ok-mark.ensures.1 c.in_ok-put_in.ensures.ok c.take_out.ensures.without

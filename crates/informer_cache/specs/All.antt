@@ -1,0 +1,33 @@
+-- The caches of all kinds.
+use Rattle.std.specs.Prelude.{◌≡◌, List, ◌++◌}
+use Rattle.kube_types.specs.declared.parts.Kind.{Kind}
+use Rattle.kube_types.specs.declared.parts.Kind.TheVariants as kinds
+use Rattle.kube_types.specs.declared.objects.Object.{Object}
+use Rattle.call_types.specs.declared.entry.Entry.{Entry}
+use Rattle.informer_cache.specs.Cache.{Known, StandsFor, kind_known, objects_of}
+
+pub record AllKnown : Type 0 where
+  pub classes : Known
+  pub nodes : Known
+  pub volumes : Known
+  pub claims : Known
+  pub pods : Known
+
+abbrev pub cache_of : Kind → AllKnown → Known
+cache_of kinds.StorageClass c = c.classes
+cache_of kinds.Node c = c.nodes
+cache_of kinds.PersistentVolume c = c.volumes
+cache_of kinds.PersistentVolumeClaim c = c.claims
+cache_of kinds.Pod c = c.pods
+
+-- each cache is one of its kind
+abbrev pub AreCaches : AllKnown → Type 0
+AreCaches c = (kind : Kind) → kind_known (cache_of kind c) ≡ kind
+
+-- all objects, in the order of their keys
+abbrev pub all_objects : AllKnown → List Object
+all_objects c = objects_of c.classes ++ (objects_of c.nodes ++ (objects_of c.volumes ++ (objects_of c.claims ++ objects_of c.pods)))
+
+-- each cache stands for what the seat with these entries was told of its kind
+abbrev pub AllStandFor : AllKnown → List Entry → Type 0
+AllStandFor c mine = (kind : Kind) → StandsFor (cache_of kind c) mine

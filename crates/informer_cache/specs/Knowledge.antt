@@ -1,0 +1,109 @@
+-- What a cache knows of one kind. A list tells of the keys that it lacks too, so beside the keys that were told one by
+-- one the versions of the lists are kept. A choice of this project, after the store of an informer in client-go.
+use Rattle.std.specs.Prelude.{ℕ, ◌≡◌, ◌⊎◌, nat_lt, Bool, true, false, List, [], ◌∷◌, Option, Some, None, option_map, bytes_eq, ⊤, if◌then◌else◌}
+use Rattle.std.specs.Option.{option_copied}
+use Rattle.kube_types.specs.declared.parts.Kind.{Kind}
+use Rattle.kube_types.specs.declared.key.Key.{Key}
+use Rattle.kube_types.specs.declared.objects.Object.{Object}
+use Rattle.kube_types.specs.Keys.{AreRows, kind_of, key_of, row_at}
+use Rattle.call_types.specs.declared.reply.Event.{Event}
+use Rattle.binder_model.specs.Told.{Telling, first_some, later, listing, of_event, same_key}
+use Rattle.informer_cache.specs.declared.told.Told.{Told}
+use Rattle.informer_cache.specs.declared.marks.Mark.{Mark}
+use Rattle.informer_cache.specs.declared.lists.Space.{Space}
+use Rattle.informer_cache.specs.Marks.{AreMarks, mark_at, space_version, greater}
+
+-- what was told of keys one by one
+
+pub record RowState : Type 0 where
+  pub kind : Kind
+  pub marks : List Mark
+  pub objects : List Object
+
+-- a key that has a version was told of then: the object that stands under it, or that there is none
+abbrev pub told_at : ℕ → Option Object → Telling
+told_at version object = record { version = version; object = object }
+
+abbrev pub row_told : List Mark → List Object → Key → Option Telling
+row_told marks objects key = option_map (λ m. told_at m.version (row_at key objects)) (mark_at key marks)
+
+abbrev pub AreOfKind : Kind → List Object → Type 0
+AreOfKind kind [] = ⊤
+AreOfKind kind (o ∷ os) = (kind_of o ≡ kind) × AreOfKind kind os
+
+-- rows in order, of one kind, each with a version
+pub record AreKept (kind : Kind) (marks : List Mark) (objects : List Object) : Type 0 where
+  pub marked : AreMarks marks
+  pub ordered : AreRows objects
+  pub of_kind : AreOfKind kind objects
+  pub covered : (key : Key) → mark_at key marks ≡ None → row_at key objects ≡ None
+
+abbrev pub telling_of : Told → Telling
+telling_of t = told_at t.version (option_copied t.object)
+
+-- what the lists told of the keys that they lack
+
+pub record ListState : Type 0 where
+  pub whole : Option ℕ
+  pub spaces : List Space
+
+-- the version of the newest list in which the key would stand
+abbrev pub lacked : ListState → Key → Option ℕ
+lacked l key = greater (space_version key.namespace l.spaces) l.whole
+
+-- a list is one of all namespaces or of one
+abbrev pub covers : Option (List ℕ) → Key → Bool
+covers None key = true
+covers (Some namespace) key = bytes_eq namespace key.namespace
+
+-- the same after a list of a namespace, or of all
+abbrev pub lacked_after : ListState → Option (List ℕ) → ℕ → Key → Option ℕ
+lacked_after l namespace version key = if covers namespace key then greater (Some version) (lacked l key) else lacked l key
+
+abbrev pub absence : Option ℕ → Option Telling
+absence version = option_map (λ v. told_at v None) version
+
+-- what was told of a key by itself, or else that the lists lacked it
+abbrev pub telling_in : RowState → ListState → Key → Option Telling
+telling_in rows lists key = first_some (row_told rows.marks rows.objects key) (absence (lacked lists key))
+
+-- what a list tells of a key, where it has it in its scope
+abbrev pub list_tells : Option (List ℕ) → ℕ → List Object → Key → Option Telling
+list_tells namespace version items key = if covers namespace key then Some (listing version (row_at key items)) else None
+
+-- what is known before a list, and the list
+pub record Sight : Type 0 where
+  pub rows : RowState
+  pub lists : ListState
+  pub namespace : Option (List ℕ)
+  pub version : ℕ
+  pub items : List Object
+
+-- what is known of a key after the list
+abbrev pub seen : Sight → Key → Option Telling
+seen s key = later (list_tells s.namespace s.version s.items key) (telling_in s.rows s.lists key)
+
+-- these rows, after the list, tell of the key what is known
+abbrev pub Fits : Sight → RowState → Key → Type 0
+Fits s next key = first_some (row_told next.marks next.objects key) (absence (lacked_after s.lists s.namespace s.version key)) ≡ seen s key
+
+-- they tell so of each key of the kind, or nothing
+abbrev pub AreRight : Sight → RowState → Type 0
+AreRight s next = (key : Key) → key.kind ≡ s.rows.kind → (row_told next.marks next.objects key ≡ None) ⊎ Fits s next key
+
+-- and what they told so they tell still
+abbrev pub GoesOn : Sight → RowState → RowState → Type 0
+GoesOn s before next = ((next.kind ≡ before.kind) × AreRight s next) × ((key : Key) → Fits s before key → Fits s next key)
+
+-- an older version than the one that is known
+abbrev pub is_older : ℕ → Option ℕ → Bool
+is_older version None = false
+is_older version (Some known) = nat_lt version known
+
+-- what is told of one key
+abbrev pub tells_key : Key → Telling → Key → Option Telling
+tells_key key t k = if same_key key k then Some t else None
+
+-- what one event tells
+abbrev pub event_tells : Event → Key → Option Telling
+event_tells e key = tells_key (key_of e.object) (of_event e.change e.object e.version) key

@@ -1,0 +1,5 @@
+pub mod All
+pub mod Cache
+pub mod Knowledge
+pub mod Marks
+pub mod Sights

@@ -1,0 +1,178 @@
+//! What was told of keys one by one.
+
+ghost use Rattle.std.specs.Prelude.{◌≡◌, [], Some, None, IfOk, IfSome, OnOk, OnErr, option_map, if◌then◌else◌};
+ghost use Rattle.std.specs.Option.{option_copied};
+ghost use Rattle.kube_types.specs.declared.key.Key.{Key};
+ghost use Rattle.kube_types.specs.Keys.{AreRows, key_of, put_row};
+ghost use Rattle.binder_model.specs.Told.{same_key};
+ghost use Rattle.informer_cache.specs.Marks.{AreMarks};
+ghost use Rattle.informer_cache.specs.Knowledge.{AreKept, row_told, telling_of, told_at};
+
+use crate::marks::{Mark, put_in, version_in};
+use crate::told::Told;
+use kube_types::copies::{OutOfMemory, Plain};
+use kube_types::key::Key;
+use kube_types::objects::{Object, Version};
+use kube_types::parts::Kind;
+use kube_types::table::{row, row_place, take_out};
+use std::alloc::Global;
+use std::marker::Model;
+
+/// The objects of one kind in the order of their keys, and of each key that was told of by itself
+/// the version at which that was. A key with a version and no object is absent.
+#[derive(Debug, Drop)]
+pub struct Rows {
+    kind: Kind,
+    marks: Vec<Mark>,
+    objects: Vec<Object>,
+}
+
+impl Model for Rows {
+    ghost use Rattle.informer_cache.specs.Knowledge.{AreKept, RowState};
+
+    ghost Value = { RowState };
+
+    ghost view = { λ r. record { kind = r.kind; marks = r.marks.items; objects = r.objects.items } };
+
+    ghost invariant = { λ r. AreKept r.kind r.marks.items r.objects.items };
+}
+
+/// Puts the object in place of the one of its key, or in its place in the order.
+pub(crate) fn put_object(
+    objects: &mut Vec<Object>,
+    key: &Key,
+    object: Object,
+) -> Result<(), OutOfMemory>
+    requires rows { AreRows objects.old.items }
+    requires key { key_of object ≡ key.now }
+    ensures ok { OnOk result (objects.new.items ≡ put_row object objects.old.items) }
+    ensures err { OnErr result (objects.new.items ≡ objects.old.items) }
+{
+    match row_place(objects, key) {
+        Ok(at) => objects[at] = object,
+        Err(at) => objects.insert(at, object)?,
+    }
+    Ok(())
+}
+
+fn mark_of(alloc: Global, key: &Key, version: Version) -> Result<Mark, OutOfMemory>
+    ensures { IfOk result (λ m. (m.key ≡ key.now) × (m.version ≡ version)) }
+{
+    Ok(Mark {
+        key: key.copy(alloc)?,
+        version,
+    })
+}
+
+/// The object stands under the key, as of this version.
+fn put_present(
+    alloc: Global,
+    marks: &mut Vec<Mark>,
+    objects: &mut Vec<Object>,
+    key: &Key,
+    version: Version,
+    object: &Object,
+) -> Result<(), OutOfMemory>
+    requires kept { AreKept key.now.kind marks.old.items objects.old.items }
+    requires key { key_of object.now ≡ key.now }
+    ensures told { OnOk result ((k : Key) → row_told marks.new.items objects.new.items k ≡ (if same_key key.now k then Some (told_at version (Some object.now)) else row_told marks.old.items objects.old.items k)) }
+    ensures kept { AreKept key.now.kind marks.new.items objects.new.items }
+{
+    let object = object.copy(alloc)?;
+    let mark = mark_of(alloc, key, version)?;
+    put_in(marks, mark)?;
+    put_object(objects, key, object)
+}
+
+/// Nothing stands under the key, as of this version.
+fn put_absent(
+    alloc: Global,
+    marks: &mut Vec<Mark>,
+    objects: &mut Vec<Object>,
+    key: &Key,
+    version: Version,
+) -> Result<(), OutOfMemory>
+    requires kept { AreKept key.now.kind marks.old.items objects.old.items }
+    ensures told { OnOk result ((k : Key) → row_told marks.new.items objects.new.items k ≡ (if same_key key.now k then Some (told_at version None) else row_told marks.old.items objects.old.items k)) }
+    ensures kept { AreKept key.now.kind marks.new.items objects.new.items }
+{
+    let mark = mark_of(alloc, key, version)?;
+    put_in(marks, mark)?;
+    let _ = take_out(objects, key);
+    Ok(())
+}
+
+/// What the rows tell of the key.
+fn told_in<'a>(marks: &[Mark], objects: &'a [Object], key: &Key) -> Option<Told<'a>>
+    requires marks { AreMarks marks.now }
+    requires objects { AreRows objects.now }
+    ensures { option_map telling_of result ≡ row_told marks.now objects.now key.now }
+{
+    match version_in(marks, key) {
+        None => None,
+        Some(version) => Some(Told {
+            version,
+            object: row(objects, key),
+        }),
+    }
+}
+
+impl Rows {
+    /// No key was told of. It takes no memory.
+    pub fn new(alloc: Global, kind: Kind) -> Rows
+        ensures { result ≡ record { kind = kind; marks = []; objects = [] } }
+    {
+        Rows {
+            kind,
+            marks: Vec::new(alloc),
+            objects: Vec::new(alloc),
+        }
+    }
+
+    pub fn kind(&self) -> Kind
+        ensures { result ≡ self.now.kind }
+    {
+        self.kind
+    }
+
+    pub fn marks(&self) -> &[Mark]
+        ensures { result.now ≡ self.now.marks }
+    {
+        &self.marks
+    }
+
+    /// The objects, in the order of their keys.
+    pub fn objects(&self) -> &[Object]
+        ensures objects { result.now ≡ self.now.objects }
+        ensures kept { AreKept self.now.kind self.now.marks self.now.objects }
+    {
+        &self.objects
+    }
+
+    /// What was told of the key by itself.
+    pub fn told(&self, key: &Key) -> Option<Told<'_>>
+        ensures { option_map telling_of result ≡ row_told self.now.marks self.now.objects key.now }
+    {
+        told_in(&self.marks, &self.objects, key)
+    }
+
+    /// Takes what is told of the key in place of what was told of it before.
+    pub fn store(&mut self, alloc: Global, key: &Key, told: Told<'_>) -> Result<(), OutOfMemory>
+        requires kind { key.now.kind ≡ self.old.kind }
+        requires object { IfSome (option_copied told.object) (λ o. key_of o ≡ key.now) }
+        ensures told { OnOk result ((k : Key) → row_told self.new.marks self.new.objects k ≡ (if same_key key.now k then Some (telling_of told.entry) else row_told self.old.marks self.old.objects k)) }
+        ensures kind { self.new.kind ≡ self.old.kind }
+    {
+        match told.object {
+            Some(object) => put_present(
+                alloc,
+                &mut self.marks,
+                &mut self.objects,
+                key,
+                told.version,
+                object,
+            ),
+            None => put_absent(alloc, &mut self.marks, &mut self.objects, key, told.version),
+        }
+    }
+}

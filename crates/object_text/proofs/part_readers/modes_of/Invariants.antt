@@ -1,0 +1,7 @@
+use Rattle.std.proofs.Common.{◌≡◌, drop}
+use Rattle.serde_json.specs.View.{items_view}
+use Rattle.object_text.specs.PartReaders.{modes_from, no_modes}
+use Rattle.object_text.proofs.part_readers.modes_of.Given as goal
+
+abbrev pub invariant-loop-value : goal.invariant-loop-value
+invariant-loop-value l = modes_from (items_view (drop l.value-index l.values)) l.modes ≡ modes_from (items_view l.values) no_modes

@@ -1,0 +1,10 @@
+pub mod Answers
+pub mod MemberWords
+pub mod MemberReaders
+pub mod MetaReaders
+pub mod PartReaders
+pub mod Whole
+pub mod ExtraMembers
+pub mod KindReaders
+pub mod Reading
+pub mod Listing

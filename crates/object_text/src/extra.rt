@@ -1,0 +1,103 @@
+//! The members that are kept as they are.
+
+ghost use Rattle.std.specs.Prelude.{◌≡◌, IfOk, false, option_map};
+ghost use Rattle.serde_json.specs.View.{view};
+ghost use Rattle.serde_json.specs.Written.{has_float};
+ghost use Rattle.json_text.specs.Trees.{members_in, others};
+ghost use Rattle.object_text.specs.ExtraMembers.{is_volume_member, is_claim_member, is_class_member, is_listed, extra_text, extra_at};
+ghost use Rattle.object_text.specs.Whole.{IsWholePlace};
+
+use json_text::build::{Fields, KnownNames};
+use kube_types::copies::OutOfMemory;
+use kube_types::parts::SourceKind;
+use kube_types::text::Text;
+use serde_json::Value;
+use std::alloc::Global;
+
+/// Of which object the members are known: those of a class itself, and of the spec of the others.
+#[derive(Clone, Copy)]
+pub enum Listed {
+    /// With the source that counts.
+    Volume(SourceKind),
+    Claim,
+    Class,
+    Pod,
+    Node,
+}
+
+fn is_volume_member(kind: SourceKind, name: &str) -> bool
+    ensures { result ≡ is_volume_member kind name.now }
+{
+    name == "capacity"
+        || name == "accessModes"
+        || name == "volumeMode"
+        || name == "storageClassName"
+        || name == "persistentVolumeReclaimPolicy"
+        || name == "claimRef"
+        || name == "nodeAffinity"
+        || name == kind.name()
+}
+
+fn is_claim_member(name: &str) -> bool
+    ensures { result ≡ is_claim_member name.now }
+{
+    name == "accessModes"
+        || name == "volumeMode"
+        || name == "resources"
+        || name == "storageClassName"
+        || name == "selector"
+        || name == "volumeName"
+}
+
+fn is_class_member(name: &str) -> bool
+    ensures { result ≡ is_class_member name.now }
+{
+    name == "kind"
+        || name == "apiVersion"
+        || name == "metadata"
+        || name == "provisioner"
+        || name == "reclaimPolicy"
+        || name == "volumeBindingMode"
+        || name == "parameters"
+}
+
+impl KnownNames for Listed {
+    ghost use Rattle.object_text.specs.ExtraMembers.{is_listed};
+
+    ghost known = { is_listed };
+
+    fn is_known(&self, name: &str) -> bool {
+        match *self {
+            Listed::Volume(kind) => is_volume_member(kind, name),
+            Listed::Claim => is_claim_member(name),
+            Listed::Class => is_class_member(name),
+            Listed::Pod => name == "nodeName",
+            Listed::Node => false,
+        }
+    }
+}
+
+#[tactic(auto, using(crate::proofs::WholeParts::others_whole))]
+fn extra_of(alloc: Global, listed: Listed, value: &Value) -> Result<Text, OutOfMemory>
+    requires { has_float (view value.now) ≡ false }
+    ensures { IfOk result (λ t. t ≡ extra_text (others (is_listed listed) (members_in (view value.now)))) }
+{
+    let fields = Fields::others(alloc, &listed, value)?;
+    if fields.is_empty() {
+        Text::new(alloc, "")
+    } else {
+        fields.into_tree().print_text(alloc)
+    }
+}
+
+/// The text of the members that are not listed, empty where there are none.
+#[tactic(auto, unfolding(crate::specs::ExtraMembers::extra_at))]
+pub fn extra_at(alloc: Global, listed: Listed, place: Option<&Value>) -> Result<Text, OutOfMemory>
+    requires { IsWholePlace (option_map (λ v. view v.now) place) }
+    ensures { IfOk result (λ t. t ≡ extra_at listed (option_map (λ v. view v.now) place.entry)) }
+{
+    match place {
+        Some(value) => extra_of(alloc, listed, value),
+        None => Text::new(alloc, ""),
+    }
+}

@@ -1,0 +1,10 @@
+pub mod Accepted
+pub mod DigitFacts
+pub mod Endings
+pub mod Fronts
+pub mod Limits
+pub mod Longest
+pub mod PlainBytes
+pub mod Powers
+pub mod Refusals
+pub mod Rounding

@@ -1,0 +1,5 @@
+pub mod KeyFacts
+pub mod LaneFacts
+pub mod Moves
+pub mod Places
+pub mod Steps

@@ -1,0 +1,96 @@
+-- How the map of stages and the three lists of keys go together: choices of this project, which no public clause names.
+use Rattle.std.specs.Prelude.{◌≡◌, ℕ, ◌+◌, ◌≤◌, Bool, true, false, List, [], ◌∷◌, ◌++◌, Option, None, Some, map, if◌then◌else◌}
+use Rattle.std.specs.List.{list_any}
+use Rattle.kube_types.specs.declared.key.Key.{Key}
+use Rattle.std.specs.VecDeque.{deque_len, deque_capacity}
+use Rattle.indexmap.specs.IndexMap.{get}
+use Rattle.sync_queue.specs.declared.lanes.Lanes.{Lanes}
+use Rattle.sync_queue.specs.declared.lanes.Stage.{Stage}
+use Rattle.sync_queue.specs.declared.lanes.Stage.TheVariants.{Waiting, Taken, Again, Parked}
+use Rattle.sync_queue.specs.Keys.{same_key}
+use Rattle.sync_queue.specs.Work.{Work, AreOnce}
+use Rattle.sync_queue.specs.Work.{Taken as TakenKey}
+
+-- tests of a key's stage, None where the map has no such key
+abbrev pub is_waiting : Option Stage → Bool
+is_waiting None = false
+is_waiting (Some Waiting) = true
+is_waiting (Some Taken) = false
+is_waiting (Some Again) = false
+is_waiting (Some Parked) = false
+
+abbrev pub is_taken : Option Stage → Bool
+is_taken None = false
+is_taken (Some Waiting) = false
+is_taken (Some Taken) = true
+is_taken (Some Again) = true
+is_taken (Some Parked) = false
+
+abbrev pub is_again : Option Stage → Bool
+is_again None = false
+is_again (Some Waiting) = false
+is_again (Some Taken) = false
+is_again (Some Again) = true
+is_again (Some Parked) = false
+
+abbrev pub is_parked : Option Stage → Bool
+is_parked None = false
+is_parked (Some Waiting) = false
+is_parked (Some Taken) = false
+is_parked (Some Again) = false
+is_parked (Some Parked) = true
+
+-- the list has the keys whose stage passes the test, each once
+pub record IsLane (test : Option Stage → Bool) (stage : Key → Option Stage) (ks : List Key) : Type 0 where
+  pub says : (k : Key) → list_any (same_key k) ks ≡ test (stage k)
+  pub once : AreOnce ks
+
+-- each key stands on the list of its stage
+pub record AreLanes (stage : Key → Option Stage) (ws ts ps : List Key) : Type 0 where
+  pub waiting : IsLane is_waiting stage ws
+  pub taken : IsLane is_taken stage ts
+  pub parked : IsLane is_parked stage ps
+
+-- the taken keys, each with its mark
+abbrev pub marks : (Key → Option Stage) → List Key → List TakenKey
+marks stage ks = map (λ k. record { key = k; again = is_again (stage k) }) ks
+
+-- the work that stages and lists stand for
+abbrev pub work_of : (Key → Option Stage) → List Key → List Key → List Key → Work
+work_of stage ws ts ps = record { waiting = ws; taken = marks stage ts; parked = ps }
+
+-- the key that was parked first, where one is
+abbrev pub wake_oldest : List Key → Work → Work
+wake_oldest [] w = w
+wake_oldest (k ∷ ks) w = record { waiting = w.waiting ++ k ∷ []; taken = w.taken; parked = ks }
+
+-- the key that was parked first waits again
+abbrev pub woken_first : Work → Work
+woken_first w = wake_oldest w.parked w
+
+-- the key alone has another stage
+abbrev pub IsSet : (Key → Option Stage) → Key → Option Stage → (Key → Option Stage) → Type 0
+IsSet old k s new = (q : Key) → new q ≡ (if same_key k q then s else old q)
+
+-- lists of these lengths and capacities have room for all keys each
+pub record HaveRoom (w t p a b c : ℕ) : Type 0 where
+  pub waiting : w + t + p ≤ a
+  pub taken : w + t + p ≤ b
+  pub parked : w + t + p ≤ c
+
+-- the stage of a key in the map
+abbrev pub stage_in : Lanes → Key → Option Stage
+stage_in l = get same_key l.stages
+
+-- the work that the map and the lists stand for
+abbrev pub work_in : Lanes → Work
+work_in l = work_of (stage_in l) l.waiting.items l.taken.items l.parked.items
+
+-- each key stands on the list of its stage, and has room on the others
+pub record IsSound (l : Lanes) : Type 0 where
+  pub lanes : AreLanes (stage_in l) l.waiting.items l.taken.items l.parked.items
+  pub room : HaveRoom (deque_len l.waiting) (deque_len l.taken) (deque_len l.parked) (deque_capacity l.waiting) (deque_capacity l.taken) (deque_capacity l.parked)
+
+-- each list has room for one key more than there are
+abbrev pub HasRoomForOne : Lanes → Type 0
+HasRoomForOne l = HaveRoom (deque_len l.waiting + 1) (deque_len l.taken) (deque_len l.parked) (deque_capacity l.waiting) (deque_capacity l.taken) (deque_capacity l.parked)

@@ -1,0 +1,6 @@
+//! The events of the newest writes, and what a watch is told of them.
+#![tactic(auto)]
+
+pub mod log;
+#[cfg(test)]
+mod tests;
