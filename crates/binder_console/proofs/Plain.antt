@@ -13,7 +13,8 @@ use Rattle.binder_console.specs.declared.errors.PlainError.{PlainError}
 use Rattle.binder_console.specs.Readings.{◌>>=◌, Gives}
 use Rattle.binder_console.specs.PlainMembers.{object_of, object_at, text_at, with_text, modes_at}
 use Rattle.binder_console.specs.PlainObjects.{new_meta, meta_at, capacity_at, request_at, source_at, volume_at, claim_at, object_of_kind, manifest_object}
-use Rattle.binder_console.specs.PlainLines.{json_of, line_object, objects_of}
+use Rattle.object_text.specs.Reading.{json_of}
+use Rattle.binder_console.specs.PlainLines.{line_object, objects_of}
 use Rattle.plain_binder.specs.Calls.{IsPlain, IsPlainVolume, IsPlainClaim}
 
 -- where there is an answer, each answer satisfies P

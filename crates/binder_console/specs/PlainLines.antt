@@ -1,11 +1,9 @@
 -- A list of plain lines, each of which creates one volume or one claim (a choice of this project).
 use Rattle.std.specs.Prelude.{ℕ, List, [], ◌∷◌, Bool, not, ◌==◌, ◌||◌, nat_le, length, filter, Option, Some, None, codes, if◌then◌else◌}
 use Rattle.std.specs.List.{list_all, slice_split}
-use Rattle.std.specs.Str.{is_utf8}
-use Rattle.serde_json.specs.Data.{Data}
 use Rattle.serde_json.specs.Find.{get}
-use Rattle.serde_json.specs.Read.{read}
 use Rattle.kube_types.specs.declared.objects.Object.{Object}
+use Rattle.object_text.specs.Reading.{json_of}
 use Rattle.binder_console.specs.Readings.{◌>>=◌}
 use Rattle.binder_console.specs.PlainMembers.{object_of, with_text}
 use Rattle.binder_console.specs.PlainObjects.{manifest_object}
@@ -17,10 +15,6 @@ is_blank b = b == 32 || b == 9
 -- the parts between line feeds, but for those of blanks alone
 abbrev pub filled_lines : List ℕ → List (List ℕ)
 filled_lines bytes = filter (λ line. not (list_all is_blank line)) (slice_split (λ b. b == 10) bytes)
-
--- the value of a text of JSON (RFC 8259), which is UTF-8
-abbrev pub json_of : List ℕ → Option Data
-json_of bytes = if is_utf8 bytes then read bytes else None
 
 -- the object that a plain line creates
 unfoldable pub line_object : List ℕ → Option Object

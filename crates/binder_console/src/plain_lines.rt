@@ -4,14 +4,17 @@ ghost use Rattle.std.specs.Prelude.{◌≡◌, ◌==◌, ◌≤◌, List, ℕ, m
 ghost use Rattle.std.specs.List.{list_all, slice_split};
 ghost use Rattle.json_text.specs.Trees.{tree_data};
 ghost use Rattle.binder_console.specs.Readings.{Gives, GivesBy};
-ghost use Rattle.binder_console.specs.PlainLines.{is_blank, filled_lines, json_of, line_object, objects_of, plain_objects};
+ghost use Rattle.object_text.specs.Reading.{json_of};
+ghost use Rattle.binder_console.specs.PlainLines.{is_blank, filled_lines, line_object, objects_of, plain_objects};
 ghost use Rattle.plain_binder.specs.Calls.{IsPlain};
 
 use crate::errors::PlainError;
 use crate::plain_members::{member, object_of, with_text};
 use crate::plain_objects::manifest_object;
-use json_text::tree::{NoTree, Tree};
+use json_text::tree::Tree;
 use kube_types::objects::Object;
+use object_text::errors::ObjectError;
+use object_text::reading::value_of;
 use plain_data::items::Items;
 use std::alloc::{AllocError, Global};
 
@@ -48,12 +51,9 @@ fn filled_lines(alloc: Global, bytes: &[u8]) -> Result<Vec<&[u8]>, AllocError>
 fn json_of(alloc: Global, line: &[u8]) -> Result<Tree, PlainError>
     ensures { GivesBy tree_data result (json_of line.now) }
 {
-    match str::from_utf8(line) {
-        Ok(text) => match Tree::read(alloc, text) {
-            Ok(tree) => Ok(tree),
-            Err(NoTree::NotJson) => Err(PlainError::Unbuilt),
-            Err(NoTree::OutOfMemory) => Err(PlainError::OutOfMemory),
-        },
+    match value_of(alloc, line) {
+        Ok(tree) => Ok(tree),
+        Err(ObjectError::OutOfMemory) => Err(PlainError::OutOfMemory),
         Err(_) => Err(PlainError::Unbuilt),
     }
 }
