@@ -1,0 +1,54 @@
+//! Laws of the texts of objects: what is printed is read again, and what was read can be printed.
+//!
+//! Each is a function with nothing to do, whose contract is the law.
+#![tactic(auto)]
+
+ghost use Rattle.object_laws.specs.Laws.{LineIsRead, LinesAreApart, ListGives, PrintedGivesBack, PrintedIsCanonical, PrintedIsLine, TextGives, ValueGives};
+
+/// The JSON of an object that a manifest can give gives the object back.
+#[tactic(auto, using(crate::proofs::Back::object_back))]
+pub fn printed_gives_back()
+    ensures { PrintedGivesBack }
+{}
+
+/// So does its line, where it is no longer than a manifest may be.
+#[tactic(auto, using(crate::proofs::Lines::line_is_read))]
+pub fn line_is_read()
+    ensures { LineIsRead }
+{}
+
+/// Its JSON is canonical, and nests no deeper than is read.
+#[tactic(auto, using(crate::proofs::Canonical::object_good))]
+pub fn printed_is_canonical()
+    ensures { PrintedIsCanonical }
+{}
+
+/// Its line has no line feed.
+#[tactic(auto, using(crate::proofs::Lines::printed_is_line))]
+pub fn printed_is_line()
+    ensures { PrintedIsLine }
+{}
+
+/// Two objects have two lines.
+#[tactic(auto, using(crate::proofs::Lines::lines_are_apart))]
+pub fn lines_are_apart()
+    ensures { LinesAreApart }
+{}
+
+/// What a canonical value gives is an object that a manifest can give.
+#[tactic(auto, using(crate::proofs::Gives::object_given))]
+pub fn value_gives()
+    ensures { ValueGives }
+{}
+
+/// So is what the text of a manifest gives.
+#[tactic(auto, using(crate::proofs::Texts::text_gives))]
+pub fn text_gives()
+    ensures { TextGives }
+{}
+
+/// So is each object that the text of a list gives.
+#[tactic(auto, using(crate::proofs::Texts::list_gives))]
+pub fn list_gives()
+    ensures { ListGives }
+{}
