@@ -1,0 +1,16 @@
+pub mod ExtraBack
+pub mod PartsBack
+pub mod MetaBack
+pub mod VolumeBack
+pub mod ClaimBack
+pub mod ClassBack
+pub mod PodBack
+pub mod Back
+pub mod CanonicalParts
+pub mod Canonical
+pub mod Lines
+pub mod GivesParts
+pub mod GivesKinds
+pub mod Gives
+pub mod PartsRead
+pub mod Texts

@@ -1,7 +1,7 @@
 -- Objects that a manifest can give.
 -- Source: Kubernetes API, the members and their types; RFC 9562 and RFC 3339. What stands for a member that is left out, and that
 -- the members that no reader knows are kept as one text, are choices of this project.
-use Rattle.std.specs.Prelude.{◌≡◌, ℕ, ◌^◌, ◌<◌, ◌≤◌, List, [], ◌∷◌, length, Bool, true, false, Option, Some, None, IfSome, Ok, codes, ⊤}
+use Rattle.std.specs.Prelude.{◌≡◌, ℕ, ◌^◌, ◌<◌, ◌≤◌, List, [], ◌∷◌, length, Bool, true, false, Some, None, IfSome, Ok, codes, ⊤}
 use Rattle.serde_json.specs.Data.{Members, object}
 use Rattle.serde_json.specs.Find.{get_member}
 use Rattle.json_text.specs.Look.{unless_null}
