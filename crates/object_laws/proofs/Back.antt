@@ -4,6 +4,7 @@ use Rattle.serde_json.specs.Data.{Data, string, no_members}
 use Rattle.serde_json.specs.Find.{get}
 use Rattle.serde_json.specs.Written.{has_float}
 use Rattle.json_text.proofs.PutAll.{get-put_all}
+use Rattle.kube_types.specs.Keys.{kind_of}
 use Rattle.kube_types.specs.Words.{kind_word}
 use Rattle.kube_types.specs.declared.parts.Kind.{Kind}
 use Rattle.kube_types.specs.declared.parts.Kind.TheVariants as kinds
@@ -26,10 +27,10 @@ use Rattle.object_laws.proofs.VolumeBack.{volume_back}
 use Rattle.object_laws.proofs.ClaimBack.{claim_back}
 
 -- the members that tell the kind of an object
-record TellsKind (kind : Kind) (d : Data) : Type 0 where
-  members : is_object d ≡ true
-  name : get (codes "kind") d ≡ Some (string (kind_word kind))
-  version : get (codes "apiVersion") d ≡ Some (string (api_version kind))
+pub record TellsKind (kind : Kind) (d : Data) : Type 0 where
+  pub members : is_object d ≡ true
+  pub name : get (codes "kind") d ≡ Some (string (kind_word kind))
+  pub version : get (codes "apiVersion") d ≡ Some (string (api_version kind))
 
 kind_back : (kind : Kind) (d : Data) → TellsKind kind d → kind_at d ≡ Ok kind
 unfolding kind_at
@@ -63,6 +64,14 @@ claim_tells c = record { members = refl; name = get-put_all (codes "kind") (clai
 pod_tells : (p : Pod) → TellsKind kinds.Pod (pod_data p)
 unfolding pod_data
 pod_tells p = record { members = refl; name = get-put_all (codes "kind") (pod_pairs p) no_members; version = get-put_all (codes "apiVersion") (pod_pairs p) no_members }
+
+pub object_tells : (o : Object) → IsGiven o → TellsKind (kind_of o) (object_data o)
+unfolding object_data
+object_tells (objects.Class c) h = class_tells c h
+object_tells (objects.Node n) h = node_tells n
+object_tells (objects.Volume v) h = volume_tells v
+object_tells (objects.Claim c) h = claim_tells c
+object_tells (objects.Pod p) h = pod_tells p
 
 pub object_back : (o : Object) → IsGiven o → object_of (object_data o) ≡ Ok o
 unfolding object_data

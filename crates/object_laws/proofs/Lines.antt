@@ -1,17 +1,24 @@
 -- The line of an object is one line, tells it from every other, and is read as the object.
-use Rattle.std.proofs.Common.{◌≡◌, ◌≤◌, length, true, Result, Ok, ap, ◌∙◌}
+use Rattle.std.proofs.Common.{◌≡◌, ◌≤◌, [], ◌∷◌, length, true, false, Result, Ok, refl, ap, ◌∙◌}
+use Rattle.serde_json.specs.Data.{Data}
+use Rattle.serde_json.specs.Written.{compact_text}
 use Rattle.std.specs.Str.{is_utf8}
 use Rattle.std.proofs.lemmas.Bool.{le-ltb}
 use Rattle.json_text.specs.Canonical.{IsLine}
 use Rattle.json_text.proofs.ReadBack.{read-compact_text, compact_text_once}
+use Rattle.json_text.proofs.Good.{no_float_good}
+use Rattle.kube_types.specs.Keys.{kind_of}
+use Rattle.kube_types.specs.declared.parts.Kind.{Kind}
+use Rattle.kube_types.specs.declared.parts.Kind.TheVariants as kinds
 use Rattle.kube_types.specs.declared.objects.Object.{Object}
 use Rattle.text_model.specs.Objects.{object_data, object_line}
 use Rattle.text_model.proofs.LineLaws.{objects_are_lines}
 use Rattle.object_text.specs.declared.errors.ObjectError.{ObjectError}
 use Rattle.object_text.specs.Reading.{object_of, read_text_of}
+use Rattle.object_text.specs.Listing.{is_list, item_of, list_in, list_of}
 use Rattle.object_laws.specs.Given.{IsGiven}
 use Rattle.object_laws.proofs.Canonical.{object_good}
-use Rattle.object_laws.proofs.Back.{object_back}
+use Rattle.object_laws.proofs.Back.{TellsKind, object_tells, object_back}
 
 pub printed_is_line : (o : Object) → IsGiven o → IsLine (object_line o)
 printed_is_line o h = let good = object_good o h in objects_are_lines o good.canonical
@@ -32,3 +39,18 @@ unfolding object_line read_text_of
 line_is_read o h utf8 short =
     let good = object_good o h in
     rw (le-ltb 8192 (length (object_line o)) short, utf8, read-compact_text (object_data o) good.canonical good.shallow) (object_back o h)
+
+-- no kind is named as lists are
+no_list : (kind : Kind) (d : Data) → TellsKind kind d → is_list d ≡ false
+no_list kinds.StorageClass d h = rw h.name refl
+no_list kinds.Node d h = rw h.name refl
+no_list kinds.PersistentVolume d h = rw h.name refl
+no_list kinds.PersistentVolumeClaim d h = rw h.name refl
+no_list kinds.Pod d h = rw h.name refl
+
+pub line_is_listed : (o : Object) → IsGiven o → is_utf8 (object_line o) ≡ true → length (object_line o) ≤ 8192 → list_of (object_line o) ≡ Ok (o ∷ [])
+unfolding object_line list_of list_in item_of
+line_is_listed o h utf8 short =
+    let good = object_good o h in
+    let tells = object_tells o h in
+    rw (utf8, read-compact_text (object_data o) good.canonical good.shallow, tells.members, no_list (kind_of o) (object_data o) tells, no_float_good good, le-ltb 8192 (length (compact_text (object_data o))) short, object_back o h) refl

@@ -1,5 +1,5 @@
 -- What printing and reading say of each other.
-use Rattle.std.specs.Prelude.{◌≡◌, ℕ, ◌≤◌, List, length, true, All, Ok}
+use Rattle.std.specs.Prelude.{◌≡◌, ℕ, ◌≤◌, List, [], ◌∷◌, length, true, All, Ok}
 use Rattle.std.specs.Str.{is_utf8}
 use Rattle.serde_json.specs.Data.{Data}
 use Rattle.json_text.specs.Build.{Good}
@@ -17,6 +17,10 @@ PrintedGivesBack = (o : Object) → IsGiven o → object_of (object_data o) ≡ 
 -- its line is read as the object, where it is no longer than a manifest may be; a line that was printed is UTF-8
 abbrev pub LineIsRead : Type 0
 LineIsRead = (o : Object) → IsGiven o → is_utf8 (object_line o) ≡ true → length (object_line o) ≤ 8192 → read_text_of (object_line o) ≡ Ok o
+
+-- and so does a reader of lists read it, as the one object
+abbrev pub LineIsListed : Type 0
+LineIsListed = (o : Object) → IsGiven o → is_utf8 (object_line o) ≡ true → length (object_line o) ≤ 8192 → list_of (object_line o) ≡ Ok (o ∷ [])
 
 -- its JSON is canonical and nests no deeper than is read
 abbrev pub PrintedIsCanonical : Type 0

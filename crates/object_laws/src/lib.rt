@@ -3,7 +3,7 @@
 //! Each is a function with nothing to do, whose contract is the law.
 #![tactic(auto)]
 
-ghost use Rattle.object_laws.specs.Laws.{LineIsRead, LinesAreApart, ListGives, PrintedGivesBack, PrintedIsCanonical, PrintedIsLine, TextGives, ValueGives};
+ghost use Rattle.object_laws.specs.Laws.{LineIsListed, LineIsRead, LinesAreApart, ListGives, PrintedGivesBack, PrintedIsCanonical, PrintedIsLine, TextGives, ValueGives};
 
 /// The JSON of an object that a manifest can give gives the object back.
 #[tactic(auto, using(crate::proofs::Back::object_back))]
@@ -15,6 +15,12 @@ pub fn printed_gives_back()
 #[tactic(auto, using(crate::proofs::Lines::line_is_read))]
 pub fn line_is_read()
     ensures { LineIsRead }
+{}
+
+/// And so does a reader of lists read its line, as the one object.
+#[tactic(auto, using(crate::proofs::Lines::line_is_listed))]
+pub fn line_is_listed()
+    ensures { LineIsListed }
 {}
 
 /// Its JSON is canonical, and nests no deeper than is read.
