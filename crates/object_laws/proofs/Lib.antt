@@ -14,3 +14,10 @@ pub mod GivesKinds
 pub mod Gives
 pub mod PartsRead
 pub mod Texts
+pub mod Utf8Texts
+pub mod Utf8Strings
+pub mod Utf8Read
+pub mod Utf8Objects
+pub mod Utf8Readers
+pub mod Utf8Kinds
+pub mod Again

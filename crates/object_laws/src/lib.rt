@@ -3,6 +3,7 @@
 //! Each is a function with nothing to do, whose contract is the law.
 #![tactic(auto)]
 
+ghost use Rattle.object_laws.specs.Again.{ListIsReadAgain, TextIsReadAgain};
 ghost use Rattle.object_laws.specs.Laws.{LineIsListed, LineIsRead, LinesAreApart, ListGives, PrintedGivesBack, PrintedIsCanonical, PrintedIsLine, TextGives, ValueGives};
 
 /// The JSON of an object that a manifest can give gives the object back.
@@ -57,4 +58,16 @@ pub fn text_gives()
 #[tactic(auto, using(crate::proofs::Texts::list_gives))]
 pub fn list_gives()
     ensures { ListGives }
+{}
+
+/// What the text of a manifest gives is printed as it is read again, where its line is no longer than a manifest may be.
+
+pub fn text_is_read_again()
+    ensures { TextIsReadAgain }
+{}
+
+/// So is each object that the text of a list gives.
+
+pub fn list_is_read_again()
+    ensures { ListIsReadAgain }
 {}

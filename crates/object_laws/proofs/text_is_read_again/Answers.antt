@@ -1,0 +1,5 @@
+use Rattle.object_laws.proofs.Again.{text_is_read_again as law}
+use Rattle.object_laws.proofs.text_is_read_again.Goals as goal
+
+pub returns : goal.returns
+returns c = law
