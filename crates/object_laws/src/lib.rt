@@ -61,13 +61,11 @@ pub fn list_gives()
 {}
 
 /// What the text of a manifest gives is printed as it is read again, where its line is no longer than a manifest may be.
-
 pub fn text_is_read_again()
     ensures { TextIsReadAgain }
 {}
 
 /// So is each object that the text of a list gives.
-
 pub fn list_is_read_again()
     ensures { ListIsReadAgain }
 {}
