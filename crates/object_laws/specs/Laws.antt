@@ -14,7 +14,7 @@ use Rattle.object_laws.specs.Given.{IsGiven}
 abbrev pub PrintedGivesBack : Type 0
 PrintedGivesBack = (o : Object) → IsGiven o → object_of (object_data o) ≡ Ok o
 
--- its line is read as the object, where it is no longer than a manifest may be; a line that was printed is UTF-8
+-- its line is read as the object, where it is UTF-8 and no longer than a manifest may be
 abbrev pub LineIsRead : Type 0
 LineIsRead = (o : Object) → IsGiven o → is_utf8 (object_line o) ≡ true → length (object_line o) ≤ 8192 → read_text_of (object_line o) ≡ Ok o
 
