@@ -1,4 +1,4 @@
--- The caches of all kinds.
+-- The caches of all kinds, as one look-up: a choice of this project.
 use Rattle.std.specs.Prelude.{◌≡◌, List, ◌++◌}
 use Rattle.kube_types.specs.declared.parts.Kind.{Kind}
 use Rattle.kube_types.specs.declared.parts.Kind.TheVariants as kinds

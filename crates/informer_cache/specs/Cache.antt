@@ -1,4 +1,6 @@
 -- A cache of one kind: what it stands for, and what each call makes of it.
+-- Source: client-go, tools/cache: the store of a reflector, which lists a kind and then watches it. That the newest that was told of
+-- a key is known of it, in whatever order answers come, is a choice of this project.
 use Rattle.std.specs.Prelude.{ℕ, ◌≡◌, true, List, [], Option, Some, None, map, if◌then◌else◌}
 use Rattle.kube_types.specs.declared.parts.Kind.{Kind}
 use Rattle.kube_types.specs.declared.key.Key.{Key}
