@@ -9,7 +9,7 @@ use Rattle.kube_types.specs.declared.objects.Claim.{Claim as ClaimData}
 use Rattle.kube_types.specs.declared.objects.Pod.{Pod as PodData}
 use Rattle.kube_types.specs.declared.objects.Volume.{Volume as VolumeData}
 use Rattle.kube_types.specs.declared.objects.Object.TheVariants.{Volume, Claim, Pod}
-use Rattle.kube_types.specs.Bindings.{is_deleting, is_protected_claim, is_completed, carries}
+use Rattle.kube_types.specs.Bindings.{is_deleting, is_scheduled, is_protected_claim, is_completed, carries}
 use Rattle.call_types.specs.declared.entry.Entry.{Entry}
 use Rattle.call_types.specs.declared.request.Request.{Request}
 use Rattle.call_types.specs.declared.request.Request.TheVariants as requests
@@ -82,10 +82,11 @@ AreReadReady recent namespace [] [] = ⊤
 AreReadReady recent namespace (name ∷ names) (uid ∷ uids) = IsReadReady recent namespace name uid × AreReadReady recent namespace names uids
 AreReadReady recent namespace _ _ = ⊥
 
--- the pod with the UID, on the node
+-- the pod with the UID, scheduled, on the node
 pub record IsPodOn (uid : Uid) (node : List ℕ) (p : PodData) : Type 0 where
   pub same : p.meta.uid ≡ Some uid
   pub placed : p.node ≡ node
+  pub scheduled : is_scheduled p ≡ true
 
 abbrev pub is_finish_of : Uid → Request → Bool
 is_finish_of pod (requests.FinishPod key uid node epoch) = same_uid uid pod

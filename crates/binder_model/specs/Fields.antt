@@ -69,10 +69,11 @@ faulty false field next = next
 
 unfoldable pub volume_fault : VolumeData → Option Field
 volume_fault v =
-    faulty (v.amount.bytes == 0) fields.Capacity
+    faulty (not (is_empty v.meta.namespace)) fields.Namespace
+    (faulty (v.amount.bytes == 0) fields.Capacity
     (faulty (has_no_mode v.modes) fields.AccessModes
     (faulty (is_nameless v.claim_ref) fields.ClaimRef
-    (faulty (has_twice v.meta.finalizers) fields.Finalizers None)))
+    (faulty (has_twice v.meta.finalizers) fields.Finalizers None))))
 
 unfoldable pub claim_fault : ClaimData → Option Field
 claim_fault c =
@@ -83,8 +84,9 @@ claim_fault c =
 
 unfoldable pub class_fault : ClassData → Option Field
 class_fault x =
-    faulty (is_empty x.provisioner) fields.Provisioner
-    (faulty (has_twice x.meta.finalizers) fields.Finalizers None)
+    faulty (not (is_empty x.meta.namespace)) fields.Namespace
+    (faulty (is_empty x.provisioner) fields.Provisioner
+    (faulty (has_twice x.meta.finalizers) fields.Finalizers None))
 
 -- where the pod names a node that is not there is the store's to say
 unfoldable pub pod_fault : Bool → PodData → Option Field
@@ -100,7 +102,9 @@ pod_fault lacks_node p =
 
 unfoldable pub kind_fault : Bool → Object → Option Field
 kind_fault lacks_node (Class x) = class_fault x
-kind_fault lacks_node (Node n) = faulty (has_twice n.meta.finalizers) fields.Finalizers None
+kind_fault lacks_node (Node n) =
+    faulty (not (is_empty n.meta.namespace)) fields.Namespace
+    (faulty (has_twice n.meta.finalizers) fields.Finalizers None)
 kind_fault lacks_node (Volume v) = volume_fault v
 kind_fault lacks_node (Claim c) = claim_fault c
 kind_fault lacks_node (Pod p) = pod_fault lacks_node p

@@ -46,9 +46,8 @@ abbrev pub uses : ClaimData → Object → Bool
 uses c (Pod p) = is_scheduled p && bytes_eq p.meta.namespace c.meta.namespace && has_name c.meta.name p.claims
 uses c o = false
 
--- a list of the pods of the claim's namespace, or of all pods, told none that uses it
+-- a list of the pods of the claim's namespace told none that uses it
 abbrev pub IsPodList : ClaimData → Request → Reply → Type 0
-IsPodList o (requests.List kinds.Pod None) (Listed items version) = list_any (uses o) items ≡ false
 IsPodList o (requests.List kinds.Pod (Some namespace)) (Listed items version) = (namespace ≡ o.meta.namespace) × (list_any (uses o) items ≡ false)
 IsPodList o request reply = ⊥
 

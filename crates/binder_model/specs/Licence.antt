@@ -1,10 +1,12 @@
 -- Which row judges a controller's request, and where it allows it; the rule of its row else. Kind comes first.
-use Rattle.std.specs.Prelude.{ℕ, ◌≡◌, Bool, true, false, List, Option, Some, None, is_some, ⊤, All, if◌then◌else◌}
+use Rattle.std.specs.Prelude.{ℕ, ◌≡◌, ◌==◌, Bool, true, false, List, Option, Some, None, is_some, ⊤, All, if◌then◌else◌}
 use Rattle.kube_types.specs.declared.uid.Uid.{Uid}
 use Rattle.kube_types.specs.declared.key.Key.{Key}
 use Rattle.kube_types.specs.declared.names.LicenceRule.{LicenceRule}
 use Rattle.kube_types.specs.declared.names.LicenceRule.TheVariants as rules
+use Rattle.kube_types.specs.declared.parts.Kind.{Kind}
 use Rattle.kube_types.specs.declared.parts.Kind.TheVariants as kinds
+use Rattle.kube_types.specs.Keys.{kind_index}
 use Rattle.kube_types.specs.declared.parts.VolumePhase.{VolumePhase}
 use Rattle.kube_types.specs.declared.parts.VolumePhase.TheVariants as volumes
 use Rattle.kube_types.specs.declared.parts.ClaimPhase.{ClaimPhase}
@@ -156,6 +158,9 @@ Licensed kind mine request = AreOfKind kind mine × RowAllows kind mine request
 
 -- the rule by whose name a request is refused, where its row does not allow it
 
+abbrev pub is_kind : Kind → Key → Bool
+is_kind kind key = kind_index key.kind == kind_index kind
+
 abbrev pub read_rule : Request → LicenceRule
 read_rule (requests.List kind namespace) = rules.Reading
 read_rule (requests.Watch kind from) = rules.Reading
@@ -176,8 +181,8 @@ binder_claim_rule claims.Pending = rules.Kind
 abbrev pub binder_rule : Request → LicenceRule
 binder_rule (requests.Update (Volume new) given) = if is_some (ref_uid new.claim_ref) then rules.ClaimRef else rules.Unbind
 binder_rule (requests.Update (Claim new) given) = rules.Completion
-binder_rule (requests.UpdateStatus key (statuses.Volume phase) given) = binder_phase_rule phase
-binder_rule (requests.UpdateStatus key (statuses.Claim phase modes amount) given) = binder_claim_rule phase
+binder_rule (requests.UpdateStatus key (statuses.Volume phase) given) = if is_kind kinds.PersistentVolume key then binder_phase_rule phase else rules.Kind
+binder_rule (requests.UpdateStatus key (statuses.Claim phase modes amount) given) = if is_kind kinds.PersistentVolumeClaim key then binder_claim_rule phase else rules.Kind
 binder_rule request = read_rule request
 
 abbrev pub ops_phase_rule : VolumePhase → LicenceRule
@@ -188,8 +193,8 @@ abbrev pub ops_rule : Request → LicenceRule
 ops_rule (requests.Provision name provisioner bytes labels) = rules.Provision
 ops_rule (requests.Create (Volume new)) = rules.CreateVolume
 ops_rule (requests.Erase id) = rules.Erase
-ops_rule (requests.UpdateStatus key (statuses.Volume phase) given) = ops_phase_rule phase
-ops_rule (requests.Delete key (Some uid)) = rules.DeleteVolume
+ops_rule (requests.UpdateStatus key (statuses.Volume phase) given) = if is_kind kinds.PersistentVolume key then ops_phase_rule phase else rules.Kind
+ops_rule (requests.Delete key (Some uid)) = if is_kind kinds.PersistentVolume key then rules.DeleteVolume else rules.Kind
 ops_rule (requests.Update (Claim new) given) = rules.SelectedNode
 ops_rule request = read_rule request
 

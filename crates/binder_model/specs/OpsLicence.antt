@@ -91,9 +91,9 @@ pub record MayErase (mine : List Entry) (id : DataId) : Type 0 where
   pub last : last_found id mine ≡ Some volume
   pub ended : IsToErase volume
 
--- this volume, told so
+-- this version of the volume, told so
 abbrev pub IsThisVolume : VolumeData → VolumeData → Type 0
-IsThisVolume o v = IsSameObject o.meta v.meta
+IsThisVolume o v = v ≡ o
 
 abbrev pub EraseFailed : DataId → Request → Reply → Type 0
 EraseFailed id (requests.Erase asked) (Refused (BackFault planned)) = asked ≡ id
@@ -135,7 +135,7 @@ abbrev pub TellsExhausted : List ℕ → Entry → Type 0
 TellsExhausted name e = (e.told ≡ true) × IsExhausted name e.request e.reply
 
 abbrev pub IsThisClaim : ClaimData → ClaimData → Type 0
-IsThisClaim o c = IsSameObject o.meta c.meta
+IsThisClaim o c = c ≡ o
 
 -- the claim cannot be provisioned on the node that was chosen for it
 abbrev pub IsUnserved : List Entry → ClaimData → Uid → List ℕ → Type 0

@@ -6,13 +6,28 @@ use kube_types::copies::{OutOfMemory, Plain};
 use std::alloc::Global;
 
 /// One whole call: who asked what, what was answered, and whether the caller was told.
-#[derive(Debug, Drop)]
+#[derive(Debug)]
 pub struct Entry {
     pub seat: u64,
     pub kind: SeatKind,
     pub request: Request,
     pub reply: Reply,
     pub told: bool,
+}
+
+impl Drop for Entry {
+    fn drop(self) {
+        let Entry {
+            seat: _,
+            kind,
+            request,
+            reply,
+            told: _,
+        } = self;
+        drop(kind);
+        drop(request);
+        drop(reply);
+    }
 }
 
 impl Plain for Entry {

@@ -27,11 +27,23 @@ impl Plain for Change {
 }
 
 /// One write, as a watch tells it.
-#[derive(Debug, Drop)]
+#[derive(Debug)]
 pub struct Event {
     pub change: Change,
     pub object: Object,
     pub version: Version,
+}
+
+impl Drop for Event {
+    fn drop(self) {
+        let Event {
+            change,
+            object,
+            version: _,
+        } = self;
+        drop(change);
+        drop(object);
+    }
 }
 
 impl Plain for Event {
@@ -51,10 +63,17 @@ impl Plain for Event {
 }
 
 /// The answer of a watch: the events in order, and the version from which the next one goes on.
-#[derive(Debug, Drop)]
+#[derive(Debug)]
 pub struct Events {
     pub events: Items<Event>,
     pub upto: Version,
+}
+
+impl Drop for Events {
+    fn drop(self) {
+        let Events { events, upto: _ } = self;
+        drop(events);
+    }
 }
 
 impl Plain for Events {
@@ -71,10 +90,17 @@ impl Plain for Events {
 }
 
 /// A pod that is mounted on a node, and the claims that it was mounted with.
-#[derive(Debug, Drop)]
+#[derive(Debug)]
 pub struct MountRow {
     pub pod: Uid,
     pub claims: Items<Uid>,
+}
+
+impl Drop for MountRow {
+    fn drop(self) {
+        let MountRow { pod: _, claims } = self;
+        drop(claims);
+    }
 }
 
 impl Plain for MountRow {

@@ -7,12 +7,26 @@ use std::alloc::Global;
 
 /// A pool of a back end. With a topology, a label and its value, it serves the nodes that have
 /// this label.
-#[derive(Debug, Drop)]
+#[derive(Debug)]
 pub struct Pool {
     pub name: Text,
     pub provisioner: Text,
     pub bytes: u64,
     pub topology: Option<(Text, Text)>,
+}
+
+impl Drop for Pool {
+    fn drop(self) {
+        let Pool {
+            name,
+            provisioner,
+            bytes: _,
+            topology,
+        } = self;
+        drop(name);
+        drop(provisioner);
+        drop(topology);
+    }
 }
 
 impl Plain for Pool {
@@ -35,10 +49,18 @@ impl Plain for Pool {
 
 /// What is there before the first call: the pools in their order, and the numbers of the
 /// Provision and Erase calls that fail.
-#[derive(Debug, Drop)]
+#[derive(Debug)]
 pub struct Setup {
     pub pools: Items<Pool>,
     pub faults: Items<u64>,
+}
+
+impl Drop for Setup {
+    fn drop(self) {
+        let Setup { pools, faults } = self;
+        drop(pools);
+        drop(faults);
+    }
 }
 
 impl Plain for Setup {

@@ -12,11 +12,23 @@ use std::alloc::Global;
 use std::cmp::Ordering;
 
 /// The kind, namespace and name of an object.
-#[derive(Debug, Drop)]
+#[derive(Debug)]
 pub struct Key {
     pub kind: Kind,
     pub namespace: Text,
     pub name: Text,
+}
+
+impl Drop for Key {
+    fn drop(self) {
+        let Key {
+            kind: _,
+            namespace,
+            name,
+        } = self;
+        drop(namespace);
+        drop(name);
+    }
 }
 
 impl Plain for Key {

@@ -12,7 +12,7 @@ use std::alloc::Global;
 pub type Version = u64;
 
 /// What every object has.
-#[derive(Debug, Drop)]
+#[derive(Debug)]
 pub struct Meta {
     pub namespace: Text,
     pub name: Text,
@@ -23,6 +23,29 @@ pub struct Meta {
     pub labels: Pairs,
     pub annotations: Pairs,
     pub finalizers: Names,
+}
+
+impl Drop for Meta {
+    fn drop(self) {
+        let Meta {
+            namespace,
+            name,
+            uid: _,
+            version: _,
+            created,
+            deleted,
+            labels,
+            annotations,
+            finalizers,
+        } = self;
+        drop(namespace);
+        drop(name);
+        drop(created);
+        drop(deleted);
+        drop(labels);
+        drop(annotations);
+        drop(finalizers);
+    }
 }
 
 impl Plain for Meta {
@@ -54,10 +77,17 @@ impl Plain for Meta {
 }
 
 /// A quantity, as written and in bytes.
-#[derive(Debug, Drop)]
+#[derive(Debug)]
 pub struct Amount {
     pub text: Text,
     pub bytes: u64,
+}
+
+impl Drop for Amount {
+    fn drop(self) {
+        let Amount { text, bytes: _ } = self;
+        drop(text);
+    }
 }
 
 impl Plain for Amount {
@@ -74,11 +104,23 @@ impl Plain for Amount {
 }
 
 /// A reference to a claim.
-#[derive(Debug, Drop)]
+#[derive(Debug)]
 pub struct Ref {
     pub namespace: Text,
     pub name: Text,
     pub uid: Option<Uid>,
+}
+
+impl Drop for Ref {
+    fn drop(self) {
+        let Ref {
+            namespace,
+            name,
+            uid: _,
+        } = self;
+        drop(namespace);
+        drop(name);
+    }
 }
 
 impl Plain for Ref {
@@ -98,11 +140,23 @@ impl Plain for Ref {
 }
 
 /// Where the data of a volume is.
-#[derive(Debug, Drop)]
+#[derive(Debug)]
 pub struct Source {
     pub kind: SourceKind,
     pub first: Text,
     pub second: Text,
+}
+
+impl Drop for Source {
+    fn drop(self) {
+        let Source {
+            kind: _,
+            first,
+            second,
+        } = self;
+        drop(first);
+        drop(second);
+    }
 }
 
 impl Plain for Source {
@@ -122,11 +176,19 @@ impl Plain for Source {
 }
 
 /// One expression of a selector.
-#[derive(Debug, Drop)]
+#[derive(Debug)]
 pub struct Expr {
     pub key: Text,
     pub op: Op,
     pub values: Names,
+}
+
+impl Drop for Expr {
+    fn drop(self) {
+        let Expr { key, op: _, values } = self;
+        drop(key);
+        drop(values);
+    }
 }
 
 impl Plain for Expr {
@@ -144,9 +206,16 @@ impl Plain for Expr {
 }
 
 /// Alternatives, each a list of expressions that must all hold.
-#[derive(Debug, Drop)]
+#[derive(Debug)]
 pub struct NodeTerms {
     pub terms: Items<Items<Expr>>,
+}
+
+impl Drop for NodeTerms {
+    fn drop(self) {
+        let NodeTerms { terms } = self;
+        drop(terms);
+    }
 }
 
 impl Plain for NodeTerms {
@@ -162,10 +231,18 @@ impl Plain for NodeTerms {
 }
 
 /// A selector of labels.
-#[derive(Debug, Drop)]
+#[derive(Debug)]
 pub struct Selector {
     pub labels: Pairs,
     pub exprs: Items<Expr>,
+}
+
+impl Drop for Selector {
+    fn drop(self) {
+        let Selector { labels, exprs } = self;
+        drop(labels);
+        drop(exprs);
+    }
 }
 
 impl Plain for Selector {
@@ -182,7 +259,7 @@ impl Plain for Selector {
 }
 
 /// A volume.
-#[derive(Debug, Drop)]
+#[derive(Debug)]
 pub struct Volume {
     pub meta: Meta,
     pub amount: Amount,
@@ -195,6 +272,31 @@ pub struct Volume {
     pub terms: Option<NodeTerms>,
     pub extra: Text,
     pub phase: VolumePhase,
+}
+
+impl Drop for Volume {
+    fn drop(self) {
+        let Volume {
+            meta,
+            amount,
+            modes: _,
+            block: _,
+            class,
+            policy: _,
+            claim_ref,
+            source,
+            terms,
+            extra,
+            phase: _,
+        } = self;
+        drop(meta);
+        drop(amount);
+        drop(class);
+        drop(claim_ref);
+        drop(source);
+        drop(terms);
+        drop(extra);
+    }
 }
 
 impl Plain for Volume {
@@ -230,7 +332,7 @@ impl Plain for Volume {
 }
 
 /// A claim.
-#[derive(Debug, Drop)]
+#[derive(Debug)]
 pub struct Claim {
     pub meta: Meta,
     pub modes: Modes,
@@ -243,6 +345,31 @@ pub struct Claim {
     pub phase: ClaimPhase,
     pub got_modes: Modes,
     pub got: Option<Amount>,
+}
+
+impl Drop for Claim {
+    fn drop(self) {
+        let Claim {
+            meta,
+            modes: _,
+            amount,
+            block: _,
+            class,
+            selector,
+            volume_name,
+            extra,
+            phase: _,
+            got_modes: _,
+            got,
+        } = self;
+        drop(meta);
+        drop(amount);
+        drop(class);
+        drop(selector);
+        drop(volume_name);
+        drop(extra);
+        drop(got);
+    }
 }
 
 impl Plain for Claim {
@@ -278,7 +405,7 @@ impl Plain for Claim {
 }
 
 /// A class.
-#[derive(Debug, Drop)]
+#[derive(Debug)]
 pub struct Class {
     pub meta: Meta,
     pub provisioner: Text,
@@ -286,6 +413,23 @@ pub struct Class {
     pub delayed: bool,
     pub parameters: Pairs,
     pub extra: Text,
+}
+
+impl Drop for Class {
+    fn drop(self) {
+        let Class {
+            meta,
+            provisioner,
+            policy: _,
+            delayed: _,
+            parameters,
+            extra,
+        } = self;
+        drop(meta);
+        drop(provisioner);
+        drop(parameters);
+        drop(extra);
+    }
 }
 
 impl Plain for Class {
@@ -311,12 +455,27 @@ impl Plain for Class {
 }
 
 /// A pod. `claims` are the claims that its volumes name, in order.
-#[derive(Debug, Drop)]
+#[derive(Debug)]
 pub struct Pod {
     pub meta: Meta,
     pub claims: Names,
     pub node: Text,
     pub extra: Text,
+}
+
+impl Drop for Pod {
+    fn drop(self) {
+        let Pod {
+            meta,
+            claims,
+            node,
+            extra,
+        } = self;
+        drop(meta);
+        drop(claims);
+        drop(node);
+        drop(extra);
+    }
 }
 
 impl Plain for Pod {
@@ -338,10 +497,18 @@ impl Plain for Pod {
 }
 
 /// A node.
-#[derive(Debug, Drop)]
+#[derive(Debug)]
 pub struct Node {
     pub meta: Meta,
     pub extra: Text,
+}
+
+impl Drop for Node {
+    fn drop(self) {
+        let Node { meta, extra } = self;
+        drop(meta);
+        drop(extra);
+    }
 }
 
 impl Plain for Node {
@@ -403,10 +570,18 @@ impl Plain for Object {
 }
 
 /// The name of data on a back end: a driver, and the id that it gave.
-#[derive(Debug, Drop)]
+#[derive(Debug)]
 pub struct DataId {
     pub driver: Text,
     pub id: Text,
+}
+
+impl Drop for DataId {
+    fn drop(self) {
+        let DataId { driver, id } = self;
+        drop(driver);
+        drop(id);
+    }
 }
 
 impl Plain for DataId {

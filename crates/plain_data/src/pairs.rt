@@ -13,9 +13,16 @@ use std::cmp::Ordering;
 use std::marker::Model;
 
 /// Pairs of a key and a value, sorted by key, no key twice.
-#[derive(Debug, Drop)]
+#[derive(Debug)]
 pub struct Pairs {
     items: Vec<(Text, Text)>,
+}
+
+impl Drop for Pairs {
+    fn drop(self) {
+        let Pairs { items } = self;
+        drop(items);
+    }
 }
 
 impl Model for Pairs {
