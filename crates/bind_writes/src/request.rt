@@ -1,7 +1,7 @@
 //! The writes of a binding as requests. Each is made at the version of the object that it changes.
 
 ghost use Rattle.std.specs.Prelude.{◌≡◌, IfOk, OnOk};
-ghost use Rattle.binder_model.specs.BindWrites.{annotated, annotated_if, claim_key, completed_with, next_write, ref_to, taken_for, volume_key, write_bound, write_claim_status, write_completion, write_reference};
+ghost use Rattle.binder_model.specs.BindWrites.{annotated_meta, annotated_meta_if, claim_key, completed_with, next_write, ref_to, taken_for, volume_key, write_bound, write_claim_status, write_completion, write_reference};
 ghost use Rattle.kube_types.specs.Bindings.{is_empty};
 ghost use Rattle.bind_writes.specs.Writes.{write_of};
 
@@ -133,7 +133,7 @@ pub fn completed_with(alloc: Global, claim: &Claim, volume: &Volume) -> Result<C
 
 /// Gives the annotation of this name the value that the binder writes.
 fn annotate(alloc: Global, meta: &mut Meta, name: &str) -> Result<(), OutOfMemory>
-    ensures { OnOk result (meta.new ≡ annotated name.now meta.old) }
+    ensures { OnOk result (meta.new ≡ annotated_meta name.now meta.old) }
 {
     let name = Text::new(alloc, name)?;
     let value = Text::new(alloc, YES)?;
@@ -146,7 +146,7 @@ fn annotate_if(
     is_wanted: bool,
     name: &str,
 ) -> Result<(), OutOfMemory>
-    ensures { OnOk result (meta.new ≡ annotated_if is_wanted name.now meta.old) }
+    ensures { OnOk result (meta.new ≡ annotated_meta_if is_wanted name.now meta.old) }
 {
     if is_wanted {
         annotate(alloc, meta, name)?;

@@ -2,7 +2,7 @@
 
 ghost use Rattle.std.specs.Prelude.{◌≡◌, IfOk};
 ghost use Rattle.kube_types.specs.Bindings.{bound_by_controller, has_key};
-ghost use Rattle.binder_model.specs.BindWrites.{unbound, without_uid, write_available, write_unbound};
+ghost use Rattle.binder_model.specs.BindWrites.{unbound_volume, without_uid, write_available, write_unbound};
 
 use crate::request::volume_key;
 use call_types::request::{NewStatus, Request};
@@ -26,17 +26,17 @@ pub fn unbind(alloc: Global, volume: &Volume) -> Result<Request, OutOfMemory>
 /// The volume without its reference and without the controller's mark where it has the mark, else
 /// with the reference but for its UID.
 pub fn unbound(alloc: Global, volume: &Volume) -> Result<Volume, OutOfMemory>
-    ensures { IfOk result (λ free. free ≡ unbound volume.now) }
+    ensures { IfOk result (λ free. free ≡ unbound_volume volume.now) }
 {
     let is_marked = volume.meta.annotations.get(BOUND_BY_CONTROLLER).is_some();
     unbound_if(alloc, volume, is_marked)
 }
 
 /// The volume unbound, as the controller's work or as a user's.
-#[tactic(auto, unfolding(binder_model::specs::BindWrites::unbound))]
+#[tactic(auto, unfolding(binder_model::specs::BindWrites::unbound_volume))]
 fn unbound_if(alloc: Global, volume: &Volume, is_marked: bool) -> Result<Volume, OutOfMemory>
     requires { is_marked ≡ has_key bound_by_controller volume.now.meta.annotations }
-    ensures { IfOk result (λ free. free ≡ unbound volume.now) }
+    ensures { IfOk result (λ free. free ≡ unbound_volume volume.now) }
 {
     let mut free = volume.copy(alloc)?;
     if is_marked {

@@ -27,8 +27,8 @@ use Rattle.call_types.specs.declared.reply.Reply.{Reply}
 use Rattle.call_types.specs.declared.reply.Reply.TheVariants.{Done, Left, Found, Listed, Refused}
 use Rattle.binder_model.specs.Guard.{guard}
 use Rattle.binder_model.specs.Fields.{create_fault, update_fault}
-use Rattle.binder_model.specs.Store.{State, at_version, marked, default_class, class_name, created, updated, leaves, leaves_at_once, lacks_node, lacks_named_node}
-use Rattle.binder_model.specs.Edits.{edited}
+use Rattle.binder_model.specs.Store.{State, at_version, marked_object, default_class, class_name, created_object, updated_object, leaves, leaves_at_once, lacks_node, lacks_named_node}
+use Rattle.binder_model.specs.Edits.{edited_object}
 
 -- what a request comes to: an answer that changes nothing, or one object that is written, which stays or leaves
 pub data Outcome : Type 0 where
@@ -70,8 +70,8 @@ is_other_uid None current = false
 is_other_uid (Some given) current = not (is_uid current given)
 
 -- a write that is made; the object leaves where it is to be deleted and has no finalizers
-abbrev pub written : Object → Outcome
-written o = write_of (leaves o)
+abbrev pub write_outcome : Object → Outcome
+write_outcome o = write_of (leaves o)
   where
     write_of : Bool → Outcome
     write_of true = Removes o
@@ -82,7 +82,7 @@ create s kind o moment (Some old) = Says (Refused AlreadyExists)
 create s kind o moment None =
     refuse_rule (guard_on kind None o)
     (refuse_field (create_fault (lacks_node o s.rows) o)
-    (Stores Added (created (class_name (default_class s.rows)) o (s.version + 1) moment)))
+    (Stores Added (created_object (class_name (default_class s.rows)) o (s.version + 1) moment)))
 
 unfoldable pub update : State → SeatKind → Object → Option ℕ → Option Object → Outcome
 update s kind new given None = Says (Refused NotFound)
@@ -90,7 +90,7 @@ update s kind new given (Some old) =
     refuse (is_other_version given (meta_of old).version) (Conflict (meta_of old).version)
     (refuse_rule (guard_on kind (Some old) new)
     (refuse_field (update_fault old new)
-    (written (updated old new (s.version + 1)))))
+    (write_outcome (updated_object old new (s.version + 1)))))
 
 -- the object with this status, or none where it is not one of its kind
 unfoldable pub with_status : NewStatus → Object → Option Object
@@ -101,7 +101,7 @@ with_status status o = None
 -- the changed object is written at the next version, or there is none since the change does not fit the kind
 unfoldable pub written_if_fits : State → Option Object → Outcome
 written_if_fits s None = Says (Refused (Invalid fields.Kind))
-written_if_fits s (Some new) = written (at_version new (s.version + 1))
+written_if_fits s (Some new) = write_outcome (at_version new (s.version + 1))
 
 unfoldable pub update_status : State → SeatKind → NewStatus → Option ℕ → Option Object → Outcome
 update_status s kind status given None = refuse (is_user kind) (Forbidden rules.Verb) (Says (Refused NotFound))
@@ -115,17 +115,17 @@ edit_to s kind old None = Says (Refused (Invalid fields.Kind))
 edit_to s kind old (Some new) =
     refuse_rule (guard_on kind (Some old) new)
     (refuse_field (update_fault old new)
-    (written (updated old new (s.version + 1))))
+    (write_outcome (updated_object old new (s.version + 1))))
 
 unfoldable pub edit : State → SeatKind → Edit → Option Object → Outcome
 edit s kind change None = Says (Refused NotFound)
-edit s kind change (Some old) = edit_to s kind old (edited change old)
+edit s kind change (Some old) = edit_to s kind old (edited_object change old)
 
 -- a second delete changes nothing
 unfoldable pub delete_of : State → List ℕ → Object → Bool → Bool → Outcome
-delete_of s moment old true deleting = Removes (marked old (s.version + 1) moment)
+delete_of s moment old true deleting = Removes (marked_object old (s.version + 1) moment)
 delete_of s moment old false true = Says (Done old)
-delete_of s moment old false false = written (marked old (s.version + 1) moment)
+delete_of s moment old false false = write_outcome (marked_object old (s.version + 1) moment)
 
 unfoldable pub delete : State → List ℕ → Option Uid → Option Object → Outcome
 delete s moment given None = Says (Refused NotFound)
@@ -140,12 +140,12 @@ get (Some o) = Says (Found o)
 abbrev pub is_in_namespace : List ℕ → Object → Bool
 is_in_namespace namespace o = bytes_eq (meta_of o).namespace namespace
 
-abbrev pub listed : Option (List ℕ) → List Object → List Object
-listed None rows = rows
-listed (Some namespace) rows = filter (is_in_namespace namespace) rows
+abbrev pub listed_rows : Option (List ℕ) → List Object → List Object
+listed_rows None rows = rows
+listed_rows (Some namespace) rows = filter (is_in_namespace namespace) rows
 
 unfoldable pub list : State → Kind → Option (List ℕ) → Outcome
-list s kind namespace = Says (Listed (listed namespace (rows_of kind s.rows)) s.version)
+list s kind namespace = Says (Listed (listed_rows namespace (rows_of kind s.rows)) s.version)
 
 -- the pod with this UID
 unfoldable pub pod_with : Uid → Option Object → Option PodData

@@ -5,7 +5,7 @@ use Rattle.kube_types.specs.declared.objects.Meta.{Meta}
 use Rattle.kube_types.specs.declared.objects.Claim.{Claim as ClaimData}
 
 -- the write has the version and the name that the told object has
-pub record IsAt (given : Option ℕ) (namespace name : List ℕ) (o : Meta) : Type 0 where
+pub record IsWrittenAt (given : Option ℕ) (namespace name : List ℕ) (o : Meta) : Type 0 where
   pub version : given ≡ Some o.version
   pub placed : o.namespace ≡ namespace
   pub named : o.name ≡ name

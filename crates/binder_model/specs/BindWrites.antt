@@ -13,7 +13,7 @@ use Rattle.kube_types.specs.declared.objects.Ref.{Ref}
 use Rattle.kube_types.specs.declared.objects.Volume.{Volume as VolumeData}
 use Rattle.kube_types.specs.declared.objects.Claim.{Claim as ClaimData}
 use Rattle.kube_types.specs.declared.objects.Object.TheVariants.{Volume, Claim}
-use Rattle.kube_types.specs.Bindings.{bind_completed, bound_by_controller, yes, has_key, is_bound, is_released, is_protected_volume, is_completed, is_empty, carries}
+use Rattle.kube_types.specs.Bindings.{bind_completed, bound_by_controller, yes, has_key, is_bound, is_ended, is_protected_volume, is_completed, is_empty, carries}
 use Rattle.call_types.specs.declared.request.NewStatus.TheVariants as statuses
 use Rattle.call_types.specs.declared.request.Request.{Request}
 use Rattle.call_types.specs.declared.request.Request.TheVariants.{Update, UpdateStatus}
@@ -29,20 +29,20 @@ claim_key namespace name = record { kind = kinds.PersistentVolumeClaim; namespac
 abbrev pub ref_to : ClaimData → Ref
 ref_to c = record { namespace = c.meta.namespace; name = c.meta.name; uid = c.meta.uid }
 
-abbrev pub annotated : List ℕ → Meta → Meta
-annotated name m = record m { annotations = put_pair name yes m.annotations }
+abbrev pub annotated_meta : List ℕ → Meta → Meta
+annotated_meta name m = record m { annotations = put_pair name yes m.annotations }
 
-abbrev pub annotated_if : Bool → List ℕ → Meta → Meta
-annotated_if true name m = annotated name m
-annotated_if false name m = m
+abbrev pub annotated_meta_if : Bool → List ℕ → Meta → Meta
+annotated_meta_if true name m = annotated_meta name m
+annotated_meta_if false name m = m
 
 -- the first write: the volume with the claim's reference, marked as the controller's work where no user had pre-bound it
 unfoldable pub taken_for : VolumeData → ClaimData → VolumeData
-taken_for v c = record v { claim_ref = Some (ref_to c); meta = annotated_if (is_none v.claim_ref) bound_by_controller v.meta }
+taken_for v c = record v { claim_ref = Some (ref_to c); meta = annotated_meta_if (is_none v.claim_ref) bound_by_controller v.meta }
 
 -- the third write: the claim names the volume and is completed, marked as the controller's work where it named none
 unfoldable pub completed_with : ClaimData → VolumeData → ClaimData
-completed_with c v = record c { volume_name = v.meta.name; meta = annotated bind_completed (annotated_if (is_empty c.volume_name) bound_by_controller c.meta) }
+completed_with c v = record c { volume_name = v.meta.name; meta = annotated_meta bind_completed (annotated_meta_if (is_empty c.volume_name) bound_by_controller c.meta) }
 
 abbrev pub write_reference : VolumeData → ClaimData → Request
 write_reference v c = Update (Volume (taken_for v c)) (Some v.meta.version)
@@ -80,8 +80,8 @@ claim_write v c =
 -- the first of the four writes that would change anything, or none where none would or the next one may not be made
 unfoldable pub next_write : VolumeData → ClaimData → Option Request
 next_write v c =
-    if not (carries v c) then (if is_released v.phase then None else Some (write_reference v c))
-    else if not (is_bound v.phase) then (if is_released v.phase || not (is_protected_volume v) then None else Some (write_bound v))
+    if not (carries v c) then (if is_ended v.phase then None else Some (write_reference v c))
+    else if not (is_bound v.phase) then (if is_ended v.phase || not (is_protected_volume v) then None else Some (write_bound v))
     else claim_write v c
 
 -- unbinding: the whole reference goes where the controller had made it, else its UID alone
@@ -89,14 +89,14 @@ abbrev pub without_uid : Option Ref → Option Ref
 without_uid None = None
 without_uid (Some r) = Some (record r { uid = None })
 
-unfoldable pub unbound : VolumeData → VolumeData
-unbound v =
+unfoldable pub unbound_volume : VolumeData → VolumeData
+unbound_volume v =
     if has_key bound_by_controller v.meta.annotations
     then record v { claim_ref = None; meta = record v.meta { annotations = without_key bound_by_controller v.meta.annotations } }
     else record v { claim_ref = without_uid v.claim_ref }
 
 abbrev pub write_unbound : VolumeData → Request
-write_unbound v = Update (Volume (unbound v)) (Some v.meta.version)
+write_unbound v = Update (Volume (unbound_volume v)) (Some v.meta.version)
 
 abbrev pub write_available : VolumeData → Request
 write_available v = UpdateStatus (volume_key v.meta.name) (statuses.Volume volumes.Available) (Some v.meta.version)

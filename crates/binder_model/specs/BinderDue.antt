@@ -10,7 +10,7 @@ use Rattle.kube_types.specs.declared.objects.Claim.{Claim as ClaimData}
 use Rattle.kube_types.specs.declared.objects.Object.{Object}
 use Rattle.kube_types.specs.declared.objects.Object.TheVariants.{Volume, Claim}
 use Rattle.kube_types.specs.Keys.{row_at}
-use Rattle.kube_types.specs.Bindings.{provisioned_by, has_key, is_uid, is_available, is_bound, is_released, is_delete, is_deleting, is_protected_volume, is_completed, is_empty, is_for, carries, ref_uid}
+use Rattle.kube_types.specs.Bindings.{provisioned_by, has_key, is_uid, is_available, is_bound, is_ended, is_delete, is_deleting, is_protected_volume, is_completed, is_empty, is_for, carries, ref_uid}
 use Rattle.binder_model.specs.Matching.{fits, has_match}
 use Rattle.binder_model.specs.BindWrites.{claim_key, volume_key, next_write}
 
@@ -38,7 +38,7 @@ reference_due rows v (Some r) = by_uid r.uid
     by_uid : Option Uid → Option Due
     by_uid None = if is_available v.phase then None else Some Available
     by_uid (Some uid) =
-        if is_released v.phase then None
+        if is_ended v.phase then None
         else referred_due v (claim_with uid (row_at (claim_key r.namespace r.name) rows))
 
 unfoldable pub volume_due : List Object → VolumeData → Option Due
@@ -47,7 +47,7 @@ volume_due rows v = reference_due rows v v.claim_ref
 -- the claim names this volume, or one that is absent, and is not completed
 unfoldable pub named_due : ClaimData → Option Object → Option Due
 named_due c (Some (Volume v)) =
-    if is_deleting v.meta || not (is_protected_volume v) || is_released v.phase then None
+    if is_deleting v.meta || not (is_protected_volume v) || is_ended v.phase then None
     else if is_none v.claim_ref then (if fits v c then Some Bind else None)
     else if is_for v c then Some Bind else None
 named_due c _ = None

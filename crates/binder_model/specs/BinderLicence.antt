@@ -9,9 +9,9 @@ use Rattle.kube_types.specs.declared.objects.Volume.{Volume as VolumeData}
 use Rattle.kube_types.specs.declared.objects.Claim.{Claim as ClaimData}
 use Rattle.kube_types.specs.declared.objects.Object.{Object}
 use Rattle.kube_types.specs.declared.objects.Object.TheVariants.{Volume, Claim}
-use Rattle.kube_types.specs.Bindings.{is_released, is_bound, is_completed, is_protected_volume, carries, names_claim, ref_uid}
+use Rattle.kube_types.specs.Bindings.{is_ended, is_bound, is_completed, is_protected_volume, carries, names_claim, ref_uid}
 use Rattle.call_types.specs.declared.entry.Entry.{Entry}
-use Rattle.binder_model.specs.BindWrites.{claim_key, volume_key, taken_for, completed_with, unbound}
+use Rattle.binder_model.specs.BindWrites.{claim_key, volume_key, taken_for, completed_with, unbound_volume}
 use Rattle.binder_model.specs.BinderDue.{is_reclaimed}
 use Rattle.binder_model.specs.Told.{ToldVolume, ToldClaim, TellsLive, After}
 use Rattle.binder_model.specs.At.{IsSameObject, HasUid, IsElsewhere}
@@ -29,7 +29,7 @@ pub record IsTaken (o new : VolumeData) (c : ClaimData) : Type 0 where
 
 -- the row ClaimRef
 pub record MayTake (mine : List Entry) (o new : VolumeData) : Type 0 where
-  pub live : is_released o.phase ≡ false
+  pub live : is_ended o.phase ≡ false
   pub told : ToldClaim (IsTaken o new) mine
 
 -- the claim has the UID and names this volume or none
@@ -39,7 +39,7 @@ pub record IsHere (volume : List ℕ) (uid : Uid) (c : ClaimData) : Type 0 where
 
 -- the row PhaseBound
 pub record MayBind (mine : List Entry) (o : VolumeData) : Type 0 where
-  pub live : is_released o.phase ≡ false
+  pub live : is_ended o.phase ≡ false
   pub guarded : is_protected_volume o ≡ true
   pub uid : Uid
   pub refers : ref_uid o.claim_ref ≡ Some uid
@@ -89,7 +89,7 @@ WasReadGone mine o r uid = After (ToldVolume (IsReferring o r)) (TellsLive (clai
 
 -- the row Released
 pub record MayRelease (mine : List Entry) (o : VolumeData) : Type 0 where
-  pub live : is_released o.phase ≡ false
+  pub live : is_ended o.phase ≡ false
   pub reference : Ref
   pub uid : Uid
   pub refers : o.claim_ref ≡ Some reference
@@ -98,12 +98,12 @@ pub record MayRelease (mine : List Entry) (o : VolumeData) : Type 0 where
 
 -- the row Unbind
 pub record MayUnbind (mine : List Entry) (o new : VolumeData) : Type 0 where
-  pub live : is_released o.phase ≡ false
+  pub live : is_ended o.phase ≡ false
   pub uid : Uid
   pub refers : ref_uid o.claim_ref ≡ Some uid
   pub elsewhere : ToldClaim (IsElsewhere o.meta.name uid) mine
   pub kept : is_reclaimed o ≡ false
-  pub change : new ≡ unbound o
+  pub change : new ≡ unbound_volume o
 
 -- no volume stood there that could be the claim's: none, or one with another claim's UID
 abbrev pub IsNotCarrying : ClaimData → Option Object → Type 0

@@ -142,14 +142,14 @@ pub data Step : Type 0 where
   Waits : Step
   Searches : Step
 
-abbrev pub assigned : Option NodeData → Step
-assigned None = GoesNowhere
-assigned (Some n) = Assigns n
+abbrev pub assigned_node : Option NodeData → Step
+assigned_node None = GoesNowhere
+assigned_node (Some n) = Assigns n
 
 abbrev pub step_of : List Object → PodData → Step
 step_of rows p =
     if lacks_claim rows p then GoesNowhere
-    else if are_completed rows p then assigned (first_taking rows p (rows_of kinds.Node rows))
+    else if are_completed rows p then assigned_node (first_taking rows p (rows_of kinds.Node rows))
     else if list_any (is_served_elsewhere rows) (claims_of rows p) then Waits
     else if list_all (is_under_way rows) (claims_of rows p) then Waits
     else Searches

@@ -40,7 +40,7 @@ abbrev pub no_devices : Devices
 no_devices = record { stored = []; epochs = []; mounts = []; calls = 0 }
 
 -- what the devices answer, and what they then are
-pub record Answered : Type 0 where
+pub record DeviceAnswer : Type 0 where
   pub devices : Devices
   pub reply : Reply
 
@@ -52,8 +52,8 @@ epoch_of node [] = 0
 epoch_of node (e ∷ es) = if bytes_eq e.0 node then e.1 else epoch_of node es
 
 -- the node's current epoch, where the given one is another
-abbrev pub stale : Devices → List ℕ → ℕ → Option ℕ
-stale d node given = if given == epoch_of node d.epochs then None else Some (epoch_of node d.epochs)
+abbrev pub epoch_if_stale : Devices → List ℕ → ℕ → Option ℕ
+epoch_if_stale d node given = if given == epoch_of node d.epochs then None else Some (epoch_of node d.epochs)
 
 -- mounts
 
@@ -86,12 +86,12 @@ serves (Some pair) (Some labels) = is_value (value_at pair.0 labels)
     is_value (Some v) = bytes_eq v pair.1
 
 -- the bytes that a pool has given away
-abbrev pub used : ℕ → List Data → ℕ
-used place [] = 0
-used place (x ∷ xs) = if x.there && x.pool == place then x.bytes + used place xs else used place xs
+abbrev pub used_bytes : ℕ → List Data → ℕ
+used_bytes place [] = 0
+used_bytes place (x ∷ xs) = if x.there && x.pool == place then x.bytes + used_bytes place xs else used_bytes place xs
 
-abbrev pub free : Pool → ℕ → List Data → ℕ
-free pool place stored = pool.bytes - used place stored
+abbrev pub free_bytes : Pool → ℕ → List Data → ℕ
+free_bytes pool place stored = pool.bytes - used_bytes place stored
 
 -- the pool is of this provisioner and serves
 abbrev pub would_serve : List ℕ → Option (List Pair) → Pool → Bool
@@ -101,14 +101,14 @@ would_serve provisioner labels pool = bytes_eq pool.provisioner provisioner && s
 abbrev pub first_fit : List ℕ → ℕ → Option (List Pair) → List Data → ℕ → List Pool → Option ℕ
 first_fit provisioner bytes labels stored place [] = None
 first_fit provisioner bytes labels stored place (pool ∷ pools) =
-    if would_serve provisioner labels pool && nat_le bytes (free pool place stored) then Some place
+    if would_serve provisioner labels pool && nat_le bytes (free_bytes pool place stored) then Some place
     else first_fit provisioner bytes labels stored (place + 1) pools
 
 -- the greatest number of free bytes of a pool that would serve, or 0
 abbrev pub most_free : List ℕ → Option (List Pair) → List Data → ℕ → List Pool → ℕ
 most_free provisioner labels stored place [] = 0
 most_free provisioner labels stored place (pool ∷ pools) =
-    if would_serve provisioner labels pool then max (free pool place stored) (most_free provisioner labels stored (place + 1) pools)
+    if would_serve provisioner labels pool then max (free_bytes pool place stored) (most_free provisioner labels stored (place + 1) pools)
     else most_free provisioner labels stored (place + 1) pools
 
 abbrev pub topology_at : ℕ → List Pool → Option (List ℕ × List ℕ)
@@ -130,8 +130,8 @@ has_id id stored = list_any (λ x. x.there && same_id x.id id) stored
 abbrev pub erase_one : DataId → Data → Data
 erase_one id x = if same_id x.id id then record x { there = false } else x
 
-abbrev pub erased : DataId → List Data → List Data
-erased id stored = map (erase_one id) stored
+abbrev pub data_after_erase : DataId → List Data → List Data
+data_after_erase id stored = map (erase_one id) stored
 
 -- each data id is given once: data-1, data-2 and so on
 abbrev pub fresh_id : List ℕ → List Data → DataId
@@ -141,50 +141,50 @@ abbrev pub is_planned : ℕ → List ℕ → Bool
 is_planned call faults = list_any (λ f. f == call) faults
 
 -- a Provision or Erase call that answers so
-abbrev pub called : Devices → Reply → Answered
-called d reply = record { devices = record d { calls = d.calls + 1 }; reply = reply }
+abbrev pub after_call : Devices → Reply → DeviceAnswer
+after_call d reply = record { devices = record d { calls = d.calls + 1 }; reply = reply }
 
-unfoldable pub provision_new : List Pool → Devices → List ℕ → List ℕ → ℕ → Option (List Pair) → Option ℕ → Answered
-provision_new pools d name provisioner bytes labels None = called d (Refused (Exhausted (most_free provisioner labels d.stored 0 pools)))
+unfoldable pub provision_new : List Pool → Devices → List ℕ → List ℕ → ℕ → Option (List Pair) → Option ℕ → DeviceAnswer
+provision_new pools d name provisioner bytes labels None = after_call d (Refused (Exhausted (most_free provisioner labels d.stored 0 pools)))
 provision_new pools d name provisioner bytes labels (Some place) =
     let id = fresh_id provisioner d.stored in
-    called (record d { stored = (record { id = id; name = name; pool = place; bytes = bytes; there = true }) ∷ d.stored }) (Provisioned id (topology_at place pools))
+    after_call (record d { stored = (record { id = id; name = name; pool = place; bytes = bytes; there = true }) ∷ d.stored }) (Provisioned id (topology_at place pools))
 
 -- data of the name that are there are answered, whatever their provisioner and size
-unfoldable pub provision : List Pool → Devices → List ℕ → List ℕ → ℕ → Option (List Pair) → Option Data → Answered
-provision pools d name provisioner bytes labels (Some x) = called d (Provisioned x.id (topology_at x.pool pools))
+unfoldable pub provision : List Pool → Devices → List ℕ → List ℕ → ℕ → Option (List Pair) → Option Data → DeviceAnswer
+provision pools d name provisioner bytes labels (Some x) = after_call d (Provisioned x.id (topology_at x.pool pools))
 provision pools d name provisioner bytes labels None = provision_new pools d name provisioner bytes labels (first_fit provisioner bytes labels d.stored 0 pools)
 
-unfoldable pub erase : Devices → DataId → Answered
-erase d id = called (record d { stored = erased id d.stored }) (Erased (has_id id d.stored))
+unfoldable pub erase : Devices → DataId → DeviceAnswer
+erase d id = after_call (record d { stored = data_after_erase id d.stored }) (Erased (has_id id d.stored))
 
 -- a call whose number is planned fails
-unfoldable pub unless_planned : Setup → Devices → Answered → Answered
-unless_planned setup d next = if is_planned (d.calls + 1) setup.faults then called d (Refused (BackFault (d.calls + 1))) else next
+unfoldable pub unless_planned : Setup → Devices → DeviceAnswer → DeviceAnswer
+unless_planned setup d next = if is_planned (d.calls + 1) setup.faults then after_call d (Refused (BackFault (d.calls + 1))) else next
 
 -- a call with an epoch that is not the node's current one is refused
-unfoldable pub unless_stale : Devices → Option ℕ → Answered → Answered
+unfoldable pub unless_stale : Devices → Option ℕ → DeviceAnswer → DeviceAnswer
 unless_stale d None next = next
 unless_stale d (Some current) next = record { devices = d; reply = Refused (StaleEpoch current) }
 
-unfoldable pub take_node : Devices → List ℕ → Answered
+unfoldable pub take_node : Devices → List ℕ → DeviceAnswer
 take_node d node =
     let epoch = epoch_of node d.epochs + 1 in
     record { devices = record d { epochs = (node, epoch) ∷ d.epochs }; reply = Epoch epoch }
 
 -- the answer is the node's whole list as it then is
-unfoldable pub with_mounts : Devices → List ℕ → List MountAt → Answered
+unfoldable pub with_mounts : Devices → List ℕ → List MountAt → DeviceAnswer
 with_mounts d node mounts = record { devices = record d { mounts = mounts }; reply = Mounted (rows_on node mounts) }
 
 -- what the devices answer a request of theirs; other requests are not asked of them
-unfoldable pub device_answer : Setup → Devices → Request → Option Answered
+unfoldable pub device_answer : Setup → Devices → Request → Option DeviceAnswer
 device_answer setup d (Provision name provisioner bytes labels) =
     Some (unless_planned setup d (provision setup.pools d name provisioner bytes labels (data_named name d.stored)))
 device_answer setup d (Erase id) = Some (unless_planned setup d (erase d id))
 device_answer setup d (TakeNode node) = Some (take_node d node)
-device_answer setup d (Mounts node epoch) = Some (unless_stale d (stale d node epoch) (with_mounts d node d.mounts))
-device_answer setup d (Mount node epoch pod claims) = Some (unless_stale d (stale d node epoch) (with_mounts d node (with_mount node pod claims d.mounts)))
-device_answer setup d (Unmount node epoch pod) = Some (unless_stale d (stale d node epoch) (with_mounts d node (without_mount node pod d.mounts)))
+device_answer setup d (Mounts node epoch) = Some (unless_stale d (epoch_if_stale d node epoch) (with_mounts d node d.mounts))
+device_answer setup d (Mount node epoch pod claims) = Some (unless_stale d (epoch_if_stale d node epoch) (with_mounts d node (with_mount node pod claims d.mounts)))
+device_answer setup d (Unmount node epoch pod) = Some (unless_stale d (epoch_if_stale d node epoch) (with_mounts d node (without_mount node pod d.mounts)))
 device_answer setup d _ = None
 
 -- whether a pool has the bytes free for a request, and whether data of a name are there

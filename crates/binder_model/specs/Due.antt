@@ -15,7 +15,7 @@ use Rattle.kube_types.specs.declared.objects.Volume.{Volume as VolumeData}
 use Rattle.kube_types.specs.declared.objects.Object.{Object}
 use Rattle.kube_types.specs.declared.objects.Object.TheVariants.{Class, Node, Volume, Claim, Pod}
 use Rattle.kube_types.specs.Keys.{row_at}
-use Rattle.kube_types.specs.Bindings.{selected_node, class_of_claim, is_deleting, is_scheduled, is_protected_volume, is_protected_claim, is_completed, is_released, is_bound, is_delete, carries, ref_uid}
+use Rattle.kube_types.specs.Bindings.{selected_node, class_of_claim, is_deleting, is_scheduled, is_protected_volume, is_protected_claim, is_completed, is_ended, is_bound, is_delete, carries, ref_uid}
 use Rattle.call_types.specs.declared.setup.Setup.{Setup}
 use Rattle.binder_model.specs.Store.{node_key}
 use Rattle.binder_model.specs.Devices.{Devices, pool_fits, has_data, is_mounted_on}
@@ -35,7 +35,7 @@ or_due None next = next
 -- reclaim: ended with policy Delete, and not deleting
 abbrev pub reclaim_due : VolumeData → Option Due
 reclaim_due v =
-    if is_released v.phase && is_delete v.policy && is_some (ref_uid v.claim_ref) && not (is_deleting v.meta) then Some dues.Reclaim else None
+    if is_ended v.phase && is_delete v.policy && is_some (ref_uid v.claim_ref) && not (is_deleting v.meta) then Some dues.Reclaim else None
 
 -- protection: the finalizer is added where it lacks, and dropped where the object is to go and nothing needs it
 abbrev pub guard_due : Bool → Bool → Bool → Option Due

@@ -18,20 +18,20 @@ with_volume_name name (Claim c) = Some (Claim (record c { volume_name = name }))
 with_volume_name name o = None
 
 -- the object with the edit, or none where the edit does not fit its kind
-unfoldable pub edited : Edit → Object → Option Object
-edited (AddFinalizer f) o = Some (with_meta o (record (meta_of o) { finalizers = with_finalizer f (meta_of o).finalizers }))
-edited (DropFinalizer f) o = Some (with_meta o (record (meta_of o) { finalizers = without_name f (meta_of o).finalizers }))
-edited (DropLabel key) o = Some (with_meta o (record (meta_of o) { labels = without_key key (meta_of o).labels }))
-edited (DropAnnotation key) o = Some (with_meta o (record (meta_of o) { annotations = without_key key (meta_of o).annotations }))
-edited (SetLabel key value) o = Some (with_meta o (record (meta_of o) { labels = put_pair key value (meta_of o).labels }))
-edited (SetAnnotation key value) o = Some (with_meta o (record (meta_of o) { annotations = put_pair key value (meta_of o).annotations }))
-edited (SetVolumeName name) o = with_volume_name name o
-edited (SetPolicy policy) (Volume v) = Some (Volume (record v { policy = policy }))
-edited (SetPolicy policy) o = None
-edited (SetClaimRef namespace name) (Volume v) = Some (Volume (record v { claim_ref = Some (record { namespace = namespace; name = name; uid = None }) }))
-edited (SetClaimRef namespace name) o = None
-edited ClearClaimRef (Volume v) = Some (Volume (record v {
+unfoldable pub edited_object : Edit → Object → Option Object
+edited_object (AddFinalizer f) o = Some (with_meta o (record (meta_of o) { finalizers = with_finalizer f (meta_of o).finalizers }))
+edited_object (DropFinalizer f) o = Some (with_meta o (record (meta_of o) { finalizers = without_name f (meta_of o).finalizers }))
+edited_object (DropLabel key) o = Some (with_meta o (record (meta_of o) { labels = without_key key (meta_of o).labels }))
+edited_object (DropAnnotation key) o = Some (with_meta o (record (meta_of o) { annotations = without_key key (meta_of o).annotations }))
+edited_object (SetLabel key value) o = Some (with_meta o (record (meta_of o) { labels = put_pair key value (meta_of o).labels }))
+edited_object (SetAnnotation key value) o = Some (with_meta o (record (meta_of o) { annotations = put_pair key value (meta_of o).annotations }))
+edited_object (SetVolumeName name) o = with_volume_name name o
+edited_object (SetPolicy policy) (Volume v) = Some (Volume (record v { policy = policy }))
+edited_object (SetPolicy policy) o = None
+edited_object (SetClaimRef namespace name) (Volume v) = Some (Volume (record v { claim_ref = Some (record { namespace = namespace; name = name; uid = None }) }))
+edited_object (SetClaimRef namespace name) o = None
+edited_object ClearClaimRef (Volume v) = Some (Volume (record v {
   claim_ref = None;
   meta = record v.meta { annotations = without_key bound_by_controller v.meta.annotations };
 }))
-edited ClearClaimRef o = None
+edited_object ClearClaimRef o = None

@@ -11,7 +11,7 @@ use Rattle.kube_types.specs.declared.objects.Ref.{Ref}
 use Rattle.kube_types.specs.declared.objects.Object.{Object}
 use Rattle.kube_types.specs.declared.objects.Object.TheVariants.{Volume, Claim}
 use Rattle.kube_types.specs.Keys.{meta_of}
-use Rattle.kube_types.specs.Bindings.{bind_completed, bound_by_controller, provisioned_by, pv_protection, pvc_protection, has_name, is_released, is_delete, ref_uid}
+use Rattle.kube_types.specs.Bindings.{bind_completed, bound_by_controller, provisioned_by, pv_protection, pvc_protection, has_name, is_ended, is_delete, ref_uid}
 use Rattle.binder_model.specs.Same.{same_option, same_ref}
 
 abbrev pub annotations_before : Option Object → List Pair
@@ -73,7 +73,7 @@ breaks_reference old _ = false
 
 -- what is to be deleted once released stays so
 abbrev pub breaks_policy : Option Object → Object → Bool
-breaks_policy (Some (Volume old)) (Volume new) = is_released old.phase && is_delete old.policy && not (is_delete new.policy)
+breaks_policy (Some (Volume old)) (Volume new) = is_ended old.phase && is_delete old.policy && not (is_delete new.policy)
 breaks_policy _ _ = false
 
 -- the rule where the test holds, else what comes next

@@ -18,23 +18,23 @@ use Rattle.binder_model.specs.Edits.{without_name}
 use Rattle.binder_model.specs.Told.{ToldClaim, After}
 use Rattle.binder_model.specs.At.{IsSameObject}
 
-abbrev pub guarded : List ℕ → Meta → Meta
-guarded name m = record m { finalizers = m.finalizers ++ name ∷ [] }
+abbrev pub guarded_meta : List ℕ → Meta → Meta
+guarded_meta name m = record m { finalizers = m.finalizers ++ name ∷ [] }
 
-abbrev pub unguarded : List ℕ → Meta → Meta
-unguarded name m = record m { finalizers = without_name name m.finalizers }
+abbrev pub unguarded_meta : List ℕ → Meta → Meta
+unguarded_meta name m = record m { finalizers = without_name name m.finalizers }
 
 -- the row AddGuard, for the finalizer of the object's kind
 pub record MayGuard (name : List ℕ) (o new : Meta) : Type 0 where
   pub staying : is_deleting o ≡ false
   pub lacks : has_name name o.finalizers ≡ false
-  pub change : new ≡ guarded name o
+  pub change : new ≡ guarded_meta name o
 
 -- the row DropVolumeGuard
 pub record MayUnguardVolume (o new : VolumeData) : Type 0 where
   pub deleting : is_deleting o.meta ≡ true
   pub loose : is_bound o.phase ≡ false
-  pub change : new ≡ record o { meta = unguarded pv_protection o.meta }
+  pub change : new ≡ record o { meta = unguarded_meta pv_protection o.meta }
 
 -- this claim, told to be deleted
 pub record IsDeletingVersion (o c : ClaimData) : Type 0 where
@@ -58,4 +58,4 @@ TellsUnused o e = (e.told ≡ true) × IsPodList o e.request e.reply
 pub record MayUnguardClaim (mine : List Entry) (o new : ClaimData) : Type 0 where
   pub deleting : is_deleting o.meta ≡ true
   pub unused : After (ToldClaim (IsDeletingVersion o)) (TellsUnused o) mine
-  pub change : new ≡ record o { meta = unguarded pvc_protection o.meta }
+  pub change : new ≡ record o { meta = unguarded_meta pvc_protection o.meta }

@@ -24,7 +24,7 @@ use Rattle.call_types.specs.declared.request.SeatKind.TheVariants as seats
 use Rattle.call_types.specs.declared.request.Request.{Request}
 use Rattle.call_types.specs.declared.request.Request.TheVariants as requests
 use Rattle.binder_model.specs.Told.{ToldVolume, ToldClaim}
-use Rattle.binder_model.specs.At.{IsAt}
+use Rattle.binder_model.specs.At.{IsWrittenAt}
 use Rattle.binder_model.specs.BinderLicence.{MayTake, MayBind, MayComplete, MayShow, MayFree, MayRelease, MayUnbind, MayLose}
 use Rattle.binder_model.specs.GuardLicence.{MayGuard, MayUnguardVolume, MayUnguardClaim}
 use Rattle.binder_model.specs.OpsLicence.{MayProvision, MayCreate, MayErase, MayFail, MayDelete, MayClearNode}
@@ -35,16 +35,16 @@ use Rattle.binder_model.specs.Reading.{MayRead}
 -- updates and statuses at a told object
 
 abbrev pub AtVolume : List Entry → VolumeData → Option ℕ → (VolumeData → Type 0) → Type 0
-AtVolume mine new given Row = ToldVolume (λ o. IsAt given new.meta.namespace new.meta.name o.meta × Row o) mine
+AtVolume mine new given Row = ToldVolume (λ o. IsWrittenAt given new.meta.namespace new.meta.name o.meta × Row o) mine
 
 abbrev pub AtClaim : List Entry → ClaimData → Option ℕ → (ClaimData → Type 0) → Type 0
-AtClaim mine new given Row = ToldClaim (λ o. IsAt given new.meta.namespace new.meta.name o.meta × Row o) mine
+AtClaim mine new given Row = ToldClaim (λ o. IsWrittenAt given new.meta.namespace new.meta.name o.meta × Row o) mine
 
 abbrev pub AtVolumeKey : List Entry → Key → Option ℕ → (VolumeData → Type 0) → Type 0
-AtVolumeKey mine key given Row = (key.kind ≡ kinds.PersistentVolume) × ToldVolume (λ o. IsAt given key.namespace key.name o.meta × Row o) mine
+AtVolumeKey mine key given Row = (key.kind ≡ kinds.PersistentVolume) × ToldVolume (λ o. IsWrittenAt given key.namespace key.name o.meta × Row o) mine
 
 abbrev pub AtClaimKey : List Entry → Key → Option ℕ → (ClaimData → Type 0) → Type 0
-AtClaimKey mine key given Row = (key.kind ≡ kinds.PersistentVolumeClaim) × ToldClaim (λ o. IsAt given key.namespace key.name o.meta × Row o) mine
+AtClaimKey mine key given Row = (key.kind ≡ kinds.PersistentVolumeClaim) × ToldClaim (λ o. IsWrittenAt given key.namespace key.name o.meta × Row o) mine
 
 -- the binder
 

@@ -18,7 +18,7 @@ use Rattle.kube_types.specs.declared.objects.Object.{Object}
 use Rattle.kube_types.specs.declared.objects.Object.TheVariants.{Class, Volume}
 use Rattle.kube_types.specs.declared.key.Key.{Key}
 use Rattle.kube_types.specs.Keys.{rows_of, row_at}
-use Rattle.kube_types.specs.Bindings.{class_of_volume, class_of_claim, is_deleting, is_protected_volume, is_for, is_released, is_available}
+use Rattle.kube_types.specs.Bindings.{class_of_volume, class_of_claim, is_deleting, is_protected_volume, is_for, is_ended, is_available}
 use Rattle.label_rules.specs.Selectors.{selects, admits}
 
 -- each mode of the first is one of the second
@@ -36,23 +36,23 @@ mode_count m = count_one m.rwo + count_one m.rox + count_one m.rwx + count_one m
 abbrev pub fits : VolumeData → ClaimData → Bool
 fits v c = nat_le c.amount.bytes v.amount.bytes && bytes_eq (class_of_volume v) (class_of_claim c) && beq v.block c.block && covers c.modes v.modes
 
-abbrev pub selected : Option Selector → List Pair → Bool
-selected None labels = true
-selected (Some s) labels = selects s labels
+abbrev pub is_selected : Option Selector → List Pair → Bool
+is_selected None labels = true
+is_selected (Some s) labels = selects s labels
 
-abbrev pub admitted_on : VolumeData → Option NodeData → Bool
-admitted_on v None = true
-admitted_on v (Some n) = admits v.terms n.meta.labels
+abbrev pub is_admitted_on : VolumeData → Option NodeData → Bool
+is_admitted_on v None = true
+is_admitted_on v (Some n) = admits v.terms n.meta.labels
 
 -- for this claim and not ended, or free
 abbrev pub may_serve : VolumeData → ClaimData → Bool
-may_serve v c = (is_for v c && not (is_released v.phase)) || (is_available v.phase && is_none v.claim_ref)
+may_serve v c = (is_for v c && not (is_ended v.phase)) || (is_available v.phase && is_none v.claim_ref)
 
 -- the volume may be bound to the claim, on the node where one is given
 abbrev pub eligible : VolumeData → ClaimData → Option NodeData → Bool
 eligible v c node =
     not (is_deleting v.meta) && is_protected_volume v && fits v c
-    && selected c.selector v.meta.labels && admitted_on v node && may_serve v c
+    && is_selected c.selector v.meta.labels && is_admitted_on v node && may_serve v c
 
 abbrev pub for_last : VolumeData → ClaimData → ℕ
 for_last v c = if is_for v c then 0 else 1

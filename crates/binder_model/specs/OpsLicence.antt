@@ -10,7 +10,7 @@ use Rattle.kube_types.specs.declared.objects.Volume.{Volume as VolumeData}
 use Rattle.kube_types.specs.declared.objects.Node.{Node as NodeData}
 use Rattle.kube_types.specs.declared.objects.Object.TheVariants.{Class, Node, Volume, Claim}
 use Rattle.kube_types.specs.Sources.{data_id_of}
-use Rattle.kube_types.specs.Bindings.{selected_node, class_of_claim, is_completed, is_deleting, is_released, is_delete, ref_uid}
+use Rattle.kube_types.specs.Bindings.{selected_node, class_of_claim, is_completed, is_deleting, is_ended, is_delete, ref_uid}
 use Rattle.call_types.specs.declared.entry.Entry.{Entry}
 use Rattle.call_types.specs.declared.request.Request.{Request}
 use Rattle.call_types.specs.declared.request.Request.TheVariants as requests
@@ -70,7 +70,7 @@ pub record MayCreate (mine : List Entry) (new : VolumeData) : Type 0 where
 
 -- ended, to be erased, and not deleting
 pub record IsToErase (v : VolumeData) : Type 0 where
-  pub ended : is_released v.phase ≡ true
+  pub ended : is_ended v.phase ≡ true
   pub policy : is_delete v.policy ≡ true
   pub referring : is_some (ref_uid v.claim_ref) ≡ true
   pub staying : is_deleting v.meta ≡ false
@@ -104,7 +104,7 @@ TellsEraseFailed id e = (e.told ≡ true) × EraseFailed id e.request e.reply
 
 -- the row Failed
 pub record MayFail (mine : List Entry) (o : VolumeData) : Type 0 where
-  pub ended : is_released o.phase ≡ true
+  pub ended : is_ended o.phase ≡ true
   pub failed : After (ToldVolume (IsThisVolume o)) (TellsEraseFailed (data_id_of o.source)) mine
 
 abbrev pub EraseDone : DataId → Request → Reply → Type 0
@@ -115,16 +115,16 @@ abbrev pub TellsErased : DataId → Entry → Type 0
 TellsErased id e = (e.told ≡ true) × EraseDone id e.request e.reply
 
 -- the volume of this UID, told ended and to be erased, over this data
-pub record IsEnded (uid : Uid) (id : DataId) (v : VolumeData) : Type 0 where
+pub record IsEndedOver (uid : Uid) (id : DataId) (v : VolumeData) : Type 0 where
   pub same : v.meta.uid ≡ Some uid
-  pub ended : is_released v.phase ≡ true
+  pub ended : is_ended v.phase ≡ true
   pub policy : is_delete v.policy ≡ true
   pub over : data_id_of v.source ≡ id
 
 -- the row DeleteVolume
 pub record MayDelete (mine : List Entry) (uid : Uid) : Type 0 where
   pub id : DataId
-  pub erased : After (ToldVolume (IsEnded uid id)) (TellsErased id) mine
+  pub erased : After (ToldVolume (IsEndedOver uid id)) (TellsErased id) mine
 
 -- the answer of a Provision of the name was that no pool has the bytes
 abbrev pub IsExhausted : List ℕ → Request → Reply → Type 0

@@ -45,32 +45,32 @@ abbrev pub same_kind : Kind → Kind → Bool
 same_kind a b = kind_index a == kind_index b
 
 -- where the seat stands with a kind: nothing told, or a list at a version, and the version that a watch reached since
-pub data Followed : Type 0 where
-  Unlisted : Followed
-  ListedAt : ℕ → Option ℕ → Followed
+pub data Following : Type 0 where
+  Unlisted : Following
+  ListedAt : ℕ → Option ℕ → Following
 
 -- the list of a whole kind begins anew, a watch goes on, and Gone ends what was known
-abbrev pub follow_on : Request → Reply → Kind → Followed → Followed
+abbrev pub follow_on : Request → Reply → Kind → Following → Following
 follow_on (requests.List k None) (Listed items version) kind before = if same_kind k kind then ListedAt version None else before
 follow_on (requests.Watch k from) (Refused (Gone oldest)) kind before = if same_kind k kind then Unlisted else before
 follow_on (requests.Watch k from) (Events events) kind before = if same_kind k kind then reached_on events.upto before else before
   where
-    reached_on : ℕ → Followed → Followed
+    reached_on : ℕ → Following → Following
     reached_on upto Unlisted = Unlisted
     reached_on upto (ListedAt version reached) = ListedAt version (Some upto)
 follow_on request reply kind before = before
 
-abbrev pub followed : List Entry → Kind → Followed
-followed [] kind = Unlisted
-followed (e ∷ mine) kind = if e.told then follow_on e.request e.reply kind (followed mine kind) else followed mine kind
+abbrev pub following_of : List Entry → Kind → Following
+following_of [] kind = Unlisted
+following_of (e ∷ mine) kind = if e.told then follow_on e.request e.reply kind (following_of mine kind) else following_of mine kind
 
 -- a list only where none was told since the last Gone
-abbrev pub IsUnlisted : Followed → Type 0
+abbrev pub IsUnlisted : Following → Type 0
 IsUnlisted Unlisted = ⊤
 IsUnlisted (ListedAt version reached) = ⊥
 
 -- a watch only from the version of that list, or from the one that was reached last
-abbrev pub IsFrom : ℕ → Followed → Type 0
+abbrev pub IsFrom : ℕ → Following → Type 0
 IsFrom from Unlisted = ⊥
 IsFrom from (ListedAt version reached) = (from ≡ version) ⊎ (reached ≡ Some from)
 
@@ -137,8 +137,8 @@ MayListNamespace _ mine kind namespace = ⊥
 
 -- the row Reading
 abbrev pub MayRead : SeatKind → List Entry → Request → Type 0
-MayRead seat mine (requests.List kind None) = (follows seat kind ≡ true) × IsUnlisted (followed mine kind)
+MayRead seat mine (requests.List kind None) = (follows seat kind ≡ true) × IsUnlisted (following_of mine kind)
 MayRead seat mine (requests.List kind (Some namespace)) = MayListNamespace seat mine kind namespace
-MayRead seat mine (requests.Watch kind from) = (follows seat kind ≡ true) × IsFrom from (followed mine kind)
+MayRead seat mine (requests.Watch kind from) = (follows seat kind ≡ true) × IsFrom from (following_of mine kind)
 MayRead seat mine (requests.Get key) = MayGet seat mine key
 MayRead seat mine _ = ⊥

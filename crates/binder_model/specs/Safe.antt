@@ -10,7 +10,7 @@ use Rattle.kube_types.specs.declared.objects.Claim.{Claim as ClaimData}
 use Rattle.kube_types.specs.declared.objects.Object.{Object}
 use Rattle.kube_types.specs.declared.objects.Object.TheVariants.{Volume, Claim}
 use Rattle.kube_types.specs.Keys.{row_at}
-use Rattle.kube_types.specs.Bindings.{carries, is_bound, is_completed, is_released, is_delete}
+use Rattle.kube_types.specs.Bindings.{carries, is_bound, is_completed, is_ended, is_delete}
 use Rattle.call_types.specs.declared.entry.Entry.{Entry}
 use Rattle.call_types.specs.declared.setup.Setup.{Setup}
 use Rattle.binder_model.specs.BindWrites.{volume_key}
@@ -68,8 +68,8 @@ abbrev pub KeepsMounted : World → List Object → Type 0
 KeepsMounted old new = (key : Key) (c : ClaimData) → row_at key old.store.rows ≡ Some (Claim c) → is_mounted old.devices c ≡ true → is_some (row_at key new) ≡ true
 
 -- the volume is ended, with policy Delete
-pub record IsEnded (v : VolumeData) : Type 0 where
-  pub ended : is_released v.phase ≡ true
+pub record IsEndedForDelete (v : VolumeData) : Type 0 where
+  pub ended : is_ended v.phase ≡ true
   pub policy : is_delete v.policy ≡ true
 
 -- the data that were erased are those of a volume that the seat had read, and that is ended, with policy Delete, or has left
@@ -78,7 +78,7 @@ pub record ErasesEnded (rows : List Object) (mine : List Entry) (id : DataId) : 
   pub last : last_found id mine ≡ Some volume
   pub uid : Uid
   pub known : volume.meta.uid ≡ Some uid
-  pub since : (key : Key) (v : VolumeData) → row_at key rows ≡ Some (Volume v) → v.meta.uid ≡ Some uid → IsEnded v
+  pub since : (key : Key) (v : VolumeData) → row_at key rows ≡ Some (Volume v) → v.meta.uid ≡ Some uid → IsEndedForDelete v
 
 -- an Erase that removed data
 abbrev pub ErasesWell : List Object → List Entry → Request → Reply → Type 0

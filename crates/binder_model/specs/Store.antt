@@ -36,8 +36,8 @@ unfoldable pub at_version : Object → ℕ → Object
 at_version o version = with_meta o (record (meta_of o) { version = version })
 
 -- the object at this version, to be deleted since this moment
-unfoldable pub marked : Object → ℕ → List ℕ → Object
-marked o version moment = with_meta o (record (meta_of o) { version = version; deleted = Some moment })
+unfoldable pub marked_object : Object → ℕ → List ℕ → Object
+marked_object o version moment = with_meta o (record (meta_of o) { version = version; deleted = Some moment })
 
 -- admission. Source: Kubernetes documentation, "Storage Object in Use Protection" and "DefaultStorageClass"
 
@@ -75,13 +75,13 @@ admitted_class None default true = None
 admitted_class None default false = default
 
 -- with the protection finalizer of its kind, and a claim with a class
-unfoldable pub admitted : Option (List ℕ) → Object → Object
-admitted default (Volume v) = Volume (record v { meta = record v.meta { finalizers = with_finalizer pv_protection v.meta.finalizers } })
-admitted default (Claim c) = Claim (record c {
+unfoldable pub admitted_object : Option (List ℕ) → Object → Object
+admitted_object default (Volume v) = Volume (record v { meta = record v.meta { finalizers = with_finalizer pv_protection v.meta.finalizers } })
+admitted_object default (Claim c) = Claim (record c {
   meta = record c.meta { finalizers = with_finalizer pvc_protection c.meta.finalizers };
   class = admitted_class c.class default (has_key beta_class c.meta.annotations);
 })
-admitted default o = o
+admitted_object default o = o
 
 abbrev pub no_modes : Modes
 no_modes = record { rwo = false; rox = false; rwx = false; rwop = false }
@@ -93,9 +93,9 @@ without_status (Claim c) = Claim (record c { phase = claims.Pending; got_modes =
 without_status o = o
 
 -- the object as the write of this version creates it
-unfoldable pub created : Option (List ℕ) → Object → ℕ → List ℕ → Object
-created default o version moment =
-    let new = admitted default (without_status o) in
+unfoldable pub created_object : Option (List ℕ) → Object → ℕ → List ℕ → Object
+created_object default o version moment =
+    let new = admitted_object default (without_status o) in
     with_meta new (record (meta_of new) { uid = Some (uid_of_serial version); version = version; created = moment; deleted = None })
 
 -- an update keeps UID, both timestamps and status
@@ -104,8 +104,8 @@ with_status_of (Volume old) (Volume new) = Volume (record new { phase = old.phas
 with_status_of (Claim old) (Claim new) = Claim (record new { phase = old.phase; got_modes = old.got_modes; got = old.got })
 with_status_of old new = new
 
-unfoldable pub updated : Object → Object → ℕ → Object
-updated old new version =
+unfoldable pub updated_object : Object → Object → ℕ → Object
+updated_object old new version =
     let kept = with_status_of old new in
     with_meta kept (record (meta_of kept) { uid = (meta_of old).uid; version = version; created = (meta_of old).created; deleted = (meta_of old).deleted })
 

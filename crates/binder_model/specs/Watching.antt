@@ -29,10 +29,10 @@ last_version none [] = none
 last_version none (e ∷ es) = last_version e.version es
 
 -- a full answer reaches to its last event, any other to the store's version
-abbrev pub reached : ℕ → List Event → ℕ
-reached version es = if length es == most_events then last_version version es else version
+abbrev pub reached_version : ℕ → List Event → ℕ
+reached_version version es = if length es == most_events then last_version version es else version
 
 abbrev pub told_events : Kind → ℕ → ℕ → List Event → Events
 told_events kind from version log =
     let es = take most_events (events_after kind from log) in
-    record { events = es; upto = reached version es }
+    record { events = es; upto = reached_version version es }

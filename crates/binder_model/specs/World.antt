@@ -18,7 +18,7 @@ use Rattle.call_types.specs.declared.reply.Reply.{Reply}
 use Rattle.call_types.specs.declared.reply.Reply.TheVariants.{Events, Timed, Refused}
 use Rattle.binder_model.specs.Store.{State, no_store}
 use Rattle.binder_model.specs.Answers.{Outcome, Says, Stores, Removes, is_user, outcome, reply_of, after}
-use Rattle.binder_model.specs.Devices.{Devices, Answered, no_devices, device_answer, stale}
+use Rattle.binder_model.specs.Devices.{Devices, DeviceAnswer, no_devices, device_answer, epoch_if_stale}
 use Rattle.binder_model.specs.Watching.{oldest, told_events}
 
 pub record World : Type 0 where
@@ -37,7 +37,7 @@ no_world = record { store = no_store; moment = first_moment; log = []; devices =
 -- what a request comes to: on the store, on the devices, or on the moment
 pub data Effect : Type 0 where
   OnStore : Outcome → Effect
-  OnDevices : Answered → Effect
+  OnDevices : DeviceAnswer → Effect
   SetsMoment : List ℕ → Effect
 
 abbrev pub fits_shape : ℕ → ℕ → Bool
@@ -61,11 +61,11 @@ watch w kind from =
 
 -- the current epoch of the node that a FinishPod names, where it has another
 abbrev pub stale_epoch : Devices → Request → Option ℕ
-stale_epoch d (requests.FinishPod key uid node epoch) = stale d node epoch
+stale_epoch d (requests.FinishPod key uid node epoch) = epoch_if_stale d node epoch
 stale_epoch d _ = None
 
 -- users make no device calls
-unfoldable pub on_devices : World → SeatKind → Request → Option Answered → Effect
+unfoldable pub on_devices : World → SeatKind → Request → Option DeviceAnswer → Effect
 on_devices w kind request (Some answered) = if is_user kind then refused_rule else OnDevices answered
 on_devices w kind request None = OnStore (outcome w.store kind request w.moment (stale_epoch w.devices request))
 
@@ -81,14 +81,14 @@ reply_to (OnDevices a) = a.reply
 reply_to (SetsMoment at) = Timed
 
 -- the log after an outcome: an event for each write
-unfoldable pub logged : Outcome → List Event → List Event
-logged (Says reply) log = log
-logged (Stores change o) log = (record { change = change; object = o; version = (meta_of o).version }) ∷ log
-logged (Removes o) log = (record { change = Deleted; object = o; version = (meta_of o).version }) ∷ log
+unfoldable pub log_after : Outcome → List Event → List Event
+log_after (Says reply) log = log
+log_after (Stores change o) log = (record { change = change; object = o; version = (meta_of o).version }) ∷ log
+log_after (Removes o) log = (record { change = Deleted; object = o; version = (meta_of o).version }) ∷ log
 
 -- the world after an effect
 unfoldable pub world_after : World → Effect → World
-world_after w (OnStore o) = record w { store = after w.store o; log = logged o w.log }
+world_after w (OnStore o) = record w { store = after w.store o; log = log_after o w.log }
 world_after w (OnDevices a) = record w { devices = a.devices }
 world_after w (SetsMoment at) = record w { moment = at }
 

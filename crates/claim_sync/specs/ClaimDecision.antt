@@ -9,7 +9,7 @@ use Rattle.kube_types.specs.declared.objects.Object.{Object}
 use Rattle.kube_types.specs.declared.lookup.Live.{Live}
 use Rattle.kube_types.specs.declared.lookup.Live.TheVariants.{NotAsked, Absent, Present}
 use Rattle.kube_types.specs.Keys.{row_at, rows_of}
-use Rattle.kube_types.specs.Bindings.{carries, is_completed, is_deleting, is_empty, is_for, is_protected_volume, is_released}
+use Rattle.kube_types.specs.Bindings.{carries, is_completed, is_deleting, is_empty, is_for, is_protected_volume, is_ended}
 use Rattle.binder_model.specs.Matching.{IsBest, fits, has_match, waits_for_pod}
 use Rattle.binder_model.specs.BindWrites.{next_write, volume_key}
 use Rattle.binder_model.specs.BinderDue.{has_other_uid}
@@ -41,7 +41,7 @@ is_present (Present o) = true
 
 -- the volume may not be taken anew
 abbrev pub is_blocked : VolumeData → Bool
-is_blocked v = is_deleting v.meta || not (is_protected_volume v) || is_released v.phase
+is_blocked v = is_deleting v.meta || not (is_protected_volume v) || is_ended v.phase
 
 -- a write of the binding would change something and may be made
 abbrev pub has_write : VolumeData → ClaimData → Bool

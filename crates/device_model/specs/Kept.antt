@@ -5,7 +5,7 @@ use Rattle.call_types.specs.declared.setup.Setup.{Setup}
 use Rattle.call_types.specs.declared.request.Request.{Request}
 use Rattle.call_types.specs.declared.request.Request.TheVariants.{Provision, Erase, TakeNode, Mounts, Mount, Unmount}
 use Rattle.call_types.specs.declared.reply.Reply.{Reply}
-use Rattle.binder_model.specs.Devices.{Data, MountAt, Devices, Answered, epoch_of}
+use Rattle.binder_model.specs.Devices.{Data, MountAt, Devices, DeviceAnswer, epoch_of}
 use Rattle.binder_model.specs.Same.{same_uid}
 use Rattle.device_model.specs.declared.kept.Stored.{Stored}
 use Rattle.device_model.specs.declared.devices.DeviceCounts.{DeviceCounts}
@@ -72,7 +72,7 @@ after d (moves.Mounts m) = record d { mounts = d.mounts ++ mount_at m ∷ [] }
 after d (moves.Unmounts kept) = record d { mounts = map mount_at kept.items }
 
 -- an answer and its change
-abbrev pub answered : Devices → Move → Reply → Answered
+abbrev pub answered : Devices → Move → Reply → DeviceAnswer
 answered d move reply = record { devices = after d move; reply = reply }
 
 abbrev pub is_pod_on : List ℕ → Uid → MountAt → Bool

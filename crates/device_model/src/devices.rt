@@ -4,7 +4,7 @@ ghost use Rattle.std.specs.Prelude.{◌≡◌, ◌+◌, ◌<◌, ◌^◌, ◌++�
 ghost use Rattle.std.specs.Option.{option_copied};
 ghost use Rattle.call_types.specs.declared.reply.Reply.TheVariants as replies;
 ghost use Rattle.call_types.specs.declared.reply.Refusal.TheVariants as refusals;
-ghost use Rattle.binder_model.specs.Devices.{Answered, data_named, device_answer, epoch_of, erase, first_fit, fresh_id, has_data, no_devices, pool_fits, provision, provision_new, stale, take_node, topology_at, unless_planned, unless_stale, with_mount, with_mounts, without_mount};
+ghost use Rattle.binder_model.specs.Devices.{DeviceAnswer, data_named, device_answer, epoch_of, erase, first_fit, fresh_id, has_data, no_devices, pool_fits, provision, provision_new, epoch_if_stale, take_node, topology_at, unless_planned, unless_stale, with_mount, with_mounts, without_mount};
 ghost use Rattle.device_model.specs.Kept.{State, after, answered, counts, is_for_back_end, is_for_devices, is_for_mounts, mount_at, stored_data, taken_epoch};
 
 use crate::kept::{Move, Placed, Stored};
@@ -198,7 +198,7 @@ impl Devices {
 
     /// The current epoch of the node, where the given one is another.
     fn stale(&self, node: &Text, given: u64) -> Option<u64>
-        ensures { result ≡ stale self.now.devices node.now given }
+        ensures { result ≡ epoch_if_stale self.now.devices node.now given }
     {
         let current = epoch_of(&self.epochs, node);
         if given == current {

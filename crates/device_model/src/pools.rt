@@ -3,7 +3,7 @@
 ghost use Rattle.std.specs.Prelude.{◌≡◌, ◌&&◌, IfOk, bytes_eq, map, option_map};
 ghost use Rattle.std.specs.List.{list_any};
 ghost use Rattle.std.specs.Option.{option_copied};
-ghost use Rattle.binder_model.specs.Devices.{data_named, erase_one, erased, first_fit, free, has_id, is_planned, most_free, same_id, serves, topology_at, used, would_serve};
+ghost use Rattle.binder_model.specs.Devices.{data_named, erase_one, data_after_erase, first_fit, free_bytes, has_id, is_planned, most_free, same_id, serves, topology_at, used_bytes, would_serve};
 ghost use Rattle.device_model.specs.Kept.{stored_data, there};
 
 use crate::kept::Stored;
@@ -40,7 +40,7 @@ fn would_serve(pool: &Pool, provisioner: &Text, labels: Option<&Pairs>) -> bool
 
 /// The bytes that the pool at the place has left.
 fn free(pool: &Pool, place: usize, stored: &[Stored]) -> u64
-    ensures { result ≡ free pool.now place (map stored_data stored.now) }
+    ensures { result ≡ free_bytes pool.now place (map stored_data stored.now) }
 {
     let mut left = pool.bytes;
     for item in stored {
@@ -160,7 +160,7 @@ fn erase_one(alloc: Global, stored: &Stored, id: &DataId) -> Result<Stored, OutO
 
 /// The data after an erase of the id.
 pub fn erased(alloc: Global, stored: &[Stored], id: &DataId) -> Result<Vec<Stored>, OutOfMemory>
-    ensures { IfOk result (λ xs. map stored_data xs.items ≡ erased id.now (map stored_data stored.now)) }
+    ensures { IfOk result (λ xs. map stored_data xs.items ≡ data_after_erase id.now (map stored_data stored.now)) }
 {
     let mut left = Vec::new(alloc);
     for item in stored {

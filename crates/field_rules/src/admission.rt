@@ -4,7 +4,7 @@ ghost use Rattle.std.specs.Prelude.{◌≡◌, IfOk, OnOk, OnErr};
 ghost use Rattle.std.specs.Option.{option_copied};
 ghost use Rattle.kube_types.specs.declared.objects.Object.TheVariants as objects;
 ghost use Rattle.kube_types.specs.Bindings.{has_key};
-ghost use Rattle.binder_model.specs.Store.{admitted, admitted_class, with_finalizer};
+ghost use Rattle.binder_model.specs.Store.{admitted_object, admitted_class, with_finalizer};
 
 use kube_types::bindings::{BETA_CLASS, PV_PROTECTION, PVC_PROTECTION};
 use kube_types::copies::{OutOfMemory, Plain, copy_option};
@@ -68,13 +68,13 @@ fn with_class(mut claim: Claim, class: Option<Text>) -> Claim
     claim
 }
 
-#[tactic(auto, unfolding(binder_model::specs::Store::admitted))]
+#[tactic(auto, unfolding(binder_model::specs::Store::admitted_object))]
 fn admit_claim(
     alloc: Global,
     claim: &Claim,
     default_class: Option<&Text>,
 ) -> Result<Object, OutOfMemory>
-    ensures { IfOk result (λ o. o ≡ admitted (option_copied default_class.entry) (objects.Claim claim.now)) }
+    ensures { IfOk result (λ o. o ≡ admitted_object (option_copied default_class.entry) (objects.Claim claim.now)) }
 {
     let names_beta = has_key(&claim.meta.annotations, BETA_CLASS);
     let class = admitted_class(alloc, &claim.class, default_class, names_beta)?;
@@ -85,13 +85,13 @@ fn admit_claim(
 
 /// The object with the protection finalizer of its kind, where it has one, and a claim that names no
 /// class with the default class, if any.
-#[tactic(auto, unfolding(binder_model::specs::Store::admitted))]
+#[tactic(auto, unfolding(binder_model::specs::Store::admitted_object))]
 pub fn admit(
     alloc: Global,
     object: &Object,
     default_class: Option<&Text>,
 ) -> Result<Object, OutOfMemory>
-    ensures { IfOk result (λ o. o ≡ admitted (option_copied default_class.entry) object.now) }
+    ensures { IfOk result (λ o. o ≡ admitted_object (option_copied default_class.entry) object.now) }
 {
     match object {
         Object::Volume(volume) => {

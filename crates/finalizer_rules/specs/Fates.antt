@@ -4,7 +4,7 @@ use Rattle.std.specs.Prelude.{ℕ, Bool, ◌&&◌, ◌||◌, List, if◌then◌e
 use Rattle.kube_types.specs.declared.objects.Object.{Object}
 use Rattle.kube_types.specs.Keys.{meta_of}
 use Rattle.kube_types.specs.Bindings.{is_deleting}
-use Rattle.binder_model.specs.Store.{with_meta, marked, leaves, leaves_at_once}
+use Rattle.binder_model.specs.Store.{with_meta, marked_object, leaves, leaves_at_once}
 use Rattle.binder_model.specs.Fields.{adds_finalizer}
 use Rattle.finalizer_rules.specs.declared.Fate.{Fate}
 use Rattle.finalizer_rules.specs.declared.Fate.TheVariants.{Keep, Leave, AddedWhileDeleting}
@@ -14,7 +14,7 @@ leave_if gone = if gone then Leave else Keep
 
 -- an object that is to be deleted since this moment
 unfoldable pub fate_on_delete : Object → ℕ → List ℕ → Fate
-fate_on_delete o version moment = leave_if (leaves_at_once o || leaves (marked o version moment))
+fate_on_delete o version moment = leave_if (leaves_at_once o || leaves (marked_object o version moment))
 
 unfoldable pub with_finalizers : Object → List (List ℕ) → Object
 with_finalizers o finalizers = with_meta o (record (meta_of o) { finalizers = finalizers })

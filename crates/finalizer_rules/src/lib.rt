@@ -57,7 +57,7 @@ pub fn leaves_at_once(object: &Object) -> bool
 }
 
 /// What a delete makes of the object.
-#[tactic(auto, unfolding(crate::specs::Fates::fate_on_delete, binder_model::specs::Store::marked, binder_model::specs::Store::with_meta, binder_model::specs::Store::leaves, binder_model::specs::Store::leaves_at_once))]
+#[tactic(auto, unfolding(crate::specs::Fates::fate_on_delete, binder_model::specs::Store::marked_object, binder_model::specs::Store::with_meta, binder_model::specs::Store::leaves, binder_model::specs::Store::leaves_at_once))]
 pub fn on_delete(object: &Object) -> Fate
     ensures { (version : ℕ) → (moment : List ℕ) → result ≡ fate_on_delete object.now version moment }
 {

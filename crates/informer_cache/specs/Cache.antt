@@ -12,7 +12,7 @@ use Rattle.call_types.specs.declared.reply.Event.{Event}
 use Rattle.call_types.specs.declared.reply.Reply.{Reply}
 use Rattle.call_types.specs.declared.reply.Reply.TheVariants.{Done, Left, Listed, Events}
 use Rattle.binder_model.specs.Told.{Telling, later, newest, object_of, presence, told_of}
-use Rattle.binder_model.specs.Reading.{Followed, Unlisted, ListedAt, followed, follow_on}
+use Rattle.binder_model.specs.Reading.{Following, Unlisted, ListedAt, following_of, follow_on}
 use Rattle.informer_cache.specs.declared.cache.Ask.{Ask}
 use Rattle.informer_cache.specs.declared.cache.Ask.TheVariants as asks
 use Rattle.informer_cache.specs.Knowledge.{RowState, ListState, telling_in, told_at, tells_key}
@@ -35,7 +35,7 @@ abbrev pub objects_of : Known → List Object
 objects_of c = c.rows.objects
 
 -- API concepts, "Efficient detection of changes": a watch goes on from the version of the list, or from the one that it reached
-abbrev pub watch_from : Followed → Option ℕ
+abbrev pub watch_from : Following → Option ℕ
 watch_from Unlisted = None
 watch_from (ListedAt version None) = Some version
 watch_from (ListedAt version (Some upto)) = Some upto
@@ -53,7 +53,7 @@ ask_of c = ask_from c.from
 pub record StandsFor (c : Known) (mine : List Entry) : Type 0 where
   pub known : (key : Key) → key.kind ≡ kind_known c → known_of c key ≡ newest mine key
   pub rows : (key : Key) → key.kind ≡ kind_known c → row_at key (objects_of c) ≡ object_of (newest mine key)
-  pub from : c.from ≡ watch_from (followed mine (kind_known c))
+  pub from : c.from ≡ watch_from (following_of mine (kind_known c))
 
 -- of each key of its kind the cache knows the later of what it is told and of what it knew
 pub record Learns (before after : Known) (tells : Key → Option Telling) : Type 0 where
@@ -69,7 +69,7 @@ pub record IsTold (e : Entry) (request : Request) (reply : Reply) : Type 0 where
 -- an entry that tells the seat nothing of the kind, and nothing of where it stands with it
 pub record IsQuiet (kind : Kind) (e : Entry) : Type 0 where
   pub tells : (key : Key) → key.kind ≡ kind → told_of e key ≡ None
-  pub follows : (f : Followed) → (if e.told then follow_on e.request e.reply kind f else f) ≡ f
+  pub follows : (f : Following) → (if e.told then follow_on e.request e.reply kind f else f) ≡ f
 
 -- an entry of a write that was done, or with which the object left, which the seat was told
 pub record IsDone (e : Entry) (object : Object) : Type 0 where

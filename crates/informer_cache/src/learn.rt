@@ -4,7 +4,7 @@ ghost use Rattle.std.specs.Prelude.{◌≡◌, ℕ, Some, None, IfOk, OnOk, map,
 ghost use Rattle.kube_types.specs.declared.key.Key.{Key};
 ghost use Rattle.kube_types.specs.Keys.{key_of, row_at};
 ghost use Rattle.call_types.specs.declared.request.Request.TheVariants as requests;
-ghost use Rattle.binder_model.specs.Reading.{Followed, follow_on};
+ghost use Rattle.binder_model.specs.Reading.{Following, follow_on};
 ghost use Rattle.binder_model.specs.Told.{later, listing, lists_key, tells_of};
 ghost use Rattle.informer_cache.specs.Cache.{keys_in, watch_from};
 ghost use Rattle.informer_cache.specs.Knowledge.{telling_in};
@@ -88,7 +88,7 @@ pub fn from_after(
     reply: &Reply,
     from: Option<Version>,
 ) -> Option<Version>
-    ensures { (f : Followed) → from ≡ watch_from f → result ≡ watch_from (follow_on request.now reply.now kind f) }
+    ensures { (f : Following) → from ≡ watch_from f → result ≡ watch_from (follow_on request.now reply.now kind f) }
 {
     match request {
         Request::List {
@@ -105,7 +105,7 @@ pub fn from_after(
 
 /// The same after a list of a whole kind.
 fn from_list(kind: Kind, asked: Kind, reply: &Reply, from: Option<Version>) -> Option<Version>
-    ensures { (f : Followed) → from ≡ watch_from f → result ≡ watch_from (follow_on (requests.List asked None) reply.now kind f) }
+    ensures { (f : Following) → from ≡ watch_from f → result ≡ watch_from (follow_on (requests.List asked None) reply.now kind f) }
 {
     match reply {
         Reply::Listed { items: _, version } => {
@@ -121,7 +121,7 @@ fn from_list(kind: Kind, asked: Kind, reply: &Reply, from: Option<Version>) -> O
 
 /// The same after a watch.
 fn from_watch(kind: Kind, asked: Kind, reply: &Reply, from: Option<Version>) -> Option<Version>
-    ensures { (start : ℕ) (f : Followed) → from ≡ watch_from f → result ≡ watch_from (follow_on (requests.Watch asked start) reply.now kind f) }
+    ensures { (start : ℕ) (f : Following) → from ≡ watch_from f → result ≡ watch_from (follow_on (requests.Watch asked start) reply.now kind f) }
 {
     match reply {
         Reply::Events(events) => {

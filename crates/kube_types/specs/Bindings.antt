@@ -86,10 +86,10 @@ abbrev pub is_protected_claim : Claim → Bool
 is_protected_claim c = has_name pvc_protection c.meta.finalizers
 
 -- one of the two phases after Bound
-abbrev pub is_released : VolumePhase → Bool
-is_released phases.Released = true
-is_released phases.Failed = true
-is_released _ = false
+abbrev pub is_ended : VolumePhase → Bool
+is_ended phases.Released = true
+is_ended phases.Failed = true
+is_ended _ = false
 
 abbrev pub is_bound : VolumePhase → Bool
 is_bound phases.Bound = true

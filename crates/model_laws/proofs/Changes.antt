@@ -22,10 +22,10 @@ use Rattle.call_types.specs.declared.request.Request.TheVariants as requests
 use Rattle.call_types.specs.declared.reply.Change.{Change}
 use Rattle.call_types.specs.declared.reply.Refusal.{Refusal}
 use Rattle.call_types.specs.declared.reply.Reply.{Reply}
-use Rattle.binder_model.specs.Store.{State, at_version, marked, updated, leaves}
+use Rattle.binder_model.specs.Store.{State, at_version, marked_object, updated_object, leaves}
 use Rattle.binder_model.specs.Fields.{update_fault, create_fault}
-use Rattle.binder_model.specs.Edits.{edited}
-use Rattle.binder_model.specs.Answers.{Outcome, Says, Stores, Removes, is_user, written, create, update, with_status, written_if_fits, update_status, edit_to, edit, delete_of, delete, get, list, pod_with, bind, finish, outcome, after}
+use Rattle.binder_model.specs.Edits.{edited_object}
+use Rattle.binder_model.specs.Answers.{Outcome, Says, Stores, Removes, is_user, write_outcome, create, update, with_status, written_if_fits, update_status, edit_to, edit, delete_of, delete, get, list, pod_with, bind, finish, outcome, after}
 use Rattle.model_laws.proofs.OnOutcome.{OnOutcome, OfAnswers, says, refused_or, field_or, rule_or, stale_or}
 use Rattle.model_laws.specs.Histories.{NamesOnce, KeepsIdentity}
 use Rattle.model_laws.proofs.Identity.{key-created, key-updated, key-at_version, key-marked, updated_keeps, at_version_keeps, marked_keeps, IsKeyKept, IsVersionOf, status_kept, edit_kept}
@@ -46,10 +46,10 @@ IsChange rows = OnOutcome (ChangeOf rows)
 over : (rows : List Object) (key : Key) (old new : Object) → row_at key rows ≡ Some old → key_of new ≡ key → KeepsIdentity old new → IsInPlace rows new
 over rows key old new is same keeps = inr (old, (ap (λ k. row_at k rows) same ∙ is, keeps))
 
-wrote : (rows : List Object) (key : Key) (old new : Object) → row_at key rows ≡ Some old → key_of new ≡ key → KeepsIdentity old new → IsChange rows (written new)
+wrote : (rows : List Object) (key : Key) (old new : Object) → row_at key rows ≡ Some old → key_of new ≡ key → KeepsIdentity old new → IsChange rows (write_outcome new)
 wrote rows key old new is same keeps = by_leaving (leaves new) refl
   where
-    by_leaving : (b : Bool) → leaves new ≡ b → IsChange rows (written new)
+    by_leaving : (b : Bool) → leaves new ≡ b → IsChange rows (write_outcome new)
     by_leaving true e = rw e (record { holds = tt })
     by_leaving false e = rw e (record { holds = over rows key old new is same keeps })
 
@@ -62,7 +62,7 @@ update_changes : (s : State) (kind : SeatKind) (o : Object) (given : Option ℕ)
 unfolding update
 update_changes s kind o given None is = says (λ r. tt) _
 update_changes s kind o given (Some old) is =
-    refused_or (λ r. tt) _ _ _ (rule_or (λ r. tt) _ _ (field_or (λ r. tt) _ _ (λ e. wrote s.rows (key_of o) old _ is (key-updated old o _) (updated_keeps old o _ e))))
+    refused_or (λ r. tt) _ _ _ (rule_or (λ r. tt) _ _ (field_or (λ r. tt) _ _ (λ e. wrote s.rows (key_of o) old _ is (key-updated_object old o _) (updated_keeps old o _ e))))
 
 if_fits : (s : State) (key : Key) (old : Object) (x : Option Object) → row_at key s.rows ≡ Some old → IsVersionOf old x → IsChange s.rows (written_if_fits s x)
 unfolding written_if_fits
@@ -79,7 +79,7 @@ edit_to_changes : (s : State) (kind : SeatKind) (key : Key) (old : Object) (x : 
 unfolding edit_to
 edit_to_changes s kind key old None is k = says (λ r. tt) _
 edit_to_changes s kind key old (Some new) is k =
-    rule_or (λ r. tt) _ _ (field_or (λ r. tt) _ _ (λ e. wrote s.rows key old _ is (key-updated old new _ ∙ k ∙ row_at_key key old s.rows is) (updated_keeps old new _ e)))
+    rule_or (λ r. tt) _ _ (field_or (λ r. tt) _ _ (λ e. wrote s.rows key old _ is (key-updated_object old new _ ∙ k ∙ row_at_key key old s.rows is) (updated_keeps old new _ e)))
 
 edit_changes : (s : State) (kind : SeatKind) (key : Key) (change : Edit) (x : Option Object) → row_at key s.rows ≡ x → IsChange s.rows (edit s kind change x)
 unfolding edit
@@ -90,7 +90,7 @@ delete_of_changes : (s : State) (moment : List ℕ) (key : Key) (old : Object) (
 unfolding delete_of
 delete_of_changes s moment key old true deleting is d = record { holds = tt }
 delete_of_changes s moment key old false true is d = says (λ r. tt) _
-delete_of_changes s moment key old false false is d = wrote s.rows key old _ is (key-marked old _ moment ∙ row_at_key key old s.rows is) (marked_keeps old _ moment d)
+delete_of_changes s moment key old false false is d = wrote s.rows key old _ is (key-marked_object old _ moment ∙ row_at_key key old s.rows is) (marked_keeps old _ moment d)
 
 delete_changes : (s : State) (moment : List ℕ) (key : Key) (given : Option Uid) (x : Option Object) → row_at key s.rows ≡ x → IsChange s.rows (delete s moment given x)
 unfolding delete

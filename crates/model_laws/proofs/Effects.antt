@@ -7,7 +7,7 @@ use Rattle.call_types.specs.declared.request.Request.{Request}
 use Rattle.call_types.specs.declared.request.Request.TheVariants as requests
 use Rattle.call_types.specs.declared.reply.Reply.{Reply}
 use Rattle.binder_model.specs.Answers.{Outcome, Says, is_user, outcome}
-use Rattle.binder_model.specs.Devices.{Answered, device_answer}
+use Rattle.binder_model.specs.Devices.{DeviceAnswer, device_answer}
 use Rattle.binder_model.specs.Watching.{oldest}
 use Rattle.binder_model.specs.World.{World, Effect, OnStore, OnDevices, SetsMoment, effect, watch, on_devices, set_time, is_time}
 use Rattle.model_laws.proofs.OnOutcome.{OnOutcome, OfAnswers}
@@ -30,7 +30,7 @@ test false x y kx ky = ky
 said : {P : Outcome → Type 0} → OfAnswers P → (reply : Reply) → OnEffect P (OnStore (Says reply))
 said s reply = record { on = s reply }
 
-asked : {P : Outcome → Type 0} → OfAnswers P → (w : World) (kind : SeatKind) (request : Request) (a : Option Answered)
+asked : {P : Outcome → Type 0} → OfAnswers P → (w : World) (kind : SeatKind) (request : Request) (a : Option DeviceAnswer)
     → OfStoreAnswer P w kind request → OnEffect P (on_devices w kind request a)
 unfolding on_devices
 asked s w kind request (Some a) k = test (is_user kind) (OnStore _) _ (said s _) (record { on = tt })

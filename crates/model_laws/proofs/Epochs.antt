@@ -14,27 +14,27 @@ use Rattle.call_types.specs.declared.request.Request.TheVariants as requests
 use Rattle.call_types.specs.declared.reply.Reply.{Reply}
 use Rattle.call_types.specs.declared.reply.Reply.TheVariants.{Epoch}
 use Rattle.binder_model.specs.Answers.{Outcome, is_user, reply_of}
-use Rattle.binder_model.specs.Devices.{Data, Devices, Answered, MountAt, epoch_of, called, provision_new, provision, erase, unless_planned, unless_stale, take_node, with_mounts, device_answer, data_named, is_planned, stale, with_mount, without_mount}
+use Rattle.binder_model.specs.Devices.{Data, Devices, DeviceAnswer, MountAt, epoch_of, after_call, provision_new, provision, erase, unless_planned, unless_stale, take_node, with_mounts, device_answer, data_named, is_planned, epoch_if_stale, with_mount, without_mount}
 use Rattle.binder_model.specs.Watching.{oldest}
 use Rattle.binder_model.specs.World.{World, Effect, OnStore, OnDevices, SetsMoment, world, effect, reply_to, world_after, on_devices, set_time, watch, refused_rule}
 use Rattle.model_laws.specs.Reads.{EpochsRise}
 
 -- the node's epoch is not lower afterwards
-record IsUp (node : List ℕ) (d : Devices) (a : Answered) : Type 0 where
+record IsUp (node : List ℕ) (d : Devices) (a : DeviceAnswer) : Type 0 where
   up : epoch_of node d.epochs ≤ epoch_of node a.devices.epochs
 
-called_up : (node : List ℕ) (d e : Devices) (reply : Reply) → e.epochs ≡ d.epochs → IsUp node d (called e reply)
+called_up : (node : List ℕ) (d e : Devices) (reply : Reply) → e.epochs ≡ d.epochs → IsUp node d (after_call e reply)
 called_up node d e reply is = record { up = let f = ap (epoch_of node) is in omega (arith, f) }
 
-by_test : (b : Bool) (node : List ℕ) (d : Devices) (x y : Answered) → IsUp node d x → IsUp node d y → IsUp node d (if b then x else y)
+by_test : (b : Bool) (node : List ℕ) (d : Devices) (x y : DeviceAnswer) → IsUp node d x → IsUp node d y → IsUp node d (if b then x else y)
 by_test true node d x y kx ky = kx
 by_test false node d x y kx ky = ky
 
-planned_up : (setup : Setup) (node : List ℕ) (d : Devices) (next : Answered) → IsUp node d next → IsUp node d (unless_planned setup d next)
+planned_up : (setup : Setup) (node : List ℕ) (d : Devices) (next : DeviceAnswer) → IsUp node d next → IsUp node d (unless_planned setup d next)
 unfolding unless_planned
 planned_up setup node d next k = by_test (is_planned (d.calls + 1) setup.faults) node d _ _ (called_up node d d _ refl) k
 
-stale_up : (node : List ℕ) (d : Devices) (s : Option ℕ) (next : Answered) → IsUp node d next → IsUp node d (unless_stale d s next)
+stale_up : (node : List ℕ) (d : Devices) (s : Option ℕ) (next : DeviceAnswer) → IsUp node d next → IsUp node d (unless_stale d s next)
 unfolding unless_stale
 stale_up node d None next k = k
 stale_up node d (Some current) next k = record { up = omega arith }
@@ -59,7 +59,7 @@ taken_up node taken d true is =
     record { up = rw is (omega (arith, f)) }
 taken_up node taken d false is = record { up = rw is (omega arith) }
 
-abbrev AreUp : List ℕ → Devices → Option Answered → Type 0
+abbrev AreUp : List ℕ → Devices → Option DeviceAnswer → Type 0
 AreUp node d None = ⊤
 AreUp node d (Some a) = IsUp node d a
 
@@ -68,9 +68,9 @@ unfolding device_answer erase with_mounts
 devices_up setup node d (requests.Provision name provisioner bytes labels) = planned_up setup node d _ (provision_up setup.pools node d name provisioner bytes labels (data_named name d.stored))
 devices_up setup node d (requests.Erase id) = planned_up setup node d _ (called_up node d _ _ refl)
 devices_up setup node d (requests.TakeNode taken) = taken_up node taken d _ refl
-devices_up setup node d (requests.Mounts n epoch) = stale_up node d (stale d n epoch) _ (record { up = omega arith })
-devices_up setup node d (requests.Mount n epoch pod claims) = stale_up node d (stale d n epoch) _ (record { up = omega arith })
-devices_up setup node d (requests.Unmount n epoch pod) = stale_up node d (stale d n epoch) _ (record { up = omega arith })
+devices_up setup node d (requests.Mounts n epoch) = stale_up node d (epoch_if_stale d n epoch) _ (record { up = omega arith })
+devices_up setup node d (requests.Mount n epoch pod claims) = stale_up node d (epoch_if_stale d n epoch) _ (record { up = omega arith })
+devices_up setup node d (requests.Unmount n epoch pod) = stale_up node d (epoch_if_stale d n epoch) _ (record { up = omega arith })
 devices_up setup node d _ = tt
 
 -- an effect lowers no epoch of the node
@@ -85,7 +85,7 @@ moment_up : (node : List ℕ) (w : World) (at : List ℕ) → IsUpEffect node w 
 unfolding world_after
 moment_up node w at = record { up = omega arith }
 
-answered_up : (node : List ℕ) (w : World) (a : Answered) → IsUp node w.devices a → IsUpEffect node w (OnDevices a)
+answered_up : (node : List ℕ) (w : World) (a : DeviceAnswer) → IsUp node w.devices a → IsUpEffect node w (OnDevices a)
 unfolding world_after
 answered_up node w a k = record { up = k.up }
 
@@ -93,7 +93,7 @@ test : (b : Bool) (node : List ℕ) (w : World) (x y : Effect) → IsUpEffect no
 test true node w x y kx ky = kx
 test false node w x y kx ky = ky
 
-asked_up : (node : List ℕ) (w : World) (kind : SeatKind) (request : Request) (a : Option Answered) → AreUp node w.devices a → IsUpEffect node w (on_devices w kind request a)
+asked_up : (node : List ℕ) (w : World) (kind : SeatKind) (request : Request) (a : Option DeviceAnswer) → AreUp node w.devices a → IsUpEffect node w (on_devices w kind request a)
 unfolding on_devices
 asked_up node w kind request (Some a) k = test (is_user kind) node w (OnStore _) _ (store_up node w _) (answered_up node w a k)
 asked_up node w kind request None k = store_up node w _

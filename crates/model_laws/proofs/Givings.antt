@@ -17,10 +17,10 @@ use Rattle.call_types.specs.declared.request.Request.TheVariants as requests
 use Rattle.call_types.specs.declared.reply.Change.{Change}
 use Rattle.call_types.specs.declared.reply.Change.TheVariants.{Added, Modified, Deleted}
 use Rattle.call_types.specs.declared.reply.Reply.{Reply}
-use Rattle.binder_model.specs.Store.{State, created, admitted, without_status, leaves}
-use Rattle.binder_model.specs.Edits.{edited}
-use Rattle.binder_model.specs.Answers.{Outcome, Says, Stores, Removes, is_user, written, create, update, with_status, written_if_fits, update_status, edit_to, edit, delete_of, delete, get, list, bind, finish, outcome}
-use Rattle.binder_model.specs.Devices.{Answered, device_answer}
+use Rattle.binder_model.specs.Store.{State, created_object, admitted_object, without_status, leaves}
+use Rattle.binder_model.specs.Edits.{edited_object}
+use Rattle.binder_model.specs.Answers.{Outcome, Says, Stores, Removes, is_user, write_outcome, create, update, with_status, written_if_fits, update_status, edit_to, edit, delete_of, delete, get, list, bind, finish, outcome}
+use Rattle.binder_model.specs.Devices.{DeviceAnswer, device_answer}
 use Rattle.binder_model.specs.Watching.{oldest}
 use Rattle.binder_model.specs.World.{World, Effect, OnStore, OnDevices, SetsMoment, effect, watch, on_devices, set_time, is_time}
 use Rattle.model_laws.proofs.OnOutcome.{OnOutcome, OfAnswers, says, refused_or, field_or, rule_or, stale_or}
@@ -31,17 +31,17 @@ abbrev pub Gives : ℕ → Outcome → Type 0
 Gives n (Stores Added o) = (meta_of o).uid ≡ Some (uid_of_serial n)
 Gives n x = ⊤
 
-wrote : (n : ℕ) (o : Object) → OnOutcome (Gives n) (written o)
+wrote : (n : ℕ) (o : Object) → OnOutcome (Gives n) (write_outcome o)
 wrote n o = by_leaving (leaves o) refl
   where
-    by_leaving : (b : Bool) → leaves o ≡ b → OnOutcome (Gives n) (written o)
+    by_leaving : (b : Bool) → leaves o ≡ b → OnOutcome (Gives n) (write_outcome o)
     by_leaving true e = rw e (record { holds = tt })
     by_leaving false e = rw e (record { holds = tt })
 
 create_gives : (s : State) (kind : SeatKind) (o : Object) (moment : List ℕ) (x : Option Object) → OnOutcome (Gives (s.version + 1)) (create s kind o moment x)
-unfolding create created
+unfolding create created_object
 create_gives s kind o moment (Some old) = says (λ r. tt) _
-create_gives s kind o moment None = rule_or (λ r. tt) _ _ (field_or (λ r. tt) _ _ (λ e. record { holds = ap (λ m. m.uid) (meta-with_meta (admitted _ (without_status o)) _) }))
+create_gives s kind o moment None = rule_or (λ r. tt) _ _ (field_or (λ r. tt) _ _ (λ e. record { holds = ap (λ m. m.uid) (meta-with_meta (admitted_object _ (without_status o)) _) }))
 
 update_gives : (n : ℕ) (s : State) (kind : SeatKind) (o : Object) (given : Option ℕ) (x : Option Object) → OnOutcome (Gives n) (update s kind o given x)
 unfolding update

@@ -19,9 +19,9 @@ use Rattle.call_types.specs.declared.edit.Edit.{Edit}
 use Rattle.call_types.specs.declared.edit.Edit.TheVariants as edits
 use Rattle.call_types.specs.declared.request.NewStatus.{NewStatus}
 use Rattle.call_types.specs.declared.request.NewStatus.TheVariants as statuses
-use Rattle.binder_model.specs.Store.{State, with_meta, at_version, marked, created, updated, admitted, without_status, with_status_of}
+use Rattle.binder_model.specs.Store.{State, with_meta, at_version, marked_object, created_object, updated_object, admitted_object, without_status, with_status_of}
 use Rattle.binder_model.specs.Fields.{faulty, update_fault, changed_field}
-use Rattle.binder_model.specs.Edits.{edited, with_volume_name}
+use Rattle.binder_model.specs.Edits.{edited_object, with_volume_name}
 use Rattle.binder_model.specs.Answers.{with_status}
 use Rattle.model_laws.specs.Histories.{NamesOnce, KeepsIdentity}
 use Rattle.model_laws.proofs.Versions.{meta-with_meta}
@@ -82,17 +82,17 @@ names-with_status_of (Volume a) (Volume b) n = tt
 names-with_status_of (Claim a) (Claim b) n = n
 names-with_status_of old new n = n
 
-pub key-updated : (old new : Object) (n : ℕ) → key_of (updated old new n) ≡ key_of new
-unfolding updated
-key-updated old new n = key-with_meta (with_status_of old new) _ refl refl ∙ key-with_status_of old new
+pub key-updated_object : (old new : Object) (n : ℕ) → key_of (updated_object old new n) ≡ key_of new
+unfolding updated_object
+key-updated_object old new n = key-with_meta (with_status_of old new) _ refl refl ∙ key-with_status_of old new
 
 pub key-at_version : (o : Object) (n : ℕ) → key_of (at_version o n) ≡ key_of o
 unfolding at_version
 key-at_version o n = key-with_meta o _ refl refl
 
-pub key-marked : (o : Object) (n : ℕ) (moment : List ℕ) → key_of (marked o n moment) ≡ key_of o
-unfolding marked
-key-marked o n moment = key-with_meta o _ refl refl
+pub key-marked_object : (o : Object) (n : ℕ) (moment : List ℕ) → key_of (marked_object o n moment) ≡ key_of o
+unfolding marked_object
+key-marked_object o n moment = key-with_meta o _ refl refl
 
 faulty_none : (b : Bool) (f : Field) (next : Option Field) → faulty b f next ≡ None → (b ≡ false) × (next ≡ None)
 unfolding faulty
@@ -114,8 +114,8 @@ names_once (Claim a) (Claim b) e = named_by a.volume_name b.volume_name (faulty_
 names_once old new e = tt
 
 -- the update of an object keeps its identity
-pub updated_keeps : (old new : Object) (n : ℕ) → update_fault old new ≡ None → KeepsIdentity old (updated old new n)
-unfolding updated
+pub updated_keeps : (old new : Object) (n : ℕ) → update_fault old new ≡ None → KeepsIdentity old (updated_object old new n)
+unfolding updated_object
 updated_keeps old new n e = record {
   uid = ap (λ m. m.uid) (meta-with_meta (with_status_of old new) _);
   created = ap (λ m. m.created) (meta-with_meta (with_status_of old new) _);
@@ -138,8 +138,8 @@ not_there None e = refl
 not_there (Some x) e = absurd (true≢false e)
 
 -- a first delete keeps the identity
-pub marked_keeps : (old : Object) (n : ℕ) (moment : List ℕ) → is_deleting (meta_of old) ≡ false → KeepsIdentity old (marked old n moment)
-unfolding marked
+pub marked_keeps : (old : Object) (n : ℕ) (moment : List ℕ) → is_deleting (meta_of old) ≡ false → KeepsIdentity old (marked_object old n moment)
+unfolding marked_object
 marked_keeps old n moment e = record {
   uid = ap (λ m. m.uid) (meta-with_meta old _);
   created = ap (λ m. m.created) (meta-with_meta old _);
@@ -165,8 +165,8 @@ status_kept (statuses.Claim phase modes amount) (Claim c) = (refl, refl, inr ref
 status_kept status old = tt
 
 -- an edit leaves the key
-pub edit_kept : (change : Edit) (old : Object) → IsKeyKept old (edited change old)
-unfolding edited with_volume_name
+pub edit_kept : (change : Edit) (old : Object) → IsKeyKept old (edited_object change old)
+unfolding edited_object with_volume_name
 edit_kept (edits.AddFinalizer f) o = key-with_meta o _ refl refl
 edit_kept (edits.DropFinalizer f) o = key-with_meta o _ refl refl
 edit_kept (edits.DropLabel k) o = key-with_meta o _ refl refl
@@ -180,14 +180,14 @@ edit_kept edits.ClearClaimRef (Volume v) = refl
 edit_kept change o = tt
 
 -- a new object stands under the key of its manifest
-admitted_key : (default : Option (List ℕ)) (o : Object) → key_of (admitted default (without_status o)) ≡ key_of o
-unfolding admitted without_status
+admitted_key : (default : Option (List ℕ)) (o : Object) → key_of (admitted_object default (without_status o)) ≡ key_of o
+unfolding admitted_object without_status
 admitted_key default (Class x) = refl
 admitted_key default (Node x) = refl
 admitted_key default (Volume x) = refl
 admitted_key default (Claim x) = refl
 admitted_key default (Pod x) = refl
 
-pub key-created : (default : Option (List ℕ)) (o : Object) (n : ℕ) (moment : List ℕ) → key_of (created default o n moment) ≡ key_of o
-unfolding created
-key-created default o n moment = key-with_meta (admitted default (without_status o)) _ refl refl ∙ admitted_key default o
+pub key-created_object : (default : Option (List ℕ)) (o : Object) (n : ℕ) (moment : List ℕ) → key_of (created_object default o n moment) ≡ key_of o
+unfolding created_object
+key-created_object default o n moment = key-with_meta (admitted_object default (without_status o)) _ refl refl ∙ admitted_key default o

@@ -13,7 +13,7 @@ use Rattle.kube_types.specs.Keys.{AreRows, key_cmp, key_of, row_at, rows_of, is_
 use Rattle.kube_types.proofs.KeyOrder.{key_cmp_total}
 use Rattle.call_types.specs.declared.setup.Setup.{Setup}
 use Rattle.call_types.specs.declared.request.SeatKind.{SeatKind}
-use Rattle.binder_model.specs.Answers.{is_in_namespace, listed, get, list, outcome, reply_of}
+use Rattle.binder_model.specs.Answers.{is_in_namespace, listed_rows, get, list, outcome, reply_of}
 use Rattle.binder_model.specs.Devices.{device_answer}
 use Rattle.binder_model.specs.Told.{SomeOf}
 use Rattle.binder_model.specs.World.{World, effect, on_devices, reply_to}
@@ -77,18 +77,18 @@ pub gets_tell_what_stands : GetsTellWhatStands
 unfolding effect on_devices device_answer outcome reply_to
 gets_tell_what_stands setup w kind key = get_found (row_at key w.store.rows)
 
-listed_stands : (namespace : Option (List ℕ)) (x : Object) (xs : List Object) → IsIn x (listed namespace xs) → IsIn x xs
+listed_stands : (namespace : Option (List ℕ)) (x : Object) (xs : List Object) → IsIn x (listed_rows namespace xs) → IsIn x xs
 listed_stands None x xs h = h
 listed_stands (Some namespace) x xs h = filter_stands (is_in_namespace namespace) x xs h
 
-listed_keeps : (namespace : Option (List ℕ)) (x : Object) (xs : List Object) → IsIn x xs → fits_namespace namespace x ≡ true → IsIn x (listed namespace xs)
+listed_keeps : (namespace : Option (List ℕ)) (x : Object) (xs : List Object) → IsIn x xs → fits_namespace namespace x ≡ true → IsIn x (listed_rows namespace xs)
 listed_keeps None x xs h e = h
 listed_keeps (Some namespace) x xs h e = filter_keeps (is_in_namespace namespace) x xs h e
 
 pub lists_tell_what_stands : ListsTellWhatStands
 unfolding effect on_devices device_answer outcome list reply_to reply_of
 lists_tell_what_stands setup w kind of_kind namespace rows = (
-  listed namespace (rows_of of_kind w.store.rows),
+  listed_rows namespace (rows_of of_kind w.store.rows),
   (
     w.store.version,
     (

@@ -13,7 +13,7 @@ use Rattle.call_types.specs.declared.entry.Entry.{Entry}
 use Rattle.call_types.specs.declared.request.SeatKind.TheVariants.{Binder}
 use Rattle.call_types.specs.declared.request.Request.{Request}
 use Rattle.call_types.specs.declared.request.Request.TheVariants as requests
-use Rattle.binder_model.specs.At.{IsAt, IsElsewhere, IsSameObject}
+use Rattle.binder_model.specs.At.{IsWrittenAt, IsElsewhere, IsSameObject}
 use Rattle.binder_model.specs.BindWrites.{claim_key, ref_to}
 use Rattle.binder_model.specs.BinderLicence.{MayRelease, IsReferring, IsGone}
 use Rattle.binder_model.specs.Licence.{AreOfKind, Licensed}
@@ -65,7 +65,7 @@ not_released o row = elim row.why [ inl gone ↦ not_gone o row.reference _ row.
 read_before : Licensed Binder (told_volume ∷ read_gone ∷ []) release → ⊥
 read_before l = by l.1.1
   where
-    by : ToldVolume (λ o. IsAt (Some 5) [] (codes "a") o.meta × MayRelease (told_volume ∷ read_gone ∷ []) o) (told_volume ∷ read_gone ∷ []) → ⊥
+    by : ToldVolume (λ o. IsWrittenAt (Some 5) [] (codes "a") o.meta × MayRelease (told_volume ∷ read_gone ∷ []) o) (told_volume ∷ read_gone ∷ []) → ⊥
     by (inl t) = elim t.1 [ inl row ↦ not_released bound_a row.1 | inr x ↦ elim x [ ] ]
     by (inr (inl t)) = elim t.1 [ ]
     by (inr (inr e)) = elim e [ ]

@@ -15,9 +15,9 @@ use Rattle.call_types.specs.declared.reply.Refusal.{Refusal}
 use Rattle.call_types.specs.declared.reply.Reply.{Reply}
 use Rattle.call_types.specs.declared.reply.Reply.TheVariants.{Refused}
 use Rattle.binder_model.specs.Answers.{Outcome, Says, Stores, Removes, is_user, outcome, reply_of, after}
-use Rattle.binder_model.specs.Devices.{Data, Devices, Answered, MountAt, called, provision_new, provision, erase, unless_planned, unless_stale, take_node, with_mounts, device_answer, data_named, first_fit, is_planned, stale, with_mount, without_mount}
+use Rattle.binder_model.specs.Devices.{Data, Devices, DeviceAnswer, MountAt, after_call, provision_new, provision, erase, unless_planned, unless_stale, take_node, with_mounts, device_answer, data_named, first_fit, is_planned, epoch_if_stale, with_mount, without_mount}
 use Rattle.binder_model.specs.Watching.{oldest}
-use Rattle.binder_model.specs.World.{World, Effect, OnStore, OnDevices, SetsMoment, effect, reply_to, world_after, logged, watch, on_devices, set_time, stale_epoch, is_time}
+use Rattle.binder_model.specs.World.{World, Effect, OnStore, OnDevices, SetsMoment, effect, reply_to, world_after, log_after, watch, on_devices, set_time, stale_epoch, is_time}
 use Rattle.model_laws.specs.Steps.{AreSameButCalls, IsSameButCalls, RefusalsChangeNothing, KeepsStore, WritesOnce, VersionsCountWrites}
 
 -- no other reply is a refusal
@@ -29,24 +29,24 @@ no_refusal : (reply : Reply) (r : Refusal) → IsNoRefusal reply → reply ≡ R
 no_refusal reply r is e = subst IsNoRefusal e is
 
 -- where the devices refuse, they are as before but for their calls
-abbrev IsKept : Devices → Answered → Type 0
+abbrev IsKept : Devices → DeviceAnswer → Type 0
 IsKept d a = (r : Refusal) → a.reply ≡ Refused r → AreSameButCalls d a.devices
 
 same : (d : Devices) (n : ℕ) → AreSameButCalls d (record d { calls = n })
 same d n = record { stored = refl; epochs = refl; mounts = refl }
 
-called_kept : (d : Devices) (reply : Reply) → IsKept d (called d reply)
+called_kept : (d : Devices) (reply : Reply) → IsKept d (after_call d reply)
 called_kept d reply r e = same d _
 
-by_test : (b : Bool) (d : Devices) (then_ else_ : Answered) → IsKept d then_ → IsKept d else_ → IsKept d (if b then then_ else else_)
+by_test : (b : Bool) (d : Devices) (then_ else_ : DeviceAnswer) → IsKept d then_ → IsKept d else_ → IsKept d (if b then then_ else else_)
 by_test true d x y kx ky = kx
 by_test false d x y kx ky = ky
 
-planned : (setup : Setup) (d : Devices) (next : Answered) → IsKept d next → IsKept d (unless_planned setup d next)
+planned : (setup : Setup) (d : Devices) (next : DeviceAnswer) → IsKept d next → IsKept d (unless_planned setup d next)
 unfolding unless_planned
 planned setup d next k = by_test (is_planned (d.calls + 1) setup.faults) d _ _ (called_kept d _) k
 
-not_stale : (d : Devices) (s : Option ℕ) (next : Answered) → IsKept d next → IsKept d (unless_stale d s next)
+not_stale : (d : Devices) (s : Option ℕ) (next : DeviceAnswer) → IsKept d next → IsKept d (unless_stale d s next)
 unfolding unless_stale
 not_stale d None next k = k
 not_stale d (Some current) next k = λ r e. record { stored = refl; epochs = refl; mounts = refl }
@@ -76,7 +76,7 @@ unfolding with_mounts
 mounts_kept d node mounts = λ r e. absurd (no_refusal _ r tt e)
 
 -- what the devices answer, if they are asked
-abbrev AreKept : Devices → Option Answered → Type 0
+abbrev AreKept : Devices → Option DeviceAnswer → Type 0
 AreKept d None = ⊤
 AreKept d (Some a) = IsKept d a
 
@@ -85,9 +85,9 @@ unfolding device_answer
 devices_kept setup d (requests.Provision name provisioner bytes labels) = planned setup d _ (provision_kept setup.pools d name provisioner bytes labels (data_named name d.stored))
 devices_kept setup d (requests.Erase id) = planned setup d _ (erase_kept d id)
 devices_kept setup d (requests.TakeNode node) = take_kept d node
-devices_kept setup d (requests.Mounts node epoch) = not_stale d (stale d node epoch) _ (mounts_kept d node d.mounts)
-devices_kept setup d (requests.Mount node epoch pod claims) = not_stale d (stale d node epoch) _ (mounts_kept d node (with_mount node pod claims d.mounts))
-devices_kept setup d (requests.Unmount node epoch pod) = not_stale d (stale d node epoch) _ (mounts_kept d node (without_mount node pod d.mounts))
+devices_kept setup d (requests.Mounts node epoch) = not_stale d (epoch_if_stale d node epoch) _ (mounts_kept d node d.mounts)
+devices_kept setup d (requests.Mount node epoch pod claims) = not_stale d (epoch_if_stale d node epoch) _ (mounts_kept d node (with_mount node pod claims d.mounts))
+devices_kept setup d (requests.Unmount node epoch pod) = not_stale d (epoch_if_stale d node epoch) _ (mounts_kept d node (without_mount node pod d.mounts))
 devices_kept setup d _ = tt
 
 -- an effect that is a refusal
@@ -95,12 +95,12 @@ record IsHarmless (w : World) (x : Effect) : Type 0 where
   harmless : (r : Refusal) → reply_to x ≡ Refused r → IsSameButCalls w (world_after w x)
 
 store_harmless : (w : World) (o : Outcome) → IsHarmless w (OnStore o)
-unfolding reply_to world_after reply_of after logged
+unfolding reply_to world_after reply_of after log_after
 store_harmless w (Says reply) = record { harmless = λ r e. record { store = refl; moment = refl; log = refl; devices = record { stored = refl; epochs = refl; mounts = refl } } }
 store_harmless w (Stores change o) = record { harmless = λ r e. absurd (no_refusal _ r tt e) }
 store_harmless w (Removes o) = record { harmless = λ r e. absurd (no_refusal _ r tt e) }
 
-devices_harmless : (w : World) (a : Answered) → IsKept w.devices a → IsHarmless w (OnDevices a)
+devices_harmless : (w : World) (a : DeviceAnswer) → IsKept w.devices a → IsHarmless w (OnDevices a)
 unfolding reply_to world_after
 devices_harmless w a k = record { harmless = λ r e. record { store = refl; moment = refl; log = refl; devices = k r e } }
 
@@ -122,7 +122,7 @@ watch_harmless w kind from =
     effect_test (nat_lt w.store.version from) w (OnStore _) _ (store_harmless w _)
     (effect_test (nat_lt from (oldest w.store.version)) w (OnStore _) (OnStore _) (store_harmless w _) (store_harmless w _))
 
-asked_harmless : (w : World) (kind : SeatKind) (request : Request) (a : Option Answered) → AreKept w.devices a → IsHarmless w (on_devices w kind request a)
+asked_harmless : (w : World) (kind : SeatKind) (request : Request) (a : Option DeviceAnswer) → AreKept w.devices a → IsHarmless w (on_devices w kind request a)
 unfolding on_devices
 asked_harmless w kind request (Some a) k = effect_test (is_user kind) w _ _ (store_harmless w _) (devices_harmless w a k)
 asked_harmless w kind request None k = store_harmless w _

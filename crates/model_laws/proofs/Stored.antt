@@ -12,7 +12,7 @@ use Rattle.call_types.specs.declared.request.Request.{Request}
 use Rattle.call_types.specs.declared.request.Request.TheVariants as requests
 use Rattle.call_types.specs.declared.reply.Reply.{Reply}
 use Rattle.binder_model.specs.Answers.{Outcome, is_user}
-use Rattle.binder_model.specs.Devices.{Data, Devices, Answered, called, erase_one, erased, fresh_id, provision_new, provision, erase, unless_planned, unless_stale, take_node, with_mounts, device_answer, data_named, is_planned, stale}
+use Rattle.binder_model.specs.Devices.{Data, Devices, DeviceAnswer, after_call, erase_one, data_after_erase, fresh_id, provision_new, provision, erase, unless_planned, unless_stale, take_node, with_mounts, device_answer, data_named, is_planned, epoch_if_stale}
 use Rattle.binder_model.specs.Watching.{oldest}
 use Rattle.binder_model.specs.World.{World, Effect, OnStore, OnDevices, SetsMoment, world, effect, world_after, on_devices, set_time, watch, is_time}
 use Rattle.model_laws.specs.Reads.{GivesData, effect_of, DataIdsAreGivenOnce}
@@ -31,15 +31,15 @@ record IsGrown (old new : List Data) : Type 0 where
 stays : (old new : List Data) → new ≡ old → IsGrown old new
 stays old new e = record { grown = inl (ap length e) }
 
-by_test : (b : Bool) (d : Devices) (x y : Answered) → IsGrown d.stored x.devices.stored → IsGrown d.stored y.devices.stored → IsGrown d.stored (if b then x else y).devices.stored
+by_test : (b : Bool) (d : Devices) (x y : DeviceAnswer) → IsGrown d.stored x.devices.stored → IsGrown d.stored y.devices.stored → IsGrown d.stored (if b then x else y).devices.stored
 by_test true d x y kx ky = kx
 by_test false d x y kx ky = ky
 
-planned_grown : (setup : Setup) (d : Devices) (next : Answered) → IsGrown d.stored next.devices.stored → IsGrown d.stored (unless_planned setup d next).devices.stored
+planned_grown : (setup : Setup) (d : Devices) (next : DeviceAnswer) → IsGrown d.stored next.devices.stored → IsGrown d.stored (unless_planned setup d next).devices.stored
 unfolding unless_planned
-planned_grown setup d next k = by_test (is_planned (d.calls + 1) setup.faults) d (called d _) next (stays _ _ refl) k
+planned_grown setup d next k = by_test (is_planned (d.calls + 1) setup.faults) d (after_call d _) next (stays _ _ refl) k
 
-stale_grown : (d : Devices) (s : Option ℕ) (next : Answered) → IsGrown d.stored next.devices.stored → IsGrown d.stored (unless_stale d s next).devices.stored
+stale_grown : (d : Devices) (s : Option ℕ) (next : DeviceAnswer) → IsGrown d.stored next.devices.stored → IsGrown d.stored (unless_stale d s next).devices.stored
 unfolding unless_stale
 stale_grown d None next k = k
 stale_grown d (Some current) next k = stays _ _ refl
@@ -56,11 +56,11 @@ unfolding provision
 provision_grown pools d name provisioner bytes labels (Some x) = stays _ _ refl
 provision_grown pools d name provisioner bytes labels None = new_grown pools d name provisioner bytes labels _
 
-erased_length : (id : DataId) (stored : List Data) → length (erased id stored) ≡ length stored
+erased_length : (id : DataId) (stored : List Data) → length (data_after_erase id stored) ≡ length stored
 erased_length id [] = refl
 erased_length id (x ∷ xs) = ap (λ n. suc n) (erased_length id xs)
 
-abbrev AreGrown : Devices → Option Answered → Type 0
+abbrev AreGrown : Devices → Option DeviceAnswer → Type 0
 AreGrown d None = ⊤
 AreGrown d (Some a) = IsGrown d.stored a.devices.stored
 
@@ -69,9 +69,9 @@ unfolding device_answer erase with_mounts take_node
 devices_grown setup d (requests.Provision name provisioner bytes labels) = planned_grown setup d _ (provision_grown setup.pools d name provisioner bytes labels (data_named name d.stored))
 devices_grown setup d (requests.Erase id) = planned_grown setup d _ (record { grown = inl (erased_length id d.stored) })
 devices_grown setup d (requests.TakeNode node) = stays _ _ refl
-devices_grown setup d (requests.Mounts n epoch) = stale_grown d (stale d n epoch) _ (stays _ _ refl)
-devices_grown setup d (requests.Mount n epoch pod claims) = stale_grown d (stale d n epoch) _ (stays _ _ refl)
-devices_grown setup d (requests.Unmount n epoch pod) = stale_grown d (stale d n epoch) _ (stays _ _ refl)
+devices_grown setup d (requests.Mounts n epoch) = stale_grown d (epoch_if_stale d n epoch) _ (stays _ _ refl)
+devices_grown setup d (requests.Mount n epoch pod claims) = stale_grown d (epoch_if_stale d n epoch) _ (stays _ _ refl)
+devices_grown setup d (requests.Unmount n epoch pod) = stale_grown d (epoch_if_stale d n epoch) _ (stays _ _ refl)
 devices_grown setup d _ = tt
 
 record IsGrownEffect (w : World) (x : Effect) : Type 0 where
@@ -85,7 +85,7 @@ moment_grown : (w : World) (at : List ℕ) → IsGrownEffect w (SetsMoment at)
 unfolding world_after
 moment_grown w at = record { on = stays _ _ refl }
 
-answered_grown : (w : World) (a : Answered) → IsGrown w.devices.stored a.devices.stored → IsGrownEffect w (OnDevices a)
+answered_grown : (w : World) (a : DeviceAnswer) → IsGrown w.devices.stored a.devices.stored → IsGrownEffect w (OnDevices a)
 unfolding world_after
 answered_grown w a k = record { on = k }
 
@@ -93,7 +93,7 @@ test : (b : Bool) (w : World) (x y : Effect) → IsGrownEffect w x → IsGrownEf
 test true w x y kx ky = kx
 test false w x y kx ky = ky
 
-asked_grown : (w : World) (kind : SeatKind) (request : Request) (a : Option Answered) → AreGrown w.devices a → IsGrownEffect w (on_devices w kind request a)
+asked_grown : (w : World) (kind : SeatKind) (request : Request) (a : Option DeviceAnswer) → AreGrown w.devices a → IsGrownEffect w (on_devices w kind request a)
 unfolding on_devices
 asked_grown w kind request (Some a) k = test (is_user kind) w (OnStore _) _ (store_grown w _) (answered_grown w a k)
 asked_grown w kind request None k = store_grown w _

@@ -13,7 +13,7 @@ use Rattle.call_types.specs.declared.request.Request.{Request}
 use Rattle.call_types.specs.declared.request.Request.TheVariants as requests
 use Rattle.call_types.specs.declared.reply.Change.TheVariants.{Added, Modified}
 use Rattle.call_types.specs.declared.reply.Reply.{Reply}
-use Rattle.binder_model.specs.Store.{State, created, admitted, without_status}
+use Rattle.binder_model.specs.Store.{State, created_object, admitted_object, without_status}
 use Rattle.binder_model.specs.Answers.{Outcome, Says, Stores, Removes, outcome, after}
 use Rattle.binder_model.specs.World.{World, Effect, OnStore, OnDevices, SetsMoment, world, effect, reply_to, world_after}
 use Rattle.model_laws.specs.Histories.{given_by, given_uid, UidsAreGivenOnce}

@@ -19,12 +19,12 @@ use Rattle.call_types.specs.declared.request.Request.{Request}
 use Rattle.call_types.specs.declared.request.Request.TheVariants as requests
 use Rattle.call_types.specs.declared.reply.Refusal.{Refusal}
 use Rattle.call_types.specs.declared.reply.Reply.{Reply}
-use Rattle.binder_model.specs.Store.{State, with_meta, at_version, marked, created, updated, admitted, without_status, with_status_of, leaves, leaves_at_once, class_name, default_class}
-use Rattle.binder_model.specs.Edits.{edited}
-use Rattle.binder_model.specs.Answers.{Outcome, Says, Stores, Removes, is_user, written, create, update, with_status, written_if_fits, update_status, edit_to, edit, delete_of, delete, get, list, pod_with, bind, finish, outcome, reply_of, after}
-use Rattle.binder_model.specs.Devices.{Answered, device_answer}
+use Rattle.binder_model.specs.Store.{State, with_meta, at_version, marked_object, created_object, updated_object, admitted_object, without_status, with_status_of, leaves, leaves_at_once, class_name, default_class}
+use Rattle.binder_model.specs.Edits.{edited_object}
+use Rattle.binder_model.specs.Answers.{Outcome, Says, Stores, Removes, is_user, write_outcome, create, update, with_status, written_if_fits, update_status, edit_to, edit, delete_of, delete, get, list, pod_with, bind, finish, outcome, reply_of, after}
+use Rattle.binder_model.specs.Devices.{DeviceAnswer, device_answer}
 use Rattle.binder_model.specs.Watching.{oldest}
-use Rattle.binder_model.specs.World.{World, Effect, OnStore, OnDevices, SetsMoment, effect, reply_to, world_after, logged, watch, on_devices, set_time, stale_epoch, is_time}
+use Rattle.binder_model.specs.World.{World, Effect, OnStore, OnDevices, SetsMoment, effect, reply_to, world_after, log_after, watch, on_devices, set_time, stale_epoch, is_time}
 use Rattle.model_laws.proofs.OnOutcome.{OnOutcome, OfAnswers, says, refused_or, field_or, rule_or, stale_or}
 use Rattle.model_laws.specs.Steps.{KeepsStore, WritesOnce, VersionsCountWrites}
 
@@ -41,10 +41,10 @@ NextOf version (Says reply) = ⊤
 NextOf version (Stores change o) = (meta_of o).version ≡ version
 NextOf version (Removes o) = (meta_of o).version ≡ version
 
-wrote : (n : ℕ) (o : Object) → (meta_of o).version ≡ n → OnOutcome (NextOf n) (written o)
+wrote : (n : ℕ) (o : Object) → (meta_of o).version ≡ n → OnOutcome (NextOf n) (write_outcome o)
 wrote n o e = by_leaving (leaves o) refl
   where
-    by_leaving : (b : Bool) → leaves o ≡ b → OnOutcome (NextOf n) (written o)
+    by_leaving : (b : Bool) → leaves o ≡ b → OnOutcome (NextOf n) (write_outcome o)
     by_leaving true is = rw is (record { holds = e })
     by_leaving false is = rw is (record { holds = e })
 
@@ -53,16 +53,16 @@ unfolding written_if_fits at_version
 if_fits s None = says (λ r. tt) _
 if_fits s (Some o) = wrote _ _ (ap (λ m. m.version) (meta-with_meta o _))
 
-created_next : (default : Option (List ℕ)) (o : Object) (n : ℕ) (moment : List ℕ) → (meta_of (created default o n moment)).version ≡ n
-unfolding created
-created_next default o n moment = ap (λ m. m.version) (meta-with_meta (admitted default (without_status o)) _)
+created_next : (default : Option (List ℕ)) (o : Object) (n : ℕ) (moment : List ℕ) → (meta_of (created_object default o n moment)).version ≡ n
+unfolding created_object
+created_next default o n moment = ap (λ m. m.version) (meta-with_meta (admitted_object default (without_status o)) _)
 
-updated_next : (old new : Object) (n : ℕ) → (meta_of (updated old new n)).version ≡ n
-unfolding updated
+updated_next : (old new : Object) (n : ℕ) → (meta_of (updated_object old new n)).version ≡ n
+unfolding updated_object
 updated_next old new n = ap (λ m. m.version) (meta-with_meta (with_status_of old new) _)
 
-marked_next : (o : Object) (n : ℕ) (moment : List ℕ) → (meta_of (marked o n moment)).version ≡ n
-unfolding marked
+marked_next : (o : Object) (n : ℕ) (moment : List ℕ) → (meta_of (marked_object o n moment)).version ≡ n
+unfolding marked_object
 marked_next o n moment = ap (λ m. m.version) (meta-with_meta o _)
 
 create_next : (s : State) (kind : SeatKind) (o : Object) (moment : List ℕ) (x : Option Object) → OnOutcome (NextOf (s.version + 1)) (create s kind o moment x)
@@ -83,7 +83,7 @@ status_next s kind status given (Some old) = refused_or (λ r. tt) _ _ _ (refuse
 edit_next : (s : State) (kind : SeatKind) (change : Edit) (x : Option Object) → OnOutcome (NextOf (s.version + 1)) (edit s kind change x)
 unfolding edit edit_to
 edit_next s kind change None = says (λ r. tt) _
-edit_next s kind change (Some old) = edited_next (edited change old)
+edit_next s kind change (Some old) = edited_next (edited_object change old)
   where
     edited_next : (new : Option Object) → OnOutcome (NextOf (s.version + 1)) (edit_to s kind old new)
     edited_next None = says (λ r. tt) _
@@ -133,7 +133,7 @@ record IsCounted (w : World) (x : Effect) : Type 0 where
   counted : KeepsStore w (world_after w x) ⊎ WritesOnce w (world_after w x) (reply_to x)
 
 store_counted : (w : World) (o : Outcome) → OnOutcome (NextOf (w.store.version + 1)) o → IsCounted w (OnStore o)
-unfolding reply_to world_after reply_of after logged
+unfolding reply_to world_after reply_of after log_after
 store_counted w (Says reply) n = record { counted = inl (record { store = refl; log = refl }) }
 store_counted w (Stores change o) n = record { counted = inr (record { event = _; version = refl; log = refl; at = refl; next = n.holds; told = inl refl }) }
 store_counted w (Removes o) n = record { counted = inr (record { event = _; version = refl; log = refl; at = refl; next = n.holds; told = inr refl }) }
@@ -141,7 +141,7 @@ store_counted w (Removes o) n = record { counted = inr (record { event = _; vers
 said : (w : World) (reply : Reply) → IsCounted w (OnStore (Says reply))
 said w reply = store_counted w (Says reply) (says (λ r. tt) reply)
 
-devices_counted : (w : World) (a : Answered) → IsCounted w (OnDevices a)
+devices_counted : (w : World) (a : DeviceAnswer) → IsCounted w (OnDevices a)
 unfolding world_after
 devices_counted w a = record { counted = inl (record { store = refl; log = refl }) }
 
@@ -153,7 +153,7 @@ test_counted : (b : Bool) (w : World) (x y : Effect) → IsCounted w x → IsCou
 test_counted true w x y kx ky = kx
 test_counted false w x y kx ky = ky
 
-asked_counted : (w : World) (kind : SeatKind) (request : Request) (a : Option Answered) → IsCounted w (on_devices w kind request a)
+asked_counted : (w : World) (kind : SeatKind) (request : Request) (a : Option DeviceAnswer) → IsCounted w (on_devices w kind request a)
 unfolding on_devices
 asked_counted w kind request (Some a) = test_counted (is_user kind) w (OnStore _) _ (said w _) (devices_counted w a)
 asked_counted w kind request None = store_counted w _ (outcome_next w.store kind request w.moment _)

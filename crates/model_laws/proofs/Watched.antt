@@ -13,8 +13,8 @@ use Rattle.call_types.specs.declared.reply.Event.{Event}
 use Rattle.call_types.specs.declared.reply.Reply.{Reply}
 use Rattle.call_types.specs.declared.reply.Reply.TheVariants.{Events}
 use Rattle.binder_model.specs.Answers.{Outcome, Says, Stores, Removes, after, reply_of, outcome}
-use Rattle.binder_model.specs.Watching.{oldest, is_later, events_after, told_events, reached, most_events}
-use Rattle.binder_model.specs.World.{World, Effect, OnStore, OnDevices, SetsMoment, world, effect, reply_to, world_after, logged, watch}
+use Rattle.binder_model.specs.Watching.{oldest, is_later, events_after, told_events, reached_version, most_events}
+use Rattle.binder_model.specs.World.{World, Effect, OnStore, OnDevices, SetsMoment, world, effect, reply_to, world_after, log_after, watch}
 use Rattle.model_laws.specs.Reads.{effect_of, left_by, events_by, WatchesTellWhatCameAfter}
 use Rattle.model_laws.proofs.Versions.{NextOf, outcome_next}
 use Rattle.model_laws.proofs.Effects.{OfStore, on_effects}
@@ -32,7 +32,7 @@ record IsLeft (w : World) (x : Effect) : Type 0 where
   up : w.store.version ≤ (world_after w x).store.version
 
 left : (w : World) (x : Effect) → OfStore (NextOf (w.store.version + 1)) x → IsLeft w x
-unfolding world_after after logged
+unfolding world_after after log_after
 left w (OnStore (Says reply)) k = record { between = tt; log = refl; up = omega arith }
 left w (OnStore (Stores change o)) k = record { between = (omega (arith, k), omega (arith, k), tt); log = refl; up = omega arith }
 left w (OnStore (Removes o)) k = record { between = (omega (arith, k), omega (arith, k), tt); log = refl; up = omega arith }
@@ -130,4 +130,4 @@ watches_tell_what_came_after setup newer past kind k near =
     let version = (world setup (newer ++ past)).store.version in
     let not_ahead : nat_lt version from ≡ false = lt_false version from (rises setup newer past) in
     let not_gone : nat_lt from (oldest version) ≡ false = lt_false from (oldest version) near in
-    rw (not_ahead, not_gone) (ap (λ l. Events (record { events = take most_events (reverse l); upto = reached version (take most_events (reverse l)) })) (sifted setup newer past k))
+    rw (not_ahead, not_gone) (ap (λ l. Events (record { events = take most_events (reverse l); upto = reached_version version (take most_events (reverse l)) })) (sifted setup newer past k))

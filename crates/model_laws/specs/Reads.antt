@@ -16,8 +16,8 @@ use Rattle.call_types.specs.declared.reply.Reply.TheVariants.{Found, Listed, Eve
 use Rattle.binder_model.specs.Answers.{is_in_namespace}
 use Rattle.binder_model.specs.Told.{SomeOf}
 use Rattle.binder_model.specs.Devices.{Data}
-use Rattle.binder_model.specs.Watching.{most_events, oldest, reached}
-use Rattle.binder_model.specs.World.{World, Effect, OnStore, world, effect, logged, reply_to, world_after}
+use Rattle.binder_model.specs.Watching.{most_events, oldest, reached_version}
+use Rattle.binder_model.specs.World.{World, Effect, OnStore, world, effect, log_after, reply_to, world_after}
 
 -- the object that stands under the key, or that there is none
 abbrev pub found : Option Object → Reply
@@ -72,7 +72,7 @@ DataIdsAreGivenOnce =
 
 -- the events that an effect leaves in the log
 abbrev pub left_by : Effect → List Event
-left_by (OnStore o) = logged o []
+left_by (OnStore o) = log_after o []
 left_by x = []
 
 -- the events of entries after others, the newest first
@@ -88,4 +88,4 @@ WatchesTellWhatCameAfter =
     let w = world setup (newer ++ past) in
     let es = take most_events (reverse (filter (λ e. is_of_kind of_kind e.object) (events_by setup newer past))) in
     oldest w.store.version ≤ from
-    → reply_to (effect setup w kind (Watch of_kind from)) ≡ Events (record { events = es; upto = reached w.store.version es })
+    → reply_to (effect setup w kind (Watch of_kind from)) ≡ Events (record { events = es; upto = reached_version w.store.version es })

@@ -12,7 +12,7 @@ use Rattle.uuid.specs.Text.{by_index, is_hex_digit, value_of, byte_of_digits, pa
 use Rattle.uuid.proofs.TextLemmas.{by_index_at}
 use Rattle.serde_json.specs.Data.{Data, null, boolean, number, string, array, object, Members, no_members, member}
 use Rattle.json_text.specs.Look.{unless_null}
-use Rattle.plain_data.specs.Pairs.{Pair, ArePairs, put_pair, key_of}
+use Rattle.plain_data.specs.Pairs.{Pair, ArePairs, put_pair, pair_key}
 use Rattle.plain_data.proofs.RowFacts.{rising_put}
 use Rattle.quantity_text.specs.declared.errors.AmountError.{AmountError}
 use Rattle.quantity_text.specs.Quantity.{amount_of}
@@ -62,7 +62,7 @@ of_ok {A} {E} P r a h e = subst (λ (x : Result A E). IfOk x P) e h
 
 pairs_given_from : (m : Member) (ms : Members) (found : List Pair) → ArePairs found → IfOk (pairs_from m ms found) ArePairs
 pairs_given_from m no_members found h = h
-pairs_given_from m (member k d ms) found h = past ArePairs (as_text m d) _ (λ s. pairs_given_from m ms (put_pair k s found) (rising_put nat_list_cmp_total key_of (k, s) found h))
+pairs_given_from m (member k d ms) found h = past ArePairs (as_text m d) _ (λ s. pairs_given_from m ms (put_pair k s found) (rising_put nat_list_cmp_total pair_key (k, s) found h))
 
 pairs_given_in : (m : Member) (d : Data) → IfOk (pairs_in m d) ArePairs
 pairs_given_in m null = tt

@@ -8,7 +8,7 @@ use Rattle.json_text.specs.Look.{unless_null}
 use Rattle.json_text.specs.Build.{put_some, pick}
 use Rattle.json_text.proofs.ReadBack.{join, join-nil, join-one, Parted, parted_more, parted_none, put-join}
 use Rattle.json_text.proofs.PutAll.{get-put_all}
-use Rattle.plain_data.specs.Pairs.{Pair, ArePairs, put_pair, text_cmp, key_of}
+use Rattle.plain_data.specs.Pairs.{Pair, ArePairs, put_pair, text_cmp, pair_key}
 use Rattle.plain_data.specs.Rows.{IsAfter}
 use Rattle.kube_types.specs.declared.uid.Uid.{Uid}
 use Rattle.kube_types.specs.declared.parts.Modes.{Modes}
@@ -89,7 +89,7 @@ abbrev members_of : List Pair → Members
 members_of [] = no_members
 members_of (p ∷ ps) = member p.0 (string p.1) (members_of ps)
 
-before_members : (p : Pair) (ps : List Pair) → IsAfter text_cmp key_of p ps → IsBefore p.0 (members_of ps)
+before_members : (p : Pair) (ps : List Pair) → IsAfter text_cmp pair_key p ps → IsBefore p.0 (members_of ps)
 before_members p [] h = tt
 before_members p (q ∷ ps) h = (h.0, before_members p ps h.1)
 
@@ -125,7 +125,7 @@ unfolding ComesAfter
 after_more [] p k h less = (less, tt)
 after_more (q ∷ found) p k h less = (h.0, after_more found p k h.1 less)
 
-apart_more : (found ps : List Pair) (p : Pair) → Apart found ps → IsAfter text_cmp key_of p ps → Apart (found ++ p ∷ []) ps
+apart_more : (found ps : List Pair) (p : Pair) → Apart found ps → IsAfter text_cmp pair_key p ps → Apart (found ++ p ∷ []) ps
 unfolding Apart
 apart_more found [] p a h = tt
 apart_more found (q ∷ ps) p a h = (after_more found p q.0 a.0 h.0, apart_more found ps p a.1 h.1)

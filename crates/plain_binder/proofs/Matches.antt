@@ -10,7 +10,7 @@ use Rattle.kube_types.specs.declared.objects.Object.TheVariants.{Class, Node, Vo
 use Rattle.kube_types.specs.Keys.{key_of, put_row, rows_of, is_of_kind}
 use Rattle.kube_types.specs.Bindings.{names_claim, is_deleting, is_protected_volume, class_of_claim}
 use Rattle.kube_types.proofs.KeyOrder.{row_at-put_row_other}
-use Rattle.binder_model.specs.Matching.{IsBest, eligible, may_serve, fits, selected, only_own_passes, binder_takes, has_match, waits_for_pod, is_delayed, class_key}
+use Rattle.binder_model.specs.Matching.{IsBest, eligible, may_serve, fits, is_selected, only_own_passes, binder_takes, has_match, waits_for_pod, is_delayed, class_key}
 use Rattle.binder_model.specs.BindWrites.{ref_to}
 use Rattle.plain_binder.proofs.Places.{any_alike, any_place}
 use Rattle.plain_binder.proofs.Standing.{any_put_row}
@@ -70,7 +70,7 @@ pub takes_no_other : (v : VolumeData) (c d : ClaimData) → v.claim_ref ≡ Some
 takes_no_other v c d reference differs = rw (reference, names_no_other c d differs, and_false) refl
 
 pub binder_takes_no_other : (rows : List Object) (v : VolumeData) (c d : ClaimData) → v.claim_ref ≡ Some (ref_to c) → key_of (Claim d) ≢ key_of (Claim c) → binder_takes rows d (Volume v) ≡ false
-binder_takes_no_other rows v c d reference differs = let none : may_serve v d ≡ false = takes_no_other v c d reference differs in let no : eligible v d None ≡ false = last (not (is_deleting v.meta)) (is_protected_volume v) (fits v d) (selected d.selector v.meta.labels) (may_serve v d) none in rw no refl
+binder_takes_no_other rows v c d reference differs = let none : may_serve v d ≡ false = takes_no_other v c d reference differs in let no : eligible v d None ≡ false = last (not (is_deleting v.meta)) (is_protected_volume v) (fits v d) (is_selected d.selector v.meta.labels) (may_serve v d) none in rw no refl
   where
     last : (a b c e m : Bool) → m ≡ false → (a && b && c && e && true && m) ≡ false
     last a b c e m h = simp (h, and_false)

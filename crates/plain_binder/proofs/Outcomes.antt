@@ -2,7 +2,7 @@
 use Rattle.std.proofs.Common.{◌≡◌, ℕ, ◌+◌, ◌&&◌, ◌||◌, List, [], true, false, not, Option, Some, None, refl, ◌∙◌, ap, bytes_eq}
 use Rattle.std.specs.Bool.{⊤}
 use Rattle.std.proofs.lemmas.Cmp.{nat_list_cmp_total}
-use Rattle.plain_data.specs.Pairs.{Pair, put_pair, key_of as pair_key}
+use Rattle.plain_data.specs.Pairs.{Pair, put_pair, pair_key as pair_key}
 use Rattle.plain_data.proofs.RowLookups.{find-put}
 use Rattle.kube_types.specs.declared.names.Field.{Field}
 use Rattle.kube_types.specs.declared.names.Rule.{Rule}
@@ -20,7 +20,7 @@ use Rattle.call_types.specs.declared.request.NewStatus.{NewStatus}
 use Rattle.call_types.specs.declared.request.NewStatus.TheVariants as statuses
 use Rattle.call_types.specs.declared.request.Request.TheVariants as requests
 use Rattle.call_types.specs.declared.reply.Change.TheVariants.{Added, Modified}
-use Rattle.binder_model.specs.Store.{State, at_version, updated, with_status_of, with_meta, leaves, created, admitted, without_status, lacks_node}
+use Rattle.binder_model.specs.Store.{State, at_version, updated_object, with_status_of, with_meta, leaves, created_object, admitted_object, without_status, lacks_node}
 use Rattle.binder_model.specs.Fields.{create_fault, update_fault, changed_field, faulty, adds_finalizer, is_nameless, has_twice, same_claim_spec}
 use Rattle.binder_model.specs.Answers.{Outcome, Says, Stores, Removes, outcome, create, update, update_status, with_status, written_if_fits, guard_on, refuse, refuse_rule, refuse_field}
 use Rattle.binder_model.specs.BindWrites.{ref_to, taken_for, completed_with, write_reference, write_completion, write_claim_status, volume_key, claim_key}
@@ -32,8 +32,8 @@ use Rattle.plain_binder.proofs.Same.{number_own, bytes_own, beq_own, option_own,
 use Rattle.plain_binder.proofs.Valid.{ValidClaim, volume_parts, volume_whole, claim_parts, claim_whole, name_stands, namespace_stands}
 
 -- a controller's update of an object that stands, at its version
-update_stores : (s : State) (old new : Object) → row_at (key_of new) s.rows ≡ Some old → update_fault old new ≡ None → leaves (updated old new (s.version + 1)) ≡ false
-    → outcome s Binder (requests.Update new (Some (meta_of old).version)) first_moment None ≡ Stores Modified (updated old new (s.version + 1))
+update_stores : (s : State) (old new : Object) → row_at (key_of new) s.rows ≡ Some old → update_fault old new ≡ None → leaves (updated_object old new (s.version + 1)) ≡ false
+    → outcome s Binder (requests.Update new (Some (meta_of old).version)) first_moment None ≡ Stores Modified (updated_object old new (s.version + 1))
 unfolding outcome update guard_on refuse refuse_rule refuse_field
 update_stores s old new found fault stays = rw (found, number_own (meta_of old).version, fault, stays) refl
 
@@ -75,9 +75,9 @@ referenced_fault v c n v_sound c_sound =
 
 pub reference_stores : (s : State) (v : VolumeData) (c : ClaimData) → row_at (key_of (Volume v)) s.rows ≡ Some (Volume v) → v.claim_ref ≡ None → IsSoundVolume v → IsSoundClaim c
     → outcome s Binder (write_reference v c) first_moment None ≡ Stores Modified (Volume (referenced c (s.version + 1) v))
-unfolding updated with_status_of with_meta leaves
+unfolding updated_object with_status_of with_meta leaves
 reference_stores s v c found unreferred v_sound c_sound =
-    let stays : leaves (updated (Volume v) (Volume (referenced c v.meta.version v)) (s.version + 1)) ≡ false = rw v_sound.kept refl in
+    let stays : leaves (updated_object (Volume v) (Volume (referenced c v.meta.version v)) (s.version + 1)) ≡ false = rw v_sound.kept refl in
     ap (λ u. outcome s Binder (requests.Update (Volume u) (Some v.meta.version)) first_moment None) (taken_is v c unreferred)
     ∙ update_stores s (Volume v) (Volume (referenced c v.meta.version v)) found (referenced_fault v c v.meta.version v_sound c_sound) stays
 
@@ -102,9 +102,9 @@ completed_fault v c n unnamed c_sound =
 
 pub completion_stores : (s : State) (v : VolumeData) (c : ClaimData) → row_at (key_of (Claim c)) s.rows ≡ Some (Claim c) → c.volume_name ≡ [] → IsSoundClaim c
     → outcome s Binder (write_completion v c) first_moment None ≡ Stores Modified (Claim (completed v (s.version + 1) c))
-unfolding updated with_status_of with_meta leaves
+unfolding updated_object with_status_of with_meta leaves
 completion_stores s v c found unnamed c_sound =
-    let stays : leaves (updated (Claim c) (Claim (completed v c.meta.version c)) (s.version + 1)) ≡ false = rw c_sound.kept refl in
+    let stays : leaves (updated_object (Claim c) (Claim (completed v c.meta.version c)) (s.version + 1)) ≡ false = rw c_sound.kept refl in
     ap (λ d. outcome s Binder (requests.Update (Claim d) (Some c.meta.version)) first_moment None) (completed_is v c unnamed)
     ∙ update_stores s (Claim c) (Claim (completed v c.meta.version c)) found (completed_fault v c c.meta.version unnamed c_sound) stays
 
@@ -138,8 +138,8 @@ fresh_field rows None next h = h refl
 fresh_field rows (Some field) next h = tt
 
 fresh_volume : (default : Option (List ℕ)) (v : VolumeData) (version : ℕ) (moment : List ℕ) (rows : List Object) → IsPlainVolume v → row_at (key_of (Volume v)) rows ≡ None → create_fault false (Volume v) ≡ None
-    → FreshOutcome rows (Stores Added (created default (Volume v) version moment))
-unfolding created admitted without_status with_meta
+    → FreshOutcome rows (Stores Added (created_object default (Volume v) version moment))
+unfolding created_object admitted_object without_status with_meta
 fresh_volume default v version moment rows plain new fault =
     let parts = volume_parts v fault in (
       record {
@@ -155,8 +155,8 @@ fresh_volume default v version moment rows plain new fault =
     )
 
 fresh_claim : (default : Option (List ℕ)) (c : ClaimData) (version : ℕ) (moment : List ℕ) (rows : List Object) → IsPlainClaim c → row_at (key_of (Claim c)) rows ≡ None → create_fault false (Claim c) ≡ None
-    → FreshOutcome rows (Stores Added (created default (Claim c) version moment))
-unfolding created admitted without_status with_meta
+    → FreshOutcome rows (Stores Added (created_object default (Claim c) version moment))
+unfolding created_object admitted_object without_status with_meta
 fresh_claim default c version moment rows plain new fault =
     let parts = claim_parts c fault in (
       record {

@@ -12,7 +12,7 @@ use Rattle.kube_types.specs.declared.objects.Object.TheVariants.{Class, Node, Vo
 use Rattle.kube_types.specs.Keys.{AreRows, key_of, row_at, rows_of}
 use Rattle.kube_types.specs.Bindings.{is_completed, is_deleting, is_protected_volume}
 use Rattle.kube_types.proofs.KeyOrder.{row_at_key}
-use Rattle.binder_model.specs.Matching.{eligible, may_serve, fits, selected, admitted_on, has_match}
+use Rattle.binder_model.specs.Matching.{eligible, may_serve, fits, is_selected, is_admitted_on, has_match}
 use Rattle.binder_model.specs.BindWrites.{ref_to, volume_key}
 use Rattle.binder_model.specs.Safe.{IsBoundTo, CompletedAreBound}
 use Rattle.plain_binder.specs.Stages.{keys_of, IsSoundClaim, IsFree, IsOpen, IsPair, IsServed, IsServedVolume, IsServedClaim, Free, Taken, Open, Done, AreServed, SettledUpTo, IsStage, IsBinding}
@@ -186,7 +186,7 @@ pub binding_begins : (rows : List Object) (c : ClaimData) (place : ℕ) (v : Vol
 binding_begins rows c place v order served at pending there may =
     let v_at = row_at_place kinds.PersistentVolume place (Volume v) rows order there in
     let opened = open_claim rows c pending (served (key_of (Claim c)) (Claim c) at) in
-    let free = eligible_free rows v c at opened (last_true (not (is_deleting v.meta)) (is_protected_volume v) (fits v c) (selected c.selector v.meta.labels) (admitted_on v None) (may_serve v c) may) (served (key_of (Volume v)) (Volume v) v_at) in
+    let free = eligible_free rows v c at opened (last_true (not (is_deleting v.meta)) (is_protected_volume v) (fits v c) (is_selected c.selector v.meta.labels) (is_admitted_on v None) (may_serve v c) may) (served (key_of (Volume v)) (Volume v) v_at) in
     record {
       v = v;
       c = c;

@@ -5,7 +5,7 @@ use Rattle.kube_types.specs.declared.objects.Object.{Object}
 use Rattle.kube_types.specs.declared.objects.Object.TheVariants.{Class, Node, Volume, Claim, Pod}
 use Rattle.kube_types.specs.Keys.{is_of_kind, rows_of}
 use Rattle.binder_model.specs.Store.{default_class}
-use Rattle.binder_model.specs.Answers.{is_in_namespace, listed}
+use Rattle.binder_model.specs.Answers.{is_in_namespace, listed_rows}
 use Rattle.version_store.specs.Made.{default_from, is_listed, is_wanted}
 
 pub default_class-cons : (o : Object) (os : List Object) → default_class (o ∷ os) ≡ default_from o (default_class os)
@@ -21,17 +21,17 @@ default_class-drop rows i o lt = rw (drop-cons rows i o lt, add-one) (default_cl
 abbrev pub put_first : Bool → Object → List Object → List Object
 put_first wanted o os = if wanted then o ∷ os else os
 
-listed-cons : (kind : Kind) (namespace : Option (List ℕ)) (o : Object) (os : List Object) → listed namespace (rows_of kind (o ∷ os)) ≡ put_first (is_wanted kind namespace o) o (listed namespace (rows_of kind os))
-listed-cons kind None o os = by (is_of_kind kind o)
+listed_rows-cons : (kind : Kind) (namespace : Option (List ℕ)) (o : Object) (os : List Object) → listed_rows namespace (rows_of kind (o ∷ os)) ≡ put_first (is_wanted kind namespace o) o (listed_rows namespace (rows_of kind os))
+listed_rows-cons kind None o os = by (is_of_kind kind o)
   where
     by : (b : Bool) → (if b then o ∷ rows_of kind os else rows_of kind os) ≡ put_first (b && true) o (rows_of kind os)
     by true = refl
     by false = refl
-listed-cons kind (Some namespace) o os = by (is_of_kind kind o)
+listed_rows-cons kind (Some namespace) o os = by (is_of_kind kind o)
   where
-    by : (b : Bool) → listed (Some namespace) (if b then o ∷ rows_of kind os else rows_of kind os) ≡ put_first (b && is_in_namespace namespace o) o (listed (Some namespace) (rows_of kind os))
+    by : (b : Bool) → listed_rows (Some namespace) (if b then o ∷ rows_of kind os else rows_of kind os) ≡ put_first (b && is_in_namespace namespace o) o (listed_rows (Some namespace) (rows_of kind os))
     by true = refl
     by false = refl
 
-pub listed-drop : (kind : Kind) (namespace : Option (List ℕ)) (rows : List Object) (i : ℕ) (o : Object) → i < length rows → listed namespace (rows_of kind (drop i rows)) ≡ put_first (is_wanted kind namespace (get_or rows i o)) (get_or rows i o) (listed namespace (rows_of kind (drop (i + 1) rows)))
-listed-drop kind namespace rows i o lt = rw (drop-cons rows i o lt, add-one) (listed-cons kind namespace (get_or rows i o) (drop (suc i) rows))
+pub listed_rows-drop : (kind : Kind) (namespace : Option (List ℕ)) (rows : List Object) (i : ℕ) (o : Object) → i < length rows → listed_rows namespace (rows_of kind (drop i rows)) ≡ put_first (is_wanted kind namespace (get_or rows i o)) (get_or rows i o) (listed_rows namespace (rows_of kind (drop (i + 1) rows)))
+listed_rows-drop kind namespace rows i o lt = rw (drop-cons rows i o lt, add-one) (listed_rows-cons kind namespace (get_or rows i o) (drop (suc i) rows))

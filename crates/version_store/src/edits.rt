@@ -6,7 +6,7 @@ ghost use Rattle.plain_data.specs.Pairs.{put_pair, without_key};
 ghost use Rattle.kube_types.specs.Bindings.{bound_by_controller};
 ghost use Rattle.kube_types.specs.Keys.{meta_of};
 ghost use Rattle.binder_model.specs.Store.{with_meta, with_finalizer};
-ghost use Rattle.binder_model.specs.Edits.{edited, with_volume_name, without_name};
+ghost use Rattle.binder_model.specs.Edits.{edited_object, with_volume_name, without_name};
 
 use call_types::edit::Edit;
 use field_rules::add_finalizer;
@@ -132,13 +132,13 @@ fn annotation_dropped(alloc: Global, key: &Text, object: &Object) -> Result<Obje
     Ok(with_annotations(object.copy(alloc)?, annotations))
 }
 
-#[tactic(auto, unfolding(binder_model::specs::Edits::edited))]
+#[tactic(auto, unfolding(binder_model::specs::Edits::edited_object))]
 fn with_policy(
     alloc: Global,
     policy: Policy,
     object: &Object,
 ) -> Result<Option<Object>, OutOfMemory>
-    ensures { IfOk result (λ o. o ≡ edited (edits.SetPolicy policy) object.now) }
+    ensures { IfOk result (λ o. o ≡ edited_object (edits.SetPolicy policy) object.now) }
 {
     match object {
         Object::Volume(volume) => {
@@ -150,14 +150,14 @@ fn with_policy(
     }
 }
 
-#[tactic(auto, unfolding(binder_model::specs::Edits::edited))]
+#[tactic(auto, unfolding(binder_model::specs::Edits::edited_object))]
 fn with_named_claim(
     alloc: Global,
     namespace: &Text,
     name: &Text,
     object: &Object,
 ) -> Result<Option<Object>, OutOfMemory>
-    ensures { IfOk result (λ o. o ≡ edited (edits.SetClaimRef namespace.now name.now) object.now) }
+    ensures { IfOk result (λ o. o ≡ edited_object (edits.SetClaimRef namespace.now name.now) object.now) }
 {
     match object {
         Object::Volume(volume) => {
@@ -191,9 +191,9 @@ fn cleared(mut volume: Volume, annotations: Pairs) -> Volume
     with_reference(volume, None)
 }
 
-#[tactic(auto, unfolding(binder_model::specs::Edits::edited))]
+#[tactic(auto, unfolding(binder_model::specs::Edits::edited_object))]
 fn without_claim(alloc: Global, object: &Object) -> Result<Option<Object>, OutOfMemory>
-    ensures { IfOk result (λ o. o ≡ edited edits.ClearClaimRef object.now) }
+    ensures { IfOk result (λ o. o ≡ edited_object edits.ClearClaimRef object.now) }
 {
     match object {
         Object::Volume(volume) => {
@@ -206,9 +206,9 @@ fn without_claim(alloc: Global, object: &Object) -> Result<Option<Object>, OutOf
 }
 
 /// The object with the edit, or none where the edit does not fit its kind.
-#[tactic(auto, unfolding(binder_model::specs::Edits::edited))]
+#[tactic(auto, unfolding(binder_model::specs::Edits::edited_object))]
 pub fn edited(alloc: Global, edit: &Edit, object: &Object) -> Result<Option<Object>, OutOfMemory>
-    ensures { IfOk result (λ o. o ≡ edited edit.now object.now) }
+    ensures { IfOk result (λ o. o ≡ edited_object edit.now object.now) }
 {
     match edit {
         Edit::AddFinalizer(name) => Ok(Some(finalizer_added(alloc, name, object)?)),

@@ -8,7 +8,7 @@ ghost use Rattle.kube_types.specs.declared.objects.Object.TheVariants as objects
 ghost use Rattle.kube_types.specs.Keys.{AreRows, key_of, is_of_kind, row_at, rows_of};
 ghost use Rattle.call_types.specs.declared.reply.Reply.TheVariants as replies;
 ghost use Rattle.binder_model.specs.Store.{at_version};
-ghost use Rattle.binder_model.specs.Answers.{Says, is_user, guard_on, is_other_version, is_other_uid, written, written_if_fits, create, update, update_status, edit, edit_to, delete, get, list, listed, is_in_namespace, pod_with, bind, finish, outcome};
+ghost use Rattle.binder_model.specs.Answers.{Says, is_user, guard_on, is_other_version, is_other_uid, write_outcome, written_if_fits, create, update, update_status, edit, edit_to, delete, get, list, listed_rows, is_in_namespace, pod_with, bind, finish, outcome};
 ghost use Rattle.version_store.specs.Made.{is_listed, is_wanted, outcome_of, state_of};
 
 use crate::classes::{default_class_name, lacks_named_node, lacks_node};
@@ -40,7 +40,7 @@ fn refused(refusal: Refusal) -> Made
 
 /// The write of an object, which leaves where it is to be deleted and has no finalizers.
 fn written(object: Object) -> Made
-    ensures { outcome_of result ≡ written object }
+    ensures { outcome_of result ≡ write_outcome object }
 {
     if leaves(&object) {
         Made::Removes(object)
@@ -266,7 +266,7 @@ fn listed(
     kind: Kind,
     namespace: &Option<Text>,
 ) -> Result<Items<Object>, OutOfMemory>
-    ensures { IfOk result (λ items. items ≡ listed namespace.now (rows_of kind rows.now)) }
+    ensures { IfOk result (λ items. items ≡ listed_rows namespace.now (rows_of kind rows.now)) }
 {
     let mut items = Items::new(alloc);
     for object in rows {

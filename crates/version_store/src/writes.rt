@@ -3,7 +3,7 @@
 ghost use Rattle.std.specs.Prelude.{◌≡◌, ◌<◌, ◌^◌, Some, IfOk};
 ghost use Rattle.std.specs.Option.{option_copied};
 ghost use Rattle.kube_types.specs.Keys.{meta_of};
-ghost use Rattle.binder_model.specs.Store.{with_meta, at_version, marked, without_status, created, with_status_of, updated};
+ghost use Rattle.binder_model.specs.Store.{with_meta, at_version, marked_object, without_status, created_object, with_status_of, updated_object};
 ghost use Rattle.binder_model.specs.Answers.{with_status};
 
 use call_types::request::NewStatus;
@@ -34,21 +34,21 @@ fn with_identity(
     created: Text,
     deleted: Option<Text>,
 ) -> Object
-    ensures { result ≡ with_meta object (record (meta_of object) { uid = uid; version = version; created = created; deleted = deleted }) }
+    ensures { result ≡ with_meta object (record (meta_of object) { uid = uid; version = version; created = created_object; deleted = deleted }) }
 {
     set_meta!(object, uid, version, created, deleted);
     object
 }
 
 /// The object at this version, to be deleted since this moment.
-#[tactic(auto, unfolding(binder_model::specs::Store::marked, binder_model::specs::Store::with_meta))]
+#[tactic(auto, unfolding(binder_model::specs::Store::marked_object, binder_model::specs::Store::with_meta))]
 pub fn marked(
     alloc: Global,
     object: &Object,
     version: Version,
     moment: &Text,
 ) -> Result<Object, OutOfMemory>
-    ensures { IfOk result (λ o. o ≡ marked object.now version moment.now) }
+    ensures { IfOk result (λ o. o ≡ marked_object object.now version moment.now) }
 {
     let meta = meta_of(object);
     let uid = meta.uid;
@@ -99,7 +99,7 @@ fn without_status(alloc: Global, object: &Object) -> Result<Object, OutOfMemory>
 }
 
 /// The object as the write of this version creates it.
-#[tactic(auto, unfolding(binder_model::specs::Store::created))]
+#[tactic(auto, unfolding(binder_model::specs::Store::created_object))]
 pub fn created(
     alloc: Global,
     default_class: Option<&Text>,
@@ -108,7 +108,7 @@ pub fn created(
     moment: &Text,
 ) -> Result<Object, OutOfMemory>
     requires { version < 2 ^ 62 }
-    ensures { IfOk result (λ o. o ≡ created (option_copied default_class.entry) object.now version moment.now) }
+    ensures { IfOk result (λ o. o ≡ created_object (option_copied default_class.entry) object.now version moment.now) }
 {
     let fresh = without_status(alloc, object)?;
     let admitted = admit(alloc, &fresh, default_class)?;
@@ -138,14 +138,14 @@ fn with_status_of(alloc: Global, old: &Object, new: &Object) -> Result<Object, O
 }
 
 /// The new object in place of the old one.
-#[tactic(auto, unfolding(binder_model::specs::Store::updated))]
+#[tactic(auto, unfolding(binder_model::specs::Store::updated_object))]
 pub fn updated(
     alloc: Global,
     old: &Object,
     new: &Object,
     version: Version,
 ) -> Result<Object, OutOfMemory>
-    ensures { IfOk result (λ o. o ≡ updated old.now new.now version) }
+    ensures { IfOk result (λ o. o ≡ updated_object old.now new.now version) }
 {
     let kept = with_status_of(alloc, old, new)?;
     let meta = meta_of(old);

@@ -2,7 +2,7 @@
 
 ghost use Rattle.std.specs.Prelude.{◌≡◌};
 ghost use Rattle.std.specs.Option.{option_copied};
-ghost use Rattle.binder_model.specs.Matching.{admitted_on, covers, eligible, fits, may_serve, selected};
+ghost use Rattle.binder_model.specs.Matching.{is_admitted_on, covers, eligible, fits, may_serve, is_selected};
 
 use kube_types::bindings::{
     class_of_claim, class_of_volume, is_deleting, is_for, is_protected_volume,
@@ -45,7 +45,7 @@ pub fn covers(wanted: Modes, given: Modes) -> bool
 }
 
 fn is_selected(selector: &Option<Selector>, labels: &Pairs) -> bool
-    ensures { result ≡ selected selector.now labels.now }
+    ensures { result ≡ is_selected selector.now labels.now }
 {
     match selector {
         None => true,
@@ -54,7 +54,7 @@ fn is_selected(selector: &Option<Selector>, labels: &Pairs) -> bool
 }
 
 fn is_admitted_on(volume: &Volume, node: Option<&Node>) -> bool
-    ensures { result ≡ admitted_on volume.now (option_copied node.entry) }
+    ensures { result ≡ is_admitted_on volume.now (option_copied node.entry) }
 {
     match node {
         None => true,

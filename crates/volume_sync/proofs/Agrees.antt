@@ -9,7 +9,7 @@ use Rattle.kube_types.specs.declared.objects.Claim.{Claim as ClaimData}
 use Rattle.kube_types.specs.declared.objects.Object.{Object}
 use Rattle.kube_types.specs.declared.lookup.Live.{Live}
 use Rattle.kube_types.specs.Keys.{row_at}
-use Rattle.kube_types.specs.Bindings.{is_available, is_empty, is_released}
+use Rattle.kube_types.specs.Bindings.{is_available, is_empty, is_ended}
 use Rattle.binder_model.specs.BindWrites.{claim_key}
 use Rattle.binder_model.specs.BinderDue.{claim_with, is_reclaimed, reference_due, referred_due, volume_due}
 use Rattle.volume_sync.specs.declared.action.VolumeAction.{VolumeAction}
@@ -51,7 +51,7 @@ by_reference rows v live (Some r) reads = by_uid r.uid (λ uid. reads.claim r ui
     by_uid (Some uid) read =
         let w = record v { claim_ref = Some (record r { uid = Some uid }) } in
         let seen = same_else (claim_with uid (row_at (claim_key r.namespace r.name) rows)) (live_claim uid live) (read uid) in
-        ended (is_released v.phase) _ _
+        ended (is_ended v.phase) _ _
         (ap (λ (a : Bool). due_of (referred_action w a (or_else (claim_with uid (row_at (claim_key r.namespace r.name) rows)) (live_claim uid live)))) reads.asked
         ∙ (ap (λ (claim : Option ClaimData). due_of (referred_action w true claim)) seen
         ∙ referred w (claim_with uid (row_at (claim_key r.namespace r.name) rows))))

@@ -4,7 +4,7 @@ use Rattle.kube_types.specs.declared.objects.Volume.{Volume as VolumeData}
 use Rattle.kube_types.specs.declared.objects.Claim.{Claim as ClaimData}
 use Rattle.kube_types.specs.declared.objects.Object.{Object}
 use Rattle.kube_types.specs.declared.lookup.Live.{Live}
-use Rattle.kube_types.specs.Bindings.{is_available, is_empty, is_released}
+use Rattle.kube_types.specs.Bindings.{is_available, is_empty, is_ended}
 use Rattle.binder_model.specs.BinderDue.{is_reclaimed}
 use Rattle.case_table.specs.declared.rows.CaseRow.{CaseRow}
 use Rattle.case_table.specs.Cases.{action_of}
@@ -27,11 +27,11 @@ numbered_back actions.Release = refl
 numbered_back actions.Unbind = refl
 numbered_back actions.QueueClaim = refl
 
-decision_chosen : (rows : List Object) (v : VolumeData) (live : Live) → chosen (has_uid v) (is_available v.phase) (is_released v.phase) (is_some (seen_claim rows v live)) (is_asked live) (names_none (seen_claim rows v live)) (names (seen_claim rows v live) v) (is_settled v) (is_reclaimed v) ≡ volume_decision rows v live
+decision_chosen : (rows : List Object) (v : VolumeData) (live : Live) → chosen (has_uid v) (is_available v.phase) (is_ended v.phase) (is_some (seen_claim rows v live)) (is_asked live) (names_none (seen_claim rows v live)) (names (seen_claim rows v live) v) (is_settled v) (is_reclaimed v) ≡ volume_decision rows v live
 unfolding volume_decision
 decision_chosen rows v live = by_claim (seen_claim rows v live)
   where
-    by_claim : (claim : Option ClaimData) → chosen (has_uid v) (is_available v.phase) (is_released v.phase) (is_some claim) (is_asked live) (names_none claim) (names claim v) (is_settled v) (is_reclaimed v) ≡ (if not (has_uid v) then (if is_available v.phase then actions.Nothing else actions.Available) else if is_released v.phase then actions.Nothing else referred_action v (is_asked live) claim)
+    by_claim : (claim : Option ClaimData) → chosen (has_uid v) (is_available v.phase) (is_ended v.phase) (is_some claim) (is_asked live) (names_none claim) (names claim v) (is_settled v) (is_reclaimed v) ≡ (if not (has_uid v) then (if is_available v.phase then actions.Nothing else actions.Available) else if is_ended v.phase then actions.Nothing else referred_action v (is_asked live) claim)
     by_claim None = refl
     by_claim (Some c) = refl
 
@@ -39,7 +39,7 @@ decided : (rows : List Object) (v : VolumeData) (live : Live) (claim : Option Cl
 unfolding conditions_on
 decided rows v live claim same =
     ap (λ (o : Option ClaimData). action_numbered (action_of volume_rows (conditions_on v (is_asked live) o))) same
-    ∙ (ap action_numbered (rows_say (has_uid v) (is_available v.phase) (is_released v.phase) (is_some (seen_claim rows v live)) (is_asked live) (names_none (seen_claim rows v live)) (names (seen_claim rows v live) v) (is_settled v) (is_reclaimed v))
+    ∙ (ap action_numbered (rows_say (has_uid v) (is_available v.phase) (is_ended v.phase) (is_some (seen_claim rows v live)) (is_asked live) (names_none (seen_claim rows v live)) (names (seen_claim rows v live) v) (is_settled v) (is_reclaimed v))
     ∙ (numbered_back _ ∙ decision_chosen rows v live))
 
 -- what the code computes, step by step, is the decision

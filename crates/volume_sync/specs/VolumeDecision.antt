@@ -10,7 +10,7 @@ use Rattle.kube_types.specs.declared.objects.Object.{Object}
 use Rattle.kube_types.specs.declared.lookup.Live.{Live}
 use Rattle.kube_types.specs.declared.lookup.Live.TheVariants.{NotAsked, Absent, Present}
 use Rattle.kube_types.specs.Keys.{row_at}
-use Rattle.kube_types.specs.Bindings.{is_available, is_bound, is_empty, is_protected_volume, is_released, ref_uid}
+use Rattle.kube_types.specs.Bindings.{is_available, is_bound, is_empty, is_protected_volume, is_ended, ref_uid}
 use Rattle.volume_match.specs.Named.{key_at}
 use Rattle.binder_model.specs.BinderDue.{claim_with, is_reclaimed}
 use Rattle.volume_sync.specs.declared.action.VolumeAction.{VolumeAction}
@@ -74,10 +74,10 @@ referred_action v asked (Some c) =
 unfoldable pub volume_decision : List Object → VolumeData → Live → VolumeAction
 volume_decision rows v live =
     if not (has_uid v) then (if is_available v.phase then actions.Nothing else actions.Available)
-    else if is_released v.phase then actions.Nothing
+    else if is_ended v.phase then actions.Nothing
     else referred_action v (is_asked live) (seen_claim rows v live)
 
 -- the conditions of the table; those on a claim that is not seen are false
 unfoldable pub conditions_on : VolumeData → Bool → Option ClaimData → List Bool
 conditions_on v asked claim =
-    has_uid v ∷ is_available v.phase ∷ is_released v.phase ∷ is_some claim ∷ asked ∷ names_none claim ∷ names claim v ∷ is_settled v ∷ is_reclaimed v ∷ []
+    has_uid v ∷ is_available v.phase ∷ is_ended v.phase ∷ is_some claim ∷ asked ∷ names_none claim ∷ names claim v ∷ is_settled v ∷ is_reclaimed v ∷ []

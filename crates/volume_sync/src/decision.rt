@@ -2,7 +2,7 @@
 
 ghost use Rattle.std.specs.Prelude.{◌≡◌, is_some};
 ghost use Rattle.std.specs.Option.{option_copied};
-ghost use Rattle.kube_types.specs.Bindings.{is_available, is_empty, is_released};
+ghost use Rattle.kube_types.specs.Bindings.{is_available, is_empty, is_ended};
 ghost use Rattle.binder_model.specs.BinderDue.{is_reclaimed};
 ghost use Rattle.volume_sync.specs.VolumeDecision.{has_uid, is_settled, names, names_none, conditions_on, volume_decision};
 
@@ -61,7 +61,7 @@ fn has_uid(volume: &Volume) -> bool
 }
 
 fn is_released(phase: VolumePhase) -> bool
-    ensures { result ≡ is_released phase }
+    ensures { result ≡ is_ended phase }
 {
     match phase {
         VolumePhase::Released | VolumePhase::Failed => true,

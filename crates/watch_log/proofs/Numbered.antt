@@ -7,7 +7,7 @@ use Rattle.kube_types.specs.declared.parts.Kind.{Kind}
 use Rattle.kube_types.specs.Keys.{is_of_kind}
 use Rattle.call_types.specs.declared.reply.Event.{Event}
 use Rattle.call_types.specs.declared.reply.Events.{Events}
-use Rattle.binder_model.specs.Watching.{window, most_events, oldest, is_later, told_events, last_version, reached}
+use Rattle.binder_model.specs.Watching.{window, most_events, oldest, is_later, told_events, last_version, reached_version}
 use Rattle.watch_log.specs.Kept.{Log, AreAll, StandsFor, AreLast, IsWindow, is_event_of, events_among}
 
 not_later : (a b : ℕ) → b ≤ a → nat_lt a b ≡ false
@@ -55,18 +55,18 @@ within kind from version es a old new =
 
 told_of_window : (kind : Kind) (from : ℕ) (log : Log) (es : List Event) → StandsFor log es → oldest log.version ≤ from → from ≤ log.version → told_events kind from log.version log.events ≡ told_events kind from log.version es
 told_of_window kind from log es s old new =
-    rw s.kept (ap (λ xs. record { events = take most_events (reverse xs); upto = reached log.version (take most_events (reverse xs)) }) (within kind from log.version es s.all old new))
+    rw s.kept (ap (λ xs. record { events = take most_events (reverse xs); upto = reached_version log.version (take most_events (reverse xs)) }) (within kind from log.version es s.all old new))
 
 pub told_of_window_answers : (kind : Kind) (from : ℕ) (log : Log) (told : Events) → told ≡ told_events kind from log.version log.events → oldest log.version ≤ from → from ≤ log.version → (es : List Event) → StandsFor log es → told ≡ told_events kind from log.version es
 told_of_window_answers kind from log told is old new es s = is ∙ told_of_window kind from log es s old new
 
 -- the answer by the newest events
-told_among : (kind : Kind) (from version : ℕ) (es : List Event) → IsWindow version es → from ≤ version → told_events kind from version es ≡ record { events = take most_events (events_among kind (version - from) es); upto = reached version (take most_events (events_among kind (version - from) es)) }
+told_among : (kind : Kind) (from version : ℕ) (es : List Event) → IsWindow version es → from ≤ version → told_events kind from version es ≡ record { events = take most_events (events_among kind (version - from) es); upto = reached_version version (take most_events (events_among kind (version - from) es)) }
 told_among kind from version es w new =
-    ap (λ xs. record { events = take most_events (reverse xs); upto = reached version (take most_events (reverse xs)) }) (after_among kind from version (version - from) es w.last (omega (arith, new)))
+    ap (λ xs. record { events = take most_events (reverse xs); upto = reached_version version (take most_events (reverse xs)) }) (after_among kind from version (version - from) es w.last (omega (arith, new)))
 
 -- the answer, as the code makes it
-pub told_answer : (kind : Kind) (from version : ℕ) (es told seen : List Event) (upto : ℕ) → IsWindow version es → from ≤ version → told ≡ take most_events (events_among kind (version - from) es) → seen ≡ told → upto ≡ reached version seen → (◌≡◌ {A = Events} (record { events = told; upto = upto }) (told_events kind from version es))
+pub told_answer : (kind : Kind) (from version : ℕ) (es told seen : List Event) (upto : ℕ) → IsWindow version es → from ≤ version → told ≡ take most_events (events_among kind (version - from) es) → seen ≡ told → upto ≡ reached_version version seen → (◌≡◌ {A = Events} (record { events = told; upto = upto }) (told_events kind from version es))
 told_answer kind from version es told seen upto w new is same to = rw (to, same, is) (sym (told_among kind from version es w new))
 
 -- one event more
@@ -110,5 +110,5 @@ last_of version (x ∷ y ∷ es) zero e is = absurd (omega (arith, is))
 last_of version [] n e is = absurd (omega (arith, is))
 
 -- a full answer reaches to its last event
-pub reached_full : (version : ℕ) (es : List Event) (e : Event) → length es ≡ most_events → (get_or es 63 e).version ≡ reached version es
+pub reached_full : (version : ℕ) (es : List Event) (e : Event) → length es ≡ most_events → (get_or es 63 e).version ≡ reached_version version es
 reached_full version es e is = let at = last_of version es 63 e is in rw is (sym at)

@@ -3,7 +3,7 @@
 ghost use Rattle.std.specs.Prelude.{◌≡◌, ◌+◌, ◌-◌, ◌<◌, ◌≤◌, List, [], ◌∷◌, Err, IfOk, IfErr, OnOk, length, min, take};
 ghost use Rattle.std.specs.VecDeque.{deque_len, deque_capacity};
 ghost use Rattle.call_types.specs.declared.reply.Event.{Event};
-ghost use Rattle.binder_model.specs.Watching.{window, most_events, oldest, told_events, reached};
+ghost use Rattle.binder_model.specs.Watching.{window, most_events, oldest, told_events, reached_version};
 ghost use Rattle.watch_log.specs.declared.log.LogError.TheVariants.{Gone, Ahead, OutOfMemory as NoMemory};
 ghost use Rattle.watch_log.specs.Kept.{IsWindow, StandsFor, events_among, is_event_of};
 
@@ -109,7 +109,7 @@ fn events_among(
 /// A full answer reaches to its last event, any other to the version.
 #[tactic(auto, using(crate::proofs::Numbered::reached_full))]
 fn reached(version: Version, told: &[Event]) -> Version
-    ensures { result ≡ reached version told.now }
+    ensures { result ≡ reached_version version told.now }
 {
     if told.len() != MOST_EVENTS {
         return version;

@@ -4,16 +4,16 @@ use Rattle.plain_data.specs.declared.copies.OutOfMemory.{OutOfMemory}
 use Rattle.kube_types.specs.declared.objects.Object.{Object}
 use Rattle.kube_types.specs.declared.key.Key.{Key}
 use Rattle.kube_types.specs.Keys.{key_of, AreRows, IsRowAt, IsRowGap, put_row}
-use Rattle.plain_data.specs.Rows.{placed}
+use Rattle.plain_data.specs.Rows.{placed_row}
 use Rattle.kube_types.proofs.KeyOrder.{key_cmp_total}
 use Rattle.kube_types.proofs.table.put_in.Goals as goal
 
 -- what is put at its place is put in order
-placed_is : (rows : List Object) (k : Key) (place : Result ℕ ℕ) (o : Object) → key_of o ≡ k → IfOk place (IsRowAt rows k) → IfErr place (IsRowGap rows k) → put_row o rows ≡ placed rows place o
+placed_is : (rows : List Object) (k : Key) (place : Result ℕ ℕ) (o : Object) → key_of o ≡ k → IfOk place (IsRowAt rows k) → IfErr place (IsRowGap rows k) → put_row o rows ≡ placed_row rows place o
 placed_is rows k (Ok i) o e at gap = put_at key_cmp_total key_of k o e rows i at
 placed_is rows k (Err i) o e at gap = put_gap key_cmp_total key_of k o e rows i gap
 
-ok_part : (r : Result Object OutOfMemory) (old new : List Object) (k : Key) (place : Result ℕ ℕ) (o : Object) → put_row o old ≡ placed old place o → OnOk r (new ≡ placed old place o) → OnOk r (new ≡ put_row o old)
+ok_part : (r : Result Object OutOfMemory) (old new : List Object) (k : Key) (place : Result ℕ ℕ) (o : Object) → put_row o old ≡ placed_row old place o → OnOk r (new ≡ placed_row old place o) → OnOk r (new ≡ put_row o old)
 ok_part (Ok x) old new k place o is h = h ∙ sym is
 ok_part (Err e) old new k place o is h = tt
 

@@ -1,20 +1,20 @@
 use Rattle.std.proofs.Common.{sym, subst, ◌∙◌}
 use Rattle.std.proofs.lemmas.Cmp.{nat_list_cmp_total}
-use Rattle.plain_data.specs.Pairs.{key_of, ArePairs}
+use Rattle.plain_data.specs.Pairs.{pair_key, ArePairs}
 use Rattle.plain_data.proofs.RowFacts.{without_at, without_gap, rising_without}
 use Rattle.plain_data.proofs.pairs.drop_in.Goals as goal
 
 pub returns-in-Ok-clause-without : goal.returns-in-Ok-clause-without
 returns-in-Ok-clause-without c =
     let at = rw c.deref.ensures.value at c.in-Ok.ensures.at in
-    c.remove.ensures.items ∙ sym (without_at nat_list_cmp_total key_of _ _ _ at)
+    c.remove.ensures.items ∙ sym (without_at nat_list_cmp_total pair_key _ _ _ at)
 
 pub returns-in-Ok-clause-rising : goal.returns-in-Ok-clause-rising
 returns-in-Ok-clause-rising c =
     let at = rw c.deref.ensures.value at c.in-Ok.ensures.at in
-    rw c.remove.ensures.items (subst ArePairs (without_at nat_list_cmp_total key_of _ _ _ at) (rising_without nat_list_cmp_total key_of c.args.key.now _ c.requires))
+    rw c.remove.ensures.items (subst ArePairs (without_at nat_list_cmp_total pair_key _ _ _ at) (rising_without nat_list_cmp_total pair_key c.args.key.now _ c.requires))
 
 pub returns-in-Err-clause-without : goal.returns-in-Err-clause-without
 returns-in-Err-clause-without c =
     let gap = rw c.deref.ensures.value at c.in-Err.ensures.gap in
-    sym (without_gap nat_list_cmp_total key_of _ _ _ c.requires gap)
+    sym (without_gap nat_list_cmp_total pair_key _ _ _ c.requires gap)
