@@ -25,6 +25,7 @@ pub fn print_replay(alloc: Global, run: &Run) -> Result<Bytes, OutOfMemory>
     let setup = Setup {
         pools: Items::new(alloc),
         faults: Items::new(alloc),
+        imports: Items::new(alloc),
     };
     let summary = summary_of(run.objects(), run.version(), 0, 0, 0, Ending::Settled);
     let mut lines = Lines::new(alloc);

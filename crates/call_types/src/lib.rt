@@ -6,5 +6,3 @@ pub mod entry;
 pub mod reply;
 pub mod request;
 pub mod setup;
-#[cfg(test)]
-mod tests;

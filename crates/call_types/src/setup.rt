@@ -2,6 +2,7 @@
 
 use kube_types::copies::{OutOfMemory, Plain, copy_option, same_option};
 use kube_types::items::Items;
+use kube_types::objects::Object;
 use kube_types::text::Text;
 use std::alloc::Global;
 
@@ -47,19 +48,25 @@ impl Plain for Pool {
     }
 }
 
-/// What is there before the first call: the pools in their order, and the numbers of the
-/// Provision and Erase calls that fail.
+/// What is there before the first call: the pools in their order, the numbers of the Provision and
+/// Erase calls that fail, and the objects of an older store, in the order in which they were read.
 #[derive(Debug)]
 pub struct Setup {
     pub pools: Items<Pool>,
     pub faults: Items<u64>,
+    pub imports: Items<Object>,
 }
 
 impl Drop for Setup {
     fn drop(self) {
-        let Setup { pools, faults } = self;
+        let Setup {
+            pools,
+            faults,
+            imports,
+        } = self;
         drop(pools);
         drop(faults);
+        drop(imports);
     }
 }
 
@@ -68,10 +75,13 @@ impl Plain for Setup {
         Ok(Setup {
             pools: self.pools.copy(alloc)?,
             faults: self.faults.copy(alloc)?,
+            imports: self.imports.copy(alloc)?,
         })
     }
 
     fn same(&self, other: &Setup) -> bool {
-        self.pools.same(&other.pools) && self.faults.same(&other.faults)
+        self.pools.same(&other.pools)
+            && self.faults.same(&other.faults)
+            && self.imports.same(&other.imports)
     }
 }

@@ -72,13 +72,14 @@ pub fn is_for_devices(request: &Request) -> bool
 impl Devices {
     /// Devices without data, epochs or mounts.
     pub fn new(alloc: Global, pools: &[Pool], faults: &[u64]) -> Result<Devices, OutOfMemory>
-        ensures { IfOk result (λ d. d ≡ record { setup = record { pools = pools.now; faults = faults.now }; devices = no_devices }) }
+        ensures { IfOk result (λ d. d ≡ record { setup = record { pools = pools.now; faults = faults.now; imports = [] }; devices = no_devices }) }
     {
         Ok(Devices {
             alloc,
             setup: Setup {
                 pools: Items::from_vec(copy_all(alloc, pools)?),
                 faults: Items::from_vec(copy_all(alloc, faults)?),
+                imports: Items::new(alloc),
             },
             stored: Vec::new(alloc),
             epochs: Vec::new(alloc),

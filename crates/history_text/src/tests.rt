@@ -275,6 +275,7 @@ fn empty_setup(alloc: Global) -> Setup {
     Setup {
         pools: Items::new(alloc),
         faults: Items::new(alloc),
+        imports: Items::new(alloc),
     }
 }
 

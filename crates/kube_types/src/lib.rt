@@ -13,6 +13,3 @@ pub mod table;
 pub mod uid;
 
 pub use plain_data::{copies, items, pairs, rows, text};
-
-#[cfg(test)]
-mod tests;

@@ -40,7 +40,7 @@ use Rattle.binder_model.specs.Matching.{eligible, match_cmp}
 use Rattle.binder_model.specs.World.{World, no_world, first_moment, effect, reply_to, world_after}
 
 abbrev pub no_setup : Setup
-no_setup = record { pools = []; faults = [] }
+no_setup = record { pools = []; faults = []; imports = [] }
 
 pub record Call : Type 0 where
   pub kind : SeatKind

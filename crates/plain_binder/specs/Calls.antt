@@ -22,7 +22,7 @@ use Rattle.binder_model.specs.BinderDue.{binder_due}
 
 -- nothing but the store: no pools, no faults
 abbrev pub no_setup : Setup
-no_setup = record { pools = []; faults = [] }
+no_setup = record { pools = []; faults = []; imports = [] }
 
 -- a volume that no user has bound, in no namespace, that carries no annotation and no finalizer
 pub record IsPlainVolume (v : VolumeData) : Type 0 where

@@ -5,6 +5,4 @@ pub mod copies;
 pub mod items;
 pub mod pairs;
 pub mod rows;
-#[cfg(test)]
-mod tests;
 pub mod text;
