@@ -75,6 +75,20 @@ impl Plain for Field {
     }
 }
 
+/// Why an object of an older store is not imported. `Value` is the first invalid field of the
+/// object; `ClaimRef` and `Phase` speak of it together with the objects that were imported before it.
+#[derive(Clone, Copy, Debug, PartialEq, Eq)]
+pub enum ImportFault {
+    MissingUid,
+    Version,
+    Serial,
+    Value(Field),
+    NameAgain,
+    UidAgain,
+    ClaimRef,
+    Phase,
+}
+
 /// A rule of the guard on what a user may write.
 #[derive(Clone, Copy, Debug, PartialEq, Eq)]
 pub enum Rule {
