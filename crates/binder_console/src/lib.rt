@@ -11,5 +11,3 @@ mod plain_members;
 mod plain_objects;
 mod printing;
 pub mod status;
-#[cfg(test)]
-mod tests;

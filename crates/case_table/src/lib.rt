@@ -5,8 +5,6 @@ mod conditions;
 mod overlaps;
 mod rows;
 mod table;
-#[cfg(test)]
-mod tests;
 
 pub use rows::{CaseRow, Need};
 pub use table::{Table, TableError};

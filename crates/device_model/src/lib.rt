@@ -5,5 +5,3 @@ pub mod devices;
 pub mod kept;
 mod nodes;
 mod pools;
-#[cfg(test)]
-mod tests;

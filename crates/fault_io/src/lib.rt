@@ -5,5 +5,3 @@ pub mod ends;
 pub mod gate;
 pub mod memory;
 pub mod standard;
-#[cfg(test)]
-mod tests;

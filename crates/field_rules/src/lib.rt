@@ -9,6 +9,3 @@ mod user_writes;
 pub use crate::admission::{add_finalizer, admit};
 pub use crate::faults::{check_create, check_new, check_update};
 pub use crate::user_writes::guard;
-
-#[cfg(test)]
-mod tests;

@@ -93,6 +93,3 @@ fn leave_if(leaves: bool) -> Fate
 {
     if leaves { Fate::Leave } else { Fate::Keep }
 }
-
-#[cfg(test)]
-mod tests;

@@ -7,5 +7,3 @@ pub mod entries;
 pub mod lines;
 pub mod replies;
 pub mod summaries;
-#[cfg(test)]
-mod tests;

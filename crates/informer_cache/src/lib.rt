@@ -9,6 +9,4 @@ pub mod marks;
 mod merge;
 pub mod rows;
 mod tell;
-#[cfg(test)]
-mod tests;
 pub mod told;

@@ -14,8 +14,4 @@ pub mod part_readers;
 pub mod parts;
 pub mod print;
 pub mod reading;
-#[cfg(test)]
-mod reading_tests;
 pub mod rows;
-#[cfg(test)]
-mod tests;

@@ -4,8 +4,6 @@
 mod binder;
 mod plain;
 mod run;
-#[cfg(test)]
-mod tests;
 
 pub use plain::replay;
 pub use run::Run;

@@ -6,8 +6,6 @@ mod digits;
 mod errors;
 mod laws;
 mod scales;
-#[cfg(test)]
-mod tests;
 
 pub use crate::amounts::{amount_bytes, read_amount};
 pub use crate::errors::AmountError;

@@ -4,5 +4,3 @@
 mod lanes;
 pub mod queue;
 mod slot;
-#[cfg(test)]
-mod tests;

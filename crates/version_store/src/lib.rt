@@ -24,13 +24,9 @@ macro_rules! set_meta {
     };
 }
 
-#[cfg(test)]
-mod asks;
 mod classes;
 mod edits;
 pub mod outcome;
 pub mod store;
-#[cfg(test)]
-mod tests;
 mod verbs;
 mod writes;
