@@ -62,7 +62,7 @@ update_changes : (s : State) (kind : SeatKind) (o : Object) (given : Option ℕ)
 unfolding update
 update_changes s kind o given None is = says (λ r. tt) _
 update_changes s kind o given (Some old) is =
-    refused_or (λ r. tt) _ _ _ (rule_or (λ r. tt) _ _ (field_or (λ r. tt) _ _ (λ e. wrote s.rows (key_of o) old _ is (key-updated_object old o _) (updated_keeps old o _ e))))
+    refused_or (λ r. tt) _ _ _ (rule_or (λ r. tt) _ _ (field_or (λ r. tt) _ _ (λ e. wrote s.rows (key_of o) old _ is (key-updated old o _) (updated_keeps old o _ e))))
 
 if_fits : (s : State) (key : Key) (old : Object) (x : Option Object) → row_at key s.rows ≡ Some old → IsVersionOf old x → IsChange s.rows (written_if_fits s x)
 unfolding written_if_fits
@@ -79,7 +79,7 @@ edit_to_changes : (s : State) (kind : SeatKind) (key : Key) (old : Object) (x : 
 unfolding edit_to
 edit_to_changes s kind key old None is k = says (λ r. tt) _
 edit_to_changes s kind key old (Some new) is k =
-    rule_or (λ r. tt) _ _ (field_or (λ r. tt) _ _ (λ e. wrote s.rows key old _ is (key-updated_object old new _ ∙ k ∙ row_at_key key old s.rows is) (updated_keeps old new _ e)))
+    rule_or (λ r. tt) _ _ (field_or (λ r. tt) _ _ (λ e. wrote s.rows key old _ is (key-updated old new _ ∙ k ∙ row_at_key key old s.rows is) (updated_keeps old new _ e)))
 
 edit_changes : (s : State) (kind : SeatKind) (key : Key) (change : Edit) (x : Option Object) → row_at key s.rows ≡ x → IsChange s.rows (edit s kind change x)
 unfolding edit
@@ -90,7 +90,7 @@ delete_of_changes : (s : State) (moment : List ℕ) (key : Key) (old : Object) (
 unfolding delete_of
 delete_of_changes s moment key old true deleting is d = record { holds = tt }
 delete_of_changes s moment key old false true is d = says (λ r. tt) _
-delete_of_changes s moment key old false false is d = wrote s.rows key old _ is (key-marked_object old _ moment ∙ row_at_key key old s.rows is) (marked_keeps old _ moment d)
+delete_of_changes s moment key old false false is d = wrote s.rows key old _ is (key-marked old _ moment ∙ row_at_key key old s.rows is) (marked_keeps old _ moment d)
 
 delete_changes : (s : State) (moment : List ℕ) (key : Key) (given : Option Uid) (x : Option Object) → row_at key s.rows ≡ x → IsChange s.rows (delete s moment given x)
 unfolding delete

@@ -82,17 +82,17 @@ names-with_status_of (Volume a) (Volume b) n = tt
 names-with_status_of (Claim a) (Claim b) n = n
 names-with_status_of old new n = n
 
-pub key-updated_object : (old new : Object) (n : ℕ) → key_of (updated_object old new n) ≡ key_of new
+pub key-updated : (old new : Object) (n : ℕ) → key_of (updated_object old new n) ≡ key_of new
 unfolding updated_object
-key-updated_object old new n = key-with_meta (with_status_of old new) _ refl refl ∙ key-with_status_of old new
+key-updated old new n = key-with_meta (with_status_of old new) _ refl refl ∙ key-with_status_of old new
 
 pub key-at_version : (o : Object) (n : ℕ) → key_of (at_version o n) ≡ key_of o
 unfolding at_version
 key-at_version o n = key-with_meta o _ refl refl
 
-pub key-marked_object : (o : Object) (n : ℕ) (moment : List ℕ) → key_of (marked_object o n moment) ≡ key_of o
+pub key-marked : (o : Object) (n : ℕ) (moment : List ℕ) → key_of (marked_object o n moment) ≡ key_of o
 unfolding marked_object
-key-marked_object o n moment = key-with_meta o _ refl refl
+key-marked o n moment = key-with_meta o _ refl refl
 
 faulty_none : (b : Bool) (f : Field) (next : Option Field) → faulty b f next ≡ None → (b ≡ false) × (next ≡ None)
 unfolding faulty
@@ -188,6 +188,6 @@ admitted_key default (Volume x) = refl
 admitted_key default (Claim x) = refl
 admitted_key default (Pod x) = refl
 
-pub key-created_object : (default : Option (List ℕ)) (o : Object) (n : ℕ) (moment : List ℕ) → key_of (created_object default o n moment) ≡ key_of o
+pub key-created : (default : Option (List ℕ)) (o : Object) (n : ℕ) (moment : List ℕ) → key_of (created_object default o n moment) ≡ key_of o
 unfolding created_object
-key-created_object default o n moment = key-with_meta (admitted_object default (without_status o)) _ refl refl ∙ admitted_key default o
+key-created default o n moment = key-with_meta (admitted_object default (without_status o)) _ refl refl ∙ admitted_key default o
