@@ -1,4 +1,8 @@
-//! Calls on the world, and the entries of its history.
+//! Calls on the world: requests, replies, refusals, edits, and the entries of a history; and the setup
+//! with which a world begins.
+//!
+//! Promises: a copy equals its source and `same` is equality, of each (`Plain`). Not said: which reply a
+//! request gets. That is `binder_model`'s to define and the store's and the devices' to give.
 #![tactic(auto)]
 
 pub mod edit;
