@@ -45,18 +45,22 @@ kind_back kinds.PersistentVolume = refl
 kind_back kinds.PersistentVolumeClaim = refl
 kind_back kinds.Pod = refl
 
+-- kinds are told apart by their places
+pub kinds_alike : (a b : Kind) → kind_index a ≡ kind_index b → a ≡ b
+kinds_alike a b e = sym (kind_back a) ∙ ap kind_at e ∙ kind_back b
+
 -- the order tells all keys apart
-pub same_key : (a b : Key) → key_cmp a b ≡ Equal → a ≡ b
-same_key a b e =
+pub equal_keys : (a b : Key) → key_cmp a b ≡ Equal → a ≡ b
+equal_keys a b e =
     let outer = both_equal _ _ e in
     let inner = both_equal _ _ outer.0 in
-    let kind : a.kind ≡ b.kind = sym (kind_back a.kind) ∙ ap kind_at (exact_unsigned _ _ inner.0) ∙ kind_back b.kind in
+    let kind : a.kind ≡ b.kind = kinds_alike a.kind b.kind (exact_unsigned _ _ inner.0) in
     let namespace : a.namespace ≡ b.namespace = exact_bytes _ _ inner.1 in
     let name : a.name ≡ b.name = exact_bytes _ _ outer.1 in
     λ i. record { kind = kind i; namespace = namespace i; name = name i }
 
-other_key : (a b : Key) → a ≢ b → is_eq (key_cmp a b) ≡ false
-other_key a b differs = by (key_cmp a b) (same_key a b)
+pub other_key : (a b : Key) → a ≢ b → is_eq (key_cmp a b) ≡ false
+other_key a b differs = by (key_cmp a b) (equal_keys a b)
   where
     by : (r : Ordering) → (r ≡ Equal → a ≡ b) → is_eq r ≡ false
     by Less h = refl
@@ -77,4 +81,4 @@ row_at-without_row_other k j os differs = find-without_other key_cmp_total key_o
 
 -- the row at a key has that key
 pub row_at_key : (k : Key) (o : Object) (os : List Object) → row_at k os ≡ Some o → key_of o ≡ k
-row_at_key k o os h = same_key (key_of o) k (found_key key_cmp_total key_of k o os h)
+row_at_key k o os h = equal_keys (key_of o) k (found_key key_cmp_total key_of k o os h)

@@ -1,5 +1,5 @@
 -- Keys of objects, in order.
-use Rattle.std.specs.Prelude.{ℕ, ◌==◌, ◌<◌, ◌≤◌, List, Option, Bool, filter}
+use Rattle.std.specs.Prelude.{ℕ, ◌==◌, ◌<◌, ◌≤◌, ◌&&◌, List, Option, Bool, bytes_eq, filter}
 use Rattle.std.specs.List.Sorted.{IsPartitionPoint}
 use Rattle.std.specs.declared.cmp.Ordering.{Ordering}
 use Rattle.std.specs.Ordering.{nat_cmp, ordering_then}
@@ -36,8 +36,16 @@ kind_index PersistentVolume = 2
 kind_index PersistentVolumeClaim = 3
 kind_index kinds.Pod = 4
 
+-- whether two kinds are one
+abbrev pub same_kind : Kind → Kind → Bool
+same_kind a b = kind_index a == kind_index b
+
 abbrev pub key_of : Object → Key
 key_of o = record { kind = kind_of o; namespace = (meta_of o).namespace; name = (meta_of o).name }
+
+-- whether two keys are one. Kubernetes object names and IDs: one object of a kind has a given name at a time in a namespace
+abbrev pub same_key : Key → Key → Bool
+same_key a b = same_kind a.kind b.kind && bytes_eq a.namespace b.namespace && bytes_eq a.name b.name
 
 -- by kind, then namespace, then name: a choice of this project
 abbrev pub key_cmp : Key → Key → Ordering
@@ -63,7 +71,7 @@ abbrev pub IsRowGap : List Object → Key → ℕ → Type 0
 IsRowGap os k i = IsGap key_cmp key_of k os i
 
 abbrev pub is_of_kind : Kind → Object → Bool
-is_of_kind kind o = kind_index (kind_of o) == kind_index kind
+is_of_kind kind o = same_kind (kind_of o) kind
 
 -- the objects of a kind, in the order of namespace and name
 abbrev pub rows_of : Kind → List Object → List Object

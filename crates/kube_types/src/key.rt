@@ -1,7 +1,7 @@
 //! Keys of objects, and their order.
 
 ghost use Rattle.std.specs.Prelude.{◌≡◌, ◌<◌, IfOk};
-ghost use Rattle.kube_types.specs.Keys.{kind_index, kind_of, meta_of, key_of, key_cmp};
+ghost use Rattle.kube_types.specs.Keys.{kind_index, kind_of, meta_of, key_of, key_cmp, same_key, same_kind};
 
 use crate::objects::{Meta, Object};
 use crate::parts::Kind;
@@ -97,6 +97,22 @@ pub fn kind_index(kind: Kind) -> u8
         Kind::PersistentVolumeClaim => 3,
         Kind::Pod => 4,
     }
+}
+
+/// Whether two kinds are one.
+pub fn same_kind(left: Kind, right: Kind) -> bool
+    ensures { result ≡ same_kind left right }
+{
+    kind_index(left) == kind_index(right)
+}
+
+/// Whether two keys are one.
+pub fn same_key(left: &Key, right: &Key) -> bool
+    ensures { result ≡ same_key left.now right.now }
+{
+    same_kind(left.kind, right.kind)
+        && left.namespace.as_str() == right.namespace.as_str()
+        && left.name.as_str() == right.name.as_str()
 }
 
 /// The key of an object.
