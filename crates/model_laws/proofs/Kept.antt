@@ -9,7 +9,7 @@ use Rattle.kube_types.specs.declared.key.Key.{Key}
 use Rattle.kube_types.specs.declared.objects.Object.{Object}
 use Rattle.kube_types.specs.declared.objects.Object.TheVariants.{Class, Node, Volume, Claim, Pod}
 use Rattle.kube_types.specs.Keys.{AreRows, key_cmp, key_of, row_at, put_row, without_row}
-use Rattle.kube_types.proofs.KeyOrder.{key_cmp_total, same_key, row_at-put_row, row_at-put_row_other, row_at-without_row, row_at-without_row_other}
+use Rattle.kube_types.proofs.KeyOrder.{key_cmp_total, equal_keys, row_at-put_row, row_at-put_row_other, row_at-without_row, row_at-without_row_other}
 use Rattle.binder_model.specs.Store.{State}
 use Rattle.binder_model.specs.Answers.{Outcome, Says, Stores, Removes, after}
 use Rattle.binder_model.specs.World.{World, Effect, OnStore, OnDevices, SetsMoment, effect, world_after, on_devices, set_time, watch}
@@ -26,7 +26,7 @@ key_tells a b = by (key_cmp a b) refl
 
     by : (r : Ordering) → key_cmp a b ≡ r → (a ≡ b) ⊎ (a ≢ b)
     by Less e = inr (apart Less e refl)
-    by Equal e = inl (same_key a b e)
+    by Equal e = inl (equal_keys a b e)
     by Greater e = inr (apart Greater e refl)
 
 names-own : (o : Object) → NamesOnce o o
