@@ -2,7 +2,8 @@
 -- mounts, a choice of this project. The newest data stand first.
 use Rattle.std.specs.Prelude.{ℕ, ◌+◌, ◌-◌, ◌==◌, nat_le, max, Bool, true, false, not, ◌&&◌, List, [], ◌∷◌, ◌++◌, Option, Some, None, bytes_eq, codes, decimal, length, filter, map, if◌then◌else◌}
 use Rattle.std.specs.List.{list_any}
-use Rattle.plain_data.specs.Pairs.{Pair, value_at}
+use Rattle.std.specs.Ordering.{is_gt}
+use Rattle.plain_data.specs.Pairs.{Pair, text_cmp, value_at}
 use Rattle.kube_types.specs.declared.uid.Uid.{Uid}
 use Rattle.kube_types.specs.declared.objects.DataId.{DataId}
 use Rattle.call_types.specs.declared.setup.Pool.{Pool}
@@ -28,8 +29,8 @@ pub record MountAt : Type 0 where
   pub node : List ℕ
   pub row : MountRow
 
--- `epochs` begins with the last that was taken; `mounts` stand in the order of mounting;
--- `calls` counts the Provision and Erase calls
+-- `epochs` begins with the last that was taken; `mounts` stand by node, in the order of texts, and on a node in the
+-- order of mounting; `calls` counts the Provision and Erase calls
 pub record Devices : Type 0 where
   pub stored : List Data
   pub epochs : List (List ℕ × ℕ)
@@ -65,10 +66,18 @@ rows_on node (m ∷ ms) = if bytes_eq m.node node then m.row ∷ rows_on node ms
 abbrev pub is_mounted_on : List ℕ → Uid → List MountAt → Bool
 is_mounted_on node pod mounts = list_any (λ r. same_uid r.pod pod) (rows_on node mounts)
 
+-- the row's node is not after this one, in the order of texts
+abbrev pub is_up_to : List ℕ → MountAt → Bool
+is_up_to node m = not (is_gt (text_cmp m.node node))
+
+-- the new row stands behind the rows of its node and of the nodes before it
+abbrev pub put_mount : MountAt → List MountAt → List MountAt
+put_mount new mounts = filter (is_up_to new.node) mounts ++ new ∷ filter (λ m. not (is_up_to new.node m)) mounts
+
 -- a pod that is mounted stays as it is
 abbrev pub with_mount : List ℕ → Uid → List Uid → List MountAt → List MountAt
 with_mount node pod claims mounts =
-    if is_mounted_on node pod mounts then mounts else mounts ++ (record { node = node; row = record { pod = pod; claims = claims } }) ∷ []
+    if is_mounted_on node pod mounts then mounts else put_mount (record { node = node; row = record { pod = pod; claims = claims } }) mounts
 
 abbrev pub without_mount : List ℕ → Uid → List MountAt → List MountAt
 without_mount node pod mounts = filter (λ m. not (bytes_eq m.node node && same_uid m.row.pod pod)) mounts
