@@ -1,5 +1,6 @@
 pub mod Bindings
 pub mod Keys
+pub mod Named
 pub mod Sources
 pub mod Uids
 pub mod Words

@@ -17,5 +17,6 @@ pub mod parts;
 pub mod plain;
 pub mod table;
 pub mod uid;
+pub mod words;
 
 pub use plain_data::{copies, items, pairs, rows, text};
