@@ -1,5 +1,6 @@
 pub mod Bindings
 pub mod Keys
+pub mod Lookups
 pub mod Named
 pub mod Sources
 pub mod Uids

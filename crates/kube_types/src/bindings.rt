@@ -1,10 +1,11 @@
 //! The words of bindings: classes, completed, for, carries, protected.
 
 ghost use Rattle.std.specs.Prelude.{◌≡◌};
-ghost use Rattle.kube_types.specs.Bindings.{carries, class_of_claim, class_of_volume, is_completed, is_deleting, is_for, is_protected_claim, is_protected_volume, is_scheduled, is_uid, names_claim};
+ghost use Rattle.kube_types.specs.Bindings.{carries, class_of_claim, class_of_volume, is_completed, is_deleting, is_empty, is_for, is_protected_claim, is_protected_volume, is_scheduled, is_uid, names_claim};
 
 use crate::objects::{Claim, Meta, Pod, Ref, Volume};
 use crate::uid::Uid;
+use plain_data::text::Text;
 
 /// The annotation of a claim whose binding was written whole.
 pub const BIND_COMPLETED: &str = "pv.kubernetes.io/bind-completed";
@@ -48,6 +49,14 @@ pub fn class_of_claim(claim: &Claim) -> &str
             None => "",
         },
     }
+}
+
+/// Whether the text is empty.
+#[tactic(auto, using(crate::proofs::EmptyTexts::is_empty_by_length))]
+pub fn is_empty(text: &Text) -> bool
+    ensures { result ≡ is_empty text.now }
+{
+    text.as_str().is_empty()
 }
 
 /// Whether the binding of the claim was written whole.

@@ -3,6 +3,7 @@
 ghost use Rattle.std.specs.Prelude.{◌≡◌, List, length, slice_get};
 ghost use Rattle.std.specs.Option.{option_copied};
 ghost use Rattle.kube_types.specs.Keys.{AreRows, row_at, rows_of};
+ghost use Rattle.kube_types.specs.Lookups.{is_asked, is_present};
 ghost use Rattle.kube_types.specs.declared.objects.Object.{Object};
 
 use crate::key::Key;
@@ -35,4 +36,26 @@ pub enum Live<'a> {
     NotAsked,
     Absent,
     Present(&'a Object),
+}
+
+impl<'a> Live<'a> {
+    /// Whether the read was made.
+    pub fn is_asked(self) -> bool
+        ensures { result ≡ is_asked self.entry }
+    {
+        match self {
+            Live::NotAsked => false,
+            Live::Absent | Live::Present(_) => true,
+        }
+    }
+
+    /// Whether the read found an object.
+    pub fn is_present(self) -> bool
+        ensures { result ≡ is_present self.entry }
+    {
+        match self {
+            Live::NotAsked | Live::Absent => false,
+            Live::Present(_) => true,
+        }
+    }
 }
