@@ -1,0 +1,5 @@
+pub mod Rows
+pub mod Claims
+pub mod Users
+pub mod Allowed
+pub mod Runs

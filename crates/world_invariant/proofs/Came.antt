@@ -1,0 +1,175 @@
+-- Where what stood in the store came from at the newest entry.
+use Rattle.std.proofs.Common.{sym, refl, inl, inr, ap, ◌∙◌, arith}
+use Rattle.std.specs.Prelude.{ℕ, ◌≡◌, ◌⊎◌, ◌+◌, ◌≤◌, List, [], ◌∷◌, Option, Some, unwrap_or}
+use Rattle.kube_types.specs.declared.uid.Uid.{Uid}
+use Rattle.kube_types.specs.declared.key.Key.{Key}
+use Rattle.kube_types.specs.declared.objects.Volume.{Volume as VolumeData}
+use Rattle.kube_types.specs.declared.objects.Claim.{Claim as ClaimData}
+use Rattle.kube_types.specs.declared.objects.Object.{Object}
+use Rattle.kube_types.specs.declared.objects.Object.TheVariants.{Class, Node, Volume, Claim, Pod}
+use Rattle.kube_types.specs.Keys.{meta_of, key_of, kind_index, row_at}
+use Rattle.kube_types.specs.Uids.{uid_of_serial}
+use Rattle.kube_types.proofs.KeyOrder.{row_at_key}
+use Rattle.kube_types.proofs.UidTexts.{serials_apart}
+use Rattle.call_types.specs.declared.entry.Entry.{Entry}
+use Rattle.call_types.specs.declared.setup.Setup.{Setup}
+use Rattle.binder_model.specs.World.{World, world, effect}
+use Rattle.model_laws.specs.Histories.{NamesOnce}
+use Rattle.world_moves.specs.Whence.{IsFirst, IsNext}
+use Rattle.world_moves.specs.Moves.{IsWritten}
+use Rattle.world_moves.proofs.Moves.{one}
+use Rattle.world_invariant.specs.Was.{Stands, Was, KindStep, Made, VolumeStep, VolumeStart, ClaimStep, ClaimStart}
+use Rattle.world_invariant.specs.Invariant.{IsOld, IsLater}
+use Rattle.world_invariant.specs.Good.{MovesAt}
+
+abbrev pub WrittenAt : Setup → Entry → List Entry → Object → Type 0
+WrittenAt setup e past o = IsWritten (world setup past) (effect setup (world setup past) e.kind e.request) (Made setup past) o
+
+-- what stands now was there
+pub stood : (setup : Setup) (past : List Entry) (o : Object) → Stands (world setup past) o → Was setup past o
+stood setup [] o is = is
+stood setup (e ∷ past) o is = inr is
+
+pub row_stands : (w : World) (k : Key) (o : Object) → row_at k w.store.rows ≡ Some o → Stands w o
+row_stands w k o is = ap (λ j. row_at j w.store.rows) (row_at_key k o w.store.rows is) ∙ is
+
+pub row_was : (setup : Setup) (past : List Entry) (k : Key) (o : Object) → row_at k (world setup past).store.rows ≡ Some o → Was setup past o
+row_was setup past k o is = stood setup past o (row_stands (world setup past) k o is)
+
+-- the newest entry wrote it, and it stands
+pub record IsNew (setup : Setup) (e : Entry) (past : List Entry) (o : Object) : Type 0 where
+  pub written : WrittenAt setup e past o
+  pub stands : Stands (world setup (e ∷ past)) o
+
+pub new_or : (setup : Setup) (e : Entry) (past : List Entry) → MovesAt setup e past → (o : Object) → Was setup (e ∷ past) o → Was setup past o ⊎ IsNew setup e past o
+new_or setup e past m o was = elim was [
+  | inl before ↦ inl before
+  | inr now ↦ elim (m.row (key_of o) o now) [
+    | inl same ↦ inl (stood setup past o same)
+    | inr new ↦ inr (record { written = new; stands = now })
+  ]
+]
+
+-- two that were written are one
+pub one_written : (setup : Setup) (e : Entry) (past : List Entry) (a b : Object) → WrittenAt setup e past a → WrittenAt setup e past b → a ≡ b
+one_written setup e past a b x y = one a b (sym x.is ∙ y.is)
+
+pub made_version : (setup : Setup) (past : List Entry) (o : Object) → Made setup past o → (meta_of o).version ≡ (world setup past).store.version + 1
+made_version setup past o (inl s) = s.first.version
+made_version setup past o (inr f) = f.next.version
+
+-- keys of one kind
+
+kind_of_volume : (o : Object) → kind_index (key_of o).kind ≡ 2 → (v : VolumeData) × (o ≡ Volume v)
+kind_of_volume (Class x) e = absurd (omega (arith, e))
+kind_of_volume (Node x) e = absurd (omega (arith, e))
+kind_of_volume (Volume x) e = (x, refl)
+kind_of_volume (Claim x) e = absurd (omega (arith, e))
+kind_of_volume (Pod x) e = absurd (omega (arith, e))
+
+kind_of_claim : (o : Object) → kind_index (key_of o).kind ≡ 3 → (c : ClaimData) × (o ≡ Claim c)
+kind_of_claim (Class x) e = absurd (omega (arith, e))
+kind_of_claim (Node x) e = absurd (omega (arith, e))
+kind_of_claim (Volume x) e = absurd (omega (arith, e))
+kind_of_claim (Claim x) e = (x, refl)
+kind_of_claim (Pod x) e = absurd (omega (arith, e))
+
+pub volume_keyed : (o : Object) (v : VolumeData) → key_of (Volume v) ≡ key_of o → (a : VolumeData) × (o ≡ Volume a)
+volume_keyed o v e = kind_of_volume o (ap (λ k. kind_index k.kind) (sym e))
+
+pub claim_keyed : (o : Object) (c : ClaimData) → key_of (Claim c) ≡ key_of o → (a : ClaimData) × (o ≡ Claim a)
+claim_keyed o c e = kind_of_claim o (ap (λ k. kind_index k.kind) (sym e))
+
+-- a volume that was made of a volume
+
+pub record VolumeCame (setup : Setup) (past : List Entry) (v : VolumeData) : Type 0 where
+  pub old : VolumeData
+  pub next : IsNext (world setup past).store (Volume old) (Volume v)
+  pub step : VolumeStep setup past old v
+
+pub record VolumeBegan (setup : Setup) (past : List Entry) (v : VolumeData) : Type 0 where
+  pub first : IsFirst (world setup past).store (Volume v)
+  pub start : VolumeStart setup past v
+
+pub volume_came : (setup : Setup) (past : List Entry) (v : VolumeData) → Made setup past (Volume v) → VolumeBegan setup past v ⊎ VolumeCame setup past v
+volume_came setup past v (inl s) = inl (record { first = s.first; start = s.start })
+volume_came setup past v (inr f) = by f.old f.next f.step (volume_keyed f.old v f.next.key)
+  where
+    by : (old : Object) → IsNext (world setup past).store old (Volume v) → KindStep setup past old (Volume v) → (a : VolumeData) × (old ≡ Volume a) → VolumeBegan setup past v ⊎ VolumeCame setup past v
+    by (Volume a) n s h = inr (record { old = a; next = n; step = s })
+    by (Class a) n s h = absurd (omega (arith, ap (λ o. kind_index (key_of o).kind) h.1))
+    by (Node a) n s h = absurd (omega (arith, ap (λ o. kind_index (key_of o).kind) h.1))
+    by (Claim a) n s h = absurd (omega (arith, ap (λ o. kind_index (key_of o).kind) h.1))
+    by (Pod a) n s h = absurd (omega (arith, ap (λ o. kind_index (key_of o).kind) h.1))
+
+pub record ClaimCame (setup : Setup) (past : List Entry) (c : ClaimData) : Type 0 where
+  pub old : ClaimData
+  pub next : IsNext (world setup past).store (Claim old) (Claim c)
+  pub step : ClaimStep setup past old c
+
+pub record ClaimBegan (setup : Setup) (past : List Entry) (c : ClaimData) : Type 0 where
+  pub first : IsFirst (world setup past).store (Claim c)
+  pub start : ClaimStart setup past c
+
+pub claim_came : (setup : Setup) (past : List Entry) (c : ClaimData) → Made setup past (Claim c) → ClaimBegan setup past c ⊎ ClaimCame setup past c
+claim_came setup past c (inl s) = inl (record { first = s.first; start = s.start })
+claim_came setup past c (inr f) = by f.old f.next f.step (claim_keyed f.old c f.next.key)
+  where
+    by : (old : Object) → IsNext (world setup past).store old (Claim c) → KindStep setup past old (Claim c) → (a : ClaimData) × (old ≡ Claim a) → ClaimBegan setup past c ⊎ ClaimCame setup past c
+    by (Claim a) n s h = inr (record { old = a; next = n; step = s })
+    by (Class a) n s h = absurd (omega (arith, ap (λ o. kind_index (key_of o).kind) h.1))
+    by (Node a) n s h = absurd (omega (arith, ap (λ o. kind_index (key_of o).kind) h.1))
+    by (Volume a) n s h = absurd (omega (arith, ap (λ o. kind_index (key_of o).kind) h.1))
+    by (Pod a) n s h = absurd (omega (arith, ap (λ o. kind_index (key_of o).kind) h.1))
+
+-- UIDs
+
+pub one_uid : (a b : Uid) → Some a ≡ Some b → a ≡ b
+one_uid a b e = ap (λ x. unwrap_or x a) e
+
+-- the UID of the next write is not one of an object that was
+pub fresh : {G : Type 0} (version : ℕ) (uid : Option Uid) → IsOld version uid → uid ≡ Some (uid_of_serial (version + 1)) → G
+fresh version uid old is = absurd (old (version + 1) (omega arith) is)
+
+pub older : (n m : ℕ) (uid : Option Uid) → n ≤ m → IsOld n uid → IsOld m uid
+older n m uid low old k above = old k (omega (arith, low, above))
+
+-- the UID that a write gives is not that of a later one
+pub given_old : (version : ℕ) (uid : Option Uid) → uid ≡ Some (uid_of_serial (version + 1)) → IsOld (version + 1) uid
+given_old version uid is k above same =
+    let e : version + 1 ≡ k = serials_apart (version + 1) k (one_uid _ _ (sym is ∙ same)) in
+    omega (arith, e, above)
+
+-- one object, in time
+
+names_itself : (o : Object) → NamesOnce o o
+names_itself (Class x) = tt
+names_itself (Node x) = tt
+names_itself (Volume x) = tt
+names_itself (Claim x) = inr refl
+names_itself (Pod x) = tt
+
+pub itself : (o : Object) → IsLater o o
+itself o = record { key = refl; keeps = record { uid = refl; named = names_itself o; deleting = λ d. d } }
+
+names_trans : (a b c : Object) → key_of b ≡ key_of a → NamesOnce a b → NamesOnce b c → NamesOnce a c
+names_trans (Claim a) (Claim b) (Claim c) k m n = elim m [
+  | inl none ↦ inl none
+  | inr same ↦ elim n [ inl none ↦ inl (sym same ∙ none) | inr again ↦ inr (again ∙ same) ]
+]
+names_trans (Claim a) (Class b) c k m n = absurd (omega (arith, ap (λ j. kind_index j.kind) k))
+names_trans (Claim a) (Node b) c k m n = absurd (omega (arith, ap (λ j. kind_index j.kind) k))
+names_trans (Claim a) (Volume b) c k m n = absurd (omega (arith, ap (λ j. kind_index j.kind) k))
+names_trans (Claim a) (Pod b) c k m n = absurd (omega (arith, ap (λ j. kind_index j.kind) k))
+names_trans (Claim a) (Claim b) c k m n = n
+names_trans a b c k m n = tt
+
+pub then : {a b c : Object} → IsLater a b → IsLater b c → IsLater a c
+then {a = a} {b = b} {c = c} x y = record {
+  key = y.key ∙ x.key;
+  keeps = record {
+    uid = y.keeps.uid ∙ x.keeps.uid;
+    named = names_trans a b c x.key x.keeps.named y.keeps.named;
+    deleting = λ d. y.keeps.deleting (x.keeps.deleting d);
+  };
+}

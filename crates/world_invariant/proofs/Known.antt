@@ -1,0 +1,136 @@
+-- What is known of the store by what a seat was told.
+use Rattle.std.proofs.Common.{sym, refl, subst, inl, inr, ap, ◌∙◌}
+use Rattle.std.specs.Prelude.{if◌then◌else◌, ℕ, ◌≡◌, ◌==◌, Bool, true, false, List, [], ◌∷◌, Option, Some, None}
+use Rattle.kube_types.specs.declared.uid.Uid.{Uid}
+use Rattle.kube_types.specs.declared.parts.Kind.TheVariants as kinds
+use Rattle.kube_types.specs.declared.objects.Ref.{Ref}
+use Rattle.kube_types.specs.declared.objects.Volume.{Volume as VolumeData}
+use Rattle.kube_types.specs.declared.objects.Claim.{Claim as ClaimData}
+use Rattle.kube_types.specs.declared.objects.Object.{Object}
+use Rattle.kube_types.specs.declared.objects.Object.TheVariants.{Class, Node, Volume, Claim, Pod}
+use Rattle.kube_types.specs.Keys.{key_of, row_at}
+use Rattle.kube_types.proofs.KeyOrder.{row_at_key}
+use Rattle.call_types.specs.declared.entry.Entry.{Entry}
+use Rattle.call_types.specs.declared.setup.Setup.{Setup}
+use Rattle.call_types.specs.declared.reply.Reply.{Reply}
+use Rattle.binder_model.specs.Told.{SomeOf, TellsObject, ToldObject, ToldVolume, ToldClaim, IsVolumeWith, IsClaimWith, objects_in, TellsLive, IsLiveAnswer}
+use Rattle.binder_model.specs.BindWrites.{claim_key}
+use Rattle.binder_model.specs.At.{IsElsewhere}
+use Rattle.binder_model.specs.BinderLicence.{IsReferring, IsGone, WasReadGone}
+use Rattle.binder_model.specs.World.{world, effect, reply_to}
+use Rattle.binder_model.specs.Run.{own}
+use Rattle.model_laws.specs.Reads.{found}
+use Rattle.model_laws.proofs.Readings.{gets_tell_what_stands}
+use Rattle.world_moves.specs.Moves.{IsIn}
+use Rattle.world_moves.proofs.Tells.{tells}
+use Rattle.world_invariant.specs.Was.{Was, Refers, IsNotThere, IsAway, WasNamed}
+use Rattle.world_invariant.specs.Invariant.{Invariant, IsOld}
+use Rattle.world_invariant.specs.Good.{TellingsAreTrue, Good, IsTrue}
+use Rattle.world_invariant.proofs.Came.{stood, older}
+use Rattle.world_invariant.proofs.KeptBindings.{kept_not_there, refers_old, other_stays}
+
+pub invariant_of : (setup : Setup) (past : List Entry) → Good setup past → Invariant setup past
+invariant_of setup [] g = g
+invariant_of setup (e ∷ past) g = g.3
+
+-- an element of which P holds
+pub some_in : (P : Object → Type 0) (os : List Object) → SomeOf P os → (o : Object) × IsIn o os × P o
+some_in P [] h = absurd h
+some_in P (o ∷ os) h = elim h [
+  | inl is ↦ (o, inl refl, is)
+  | inr more ↦ let r = some_in P os more in (r.0, inr r.1, r.2)
+]
+
+-- what an entry tells stood in the store
+pub entry_tells : (setup : Setup) (e : Entry) (past : List Entry) → Good setup (e ∷ past) → (o : Object) → IsIn o (objects_in e.reply) → Was setup (e ∷ past) o
+entry_tells setup e past g o h =
+    let inv = invariant_of setup past g.0 in
+    elim ((tells setup (world setup past) e.kind e.request inv.order).true_of o (subst (λ (r : Reply). IsIn o (objects_in r)) g.2 h)) [
+      | inl before ↦ inl (stood setup past o before)
+      | inr after ↦ elim after [ inl now ↦ inr now | inr logged ↦ inl (inv.logged o logged) ]
+    ]
+
+-- each object that the seat was told stood in the store
+pub told_was : (setup : Setup) (past : List Entry) → Good setup past → (seat : ℕ) (P : Object → Type 0) → ToldObject P (own seat past) → (o : Object) × Was setup past o × P o
+told_was setup [] g seat P h = absurd h
+told_was setup (e ∷ past) g seat P h = by (told_was setup past g.0 seat P) (e.seat == seat) h
+  where
+    rest : (ToldObject P (own seat past) → (o : Object) × Was setup past o × P o) → ToldObject P (own seat past) → (o : Object) × Was setup (e ∷ past) o × P o
+    rest f h = let r = f h in (r.0, inl r.1, r.2)
+
+    here : TellsObject P e → (o : Object) × Was setup (e ∷ past) o × P o
+    here t = let r = some_in P (objects_in e.reply) t.1 in (r.0, entry_tells setup e past g r.0 r.1, r.2)
+
+    by : (ToldObject P (own seat past) → (o : Object) × Was setup past o × P o) → (b : Bool) → ToldObject P (if b then e ∷ own seat past else own seat past) → (o : Object) × Was setup (e ∷ past) o × P o
+    by f true h = elim h [ inl now ↦ here now | inr more ↦ rest f more ]
+    by f false h = rest f h
+
+pub tellings_are_true : TellingsAreTrue
+tellings_are_true setup past g seat o h = let t = told_was setup past g seat (λ x. x ≡ o) h in subst (Was setup past) t.2 t.1
+
+pub told_volume : (setup : Setup) (past mine : List Entry) → IsTrue setup past mine → (P : VolumeData → Type 0) → ToldVolume P mine → (v : VolumeData) × Was setup past (Volume v) × P v
+told_volume setup past mine t P h = let r = t (IsVolumeWith P) h in by r.0 r.1 r.2
+  where
+    by : (o : Object) → Was setup past o → IsVolumeWith P o → (v : VolumeData) × Was setup past (Volume v) × P v
+    by (Volume v) was is = (v, was, is)
+    by (Class x) was is = absurd is
+    by (Node x) was is = absurd is
+    by (Claim x) was is = absurd is
+    by (Pod x) was is = absurd is
+
+pub told_claim : (setup : Setup) (past mine : List Entry) → IsTrue setup past mine → (P : ClaimData → Type 0) → ToldClaim P mine → (c : ClaimData) × Was setup past (Claim c) × P c
+told_claim setup past mine t P h = let r = t (IsClaimWith P) h in by r.0 r.1 r.2
+  where
+    by : (o : Object) → Was setup past o → IsClaimWith P o → (c : ClaimData) × Was setup past (Claim c) × P c
+    by (Claim c) was is = (c, was, is)
+    by (Class x) was is = absurd is
+    by (Node x) was is = absurd is
+    by (Volume x) was is = absurd is
+    by (Pod x) was is = absurd is
+
+-- a claim that was told elsewhere is gone or elsewhere
+pub elsewhere : (setup : Setup) (past mine : List Entry) → Invariant setup past → IsTrue setup past mine → (name : List ℕ) (uid : Uid) → ToldClaim (IsElsewhere name uid) mine → IsAway (world setup past) uid name
+elsewhere setup past mine inv t name uid h k d there its =
+    let r = told_claim setup past mine t (IsElsewhere name uid) h in
+    let c : IsElsewhere name uid r.0 = r.2 in
+    other_stays name r.0 d (inv.later (Claim r.0) k (Claim d) r.1 there (its ∙ sym c.claim)).keeps (record { named = c.named; other = c.other })
+
+-- a claim that was read gone after it was referred to is gone for good
+-- what the answer of a Get tells is what stands there
+pub live : (x : Option Object) (P : Option Object → Type 0) → IsLiveAnswer (found x) P → P x
+live None P h = h
+live (Some o) P h = h
+
+-- no claim of the UID stood at its key, so none stands anywhere
+read_gone : (setup : Setup) (past : List Entry) → Invariant setup past → (r : Ref) (uid : Uid) → WasNamed setup past r uid → IsGone uid (row_at (claim_key r.namespace r.name) (world setup past).store.rows) → IsNotThere (world setup past) uid
+read_gone setup past inv r uid n gone k c there its =
+    let l = inv.later (Claim n.claim) k (Claim c) n.was there (its ∙ sym n.its) in
+    let keyed : key_of (Claim c) ≡ claim_key r.namespace r.name = λ i. record { kind = kinds.PersistentVolumeClaim; namespace = (ap (λ j. j.namespace) l.key ∙ n.placed) i; name = (ap (λ j. j.name) l.key ∙ n.named) i } in
+    let at : row_at (claim_key r.namespace r.name) (world setup past).store.rows ≡ Some (Claim c) = ap (λ j. row_at j (world setup past).store.rows) (sym keyed ∙ row_at_key k (Claim c) _ there) ∙ there in
+    let h : IsGone uid (Some (Claim c)) = subst (IsGone uid) at gone in
+    h its
+
+pub gone_read : (setup : Setup) (past : List Entry) → Good setup past → (seat : ℕ) (o : VolumeData) (r : Ref) (uid : Uid) → r.uid ≡ Some uid → WasReadGone (own seat past) o r uid
+    → IsNotThere (world setup past) uid × IsOld (world setup past).store.version (Some uid)
+gone_read setup [] g seat o r uid known h = absurd h
+gone_read setup (e ∷ past) g seat o r uid known h = by (gone_read setup past g.0 seat o r uid known) (e.seat == seat) h
+  where
+    on : IsNotThere (world setup past) uid → IsOld (world setup past).store.version (Some uid) → IsNotThere (world setup (e ∷ past)) uid × IsOld (world setup (e ∷ past)).store.version (Some uid)
+    on gone old = (kept_not_there setup e past g.1 uid old gone, older _ _ (Some uid) g.1.rises old)
+
+    rest : (WasReadGone (own seat past) o r uid → IsNotThere (world setup past) uid × IsOld (world setup past).store.version (Some uid)) → WasReadGone (own seat past) o r uid → IsNotThere (world setup (e ∷ past)) uid × IsOld (world setup (e ∷ past)).store.version (Some uid)
+    rest f h = let x = f h in on x.0 x.1
+
+    here : TellsLive (claim_key r.namespace r.name) (IsGone uid) e → ToldVolume (IsReferring o r) (own seat past) → IsNotThere (world setup (e ∷ past)) uid × IsOld (world setup (e ∷ past)).store.version (Some uid)
+    here q p =
+        let inv = invariant_of setup past g.0 in
+        let t = told_volume setup past (own seat past) (told_was setup past g.0 seat) (IsReferring o r) p in
+        let refers : Refers t.0 r uid = record { is = t.2.refers; known = known } in
+        let key = claim_key r.namespace r.name in
+        let reply : e.reply ≡ found (row_at key (world setup past).store.rows) = g.2 ∙ ap (λ x. reply_to (effect setup (world setup past) e.kind x)) q.1 ∙ gets_tell_what_stands setup (world setup past) e.kind key in
+        let gone = live (row_at key (world setup past).store.rows) (IsGone uid) (subst (λ (x : Reply). IsLiveAnswer x (IsGone uid)) reply q.2) in
+        on (read_gone setup past inv r uid (inv.refers t.0 r uid t.1 refers) gone) (refers_old setup past inv t.0 r uid t.1 refers)
+
+    by : (WasReadGone (own seat past) o r uid → IsNotThere (world setup past) uid × IsOld (world setup past).store.version (Some uid)) → (b : Bool) → WasReadGone (if b then e ∷ own seat past else own seat past) o r uid → IsNotThere (world setup (e ∷ past)) uid × IsOld (world setup (e ∷ past)).store.version (Some uid)
+    by f true h = elim h [ inl now ↦ here now.0 now.1 | inr more ↦ rest f more ]
+    by f false h = rest f h

@@ -1,0 +1,33 @@
+-- A history along which the invariant held and the store moved as it may; and what it is that a seat was told the truth.
+use Rattle.std.specs.Prelude.{ℕ, ◌≡◌, List, [], ◌∷◌}
+use Rattle.kube_types.specs.declared.objects.Object.{Object}
+use Rattle.call_types.specs.declared.entry.Entry.{Entry}
+use Rattle.call_types.specs.declared.setup.Setup.{Setup}
+use Rattle.binder_model.specs.World.{world, effect, reply_to}
+use Rattle.binder_model.specs.Told.{ToldObject}
+use Rattle.binder_model.specs.Run.{own}
+use Rattle.world_moves.specs.Moves.{Moves}
+use Rattle.world_invariant.specs.Was.{Was, Made}
+use Rattle.world_invariant.specs.Invariant.{Invariant}
+
+
+-- how the store moves at this entry
+abbrev pub MovesAt : Setup → Entry → List Entry → Type 0
+MovesAt setup e past = Moves (world setup past) (effect setup (world setup past) e.kind e.request) (Made setup past)
+
+-- a history along which the invariant held, and the store moved as it may
+abbrev pub Good : Setup → List Entry → Type 0
+Good setup [] = Invariant setup []
+Good setup (e ∷ past) = Good setup past × MovesAt setup e past × (e.reply ≡ reply_to (effect setup (world setup past) e.kind e.request)) × Invariant setup (e ∷ past)
+
+-- what was told stood there, as a fact of one list of own entries
+abbrev pub IsTrue : Setup → List Entry → List Entry → Type 1
+IsTrue setup past mine = (P : Object → Type 0) → ToldObject P mine → (o : Object) × Was setup past o × P o
+
+-- the invariant is kept where the store moves as it may
+abbrev pub MovesKeepTheInvariant : Type 0
+MovesKeepTheInvariant = (setup : Setup) (e : Entry) (past : List Entry) → Invariant setup past → MovesAt setup e past → Invariant setup (e ∷ past)
+
+-- each object that a seat was told stood in the store
+abbrev pub TellingsAreTrue : Type 0
+TellingsAreTrue = (setup : Setup) (past : List Entry) → Good setup past → (seat : ℕ) (o : Object) → ToldObject (λ x. x ≡ o) (own seat past) → Was setup past o

@@ -1,0 +1,64 @@
+-- What holds in every world of a run.
+use Rattle.std.specs.Prelude.{ℕ, ◌≡◌, ◌≢◌, ◌⊎◌, ◌<◌, ◌≤◌, true, List, [], Option, Some, is_some}
+use Rattle.kube_types.specs.declared.uid.Uid.{Uid}
+use Rattle.kube_types.specs.declared.key.Key.{Key}
+use Rattle.kube_types.specs.declared.objects.Ref.{Ref}
+use Rattle.kube_types.specs.declared.objects.Volume.{Volume as VolumeData}
+use Rattle.kube_types.specs.declared.objects.Claim.{Claim as ClaimData}
+use Rattle.kube_types.specs.declared.objects.Object.{Object}
+use Rattle.kube_types.specs.declared.objects.Object.TheVariants.{Volume, Claim}
+use Rattle.kube_types.specs.Keys.{AreRows, meta_of, key_of, row_at}
+use Rattle.kube_types.specs.Uids.{uid_of_serial}
+use Rattle.kube_types.specs.Bindings.{is_ended, is_bound, is_completed, is_protected_volume}
+use Rattle.call_types.specs.declared.entry.Entry.{Entry}
+use Rattle.call_types.specs.declared.setup.Setup.{Setup}
+use Rattle.binder_model.specs.Told.{SomeOf, objects_of_events}
+use Rattle.binder_model.specs.BindWrites.{volume_key}
+use Rattle.binder_model.specs.World.{World, world}
+use Rattle.world_moves.specs.Whence.{Keeps}
+use Rattle.world_invariant.specs.Was.{Was, IsPlaced, IsAway, Refers, WasNamed, WasBound, IsFinal}
+
+-- no later write gives this UID
+abbrev pub IsOld : ℕ → Option Uid → Type 0
+IsOld version uid = (n : ℕ) → version < n → uid ≢ Some (uid_of_serial n)
+
+-- the same object, at its old key
+pub record IsLater (old new : Object) : Type 0 where
+  pub key : key_of new ≡ key_of old
+  pub keeps : Keeps old new
+
+-- the claim names no volume, or this one
+abbrev pub NamesAtMost : List ℕ → ClaimData → Type 0
+NamesAtMost name c = (c.volume_name ≡ []) ⊎ (c.volume_name ≡ name)
+
+-- the volume of this name is there, Bound, with the reference
+pub record StillBound (w : World) (name : List ℕ) (r : Ref) : Type 0 where
+  pub volume : VolumeData
+  pub there : row_at (volume_key name) w.store.rows ≡ Some (Volume volume)
+  pub bound : is_bound volume.phase ≡ true
+  pub refers : volume.claim_ref ≡ Some r
+
+pub record Invariant (setup : Setup) (past : List Entry) : Type 0 where
+  pub order : AreRows (world setup past).store.rows
+  -- versions, UIDs and keys: (b)
+  pub version : (o : Object) → Was setup past o → (meta_of o).version ≤ (world setup past).store.version
+  pub one : (a b : Object) → Was setup past a → Was setup past b → key_of a ≡ key_of b → (meta_of a).version ≡ (meta_of b).version → a ≡ b
+  pub old : (o : Object) → Was setup past o → IsOld (world setup past).store.version (meta_of o).uid
+  pub has : (o : Object) → Was setup past o → is_some (meta_of o).uid ≡ true
+  pub later : (a : Object) (k : Key) (b : Object) → Was setup past a → row_at k (world setup past).store.rows ≡ Some b → (meta_of b).uid ≡ (meta_of a).uid → IsLater a b
+  pub placed : (v : VolumeData) → Was setup past (Volume v) → IsPlaced (key_of (Volume v))
+  -- what the log tells stood in the store
+  pub logged : (o : Object) → SomeOf (λ x. x ≡ o) (objects_of_events (world setup past).log) → Was setup past o
+  -- each UID in a reference was that of a claim of this namespace and name: (a)
+  pub refers : (v : VolumeData) (r : Ref) (uid : Uid) → Was setup past (Volume v) → Refers v r uid → WasNamed setup past r uid
+  -- what is Bound is protected: (d)
+  pub guarded : (k : Key) (v : VolumeData) → row_at k (world setup past).store.rows ≡ Some (Volume v) → is_bound v.phase ≡ true → is_protected_volume v ≡ true
+  -- what was Bound to a claim that is there and not elsewhere is so still: (c)
+  pub binding : (v : VolumeData) (r : Ref) (uid : Uid) (k : Key) (c : ClaimData) → Was setup past (Volume v) → is_bound v.phase ≡ true → Refers v r uid
+      → row_at k (world setup past).store.rows ≡ Some (Claim c) → c.meta.uid ≡ Some uid → NamesAtMost v.meta.name c → StillBound (world setup past) v.meta.name r
+  -- a completed claim was carried by a Bound volume
+  pub completed : (k : Key) (c : ClaimData) → row_at k (world setup past).store.rows ≡ Some (Claim c) → is_completed c ≡ true → WasBound setup past c
+  -- the claim of an ended volume is gone or elsewhere, and with policy Delete it is so until it leaves: (e)
+  pub released : (k : Key) (v : VolumeData) (r : Ref) (uid : Uid) → row_at k (world setup past).store.rows ≡ Some (Volume v) → is_ended v.phase ≡ true → Refers v r uid → IsAway (world setup past) uid v.meta.name
+  pub lasts : (v : VolumeData) (r : Ref) (uid : Uid) (k : Key) (x : VolumeData) → Was setup past (Volume v) → Refers v r uid → IsFinal r v
+      → row_at k (world setup past).store.rows ≡ Some (Volume x) → x.meta.uid ≡ v.meta.uid → IsFinal r x

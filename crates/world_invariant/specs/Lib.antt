@@ -1,0 +1,4 @@
+pub mod Was
+pub mod Invariant
+pub mod Good
+pub mod Holders

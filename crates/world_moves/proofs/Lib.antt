@@ -1,0 +1,9 @@
+pub mod Tests
+pub mod Forms
+pub mod Effects
+pub mod Whence
+pub mod Moves
+pub mod PodsLeft
+pub mod DeviceMoves
+pub mod Tells
+pub mod Newest

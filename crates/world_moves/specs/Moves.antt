@@ -1,0 +1,48 @@
+-- How one call moves the store, whatever the call: what it does at each key, to the version and to the log.
+use Rattle.std.specs.Prelude.{◌≡◌, ◌⊎◌, ◌+◌, ◌≤◌, List, Option, Some, None}
+use Rattle.kube_types.specs.declared.key.Key.{Key}
+use Rattle.kube_types.specs.declared.objects.Object.{Object}
+use Rattle.kube_types.specs.Keys.{AreRows, key_of, row_at}
+use Rattle.binder_model.specs.Told.{SomeOf, objects_of_events}
+use Rattle.binder_model.specs.Answers.{Stores, Removes}
+use Rattle.binder_model.specs.World.{World, Effect, OnStore, effect, world_after}
+use Rattle.world_moves.specs.Writes.{IsLeaving}
+use Rattle.call_types.specs.declared.setup.Setup.{Setup}
+use Rattle.call_types.specs.declared.request.SeatKind.{SeatKind}
+use Rattle.call_types.specs.declared.request.Request.{Request}
+use Rattle.world_moves.specs.Writes.{Writes}
+
+-- the object that an effect writes, where one is written
+abbrev pub written_by : Effect → Option Object
+written_by (OnStore (Stores change o)) = Some o
+written_by (OnStore (Removes o)) = Some o
+written_by x = None
+
+-- the object under the key was written by this effect
+pub record IsWritten (w : World) (x : Effect) (W : Object → Type 0) (o : Object) : Type 0 where
+  pub is : written_by x ≡ Some o
+  pub write : W o
+  pub counted : (world_after w x).store.version ≡ w.store.version + 1
+
+pub record HasLeft (w : World) (x : Effect) (W : Object → Type 0) (k : Key) : Type 0 where
+  pub last : Object
+  pub written : IsWritten w x W last
+  pub key : key_of last ≡ k
+  pub leaving : IsLeaving last
+  pub removes : x ≡ OnStore (Removes last)
+
+abbrev pub IsIn : Object → List Object → Type 0
+IsIn o os = SomeOf (λ x. x ≡ o) os
+
+pub record Moves (w : World) (x : Effect) (W : Object → Type 0) : Type 0 where
+  pub row : (k : Key) (o : Object) → row_at k (world_after w x).store.rows ≡ Some o → (row_at k w.store.rows ≡ Some o) ⊎ IsWritten w x W o
+  pub left : (k : Key) (o : Object) → row_at k w.store.rows ≡ Some o → row_at k (world_after w x).store.rows ≡ None → HasLeft w x W k
+  pub rises : w.store.version ≤ (world_after w x).store.version
+  pub logged : (o : Object) → IsIn o (objects_of_events (world_after w x).log) → IsIn o (objects_of_events w.log) ⊎ (row_at (key_of o) (world_after w x).store.rows ≡ Some o)
+  pub order : AreRows (world_after w x).store.rows
+
+-- each call moves the store by one write that was asked and tested, or not at all
+abbrev pub CallsMoveTheStore : Type 0
+CallsMoveTheStore =
+    (setup : Setup) (w : World) (kind : SeatKind) (request : Request)
+    → AreRows w.store.rows → Moves w (effect setup w kind request) (Writes w kind request)

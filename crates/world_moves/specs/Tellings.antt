@@ -1,0 +1,36 @@
+-- What a true answer is: each object that it tells stands in the store, or stood there and is in the log.
+use Rattle.std.specs.Prelude.{◌≡◌, ◌⊎◌, Bool, true, false, Some}
+use Rattle.kube_types.specs.declared.objects.Object.{Object}
+use Rattle.kube_types.specs.Keys.{key_of, row_at}
+use Rattle.call_types.specs.declared.request.Request.{Request}
+use Rattle.call_types.specs.declared.request.Request.TheVariants as requests
+use Rattle.binder_model.specs.Answers.{after}
+use Rattle.binder_model.specs.Told.{objects_in, objects_of_events}
+use Rattle.binder_model.specs.World.{World, Effect, watch, reply_to, world_after}
+use Rattle.world_moves.specs.Moves.{IsIn}
+use Rattle.call_types.specs.declared.setup.Setup.{Setup}
+use Rattle.call_types.specs.declared.request.SeatKind.{SeatKind}
+use Rattle.kube_types.specs.Keys.{AreRows}
+use Rattle.binder_model.specs.World.{effect}
+
+-- what is told at one entry: it stands before or after, or the log has it
+pub record TellsTrue (w : World) (x : Effect) : Type 0 where
+  pub true_of : (o : Object) → IsIn o (objects_in (reply_to x)) → (row_at (key_of o) w.store.rows ≡ Some o) ⊎ (row_at (key_of o) (world_after w x).store.rows ≡ Some o) ⊎ IsIn o (objects_of_events w.log)
+
+-- what is told at an entry that is no watch stands before or after
+pub record TellsNow (w : World) (x : Effect) : Type 0 where
+  pub now : (o : Object) → IsIn o (objects_in (reply_to x)) → (row_at (key_of o) w.store.rows ≡ Some o) ⊎ (row_at (key_of o) (world_after w x).store.rows ≡ Some o)
+
+-- the request is a watch
+abbrev pub is_watch : Request → Bool
+is_watch (requests.Watch k from) = true
+is_watch request = false
+
+-- each answer is true, and only a watch tells of the past
+abbrev pub AnswersAreTrue : Type 0
+AnswersAreTrue = (setup : Setup) (w : World) (kind : SeatKind) (request : Request) → AreRows w.store.rows → TellsTrue w (effect setup w kind request)
+
+abbrev pub AnswersTellTheMoment : Type 0
+AnswersTellTheMoment =
+    (setup : Setup) (w : World) (kind : SeatKind) (request : Request)
+    → AreRows w.store.rows → is_watch request ≡ false → TellsNow w (effect setup w kind request)

@@ -1,0 +1,49 @@
+//! How one call moves the world: the ground of the safety law.
+//!
+//! The verbs are walked here and nowhere above. A call makes one write that was asked and tested, or none
+//! (`calls_move_the_store`); a written object is a first version or the next one of what stands (`writes_follow`); a pod
+//! leaves by its own verbs alone (`pods_leave_by_their_verbs`); epochs and mounts move by the calls of agents
+//! (`calls_move_the_devices`); and each answer is true (`answers_are_true`), of this very moment where it is no watch
+//! (`answers_tell_the_moment`).
+#![tactic(auto)]
+
+ghost use Rattle.world_moves.specs.Writes.{PodsLeaveByTheirVerbs};
+ghost use Rattle.world_moves.specs.Whence.{WritesFollow};
+ghost use Rattle.world_moves.specs.Moves.{CallsMoveTheStore};
+ghost use Rattle.world_moves.specs.DeviceMoves.{CallsMoveTheDevices};
+ghost use Rattle.world_moves.specs.Tellings.{AnswersAreTrue, AnswersTellTheMoment};
+
+/// A pod leaves by FinishPod, or by Delete where no node runs it.
+#[tactic(auto, using(crate::proofs::PodsLeft::pod_goes))]
+pub fn pods_leave_by_their_verbs()
+    ensures { PodsLeaveByTheirVerbs }
+{}
+
+/// Each write gives a first version of an object, or the next one of an object that stands.
+#[tactic(auto, using(crate::proofs::Whence::whence))]
+pub fn writes_follow()
+    ensures { WritesFollow }
+{}
+
+/// Each call moves the store by one write that was asked and tested, or not at all.
+#[tactic(auto, using(crate::proofs::Moves::moves))]
+pub fn calls_move_the_store()
+    ensures { CallsMoveTheStore }
+{}
+
+/// Each call leaves epochs and mounts as they are, takes a node, or mounts at the current epoch.
+pub fn calls_move_the_devices()
+    ensures { CallsMoveTheDevices }
+{}
+
+/// Each object that an answer tells stands in the store, or stood there and is in the log.
+#[tactic(auto, using(crate::proofs::Tells::tells))]
+pub fn answers_are_true()
+    ensures { AnswersAreTrue }
+{}
+
+/// Each object that an answer to anything but a watch tells stands in the store before or after the call.
+#[tactic(auto, using(crate::proofs::Tells::tells_now))]
+pub fn answers_tell_the_moment()
+    ensures { AnswersTellTheMoment }
+{}
