@@ -11,7 +11,8 @@ use Rattle.kube_types.specs.declared.objects.Object.{Object}
 use Rattle.kube_types.specs.declared.objects.Object.TheVariants.{Volume, Claim}
 use Rattle.kube_types.specs.Bindings.{is_ended, is_bound, is_completed, is_protected_volume, carries, names_claim, ref_uid}
 use Rattle.call_types.specs.declared.entry.Entry.{Entry}
-use Rattle.binder_model.specs.BindWrites.{claim_key, volume_key, taken_for, completed_with, unbound_volume}
+use Rattle.binder_model.specs.ObjectKeys.{claim_key, volume_key}
+use Rattle.binder_model.specs.BindWrites.{taken_for, completed_with, unbound_volume}
 use Rattle.binder_model.specs.BinderDue.{is_reclaimed}
 use Rattle.binder_model.specs.Told.{ToldVolume, ToldClaim, TellsLive, After}
 use Rattle.binder_model.specs.At.{IsSameObject, HasUid, IsElsewhere}

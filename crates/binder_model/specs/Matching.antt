@@ -1,7 +1,7 @@
 -- Which volume a claim is bound to: eligible, and the best of the eligible.
 -- Source: Kubernetes documentation, "Persistent Volumes" (Binding), and the volume index of `pv_controller.go`;
 -- that a pre-bound volume must fit too, and that ties go by name, is this project's choice.
-use Rattle.std.specs.Prelude.{ℕ, ◌≡◌, ◌≢◌, ◌==◌, ◌+◌, nat_le, Bool, true, false, not, ◌&&◌, ◌||◌, List, [], Option, Some, None, bytes_eq, is_none, slice_get, if◌then◌else◌}
+use Rattle.std.specs.Prelude.{ℕ, ◌≡◌, ◌≢◌, ◌==◌, ◌+◌, nat_le, Bool, true, false, not, ◌&&◌, ◌||◌, List, Option, Some, None, bytes_eq, is_none, slice_get, if◌then◌else◌}
 use Rattle.std.specs.Bool.{beq}
 use Rattle.std.specs.List.{list_any}
 use Rattle.std.specs.declared.cmp.Ordering.{Ordering}
@@ -16,10 +16,10 @@ use Rattle.kube_types.specs.declared.objects.Volume.{Volume as VolumeData}
 use Rattle.kube_types.specs.declared.objects.Claim.{Claim as ClaimData}
 use Rattle.kube_types.specs.declared.objects.Object.{Object}
 use Rattle.kube_types.specs.declared.objects.Object.TheVariants.{Class, Volume}
-use Rattle.kube_types.specs.declared.key.Key.{Key}
 use Rattle.kube_types.specs.Keys.{rows_of, row_at}
 use Rattle.kube_types.specs.Bindings.{class_of_volume, class_of_claim, is_deleting, is_protected_volume, is_for, is_ended, is_available}
 use Rattle.label_rules.specs.Selectors.{selects, admits}
+use Rattle.binder_model.specs.ObjectKeys.{class_key}
 
 -- each mode of the first is one of the second
 abbrev pub covers : Modes → Modes → Bool
@@ -90,9 +90,6 @@ pub record IsBestAt (rows : List Object) (c : ClaimData) (node : Option NodeData
 abbrev pub IsBest : List Object → ClaimData → Option NodeData → Bool → List ℕ → Option ℕ → Type 0
 IsBest rows c node only_own excluded (Some place) = IsBestAt rows c node only_own excluded place
 IsBest rows c node only_own excluded None = (place : ℕ) (v : VolumeData) → IsCandidate rows c node only_own excluded place v → ⊥
-
-abbrev pub class_key : List ℕ → Key
-class_key name = record { kind = kinds.StorageClass; namespace = []; name = name }
 
 abbrev pub is_delayed : Option Object → Bool
 is_delayed (Some (Class x)) = x.delayed

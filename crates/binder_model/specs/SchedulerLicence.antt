@@ -1,6 +1,6 @@
 -- Where the scheduler's volume binding may write, after its own earlier entries.
 -- A choice of this project; each row restates the evidence on which the volume binding plugin acts.
-use Rattle.std.specs.Prelude.{ℕ, ◌≡◌, true, false, List, [], Some, All}
+use Rattle.std.specs.Prelude.{ℕ, ◌≡◌, true, false, List, [], ◌∷◌, Some, ⊤}
 use Rattle.plain_data.specs.Pairs.{put_pair}
 use Rattle.kube_types.specs.declared.uid.Uid.{Uid}
 use Rattle.kube_types.specs.declared.key.Key.{Key}
@@ -13,9 +13,7 @@ use Rattle.kube_types.specs.declared.objects.Object.TheVariants.{Class, Node, Vo
 use Rattle.kube_types.specs.Bindings.{selected_node, class_of_claim, is_completed}
 use Rattle.label_rules.specs.Selectors.{admits}
 use Rattle.call_types.specs.declared.entry.Entry.{Entry}
-use Rattle.binder_model.specs.Store.{node_key}
-use Rattle.binder_model.specs.Matching.{class_key}
-use Rattle.binder_model.specs.BindWrites.{claim_key, volume_key}
+use Rattle.binder_model.specs.ObjectKeys.{class_key, node_key, claim_key, volume_key}
 use Rattle.binder_model.specs.Told.{IsNewest}
 
 -- the row SelectedNode, as the scheduler sets it
@@ -37,6 +35,11 @@ pub record IsReadyOn (mine : List Entry) (n : NodeData) (namespace name : List �
   pub volume_newest : IsNewest mine (volume_key claim.volume_name) (Volume volume)
   pub admitted : admits volume.terms n.meta.labels ≡ true
 
+-- each of the claims is
+abbrev pub AreReadyOn : List Entry → NodeData → List ℕ → List (List ℕ) → Type 0
+AreReadyOn mine n namespace [] = ⊤
+AreReadyOn mine n namespace (name ∷ names) = IsReadyOn mine n namespace name × AreReadyOn mine n namespace names
+
 -- the row BindPod
 pub record MayAssign (mine : List Entry) (key : Key) (uid : Uid) (node : List ℕ) : Type 0 where
   pub pod : PodData
@@ -45,4 +48,4 @@ pub record MayAssign (mine : List Entry) (key : Key) (uid : Uid) (node : List �
   pub unscheduled : pod.node ≡ []
   pub on : NodeData
   pub node_newest : IsNewest mine (node_key node) (Node on)
-  pub ready : All (IsReadyOn mine on pod.meta.namespace) pod.claims
+  pub ready : AreReadyOn mine on pod.meta.namespace pod.claims
