@@ -81,10 +81,10 @@ AreReadReady recent namespace (name ∷ names) (uid ∷ uids) = IsReadReady rece
 AreReadReady recent namespace _ _ = ⊥
 
 -- the pod with the UID, scheduled, on the node
-pub record IsPodOn (uid : Uid) (node : List ℕ) (p : PodData) : Type 0 where
-  pub same : p.meta.uid ≡ Some uid
-  pub placed : p.node ≡ node
-  pub scheduled : is_scheduled p ≡ true
+pub record IsPodOn (uid : Uid) (node : List ℕ) (pod : PodData) : Type 0 where
+  pub same : pod.meta.uid ≡ Some uid
+  pub placed : pod.node ≡ node
+  pub scheduled : is_scheduled pod ≡ true
 
 abbrev pub is_finish_of : Uid → Request → Bool
 is_finish_of pod (requests.FinishPod key uid node epoch) = same_uid uid pod
@@ -122,10 +122,10 @@ pub record MayMount (mine : List Entry) (node : List ℕ) (epoch : ℕ) (pod : U
   pub unfinished : never_finished pod mine ≡ true
 
 -- the pod with the UID, on the node, deleting
-pub record IsEndingPod (uid : Uid) (node : List ℕ) (p : PodData) : Type 0 where
-  pub same : p.meta.uid ≡ Some uid
-  pub placed : p.node ≡ node
-  pub deleting : is_deleting p.meta ≡ true
+pub record IsEndingPod (uid : Uid) (node : List ℕ) (pod : PodData) : Type 0 where
+  pub same : pod.meta.uid ≡ Some uid
+  pub placed : pod.node ≡ node
+  pub deleting : is_deleting pod.meta ≡ true
 
 -- the row FinishPod, for Unmount
 pub record MayUnmount (mine : List Entry) (node : List ℕ) (epoch : ℕ) (pod : Uid) : Type 0 where

@@ -124,9 +124,9 @@ AreShares rows n taken (c ∷ cs) (IsProvisioned ∷ shares) = IsBest rows c (So
 AreShares rows n taken _ _ = ⊥
 
 -- the node serves all claims of the pod, with these shares for the others
-pub record Serves (rows : List Object) (p : PodData) (n : NodeData) (shares : List Share) : Type 0 where
-  pub fixed : list_all (fixed_admit rows n) (claims_of rows p) ≡ true
-  pub shared : AreShares rows n [] (others_of rows p) shares
+pub record Serves (rows : List Object) (pod : PodData) (node : NodeData) (shares : List Share) : Type 0 where
+  pub fixed : list_all (fixed_admit rows node) (claims_of rows pod) ≡ true
+  pub shared : AreShares rows node [] (others_of rows pod) shares
 
 -- the nodes of the store by name
 abbrev pub node_in : Object → Option NodeData

@@ -1,5 +1,6 @@
 -- What is due for an object of a world, with the actor that does it; settled, where nothing is.
--- Source: as for the single actions; their order, and that only what the devices can give is due, is this project's choice.
+-- Source: the sync functions of `pv_controller.go`, of the protection controllers and of the volume binding plugin;
+-- their order, and that only what the devices can give is due, is this project's choice.
 use Rattle.std.specs.Prelude.{ℕ, ◌≡◌, Bool, true, false, not, ◌&&◌, ◌||◌, List, ◌∷◌, Option, Some, None, is_some, is_none, if◌then◌else◌}
 use Rattle.std.specs.List.{list_all, list_any}
 use Rattle.std.specs.declared.cmp.Ordering.TheVariants.{Less}
@@ -123,12 +124,12 @@ shares_are_served setup w n (c ∷ cs) (share ∷ shares) = share_is_served setu
 shares_are_served setup w n _ _ = true
 
 -- some node serves all claims of the pod, and the devices can give what is to be provisioned there
-pub record CanPrepare (setup : Setup) (w : World) (p : PodData) : Type 0 where
+pub record CanPrepare (setup : Setup) (w : World) (pod : PodData) : Type 0 where
   pub node : NodeData
   pub there : row_at (node_key node.meta.name) w.store.rows ≡ Some (Node node)
   pub shares : List Share
-  pub serves : Serves w.store.rows p node shares
-  pub given : shares_are_served setup w node (others_of w.store.rows p) shares ≡ true
+  pub serves : Serves w.store.rows pod node shares
+  pub given : shares_are_served setup w node (others_of w.store.rows pod) shares ≡ true
 
 -- what is due for a pod that no node runs
 abbrev pub IsStepDue : Setup → World → PodData → Step → Option Due → Type 0

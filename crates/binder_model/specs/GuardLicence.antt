@@ -37,9 +37,9 @@ pub record MayUnguardVolume (o new : VolumeData) : Type 0 where
   pub change : new ≡ record o { meta = unguarded_meta pv_protection o.meta }
 
 -- this claim, told deleting
-pub record IsDeletingVersion (o c : ClaimData) : Type 0 where
-  pub same : IsSameObject o.meta c.meta
-  pub deleting : is_deleting c.meta ≡ true
+pub record IsDeletingVersion (o claim : ClaimData) : Type 0 where
+  pub same : IsSameObject o.meta claim.meta
+  pub deleting : is_deleting claim.meta ≡ true
 
 -- a pod of the claim's namespace that a node runs or is to run, and that names the claim
 abbrev pub uses : ClaimData → Object → Bool

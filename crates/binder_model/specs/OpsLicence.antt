@@ -26,8 +26,8 @@ use Rattle.binder_model.specs.At.{HasUid}
 abbrev pub AreLabels : List Entry → ClaimData → Bool → Option (List Pair) → Type 0
 AreLabels mine c false labels = labels ≡ None
 AreLabels mine c true labels =
-    (node : List ℕ) × (value_at selected_node c.meta.annotations ≡ Some node)
-    × ((n : NodeData) × (IsNewest mine (node_key node) (Node n) × (labels ≡ Some n.meta.labels)))
+    (name : List ℕ) × (value_at selected_node c.meta.annotations ≡ Some name)
+    × ((node : NodeData) × (IsNewest mine (node_key name) (Node node) × (labels ≡ Some node.meta.labels)))
 
 -- the row Provision
 pub record MayProvision (mine : List Entry) (name provisioner : List ℕ) (bytes : ℕ) (labels : Option (List Pair)) : Type 0 where
@@ -66,11 +66,11 @@ pub record MayCreate (mine : List Entry) (new : VolumeData) : Type 0 where
   pub object : new ≡ provisioned_volume claim uid class id topology
 
 -- ended with policy Delete, for a claim, and not deleting
-pub record IsToErase (v : VolumeData) : Type 0 where
-  pub ended : is_ended v.phase ≡ true
-  pub policy : is_delete v.policy ≡ true
-  pub referring : is_some (ref_uid v.claim_ref) ≡ true
-  pub staying : is_deleting v.meta ≡ false
+pub record IsToErase (volume : VolumeData) : Type 0 where
+  pub ended : is_ended volume.phase ≡ true
+  pub policy : is_delete volume.policy ≡ true
+  pub referring : is_some (ref_uid volume.claim_ref) ≡ true
+  pub staying : is_deleting volume.meta ≡ false
 
 -- the row Erase
 pub record MayErase (mine : List Entry) (id : DataId) : Type 0 where
@@ -102,11 +102,11 @@ abbrev pub TellsErased : DataId → Entry → Type 0
 TellsErased id e = (e.told ≡ true) × EraseDone id e.request e.reply
 
 -- the volume of this UID, told ended with policy Delete, over this data
-pub record IsEndedOver (uid : Uid) (id : DataId) (v : VolumeData) : Type 0 where
-  pub same : v.meta.uid ≡ Some uid
-  pub ended : is_ended v.phase ≡ true
-  pub policy : is_delete v.policy ≡ true
-  pub over : data_id_of v.source ≡ id
+pub record IsEndedOver (uid : Uid) (id : DataId) (volume : VolumeData) : Type 0 where
+  pub same : volume.meta.uid ≡ Some uid
+  pub ended : is_ended volume.phase ≡ true
+  pub policy : is_delete volume.policy ≡ true
+  pub over : data_id_of volume.source ≡ id
 
 -- the row DeleteVolume
 pub record MayDelete (mine : List Entry) (uid : Uid) : Type 0 where

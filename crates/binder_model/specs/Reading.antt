@@ -101,11 +101,11 @@ pub record AsksForEnded (mine : List Entry) (key : Key) : Type 0 where
   pub ended : IsToErase volume
 
 -- the pod stands on a node that the seat took, and names the claim
-pub record NamesClaim (mine : List Entry) (key : Key) (p : PodData) : Type 0 where
-  pub taken : is_some (last_epoch p.node mine) ≡ true
-  pub placed : key.namespace ≡ p.meta.namespace
+pub record NamesClaim (mine : List Entry) (key : Key) (pod : PodData) : Type 0 where
+  pub taken : is_some (last_epoch pod.node mine) ≡ true
+  pub placed : key.namespace ≡ pod.meta.namespace
   pub kind : key.kind ≡ kinds.PersistentVolumeClaim
-  pub named : has_name key.name p.claims ≡ true
+  pub named : has_name key.name pod.claims ≡ true
 
 -- a Get found a claim that names the volume
 abbrev pub FoundNaming : Key → Reply → Type 0
@@ -123,9 +123,9 @@ MayGet seats.Agent mine key = AsksForMount mine key
 MayGet _ mine key = ⊥
 
 -- a claim of the namespace, deleting
-pub record IsDeletingIn (namespace : List ℕ) (c : ClaimData) : Type 0 where
-  pub placed : c.meta.namespace ≡ namespace
-  pub deleting : is_deleting c.meta ≡ true
+pub record IsDeletingIn (namespace : List ℕ) (claim : ClaimData) : Type 0 where
+  pub placed : claim.meta.namespace ≡ namespace
+  pub deleting : is_deleting claim.meta ≡ true
 
 -- claim protection reads the pods of a namespace before it lets a claim go
 abbrev pub MayListNamespace : SeatKind → List Entry → Kind → List ℕ → Type 0

@@ -27,18 +27,18 @@ pub record MaySelectNode (mine : List Entry) (o new : ClaimData) : Type 0 where
   pub change : new ≡ record o { meta = record o.meta { annotations = put_pair selected_node node.meta.name o.meta.annotations } }
 
 -- the newest told version of the claim is completed, and that of its volume admits the node
-pub record IsReadyOn (mine : List Entry) (n : NodeData) (namespace name : List ℕ) : Type 0 where
+pub record IsReadyOn (mine : List Entry) (node : NodeData) (namespace name : List ℕ) : Type 0 where
   pub claim : ClaimData
   pub newest : IsNewest mine (claim_key namespace name) (Claim claim)
   pub completed : is_completed claim ≡ true
   pub volume : VolumeData
   pub volume_newest : IsNewest mine (volume_key claim.volume_name) (Volume volume)
-  pub admitted : admits volume.terms n.meta.labels ≡ true
+  pub admitted : admits volume.terms node.meta.labels ≡ true
 
 -- each of the claims is
 abbrev pub AreReadyOn : List Entry → NodeData → List ℕ → List (List ℕ) → Type 0
-AreReadyOn mine n namespace [] = ⊤
-AreReadyOn mine n namespace (name ∷ names) = IsReadyOn mine n namespace name × AreReadyOn mine n namespace names
+AreReadyOn mine node namespace [] = ⊤
+AreReadyOn mine node namespace (name ∷ names) = IsReadyOn mine node namespace name × AreReadyOn mine node namespace names
 
 -- the row BindPod
 pub record MayAssign (mine : List Entry) (key : Key) (uid : Uid) (node : List ℕ) : Type 0 where

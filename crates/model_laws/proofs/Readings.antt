@@ -18,7 +18,7 @@ use Rattle.model_laws.specs.Reads.{found, fits_namespace, GetsTellWhatStands, Li
 abbrev IsIn : {X : Type 0} → X → List X → Type 0
 IsIn x xs = SomeOf (λ y. y ≡ x) xs
 
-after_member : (y x : Object) (ys : List Object) → IsAfter key_cmp key_of y ys → IsIn x ys → key_cmp (key_of y) (key_of x) ≡ Less
+pub after_member : (y x : Object) (ys : List Object) → IsAfter key_cmp key_of y ys → IsIn x ys → key_cmp (key_of y) (key_of x) ≡ Less
 after_member y x [] a h = elim h [ ]
 after_member y x (z ∷ zs) a (inl is) = subst (λ o. key_cmp (key_of y) (key_of o) ≡ Less) is a.0
 after_member y x (z ∷ zs) a (inr more) = after_member y x zs a.1 more
