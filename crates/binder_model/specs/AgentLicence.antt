@@ -1,6 +1,6 @@
 -- Where a node agent may mount, unmount and finish pods, after its own earlier entries.
 -- A choice of this project: it stands for kubelet's volume manager. "The last" entries stand first.
-use Rattle.std.specs.Prelude.{ℕ, ◌≡◌, ◌==◌, ◌&&◌, not, Bool, true, false, List, [], ◌∷◌, ◌++◌, Option, Some, None, bytes_eq, is_some, if◌then◌else◌, ⊤}
+use Rattle.std.specs.Prelude.{ℕ, ◌≡◌, ◌⊎◌, ◌==◌, ◌&&◌, not, Bool, true, false, List, [], ◌∷◌, ◌++◌, Option, Some, None, bytes_eq, is_some, if◌then◌else◌, ⊤}
 use Rattle.std.specs.List.{list_any}
 use Rattle.kube_types.specs.declared.uid.Uid.{Uid}
 use Rattle.kube_types.specs.declared.key.Key.{Key}
@@ -17,11 +17,9 @@ use Rattle.call_types.specs.declared.reply.MountRow.{MountRow}
 use Rattle.call_types.specs.declared.reply.Reply.{Reply}
 use Rattle.call_types.specs.declared.reply.Reply.TheVariants as replies
 use Rattle.binder_model.specs.Same.{same_uid}
-use Rattle.binder_model.specs.BindWrites.{claim_key, volume_key, is_claim_bound}
-use Rattle.binder_model.specs.Told.{SomeOf, first_some, same_key, ToldPod, TellsObject, IsPodWith, IsNewest}
-
-abbrev pub pod_key : List ℕ → List ℕ → Key
-pod_key namespace name = record { kind = kinds.Pod; namespace = namespace; name = name }
+use Rattle.binder_model.specs.ObjectKeys.{same_key, claim_key, volume_key, pod_key}
+use Rattle.binder_model.specs.BindWrites.{is_claim_bound}
+use Rattle.binder_model.specs.Told.{SomeOf, first_some, ToldPod, TellsObject, IsPodWith, IsNewest}
 
 -- the epoch that the answer to a TakeNode of the node tells
 abbrev pub epoch_told : List ℕ → Request → Reply → Option ℕ
@@ -83,10 +81,10 @@ AreReadReady recent namespace (name ∷ names) (uid ∷ uids) = IsReadReady rece
 AreReadReady recent namespace _ _ = ⊥
 
 -- the pod with the UID, scheduled, on the node
-pub record IsPodOn (uid : Uid) (node : List ℕ) (p : PodData) : Type 0 where
-  pub same : p.meta.uid ≡ Some uid
-  pub placed : p.node ≡ node
-  pub scheduled : is_scheduled p ≡ true
+pub record IsPodOn (uid : Uid) (node : List ℕ) (pod : PodData) : Type 0 where
+  pub same : pod.meta.uid ≡ Some uid
+  pub placed : pod.node ≡ node
+  pub scheduled : is_scheduled pod ≡ true
 
 abbrev pub is_finish_of : Uid → Request → Bool
 is_finish_of pod (requests.FinishPod key uid node epoch) = same_uid uid pod
@@ -100,30 +98,34 @@ never_finished pod mine = not (list_any (λ e. is_finish_of pod e.request) mine)
 abbrev pub MayReadMounts : List Entry → List ℕ → ℕ → Type 0
 MayReadMounts mine node epoch = last_epoch node mine ≡ Some epoch
 
--- the row Mount, for Mount: the entries since the epoch are those after the pod was told, the one that told it, and
--- earlier ones; a list of pods is among the last two
-pub record MayMount (mine : List Entry) (node : List ℕ) (epoch : ℕ) (pod : Uid) (claims : List Uid) : Type 0 where
-  pub current : last_epoch node mine ≡ Some epoch
-  pub recent : List Entry
-  pub teller : Entry
-  pub earlier : List Entry
-  pub since : since_epoch node mine ≡ recent ++ teller ∷ earlier
-  pub listed : ListedPods (teller ∷ earlier)
-  pub shown : PodData
+-- such a pod may be mounted by what was read since it was told: it is on the node, its newest told version is not
+-- deleting, and its claims, in order, are ready. `recent` are the entries after the one that told it
+pub record IsReadyPod (mine recent : List Entry) (node : List ℕ) (pod : Uid) (claims : List Uid) (shown : PodData) : Type 0 where
   pub on_node : IsPodOn pod node shown
-  pub told : TellsObject (IsPodWith (λ p. p ≡ shown)) teller
   pub latest : PodData
   pub newest : IsNewest mine (pod_key shown.meta.namespace shown.meta.name) (Pod latest)
   pub same : latest.meta.uid ≡ Some pod
   pub staying : is_deleting latest.meta ≡ false
   pub ready : AreReadReady recent shown.meta.namespace shown.claims claims
+
+-- down the entries since the epoch, the newest first: one told such a pod, and it or an earlier one was a list of all pods
+abbrev pub WasShownReady : List Entry → List ℕ → Uid → List Uid → List Entry → List Entry → Type 0
+WasShownReady mine node pod claims recent [] = ⊥
+WasShownReady mine node pod claims recent (e ∷ before) =
+    (ListedPods (e ∷ before) × TellsObject (IsPodWith (IsReadyPod mine recent node pod claims)) e)
+    ⊎ WasShownReady mine node pod claims (recent ++ e ∷ []) before
+
+-- the row Mount, for Mount
+pub record MayMount (mine : List Entry) (node : List ℕ) (epoch : ℕ) (pod : Uid) (claims : List Uid) : Type 0 where
+  pub current : last_epoch node mine ≡ Some epoch
+  pub shown : WasShownReady mine node pod claims [] (since_epoch node mine)
   pub unfinished : never_finished pod mine ≡ true
 
--- the pod with the UID, on the node, to be deleted
-pub record IsEndingPod (uid : Uid) (node : List ℕ) (p : PodData) : Type 0 where
-  pub same : p.meta.uid ≡ Some uid
-  pub placed : p.node ≡ node
-  pub deleting : is_deleting p.meta ≡ true
+-- the pod with the UID, on the node, deleting
+pub record IsEndingPod (uid : Uid) (node : List ℕ) (pod : PodData) : Type 0 where
+  pub same : pod.meta.uid ≡ Some uid
+  pub placed : pod.node ≡ node
+  pub deleting : is_deleting pod.meta ≡ true
 
 -- the row FinishPod, for Unmount
 pub record MayUnmount (mine : List Entry) (node : List ℕ) (epoch : ℕ) (pod : Uid) : Type 0 where
@@ -156,13 +158,9 @@ was_told_unmounted node epoch pod (e ∷ mine) =
     else if is_mount_of pod e.request then false
     else was_told_unmounted node epoch pod mine
 
--- the pod of this key, too
-pub record IsEndingPodAt (key : Key) (uid : Uid) (node : List ℕ) (p : PodData) : Type 0 where
-  pub ending : IsEndingPod uid node p
-  pub keyed : same_key (pod_key p.meta.namespace p.meta.name) key ≡ true
-
--- the row FinishPod, for FinishPod
+-- the row FinishPod, for FinishPod: it goes by the UID, and asks nothing of the key but its kind
 pub record MayFinish (mine : List Entry) (key : Key) (pod : Uid) (node : List ℕ) (epoch : ℕ) : Type 0 where
   pub current : last_epoch node mine ≡ Some epoch
-  pub told : ToldPod (IsEndingPodAt key pod node) mine
+  pub kind : key.kind ≡ kinds.Pod
+  pub told : ToldPod (IsEndingPod pod node) mine
   pub unmounted : was_told_unmounted node epoch pod (since_epoch node mine) ≡ true

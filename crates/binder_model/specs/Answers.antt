@@ -69,13 +69,13 @@ abbrev pub is_other_uid : Option Uid → Option Uid → Bool
 is_other_uid None current = false
 is_other_uid (Some given) current = not (is_uid current given)
 
--- a write that is made; the object leaves where it is to be deleted and has no finalizers
+abbrev pub write_of : Object → Bool → Outcome
+write_of o true = Removes o
+write_of o false = Stores Modified o
+
+-- a write that is made; the object leaves where it is deleting and has no finalizers
 abbrev pub write_outcome : Object → Outcome
-write_outcome o = write_of (leaves o)
-  where
-    write_of : Bool → Outcome
-    write_of true = Removes o
-    write_of false = Stores Modified o
+write_outcome o = write_of o (leaves o)
 
 unfoldable pub create : State → SeatKind → Object → List ℕ → Option Object → Outcome
 create s kind o moment (Some old) = Says (Refused AlreadyExists)
@@ -147,13 +147,13 @@ listed_rows (Some namespace) rows = filter (is_in_namespace namespace) rows
 unfoldable pub list : State → Kind → Option (List ℕ) → Outcome
 list s kind namespace = Says (Listed (listed_rows namespace (rows_of kind s.rows)) s.version)
 
+abbrev pub pod_if : Bool → PodData → Option PodData
+pod_if true pod = Some pod
+pod_if false pod = None
+
 -- the pod with this UID
 unfoldable pub pod_with : Uid → Option Object → Option PodData
-pod_with uid (Some (Pod p)) = if_uid (is_uid p.meta.uid uid)
-  where
-    if_uid : Bool → Option PodData
-    if_uid true = Some p
-    if_uid false = None
+pod_with uid (Some (Pod p)) = pod_if (is_uid p.meta.uid uid) p
 pod_with uid _ = None
 
 unfoldable pub bind : State → List ℕ → Option PodData → Outcome

@@ -1,4 +1,5 @@
 -- "At o": a write carries the version of a told object o of its key, and is o with the named change alone.
+-- Source: Kubernetes API conventions, "Concurrency Control and Consistency".
 use Rattle.std.specs.Prelude.{ℕ, ◌≡◌, ◌≢◌, List, [], Option, Some}
 use Rattle.kube_types.specs.declared.uid.Uid.{Uid}
 use Rattle.kube_types.specs.declared.objects.Meta.{Meta}
@@ -21,7 +22,7 @@ abbrev pub HasUid : Uid → ClaimData → Type 0
 HasUid uid c = c.meta.uid ≡ Some uid
 
 -- the claim has the UID and names another volume
-pub record IsElsewhere (volume : List ℕ) (uid : Uid) (c : ClaimData) : Type 0 where
-  pub claim : HasUid uid c
-  pub named : c.volume_name ≢ []
-  pub other : c.volume_name ≢ volume
+pub record IsElsewhere (volume : List ℕ) (uid : Uid) (told_claim : ClaimData) : Type 0 where
+  pub claim : HasUid uid told_claim
+  pub named : told_claim.volume_name ≢ []
+  pub other : told_claim.volume_name ≢ volume

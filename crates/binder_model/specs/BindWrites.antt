@@ -1,13 +1,11 @@
 -- The four writes of a binding, in order, each at the version of the object on which it was decided; and unbinding.
 -- Source: `bind` and `unbindVolume` of `pv_controller.go`. That a write over Released or Failed, or Bound without the
 -- protection finalizer, is not made is this project's choice.
-use Rattle.std.specs.Prelude.{ℕ, Bool, true, false, not, ◌&&◌, ◌||◌, List, [], Option, Some, None, bytes_eq, is_none, if◌then◌else◌}
+use Rattle.std.specs.Prelude.{ℕ, Bool, true, false, not, ◌&&◌, ◌||◌, List, Option, Some, None, bytes_eq, is_none, if◌then◌else◌}
 use Rattle.plain_data.specs.Pairs.{put_pair, without_key}
-use Rattle.kube_types.specs.declared.parts.Kind.TheVariants as kinds
 use Rattle.kube_types.specs.declared.parts.ClaimPhase.{ClaimPhase}
 use Rattle.kube_types.specs.declared.parts.ClaimPhase.TheVariants as claims
 use Rattle.kube_types.specs.declared.parts.VolumePhase.TheVariants as volumes
-use Rattle.kube_types.specs.declared.key.Key.{Key}
 use Rattle.kube_types.specs.declared.objects.Meta.{Meta}
 use Rattle.kube_types.specs.declared.objects.Ref.{Ref}
 use Rattle.kube_types.specs.declared.objects.Volume.{Volume as VolumeData}
@@ -17,13 +15,8 @@ use Rattle.kube_types.specs.Bindings.{bind_completed, bound_by_controller, yes, 
 use Rattle.call_types.specs.declared.request.NewStatus.TheVariants as statuses
 use Rattle.call_types.specs.declared.request.Request.{Request}
 use Rattle.call_types.specs.declared.request.Request.TheVariants.{Update, UpdateStatus}
+use Rattle.binder_model.specs.ObjectKeys.{claim_key, volume_key}
 use Rattle.binder_model.specs.Same.{same_option, same_amount, same_modes}
-
-abbrev pub volume_key : List ℕ → Key
-volume_key name = record { kind = kinds.PersistentVolume; namespace = []; name = name }
-
-abbrev pub claim_key : List ℕ → List ℕ → Key
-claim_key namespace name = record { kind = kinds.PersistentVolumeClaim; namespace = namespace; name = name }
 
 -- the reference that names the claim with its UID
 abbrev pub ref_to : ClaimData → Ref

@@ -12,7 +12,8 @@ use Rattle.kube_types.specs.declared.objects.Object.TheVariants.{Volume, Claim}
 use Rattle.kube_types.specs.Keys.{row_at}
 use Rattle.kube_types.specs.Bindings.{provisioned_by, has_key, is_uid, is_available, is_bound, is_ended, is_delete, is_deleting, is_protected_volume, is_completed, is_empty, is_for, carries, ref_uid}
 use Rattle.binder_model.specs.Matching.{fits, has_match}
-use Rattle.binder_model.specs.BindWrites.{claim_key, volume_key, next_write}
+use Rattle.binder_model.specs.ObjectKeys.{claim_key, volume_key}
+use Rattle.binder_model.specs.BindWrites.{next_write}
 
 -- the claim under this key that has the UID
 unfoldable pub claim_with : Uid → Option Object → Option ClaimData
@@ -31,15 +32,16 @@ referred_due v (Some c) =
     else if bytes_eq c.volume_name v.meta.name then (if is_bound v.phase || not (is_protected_volume v) then None else Some Bound)
     else if is_reclaimed v then Some Release else Some Unbind
 
+-- what is due by the UID of the volume's reference, if it has one
+abbrev pub uid_due : List Object → VolumeData → Ref → Option Uid → Option Due
+uid_due rows v r None = if is_available v.phase then None else Some Available
+uid_due rows v r (Some uid) =
+    if is_ended v.phase then None
+    else referred_due v (claim_with uid (row_at (claim_key r.namespace r.name) rows))
+
 unfoldable pub reference_due : List Object → VolumeData → Option Ref → Option Due
 reference_due rows v None = if is_available v.phase then None else Some Available
-reference_due rows v (Some r) = by_uid r.uid
-  where
-    by_uid : Option Uid → Option Due
-    by_uid None = if is_available v.phase then None else Some Available
-    by_uid (Some uid) =
-        if is_ended v.phase then None
-        else referred_due v (claim_with uid (row_at (claim_key r.namespace r.name) rows))
+reference_due rows v (Some r) = uid_due rows v r r.uid
 
 unfoldable pub volume_due : List Object → VolumeData → Option Due
 volume_due rows v = reference_due rows v v.claim_ref
@@ -52,13 +54,13 @@ named_due c (Some (Volume v)) =
     else if is_for v c then Some Bind else None
 named_due c _ = None
 
+abbrev pub is_uid_of_other : Option Uid → ClaimData → Bool
+is_uid_of_other None c = false
+is_uid_of_other (Some uid) c = not (is_uid c.meta.uid uid)
+
 -- the reference has a UID, and it is not the claim's
 abbrev pub has_other_uid : VolumeData → ClaimData → Bool
-has_other_uid v c = is_other (ref_uid v.claim_ref)
-  where
-    is_other : Option Uid → Bool
-    is_other None = false
-    is_other (Some uid) = not (is_uid c.meta.uid uid)
+has_other_uid v c = is_uid_of_other (ref_uid v.claim_ref) c
 
 -- the claim is completed and names this volume, or one that is absent
 unfoldable pub completed_due : ClaimData → Option Object → Option Due

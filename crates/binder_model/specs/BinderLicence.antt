@@ -11,7 +11,8 @@ use Rattle.kube_types.specs.declared.objects.Object.{Object}
 use Rattle.kube_types.specs.declared.objects.Object.TheVariants.{Volume, Claim}
 use Rattle.kube_types.specs.Bindings.{is_ended, is_bound, is_completed, is_protected_volume, carries, names_claim, ref_uid}
 use Rattle.call_types.specs.declared.entry.Entry.{Entry}
-use Rattle.binder_model.specs.BindWrites.{claim_key, volume_key, taken_for, completed_with, unbound_volume}
+use Rattle.binder_model.specs.ObjectKeys.{claim_key, volume_key}
+use Rattle.binder_model.specs.BindWrites.{taken_for, completed_with, unbound_volume}
 use Rattle.binder_model.specs.BinderDue.{is_reclaimed}
 use Rattle.binder_model.specs.Told.{ToldVolume, ToldClaim, TellsLive, After}
 use Rattle.binder_model.specs.At.{IsSameObject, HasUid, IsElsewhere}
@@ -22,10 +23,10 @@ IsFreeFor None c = ⊤
 IsFreeFor (Some r) c = (names_claim r c ≡ true) × (r.uid ≡ None)
 
 -- the claim was told with its UID, and the new volume is o with the reference to it
-pub record IsTaken (o new : VolumeData) (c : ClaimData) : Type 0 where
-  pub known : is_some c.meta.uid ≡ true
-  pub free : IsFreeFor o.claim_ref c
-  pub change : new ≡ taken_for o c
+pub record IsTaken (o new : VolumeData) (claim : ClaimData) : Type 0 where
+  pub known : is_some claim.meta.uid ≡ true
+  pub free : IsFreeFor o.claim_ref claim
+  pub change : new ≡ taken_for o claim
 
 -- the row ClaimRef
 pub record MayTake (mine : List Entry) (o new : VolumeData) : Type 0 where
@@ -33,9 +34,9 @@ pub record MayTake (mine : List Entry) (o new : VolumeData) : Type 0 where
   pub told : ToldClaim (IsTaken o new) mine
 
 -- the claim has the UID and names this volume or none
-pub record IsHere (volume : List ℕ) (uid : Uid) (c : ClaimData) : Type 0 where
-  pub claim : HasUid uid c
-  pub names : (c.volume_name ≡ []) ⊎ (c.volume_name ≡ volume)
+pub record IsHere (volume : List ℕ) (uid : Uid) (told_claim : ClaimData) : Type 0 where
+  pub claim : HasUid uid told_claim
+  pub names : (told_claim.volume_name ≡ []) ⊎ (told_claim.volume_name ≡ volume)
 
 -- the row PhaseBound
 pub record MayBind (mine : List Entry) (o : VolumeData) : Type 0 where
@@ -46,23 +47,23 @@ pub record MayBind (mine : List Entry) (o : VolumeData) : Type 0 where
   pub told : ToldClaim (IsHere o.meta.name uid) mine
 
 -- the volume carries the claim, is Bound, and is one with which the claim may be completed
-pub record IsBoundFor (o new : ClaimData) (v : VolumeData) : Type 0 where
-  pub bound : is_bound v.phase ≡ true
-  pub carries : carries v o ≡ true
-  pub names : (o.volume_name ≡ []) ⊎ (o.volume_name ≡ v.meta.name)
-  pub change : new ≡ completed_with o v
+pub record IsBoundFor (o new : ClaimData) (volume : VolumeData) : Type 0 where
+  pub bound : is_bound volume.phase ≡ true
+  pub carries : carries volume o ≡ true
+  pub names : (o.volume_name ≡ []) ⊎ (o.volume_name ≡ volume.meta.name)
+  pub change : new ≡ completed_with o volume
 
 -- the row Completion
 abbrev pub MayComplete : List Entry → ClaimData → ClaimData → Type 0
 MayComplete mine o new = ToldVolume (IsBoundFor o new) mine
 
 -- the status is that of a told version of the claim's volume
-pub record IsShown (o : ClaimData) (modes : Modes) (amount : Option Amount) (v : VolumeData) : Type 0 where
-  pub named : v.meta.name ≡ o.volume_name
-  pub bound : is_bound v.phase ≡ true
-  pub carries : carries v o ≡ true
-  pub same_modes : modes ≡ v.modes
-  pub same_amount : amount ≡ Some v.amount
+pub record IsShown (o : ClaimData) (modes : Modes) (amount : Option Amount) (volume : VolumeData) : Type 0 where
+  pub named : volume.meta.name ≡ o.volume_name
+  pub bound : is_bound volume.phase ≡ true
+  pub carries : carries volume o ≡ true
+  pub same_modes : modes ≡ volume.modes
+  pub same_amount : amount ≡ Some volume.amount
 
 -- the row ClaimStatus
 pub record MayShow (mine : List Entry) (o : ClaimData) (modes : Modes) (amount : Option Amount) : Type 0 where
@@ -74,9 +75,9 @@ pub record MayFree (o : VolumeData) : Type 0 where
   pub free : ref_uid o.claim_ref ≡ None
 
 -- this volume, told with the reference
-pub record IsReferring (o : VolumeData) (r : Ref) (v : VolumeData) : Type 0 where
-  pub same : IsSameObject o.meta v.meta
-  pub refers : v.claim_ref ≡ Some r
+pub record IsReferring (o : VolumeData) (reference : Ref) (volume : VolumeData) : Type 0 where
+  pub same : IsSameObject o.meta volume.meta
+  pub refers : volume.claim_ref ≡ Some reference
 
 -- no claim with the UID stood there
 abbrev pub IsGone : Uid → Option Object → Type 0
@@ -111,9 +112,9 @@ IsNotCarrying o (Some (Volume v)) = (uid : Uid) × (ref_uid v.claim_ref ≡ Some
 IsNotCarrying o _ = ⊤
 
 -- this claim, told completed
-pub record IsCompletedVersion (o c : ClaimData) : Type 0 where
-  pub same : IsSameObject o.meta c.meta
-  pub completed : is_completed c ≡ true
+pub record IsCompletedVersion (o claim : ClaimData) : Type 0 where
+  pub same : IsSameObject o.meta claim.meta
+  pub completed : is_completed claim ≡ true
 
 -- after this claim was told completed, a read of its volume found none that carries it
 abbrev pub WasReadLost : List Entry → ClaimData → Type 0

@@ -15,8 +15,8 @@ use Rattle.kube_types.specs.declared.objects.Object.TheVariants.{Class, Node, Vo
 use Rattle.kube_types.specs.Keys.{row_at, rows_of}
 use Rattle.kube_types.specs.Bindings.{selected_node, has_key, class_of_claim, is_completed, is_deleting, is_empty, carries}
 use Rattle.label_rules.specs.Selectors.{admits}
-use Rattle.binder_model.specs.Matching.{IsBest, class_key, is_delayed}
-use Rattle.binder_model.specs.BindWrites.{claim_key, volume_key}
+use Rattle.binder_model.specs.ObjectKeys.{class_key, claim_key, volume_key}
+use Rattle.binder_model.specs.Matching.{IsBest, is_delayed}
 use Rattle.binder_model.specs.Provisioning.{provisions}
 
 -- the claims of the pod, in order, each where it stands
@@ -30,7 +30,7 @@ claim_named rows namespace name = claim_in (row_at (claim_key namespace name) ro
 abbrev pub claims_of : List Object → PodData → List ClaimData
 claims_of rows p = filter_map (claim_named rows p.meta.namespace) p.claims
 
--- step 1: a claim of the pod is absent or to be deleted
+-- step 1: a claim of the pod is absent or deleting
 abbrev pub is_missing : Option ClaimData → Bool
 is_missing None = true
 is_missing (Some c) = is_deleting c.meta
@@ -76,13 +76,14 @@ is_under_way rows c = is_completed c || has_carrier rows c || has_key selected_n
 
 -- step 5: which volumes and which claims a node serves
 
+-- a volume that carries the claim admits the node
+abbrev pub admits_if_carrying : NodeData → ClaimData → Object → Bool
+admits_if_carrying n c (Volume v) = not (carries v c) || admits v.terms n.meta.labels
+admits_if_carrying n c o = true
+
 -- the volumes of completed claims, and those that carry a claim of the pod, admit the node
 abbrev pub fixed_admit : List Object → NodeData → ClaimData → Bool
 fixed_admit rows n c = (not (is_completed c) || volume_admits rows n c) && list_all (admits_if_carrying n c) rows
-  where
-    admits_if_carrying : NodeData → ClaimData → Object → Bool
-    admits_if_carrying n c (Volume v) = not (carries v c) || admits v.terms n.meta.labels
-    admits_if_carrying n c o = true
 
 -- the other claims, by rising size and name
 abbrev pub claim_cmp : ClaimData → ClaimData → Ordering
@@ -123,9 +124,9 @@ AreShares rows n taken (c ∷ cs) (IsProvisioned ∷ shares) = IsBest rows c (So
 AreShares rows n taken _ _ = ⊥
 
 -- the node serves all claims of the pod, with these shares for the others
-pub record Serves (rows : List Object) (p : PodData) (n : NodeData) (shares : List Share) : Type 0 where
-  pub fixed : list_all (fixed_admit rows n) (claims_of rows p) ≡ true
-  pub shared : AreShares rows n [] (others_of rows p) shares
+pub record Serves (rows : List Object) (pod : PodData) (node : NodeData) (shares : List Share) : Type 0 where
+  pub fixed : list_all (fixed_admit rows node) (claims_of rows pod) ≡ true
+  pub shared : AreShares rows node [] (others_of rows pod) shares
 
 -- the nodes of the store by name
 abbrev pub node_in : Object → Option NodeData

@@ -1,6 +1,6 @@
 -- The devices: data on back ends, the epochs of nodes, and what is mounted there. They stand for real drivers and
 -- mounts, a choice of this project. The newest data stand first.
-use Rattle.std.specs.Prelude.{ℕ, ◌+◌, ◌-◌, ◌==◌, nat_le, max, Bool, true, false, not, ◌&&◌, List, [], ◌∷◌, ◌++◌, Option, Some, None, bytes_eq, codes, decimal, length, filter, map, if◌then◌else◌}
+use Rattle.std.specs.Prelude.{ℕ, ◌+◌, ◌-◌, ◌==◌, nat_le, max, Bool, true, false, not, ◌&&◌, List, [], ◌∷◌, ◌++◌, Option, Some, None, bytes_eq, codes, decimal, is_some, length, filter, map, if◌then◌else◌}
 use Rattle.std.specs.List.{list_any}
 use Rattle.std.specs.Ordering.{is_gt}
 use Rattle.plain_data.specs.Pairs.{Pair, text_cmp, value_at}
@@ -84,15 +84,15 @@ without_mount node pod mounts = filter (λ m. not (bytes_eq m.node node && same_
 
 -- pools and data
 
+abbrev pub is_text : Option (List ℕ) → List ℕ → Bool
+is_text None wanted = false
+is_text (Some text) wanted = bytes_eq text wanted
+
 -- a pool serves a node that has its label, and every request where it has none or where no node is given
 abbrev pub serves : Option (List ℕ × List ℕ) → Option (List Pair) → Bool
 serves None labels = true
 serves (Some pair) None = true
-serves (Some pair) (Some labels) = is_value (value_at pair.0 labels)
-  where
-    is_value : Option (List ℕ) → Bool
-    is_value None = false
-    is_value (Some v) = bytes_eq v pair.1
+serves (Some pair) (Some labels) = is_text (value_at pair.0 labels) pair.1
 
 -- the bytes that a pool has given away
 abbrev pub used_bytes : ℕ → List Data → ℕ
@@ -198,11 +198,7 @@ device_answer setup d _ = None
 
 -- whether a pool has the bytes free for a request, and whether data of a name are there
 abbrev pub pool_fits : Setup → Devices → List ℕ → ℕ → Option (List Pair) → Bool
-pool_fits setup d provisioner bytes labels = is_place (first_fit provisioner bytes labels d.stored 0 setup.pools)
-  where
-    is_place : Option ℕ → Bool
-    is_place None = false
-    is_place (Some place) = true
+pool_fits setup d provisioner bytes labels = is_some (first_fit provisioner bytes labels d.stored 0 setup.pools)
 
 abbrev pub has_data : Devices → List ℕ → Bool
 has_data d name = list_any (λ x. x.there && bytes_eq x.name name) d.stored

@@ -1,7 +1,9 @@
 -- What is due for an object of a world, with the actor that does it; settled, where nothing is.
--- Source: as for the single actions; their order, and that only what the devices can give is due, is this project's choice.
+-- Source: the sync functions of `pv_controller.go`, of the protection controllers and of the volume binding plugin;
+-- their order, and that only what the devices can give is due, is this project's choice.
 use Rattle.std.specs.Prelude.{ℕ, ◌≡◌, Bool, true, false, not, ◌&&◌, ◌||◌, List, ◌∷◌, Option, Some, None, is_some, is_none, if◌then◌else◌}
 use Rattle.std.specs.List.{list_all, list_any}
+use Rattle.std.specs.declared.cmp.Ordering.TheVariants.{Less}
 use Rattle.plain_data.specs.Pairs.{Pair, value_at}
 use Rattle.kube_types.specs.declared.uid.Uid.{Uid}
 use Rattle.kube_types.specs.declared.key.Key.{Key}
@@ -14,14 +16,14 @@ use Rattle.kube_types.specs.declared.objects.Pod.{Pod as PodData}
 use Rattle.kube_types.specs.declared.objects.Volume.{Volume as VolumeData}
 use Rattle.kube_types.specs.declared.objects.Object.{Object}
 use Rattle.kube_types.specs.declared.objects.Object.TheVariants.{Class, Node, Volume, Claim, Pod}
-use Rattle.kube_types.specs.Keys.{row_at}
+use Rattle.kube_types.specs.Keys.{key_cmp, row_at}
 use Rattle.kube_types.specs.Bindings.{selected_node, class_of_claim, is_deleting, is_scheduled, is_protected_volume, is_protected_claim, is_completed, is_ended, is_bound, is_delete, carries, ref_uid}
 use Rattle.call_types.specs.declared.setup.Setup.{Setup}
-use Rattle.binder_model.specs.Store.{node_key}
+use Rattle.binder_model.specs.ObjectKeys.{class_key, node_key, volume_key}
 use Rattle.binder_model.specs.Devices.{Devices, pool_fits, has_data, is_mounted_on}
 use Rattle.binder_model.specs.World.{World}
-use Rattle.binder_model.specs.Matching.{class_key, has_match}
-use Rattle.binder_model.specs.BindWrites.{volume_key, is_claim_bound}
+use Rattle.binder_model.specs.Matching.{has_match}
+use Rattle.binder_model.specs.BindWrites.{is_claim_bound}
 use Rattle.binder_model.specs.BinderDue.{volume_due, claim_due}
 use Rattle.binder_model.specs.GuardLicence.{uses}
 use Rattle.binder_model.specs.Provisioning.{data_name, is_wanting, provisions}
@@ -95,12 +97,12 @@ is_ready rows None = false
 is_ready rows (Some c) =
     not (is_deleting c.meta) && is_protected_claim c && is_completed c && is_claim_bound c.phase && carried_by c (row_at (volume_key c.volume_name) rows)
 
+abbrev pub is_pod_uid_mounted : Devices → List ℕ → Option Uid → Bool
+is_pod_uid_mounted d node None = false
+is_pod_uid_mounted d node (Some uid) = is_mounted_on node uid d.mounts
+
 abbrev pub is_pod_mounted : Devices → PodData → Bool
-is_pod_mounted d p = mounted_as p.meta.uid
-  where
-    mounted_as : Option Uid → Bool
-    mounted_as None = false
-    mounted_as (Some uid) = is_mounted_on p.node uid d.mounts
+is_pod_mounted d p = is_pod_uid_mounted d p.node p.meta.uid
 
 abbrev pub agent_due : World → PodData → Option Due
 agent_due w p =
@@ -108,26 +110,26 @@ agent_due w p =
     else if not (is_pod_mounted w.devices p) && list_all (λ name. is_ready w.store.rows (claim_named w.store.rows p.meta.namespace name)) p.claims then Some dues.Mount
     else None
 
+abbrev pub is_served_on : Setup → World → NodeData → ClaimData → Option Uid → Option Object → Bool
+is_served_on setup w n c (Some uid) (Some (Class x)) = is_served setup w.devices c uid x (Some n.meta.labels)
+is_served_on setup w n c uid o = false
+
 -- each claim that is to be provisioned has its data there, or a pool that fits on the node
 abbrev pub share_is_served : Setup → World → NodeData → ClaimData → Share → Bool
 share_is_served setup w n c (TakesVolume place) = true
-share_is_served setup w n c IsProvisioned = served_for c.meta.uid (row_at (class_key (class_of_claim c)) w.store.rows)
-  where
-    served_for : Option Uid → Option Object → Bool
-    served_for (Some uid) (Some (Class x)) = is_served setup w.devices c uid x (Some n.meta.labels)
-    served_for uid o = false
+share_is_served setup w n c IsProvisioned = is_served_on setup w n c c.meta.uid (row_at (class_key (class_of_claim c)) w.store.rows)
 
 abbrev pub shares_are_served : Setup → World → NodeData → List ClaimData → List Share → Bool
 shares_are_served setup w n (c ∷ cs) (share ∷ shares) = share_is_served setup w n c share && shares_are_served setup w n cs shares
 shares_are_served setup w n _ _ = true
 
 -- some node serves all claims of the pod, and the devices can give what is to be provisioned there
-pub record CanPrepare (setup : Setup) (w : World) (p : PodData) : Type 0 where
+pub record CanPrepare (setup : Setup) (w : World) (pod : PodData) : Type 0 where
   pub node : NodeData
   pub there : row_at (node_key node.meta.name) w.store.rows ≡ Some (Node node)
   pub shares : List Share
-  pub serves : Serves w.store.rows p node shares
-  pub given : shares_are_served setup w node (others_of w.store.rows p) shares ≡ true
+  pub serves : Serves w.store.rows pod node shares
+  pub given : shares_are_served setup w node (others_of w.store.rows pod) shares ≡ true
 
 -- what is due for a pod that no node runs
 abbrev pub IsStepDue : Setup → World → PodData → Step → Option Due → Type 0
@@ -150,3 +152,15 @@ IsDue setup w o action = action ≡ None
 -- nothing is due for any object
 abbrev pub IsSettled : Setup → World → Type 0
 IsSettled setup w = (key : Key) (o : Object) → row_at key w.store.rows ≡ Some o → IsDue setup w o None
+
+-- the object under the key is the first in the order of kinds, namespaces and names for which something is due: this action
+pub record IsFirstDueAt (setup : Setup) (w : World) (key : Key) (action : Due) : Type 0 where
+  pub object : Object
+  pub there : row_at key w.store.rows ≡ Some object
+  pub due : IsDue setup w object (Some action)
+  pub first : (earlier : Key) (other : Object) → row_at earlier w.store.rows ≡ Some other → key_cmp earlier key ≡ Less → IsDue setup w other None
+
+-- the first action that is due in the world, with the key of its object; none exactly where the world is settled
+abbrev pub IsFirstDue : Setup → World → Option (Key × Due) → Type 0
+IsFirstDue setup w (Some first) = IsFirstDueAt setup w first.0 first.1
+IsFirstDue setup w None = IsSettled setup w

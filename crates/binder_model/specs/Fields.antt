@@ -16,6 +16,7 @@ use Rattle.kube_types.specs.declared.objects.Object.{Object}
 use Rattle.kube_types.specs.declared.objects.Object.TheVariants.{Class, Node, Volume, Claim, Pod}
 use Rattle.kube_types.specs.Keys.{meta_of}
 use Rattle.kube_types.specs.Bindings.{has_name, is_empty, is_deleting}
+use Rattle.binder_model.specs.Store.{has_no_names}
 use Rattle.binder_model.specs.Same.{same_option, same_names, same_pairs, same_modes, same_amount, same_policy, same_selector, same_terms, same_source}
 
 abbrev pub is_lower_or_digit : ℕ → Bool
@@ -94,11 +95,7 @@ pod_fault lacks_node p =
     faulty (not (is_namespace p.meta.namespace)) fields.Namespace
     (faulty lacks_node fields.NodeName
     (faulty (has_name [] p.claims || has_twice p.claims) fields.Claims
-    (faulty (not (is_empty_list p.meta.finalizers)) fields.Finalizers None)))
-  where
-    is_empty_list : List (List ℕ) → Bool
-    is_empty_list [] = true
-    is_empty_list (f ∷ fs) = false
+    (faulty (not (has_no_names p.meta.finalizers)) fields.Finalizers None)))
 
 unfoldable pub kind_fault : Bool → Object → Option Field
 kind_fault lacks_node (Class x) = class_fault x

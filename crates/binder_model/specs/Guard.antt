@@ -26,9 +26,9 @@ abbrev pub is_in_phase_released : VolumePhase → Bool
 is_in_phase_released Released = true
 is_in_phase_released _ = false
 
--- the one exception: a user may clear the reference of a volume in phase Released that is not to be deleted
+-- the one exception: a user may clear the reference that a volume in phase Released has, where its policy is not Delete
 abbrev pub clears_released : Option Object → Object → Bool
-clears_released (Some (Volume old)) (Volume new) = is_in_phase_released old.phase && not (is_delete old.policy) && is_none new.claim_ref
+clears_released (Some (Volume old)) (Volume new) = is_in_phase_released old.phase && not (is_delete old.policy) && is_some old.claim_ref && is_none new.claim_ref
 clears_released _ _ = false
 
 abbrev pub changes_annotation : Option Object → Object → List ℕ → Bool
@@ -71,7 +71,7 @@ breaks_reference old (Volume new) =
     && not (clears_released old (Volume new))
 breaks_reference old _ = false
 
--- what is to be deleted once released stays so
+-- policy Delete stays once the volume has ended
 abbrev pub breaks_policy : Option Object → Object → Bool
 breaks_policy (Some (Volume old)) (Volume new) = is_ended old.phase && is_delete old.policy && not (is_delete new.policy)
 breaks_policy _ _ = false

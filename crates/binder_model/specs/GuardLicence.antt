@@ -1,6 +1,6 @@
 -- Where the protection controllers may write, after their own earlier entries.
 -- A choice of this project; each row restates the evidence on which the pvc-protection and pv-protection controllers act.
-use Rattle.std.specs.Prelude.{ℕ, ◌≡◌, ◌&&◌, Bool, true, false, List, [], ◌∷◌, ◌++◌, Some, None, bytes_eq}
+use Rattle.std.specs.Prelude.{ℕ, ◌≡◌, ◌&&◌, Bool, true, false, List, [], ◌∷◌, ◌++◌, Some, bytes_eq}
 use Rattle.std.specs.List.{list_any}
 use Rattle.kube_types.specs.declared.parts.Kind.TheVariants as kinds
 use Rattle.kube_types.specs.declared.objects.Meta.{Meta}
@@ -36,10 +36,10 @@ pub record MayUnguardVolume (o new : VolumeData) : Type 0 where
   pub loose : is_bound o.phase ≡ false
   pub change : new ≡ record o { meta = unguarded_meta pv_protection o.meta }
 
--- this claim, told to be deleted
-pub record IsDeletingVersion (o c : ClaimData) : Type 0 where
-  pub same : IsSameObject o.meta c.meta
-  pub deleting : is_deleting c.meta ≡ true
+-- this claim, told deleting
+pub record IsDeletingVersion (o claim : ClaimData) : Type 0 where
+  pub same : IsSameObject o.meta claim.meta
+  pub deleting : is_deleting claim.meta ≡ true
 
 -- a pod of the claim's namespace that a node runs or is to run, and that names the claim
 abbrev pub uses : ClaimData → Object → Bool

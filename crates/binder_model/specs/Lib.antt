@@ -11,9 +11,12 @@ pub mod Edits
 pub mod Fields
 pub mod Guard
 pub mod GuardLicence
+pub mod Imports
 pub mod Licence
 pub mod Matching
+pub mod ObjectKeys
 pub mod OpsLicence
+pub mod Promises
 pub mod Provisioning
 pub mod Reading
 pub mod Run

@@ -1,12 +1,12 @@
--- Which row judges a controller's request, and where it allows it; the rule of its row else. Kind comes first.
-use Rattle.std.specs.Prelude.{ℕ, ◌≡◌, ◌==◌, Bool, true, false, List, Option, Some, None, is_some, ⊤, All, if◌then◌else◌}
+-- Which row judges a controller's request, where it allows it, and which rule refuses it else. Kind comes first.
+-- A choice of this project.
+use Rattle.std.specs.Prelude.{ℕ, ◌≡◌, Bool, true, false, List, [], ◌∷◌, Option, Some, None, is_some, ⊤, if◌then◌else◌}
 use Rattle.kube_types.specs.declared.uid.Uid.{Uid}
 use Rattle.kube_types.specs.declared.key.Key.{Key}
 use Rattle.kube_types.specs.declared.names.LicenceRule.{LicenceRule}
 use Rattle.kube_types.specs.declared.names.LicenceRule.TheVariants as rules
 use Rattle.kube_types.specs.declared.parts.Kind.{Kind}
 use Rattle.kube_types.specs.declared.parts.Kind.TheVariants as kinds
-use Rattle.kube_types.specs.Keys.{kind_index}
 use Rattle.kube_types.specs.declared.parts.VolumePhase.{VolumePhase}
 use Rattle.kube_types.specs.declared.parts.VolumePhase.TheVariants as volumes
 use Rattle.kube_types.specs.declared.parts.ClaimPhase.{ClaimPhase}
@@ -23,6 +23,7 @@ use Rattle.call_types.specs.declared.request.SeatKind.{SeatKind}
 use Rattle.call_types.specs.declared.request.SeatKind.TheVariants as seats
 use Rattle.call_types.specs.declared.request.Request.{Request}
 use Rattle.call_types.specs.declared.request.Request.TheVariants as requests
+use Rattle.binder_model.specs.ObjectKeys.{same_kind}
 use Rattle.binder_model.specs.Told.{ToldVolume, ToldClaim}
 use Rattle.binder_model.specs.At.{IsWrittenAt}
 use Rattle.binder_model.specs.BinderLicence.{MayTake, MayBind, MayComplete, MayShow, MayFree, MayRelease, MayUnbind, MayLose}
@@ -149,17 +150,18 @@ RowAllows seats.Agent mine request = AgentMay mine request
 
 -- a seat keeps its kind
 abbrev pub AreOfKind : SeatKind → List Entry → Type 0
-AreOfKind kind mine = All (λ e. e.kind ≡ kind) mine
+AreOfKind kind [] = ⊤
+AreOfKind kind (e ∷ mine) = (e.kind ≡ kind) × AreOfKind kind mine
 
 -- a seat of this kind with these earlier entries may make the request; users are bound by the store's guard alone
 abbrev pub Licensed : SeatKind → List Entry → Request → Type 0
 Licensed seats.User mine request = ⊤
 Licensed kind mine request = AreOfKind kind mine × RowAllows kind mine request
 
--- the rule by whose name a request is refused, where its row does not allow it
+-- the rule of a request's row. The kind of the object finds the row too: a status or a verb of another kind is Kind
 
 abbrev pub is_kind : Kind → Key → Bool
-is_kind kind key = kind_index key.kind == kind_index kind
+is_kind kind key = same_kind key.kind kind
 
 abbrev pub read_rule : Request → LicenceRule
 read_rule (requests.List kind namespace) = rules.Reading
@@ -201,7 +203,7 @@ ops_rule request = read_rule request
 abbrev pub scheduler_rule : Request → LicenceRule
 scheduler_rule (requests.Update (Volume new) given) = rules.ClaimRef
 scheduler_rule (requests.Update (Claim new) given) = rules.SelectedNode
-scheduler_rule (requests.BindPod key uid node) = rules.BindPod
+scheduler_rule (requests.BindPod key uid node) = if is_kind kinds.Pod key then rules.BindPod else rules.Kind
 scheduler_rule request = read_rule request
 
 abbrev pub volume_protect_rule : Request → LicenceRule
@@ -216,7 +218,7 @@ abbrev pub agent_rule : Request → LicenceRule
 agent_rule (requests.Mounts node epoch) = rules.Mount
 agent_rule (requests.Mount node epoch pod claims) = rules.Mount
 agent_rule (requests.Unmount node epoch pod) = rules.FinishPod
-agent_rule (requests.FinishPod key uid node epoch) = rules.FinishPod
+agent_rule (requests.FinishPod key uid node epoch) = if is_kind kinds.Pod key then rules.FinishPod else rules.Kind
 agent_rule request = read_rule request
 
 abbrev pub row_rule : SeatKind → Request → LicenceRule
@@ -227,3 +229,10 @@ row_rule seats.Scheduler request = scheduler_rule request
 row_rule seats.ClaimProtect request = claim_protect_rule request
 row_rule seats.VolumeProtect request = volume_protect_rule request
 row_rule seats.Agent request = agent_rule request
+
+-- the rule that refuses the request of a seat of this kind with these earlier entries: Kind where an entry has another
+-- kind, else the rule of the request's row. Users are refused by no rule of the licence
+pub record IsRefusedBy (kind : SeatKind) (mine : List Entry) (request : Request) (rule : LicenceRule) : Type 0 where
+  pub refused : Licensed kind mine request → ⊥
+  pub mixed : (AreOfKind kind mine → ⊥) → rule ≡ rules.Kind
+  pub row : AreOfKind kind mine → rule ≡ row_rule kind request

@@ -1,7 +1,7 @@
 -- Which volume a claim is bound to: eligible, and the best of the eligible.
 -- Source: Kubernetes documentation, "Persistent Volumes" (Binding), and the volume index of `pv_controller.go`;
 -- that a pre-bound volume must fit too, and that ties go by name, is this project's choice.
-use Rattle.std.specs.Prelude.{ℕ, ◌≡◌, ◌≢◌, ◌==◌, ◌+◌, nat_le, Bool, true, false, not, ◌&&◌, ◌||◌, List, [], Option, Some, None, bytes_eq, is_none, slice_get, if◌then◌else◌}
+use Rattle.std.specs.Prelude.{ℕ, ◌≡◌, ◌≢◌, ◌==◌, ◌+◌, nat_le, Bool, true, false, not, ◌&&◌, ◌||◌, List, Option, Some, None, bytes_eq, is_none, slice_get, if◌then◌else◌}
 use Rattle.std.specs.Bool.{beq}
 use Rattle.std.specs.List.{list_any}
 use Rattle.std.specs.declared.cmp.Ordering.{Ordering}
@@ -16,10 +16,10 @@ use Rattle.kube_types.specs.declared.objects.Volume.{Volume as VolumeData}
 use Rattle.kube_types.specs.declared.objects.Claim.{Claim as ClaimData}
 use Rattle.kube_types.specs.declared.objects.Object.{Object}
 use Rattle.kube_types.specs.declared.objects.Object.TheVariants.{Class, Volume}
-use Rattle.kube_types.specs.declared.key.Key.{Key}
 use Rattle.kube_types.specs.Keys.{rows_of, row_at}
 use Rattle.kube_types.specs.Bindings.{class_of_volume, class_of_claim, is_deleting, is_protected_volume, is_for, is_ended, is_available}
 use Rattle.label_rules.specs.Selectors.{selects, admits}
+use Rattle.binder_model.specs.ObjectKeys.{class_key}
 
 -- each mode of the first is one of the second
 abbrev pub covers : Modes → Modes → Bool
@@ -74,25 +74,22 @@ only_own_passes true v c = is_for v c
 only_own_passes false v c = true
 
 -- the volume at a place among the volumes may be taken
-pub record IsCandidate (rows : List Object) (c : ClaimData) (node : Option NodeData) (only_own : Bool) (excluded : List ℕ) (place : ℕ) (v : VolumeData) : Type 0 where
-  pub there : slice_get (rows_of kinds.PersistentVolume rows) place ≡ Some (Volume v)
+pub record IsCandidate (rows : List Object) (claim : ClaimData) (node : Option NodeData) (only_own : Bool) (excluded : List ℕ) (place : ℕ) (volume : VolumeData) : Type 0 where
+  pub there : slice_get (rows_of kinds.PersistentVolume rows) place ≡ Some (Volume volume)
   pub open_to : is_excluded excluded place ≡ false
-  pub own : only_own_passes only_own v c ≡ true
-  pub eligible : eligible v c node ≡ true
+  pub own : only_own_passes only_own volume claim ≡ true
+  pub eligible : eligible volume claim node ≡ true
 
 -- no candidate stands before the one at this place
-pub record IsBestAt (rows : List Object) (c : ClaimData) (node : Option NodeData) (only_own : Bool) (excluded : List ℕ) (place : ℕ) : Type 0 where
+pub record IsBestAt (rows : List Object) (claim : ClaimData) (node : Option NodeData) (only_own : Bool) (excluded : List ℕ) (place : ℕ) : Type 0 where
   pub volume : VolumeData
-  pub candidate : IsCandidate rows c node only_own excluded place volume
-  pub first : (other : ℕ) (u : VolumeData) → IsCandidate rows c node only_own excluded other u → match_cmp c volume u ≢ Greater
+  pub candidate : IsCandidate rows claim node only_own excluded place volume
+  pub first : (other : ℕ) (another : VolumeData) → IsCandidate rows claim node only_own excluded other another → match_cmp claim volume another ≢ Greater
 
 -- the best candidate, or none where there is no candidate
 abbrev pub IsBest : List Object → ClaimData → Option NodeData → Bool → List ℕ → Option ℕ → Type 0
-IsBest rows c node only_own excluded (Some place) = IsBestAt rows c node only_own excluded place
-IsBest rows c node only_own excluded None = (place : ℕ) (v : VolumeData) → IsCandidate rows c node only_own excluded place v → ⊥
-
-abbrev pub class_key : List ℕ → Key
-class_key name = record { kind = kinds.StorageClass; namespace = []; name = name }
+IsBest rows claim node only_own excluded (Some place) = IsBestAt rows claim node only_own excluded place
+IsBest rows claim node only_own excluded None = (place : ℕ) (volume : VolumeData) → IsCandidate rows claim node only_own excluded place volume → ⊥
 
 abbrev pub is_delayed : Option Object → Bool
 is_delayed (Some (Class x)) = x.delayed

@@ -1,6 +1,6 @@
 -- Where the provisioner and reclaimer may write and call the back end, after its own earlier entries.
 -- A choice of this project; each row restates the evidence on which `pv_controller.go` provisions and reclaims.
-use Rattle.std.specs.Prelude.{ℕ, ◌≡◌, ◌⊎◌, Bool, true, false, List, [], ◌∷◌, Option, Some, None, is_some, if◌then◌else◌}
+use Rattle.std.specs.Prelude.{ℕ, ◌≡◌, ◌⊎◌, Bool, true, false, List, Option, Some, None, is_some}
 use Rattle.plain_data.specs.Pairs.{Pair, value_at, without_key}
 use Rattle.kube_types.specs.declared.uid.Uid.{Uid}
 use Rattle.kube_types.specs.declared.objects.DataId.{DataId}
@@ -8,7 +8,7 @@ use Rattle.kube_types.specs.declared.objects.Class.{Class as ClassData}
 use Rattle.kube_types.specs.declared.objects.Claim.{Claim as ClaimData}
 use Rattle.kube_types.specs.declared.objects.Volume.{Volume as VolumeData}
 use Rattle.kube_types.specs.declared.objects.Node.{Node as NodeData}
-use Rattle.kube_types.specs.declared.objects.Object.TheVariants.{Class, Node, Volume, Claim}
+use Rattle.kube_types.specs.declared.objects.Object.TheVariants.{Class, Node, Claim}
 use Rattle.kube_types.specs.Sources.{data_id_of}
 use Rattle.kube_types.specs.Bindings.{selected_node, class_of_claim, is_completed, is_deleting, is_ended, is_delete, ref_uid}
 use Rattle.call_types.specs.declared.entry.Entry.{Entry}
@@ -16,21 +16,18 @@ use Rattle.call_types.specs.declared.request.Request.{Request}
 use Rattle.call_types.specs.declared.request.Request.TheVariants as requests
 use Rattle.call_types.specs.declared.reply.Refusal.TheVariants.{Exhausted, BackFault}
 use Rattle.call_types.specs.declared.reply.Reply.{Reply}
-use Rattle.call_types.specs.declared.reply.Reply.TheVariants.{Found, Provisioned, Erased, Refused}
-use Rattle.binder_model.specs.Store.{node_key}
-use Rattle.binder_model.specs.Devices.{same_id}
-use Rattle.binder_model.specs.Matching.{class_key}
-use Rattle.binder_model.specs.BindWrites.{claim_key}
+use Rattle.call_types.specs.declared.reply.Reply.TheVariants.{Provisioned, Erased, Refused}
+use Rattle.binder_model.specs.ObjectKeys.{class_key, node_key, claim_key}
 use Rattle.binder_model.specs.Provisioning.{data_name, provisioned_volume, is_wanting, provisions}
-use Rattle.binder_model.specs.Told.{first_some, ToldVolume, ToldClaim, After, IsNewest, IsNewestAbsent}
-use Rattle.binder_model.specs.At.{IsSameObject, HasUid}
+use Rattle.binder_model.specs.Told.{last_found, ToldVolume, ToldClaim, After, IsNewest, IsNewestAbsent}
+use Rattle.binder_model.specs.At.{HasUid}
 
 -- the labels that a request carries: those of the newest told selected node under a delayed class, else none
 abbrev pub AreLabels : List Entry → ClaimData → Bool → Option (List Pair) → Type 0
 AreLabels mine c false labels = labels ≡ None
 AreLabels mine c true labels =
-    (node : List ℕ) × (value_at selected_node c.meta.annotations ≡ Some node)
-    × ((n : NodeData) × (IsNewest mine (node_key node) (Node n) × (labels ≡ Some n.meta.labels)))
+    (name : List ℕ) × (value_at selected_node c.meta.annotations ≡ Some name)
+    × ((node : NodeData) × (IsNewest mine (node_key name) (Node node) × (labels ≡ Some node.meta.labels)))
 
 -- the row Provision
 pub record MayProvision (mine : List Entry) (name provisioner : List ℕ) (bytes : ℕ) (labels : Option (List Pair)) : Type 0 where
@@ -68,22 +65,12 @@ pub record MayCreate (mine : List Entry) (new : VolumeData) : Type 0 where
   pub given : After (ToldClaim (HasUid uid)) (TellsData (data_name uid) id topology) mine
   pub object : new ≡ provisioned_volume claim uid class id topology
 
--- ended, to be erased, and not deleting
-pub record IsToErase (v : VolumeData) : Type 0 where
-  pub ended : is_ended v.phase ≡ true
-  pub policy : is_delete v.policy ≡ true
-  pub referring : is_some (ref_uid v.claim_ref) ≡ true
-  pub staying : is_deleting v.meta ≡ false
-
--- the volume with this data id that a told Get found
-abbrev pub found_over : DataId → Bool → Reply → Option VolumeData
-found_over id true (Found (Volume v)) = if same_id (data_id_of v.source) id then Some v else None
-found_over id told reply = None
-
--- the last such volume
-abbrev pub last_found : DataId → List Entry → Option VolumeData
-last_found id [] = None
-last_found id (e ∷ mine) = first_some (found_over id e.told e.reply) (last_found id mine)
+-- ended with policy Delete, for a claim, and not deleting
+pub record IsToErase (volume : VolumeData) : Type 0 where
+  pub ended : is_ended volume.phase ≡ true
+  pub policy : is_delete volume.policy ≡ true
+  pub referring : is_some (ref_uid volume.claim_ref) ≡ true
+  pub staying : is_deleting volume.meta ≡ false
 
 -- the row Erase
 pub record MayErase (mine : List Entry) (id : DataId) : Type 0 where
@@ -114,12 +101,12 @@ EraseDone id request reply = ⊥
 abbrev pub TellsErased : DataId → Entry → Type 0
 TellsErased id e = (e.told ≡ true) × EraseDone id e.request e.reply
 
--- the volume of this UID, told ended and to be erased, over this data
-pub record IsEndedOver (uid : Uid) (id : DataId) (v : VolumeData) : Type 0 where
-  pub same : v.meta.uid ≡ Some uid
-  pub ended : is_ended v.phase ≡ true
-  pub policy : is_delete v.policy ≡ true
-  pub over : data_id_of v.source ≡ id
+-- the volume of this UID, told ended with policy Delete, over this data
+pub record IsEndedOver (uid : Uid) (id : DataId) (volume : VolumeData) : Type 0 where
+  pub same : volume.meta.uid ≡ Some uid
+  pub ended : is_ended volume.phase ≡ true
+  pub policy : is_delete volume.policy ≡ true
+  pub over : data_id_of volume.source ≡ id
 
 -- the row DeleteVolume
 pub record MayDelete (mine : List Entry) (uid : Uid) : Type 0 where

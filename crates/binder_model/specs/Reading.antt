@@ -1,7 +1,7 @@
 -- Which reads a controller may make: lists and watches of the kinds that it follows, and the reads of single objects
 -- that its decisions need. Source: API concepts, "Efficient detection of changes" (list, then watch from its version);
 -- which single reads there are is this project's choice.
-use Rattle.std.specs.Prelude.{ℕ, ◌≡◌, ◌≢◌, ◌⊎◌, ◌==◌, Bool, true, false, List, [], ◌∷◌, Option, Some, None, is_some, if◌then◌else◌, ⊤}
+use Rattle.std.specs.Prelude.{ℕ, ◌≡◌, ◌≢◌, ◌⊎◌, Bool, true, false, List, [], ◌∷◌, Option, Some, None, is_some, if◌then◌else◌, ⊤}
 use Rattle.kube_types.specs.declared.uid.Uid.{Uid}
 use Rattle.kube_types.specs.declared.key.Key.{Key}
 use Rattle.kube_types.specs.declared.parts.Kind.{Kind}
@@ -12,7 +12,6 @@ use Rattle.kube_types.specs.declared.objects.Pod.{Pod as PodData}
 use Rattle.kube_types.specs.declared.objects.Volume.{Volume as VolumeData}
 use Rattle.kube_types.specs.declared.objects.Object.{Object}
 use Rattle.kube_types.specs.declared.objects.Object.TheVariants.{Volume, Claim}
-use Rattle.kube_types.specs.Keys.{kind_index}
 use Rattle.kube_types.specs.Bindings.{has_name, is_completed, is_deleting}
 use Rattle.call_types.specs.declared.entry.Entry.{Entry}
 use Rattle.call_types.specs.declared.request.SeatKind.{SeatKind}
@@ -22,7 +21,7 @@ use Rattle.call_types.specs.declared.request.Request.TheVariants as requests
 use Rattle.call_types.specs.declared.reply.Refusal.TheVariants.{Gone}
 use Rattle.call_types.specs.declared.reply.Reply.{Reply}
 use Rattle.call_types.specs.declared.reply.Reply.TheVariants.{Found, Listed, Events, Refused}
-use Rattle.binder_model.specs.BindWrites.{claim_key, volume_key}
+use Rattle.binder_model.specs.ObjectKeys.{same_kind, claim_key, volume_key}
 use Rattle.binder_model.specs.OpsLicence.{IsToErase}
 use Rattle.binder_model.specs.Told.{SomeOf, ToldClaim, ToldPod, IsNewest, object_of, newest}
 use Rattle.binder_model.specs.AgentLicence.{last_epoch}
@@ -41,23 +40,21 @@ follows seats.VolumeProtect kinds.PersistentVolume = true
 follows seats.Agent kinds.Pod = true
 follows _ _ = false
 
-abbrev pub same_kind : Kind → Kind → Bool
-same_kind a b = kind_index a == kind_index b
-
 -- where the seat stands with a kind: nothing told, or a list at a version, and the version that a watch reached since
 pub data Following : Type 0 where
   Unlisted : Following
   ListedAt : ℕ → Option ℕ → Following
+
+-- a watch of a kind that was not listed tells nothing of where the seat stands
+abbrev pub reached_on : ℕ → Following → Following
+reached_on upto Unlisted = Unlisted
+reached_on upto (ListedAt version reached) = ListedAt version (Some upto)
 
 -- the list of a whole kind begins anew, a watch goes on, and Gone ends what was known
 abbrev pub follow_on : Request → Reply → Kind → Following → Following
 follow_on (requests.List k None) (Listed items version) kind before = if same_kind k kind then ListedAt version None else before
 follow_on (requests.Watch k from) (Refused (Gone oldest)) kind before = if same_kind k kind then Unlisted else before
 follow_on (requests.Watch k from) (Events events) kind before = if same_kind k kind then reached_on events.upto before else before
-  where
-    reached_on : ℕ → Following → Following
-    reached_on upto Unlisted = Unlisted
-    reached_on upto (ListedAt version reached) = ListedAt version (Some upto)
 follow_on request reply kind before = before
 
 abbrev pub following_of : List Entry → Kind → Following
@@ -97,18 +94,18 @@ pub record AsksForVolume (mine : List Entry) (key : Key) : Type 0 where
   pub completed : is_completed claim ≡ true
   pub named : key ≡ volume_key claim.volume_name
 
--- the newest told volume of the key is to be erased
+-- the newest told volume of the key has ended with policy Delete, for a claim, and is not deleting
 pub record AsksForEnded (mine : List Entry) (key : Key) : Type 0 where
   pub volume : VolumeData
   pub newest_volume : IsNewest mine key (Volume volume)
   pub ended : IsToErase volume
 
 -- the pod stands on a node that the seat took, and names the claim
-pub record NamesClaim (mine : List Entry) (key : Key) (p : PodData) : Type 0 where
-  pub taken : is_some (last_epoch p.node mine) ≡ true
-  pub placed : key.namespace ≡ p.meta.namespace
+pub record NamesClaim (mine : List Entry) (key : Key) (pod : PodData) : Type 0 where
+  pub taken : is_some (last_epoch pod.node mine) ≡ true
+  pub placed : key.namespace ≡ pod.meta.namespace
   pub kind : key.kind ≡ kinds.PersistentVolumeClaim
-  pub named : has_name key.name p.claims ≡ true
+  pub named : has_name key.name pod.claims ≡ true
 
 -- a Get found a claim that names the volume
 abbrev pub FoundNaming : Key → Reply → Type 0
@@ -125,10 +122,10 @@ MayGet seats.Ops mine key = AsksForEnded mine key
 MayGet seats.Agent mine key = AsksForMount mine key
 MayGet _ mine key = ⊥
 
--- a claim of the namespace, to be deleted
-pub record IsDeletingIn (namespace : List ℕ) (c : ClaimData) : Type 0 where
-  pub placed : c.meta.namespace ≡ namespace
-  pub deleting : is_deleting c.meta ≡ true
+-- a claim of the namespace, deleting
+pub record IsDeletingIn (namespace : List ℕ) (claim : ClaimData) : Type 0 where
+  pub placed : claim.meta.namespace ≡ namespace
+  pub deleting : is_deleting claim.meta ≡ true
 
 -- claim protection reads the pods of a namespace before it lets a claim go
 abbrev pub MayListNamespace : SeatKind → List Entry → Kind → List ℕ → Type 0

@@ -1,14 +1,11 @@
 -- A run: a history of one world in which each controller was allowed what it asked. The newest entry stands first.
-use Rattle.std.specs.Prelude.{ℕ, ◌≡◌, ◌==◌, List, [], ◌∷◌, if◌then◌else◌, ⊤}
+-- A choice of this project.
+use Rattle.std.specs.Prelude.{◌≡◌, List, [], ◌∷◌, ⊤}
 use Rattle.call_types.specs.declared.entry.Entry.{Entry}
 use Rattle.call_types.specs.declared.setup.Setup.{Setup}
 use Rattle.binder_model.specs.World.{world, effect, reply_to}
+use Rattle.binder_model.specs.Told.{own}
 use Rattle.binder_model.specs.Licence.{Licensed}
-
--- the entries of one seat
-abbrev pub own : ℕ → List Entry → List Entry
-own seat [] = []
-own seat (e ∷ past) = if e.seat == seat then e ∷ own seat past else own seat past
 
 -- each controller was allowed what it asked, by what it was told before
 abbrev pub IsLicensed : List Entry → Type 0

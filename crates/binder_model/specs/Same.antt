@@ -1,4 +1,4 @@
--- Whether two parts of objects are equal, as tests.
+-- Whether two parts of objects are equal, as tests. Source: the types of the Kubernetes API, part by part.
 use Rattle.std.specs.Prelude.{ℕ, ◌==◌, Bool, true, false, ◌&&◌, List, Option, Some, None, bytes_eq}
 use Rattle.std.specs.Bool.{beq}
 use lib.Pointwise.{pointwise}

@@ -1,25 +1,32 @@
 -- The store: its objects in the order of their keys, and the number of its writes; what a write makes of an object.
 -- Source: Kubernetes API conventions, "Metadata", "Concurrency Control and Consistency"; one number for all kinds is this project's choice.
-use Rattle.std.specs.Prelude.{ℕ, ◌&&◌, Bool, true, false, not, List, [], ◌∷◌, ◌++◌, Option, Some, None, bytes_eq, codes, is_none, if◌then◌else◌}
+-- An object is deleting where it has a deletion timestamp.
+use Rattle.std.specs.Prelude.{ℕ, ◌≡◌, ◌≢◌, ◌&&◌, Bool, true, false, not, List, [], ◌∷◌, ◌++◌, Option, Some, None, bytes_eq, codes, is_none, if◌then◌else◌}
 use Rattle.std.specs.Cmp.Lexicographic.{slice_cmp}
-use Rattle.std.specs.Ordering.{nat_cmp, is_lt}
-use Rattle.plain_data.specs.Pairs.{value_at}
+use Rattle.std.specs.declared.cmp.Ordering.{Ordering}
+use Rattle.std.specs.declared.cmp.Ordering.TheVariants.{Greater}
+use Rattle.std.specs.Ordering.{nat_cmp, is_lt, ordering_then}
+use Rattle.plain_data.specs.Pairs.{value_at, text_cmp}
 use Rattle.kube_types.specs.declared.parts.ClaimPhase.TheVariants as claims
 use Rattle.kube_types.specs.declared.parts.VolumePhase.TheVariants as volumes
 use Rattle.kube_types.specs.declared.parts.Modes.{Modes}
-use Rattle.kube_types.specs.declared.parts.Kind.TheVariants as kinds
 use Rattle.kube_types.specs.declared.key.Key.{Key}
 use Rattle.kube_types.specs.declared.objects.Meta.{Meta}
 use Rattle.kube_types.specs.declared.objects.Class.{Class as ClassData}
 use Rattle.kube_types.specs.declared.objects.Object.{Object}
 use Rattle.kube_types.specs.declared.objects.Object.TheVariants.{Class, Node, Volume, Claim, Pod}
-use Rattle.kube_types.specs.Keys.{meta_of, row_at}
+use Rattle.kube_types.specs.Keys.{meta_of, key_of, key_cmp, row_at}
 use Rattle.kube_types.specs.Uids.{uid_of_serial}
 use Rattle.kube_types.specs.Bindings.{beta_class, is_default_class, pv_protection, pvc_protection, has_name, is_deleting, is_scheduled, has_key, is_empty}
+use Rattle.binder_model.specs.ObjectKeys.{node_key}
 
 pub record State : Type 0 where
   pub rows : List Object
   pub version : ℕ
+
+-- the moment of each world until a user sets another
+abbrev pub first_moment : List ℕ
+first_moment = codes "2000-01-01T00:00:00Z"
 
 abbrev pub no_store : State
 no_store = record { rows = []; version = 0 }
@@ -35,7 +42,7 @@ with_meta (Pod x) m = Pod (record x { meta = m })
 unfoldable pub at_version : Object → ℕ → Object
 at_version o version = with_meta o (record (meta_of o) { version = version })
 
--- the object at this version, to be deleted since this moment
+-- the object at this version, deleting since this moment
 unfoldable pub marked_object : Object → ℕ → List ℕ → Object
 marked_object o version moment = with_meta o (record (meta_of o) { version = version; deleted = Some moment })
 
@@ -47,14 +54,32 @@ with_finalizer name names = if has_name name names then names else names ++ name
 abbrev pub text_lt : List ℕ → List ℕ → Bool
 text_lt a b = is_lt (slice_cmp nat_cmp a b)
 
+abbrev pub is_true_text : Option (List ℕ) → Bool
+is_true_text None = false
+is_true_text (Some text) = bytes_eq text (codes "true")
+
+-- the class is marked as a default one
 abbrev pub is_default : ClassData → Bool
 is_default x = is_true_text (value_at is_default_class x.meta.annotations)
-  where
-    is_true_text : Option (List ℕ) → Bool
-    is_true_text None = false
-    is_true_text (Some v) = bytes_eq v (codes "true")
 
--- of two default classes the newer one, and of two of one moment the first by name
+-- the order of default classes: the newest creation first, and of one moment the first by key, that is by name, since
+-- a class has no namespace
+abbrev pub class_cmp : ClassData → ClassData → Ordering
+class_cmp x y = ordering_then (text_cmp y.meta.created x.meta.created) (key_cmp (key_of (Class x)) (key_of (Class y)))
+
+-- a class that is marked, and before which no marked one stands
+pub record IsDefaultClass (rows : List Object) (class : ClassData) : Type 0 where
+  pub there : row_at (key_of (Class class)) rows ≡ Some (Class class)
+  pub marked : is_default class ≡ true
+  pub first : (key : Key) (other : ClassData) → row_at key rows ≡ Some (Class other) → is_default other ≡ true → class_cmp class other ≢ Greater
+
+-- the default class, or none where none is marked. This is the definition
+abbrev pub IsDefault : List Object → Option ClassData → Type 0
+IsDefault rows (Some class) = IsDefaultClass rows class
+IsDefault rows None = (key : Key) (other : ClassData) → row_at key rows ≡ Some (Class other) → is_default other ≡ false
+
+-- the scan that finds it, as the answer to a create is a function of the store: one pass over the rows, which keeps of
+-- two default classes the newer one, and of two of one moment the first
 abbrev pub newer_class : ClassData → Option ClassData → Option ClassData
 newer_class x None = Some x
 newer_class x (Some y) = if text_lt x.meta.created y.meta.created then Some y else Some x
@@ -109,23 +134,20 @@ updated_object old new version =
     let kept = with_status_of old new in
     with_meta kept (record (meta_of kept) { uid = (meta_of old).uid; version = version; created = (meta_of old).created; deleted = (meta_of old).deleted })
 
--- an object leaves at the write after which it is to be deleted and has no finalizers; a pod by its own verbs alone.
+abbrev pub has_no_names : List (List ℕ) → Bool
+has_no_names [] = true
+has_no_names (name ∷ names) = false
+
+-- an object leaves at the write after which it is deleting and has no finalizers; a pod by its own verbs alone.
 -- Source: Kubernetes documentation, "Finalizers"
 unfoldable pub leaves : Object → Bool
 leaves (Pod p) = false
-leaves o = is_deleting (meta_of o) && is_empty_list (meta_of o).finalizers
-  where
-    is_empty_list : List (List ℕ) → Bool
-    is_empty_list [] = true
-    is_empty_list (f ∷ fs) = false
+leaves o = is_deleting (meta_of o) && has_no_names (meta_of o).finalizers
 
 -- deleting a pod that no node runs removes it at once
 unfoldable pub leaves_at_once : Object → Bool
 leaves_at_once (Pod p) = not (is_scheduled p)
 leaves_at_once o = false
-
-abbrev pub node_key : List ℕ → Key
-node_key name = record { kind = kinds.Node; namespace = []; name = name }
 
 -- the pod names a node, and the store has none of that name
 abbrev pub lacks_named_node : List ℕ → List Object → Bool

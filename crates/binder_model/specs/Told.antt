@@ -2,12 +2,14 @@
 -- A choice of this project: this is the evidence on which a controller may act, whatever its caches and queues are.
 use Rattle.std.specs.Prelude.{ℕ, ◌≡◌, ◌⊎◌, ◌==◌, nat_lt, Bool, true, false, ◌&&◌, List, [], ◌∷◌, ◌++◌, Option, Some, None, bytes_eq, if◌then◌else◌}
 use Rattle.kube_types.specs.declared.key.Key.{Key}
+use Rattle.kube_types.specs.declared.objects.DataId.{DataId}
 use Rattle.kube_types.specs.declared.objects.Volume.{Volume as VolumeData}
 use Rattle.kube_types.specs.declared.objects.Claim.{Claim as ClaimData}
 use Rattle.kube_types.specs.declared.objects.Pod.{Pod as PodData}
 use Rattle.kube_types.specs.declared.objects.Object.{Object}
 use Rattle.kube_types.specs.declared.objects.Object.TheVariants.{Volume, Claim, Pod}
 use Rattle.kube_types.specs.Keys.{meta_of, key_of, kind_index, row_at}
+use Rattle.kube_types.specs.Sources.{data_id_of}
 use Rattle.call_types.specs.declared.entry.Entry.{Entry}
 use Rattle.call_types.specs.declared.request.Request.{Request}
 use Rattle.call_types.specs.declared.request.Request.TheVariants as requests
@@ -17,6 +19,13 @@ use Rattle.call_types.specs.declared.reply.Event.{Event}
 use Rattle.call_types.specs.declared.reply.Refusal.TheVariants.{NotFound}
 use Rattle.call_types.specs.declared.reply.Reply.{Reply}
 use Rattle.call_types.specs.declared.reply.Reply.TheVariants.{Done, Left, Found, Listed, Events, Refused}
+use Rattle.binder_model.specs.ObjectKeys.{same_key}
+use Rattle.binder_model.specs.Devices.{same_id}
+
+-- the entries of one seat
+abbrev pub own : ℕ → List Entry → List Entry
+own seat [] = []
+own seat (e ∷ past) = if e.seat == seat then e ∷ own seat past else own seat past
 
 -- P holds of some element
 abbrev pub SomeOf : {X : Type 0} → (X → Type 0) → List X → Type 0
@@ -27,9 +36,6 @@ SomeOf P (x ∷ xs) = P x ⊎ SomeOf P xs
 abbrev pub first_some : {X : Type 0} → Option X → Option X → Option X
 first_some (Some a) b = Some a
 first_some None b = b
-
-abbrev pub same_key : Key → Key → Bool
-same_key a b = kind_index a.kind == kind_index b.kind && bytes_eq a.namespace b.namespace && bytes_eq a.name b.name
 
 -- told an object
 
@@ -89,6 +95,16 @@ IsLiveAnswer _ P = ⊥
 -- the entry is a Get of the key, whose answer told that P holds of what stood there
 abbrev pub TellsLive : Key → (Option Object → Type 0) → Entry → Type 0
 TellsLive key P e = (e.told ≡ true) × (e.request ≡ requests.Get key) × IsLiveAnswer e.reply P
+
+-- the volume with this data id that a told Get found
+abbrev pub found_over : DataId → Bool → Reply → Option VolumeData
+found_over id true (Found (Volume v)) = if same_id (data_id_of v.source) id then Some v else None
+found_over id told reply = None
+
+-- the last such volume
+abbrev pub last_found : DataId → List Entry → Option VolumeData
+last_found id [] = None
+last_found id (e ∷ mine) = first_some (found_over id e.told e.reply) (last_found id mine)
 
 -- after: an entry of which Q holds, and before it entries of which P holds
 abbrev pub After : (List Entry → Type 0) → (Entry → Type 0) → List Entry → Type 0

@@ -1,6 +1,7 @@
 -- What a watch tells: the writes after a version, of a kind, in order. The log begins with the newest write.
+-- `base` is the version with which the world began.
 -- Source: Kubernetes API concepts, "Efficient detection of changes"; the window and the limit are this project's choice.
-use Rattle.std.specs.Prelude.{ℕ, ◌-◌, ◌==◌, nat_lt, Bool, ◌&&◌, List, [], ◌∷◌, reverse, filter, take, length, if◌then◌else◌}
+use Rattle.std.specs.Prelude.{ℕ, ◌-◌, ◌==◌, nat_lt, max, Bool, ◌&&◌, List, [], ◌∷◌, reverse, filter, take, length, if◌then◌else◌}
 use Rattle.kube_types.specs.declared.parts.Kind.{Kind}
 use Rattle.kube_types.specs.Keys.{is_of_kind}
 use Rattle.call_types.specs.declared.reply.Event.{Event}
@@ -14,8 +15,8 @@ abbrev pub most_events : ℕ
 most_events = 64
 
 -- the least version from which a watch is served
-abbrev pub oldest : ℕ → ℕ
-oldest version = version - window
+abbrev pub oldest : ℕ → ℕ → ℕ
+oldest base version = max base (version - window)
 
 abbrev pub is_later : Kind → ℕ → Event → Bool
 is_later kind from e = nat_lt from e.version && is_of_kind kind e.object

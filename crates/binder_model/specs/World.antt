@@ -1,5 +1,6 @@
 -- The world of a history: store, moment, watch log and devices, moved by one whole call at a time.
 -- A history's newest entry stands first. A choice of this project: one event is one whole call by one seat.
+-- It begins with the imports of its setup, and with nothing where there are none.
 use Rattle.std.specs.Prelude.{ℕ, ◌≡◌, nat_lt, nat_le, ◌==◌, Bool, ◌&&◌, List, [], ◌∷◌, Option, Some, None, codes, if◌then◌else◌, ⊤}
 use lib.Pointwise.{pointwise}
 use Rattle.kube_types.specs.declared.names.Field.TheVariants as fields
@@ -16,7 +17,8 @@ use Rattle.call_types.specs.declared.reply.Event.{Event}
 use Rattle.call_types.specs.declared.reply.Refusal.TheVariants.{Invalid, Forbidden, Gone}
 use Rattle.call_types.specs.declared.reply.Reply.{Reply}
 use Rattle.call_types.specs.declared.reply.Reply.TheVariants.{Events, Timed, Refused}
-use Rattle.binder_model.specs.Store.{State, no_store}
+use Rattle.binder_model.specs.Store.{State, first_moment}
+use Rattle.binder_model.specs.Imports.{base_of, rows_of_imports}
 use Rattle.binder_model.specs.Answers.{Outcome, Says, Stores, Removes, is_user, outcome, reply_of, after}
 use Rattle.binder_model.specs.Devices.{Devices, DeviceAnswer, no_devices, device_answer, epoch_if_stale}
 use Rattle.binder_model.specs.Watching.{oldest, told_events}
@@ -28,11 +30,18 @@ pub record World : Type 0 where
   pub log : List Event
   pub devices : Devices
 
-abbrev pub first_moment : List ℕ
-first_moment = codes "2000-01-01T00:00:00Z"
+-- the version with which the world begins
+abbrev pub base : Setup → ℕ
+base setup = base_of setup.imports
 
-abbrev pub no_world : World
-no_world = record { store = no_store; moment = first_moment; log = []; devices = no_devices }
+-- the world with which a history begins: the imports, if any
+abbrev pub first_world : Setup → World
+first_world setup = record {
+  store = record { rows = rows_of_imports setup.imports setup.imports; version = base setup };
+  moment = first_moment;
+  log = [];
+  devices = no_devices;
+}
 
 -- what a request comes to: on the store, on the devices, or on the moment
 pub data Effect : Type 0 where
@@ -53,10 +62,10 @@ refused_rule = OnStore (Says (Refused (Forbidden rules.Verb)))
 unfoldable pub set_time : List ℕ → Effect
 set_time at = if is_time at then SetsMoment at else OnStore (Says (Refused (Invalid fields.Time)))
 
-unfoldable pub watch : World → Kind → ℕ → Effect
-watch w kind from =
+unfoldable pub watch : Setup → World → Kind → ℕ → Effect
+watch setup w kind from =
     if nat_lt w.store.version from then OnStore (Says (Refused (Invalid fields.From)))
-    else if nat_lt from (oldest w.store.version) then OnStore (Says (Refused (Gone (oldest w.store.version))))
+    else if nat_lt from (oldest (base setup) w.store.version) then OnStore (Says (Refused (Gone (oldest (base setup) w.store.version))))
     else OnStore (Says (Events (told_events kind from w.store.version w.log)))
 
 -- the current epoch of the node that a FinishPod names, where it has another
@@ -71,7 +80,7 @@ on_devices w kind request None = OnStore (outcome w.store kind request w.moment 
 
 unfoldable pub effect : Setup → World → SeatKind → Request → Effect
 effect setup w kind (requests.SetTime at) = set_time at
-effect setup w kind (requests.Watch k from) = watch w k from
+effect setup w kind (requests.Watch k from) = watch setup w k from
 effect setup w kind request = on_devices w kind request (device_answer setup w.devices request)
 
 -- the reply to an effect
@@ -94,7 +103,7 @@ world_after w (SetsMoment at) = record w { moment = at }
 
 -- the world after these entries. Their replies are not looked at
 abbrev pub world : Setup → List Entry → World
-world setup [] = no_world
+world setup [] = first_world setup
 world setup (e ∷ past) = world_after (world setup past) (effect setup (world setup past) e.kind e.request)
 
 -- each reply is what the world of the entries before it answers

@@ -1,34 +1,24 @@
 -- Whose place an outcome's object takes: none, or that of an object whose identity it keeps.
-use Rattle.std.proofs.Common.{sym, refl, subst, inl, inr, ap, ◌∙◌, true≢false}
-use Rattle.std.specs.Prelude.{ℕ, ◌≡◌, ◌≢◌, ◌⊎◌, ◌+◌, Bool, true, false, List, [], ◌∷◌, Option, Some, None, if◌then◌else◌, is_some, option_map, ⊤}
+use Rattle.std.proofs.Common.{sym, refl, inl, inr, ap, ◌∙◌, true≢false}
+use Rattle.std.specs.Prelude.{ℕ, ◌≡◌, ◌⊎◌, Bool, true, false, List, Option, Some, None, is_some, option_map, ⊤}
 use Rattle.kube_types.specs.declared.uid.Uid.{Uid}
-use Rattle.kube_types.specs.declared.names.Field.{Field}
-use Rattle.kube_types.specs.declared.names.Rule.{Rule}
 use Rattle.kube_types.specs.declared.key.Key.{Key}
-use Rattle.kube_types.specs.declared.parts.Kind.{Kind}
 use Rattle.kube_types.specs.declared.objects.Pod.{Pod as PodData}
 use Rattle.kube_types.specs.declared.objects.Object.{Object}
-use Rattle.kube_types.specs.declared.objects.Object.TheVariants.{Class, Node, Volume, Claim, Pod}
-use Rattle.kube_types.specs.Keys.{meta_of, key_of, row_at, put_row, without_row, AreRows}
-use Rattle.kube_types.specs.Bindings.{is_deleting, is_scheduled, is_uid}
-use Rattle.kube_types.proofs.KeyOrder.{row_at_key, row_at-put_row, row_at-put_row_other, row_at-without_row, row_at-without_row_other}
+use Rattle.kube_types.specs.declared.objects.Object.TheVariants.{Pod}
+use Rattle.kube_types.specs.Keys.{meta_of, key_of, row_at}
+use Rattle.kube_types.specs.Bindings.{is_deleting, is_uid}
+use Rattle.kube_types.proofs.KeyOrder.{row_at_key}
 use Rattle.call_types.specs.declared.edit.Edit.{Edit}
-use Rattle.call_types.specs.declared.setup.Setup.{Setup}
-use Rattle.call_types.specs.declared.entry.Entry.{Entry}
 use Rattle.call_types.specs.declared.request.NewStatus.{NewStatus}
 use Rattle.call_types.specs.declared.request.SeatKind.{SeatKind}
 use Rattle.call_types.specs.declared.request.Request.{Request}
 use Rattle.call_types.specs.declared.request.Request.TheVariants as requests
-use Rattle.call_types.specs.declared.reply.Change.{Change}
-use Rattle.call_types.specs.declared.reply.Refusal.{Refusal}
-use Rattle.call_types.specs.declared.reply.Reply.{Reply}
-use Rattle.binder_model.specs.Store.{State, at_version, marked_object, updated_object, leaves}
-use Rattle.binder_model.specs.Fields.{update_fault, create_fault}
-use Rattle.binder_model.specs.Edits.{edited_object}
-use Rattle.binder_model.specs.Answers.{Outcome, Says, Stores, Removes, is_user, write_outcome, create, update, with_status, written_if_fits, update_status, edit_to, edit, delete_of, delete, get, list, pod_with, bind, finish, outcome, after}
-use Rattle.model_laws.proofs.OnOutcome.{OnOutcome, OfAnswers, says, refused_or, field_or, rule_or, stale_or}
-use Rattle.model_laws.specs.Histories.{NamesOnce, KeepsIdentity}
-use Rattle.model_laws.proofs.Identity.{key-created, key-updated, key-at_version, key-marked, updated_keeps, at_version_keeps, marked_keeps, IsKeyKept, IsVersionOf, status_kept, edit_kept}
+use Rattle.binder_model.specs.Store.{State, leaves}
+use Rattle.binder_model.specs.Answers.{Outcome, Says, Stores, Removes, write_outcome, create, update, written_if_fits, update_status, edit_to, edit, delete_of, delete, get, list, pod_with, bind, finish, outcome}
+use Rattle.model_laws.proofs.OnOutcome.{OnOutcome, says, refused_or, field_or, rule_or, stale_or}
+use Rattle.model_laws.specs.Histories.{KeepsIdentity}
+use Rattle.model_laws.proofs.Identity.{key-created_object, key-updated_object, key-at_version, key-marked_object, updated_keeps, at_version_keeps, marked_keeps, IsKeyKept, IsVersionOf, status_kept, edit_kept}
 
 -- an object is put where none stood, or where one stood whose identity it keeps
 abbrev pub IsInPlace : List Object → Object → Type 0
@@ -56,7 +46,7 @@ wrote rows key old new is same keeps = by_leaving (leaves new) refl
 create_changes : (s : State) (kind : SeatKind) (o : Object) (moment : List ℕ) (x : Option Object) → row_at (key_of o) s.rows ≡ x → IsChange s.rows (create s kind o moment x)
 unfolding create
 create_changes s kind o moment (Some old) is = says (λ r. tt) _
-create_changes s kind o moment None is = rule_or (λ r. tt) _ _ (field_or (λ r. tt) _ _ (λ e. record { holds = inl (ap (λ k. row_at k s.rows) (key-created _ o _ moment) ∙ is) }))
+create_changes s kind o moment None is = rule_or (λ r. tt) _ _ (field_or (λ r. tt) _ _ (λ e. record { holds = inl (ap (λ k. row_at k s.rows) (key-created_object _ o _ moment) ∙ is) }))
 
 update_changes : (s : State) (kind : SeatKind) (o : Object) (given : Option ℕ) (x : Option Object) → row_at (key_of o) s.rows ≡ x → IsChange s.rows (update s kind o given x)
 unfolding update

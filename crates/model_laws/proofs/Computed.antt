@@ -1,11 +1,10 @@
 -- The worked runs, by computation.
 use Rattle.std.specs.Prelude.{refl}
 use mathlib.Core.Bool.{xor}
-use Rattle.kube_types.specs.Uids.{uid_of_serial}
 use Rattle.binder_model.specs.Store.{with_meta, at_version, marked_object, admitted_object, without_status, created_object, with_status_of, updated_object, leaves, leaves_at_once, lacks_node}
 use Rattle.binder_model.specs.Fields.{faulty, volume_fault, claim_fault, kind_fault, create_fault, changed_field, update_fault}
 use Rattle.binder_model.specs.Guard.{breaks, guard}
-use Rattle.binder_model.specs.Edits.{edited_object, with_volume_name}
+use Rattle.binder_model.specs.Edits.{edited_object}
 use Rattle.binder_model.specs.Answers.{refuse, refuse_field, refuse_rule, guard_on, create, update, with_status, written_if_fits, update_status, edit_to, edit, delete_of, delete, get, outcome, reply_of, after}
 use Rattle.binder_model.specs.Devices.{device_answer, unless_stale, take_node, with_mounts}
 use Rattle.binder_model.specs.World.{effect, on_devices, watch, reply_to, world_after, log_after}

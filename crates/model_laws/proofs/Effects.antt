@@ -1,15 +1,14 @@
 -- A fact of outcomes that holds of every answer and of what the store says holds of every effect on the store.
-use Rattle.std.specs.Prelude.{ℕ, ◌≡◌, Bool, true, false, List, Option, Some, None, nat_lt, if◌then◌else◌, ⊤}
-use Rattle.kube_types.specs.declared.parts.Kind.{Kind}
+use Rattle.std.specs.Prelude.{ℕ, Bool, true, false, Option, Some, None, nat_lt, if◌then◌else◌, ⊤}
 use Rattle.call_types.specs.declared.setup.Setup.{Setup}
 use Rattle.call_types.specs.declared.request.SeatKind.{SeatKind}
 use Rattle.call_types.specs.declared.request.Request.{Request}
 use Rattle.call_types.specs.declared.request.Request.TheVariants as requests
 use Rattle.call_types.specs.declared.reply.Reply.{Reply}
 use Rattle.binder_model.specs.Answers.{Outcome, Says, is_user, outcome}
-use Rattle.binder_model.specs.Devices.{DeviceAnswer, device_answer}
+use Rattle.binder_model.specs.Devices.{DeviceAnswer}
 use Rattle.binder_model.specs.Watching.{oldest}
-use Rattle.binder_model.specs.World.{World, Effect, OnStore, OnDevices, SetsMoment, effect, watch, on_devices, set_time, is_time}
+use Rattle.binder_model.specs.World.{base, World, Effect, OnStore, SetsMoment, effect, watch, on_devices, set_time, is_time}
 use Rattle.model_laws.proofs.OnOutcome.{OnOutcome, OfAnswers}
 
 abbrev pub OfStore : (Outcome → Type 0) → Effect → Type 0
@@ -42,5 +41,5 @@ unfolding effect set_time watch
 on_effects s setup w kind (requests.SetTime at) k = test (is_time at) (SetsMoment _) (OnStore _) (record { on = tt }) (said s _)
 on_effects s setup w kind (requests.Watch kind' from) k =
     test (nat_lt w.store.version from) (OnStore _) _ (said s _)
-    (test (nat_lt from (oldest w.store.version)) (OnStore _) (OnStore _) (said s _) (said s _))
+    (test (nat_lt from (oldest (base setup) w.store.version)) (OnStore _) (OnStore _) (said s _) (said s _))
 on_effects s setup w kind request k = asked s w kind request _ k

@@ -1,10 +1,8 @@
 -- The epochs of a node rise.
-use Rattle.std.proofs.Common.{sym, refl, subst, inl, inr, ap, ◌∙◌, true≢false, arith}
-use Rattle.std.specs.Prelude.{ℕ, ◌≡◌, ◌≤◌, ◌<◌, ◌+◌, Bool, true, false, List, [], ◌∷◌, ◌++◌, Option, Some, None, bytes_eq, nat_lt, if◌then◌else◌, ⊤}
+use Rattle.std.proofs.Common.{sym, refl, subst, ap, arith}
+use Rattle.std.specs.Prelude.{ℕ, ◌≡◌, ◌≤◌, ◌+◌, Bool, true, false, List, [], ◌∷◌, ◌++◌, Option, Some, None, bytes_eq, nat_lt, if◌then◌else◌, ⊤}
 use Rattle.std.proofs.lemmas.Slice.Eq.{bytes_eq-Decides}
 use Rattle.plain_data.specs.Pairs.{Pair}
-use Rattle.kube_types.specs.declared.parts.Kind.{Kind}
-use Rattle.kube_types.specs.declared.objects.DataId.{DataId}
 use Rattle.call_types.specs.declared.entry.Entry.{Entry}
 use Rattle.call_types.specs.declared.setup.Setup.{Setup}
 use Rattle.call_types.specs.declared.setup.Pool.{Pool}
@@ -14,9 +12,9 @@ use Rattle.call_types.specs.declared.request.Request.TheVariants as requests
 use Rattle.call_types.specs.declared.reply.Reply.{Reply}
 use Rattle.call_types.specs.declared.reply.Reply.TheVariants.{Epoch}
 use Rattle.binder_model.specs.Answers.{Outcome, is_user, reply_of}
-use Rattle.binder_model.specs.Devices.{Data, Devices, DeviceAnswer, MountAt, epoch_of, after_call, provision_new, provision, erase, unless_planned, unless_stale, take_node, with_mounts, device_answer, data_named, is_planned, epoch_if_stale, with_mount, without_mount}
+use Rattle.binder_model.specs.Devices.{Data, Devices, DeviceAnswer, epoch_of, after_call, provision_new, provision, erase, unless_planned, unless_stale, take_node, with_mounts, device_answer, data_named, is_planned, epoch_if_stale}
 use Rattle.binder_model.specs.Watching.{oldest}
-use Rattle.binder_model.specs.World.{World, Effect, OnStore, OnDevices, SetsMoment, world, effect, reply_to, world_after, on_devices, set_time, watch, refused_rule}
+use Rattle.binder_model.specs.World.{base, World, Effect, OnStore, OnDevices, SetsMoment, world, effect, reply_to, world_after, on_devices, set_time, watch, refused_rule}
 use Rattle.model_laws.specs.Reads.{EpochsRise}
 
 -- the node's epoch is not lower afterwards
@@ -103,7 +101,7 @@ unfolding effect set_time watch
 effect_up setup node w kind (requests.SetTime at) = test _ node w (SetsMoment at) (OnStore _) (moment_up node w at) (store_up node w _)
 effect_up setup node w kind (requests.Watch k from) =
     test (nat_lt w.store.version from) node w (OnStore _) _ (store_up node w _)
-    (test (nat_lt from (oldest w.store.version)) node w (OnStore _) (OnStore _) (store_up node w _) (store_up node w _))
+    (test (nat_lt from (oldest (base setup) w.store.version)) node w (OnStore _) (OnStore _) (store_up node w _) (store_up node w _))
 effect_up setup node w kind request = asked_up node w kind request _ (devices_up setup node w.devices request)
 
 rises : (setup : Setup) (node : List ℕ) (newer past : List Entry)

@@ -1,29 +1,20 @@
 -- Which effects give a UID: creates, and they give that of their write.
-use Rattle.std.proofs.Common.{sym, refl, subst, inl, inr, ap, ◌∙◌}
-use Rattle.std.specs.Prelude.{ℕ, ◌≡◌, ◌+◌, Bool, true, false, List, Option, Some, None, nat_lt, if◌then◌else◌, ⊤}
+use Rattle.std.proofs.Common.{refl, ap}
+use Rattle.std.specs.Prelude.{ℕ, ◌≡◌, ◌+◌, Bool, true, false, List, Option, Some, None, ⊤}
 use Rattle.kube_types.specs.declared.uid.Uid.{Uid}
-use Rattle.kube_types.specs.declared.parts.Kind.{Kind}
 use Rattle.kube_types.specs.declared.objects.Pod.{Pod as PodData}
 use Rattle.kube_types.specs.declared.objects.Object.{Object}
-use Rattle.kube_types.specs.Keys.{meta_of, row_at, key_of}
+use Rattle.kube_types.specs.Keys.{meta_of}
 use Rattle.kube_types.specs.Uids.{uid_of_serial}
-use Rattle.kube_types.specs.Bindings.{is_deleting}
-use Rattle.call_types.specs.declared.setup.Setup.{Setup}
 use Rattle.call_types.specs.declared.edit.Edit.{Edit}
 use Rattle.call_types.specs.declared.request.NewStatus.{NewStatus}
 use Rattle.call_types.specs.declared.request.SeatKind.{SeatKind}
 use Rattle.call_types.specs.declared.request.Request.{Request}
 use Rattle.call_types.specs.declared.request.Request.TheVariants as requests
-use Rattle.call_types.specs.declared.reply.Change.{Change}
-use Rattle.call_types.specs.declared.reply.Change.TheVariants.{Added, Modified, Deleted}
-use Rattle.call_types.specs.declared.reply.Reply.{Reply}
+use Rattle.call_types.specs.declared.reply.Change.TheVariants.{Added}
 use Rattle.binder_model.specs.Store.{State, created_object, admitted_object, without_status, leaves}
-use Rattle.binder_model.specs.Edits.{edited_object}
-use Rattle.binder_model.specs.Answers.{Outcome, Says, Stores, Removes, is_user, write_outcome, create, update, with_status, written_if_fits, update_status, edit_to, edit, delete_of, delete, get, list, bind, finish, outcome}
-use Rattle.binder_model.specs.Devices.{DeviceAnswer, device_answer}
-use Rattle.binder_model.specs.Watching.{oldest}
-use Rattle.binder_model.specs.World.{World, Effect, OnStore, OnDevices, SetsMoment, effect, watch, on_devices, set_time, is_time}
-use Rattle.model_laws.proofs.OnOutcome.{OnOutcome, OfAnswers, says, refused_or, field_or, rule_or, stale_or}
+use Rattle.binder_model.specs.Answers.{Outcome, Stores, write_outcome, create, update, written_if_fits, update_status, edit_to, edit, delete_of, delete, get, list, bind, finish, outcome}
+use Rattle.model_laws.proofs.OnOutcome.{OnOutcome, says, refused_or, field_or, rule_or, stale_or}
 use Rattle.model_laws.proofs.Versions.{meta-with_meta}
 
 -- a new object has the UID of this write

@@ -1,25 +1,19 @@
 -- What a write makes of an object that stands there: it keeps its identity. By verbs.
-use Rattle.std.proofs.Common.{sym, refl, subst, inl, inr, ap, ◌∙◌, true≢false}
-use Rattle.std.specs.Prelude.{ℕ, ◌≡◌, ◌≢◌, ◌⊎◌, ◌+◌, Bool, true, false, not, ◌&&◌, List, [], ◌∷◌, Option, Some, None, bytes_eq, is_some, ⊤}
+use Rattle.std.proofs.Common.{sym, refl, inl, inr, ap, ◌∙◌, true≢false}
+use Rattle.std.specs.Prelude.{ℕ, ◌≡◌, ◌⊎◌, Bool, true, false, not, ◌&&◌, List, [], ◌∷◌, Option, Some, None, bytes_eq, is_some, ⊤}
 use Rattle.std.specs.Bool.{Decides}
 use Rattle.std.proofs.lemmas.Slice.Eq.{bytes_eq-Decides}
-use Rattle.kube_types.specs.declared.uid.Uid.{Uid}
 use Rattle.kube_types.specs.declared.names.Field.{Field}
-use Rattle.kube_types.specs.declared.names.Rule.{Rule}
-use Rattle.kube_types.specs.declared.key.Key.{Key}
 use Rattle.kube_types.specs.declared.objects.Meta.{Meta}
-use Rattle.kube_types.specs.declared.objects.Claim.{Claim as ClaimData}
-use Rattle.kube_types.specs.declared.objects.Pod.{Pod as PodData}
 use Rattle.kube_types.specs.declared.objects.Object.{Object}
 use Rattle.kube_types.specs.declared.objects.Object.TheVariants.{Class, Node, Volume, Claim, Pod}
-use Rattle.kube_types.specs.Keys.{meta_of, key_of, kind_of, row_at, put_row, without_row, AreRows}
-use Rattle.kube_types.specs.Bindings.{is_deleting, is_scheduled, is_empty}
-use Rattle.kube_types.proofs.KeyOrder.{row_at_key, row_at-put_row, row_at-put_row_other, row_at-without_row, row_at-without_row_other}
+use Rattle.kube_types.specs.Keys.{meta_of, key_of, kind_of}
+use Rattle.kube_types.specs.Bindings.{is_deleting, is_empty}
 use Rattle.call_types.specs.declared.edit.Edit.{Edit}
 use Rattle.call_types.specs.declared.edit.Edit.TheVariants as edits
 use Rattle.call_types.specs.declared.request.NewStatus.{NewStatus}
 use Rattle.call_types.specs.declared.request.NewStatus.TheVariants as statuses
-use Rattle.binder_model.specs.Store.{State, with_meta, at_version, marked_object, created_object, updated_object, admitted_object, without_status, with_status_of}
+use Rattle.binder_model.specs.Store.{with_meta, at_version, marked_object, created_object, updated_object, admitted_object, without_status, with_status_of}
 use Rattle.binder_model.specs.Fields.{faulty, update_fault, changed_field}
 use Rattle.binder_model.specs.Edits.{edited_object, with_volume_name}
 use Rattle.binder_model.specs.Answers.{with_status}

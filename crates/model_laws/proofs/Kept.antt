@@ -1,6 +1,6 @@
 -- What stands under a key before a call and after it keeps its identity.
 use Rattle.std.proofs.Common.{sym, refl, subst, inl, inr, ap, ◌∙◌, true≢false}
-use Rattle.std.specs.Prelude.{ℕ, ◌≡◌, ◌≢◌, ◌⊎◌, List, Bool, true, false, Option, Some, None, is_some, unwrap_or}
+use Rattle.std.specs.Prelude.{◌≡◌, ◌≢◌, ◌⊎◌, List, false, Option, Some, None, is_some, unwrap_or}
 use Rattle.std.specs.declared.cmp.Ordering.{Ordering}
 use Rattle.std.specs.declared.cmp.Ordering.TheVariants.{Less, Equal, Greater}
 use Rattle.std.specs.Ordering.{is_eq}
@@ -12,7 +12,7 @@ use Rattle.kube_types.specs.Keys.{AreRows, key_cmp, key_of, row_at, put_row, wit
 use Rattle.kube_types.proofs.KeyOrder.{key_cmp_total, equal_keys, row_at-put_row, row_at-put_row_other, row_at-without_row, row_at-without_row_other}
 use Rattle.binder_model.specs.Store.{State}
 use Rattle.binder_model.specs.Answers.{Outcome, Says, Stores, Removes, after}
-use Rattle.binder_model.specs.World.{World, Effect, OnStore, OnDevices, SetsMoment, effect, world_after, on_devices, set_time, watch}
+use Rattle.binder_model.specs.World.{World, Effect, OnStore, OnDevices, SetsMoment, world_after}
 use Rattle.model_laws.specs.Histories.{NamesOnce, KeepsIdentity, CallsKeepIdentity}
 use Rattle.model_laws.proofs.Changes.{ChangeOf, IsInPlace, outcome_changes}
 use Rattle.model_laws.proofs.Effects.{OfStore, on_effects}

@@ -1,11 +1,15 @@
 pub mod Changes
 pub mod Computed
+pub mod Defaults
 pub mod Effects
 pub mod Epochs
 pub mod Givings
 pub mod Histories
 pub mod Identity
 pub mod Kept
+pub mod Lists
+pub mod Mounting
+pub mod Newest
 pub mod OnOutcome
 pub mod Readings
 pub mod Releases

@@ -5,7 +5,7 @@ use Rattle.kube_types.specs.declared.names.Field.{Field}
 use Rattle.kube_types.specs.declared.names.Rule.{Rule}
 use Rattle.call_types.specs.declared.reply.Refusal.{Refusal}
 use Rattle.call_types.specs.declared.reply.Reply.{Reply}
-use Rattle.binder_model.specs.Answers.{Outcome, Says, Stores, Removes, refuse, refuse_field, refuse_rule, refuse_stale}
+use Rattle.binder_model.specs.Answers.{Outcome, Says, refuse, refuse_field, refuse_rule, refuse_stale}
 
 pub record OnOutcome (P : Outcome → Type 0) (x : Outcome) : Type 0 where
   pub holds : P x

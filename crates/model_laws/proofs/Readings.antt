@@ -1,28 +1,24 @@
 -- What stands in a list of rows, and what lists and Gets tell.
-use Rattle.std.proofs.Common.{sym, refl, subst, inl, inr, ap, ◌∙◌, true≢false, arith}
-use Rattle.std.specs.Prelude.{ℕ, ◌≡◌, ◌≢◌, ◌⊎◌, Bool, true, false, List, [], ◌∷◌, Option, Some, None, cond, filter, is_some, unwrap_or}
-use Rattle.std.specs.declared.cmp.Ordering.{Ordering}
-use Rattle.std.specs.declared.cmp.Ordering.TheVariants.{Less, Equal, Greater}
+use Rattle.std.proofs.Common.{sym, refl, subst, inl, inr, ap, ◌∙◌, true≢false}
+use Rattle.std.specs.Prelude.{ℕ, ◌≡◌, Bool, true, false, List, [], ◌∷◌, Option, Some, None, cond, filter, is_some, unwrap_or}
+use Rattle.std.specs.declared.cmp.Ordering.TheVariants.{Less, Equal}
 use Rattle.std.specs.Ordering.{is_eq}
 use Rattle.std.proofs.lemmas.Cmp.{tied_itself}
-use Rattle.plain_data.specs.Rows.{IsAfter, IsRising, find}
+use Rattle.plain_data.specs.Rows.{IsAfter}
 use Rattle.kube_types.specs.declared.key.Key.{Key}
-use Rattle.kube_types.specs.declared.parts.Kind.{Kind}
 use Rattle.kube_types.specs.declared.objects.Object.{Object}
 use Rattle.kube_types.specs.Keys.{AreRows, key_cmp, key_of, row_at, rows_of, is_of_kind}
 use Rattle.kube_types.proofs.KeyOrder.{key_cmp_total}
-use Rattle.call_types.specs.declared.setup.Setup.{Setup}
-use Rattle.call_types.specs.declared.request.SeatKind.{SeatKind}
 use Rattle.binder_model.specs.Answers.{is_in_namespace, listed_rows, get, list, outcome, reply_of}
 use Rattle.binder_model.specs.Devices.{device_answer}
 use Rattle.binder_model.specs.Told.{SomeOf}
-use Rattle.binder_model.specs.World.{World, effect, on_devices, reply_to}
-use Rattle.model_laws.specs.Reads.{found, fits_namespace, GetsTellWhatStands, TellsRows, ListsTellWhatStands}
+use Rattle.binder_model.specs.World.{effect, on_devices, reply_to}
+use Rattle.model_laws.specs.Reads.{found, fits_namespace, GetsTellWhatStands, ListsTellWhatStands}
 
 abbrev IsIn : {X : Type 0} → X → List X → Type 0
 IsIn x xs = SomeOf (λ y. y ≡ x) xs
 
-after_member : (y x : Object) (ys : List Object) → IsAfter key_cmp key_of y ys → IsIn x ys → key_cmp (key_of y) (key_of x) ≡ Less
+pub after_member : (y x : Object) (ys : List Object) → IsAfter key_cmp key_of y ys → IsIn x ys → key_cmp (key_of y) (key_of x) ≡ Less
 after_member y x [] a h = elim h [ ]
 after_member y x (z ∷ zs) a (inl is) = subst (λ o. key_cmp (key_of y) (key_of o) ≡ Less) is a.0
 after_member y x (z ∷ zs) a (inr more) = after_member y x zs a.1 more

@@ -1,20 +1,18 @@
 -- The two orders.
 use Rattle.std.proofs.Common.{sym, refl, subst, inl, inr}
-use Rattle.std.proofs.Common.{arith}
-use Rattle.std.specs.Prelude.{ℕ, zero, suc, ◌≡◌, ◌⊎◌, List, [], ◌∷◌, Option, Some, None, codes, ⊤}
+use Rattle.std.specs.Prelude.{◌≡◌, [], ◌∷◌, Some, codes, ⊤}
 use Rattle.kube_types.specs.declared.key.Key.{Key}
 use Rattle.kube_types.specs.declared.uid.Uid.{Uid}
 use Rattle.kube_types.specs.declared.objects.Ref.{Ref}
 use Rattle.kube_types.specs.declared.objects.Claim.{Claim as ClaimData}
 use Rattle.kube_types.specs.declared.objects.Volume.{Volume as VolumeData}
-use Rattle.kube_types.specs.declared.objects.Object.TheVariants.{Volume}
 use Rattle.kube_types.specs.Uids.{uid_of_serial}
 use Rattle.call_types.specs.declared.entry.Entry.{Entry}
 use Rattle.call_types.specs.declared.request.SeatKind.TheVariants.{Binder}
 use Rattle.call_types.specs.declared.request.Request.{Request}
 use Rattle.call_types.specs.declared.request.Request.TheVariants as requests
 use Rattle.binder_model.specs.At.{IsWrittenAt, IsElsewhere, IsSameObject}
-use Rattle.binder_model.specs.BindWrites.{claim_key, ref_to}
+use Rattle.binder_model.specs.BindWrites.{ref_to}
 use Rattle.binder_model.specs.BinderLicence.{MayRelease, IsReferring, IsGone}
 use Rattle.binder_model.specs.Licence.{AreOfKind, Licensed}
 use Rattle.binder_model.specs.Told.{ToldVolume, ToldClaim, After, TellsLive}
@@ -38,9 +36,7 @@ may_release = record {
 }
 
 binders : (first second : Entry) → first.kind ≡ Binder → second.kind ≡ Binder → AreOfKind Binder (first ∷ second ∷ [])
-binders first second e f zero d h = e
-binders first second e f (suc zero) d h = f
-binders first second e f (suc (suc k)) d h = absurd (omega arith)
+binders first second e f = (e, (f, tt))
 
 read_after : Licensed Binder (read_gone ∷ told_volume ∷ []) release
 read_after = (binders read_gone told_volume refl refl, (refl, inr (inl (refl, inl (record { version = refl; placed = refl; named = refl }, may_release)))))

@@ -1,24 +1,22 @@
 -- One call: by cases on what it comes to.
-use Rattle.std.proofs.Common.{sym, refl, subst, inl, inr}
-use Rattle.std.specs.Prelude.{ℕ, ◌≡◌, ◌⊎◌, ◌+◌, Bool, true, false, List, [], ◌∷◌, Option, Some, None, nat_lt, if◌then◌else◌, ⊤}
+use Rattle.std.proofs.Common.{refl, subst}
+use Rattle.std.specs.Prelude.{ℕ, ◌≡◌, ◌+◌, Bool, true, false, List, Option, Some, None, nat_lt, if◌then◌else◌, ⊤}
 use Rattle.plain_data.specs.Pairs.{Pair}
 use Rattle.kube_types.specs.declared.parts.Kind.{Kind}
-use Rattle.kube_types.specs.declared.uid.Uid.{Uid}
 use Rattle.kube_types.specs.declared.objects.DataId.{DataId}
 use Rattle.call_types.specs.declared.setup.Setup.{Setup}
 use Rattle.call_types.specs.declared.setup.Pool.{Pool}
 use Rattle.call_types.specs.declared.request.SeatKind.{SeatKind}
 use Rattle.call_types.specs.declared.request.Request.{Request}
 use Rattle.call_types.specs.declared.request.Request.TheVariants as requests
-use Rattle.call_types.specs.declared.reply.Change.{Change}
 use Rattle.call_types.specs.declared.reply.Refusal.{Refusal}
 use Rattle.call_types.specs.declared.reply.Reply.{Reply}
 use Rattle.call_types.specs.declared.reply.Reply.TheVariants.{Refused}
-use Rattle.binder_model.specs.Answers.{Outcome, Says, Stores, Removes, is_user, outcome, reply_of, after}
-use Rattle.binder_model.specs.Devices.{Data, Devices, DeviceAnswer, MountAt, after_call, provision_new, provision, erase, unless_planned, unless_stale, take_node, with_mounts, device_answer, data_named, first_fit, is_planned, epoch_if_stale, with_mount, without_mount}
+use Rattle.binder_model.specs.Answers.{Outcome, Says, Stores, Removes, is_user, reply_of, after}
+use Rattle.binder_model.specs.Devices.{Data, Devices, DeviceAnswer, MountAt, after_call, provision_new, provision, erase, unless_planned, unless_stale, take_node, with_mounts, device_answer, data_named, is_planned, epoch_if_stale, with_mount, without_mount}
 use Rattle.binder_model.specs.Watching.{oldest}
-use Rattle.binder_model.specs.World.{World, Effect, OnStore, OnDevices, SetsMoment, effect, reply_to, world_after, log_after, watch, on_devices, set_time, stale_epoch, is_time}
-use Rattle.model_laws.specs.Steps.{AreSameButCalls, IsSameButCalls, RefusalsChangeNothing, KeepsStore, WritesOnce, VersionsCountWrites}
+use Rattle.binder_model.specs.World.{base, World, Effect, OnStore, OnDevices, SetsMoment, effect, reply_to, world_after, log_after, watch, on_devices, set_time, is_time}
+use Rattle.model_laws.specs.Steps.{AreSameButCalls, IsSameButCalls, RefusalsChangeNothing}
 
 -- no other reply is a refusal
 abbrev IsNoRefusal : Reply → Type 0
@@ -116,11 +114,11 @@ time_harmless : (w : World) (at : List ℕ) → IsHarmless w (set_time at)
 unfolding set_time
 time_harmless w at = effect_test (is_time at) w _ _ (moment_harmless w at) (store_harmless w _)
 
-watch_harmless : (w : World) (kind : Kind) (from : ℕ) → IsHarmless w (watch w kind from)
+watch_harmless : (setup : Setup) (w : World) (kind : Kind) (from : ℕ) → IsHarmless w (watch setup w kind from)
 unfolding watch
-watch_harmless w kind from =
+watch_harmless setup w kind from =
     effect_test (nat_lt w.store.version from) w (OnStore _) _ (store_harmless w _)
-    (effect_test (nat_lt from (oldest w.store.version)) w (OnStore _) (OnStore _) (store_harmless w _) (store_harmless w _))
+    (effect_test (nat_lt from (oldest (base setup) w.store.version)) w (OnStore _) (OnStore _) (store_harmless w _) (store_harmless w _))
 
 asked_harmless : (w : World) (kind : SeatKind) (request : Request) (a : Option DeviceAnswer) → AreKept w.devices a → IsHarmless w (on_devices w kind request a)
 unfolding on_devices
@@ -130,7 +128,7 @@ asked_harmless w kind request None k = store_harmless w _
 effects_harmless : (setup : Setup) (w : World) (kind : SeatKind) (request : Request) → IsHarmless w (effect setup w kind request)
 unfolding effect
 effects_harmless setup w kind (requests.SetTime at) = time_harmless w at
-effects_harmless setup w kind (requests.Watch k from) = watch_harmless w k from
+effects_harmless setup w kind (requests.Watch k from) = watch_harmless setup w k from
 effects_harmless setup w kind request = asked_harmless w kind request _ (devices_kept setup w.devices request)
 
 pub refusals_change_nothing : RefusalsChangeNothing

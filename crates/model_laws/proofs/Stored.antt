@@ -1,6 +1,6 @@
 -- Data are only added, and each under the next id.
-use Rattle.std.proofs.Common.{sym, refl, subst, inl, inr, ap, ◌∙◌, arith}
-use Rattle.std.specs.Prelude.{ℕ, ◌≡◌, ◌⊎◌, ◌≤◌, ◌<◌, ◌+◌, ◌^◌, suc, Bool, true, false, List, [], ◌∷◌, ◌++◌, Option, Some, None, map, length, codes, decimal, nat_lt, drop, if◌then◌else◌, ⊤}
+use Rattle.std.proofs.Common.{sym, refl, inl, inr, ap, ◌∙◌, arith}
+use Rattle.std.specs.Prelude.{ℕ, ◌≡◌, ◌⊎◌, ◌≤◌, ◌+◌, suc, Bool, true, false, List, [], ◌∷◌, ◌++◌, Option, Some, None, length, nat_lt, drop, if◌then◌else◌, ⊤}
 use Rattle.std.proofs.lemmas.Fmt.{decimal_injective}
 use Rattle.plain_data.specs.Pairs.{Pair}
 use Rattle.kube_types.specs.declared.objects.DataId.{DataId}
@@ -10,12 +10,11 @@ use Rattle.call_types.specs.declared.setup.Pool.{Pool}
 use Rattle.call_types.specs.declared.request.SeatKind.{SeatKind}
 use Rattle.call_types.specs.declared.request.Request.{Request}
 use Rattle.call_types.specs.declared.request.Request.TheVariants as requests
-use Rattle.call_types.specs.declared.reply.Reply.{Reply}
 use Rattle.binder_model.specs.Answers.{Outcome, is_user}
-use Rattle.binder_model.specs.Devices.{Data, Devices, DeviceAnswer, after_call, erase_one, data_after_erase, fresh_id, provision_new, provision, erase, unless_planned, unless_stale, take_node, with_mounts, device_answer, data_named, is_planned, epoch_if_stale}
+use Rattle.binder_model.specs.Devices.{Data, Devices, DeviceAnswer, after_call, data_after_erase, fresh_id, provision_new, provision, erase, unless_planned, unless_stale, take_node, with_mounts, device_answer, data_named, is_planned, epoch_if_stale}
 use Rattle.binder_model.specs.Watching.{oldest}
-use Rattle.binder_model.specs.World.{World, Effect, OnStore, OnDevices, SetsMoment, world, effect, world_after, on_devices, set_time, watch, is_time}
-use Rattle.model_laws.specs.Reads.{GivesData, effect_of, DataIdsAreGivenOnce}
+use Rattle.binder_model.specs.World.{base, World, Effect, OnStore, OnDevices, SetsMoment, world, effect, world_after, on_devices, set_time, watch, is_time}
+use Rattle.model_laws.specs.Reads.{DataIdsAreGivenOnce}
 
 -- one more, under the next id
 record IsAdded (old new : List Data) : Type 0 where
@@ -103,7 +102,7 @@ unfolding effect set_time watch
 effect_grown setup w kind (requests.SetTime at) = test (is_time at) w (SetsMoment at) (OnStore _) (moment_grown w at) (store_grown w _)
 effect_grown setup w kind (requests.Watch k from) =
     test (nat_lt w.store.version from) w (OnStore _) _ (store_grown w _)
-    (test (nat_lt from (oldest w.store.version)) w (OnStore _) (OnStore _) (store_grown w _) (store_grown w _))
+    (test (nat_lt from (oldest (base setup) w.store.version)) w (OnStore _) (OnStore _) (store_grown w _) (store_grown w _))
 effect_grown setup w kind request = asked_grown w kind request _ (devices_grown setup w.devices request)
 
 -- a call adds one at most

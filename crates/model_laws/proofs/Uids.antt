@@ -1,24 +1,19 @@
 -- A UID is that of the write that gave it, and versions rise.
-use Rattle.std.proofs.Common.{sym, refl, subst, inl, inr, ap, ◌∙◌, true≢false, arith}
-use Rattle.std.specs.Prelude.{ℕ, ◌≡◌, ◌≢◌, ◌⊎◌, ◌+◌, ◌≤◌, ◌<◌, Bool, true, false, List, [], ◌∷◌, ◌++◌, Option, Some, None, nat_lt, is_some, unwrap_or, if◌then◌else◌, ⊤}
+use Rattle.std.proofs.Common.{sym, refl, inl, inr, ap, ◌∙◌, true≢false, arith}
+use Rattle.std.specs.Prelude.{◌≡◌, ◌⊎◌, ◌+◌, ◌≤◌, List, [], ◌∷◌, ◌++◌, Option, Some, None, is_some, unwrap_or}
 use Rattle.kube_types.specs.declared.uid.Uid.{Uid}
-use Rattle.kube_types.specs.declared.objects.Object.{Object}
-use Rattle.kube_types.specs.Keys.{meta_of, row_at, key_of}
 use Rattle.kube_types.specs.Uids.{uid_of_serial}
 use Rattle.kube_types.proofs.UidTexts.{serials_apart}
 use Rattle.call_types.specs.declared.setup.Setup.{Setup}
 use Rattle.call_types.specs.declared.entry.Entry.{Entry}
 use Rattle.call_types.specs.declared.request.SeatKind.{SeatKind}
 use Rattle.call_types.specs.declared.request.Request.{Request}
-use Rattle.call_types.specs.declared.request.Request.TheVariants as requests
-use Rattle.call_types.specs.declared.reply.Change.TheVariants.{Added, Modified}
-use Rattle.call_types.specs.declared.reply.Reply.{Reply}
-use Rattle.binder_model.specs.Store.{State, created_object, admitted_object, without_status}
-use Rattle.binder_model.specs.Answers.{Outcome, Says, Stores, Removes, outcome, after}
-use Rattle.binder_model.specs.World.{World, Effect, OnStore, OnDevices, SetsMoment, world, effect, reply_to, world_after}
+use Rattle.call_types.specs.declared.reply.Change.TheVariants.{Added}
+use Rattle.binder_model.specs.Answers.{Stores, after}
+use Rattle.binder_model.specs.World.{World, Effect, OnStore, world, effect, reply_to, world_after}
 use Rattle.model_laws.specs.Histories.{given_by, given_uid, UidsAreGivenOnce}
 use Rattle.model_laws.specs.Steps.{KeepsStore, WritesOnce}
-use Rattle.model_laws.proofs.Versions.{meta-with_meta, versions_count_writes}
+use Rattle.model_laws.proofs.Versions.{versions_count_writes}
 use Rattle.model_laws.proofs.Givings.{Gives, outcome_gives}
 use Rattle.model_laws.proofs.Effects.{OfStore, on_effects}
 

@@ -1,31 +1,26 @@
 -- Each write is at the next version.
-use Rattle.std.proofs.Common.{sym, refl, subst, inl, inr, ap, ◌∙◌}
-use Rattle.std.specs.Prelude.{ℕ, ◌≡◌, ◌⊎◌, ◌+◌, Bool, true, false, List, [], ◌∷◌, Option, Some, None, nat_lt, if◌then◌else◌, ⊤}
+use Rattle.std.proofs.Common.{refl, inl, inr, ap}
+use Rattle.std.specs.Prelude.{ℕ, ◌≡◌, ◌⊎◌, ◌+◌, Bool, true, false, List, Option, Some, None, nat_lt, if◌then◌else◌, ⊤}
 use Rattle.kube_types.specs.declared.uid.Uid.{Uid}
-use Rattle.kube_types.specs.declared.names.Field.{Field}
-use Rattle.kube_types.specs.declared.names.Rule.{Rule}
-use Rattle.kube_types.specs.declared.parts.Kind.{Kind}
 use Rattle.kube_types.specs.declared.objects.Meta.{Meta}
 use Rattle.kube_types.specs.declared.objects.Pod.{Pod as PodData}
 use Rattle.kube_types.specs.declared.objects.Object.{Object}
 use Rattle.kube_types.specs.declared.objects.Object.TheVariants.{Class, Node, Volume, Claim, Pod}
-use Rattle.kube_types.specs.Keys.{meta_of, key_of, row_at}
-use Rattle.kube_types.specs.Bindings.{is_deleting, is_scheduled}
+use Rattle.kube_types.specs.Keys.{meta_of}
 use Rattle.call_types.specs.declared.edit.Edit.{Edit}
 use Rattle.call_types.specs.declared.setup.Setup.{Setup}
 use Rattle.call_types.specs.declared.request.NewStatus.{NewStatus}
 use Rattle.call_types.specs.declared.request.SeatKind.{SeatKind}
 use Rattle.call_types.specs.declared.request.Request.{Request}
 use Rattle.call_types.specs.declared.request.Request.TheVariants as requests
-use Rattle.call_types.specs.declared.reply.Refusal.{Refusal}
 use Rattle.call_types.specs.declared.reply.Reply.{Reply}
-use Rattle.binder_model.specs.Store.{State, with_meta, at_version, marked_object, created_object, updated_object, admitted_object, without_status, with_status_of, leaves, leaves_at_once, class_name, default_class}
+use Rattle.binder_model.specs.Store.{State, with_meta, at_version, marked_object, created_object, updated_object, admitted_object, without_status, with_status_of, leaves}
 use Rattle.binder_model.specs.Edits.{edited_object}
-use Rattle.binder_model.specs.Answers.{Outcome, Says, Stores, Removes, is_user, write_outcome, create, update, with_status, written_if_fits, update_status, edit_to, edit, delete_of, delete, get, list, pod_with, bind, finish, outcome, reply_of, after}
-use Rattle.binder_model.specs.Devices.{DeviceAnswer, device_answer}
+use Rattle.binder_model.specs.Answers.{Outcome, Says, Stores, Removes, is_user, write_outcome, create, update, written_if_fits, update_status, edit_to, edit, delete_of, delete, get, list, bind, finish, outcome, reply_of, after}
+use Rattle.binder_model.specs.Devices.{DeviceAnswer}
 use Rattle.binder_model.specs.Watching.{oldest}
-use Rattle.binder_model.specs.World.{World, Effect, OnStore, OnDevices, SetsMoment, effect, reply_to, world_after, log_after, watch, on_devices, set_time, stale_epoch, is_time}
-use Rattle.model_laws.proofs.OnOutcome.{OnOutcome, OfAnswers, says, refused_or, field_or, rule_or, stale_or}
+use Rattle.binder_model.specs.World.{base, World, Effect, OnStore, OnDevices, SetsMoment, effect, reply_to, world_after, log_after, watch, on_devices, set_time, is_time}
+use Rattle.model_laws.proofs.OnOutcome.{OnOutcome, says, refused_or, field_or, rule_or, stale_or}
 use Rattle.model_laws.specs.Steps.{KeepsStore, WritesOnce, VersionsCountWrites}
 
 pub meta-with_meta : (o : Object) (m : Meta) → meta_of (with_meta o m) ≡ m
@@ -163,7 +158,7 @@ unfolding effect set_time watch
 effect_counted setup w kind (requests.SetTime at) = test_counted (is_time at) w (SetsMoment _) (OnStore _) (moment_counted w at) (said w _)
 effect_counted setup w kind (requests.Watch k from) =
     test_counted (nat_lt w.store.version from) w (OnStore _) _ (said w _)
-    (test_counted (nat_lt from (oldest w.store.version)) w (OnStore _) (OnStore _) (said w _) (said w _))
+    (test_counted (nat_lt from (oldest (base setup) w.store.version)) w (OnStore _) (OnStore _) (said w _) (said w _))
 effect_counted setup w kind request = asked_counted w kind request _
 
 pub versions_count_writes : VersionsCountWrites

@@ -1,20 +1,16 @@
 -- What a watch from an earlier version gives.
-use Rattle.std.proofs.Common.{sym, refl, subst, inl, inr, ap, ◌∙◌, true≢false, arith}
+use Rattle.std.proofs.Common.{sym, refl, subst, ap, ◌∙◌, arith}
 use Rattle.std.proofs.lemmas.Bool.Decides.{nat_tests}
-use Rattle.std.specs.Prelude.{ℕ, ◌≡◌, ◌⊎◌, ◌≤◌, ◌<◌, ◌+◌, Bool, true, false, ◌&&◌, List, [], ◌∷◌, ◌++◌, Option, Some, None, All, nat_lt, cond, filter, reverse, take, if◌then◌else◌, ⊤}
+use Rattle.std.specs.Prelude.{ℕ, ◌≡◌, ◌≤◌, ◌<◌, ◌+◌, Bool, true, false, List, [], ◌∷◌, ◌++◌, nat_lt, cond, filter, reverse, take, ⊤}
 use Rattle.kube_types.specs.declared.parts.Kind.{Kind}
-use Rattle.kube_types.specs.Keys.{meta_of, is_of_kind}
+use Rattle.kube_types.specs.Keys.{is_of_kind}
 use Rattle.call_types.specs.declared.entry.Entry.{Entry}
 use Rattle.call_types.specs.declared.setup.Setup.{Setup}
-use Rattle.call_types.specs.declared.request.SeatKind.{SeatKind}
-use Rattle.call_types.specs.declared.request.Request.{Request}
-use Rattle.call_types.specs.declared.request.Request.TheVariants as requests
 use Rattle.call_types.specs.declared.reply.Event.{Event}
-use Rattle.call_types.specs.declared.reply.Reply.{Reply}
 use Rattle.call_types.specs.declared.reply.Reply.TheVariants.{Events}
-use Rattle.binder_model.specs.Answers.{Outcome, Says, Stores, Removes, after, reply_of, outcome}
-use Rattle.binder_model.specs.Watching.{oldest, is_later, events_after, told_events, reached_version, most_events}
-use Rattle.binder_model.specs.World.{World, Effect, OnStore, OnDevices, SetsMoment, world, effect, reply_to, world_after, log_after, watch}
+use Rattle.binder_model.specs.Answers.{Says, Stores, Removes, after, reply_of}
+use Rattle.binder_model.specs.Watching.{oldest, is_later, reached_version, most_events}
+use Rattle.binder_model.specs.World.{base, World, Effect, OnStore, OnDevices, SetsMoment, world, effect, reply_to, world_after, log_after, watch}
 use Rattle.model_laws.specs.Reads.{effect_of, left_by, events_by, WatchesTellWhatCameAfter}
 use Rattle.model_laws.proofs.Versions.{NextOf, outcome_next}
 use Rattle.model_laws.proofs.Effects.{OfStore, on_effects}
@@ -129,5 +125,5 @@ watches_tell_what_came_after setup newer past kind k near =
     let from = (world setup past).store.version in
     let version = (world setup (newer ++ past)).store.version in
     let not_ahead : nat_lt version from ≡ false = lt_false version from (rises setup newer past) in
-    let not_gone : nat_lt from (oldest version) ≡ false = lt_false from (oldest version) near in
+    let not_gone : nat_lt from (oldest (base setup) version) ≡ false = lt_false from (oldest (base setup) version) near in
     rw (not_ahead, not_gone) (ap (λ l. Events (record { events = take most_events (reverse l); upto = reached_version version (take most_events (reverse l)) })) (sifted setup newer past k))

@@ -1,5 +1,5 @@
 -- What holds of every world of a history.
-use Rattle.std.specs.Prelude.{ℕ, ◌≡◌, ◌≢◌, ◌⊎◌, List, [], ◌∷◌, ◌++◌, Option, Some, None, ⊤}
+use Rattle.std.specs.Prelude.{◌≡◌, ◌≢◌, ◌⊎◌, List, [], ◌∷◌, ◌++◌, Option, Some, None, ⊤}
 use Rattle.kube_types.specs.declared.uid.Uid.{Uid}
 use Rattle.kube_types.specs.declared.key.Key.{Key}
 use Rattle.kube_types.specs.declared.objects.Object.{Object}
@@ -10,8 +10,8 @@ use Rattle.call_types.specs.declared.setup.Setup.{Setup}
 use Rattle.call_types.specs.declared.request.SeatKind.{SeatKind}
 use Rattle.call_types.specs.declared.request.Request.{Request}
 use Rattle.call_types.specs.declared.reply.Change.TheVariants.{Added}
-use Rattle.binder_model.specs.Answers.{Outcome, Says, Stores, Removes}
-use Rattle.binder_model.specs.World.{World, Effect, OnStore, OnDevices, SetsMoment, world, effect, world_after}
+use Rattle.binder_model.specs.Answers.{Stores}
+use Rattle.binder_model.specs.World.{World, Effect, OnStore, world, effect, world_after}
 
 -- no key stands twice, and objects stand in the order of their keys
 abbrev pub RowsStandInOrder : Type 0

@@ -17,7 +17,7 @@ use Rattle.binder_model.specs.Answers.{is_in_namespace}
 use Rattle.binder_model.specs.Told.{SomeOf}
 use Rattle.binder_model.specs.Devices.{Data}
 use Rattle.binder_model.specs.Watching.{most_events, oldest, reached_version}
-use Rattle.binder_model.specs.World.{World, Effect, OnStore, world, effect, log_after, reply_to, world_after}
+use Rattle.binder_model.specs.World.{base, World, Effect, OnStore, world, effect, log_after, reply_to, world_after}
 
 -- the object that stands under the key, or that there is none
 abbrev pub found : Option Object → Reply
@@ -87,5 +87,5 @@ WatchesTellWhatCameAfter =
     → let from = (world setup past).store.version in
     let w = world setup (newer ++ past) in
     let es = take most_events (reverse (filter (λ e. is_of_kind of_kind e.object) (events_by setup newer past))) in
-    oldest w.store.version ≤ from
+    oldest (base setup) w.store.version ≤ from
     → reply_to (effect setup w kind (Watch of_kind from)) ≡ Events (record { events = es; upto = reached_version w.store.version es })

@@ -1,6 +1,5 @@
 -- What one call does to a world.
-use Rattle.std.specs.Prelude.{ℕ, ◌≡◌, ◌+◌, ◌⊎◌, List, ◌∷◌}
-use Rattle.kube_types.specs.declared.objects.Object.{Object}
+use Rattle.std.specs.Prelude.{◌≡◌, ◌+◌, ◌⊎◌, ◌∷◌}
 use Rattle.kube_types.specs.Keys.{meta_of}
 use Rattle.call_types.specs.declared.setup.Setup.{Setup}
 use Rattle.call_types.specs.declared.request.SeatKind.{SeatKind}

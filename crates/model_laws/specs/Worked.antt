@@ -1,9 +1,8 @@
 -- Worked runs, computed: what the definitions say of small literal worlds. Each shows a run that the rows of this
 -- project's tests have too.
-use Rattle.std.specs.Prelude.{ℕ, ◌≡◌, ◌*◌, ◌^◌, Bool, true, false, List, [], ◌∷◌, ◌++◌, Option, Some, None, codes, filter}
+use Rattle.std.specs.Prelude.{ℕ, ◌≡◌, ◌*◌, ◌^◌, true, false, List, [], ◌∷◌, ◌++◌, Some, None, codes}
 use Rattle.std.specs.declared.cmp.Ordering.TheVariants.{Less}
 use Rattle.plain_data.specs.Pairs.{Pair}
-use Rattle.kube_types.specs.declared.uid.Uid.{Uid}
 use Rattle.kube_types.specs.declared.names.Field.TheVariants as fields
 use Rattle.kube_types.specs.declared.names.Rule.TheVariants as rules
 use Rattle.kube_types.specs.declared.key.Key.{Key}
@@ -18,26 +17,24 @@ use Rattle.kube_types.specs.declared.objects.Amount.{Amount}
 use Rattle.kube_types.specs.declared.objects.Meta.{Meta}
 use Rattle.kube_types.specs.declared.objects.Volume.{Volume as VolumeData}
 use Rattle.kube_types.specs.declared.objects.Claim.{Claim as ClaimData}
-use Rattle.kube_types.specs.declared.objects.Object.{Object}
 use Rattle.kube_types.specs.declared.objects.Object.TheVariants.{Volume, Claim}
 use Rattle.kube_types.specs.Uids.{uid_of_serial}
 use Rattle.kube_types.specs.Bindings.{bind_completed, bound_by_controller, pv_protection, pvc_protection, yes}
 use Rattle.call_types.specs.declared.edit.Edit.TheVariants as edits
 use Rattle.call_types.specs.declared.setup.Setup.{Setup}
-use Rattle.call_types.specs.declared.request.NewStatus.TheVariants as statuses
 use Rattle.call_types.specs.declared.request.SeatKind.{SeatKind}
 use Rattle.call_types.specs.declared.request.SeatKind.TheVariants as seats
 use Rattle.call_types.specs.declared.request.Request.{Request}
 use Rattle.call_types.specs.declared.request.Request.TheVariants as requests
-use Rattle.call_types.specs.declared.reply.Refusal.{Refusal}
 use Rattle.call_types.specs.declared.reply.Refusal.TheVariants as refusals
 use Rattle.call_types.specs.declared.reply.Reply.{Reply}
 use Rattle.call_types.specs.declared.reply.Reply.TheVariants as replies
-use Rattle.binder_model.specs.Store.{no_modes}
-use Rattle.binder_model.specs.BindWrites.{claim_key, volume_key, write_reference, write_bound, write_completion, write_claim_status, write_available}
+use Rattle.binder_model.specs.Store.{no_modes, first_moment}
+use Rattle.binder_model.specs.ObjectKeys.{claim_key, volume_key}
+use Rattle.binder_model.specs.BindWrites.{write_reference, write_bound, write_completion, write_claim_status, write_available}
 use Rattle.binder_model.specs.BinderDue.{binder_due}
 use Rattle.binder_model.specs.Matching.{eligible, match_cmp}
-use Rattle.binder_model.specs.World.{World, no_world, first_moment, effect, reply_to, world_after}
+use Rattle.binder_model.specs.World.{World, first_world, effect, reply_to, world_after}
 
 abbrev pub no_setup : Setup
 no_setup = record { pools = []; faults = []; imports = [] }
@@ -160,7 +157,7 @@ pub record IsFirstRun (w : World) : Type 0 where
   pub claim_due : binder_due w.store.rows (Claim bound_c) ≡ None
 
 abbrev pub FirstRun : Type 0
-FirstRun = IsFirstRun (world_of no_world (creates ++ binding_of_volume ++ binding_of_claim))
+FirstRun = IsFirstRun (world_of (first_world no_setup) (creates ++ binding_of_volume ++ binding_of_claim))
 
 -- the claim is deleted between the second and the third write, and leaves: the completion finds none
 abbrev pub leaving_c : ClaimData
@@ -174,7 +171,7 @@ deleted_c = let old = c 2 in record old { meta = record old.meta { version = 6; 
 
 abbrev pub ClaimGoneBetweenWrites : Type 0
 ClaimGoneBetweenWrites =
-    answers (world_of no_world (creates ++ binding_of_volume))
+    answers (world_of (first_world no_setup) (creates ++ binding_of_volume))
     (by seats.User (requests.Delete (claim_key (codes "default") (codes "c")) None)
     ∷ by seats.ClaimProtect (requests.Update (Claim leaving_c) (Some 6))
     ∷ by seats.Binder (write_completion bound_a (c 2)) ∷ [])
@@ -183,7 +180,7 @@ ClaimGoneBetweenWrites =
 -- two claims name one volume: the reference to the second, decided on the volume as it was, is a conflict
 abbrev pub TwoClaimsOneVolume : Type 0
 TwoClaimsOneVolume =
-    answers (world_of no_world (creates ++ binding_of_volume))
+    answers (world_of (first_world no_setup) (creates ++ binding_of_volume))
     (by seats.Binder (write_reference (a 3 volumes.Available) (claim_at (codes "d") 3 9 9)) ∷ [])
     ≡ replies.Refused (refusals.Conflict 5) ∷ []
 
@@ -196,7 +193,7 @@ deleted_a version finalizers = let old = a 1 volumes.Pending in record old { met
 
 abbrev pub DeletedVolumeRefuses : Type 0
 DeletedVolumeRefuses =
-    answers no_world
+    answers (first_world no_setup)
     (by seats.User (requests.Create (Volume (volume (codes "a") 5)))
     ∷ by seats.User (requests.Delete key_a None)
     ∷ by seats.User (requests.Delete key_a None)
@@ -217,14 +214,14 @@ DeletedVolumeRefuses =
 -- a user may not set a guarded annotation
 abbrev pub GuardOnAnnotations : Type 0
 GuardOnAnnotations =
-    answers no_world
+    answers (first_world no_setup)
     (by seats.User (requests.Create (Claim (claim (codes "c") 5)))
     ∷ by seats.User (requests.Edit (claim_key (codes "default") (codes "c")) (edits.SetAnnotation bind_completed yes)) ∷ [])
     ≡ replies.Done (Claim (claim_at (codes "c") 5 1 1)) ∷ replies.Refused (refusals.Forbidden rules.Annotation) ∷ []
 
 -- watches of a store at version 600 with an empty log
 abbrev pub at_600 : World
-at_600 = record no_world { store = record { rows = []; version = 600 } }
+at_600 = record (first_world no_setup) { store = record { rows = []; version = 600 } }
 
 abbrev pub watching : ℕ → Call
 watching from = by seats.Binder (requests.Watch kinds.PersistentVolume from)
@@ -257,7 +254,7 @@ pub record IsModesBeforeSize : Type 0 where
 -- a node that was taken twice refuses its first epoch
 abbrev pub StaleEpochs : Type 0
 StaleEpochs =
-    answers no_world
+    answers (first_world no_setup)
     (by seats.Agent (requests.TakeNode (codes "n1")) ∷ by seats.Agent (requests.TakeNode (codes "n1"))
     ∷ by seats.Agent (requests.Mounts (codes "n1") 1) ∷ by seats.Agent (requests.Mounts (codes "n1") 2)
     ∷ by seats.User (requests.Mounts (codes "n1") 2) ∷ [])

@@ -1,0 +1,41 @@
+-- Small facts on lists and on values that may be absent.
+use Rattle.std.proofs.Common.{sym, refl, inl, inr, ap, true≢false}
+use Rattle.std.specs.Prelude.{◌≡◌, List, [], ◌∷◌, ◌++◌, Option, Some, None, is_some, unwrap_or}
+use Rattle.binder_model.specs.Told.{SomeOf}
+
+abbrev pub IsIn : {X : Type 0} → X → List X → Type 0
+IsIn x xs = SomeOf (λ y. y ≡ x) xs
+
+pub one : {X : Type 0} (a b : X) → Some a ≡ Some b → a ≡ b
+one a b e = ap (λ x. unwrap_or x a) e
+
+pub none_some : {X G : Type 0} {x : X} → ◌≡◌ {A = Option X} None (Some x) → G
+none_some e = absurd (true≢false (sym (ap is_some e)))
+
+pub some_left : {X : Type 0} (P : X → Type 0) (xs ys : List X) → SomeOf P xs → SomeOf P (xs ++ ys)
+some_left P [] ys h = absurd h
+some_left P (x ∷ xs) ys h = elim h [ inl is ↦ inl is | inr more ↦ inr (some_left P xs ys more) ]
+
+pub some_right : {X : Type 0} (P : X → Type 0) (xs ys : List X) → SomeOf P ys → SomeOf P (xs ++ ys)
+some_right P [] ys h = h
+some_right P (x ∷ xs) ys h = inr (some_right P xs ys h)
+
+pub some_map : {X : Type 0} {P Q : X → Type 0} → ((x : X) → P x → Q x) → (xs : List X) → SomeOf P xs → SomeOf Q xs
+some_map f [] h = absurd h
+some_map f (x ∷ xs) h = elim h [ inl is ↦ inl (f x is) | inr more ↦ inr (some_map f xs more) ]
+
+-- what some element is, P holds of it
+pub some_is : {X : Type 0} (P : X → Type 0) (xs : List X) → SomeOf P xs → (x : X) × (IsIn x xs × P x)
+some_is P [] h = absurd h
+some_is P (x ∷ xs) h = elim h [
+  | inl is ↦ (x, (inl refl, is))
+  | inr more ↦ let r = some_is P xs more in (r.0, (inr r.1.0, r.1.1))
+]
+
+pub append_assoc : {X : Type 0} (xs ys zs : List X) → xs ++ (ys ++ zs) ≡ (xs ++ ys) ++ zs
+append_assoc [] ys zs = refl
+append_assoc (x ∷ xs) ys zs = ap (λ l. x ∷ l) (append_assoc xs ys zs)
+
+pub append_none : {X : Type 0} (xs : List X) → xs ++ [] ≡ xs
+append_none [] = refl
+append_none (x ∷ xs) = ap (λ l. x ∷ l) (append_none xs)
