@@ -17,7 +17,8 @@ use Rattle.call_types.specs.declared.reply.MountRow.{MountRow}
 use Rattle.call_types.specs.declared.reply.Reply.{Reply}
 use Rattle.call_types.specs.declared.reply.Reply.TheVariants as replies
 use Rattle.binder_model.specs.Same.{same_uid}
-use Rattle.binder_model.specs.ObjectKeys.{same_key, claim_key, volume_key, pod_key}
+use Rattle.kube_types.specs.Keys.{same_key}
+use Rattle.binder_model.specs.ObjectKeys.{claim_key, volume_key, pod_key}
 use Rattle.binder_model.specs.BindWrites.{is_claim_bound}
 use Rattle.binder_model.specs.Told.{SomeOf, first_some, ToldPod, TellsObject, IsPodWith, IsNewest}
 

@@ -23,7 +23,7 @@ use Rattle.call_types.specs.declared.request.SeatKind.{SeatKind}
 use Rattle.call_types.specs.declared.request.SeatKind.TheVariants as seats
 use Rattle.call_types.specs.declared.request.Request.{Request}
 use Rattle.call_types.specs.declared.request.Request.TheVariants as requests
-use Rattle.binder_model.specs.ObjectKeys.{same_kind}
+use Rattle.kube_types.specs.Keys.{same_kind}
 use Rattle.binder_model.specs.Told.{ToldVolume, ToldClaim}
 use Rattle.binder_model.specs.At.{IsWrittenAt}
 use Rattle.binder_model.specs.BinderLicence.{MayTake, MayBind, MayComplete, MayShow, MayFree, MayRelease, MayUnbind, MayLose}

@@ -15,7 +15,7 @@ use Rattle.call_types.specs.declared.request.Request.TheVariants as requests
 use Rattle.binder_model.specs.Store.{State, with_meta, at_version, marked_object, created_object, updated_object, admitted_object, without_status, with_status_of}
 use Rattle.model_laws.specs.Histories.{NamesOnce, KeepsIdentity}
 use Rattle.model_laws.proofs.Versions.{meta-with_meta}
-use Rattle.model_laws.proofs.Identity.{key-created_object, key-updated_object, key-at_version, key-marked_object, updated_keeps, at_version_keeps, IsVersionOf, status_kept}
+use Rattle.model_laws.proofs.Identity.{key-created, key-updated, key-at_version, key-marked, updated_keeps, at_version_keeps, IsVersionOf, status_kept}
 use Rattle.world_moves.specs.Writes.{IsCreate, IsUpdate, IsStatus, IsMark, IsBind, IsFinish, WriteOf}
 use Rattle.world_moves.specs.Whence.{IsFirst, Keeps, IsNext, Whence}
 
@@ -35,7 +35,7 @@ next s key old o is same keeps v = record { there = ap (λ k. row_at k s.rows) s
 pub created_first : (s : State) (kind : SeatKind) (moment : List ℕ) (new o : Object) → IsCreate s kind moment new o → IsFirst s o
 unfolding created_object
 created_first s kind moment new o c = subst (IsFirst s) (sym c.is) (record {
-  free = ap (λ k. row_at k s.rows) (key-created_object _ new _ moment) ∙ c.free;
+  free = ap (λ k. row_at k s.rows) (key-created _ new _ moment) ∙ c.free;
   uid = ap (λ m. m.uid) (meta-with_meta (admitted_object _ (without_status new)) _);
   version = ap (λ m. m.version) (meta-with_meta (admitted_object _ (without_status new)) _);
 })
@@ -43,15 +43,15 @@ created_first s kind moment new o c = subst (IsFirst s) (sym c.is) (record {
 pub updated_next : (s : State) (kind : SeatKind) (new : Object) (given : Option ℕ) (o : Object) → (u : IsUpdate s kind new given o) → IsNext s u.old o
 unfolding updated_object
 updated_next s kind new given o u = subst (IsNext s u.old) (sym u.is)
-    (next s (key_of new) u.old _ u.there (key-updated_object u.old new _) (kept (updated_keeps u.old new _ u.fault)) (ap (λ m. m.version) (meta-with_meta (with_status_of u.old new) _)))
+    (next s (key_of new) u.old _ u.there (key-updated u.old new _) (kept (updated_keeps u.old new _ u.fault)) (ap (λ m. m.version) (meta-with_meta (with_status_of u.old new) _)))
 
 version-at : (o : Object) (n : ℕ) → (meta_of (at_version o n)).version ≡ n
 unfolding at_version
 version-at o n = ap (λ m. m.version) (meta-with_meta o _)
 
-version-marked_object : (o : Object) (n : ℕ) (moment : List ℕ) → (meta_of (marked_object o n moment)).version ≡ n
+version-marked : (o : Object) (n : ℕ) (moment : List ℕ) → (meta_of (marked_object o n moment)).version ≡ n
 unfolding marked_object
-version-marked_object o n moment = ap (λ m. m.version) (meta-with_meta o _)
+version-marked o n moment = ap (λ m. m.version) (meta-with_meta o _)
 
 pub status_next : (s : State) (kind : SeatKind) (key : Key) (status : NewStatus) (given : Option ℕ) (o : Object) → (u : IsStatus s kind key status given o) → IsNext s u.old o
 status_next s kind key status given o u =
@@ -77,7 +77,7 @@ mark_keeps old n moment = record {
 
 pub marked_next : (s : State) (moment : List ℕ) (key : Key) (given : Option Uid) (o : Object) → (u : IsMark s moment key given o) → IsNext s u.old o
 marked_next s moment key given o u =
-    subst (IsNext s u.old) (sym u.is) (next s key u.old _ u.there (key-marked_object u.old _ moment ∙ row_at_key key u.old s.rows u.there) (mark_keeps u.old _ moment) (version-marked_object u.old _ moment))
+    subst (IsNext s u.old) (sym u.is) (next s key u.old _ u.there (key-marked u.old _ moment ∙ row_at_key key u.old s.rows u.there) (mark_keeps u.old _ moment) (version-marked u.old _ moment))
 
 pub bound_next : (s : State) (kind : SeatKind) (key : Key) (uid : Uid) (node : List ℕ) (o : Object) → (u : IsBind s kind key uid node o) → IsNext s (Pod u.pod) o
 bound_next s kind key uid node o u =
