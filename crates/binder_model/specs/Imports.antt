@@ -14,10 +14,9 @@ use Rattle.kube_types.specs.declared.objects.Ref.{Ref}
 use Rattle.kube_types.specs.declared.objects.Claim.{Claim as ClaimData}
 use Rattle.kube_types.specs.declared.objects.Object.{Object}
 use Rattle.kube_types.specs.declared.objects.Object.TheVariants.{Class, Node, Volume, Claim, Pod}
-use Rattle.kube_types.specs.Keys.{meta_of, key_of, put_row}
+use Rattle.kube_types.specs.Keys.{meta_of, key_of, put_row, same_key}
 use Rattle.kube_types.specs.Uids.{uid_of_serial}
 use Rattle.kube_types.specs.Bindings.{pv_protection, pvc_protection, is_empty, is_completed, is_deleting, is_scheduled, is_bound, is_ended, is_uid, names_claim, carries, ref_uid}
-use Rattle.binder_model.specs.ObjectKeys.{same_key}
 use Rattle.binder_model.specs.Store.{first_moment, with_finalizer, leaves}
 use Rattle.binder_model.specs.Fields.{create_fault}
 

@@ -8,7 +8,7 @@ use Rattle.kube_types.specs.declared.objects.Claim.{Claim as ClaimData}
 use Rattle.kube_types.specs.declared.objects.Pod.{Pod as PodData}
 use Rattle.kube_types.specs.declared.objects.Object.{Object}
 use Rattle.kube_types.specs.declared.objects.Object.TheVariants.{Volume, Claim, Pod}
-use Rattle.kube_types.specs.Keys.{meta_of, key_of, kind_index, row_at}
+use Rattle.kube_types.specs.Keys.{meta_of, key_of, kind_index, row_at, same_key}
 use Rattle.kube_types.specs.Sources.{data_id_of}
 use Rattle.call_types.specs.declared.entry.Entry.{Entry}
 use Rattle.call_types.specs.declared.request.Request.{Request}
@@ -19,7 +19,6 @@ use Rattle.call_types.specs.declared.reply.Event.{Event}
 use Rattle.call_types.specs.declared.reply.Refusal.TheVariants.{NotFound}
 use Rattle.call_types.specs.declared.reply.Reply.{Reply}
 use Rattle.call_types.specs.declared.reply.Reply.TheVariants.{Done, Left, Found, Listed, Events, Refused}
-use Rattle.binder_model.specs.ObjectKeys.{same_key}
 use Rattle.binder_model.specs.Devices.{same_id}
 
 -- the entries of one seat

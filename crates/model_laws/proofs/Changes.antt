@@ -18,7 +18,7 @@ use Rattle.binder_model.specs.Store.{State, leaves}
 use Rattle.binder_model.specs.Answers.{Outcome, Says, Stores, Removes, write_outcome, create, update, written_if_fits, update_status, edit_to, edit, delete_of, delete, get, list, pod_with, bind, finish, outcome}
 use Rattle.model_laws.proofs.OnOutcome.{OnOutcome, says, refused_or, field_or, rule_or, stale_or}
 use Rattle.model_laws.specs.Histories.{KeepsIdentity}
-use Rattle.model_laws.proofs.Identity.{key-created_object, key-updated_object, key-at_version, key-marked_object, updated_keeps, at_version_keeps, marked_keeps, IsKeyKept, IsVersionOf, status_kept, edit_kept}
+use Rattle.model_laws.proofs.Identity.{key-created, key-updated, key-at_version, key-marked, updated_keeps, at_version_keeps, marked_keeps, IsKeyKept, IsVersionOf, status_kept, edit_kept}
 
 -- an object is put where none stood, or where one stood whose identity it keeps
 abbrev pub IsInPlace : List Object → Object → Type 0
@@ -46,7 +46,7 @@ wrote rows key old new is same keeps = by_leaving (leaves new) refl
 create_changes : (s : State) (kind : SeatKind) (o : Object) (moment : List ℕ) (x : Option Object) → row_at (key_of o) s.rows ≡ x → IsChange s.rows (create s kind o moment x)
 unfolding create
 create_changes s kind o moment (Some old) is = says (λ r. tt) _
-create_changes s kind o moment None is = rule_or (λ r. tt) _ _ (field_or (λ r. tt) _ _ (λ e. record { holds = inl (ap (λ k. row_at k s.rows) (key-created_object _ o _ moment) ∙ is) }))
+create_changes s kind o moment None is = rule_or (λ r. tt) _ _ (field_or (λ r. tt) _ _ (λ e. record { holds = inl (ap (λ k. row_at k s.rows) (key-created _ o _ moment) ∙ is) }))
 
 update_changes : (s : State) (kind : SeatKind) (o : Object) (given : Option ℕ) (x : Option Object) → row_at (key_of o) s.rows ≡ x → IsChange s.rows (update s kind o given x)
 unfolding update
