@@ -9,6 +9,7 @@ use Rattle.kube_types.specs.declared.objects.Claim.{Claim as ClaimData}
 use Rattle.kube_types.specs.declared.objects.Pod.{Pod as PodData}
 use Rattle.kube_types.specs.declared.objects.Volume.{Volume as VolumeData}
 use Rattle.kube_types.specs.declared.objects.Object.TheVariants.{Volume, Claim, Pod}
+use Rattle.kube_types.specs.Keys.{same_key}
 use Rattle.kube_types.specs.Bindings.{is_deleting, is_scheduled, is_protected_claim, is_completed, carries}
 use Rattle.call_types.specs.declared.entry.Entry.{Entry}
 use Rattle.call_types.specs.declared.request.Request.{Request}
@@ -17,7 +18,6 @@ use Rattle.call_types.specs.declared.reply.MountRow.{MountRow}
 use Rattle.call_types.specs.declared.reply.Reply.{Reply}
 use Rattle.call_types.specs.declared.reply.Reply.TheVariants as replies
 use Rattle.binder_model.specs.Same.{same_uid}
-use Rattle.kube_types.specs.Keys.{same_key}
 use Rattle.binder_model.specs.ObjectKeys.{claim_key, volume_key, pod_key}
 use Rattle.binder_model.specs.BindWrites.{is_claim_bound}
 use Rattle.binder_model.specs.Told.{SomeOf, first_some, ToldPod, TellsObject, IsPodWith, IsNewest}

@@ -16,6 +16,7 @@ use Rattle.kube_types.specs.declared.objects.Amount.{Amount}
 use Rattle.kube_types.specs.declared.objects.Claim.{Claim as ClaimData}
 use Rattle.kube_types.specs.declared.objects.Volume.{Volume as VolumeData}
 use Rattle.kube_types.specs.declared.objects.Object.TheVariants.{Volume, Claim}
+use Rattle.kube_types.specs.Keys.{same_kind}
 use Rattle.kube_types.specs.Bindings.{pv_protection, pvc_protection, ref_uid, is_protected_volume, is_protected_claim}
 use Rattle.call_types.specs.declared.entry.Entry.{Entry}
 use Rattle.call_types.specs.declared.request.NewStatus.TheVariants as statuses
@@ -23,7 +24,6 @@ use Rattle.call_types.specs.declared.request.SeatKind.{SeatKind}
 use Rattle.call_types.specs.declared.request.SeatKind.TheVariants as seats
 use Rattle.call_types.specs.declared.request.Request.{Request}
 use Rattle.call_types.specs.declared.request.Request.TheVariants as requests
-use Rattle.kube_types.specs.Keys.{same_kind}
 use Rattle.binder_model.specs.Told.{ToldVolume, ToldClaim}
 use Rattle.binder_model.specs.At.{IsWrittenAt}
 use Rattle.binder_model.specs.BinderLicence.{MayTake, MayBind, MayComplete, MayShow, MayFree, MayRelease, MayUnbind, MayLose}

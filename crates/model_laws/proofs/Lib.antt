@@ -12,6 +12,8 @@ pub mod Mounting
 pub mod Newest
 pub mod OnOutcome
 pub mod Readings
+pub mod Replies
+pub mod Refused
 pub mod Releases
 pub mod Steps
 pub mod Stored

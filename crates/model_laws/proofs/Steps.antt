@@ -19,11 +19,11 @@ use Rattle.binder_model.specs.World.{base, World, Effect, OnStore, OnDevices, Se
 use Rattle.model_laws.specs.Steps.{AreSameButCalls, IsSameButCalls, RefusalsChangeNothing}
 
 -- no other reply is a refusal
-abbrev IsNoRefusal : Reply → Type 0
+abbrev pub IsNoRefusal : Reply → Type 0
 IsNoRefusal (Refused r) = ⊥
 IsNoRefusal reply = ⊤
 
-no_refusal : (reply : Reply) (r : Refusal) → IsNoRefusal reply → reply ≡ Refused r → ⊥
+pub no_refusal : (reply : Reply) (r : Refusal) → IsNoRefusal reply → reply ≡ Refused r → ⊥
 no_refusal reply r is e = subst IsNoRefusal e is
 
 -- where the devices refuse, they are as before but for their calls

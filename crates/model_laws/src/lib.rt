@@ -3,6 +3,7 @@
 //! Each is a function with nothing to do, whose contract is the law.
 #![tactic(auto)]
 
+ghost use Rattle.model_laws.specs.Calls.{DoneStands, DoneWritesOrDeletesAgain, LeftIsGone, OnlyTheBackEndCounts, WritesLeaveOthers};
 ghost use Rattle.model_laws.specs.Histories.{CallsKeepIdentity, RowsStandInOrder, UidsAreGivenOnce};
 ghost use Rattle.model_laws.specs.Reads.{DataIdsAreGivenOnce, EpochsRise, GetsTellWhatStands, ListsTellWhatStands, WatchesTellWhatCameAfter};
 ghost use Rattle.model_laws.specs.ReleaseOrder.{IsReleaseOrder};
@@ -112,4 +113,34 @@ pub fn stale_epochs()
 /// A binder may write Released only where it read the claim gone after it was told the volume.
 pub fn release_order()
     ensures { IsReleaseOrder }
+{}
+
+/// A write leaves every other key alone.
+
+pub fn writes_leave_others()
+    ensures { WritesLeaveOthers }
+{}
+
+/// What Done tells stands after it.
+#[tactic(auto, using(crate::proofs::Replies::done_stands))]
+pub fn done_stands()
+    ensures { DoneStands }
+{}
+
+/// What Left tells is gone after it.
+#[tactic(auto, using(crate::proofs::Replies::left_is_gone))]
+pub fn left_is_gone()
+    ensures { LeftIsGone }
+{}
+
+/// A Done that writes nothing answers the delete of an object that is deleting already.
+#[tactic(auto, using(crate::proofs::Replies::done_writes_or_deletes_again))]
+pub fn done_writes_or_deletes_again()
+    ensures { DoneWritesOrDeletesAgain }
+{}
+
+/// A refusal raises the device calls only as BackFault or Exhausted, and by one.
+#[tactic(auto, using(crate::proofs::Refused::only_the_back_end_counts))]
+pub fn only_the_back_end_counts()
+    ensures { OnlyTheBackEndCounts }
 {}
