@@ -4,6 +4,8 @@ pub mod Defaults
 pub mod Effects
 pub mod Epochs
 pub mod Givings
+pub mod Goings
+pub mod Growing
 pub mod Histories
 pub mod Identity
 pub mod Kept
@@ -20,3 +22,4 @@ pub mod Stored
 pub mod Uids
 pub mod Versions
 pub mod Watched
+pub mod Without

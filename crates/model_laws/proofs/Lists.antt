@@ -31,11 +31,3 @@ some_is P (x ∷ xs) h = elim h [
   | inl is ↦ (x, (inl refl, is))
   | inr more ↦ let r = some_is P xs more in (r.0, (inr r.1.0, r.1.1))
 ]
-
-pub append_assoc : {X : Type 0} (xs ys zs : List X) → xs ++ (ys ++ zs) ≡ (xs ++ ys) ++ zs
-append_assoc [] ys zs = refl
-append_assoc (x ∷ xs) ys zs = ap (λ l. x ∷ l) (append_assoc xs ys zs)
-
-pub append_none : {X : Type 0} (xs : List X) → xs ++ [] ≡ xs
-append_none [] = refl
-append_none (x ∷ xs) = ap (λ l. x ∷ l) (append_none xs)

@@ -1,5 +1,6 @@
 -- The row Mount as one cut of the entries since the epoch: those after the pod was told, the one that told it, earlier ones.
 use Rattle.std.proofs.Common.{sym, refl, subst, inl, inr, ◌∙◌}
+use Rattle.std.proofs.lemmas.List.{append_assoc, append-nil}
 use Rattle.std.specs.Prelude.{ℕ, ◌≡◌, true, false, List, [], ◌∷◌, ◌++◌, Some}
 use Rattle.kube_types.specs.declared.uid.Uid.{Uid}
 use Rattle.kube_types.specs.declared.objects.Pod.{Pod as PodData}
@@ -10,7 +11,6 @@ use Rattle.call_types.specs.declared.entry.Entry.{Entry}
 use Rattle.binder_model.specs.ObjectKeys.{pod_key}
 use Rattle.binder_model.specs.Told.{SomeOf, TellsObject, IsPodWith, IsNewest, objects_in}
 use Rattle.binder_model.specs.AgentLicence.{last_epoch, since_epoch, ListedPods, AreReadReady, IsPodOn, never_finished, IsReadyPod, WasShownReady, MayMount}
-use Rattle.model_laws.proofs.Lists.{append_assoc, append_none}
 
 -- the evidence of the row, with the cut
 pub record MountSplit (mine : List Entry) (node : List ℕ) (epoch : ℕ) (pod : Uid) (claims : List Uid) : Type 0 where
@@ -61,7 +61,7 @@ cut_at mine node pod claims recent (e ∷ before) (inl here) =
     record { recent = recent; teller = e; earlier = before; since = refl; listed = here.0; told = here.1 }
 cut_at mine node pod claims recent (e ∷ before) (inr more) =
     let c = cut_at mine node pod claims (recent ++ e ∷ []) before more in
-    record { recent = c.recent; teller = c.teller; earlier = c.earlier; since = append_assoc recent (e ∷ []) before ∙ c.since; listed = c.listed; told = c.told }
+    record { recent = c.recent; teller = c.teller; earlier = c.earlier; since = sym (append_assoc recent (e ∷ []) before) ∙ c.since; listed = c.listed; told = c.told }
 
 pub mount_split : (mine : List Entry) (node : List ℕ) (epoch : ℕ) (pod : Uid) (claims : List Uid) → MayMount mine node epoch pod claims → MountSplit mine node epoch pod claims
 mount_split mine node epoch pod claims row =
@@ -100,9 +100,9 @@ shown_at : (mine : List Entry) (node : List ℕ) (pod : Uid) (claims : List Uid)
     → ListedPods (teller ∷ earlier) → TellsObject (IsPodWith (IsReadyPod mine (front ++ recent) node pod claims)) teller
     → WasShownReady mine node pod claims front (recent ++ teller ∷ earlier)
 shown_at mine node pod claims front [] teller earlier listed told =
-    inl (listed, subst (λ (l : List Entry). TellsObject (IsPodWith (IsReadyPod mine l node pod claims)) teller) (append_none front) told)
+    inl (listed, subst (λ (l : List Entry). TellsObject (IsPodWith (IsReadyPod mine l node pod claims)) teller) (append-nil front) told)
 shown_at mine node pod claims front (e ∷ recent) teller earlier listed told =
-    inr (shown_at mine node pod claims (front ++ e ∷ []) recent teller earlier listed (subst (λ (l : List Entry). TellsObject (IsPodWith (IsReadyPod mine l node pod claims)) teller) (append_assoc front (e ∷ []) recent) told))
+    inr (shown_at mine node pod claims (front ++ e ∷ []) recent teller earlier listed (subst (λ (l : List Entry). TellsObject (IsPodWith (IsReadyPod mine l node pod claims)) teller) (sym (append_assoc front (e ∷ []) recent)) told))
 
 pub mount_joined : (mine : List Entry) (node : List ℕ) (epoch : ℕ) (pod : Uid) (claims : List Uid) → MountSplit mine node epoch pod claims → MayMount mine node epoch pod claims
 mount_joined mine node epoch pod claims m =

@@ -9,7 +9,7 @@ use Rattle.call_types.specs.declared.request.Request.TheVariants as requests
 use Rattle.call_types.specs.declared.reply.Refusal.{Refusal}
 use Rattle.call_types.specs.declared.reply.Reply.{Reply}
 use Rattle.call_types.specs.declared.reply.Reply.TheVariants.{Refused}
-use Rattle.binder_model.specs.Answers.{Says, is_user}
+use Rattle.binder_model.specs.Answers.{is_user}
 use Rattle.binder_model.specs.Devices.{Data, Devices, DeviceAnswer, provision_new, provision, erase, unless_planned, unless_stale, take_node, with_mounts, device_answer, data_named, first_fit, is_planned, epoch_if_stale}
 use Rattle.binder_model.specs.Watching.{oldest}
 use Rattle.binder_model.specs.World.{base, World, Effect, OnStore, OnDevices, SetsMoment, effect, reply_to, world_after, watch, on_devices, set_time, is_time}

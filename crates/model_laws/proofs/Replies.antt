@@ -1,16 +1,14 @@
 -- What a Done and a Left come from: a write, or a second delete.
 use Rattle.std.proofs.Common.{sym, refl, subst, inl, inr, ap, ◌∙◌, true≢false, arith}
-use Rattle.std.specs.Prelude.{ℕ, ◌≡◌, ◌≢◌, ◌⊎◌, ◌+◌, Bool, true, false, List, [], ◌∷◌, Option, Some, None, nat_lt, is_some, if◌then◌else◌, ⊤}
+use Rattle.std.specs.Prelude.{ℕ, ◌≡◌, ◌≢◌, ◌+◌, Bool, true, false, List, Option, Some, None, nat_lt, if◌then◌else◌, ⊤}
 use Rattle.plain_data.specs.Pairs.{Pair}
 use Rattle.kube_types.specs.declared.uid.Uid.{Uid}
 use Rattle.kube_types.specs.declared.names.Field.{Field}
 use Rattle.kube_types.specs.declared.names.Rule.{Rule}
 use Rattle.kube_types.specs.declared.key.Key.{Key}
-use Rattle.kube_types.specs.declared.parts.Kind.{Kind}
-use Rattle.kube_types.specs.declared.objects.DataId.{DataId}
 use Rattle.kube_types.specs.declared.objects.Pod.{Pod as PodData}
 use Rattle.kube_types.specs.declared.objects.Object.{Object}
-use Rattle.kube_types.specs.Keys.{AreRows, meta_of, key_of, row_at, put_row, without_row}
+use Rattle.kube_types.specs.Keys.{meta_of, key_of, row_at}
 use Rattle.kube_types.specs.Bindings.{is_deleting}
 use Rattle.kube_types.proofs.KeyOrder.{row_at_key, row_at-put_row, row_at-put_row_other, row_at-without_row, row_at-without_row_other}
 use Rattle.call_types.specs.declared.edit.Edit.{Edit}
@@ -25,10 +23,10 @@ use Rattle.call_types.specs.declared.reply.Reply.{Reply}
 use Rattle.call_types.specs.declared.reply.Reply.TheVariants as replies
 use Rattle.binder_model.specs.Store.{State, leaves, leaves_at_once}
 use Rattle.binder_model.specs.Answers.{Outcome, Says, Stores, Removes, is_user, refuse, refuse_field, refuse_rule, refuse_stale, write_outcome, create, update, written_if_fits, update_status, edit_to, edit, delete_of, delete, get, list, bind, finish, outcome, reply_of, after}
-use Rattle.binder_model.specs.Devices.{Devices, Data, DeviceAnswer, data_named, first_fit, is_planned, epoch_if_stale, after_call, provision_new, provision, erase, unless_planned, unless_stale, take_node, with_mounts, device_answer}
+use Rattle.binder_model.specs.Devices.{Devices, Data, DeviceAnswer, data_named, first_fit, is_planned, epoch_if_stale, provision_new, provision, erase, unless_planned, unless_stale, take_node, with_mounts, device_answer}
 use Rattle.binder_model.specs.Watching.{oldest}
 use Rattle.binder_model.specs.World.{base, World, Effect, OnStore, OnDevices, SetsMoment, effect, watch, on_devices, set_time, is_time, reply_to, world_after}
-use Rattle.model_laws.specs.Calls.{TellsWrite, IsSecondDelete, WritesLeaveOthers, DoneStands, LeftIsGone, DoneWritesOrDeletesAgain}
+use Rattle.model_laws.specs.Calls.{IsSecondDelete, WritesLeaveOthers, DoneStands, LeftIsGone, DoneWritesOrDeletesAgain}
 
 -- an answer that tells of no write
 abbrev pub IsOther : Reply → Type 0

@@ -1,7 +1,9 @@
 -- What a watch from an earlier version gives.
 use Rattle.std.proofs.Common.{sym, refl, subst, ap, ◌∙◌, arith}
 use Rattle.std.proofs.lemmas.Bool.Decides.{nat_tests}
-use Rattle.std.specs.Prelude.{ℕ, ◌≡◌, ◌≤◌, ◌<◌, ◌+◌, Bool, true, false, List, [], ◌∷◌, ◌++◌, nat_lt, cond, filter, reverse, take, ⊤}
+use Rattle.std.proofs.lemmas.List.{append_assoc}
+use Rattle.std.proofs.lemmas.List.Elements.{filter-append}
+use Rattle.std.specs.Prelude.{ℕ, ◌≡◌, ◌≤◌, ◌<◌, ◌+◌, true, false, List, [], ◌∷◌, ◌++◌, nat_lt, filter, reverse, take, ⊤}
 use Rattle.kube_types.specs.declared.parts.Kind.{Kind}
 use Rattle.kube_types.specs.Keys.{is_of_kind}
 use Rattle.call_types.specs.declared.entry.Entry.{Entry}
@@ -17,7 +19,7 @@ use Rattle.model_laws.proofs.Effects.{OfStore, on_effects}
 use Rattle.model_laws.proofs.Uids.{rises}
 
 -- the events lie above one version and up to another
-abbrev AreBetween : ℕ → ℕ → List Event → Type 0
+abbrev pub AreBetween : ℕ → ℕ → List Event → Type 0
 AreBetween low high [] = ⊤
 AreBetween low high (e ∷ es) = (low < e.version) × (e.version ≤ high) × AreBetween low high es
 
@@ -40,51 +42,47 @@ left_of setup e past =
     let w = world setup past in
     left w _ (on_effects (λ r. tt) setup w e.kind e.request (outcome_next w.store e.kind e.request w.moment)).on
 
-wider : (low lower high higher : ℕ) (es : List Event) → lower ≤ low → high ≤ higher → AreBetween low high es → AreBetween lower higher es
-wider low lower high higher [] l h b = tt
-wider low lower high higher (e ∷ es) l h b =
+pub between_wider : (low lower high higher : ℕ) (es : List Event) → lower ≤ low → high ≤ higher → AreBetween low high es → AreBetween lower higher es
+between_wider low lower high higher [] l h b = tt
+between_wider low lower high higher (e ∷ es) l h b =
     let b0 = b.0 in let b1 = b.1 in
-    (omega (arith, l, b0), omega (arith, h, b1), wider low lower high higher es l h b.2)
+    (omega (arith, l, b0), omega (arith, h, b1), between_wider low lower high higher es l h b.2)
 
 joined : (low high : ℕ) (xs ys : List Event) → AreBetween low high xs → AreBetween low high ys → AreBetween low high (xs ++ ys)
 joined low high [] ys bx by = by
 joined low high (x ∷ xs) ys bx by = (bx.0, bx.1, joined low high xs ys bx.2 by)
 
-assoc : (xs ys zs : List Event) → xs ++ (ys ++ zs) ≡ (xs ++ ys) ++ zs
-assoc [] ys zs = refl
-assoc (x ∷ xs) ys zs = ap (λ l. x ∷ l) (assoc xs ys zs)
-
 -- the events since an earlier world
-record AreSince (setup : Setup) (newer past : List Entry) : Type 0 where
-  between : AreBetween (world setup past).store.version (world setup (newer ++ past)).store.version (events_by setup newer past)
-  log : (world setup (newer ++ past)).log ≡ events_by setup newer past ++ (world setup past).log
+pub record AreSince (setup : Setup) (newer past : List Entry) : Type 0 where
+  pub between : AreBetween (world setup past).store.version (world setup (newer ++ past)).store.version (events_by setup newer past)
+  pub log : (world setup (newer ++ past)).log ≡ events_by setup newer past ++ (world setup past).log
 
-since : (setup : Setup) (newer past : List Entry) → AreSince setup newer past
+pub since : (setup : Setup) (newer past : List Entry) → AreSince setup newer past
 since setup [] past = record { between = tt; log = refl }
 since setup (e ∷ newer) past =
     let s = since setup newer past in
     let l = left_of setup e (newer ++ past) in
     record {
-      between = joined _ _ _ _ (wider _ _ _ _ _ (rises setup newer past) (omega arith) l.between) (wider _ _ _ _ _ (omega arith) l.up s.between);
-      log = l.log ∙ ap (λ xs. left_by (effect_of setup e (newer ++ past)) ++ xs) s.log ∙ assoc (left_by (effect_of setup e (newer ++ past))) (events_by setup newer past) (world setup past).log;
+      between = joined _ _ _ _ (between_wider _ _ _ _ _ (rises setup newer past) (omega arith) l.between) (between_wider _ _ _ _ _ (omega arith) l.up s.between);
+      log = l.log ∙ ap (λ xs. left_by (effect_of setup e (newer ++ past)) ++ xs) s.log ∙ sym (append_assoc (left_by (effect_of setup e (newer ++ past))) (events_by setup newer past) (world setup past).log);
     }
 
 -- all events of a log are at most at the world's version
-logs : (setup : Setup) (past : List Entry) → (low : ℕ) → AreBetween 0 (world setup past).store.version (world setup past).log
+pub logs : (setup : Setup) (past : List Entry) → (low : ℕ) → AreBetween 0 (world setup past).store.version (world setup past).log
 logs setup [] low = tt
 logs setup (e ∷ past) low =
     let l = left_of setup e past in
     subst (AreBetween 0 (world setup (e ∷ past)).store.version) (sym l.log)
-    (joined _ _ _ _ (wider _ _ _ _ _ (omega arith) (omega arith) l.between) (wider _ _ _ _ _ (omega arith) l.up (logs setup past low)))
+    (joined _ _ _ _ (between_wider _ _ _ _ _ (omega arith) (omega arith) l.between) (between_wider _ _ _ _ _ (omega arith) l.up (logs setup past low)))
 
-lt_true : (a b : ℕ) → a < b → nat_lt a b ≡ true
+pub lt_true : (a b : ℕ) → a < b → nat_lt a b ≡ true
 lt_true a b h = grind (arith, nat_tests)
 
-lt_false : (a b : ℕ) → b ≤ a → nat_lt a b ≡ false
+pub lt_false : (a b : ℕ) → b ≤ a → nat_lt a b ≡ false
 lt_false a b h = grind (arith, nat_tests)
 
 -- later ones are those of the kind, and older ones none
-later_pass : (k : Kind) (low high : ℕ) (es : List Event) → AreBetween low high es → filter (is_later k low) es ≡ filter (λ e. is_of_kind k e.object) es
+pub later_pass : (k : Kind) (low high : ℕ) (es : List Event) → AreBetween low high es → filter (is_later k low) es ≡ filter (λ e. is_of_kind k e.object) es
 later_pass k low high [] b = refl
 later_pass k low high (e ∷ es) b =
     let is : nat_lt low e.version ≡ true = lt_true low e.version b.0 in
@@ -96,14 +94,6 @@ older_fail k from high (e ∷ es) h b =
     let b1 = b.1 in
     let is : nat_lt from e.version ≡ false = lt_false from e.version (omega (arith, h, b1)) in
     rw (is, older_fail k from high es h b.2) refl
-
-filter-append : (p : Event → Bool) (xs ys : List Event) → filter p (xs ++ ys) ≡ filter p xs ++ filter p ys
-filter-append p [] ys = refl
-filter-append p (x ∷ xs) ys = by (p x) (filter-append p xs ys)
-  where
-    by : (b : Bool) → filter p (xs ++ ys) ≡ filter p xs ++ filter p ys → cond b (x ∷ filter p (xs ++ ys)) (filter p (xs ++ ys)) ≡ cond b (x ∷ filter p xs) (filter p xs) ++ filter p ys
-    by true e = ap (λ l. x ∷ l) e
-    by false e = e
 
 append_none : (xs ys : List Event) → ys ≡ [] → xs ++ ys ≡ xs
 append_none [] ys e = e

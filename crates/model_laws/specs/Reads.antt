@@ -10,13 +10,14 @@ use Rattle.call_types.specs.declared.setup.Setup.{Setup}
 use Rattle.call_types.specs.declared.request.SeatKind.{SeatKind}
 use Rattle.call_types.specs.declared.request.Request.TheVariants.{Get, List as ListOf, TakeNode, Watch}
 use Rattle.call_types.specs.declared.reply.Event.{Event}
+use Rattle.call_types.specs.declared.reply.Events.{Events as EventsData}
 use Rattle.call_types.specs.declared.reply.Refusal.TheVariants.{NotFound}
 use Rattle.call_types.specs.declared.reply.Reply.{Reply}
 use Rattle.call_types.specs.declared.reply.Reply.TheVariants.{Found, Listed, Events, Epoch, Refused}
 use Rattle.binder_model.specs.Answers.{is_in_namespace}
 use Rattle.binder_model.specs.Told.{SomeOf}
 use Rattle.binder_model.specs.Devices.{Data}
-use Rattle.binder_model.specs.Watching.{most_events, oldest, reached_version}
+use Rattle.binder_model.specs.Watching.{most_events, oldest, reached_version, events_after}
 use Rattle.binder_model.specs.World.{base, World, Effect, OnStore, world, effect, log_after, reply_to, world_after}
 
 -- the object that stands under the key, or that there is none
@@ -42,6 +43,12 @@ abbrev pub ListsTellWhatStands : Type 0
 ListsTellWhatStands =
     (setup : Setup) (w : World) (kind : SeatKind) (of_kind : Kind) (namespace : Option (List ℕ)) → AreRows w.store.rows
     → (items : List Object) × ((version : ℕ) × ((reply_to (effect setup w kind (ListOf of_kind namespace)) ≡ Listed items version) × TellsRows w of_kind namespace items version))
+
+-- a list is in the order of keys, so it tells each object once
+abbrev pub ListsAreInOrder : Type 0
+ListsAreInOrder =
+    (setup : Setup) (w : World) (kind : SeatKind) (of_kind : Kind) (namespace : Option (List ℕ)) (items : List Object) (version : ℕ) → AreRows w.store.rows
+    → reply_to (effect setup w kind (ListOf of_kind namespace)) ≡ Listed items version → AreRows items
 
 -- an epoch of a node is told at most once, and later ones are greater
 abbrev pub EpochsRise : Type 0
@@ -89,3 +96,11 @@ WatchesTellWhatCameAfter =
     let es = take most_events (reverse (filter (λ e. is_of_kind of_kind e.object) (events_by setup newer past))) in
     oldest (base setup) w.store.version ≤ from
     → reply_to (effect setup w kind (Watch of_kind from)) ≡ Events (record { events = es; upto = reached_version w.store.version es })
+
+-- a watch goes on where the last one ended: what it told, and then what a watch from its `upto` tells, is what came after
+-- its start, also in any later world
+abbrev pub WatchesGoOn : Type 0
+WatchesGoOn =
+    (setup : Setup) (newer past : List Entry) (kind : SeatKind) (of_kind : Kind) (from : ℕ) (told : EventsData)
+    → reply_to (effect setup (world setup past) kind (Watch of_kind from)) ≡ Events told
+    → events_after of_kind from (world setup (newer ++ past)).log ≡ told.events ++ events_after of_kind told.upto (world setup (newer ++ past)).log

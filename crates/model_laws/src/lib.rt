@@ -4,10 +4,13 @@
 #![tactic(auto)]
 
 ghost use Rattle.model_laws.specs.Calls.{DoneStands, DoneWritesOrDeletesAgain, LeftIsGone, OnlyTheBackEndCounts, WritesLeaveOthers};
+ghost use Rattle.model_laws.specs.Defaults.{DefaultIsFound};
 ghost use Rattle.model_laws.specs.Histories.{CallsKeepIdentity, RowsStandInOrder, UidsAreGivenOnce};
-ghost use Rattle.model_laws.specs.Reads.{DataIdsAreGivenOnce, EpochsRise, GetsTellWhatStands, ListsTellWhatStands, WatchesTellWhatCameAfter};
+ghost use Rattle.model_laws.specs.NoImports.{NoImportsSayAsBefore};
+ghost use Rattle.model_laws.specs.Reads.{DataIdsAreGivenOnce, EpochsRise, GetsTellWhatStands, ListsAreInOrder, ListsTellWhatStands, WatchesGoOn, WatchesTellWhatCameAfter};
 ghost use Rattle.model_laws.specs.ReleaseOrder.{IsReleaseOrder};
 ghost use Rattle.model_laws.specs.Steps.{RefusalsChangeNothing, VersionsCountWrites};
+ghost use Rattle.model_laws.specs.Tellings.{AfterStays, NewestWasTold, OlderPartsAreRuns, RunsAreHistories, ToldStays};
 ghost use Rattle.model_laws.specs.Worked.{ClaimGoneBetweenWrites, DeletedVolumeRefuses, FirstRun, GuardOnAnnotations, IsModesBeforeSize, IsTieByName, StaleEpochs, TwoClaimsOneVolume, Watches};
 
 /// A refusal changes nothing but the number of device calls.
@@ -143,4 +146,58 @@ pub fn done_writes_or_deletes_again()
 #[tactic(auto, using(crate::proofs::Refused::only_the_back_end_counts))]
 pub fn only_the_back_end_counts()
     ensures { OnlyTheBackEndCounts }
+{}
+
+/// An older part of a run is a run.
+#[tactic(auto, using(crate::proofs::Growing::older_parts_are_runs))]
+pub fn older_parts_are_runs()
+    ensures { OlderPartsAreRuns }
+{}
+
+/// A run is a history.
+#[tactic(auto, using(crate::proofs::Growing::runs_are_histories))]
+pub fn runs_are_histories()
+    ensures { RunsAreHistories }
+{}
+
+/// What was told stays told as the list grows.
+#[tactic(auto, using(crate::proofs::Growing::told_stays))]
+pub fn told_stays()
+    ensures { ToldStays }
+{}
+
+/// What came after something else stays so as the list grows.
+#[tactic(auto, using(crate::proofs::Growing::after_stays))]
+pub fn after_stays()
+    ensures { AfterStays }
+{}
+
+/// The newest told object of a key was told.
+#[tactic(auto, using(crate::proofs::Newest::newest_told))]
+pub fn newest_was_told()
+    ensures { NewestWasTold }
+{}
+
+/// A list is in the order of keys, so it tells each object once.
+#[tactic(auto, using(crate::proofs::Goings::lists_are_in_order))]
+pub fn lists_are_in_order()
+    ensures { ListsAreInOrder }
+{}
+
+/// A watch from the end of another one gives the rest.
+#[tactic(auto, using(crate::proofs::Goings::watches_go_on))]
+pub fn watches_go_on()
+    ensures { WatchesGoOn }
+{}
+
+/// The scan that answers a create finds the default class.
+#[tactic(auto, using(crate::proofs::Defaults::default_is_found))]
+pub fn default_is_found()
+    ensures { DefaultIsFound }
+{}
+
+/// Where a setup has no imports, the definitions say what they say without them.
+#[tactic(auto, using(crate::proofs::Without::no_imports_say_as_before))]
+pub fn no_imports_say_as_before()
+    ensures { NoImportsSayAsBefore }
 {}

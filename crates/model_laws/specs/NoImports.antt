@@ -1,0 +1,27 @@
+-- Where a setup has no imports, the definitions say what they would say without them.
+use Rattle.std.specs.Prelude.{ℕ, ◌≡◌, ◌-◌, true, false, List, [], Option}
+use Rattle.kube_types.specs.declared.uid.Uid.{Uid}
+use Rattle.kube_types.specs.declared.objects.Claim.{Claim as ClaimData}
+use Rattle.kube_types.specs.Bindings.{is_completed}
+use Rattle.call_types.specs.declared.entry.Entry.{Entry}
+use Rattle.call_types.specs.declared.setup.Setup.{Setup}
+use Rattle.binder_model.specs.Store.{first_moment}
+use Rattle.binder_model.specs.Devices.{no_devices}
+use Rattle.binder_model.specs.Imports.{ImportsPass}
+use Rattle.binder_model.specs.Watching.{window, oldest}
+use Rattle.binder_model.specs.World.{World, base, world}
+use Rattle.binder_model.specs.Safe.{Counts, was_imported_as_lost}
+
+abbrev pub empty_world : World
+empty_world = record { store = record { rows = []; version = 0 }; moment = first_moment; log = []; devices = no_devices }
+
+pub record SaysAsBefore (setup : Setup) : Type 0 where
+  pub passes : ImportsPass setup.imports
+  pub begins : world setup [] ≡ empty_world
+  pub base_is : base setup ≡ 0
+  pub served : (version : ℕ) → oldest (base setup) version ≡ version - window
+  pub none_lost : (uid : Option Uid) → was_imported_as_lost setup uid ≡ false
+  pub counts : (past : List Entry) (claim : ClaimData) → is_completed claim ≡ true → Counts setup past claim
+
+abbrev pub NoImportsSayAsBefore : Type 0
+NoImportsSayAsBefore = (setup : Setup) → setup.imports ≡ [] → SaysAsBefore setup
