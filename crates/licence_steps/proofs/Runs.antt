@@ -25,7 +25,7 @@ known setup past g seat = record {
 pub run_moves : (setup : Setup) (e : Entry) (past : List Entry) → Good setup past → Run setup (e ∷ past) → MovesAt setup e past
 run_moves setup e past g run =
     let inv = invariant_of setup past g in
-    as_made (world setup past) (effect setup (world setup past) e.kind e.request) (made setup past (own e.seat past) inv (known setup past g e.seat) e.kind e.request run.2) (moves setup (world setup past) e.kind e.request inv.order)
+    as_made (world setup past) e.request (effect setup (world setup past) e.kind e.request) (made setup past (own e.seat past) inv (known setup past g e.seat) e.kind e.request run.2) (moves setup (world setup past) e.kind e.request inv.order)
 
 -- a run that begins in a world which meets the invariant meets it throughout
 pub run_good : (setup : Setup) → Invariant setup [] → (past : List Entry) → Run setup past → Good setup past

@@ -25,7 +25,7 @@ use Rattle.binder_model.specs.AgentLicence.{is_get_of, last_get, never_finished,
 use Rattle.binder_model.specs.World.{world, effect, reply_to}
 use Rattle.binder_model.specs.Run.{Run, own}
 use Rattle.model_laws.proofs.Readings.{lists_tell_what_stands}
-use Rattle.world_moves.specs.Moves.{IsIn}
+use Rattle.world_moves.specs.Writes.{IsIn}
 use Rattle.world_moves.proofs.Moves.{none_some}
 use Rattle.world_moves.proofs.Tests.{both}
 use Rattle.world_invariant.specs.Was.{Was, Unguards}

@@ -87,7 +87,7 @@ mounts_kept setup e past g run start first key c is mounted = by (row_at key (wo
     gone : (u : Uid) → c.meta.uid ≡ Some u → IsGoing setup past u → ⊥
     gone u known i = let m = mounted_uid (world setup past).devices c u known mounted in i.go.unmounted m.mount m.is_in m.has
 
-    left : (l : ClaimData) → Made setup past (Claim l) → key_of (Claim l) ≡ key → IsLeaving (Claim l) → ⊥
+    left : (l : ClaimData) → Made setup past (Claim l) → key_of (Claim l) ≡ key → IsLeaving e.request (Claim l) → ⊥
     left l made at leaving = elim (claim_came setup past l made) [
       | inl began ↦ none_some (sym began.first.free ∙ ap (λ j. row_at j (world setup past).store.rows) at ∙ is)
       | inr came ↦
@@ -107,4 +107,4 @@ mounts_kept setup e past g run start first key c is mounted = by (row_at key (wo
     by None now =
         let h = g.1.left key (Claim c) is now in
         let l = claim_keyed h.last c (row_at_key key (Claim c) (world setup past).store.rows is ∙ sym h.key) in
-        absurd (left l.0 (subst (Made setup past) l.1 h.written.write) (sym (ap key_of l.1) ∙ h.key) (subst IsLeaving l.1 h.leaving))
+        absurd (left l.0 (subst (Made setup past) l.1 h.written.write) (sym (ap key_of l.1) ∙ h.key) (subst (IsLeaving e.request) l.1 h.leaving))

@@ -25,11 +25,10 @@ use Rattle.binder_model.specs.World.{World, OnStore, world}
 use Rattle.binder_model.specs.Run.{Run, own}
 use Rattle.binder_model.specs.Store.{at_version}
 use Rattle.model_laws.proofs.Identity.{key-at_version}
-use Rattle.world_moves.specs.Writes.{Writes, PodGoes}
+use Rattle.world_moves.specs.Writes.{IsLeaving, Writes, PodGoes}
 use Rattle.world_moves.specs.Whence.{IsNext}
 use Rattle.world_moves.proofs.Moves.{moves, one, none_some}
 use Rattle.world_moves.proofs.DeviceMoves.{uid_same, stale_none}
-use Rattle.world_moves.proofs.PodsLeft.{pod_goes}
 use Rattle.world_moves.proofs.Tests.{same_text, uid_is}
 use Rattle.world_invariant.specs.Was.{Stands, KindStep, PodStep, Made}
 use Rattle.world_invariant.specs.Good.{Good}
@@ -107,7 +106,7 @@ pod_finished setup e past g run q k uid is scheduled known none =
     let p = pod_keyed a.last q (row_at_key k (Pod q) _ is ∙ sym a.key) in
     let same : b.last ≡ a.last = one b.last a.last (sym b.written.is ∙ a.written.is) in
     by e.request refl p.0 (subst (Made setup past) p.1 a.written.write) (sym (ap key_of p.1) ∙ a.key)
-    (pod_goes setup w e.kind e.request p.0 (a.removes ∙ ap (λ (o : Object). OnStore (Removes o)) p.1))
+    (subst (IsLeaving e.request) p.1 a.leaving)
     (subst (λ (o : Object). Writes w e.kind e.request o) (same ∙ p.1) b.written.write)
   where
     by : (request : Request) → e.request ≡ request → (p : PodData) → Made setup past (Pod p) → key_of (Pod p) ≡ k → PodGoes request p → Writes (world setup past) e.kind request (Pod p) → IsFinished setup e past q.node uid

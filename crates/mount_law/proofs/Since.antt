@@ -32,9 +32,9 @@ use Rattle.binder_model.specs.World.{World, OnStore, world, effect, reply_to, wa
 use Rattle.binder_model.specs.Run.{Run, own}
 use Rattle.model_laws.proofs.Versions.{versions_count_writes}
 use Rattle.model_laws.proofs.Readings.{lists_tell_what_stands}
-use Rattle.world_moves.specs.Moves.{IsIn}
+use Rattle.world_moves.specs.Writes.{IsIn}
 use Rattle.world_moves.proofs.Moves.{none_some}
-use Rattle.world_moves.specs.Tellings.{is_watch}
+use Rattle.world_moves.specs.Writes.{is_watch}
 use Rattle.world_moves.proofs.Tells.{tells_now, events_some, some_take, some_reverse, some_filter, TellsIt}
 use Rattle.world_moves.proofs.Tests.{both}
 use Rattle.world_invariant.specs.Was.{Was, Stands}

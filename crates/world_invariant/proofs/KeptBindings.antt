@@ -27,6 +27,7 @@ use Rattle.world_invariant.specs.Was.{Was, IsPlaced, Made, NamesOther, OfThoseWi
 use Rattle.world_invariant.specs.Invariant.{Invariant, IsOld, NamesAtMost, StillBound}
 use Rattle.world_invariant.specs.Good.{MovesAt}
 use Rattle.world_invariant.proofs.Came.{volume_keyed, row_was, new_or, fresh, VolumeCame, volume_came, ClaimCame, claim_came}
+use Rattle.call_types.specs.declared.request.Request.{Request}
 
 -- the claims of an old UID
 
@@ -201,10 +202,10 @@ bound_stays setup e past inv m k v is bound None now =
     let h = m.left k (Volume v) is now in
     let same : key_of (Volume v) ≡ key_of h.last = row_at_key k (Volume v) _ is ∙ sym h.key in
     let l = volume_keyed h.last v same in
-    gone h.last h.written.write h.key h.leaving l.0 l.1
+    gone e.request h.last h.written.write h.key h.leaving l.0 l.1
   where
-    gone : (last : Object) → Made setup past last → key_of last ≡ k → IsLeaving last → (l : VolumeData) → last ≡ Volume l → (o : Object) × (None ≡ Some o)
-    gone last made at leaving l e = absurd (true≢false (sym (protected (subst (Made setup past) e made) (sym (ap key_of e) ∙ at)) ∙ unguarded l (subst IsLeaving e leaving)))
+    gone : (request : Request) (last : Object) → Made setup past last → key_of last ≡ k → IsLeaving request last → (l : VolumeData) → last ≡ Volume l → (o : Object) × (None ≡ Some o)
+    gone request last made at leaving l e = absurd (true≢false (sym (protected (subst (Made setup past) e made) (sym (ap key_of e) ∙ at)) ∙ unguarded l (subst (IsLeaving request) e leaving)))
       where
         protected : Made setup past (Volume l) → key_of (Volume l) ≡ k → is_protected_volume l ≡ true
         protected made at = elim (volume_came setup past l made) [

@@ -11,7 +11,7 @@ use Rattle.call_types.specs.declared.entry.Entry.{Entry}
 use Rattle.call_types.specs.declared.setup.Setup.{Setup}
 use Rattle.binder_model.specs.Told.{objects_of_events}
 use Rattle.binder_model.specs.World.{world}
-use Rattle.world_moves.specs.Moves.{IsIn}
+use Rattle.world_moves.specs.Writes.{IsIn}
 use Rattle.world_moves.proofs.Moves.{one}
 use Rattle.world_invariant.specs.Was.{Was, IsPlaced}
 use Rattle.world_invariant.specs.Invariant.{Invariant, IsOld, IsLater}

@@ -21,7 +21,7 @@ use Rattle.binder_model.specs.World.{world, effect, reply_to}
 use Rattle.binder_model.specs.Run.{own}
 use Rattle.model_laws.specs.Reads.{found}
 use Rattle.model_laws.proofs.Readings.{gets_tell_what_stands}
-use Rattle.world_moves.specs.Moves.{IsIn}
+use Rattle.world_moves.specs.Writes.{IsIn}
 use Rattle.world_moves.proofs.Tells.{tells}
 use Rattle.world_invariant.specs.Was.{Was, Refers, IsNotThere, IsAway, WasNamed}
 use Rattle.world_invariant.specs.Invariant.{Invariant, IsOld}

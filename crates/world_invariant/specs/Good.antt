@@ -13,7 +13,7 @@ use Rattle.world_invariant.specs.Invariant.{Invariant}
 
 -- how the store moves at this entry
 abbrev pub MovesAt : Setup → Entry → List Entry → Type 0
-MovesAt setup e past = Moves (world setup past) (effect setup (world setup past) e.kind e.request) (Made setup past)
+MovesAt setup e past = Moves (world setup past) e.request (effect setup (world setup past) e.kind e.request) (Made setup past)
 
 -- a history along which the invariant held, and the store moved as it may
 abbrev pub Good : Setup → List Entry → Type 0

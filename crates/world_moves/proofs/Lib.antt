@@ -3,7 +3,6 @@ pub mod Forms
 pub mod Effects
 pub mod Whence
 pub mod Moves
-pub mod PodsLeft
 pub mod DeviceMoves
 pub mod Tells
 pub mod Newest

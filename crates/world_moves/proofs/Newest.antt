@@ -13,7 +13,7 @@ use Rattle.call_types.specs.declared.reply.Reply.{Reply}
 use Rattle.call_types.specs.declared.reply.Reply.TheVariants.{Done, Left, Listed, Events}
 use Rattle.binder_model.specs.Told.{ToldObject, TellsObject, Telling, presence, later, listing, of_event, told_by_events, tells_of, told_of, newest, object_of, IsNewest, objects_in, objects_of_event, objects_of_events}
 use Rattle.model_laws.proofs.Readings.{found_stands}
-use Rattle.world_moves.specs.Moves.{IsIn}
+use Rattle.world_moves.specs.Writes.{IsIn}
 use Rattle.world_moves.proofs.Moves.{one, none_some}
 use Rattle.world_moves.proofs.Tells.{some_left, some_right}
 
