@@ -26,8 +26,6 @@ use Rattle.binder_model.specs.World.{world, effect, reply_to}
 use Rattle.binder_model.specs.Run.{Run, own}
 use Rattle.model_laws.proofs.Readings.{lists_tell_what_stands}
 use Rattle.world_moves.specs.Writes.{IsIn}
-use Rattle.world_moves.proofs.Moves.{none_some}
-use Rattle.world_moves.proofs.Tests.{both}
 use Rattle.world_invariant.specs.Was.{Was, Unguards}
 use Rattle.world_invariant.specs.Invariant.{IsOld}
 use Rattle.world_invariant.proofs.Came.{IsNew, new_or, row_was, one_written, fresh, older, claim_came}
@@ -41,6 +39,9 @@ use Rattle.mount_law.specs.Mounts.{AreAgents, StandsOn, IsHalfReady, Mountless, 
 use Rattle.mount_law.proofs.Since.{no_split, head_of, tail_of}
 use Rattle.mount_law.proofs.Ready.{found_row, read_was}
 use Rattle.mount_law.proofs.Mounts.{half_ready, mount_is_agents, shown_stands, mounted}
+use Rattle.std.proofs.lemmas.Bool.{and_parts}
+use Rattle.std.proofs.lemmas.Option.{none-some}
+use Rattle.world_moves.proofs.Tests.{text_same}
 
 -- one UID, one key
 pub uid_key : (setup : Setup) (past : List Entry) → Good setup past → (a b : Object) → Was setup past a → Was setup past b → (meta_of a).uid ≡ (meta_of b).uid → key_of a ≡ key_of b
@@ -93,7 +94,7 @@ half_before setup e past g u deleting seat node (Mine at flag o since same held)
     read : (rest : List Entry) → since_epoch node (own seat past) ≡ rest ++ h.teller ∷ h.earlier → (b : Bool) → (e.told && is_get_of (claim_key h.pod.meta.namespace h.name) e.request) ≡ b
         → (if b then Some e.reply else last_get (claim_key h.pod.meta.namespace h.name) rest) ≡ Some (Found (Claim h.claim)) → IsHalfReady setup past seat node u
     read rest eq true t r =
-        let asked = (both e.told (is_get_of (claim_key h.pod.meta.namespace h.name) e.request) t).1 in
+        let asked = (and_parts e.told (is_get_of (claim_key h.pod.meta.namespace h.name) e.request) t).1 in
         let reply : e.reply ≡ Found (Claim h.claim) = ap (λ z. unwrap_or z e.reply) r in
         let there = found_row setup e past g (claim_key h.pod.meta.namespace h.name) (Claim h.claim) asked reply in
         absurd (true≢false (sym (deleting (claim_key h.pod.meta.namespace h.name) h.claim there h.its) ∙ h.staying))
@@ -118,7 +119,7 @@ half_before setup e past g u deleting seat node (Mine at flag o since same held)
     }
 
     by : (recent : List Entry) → e ∷ since_epoch node (own seat past) ≡ recent ++ h.teller ∷ h.earlier → last_get (claim_key h.pod.meta.namespace h.name) recent ≡ Some (Found (Claim h.claim)) → IsHalfReady setup past seat node u
-    by [] eq r = absurd (none_some r)
+    by [] eq r = absurd (none-some _ r)
     by (x ∷ rest) eq r =
         let is_e : x ≡ e = ap (head_of e) (sym eq) in
         let r2 = subst (λ (y : Entry). last_get (claim_key h.pod.meta.namespace h.name) (y ∷ rest) ≡ Some (Found (Claim h.claim))) is_e r in
@@ -174,9 +175,6 @@ any_in f x (y ∷ ys) (inr more) e = by (f y) (any_in f x ys more e)
 abbrev items_of : List Object → Reply → List Object
 items_of none (Listed items version) = items
 items_of none r = none
-
-text_same : (a b : List ℕ) → a ≡ b → bytes_eq a b ≡ true
-text_same a b e = (bytes_eq-Decides a b).1 e
 
 -- a scheduled pod that stands and names the claim would have been listed
 pod_listed : (setup : Setup) (e : Entry) (past : List Entry) → Good setup (e ∷ past) → (o : ClaimData) → IsListing o e.request e.reply → (p : PodData) → StandsOn (world setup past) p → is_scheduled p ≡ true → (name : List ℕ) → has_name name p.claims ≡ true → key_of (Claim o) ≡ claim_key p.meta.namespace name → ⊥

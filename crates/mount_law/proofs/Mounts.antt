@@ -31,6 +31,7 @@ use Rattle.mount_law.specs.Mounts.{IsSplit, AreAgents, StandsOn, UidIn, NamesUid
 use Rattle.mount_law.proofs.Since.{has_taken, told_since}
 use Rattle.mount_law.proofs.Pods.{pod_next, pods_stay}
 use Rattle.mount_law.proofs.Ready.{read_was}
+use Rattle.std.proofs.lemmas.Bool.{or_right}
 
 -- the name and the read of a UID among those that are ready
 pub record IsReadyFor (recent : List Entry) (namespace : List ℕ) (names : List (List ℕ)) (u : Uid) : Type 0 where
@@ -43,10 +44,6 @@ pub record IsReadyFor (recent : List Entry) (namespace : List ℕ) (names : List
 
 has_first : (name : List ℕ) (names : List (List ℕ)) → has_name name (name ∷ names) ≡ true
 has_first name names = let same : bytes_eq name name ≡ true = (bytes_eq-Decides name name).1 refl in rw same refl
-
-or_right : (a b : Bool) → b ≡ true → (a || b) ≡ true
-or_right true b e = refl
-or_right false b e = e
 
 ready_for : (recent : List Entry) (namespace : List ℕ) (names : List (List ℕ)) (uids : List Uid) → AreReadReady recent namespace names uids → (u : Uid) → UidIn u uids → IsReadyFor recent namespace names u
 ready_for recent namespace [] [] r u h = absurd h

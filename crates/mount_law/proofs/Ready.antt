@@ -20,10 +20,11 @@ use Rattle.binder_model.specs.World.{world, effect, reply_to}
 use Rattle.binder_model.specs.Run.{own}
 use Rattle.model_laws.specs.Reads.{found}
 use Rattle.model_laws.proofs.Readings.{gets_tell_what_stands}
-use Rattle.world_moves.proofs.Tests.{both, same_text}
+use Rattle.world_moves.proofs.Tests.{same_text}
 use Rattle.world_invariant.specs.Was.{Was}
 use Rattle.world_invariant.proofs.Came.{row_was}
 use Rattle.world_invariant.specs.Good.{Good}
+use Rattle.std.proofs.lemmas.Bool.{and_parts}
 
 -- keys that are equal by their test
 kind_of_index : ℕ → Kind
@@ -39,8 +40,8 @@ kind_back kinds.Pod = refl
 
 pub key_same : (a b : Key) → same_key a b ≡ true → a ≡ b
 key_same a b e =
-    let t = both (kind_index a.kind == kind_index b.kind && bytes_eq a.namespace b.namespace) (bytes_eq a.name b.name) e in
-    let s = both (kind_index a.kind == kind_index b.kind) (bytes_eq a.namespace b.namespace) t.0 in
+    let t = and_parts (kind_index a.kind == kind_index b.kind && bytes_eq a.namespace b.namespace) (bytes_eq a.name b.name) e in
+    let s = and_parts (kind_index a.kind == kind_index b.kind) (bytes_eq a.namespace b.namespace) t.0 in
     let s0 = s.0 in
     let i : kind_index a.kind ≡ kind_index b.kind = grind (arith, nat_tests) in
     let k : a.kind ≡ b.kind = sym (kind_back a.kind) ∙ ap kind_of_index i ∙ kind_back b.kind in
@@ -108,7 +109,7 @@ last_get_in key [] reply e = absurd (true≢false (sym (ap is_some e)))
 last_get_in key (x ∷ mine) reply e = by (x.told && is_get_of key x.request) refl e (last_get_in key mine reply)
   where
     by : (b : Bool) → (x.told && is_get_of key x.request) ≡ b → (if b then Some x.reply else last_get key mine) ≡ Some reply → (last_get key mine ≡ Some reply → IsLastGet key mine reply) → IsLastGet key (x ∷ mine) reply
-    by true t e f = record { entry = x; is_in = inl refl; asked = (both x.told (is_get_of key x.request) t).1; answer = ap (λ z. unwrap_or z x.reply) e }
+    by true t e f = record { entry = x; is_in = inl refl; asked = (and_parts x.told (is_get_of key x.request) t).1; answer = ap (λ z. unwrap_or z x.reply) e }
     by false t e f = let r = f e in record { entry = r.entry; is_in = inr r.is_in; asked = r.asked; answer = r.answer }
 
 -- the entries since the epoch are among all

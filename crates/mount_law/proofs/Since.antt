@@ -33,15 +33,15 @@ use Rattle.binder_model.specs.Run.{Run, own}
 use Rattle.model_laws.proofs.Versions.{versions_count_writes}
 use Rattle.model_laws.proofs.Readings.{lists_tell_what_stands}
 use Rattle.world_moves.specs.Writes.{IsIn}
-use Rattle.world_moves.proofs.Moves.{none_some}
 use Rattle.world_moves.specs.Writes.{is_watch}
 use Rattle.world_moves.proofs.Tells.{tells_now, events_some, some_take, some_reverse, some_filter, TellsIt}
-use Rattle.world_moves.proofs.Tests.{both}
 use Rattle.world_invariant.specs.Was.{Was, Stands}
 use Rattle.world_invariant.specs.Good.{Good}
 use Rattle.world_invariant.proofs.Known.{invariant_of, entry_tells}
 use Rattle.world_invariant.proofs.Holders.{OwnStep, Own, Others, own_step}
 use Rattle.mount_law.specs.Mounts.{AreAgents, IsSplit}
+use Rattle.std.proofs.lemmas.Bool.{and_parts}
+use Rattle.std.proofs.lemmas.Option.{same_Some, none-some}
 
 -- the entry tells the seat an epoch of the node
 abbrev pub takes_node : ℕ → List ℕ → Entry → Bool
@@ -72,15 +72,12 @@ on_since setup seat node e past o f h = inr (subst (λ (b : Bool). Unless b (Was
 same_taken : (setup : Setup) (seat : ℕ) (node : List ℕ) (e : Entry) (past : List Entry) → takes_node seat node e ≡ false → taken_version setup seat node (e ∷ past) ≡ taken_version setup seat node past
 same_taken setup seat node e past f = rw f refl
 
-nat_one : (a b : ℕ) → Some a ≡ Some b → a ≡ b
-nat_one a b e = ap (λ x. unwrap_or x a) e
-
 pub taken_low : (setup : Setup) (past : List Entry) → Good setup past → (seat : ℕ) (node : List ℕ) (v : ℕ) → taken_version setup seat node past ≡ Some v → v ≤ (world setup past).store.version
-taken_low setup [] g seat node v is = absurd (none_some is)
+taken_low setup [] g seat node v is = absurd (none-some _ is)
 taken_low setup (e ∷ past) g seat node v is = by (taken_low setup past g.0 seat node v) (takes_node seat node e) is
   where
     by : (taken_version setup seat node past ≡ Some v → v ≤ (world setup past).store.version) → (b : Bool) → (if b then Some (world setup (e ∷ past)).store.version else taken_version setup seat node past) ≡ Some v → v ≤ (world setup (e ∷ past)).store.version
-    by f true t = let s = nat_one _ v t in omega (arith, s)
+    by f true t = let s = same_Some _ v t in omega (arith, s)
     by f false t = let low = f t in let up = g.1.rises in omega (arith, low, up)
 
 -- what was, above that version, was since
@@ -92,13 +89,13 @@ above_since setup (e ∷ past) g seat node v is o above was = by (above_since se
         → Stands (world setup (e ∷ past)) o ⊎ Unless b (WasSince setup seat node past o)
     by f true t =
         let low = (invariant_of setup (e ∷ past) g).version o was in
-        let s = nat_one (world setup (e ∷ past)).store.version v t in
+        let s = same_Some (world setup (e ∷ past)).store.version v t in
         absurd (omega (arith, low, s, above))
     by f false t = elim was [ inl before ↦ inr (f t o above before) | inr now ↦ inl now ]
 
 -- whoever was told an epoch took the node
 pub has_taken : (setup : Setup) (past : List Entry) (seat : ℕ) (node : List ℕ) (epoch : ℕ) → last_epoch node (own seat past) ≡ Some epoch → (v : ℕ) × (taken_version setup seat node past ≡ Some v)
-has_taken setup [] seat node epoch is = absurd (none_some is)
+has_taken setup [] seat node epoch is = absurd (none-some _ is)
 has_taken setup (e ∷ past) seat node epoch is = by (has_taken setup past seat node epoch) (own_step seat e past)
   where
     first : (last_epoch node (own seat past) ≡ Some epoch → (v : ℕ) × (taken_version setup seat node past ≡ Some v)) → e.seat ≡ seat → (x : Option ℕ) → epoch_in node e ≡ x → first_some x (last_epoch node (own seat past)) ≡ Some epoch → (v : ℕ) × (taken_version setup seat node (e ∷ past) ≡ Some v)
@@ -148,7 +145,7 @@ lt_is a b h = grind (arith, nat_tests)
 pub watched_event : (k : Kind) (from : ℕ) (log : List Event) (x : Event) → SomeOf (λ y. y ≡ x) (take most_events (events_after k from log)) → IsWatched k from log x
 watched_event k from log x h =
     let f = some_reverse (λ y. y ≡ x) (filter (is_later k from) log) (some_take (λ y. y ≡ x) most_events (events_after k from log) h) in
-    let p = both (nat_lt from x.version) (is_of_kind k x.object) (filter_passes (is_later k from) x log f) in
+    let p = and_parts (nat_lt from x.version) (is_of_kind k x.object) (filter_passes (is_later k from) x log f) in
     record { logged = some_filter (λ y. y ≡ x) (is_later k from) log f; later = lt_is from x.version p.0; kind = p.1 }
 
 abbrev AllAbove : ℕ → List Event → Type 0
@@ -402,7 +399,7 @@ newest_since setup e past g run node v not_taken is agent agents listed p told =
 -- the pod that was told by a list after the node was taken, or after it, stood since then
 pub told_since : (setup : Setup) (past : List Entry) → Good setup past → Run setup past → (seat : ℕ) (node : List ℕ) (v : ℕ) → taken_version setup seat node past ≡ Some v → AreAgents (own seat past)
     → (recent : List Entry) (teller : Entry) (earlier : List Entry) → IsSplit node (own seat past) recent teller earlier → (p : PodData) → TellsObject (IsPodWith (λ x. x ≡ p)) teller → WasSince setup seat node past (Pod p)
-told_since setup [] g run seat node v is agents recent teller earlier split p told = absurd (none_some is)
+told_since setup [] g run seat node v is agents recent teller earlier split p told = absurd (none-some _ is)
 told_since setup (e ∷ past) g run seat node v is agents recent teller earlier split p told = by (told_since setup past g.0 run.0 seat node v) (own_step seat e past)
   where
     mine : ((t : taken_version setup seat node past ≡ Some v) → AreAgents (own seat past) → (recent : List Entry) (teller : Entry) (earlier : List Entry) → IsSplit node (own seat past) recent teller earlier → (p : PodData) → TellsObject (IsPodWith (λ x. x ≡ p)) teller → WasSince setup seat node past (Pod p))

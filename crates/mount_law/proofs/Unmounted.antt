@@ -15,11 +15,12 @@ use Rattle.binder_model.specs.Licence.{Licensed}
 use Rattle.binder_model.specs.World.{world, effect, reply_to}
 use Rattle.binder_model.specs.Run.{Run, own}
 use Rattle.world_moves.specs.DeviceMoves.{MountIn, IsMounting}
-use Rattle.world_moves.proofs.DeviceMoves.{device_moves, mounts_told, has_row_of, uid_same}
-use Rattle.world_moves.proofs.Tests.{both}
+use Rattle.world_moves.proofs.DeviceMoves.{device_moves, mounts_told, has_row_of}
 use Rattle.world_invariant.specs.Good.{Good}
 use Rattle.world_invariant.specs.Holders.{Holds}
 use Rattle.world_invariant.proofs.Holders.{HolderStep, Took, Mine, Other, holder_step, one_holder}
+use Rattle.std.proofs.lemmas.Bool.{and_parts}
+use Rattle.world_moves.proofs.Tests.{uid_same}
 
 -- the row that allowed a mount
 pub record MountedBy (setup : Setup) (e : Entry) (past : List Entry) (m : MountAt) : Type 0 where
@@ -56,8 +57,8 @@ tells_unmounted node epoch pod e = e.told && is_of_epoch node epoch e.request &&
 
 unmounted_now : (setup : Setup) (e : Entry) (past : List Entry) → Good setup (e ∷ past) → (node : List ℕ) (epoch : ℕ) (pod : Uid) → tells_unmounted node epoch pod e ≡ true → IsUnmounted setup (e ∷ past) node pod
 unmounted_now setup e past g node epoch pod t m h n p =
-    let outer = both (e.told && is_of_epoch node epoch e.request) (lacks_pod pod e.reply) t in
-    let inner = both e.told (is_of_epoch node epoch e.request) outer.0 in
+    let outer = and_parts (e.told && is_of_epoch node epoch e.request) (lacks_pod pod e.reply) t in
+    let inner = and_parts e.told (is_of_epoch node epoch e.request) outer.0 in
     let lacks : lacks_pod pod (reply_to (effect setup (world setup past) e.kind e.request)) ≡ true = ap (lacks_pod pod) (sym g.2) ∙ outer.1 in
     let none = (mounts_told setup (world setup past) e.kind e.request).lacks node epoch pod inner.1 lacks in
     true≢false (sym (has_row_of m (world setup (e ∷ past)).devices.mounts node pod h n p) ∙ none)

@@ -21,13 +21,14 @@ use Rattle.binder_model.specs.World.{world}
 use Rattle.binder_model.specs.Store.{leaves}
 use Rattle.world_moves.specs.Writes.{IsLeaving}
 use Rattle.world_moves.specs.Whence.{Keeps}
-use Rattle.world_moves.proofs.Moves.{none_some}
 use Rattle.world_invariant.proofs.KeptObjects.{kept_placed, kept_later}
 use Rattle.world_invariant.specs.Was.{Was, IsPlaced, Made, NamesOther, OfThoseWith, IsAway, IsNotThere, Refers, WasNamed, WasBound, IsFinal, VolumeStep}
 use Rattle.world_invariant.specs.Invariant.{Invariant, IsOld, NamesAtMost, StillBound}
 use Rattle.world_invariant.specs.Good.{MovesAt}
-use Rattle.world_invariant.proofs.Came.{volume_keyed, row_was, new_or, fresh, VolumeCame, volume_came, ClaimCame, claim_came}
+use Rattle.world_invariant.proofs.Came.{row_was, new_or, fresh, VolumeCame, volume_came, ClaimCame, claim_came}
 use Rattle.call_types.specs.declared.request.Request.{Request}
+use Rattle.std.proofs.lemmas.Option.{none-some}
+use Rattle.world_moves.proofs.Objects.{volume_keyed, some_volume}
 
 -- the claims of an old UID
 
@@ -187,13 +188,6 @@ unguarded v l = by v.meta.finalizers refl
     by [] e = rw e refl
     by (f ∷ fs) e = let no : (is_deleting v.meta && false) ≡ true = rw e at l in no_and (is_deleting v.meta) no
 
-pub volume_one : (a b : VolumeData) → Some (Volume a) ≡ Some (Volume b) → a ≡ b
-volume_one a b e = ap (λ x. of x) e
-  where
-    of : Option Object → VolumeData
-    of (Some (Volume v)) = v
-    of x = a
-
 -- a Bound volume has not left
 pub bound_stays : (setup : Setup) (e : Entry) (past : List Entry) → Invariant setup past → MovesAt setup e past → (k : Key) (v : VolumeData) → row_at k (world setup past).store.rows ≡ Some (Volume v) → is_bound v.phase ≡ true
     → (x : Option Object) → row_at k (world setup (e ∷ past)).store.rows ≡ x → (o : Object) × (x ≡ Some o)
@@ -209,9 +203,9 @@ bound_stays setup e past inv m k v is bound None now =
       where
         protected : Made setup past (Volume l) → key_of (Volume l) ≡ k → is_protected_volume l ≡ true
         protected made at = elim (volume_came setup past l made) [
-          | inl began ↦ absurd (none_some (sym began.first.free ∙ ap (λ j. row_at j (world setup past).store.rows) at ∙ is))
+          | inl began ↦ absurd (none-some _ (sym began.first.free ∙ ap (λ j. row_at j (world setup past).store.rows) at ∙ is))
           | inr came ↦
-              let old : v ≡ came.old = volume_one v came.old (sym is ∙ ap (λ j. row_at j (world setup past).store.rows) (sym at) ∙ came.next.there) in
+              let old : v ≡ came.old = some_volume v came.old (sym is ∙ ap (λ j. row_at j (world setup past).store.rows) (sym at) ∙ came.next.there) in
               came.step.stays (subst (λ (x : VolumeData). is_bound x.phase ≡ true) old bound)
         ]
 
@@ -229,7 +223,7 @@ kept_bound setup e past inv m name r uid k c known old s there its most =
     written : (u : VolumeData) → row_at (volume_key name) (world setup (e ∷ past)).store.rows ≡ Some (Volume u) → VolumeCame setup past u → StillBound (world setup (e ∷ past)) name r
     written u is came =
         let at = row_at_key (volume_key name) (Volume u) (world setup (e ∷ past)).store.rows is in
-        let same : s.volume ≡ came.old = volume_one s.volume came.old (sym s.there ∙ ap (λ j. row_at j (world setup past).store.rows) (sym at) ∙ came.next.there) in
+        let same : s.volume ≡ came.old = some_volume s.volume came.old (sym s.there ∙ ap (λ j. row_at j (world setup past).store.rows) (sym at) ∙ came.next.there) in
         let called : s.volume.meta.name ≡ name = ap (λ j. j.name) (row_at_key (volume_key name) (Volume s.volume) (world setup past).store.rows s.there) in
         let step : VolumeStep setup past s.volume u = subst (λ (x : VolumeData). VolumeStep setup past x u) (sym same) came.step in
         elim (step.keeps r uid s.bound (record { is = s.refers; known = known })) [
@@ -239,9 +233,9 @@ kept_bound setup e past inv m name r uid k c known old s there its most =
 
     volume : (u : VolumeData) → row_at (volume_key name) (world setup (e ∷ past)).store.rows ≡ Some (Volume u) → StillBound (world setup (e ∷ past)) name r
     volume u is = elim (m.row (volume_key name) (Volume u) is) [
-      | inl same ↦ let one_v : s.volume ≡ u = volume_one s.volume u (sym s.there ∙ same) in record { volume = u; there = is; bound = subst (λ (x : VolumeData). is_bound x.phase ≡ true) one_v s.bound; refers = subst (λ (x : VolumeData). x.claim_ref ≡ Some r) one_v s.refers }
+      | inl same ↦ let one_v : s.volume ≡ u = some_volume s.volume u (sym s.there ∙ same) in record { volume = u; there = is; bound = subst (λ (x : VolumeData). is_bound x.phase ≡ true) one_v s.bound; refers = subst (λ (x : VolumeData). x.claim_ref ≡ Some r) one_v s.refers }
       | inr new ↦ elim (volume_came setup past u new.write) [
-        | inl began ↦ absurd (none_some (sym began.first.free ∙ ap (λ j. row_at j (world setup past).store.rows) (row_at_key (volume_key name) (Volume u) (world setup (e ∷ past)).store.rows is) ∙ s.there))
+        | inl began ↦ absurd (none-some _ (sym began.first.free ∙ ap (λ j. row_at j (world setup past).store.rows) (row_at_key (volume_key name) (Volume u) (world setup (e ∷ past)).store.rows is) ∙ s.there))
         | inr came ↦ written u is came
       ]
     ]
@@ -289,6 +283,6 @@ kept_lasts setup e past inv m v r uid k x was refers final is same = elim (new_o
       -- the new one and the one that stands are one object
       let l = kept_later setup e past inv m (Volume v) k (Volume x) was is same in
       let at : key_of (Volume v) ≡ k = sym l.key ∙ row_at_key k (Volume x) _ is in
-      let e : v ≡ x = volume_one v x (sym new.stands ∙ ap (λ j. row_at j (world setup (e ∷ past)).store.rows) at ∙ is) in
+      let e : v ≡ x = some_volume v x (sym new.stands ∙ ap (λ j. row_at j (world setup (e ∷ past)).store.rows) at ∙ is) in
       subst (IsFinal r) e final
 ]

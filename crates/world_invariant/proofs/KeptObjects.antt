@@ -12,11 +12,11 @@ use Rattle.call_types.specs.declared.setup.Setup.{Setup}
 use Rattle.binder_model.specs.Told.{objects_of_events}
 use Rattle.binder_model.specs.World.{world}
 use Rattle.world_moves.specs.Writes.{IsIn}
-use Rattle.world_moves.proofs.Moves.{one}
 use Rattle.world_invariant.specs.Was.{Was, IsPlaced}
 use Rattle.world_invariant.specs.Invariant.{Invariant, IsOld, IsLater}
 use Rattle.world_invariant.specs.Good.{MovesAt}
 use Rattle.world_invariant.proofs.Came.{row_was, IsNew, new_or, one_written, made_version, fresh, older, given_old, itself, then, volume_came}
+use Rattle.std.proofs.lemmas.Option.{same_Some}
 
 pub kept_version : (setup : Setup) (e : Entry) (past : List Entry) → Invariant setup past → MovesAt setup e past → (o : Object) → Was setup (e ∷ past) o → (meta_of o).version ≤ (world setup (e ∷ past)).store.version
 kept_version setup e past inv m o was = elim (new_or setup e past m o was) [
@@ -71,7 +71,7 @@ later_new setup e past inv a k b new there is same = elim new.written.write [
   | inr from ↦
       let l = inv.later b (key_of a) from.old (row_was setup past k b there) from.next.there (sym (same ∙ from.next.keeps.uid)) in
       let at : key_of a ≡ k = from.next.key ∙ l.key ∙ row_at_key k b (world setup past).store.rows there in
-      let e : a ≡ b = one a b (sym new.stands ∙ ap (λ j. row_at j (world setup (e ∷ past)).store.rows) at ∙ is) in
+      let e : a ≡ b = same_Some a b (sym new.stands ∙ ap (λ j. row_at j (world setup (e ∷ past)).store.rows) at ∙ is) in
       subst (IsLater a) e (itself a)
 ]
 

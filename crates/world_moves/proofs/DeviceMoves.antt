@@ -16,9 +16,11 @@ use Rattle.binder_model.specs.Watching.{oldest}
 use Rattle.binder_model.specs.AgentLicence.{has_row, is_of_epoch, lacks_pod}
 use Rattle.binder_model.specs.World.{World, Effect, OnStore, OnDevices, SetsMoment, effect, reply_to, world_after, on_devices, set_time, watch, is_time, refused_rule}
 use Rattle.binder_model.specs.Same.{same_uid}
-use Rattle.world_moves.proofs.Moves.{none_some}
 use Rattle.world_moves.specs.DeviceMoves.{MountIn, IsMounting, IsTaking, DeviceMove, EffectMove}
-use Rattle.world_moves.proofs.Tests.{both, same_text}
+use Rattle.world_moves.proofs.Tests.{same_text}
+use Rattle.std.proofs.lemmas.Bool.{and_parts, or_right, not-true}
+use Rattle.std.proofs.lemmas.Option.{none-some}
+use Rattle.world_moves.proofs.Tests.{uid_same}
 
 -- epochs and mounts as they were
 still : (d new : Devices) (request : Request) (reply : Reply) → new.epochs ≡ d.epochs → new.mounts ≡ d.mounts → DeviceMove d new request reply
@@ -46,7 +48,7 @@ stale_none d node given e = by (given == epoch_of node d.epochs) refl e
   where
     by : (b : Bool) → (given == epoch_of node d.epochs) ≡ b → (if b then None else Some (epoch_of node d.epochs)) ≡ None → given ≡ epoch_of node d.epochs
     by true t e = grind (arith, nat_tests)
-    by false t e = absurd (none_some (sym e))
+    by false t e = absurd (none-some _ (sym e))
 
 stale_move : (d : Devices) (request : Request) (s : Option ℕ) (next : DeviceAnswer) → (s ≡ None → DeviceMove d next.devices request next.reply) → DeviceMove d (unless_stale d s next).devices request (unless_stale d s next).reply
 unfolding unless_stale
@@ -157,13 +159,6 @@ device_moves setup w kind request = asked w kind request _ (devices_move setup w
 
 -- what a list of a node's mounts tells
 
-pub uid_same : (a b : Uid) → a ≡ b → same_uid a b ≡ true
-uid_same a b e = let n : a.0 ≡ b.0 = ap (λ (u : Uid). u.0) e in grind (arith, nat_tests)
-
-or_true : (a b : Bool) → b ≡ true → (a || b) ≡ true
-or_true true b e = refl
-or_true false b e = e
-
 pub has_row_of : (m : MountAt) (ms : List MountAt) (node : List ℕ) (pod : Uid) → MountIn m ms → m.node ≡ node → m.row.pod ≡ pod → has_row pod (rows_on node ms) ≡ true
 has_row_of m [] node pod h n p = absurd h
 has_row_of m (x ∷ xs) node pod (inl is) n p =
@@ -173,7 +168,7 @@ has_row_of m (x ∷ xs) node pod (inl is) n p =
 has_row_of m (x ∷ xs) node pod (inr more) n p = by (bytes_eq x.node node) (has_row_of m xs node pod more n p)
   where
     by : (b : Bool) → has_row pod (rows_on node xs) ≡ true → has_row pod (if b then x.row ∷ rows_on node xs else rows_on node xs) ≡ true
-    by true e = or_true (same_uid x.row.pod pod) (has_row pod (rows_on node xs)) e
+    by true e = or_right (same_uid x.row.pod pod) (has_row pod (rows_on node xs)) e
     by false e = e
 
 -- the node's list, as it then is
@@ -181,17 +176,13 @@ abbrev TellsMounts : Request → Option DeviceAnswer → Type 0
 TellsMounts request None = ⊤
 TellsMounts request (Some a) = (node : List ℕ) (epoch : ℕ) (pod : Uid) → is_of_epoch node epoch request ≡ true → lacks_pod pod a.reply ≡ true → has_row pod (rows_on node a.devices.mounts) ≡ false
 
-not_true : (b : Bool) → not b ≡ true → b ≡ false
-not_true true e = absurd (true≢false (sym e))
-not_true false e = refl
-
 told_rows : (d : Devices) (n : List ℕ) (e : ℕ) (s : Option ℕ) (mounts : List MountAt) (node : List ℕ) (epoch : ℕ) (pod : Uid) → (bytes_eq n node && e == epoch) ≡ true
     → lacks_pod pod (unless_stale d s (with_mounts d n mounts)).reply ≡ true → has_row pod (rows_on node (unless_stale d s (with_mounts d n mounts)).devices.mounts) ≡ false
 unfolding unless_stale with_mounts
 told_rows d n e (Some k) mounts node epoch pod is lacks = absurd (true≢false (sym lacks))
 told_rows d n e None mounts node epoch pod is lacks =
-    let same : n ≡ node = same_text n node (both (bytes_eq n node) (e == epoch) is).0 in
-    subst (λ (x : List ℕ). has_row pod (rows_on x mounts) ≡ false) same (not_true _ lacks)
+    let same : n ≡ node = same_text n node (and_parts (bytes_eq n node) (e == epoch) is).0 in
+    subst (λ (x : List ℕ). has_row pod (rows_on x mounts) ≡ false) same (not-true _ lacks)
 
 tells_mounts : (setup : Setup) (d : Devices) (request : Request) → TellsMounts request (device_answer setup d request)
 unfolding device_answer
@@ -219,7 +210,7 @@ pub mounts_told : (setup : Setup) (w : World) (kind : SeatKind) (request : Reque
 unfolding effect device_answer
 mounts_told setup w kind (requests.SetTime at) = record { lacks = λ node epoch pod is lacks. absurd (true≢false (sym is)) }
 mounts_told setup w kind (requests.Watch k from) = record { lacks = λ node epoch pod is lacks. absurd (true≢false (sym is)) }
-mounts_told setup w kind (requests.Mounts n e) = lacks_of w kind (requests.Mounts n e) _ (tells_mounts setup w.devices (requests.Mounts n e)) (λ node epoch no. absurd (none_some (sym no)))
-mounts_told setup w kind (requests.Mount n e p claims) = lacks_of w kind (requests.Mount n e p claims) _ (tells_mounts setup w.devices (requests.Mount n e p claims)) (λ node epoch no. absurd (none_some (sym no)))
-mounts_told setup w kind (requests.Unmount n e p) = lacks_of w kind (requests.Unmount n e p) _ (tells_mounts setup w.devices (requests.Unmount n e p)) (λ node epoch no. absurd (none_some (sym no)))
+mounts_told setup w kind (requests.Mounts n e) = lacks_of w kind (requests.Mounts n e) _ (tells_mounts setup w.devices (requests.Mounts n e)) (λ node epoch no. absurd (none-some _ (sym no)))
+mounts_told setup w kind (requests.Mount n e p claims) = lacks_of w kind (requests.Mount n e p claims) _ (tells_mounts setup w.devices (requests.Mount n e p claims)) (λ node epoch no. absurd (none-some _ (sym no)))
+mounts_told setup w kind (requests.Unmount n e p) = lacks_of w kind (requests.Unmount n e p) _ (tells_mounts setup w.devices (requests.Unmount n e p)) (λ node epoch no. absurd (none-some _ (sym no)))
 mounts_told setup w kind request = record { lacks = λ node epoch pod is lacks. absurd (true≢false (sym is)) }

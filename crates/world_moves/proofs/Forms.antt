@@ -26,7 +26,7 @@ use Rattle.binder_model.specs.Answers.{Outcome, Says, Stores, Removes, is_user, 
 use Rattle.model_laws.proofs.Identity.{edit_kept, IsKeyKept}
 use Rattle.world_moves.specs.Writes.{IsCreate, IsUpdate, IsEdit, IsStatus, IsMark, IsBind, IsFinish, WriteOf, IsLeaving, IsIn, FormOf}
 use Rattle.model_laws.proofs.Readings.{listed_stand}
-use Rattle.world_moves.proofs.Tests.{not_true, not_false}
+use Rattle.std.proofs.lemmas.Bool.{not-true, not-false}
 
 -- a fact of outcomes, as a record, so that what it speaks of is found
 record HasForm (s : State) (W : Object → Type 0) (request : Request) (x : Outcome) : Type 0 where
@@ -120,7 +120,7 @@ delete_form s moment key given None is = refused _
 delete_form s moment key given (Some old) is = refused_or _ _ _ (λ u. by u (leaves_at_once old) (is_deleting (meta_of old)) refl refl)
   where
     at_once : (o : Object) (n : ℕ) → leaves_at_once o ≡ true → IsLeaving (requests.Delete key given) (marked_object o n moment)
-    at_once (Pod p) n e = not_true (is_scheduled p) e
+    at_once (Pod p) n e = not-true (is_scheduled p) e
     at_once (Class p) n e = absurd (true≢false (sym e))
     at_once (Node p) n e = absurd (true≢false (sym e))
     at_once (Volume p) n e = absurd (true≢false (sym e))
@@ -171,8 +171,8 @@ finish_form s kind key uid node epoch stale c (Some p) f =
           controller = c;
           same = (f p refl).same;
           current = e;
-          deleting = not_false _ d;
-          placed = not_false _ n;
+          deleting = not-false _ d;
+          placed = not-false _ n;
           is = refl;
         },
         tt,

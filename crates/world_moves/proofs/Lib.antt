@@ -1,4 +1,5 @@
 pub mod Tests
+pub mod Objects
 pub mod Forms
 pub mod Effects
 pub mod Whence

@@ -18,18 +18,13 @@ use Rattle.model_laws.proofs.Histories.{rows_after}
 use Rattle.world_moves.specs.Writes.{Writes, IsIn, FormOf, EffectOf}
 use Rattle.world_moves.proofs.Effects.{effect_form}
 use Rattle.world_moves.specs.Moves.{IsWritten, Moves, CallsMoveTheStore}
-
-pub one : (a b : Object) → Some a ≡ Some b → a ≡ b
-one a b e = ap (λ x. unwrap_or x a) e
-
-pub none_some : {X : Type 0} {x : X} → ◌≡◌ {A = Option X} None (Some x) → ⊥
-none_some e = true≢false (sym (ap is_some e))
+use Rattle.std.proofs.lemmas.Option.{same_Some, none-some}
 
 still : (w : World) (request : Request) (x : Effect) (W : Object → Type 0) → AreRows w.store.rows → (world_after w x).store ≡ w.store → (world_after w x).log ≡ w.log → Moves w request x W
 still w request x W rows e l = record {
   logged = λ o h. inl (subst (λ (es : List Event). IsIn o (objects_of_events es)) l h);
   row = λ k o is. inl (ap (λ s. row_at k s.rows) (sym e) ∙ is);
-  left = λ k o is none. absurd (none_some (sym none ∙ ap (λ s. row_at k s.rows) e ∙ is));
+  left = λ k o is none. absurd (none-some _ (sym none ∙ ap (λ s. row_at k s.rows) e ∙ is));
   rises = let v = ap (λ s. s.version) e in omega (arith, v);
   order = subst (λ s. AreRows s.rows) (sym e) rows;
 }
@@ -53,13 +48,13 @@ store_moves w request W (Says reply) rows f = still w request (OnStore (Says rep
 store_moves w request W (Stores change o) rows f = record {
   row = λ k new is. elim (key_tells (key_of o) k) [
     | inl same ↦
-        let e : o ≡ new = one o new (sym (row_at-put_row o w.store.rows) ∙ ap (λ j. row_at j (put_row o w.store.rows)) same ∙ is) in
+        let e : o ≡ new = same_Some o new (sym (row_at-put_row o w.store.rows) ∙ ap (λ j. row_at j (put_row o w.store.rows)) same ∙ is) in
         inr (subst (IsWritten w (OnStore (Stores change o)) W) e (record { is = refl; write = f; counted = refl }))
     | inr other ↦ inl (sym (row_at-put_row_other k o w.store.rows other) ∙ is)
   ];
   left = λ k old is none. elim (key_tells (key_of o) k) [
-    | inl same ↦ absurd (none_some (sym none ∙ ap (λ j. row_at j (put_row o w.store.rows)) (sym same) ∙ row_at-put_row o w.store.rows))
-    | inr other ↦ absurd (none_some (sym none ∙ row_at-put_row_other k o w.store.rows other ∙ is))
+    | inl same ↦ absurd (none-some _ (sym none ∙ ap (λ j. row_at j (put_row o w.store.rows)) (sym same) ∙ row_at-put_row o w.store.rows))
+    | inr other ↦ absurd (none-some _ (sym none ∙ row_at-put_row_other k o w.store.rows other ∙ is))
   ];
   rises = omega arith;
   logged = λ new h. stored_event w.store.rows change o new w.log h;
@@ -67,12 +62,12 @@ store_moves w request W (Stores change o) rows f = record {
 }
 store_moves w request W (Removes o) rows f = record {
   row = λ k new is. elim (key_tells (key_of o) k) [
-    | inl same ↦ absurd (none_some (sym (row_at-without_row (key_of o) w.store.rows rows) ∙ ap (λ j. row_at j (without_row (key_of o) w.store.rows)) same ∙ is))
+    | inl same ↦ absurd (none-some _ (sym (row_at-without_row (key_of o) w.store.rows rows) ∙ ap (λ j. row_at j (without_row (key_of o) w.store.rows)) same ∙ is))
     | inr other ↦ inl (sym (row_at-without_row_other (key_of o) k w.store.rows other) ∙ is)
   ];
   left = λ k old is none. elim (key_tells (key_of o) k) [
     | inl same ↦ record { last = o; written = record { is = refl; write = f.0; counted = refl }; key = same; leaving = f.1; removes = refl }
-    | inr other ↦ absurd (none_some (sym none ∙ row_at-without_row_other (key_of o) k w.store.rows other ∙ is))
+    | inr other ↦ absurd (none-some _ (sym none ∙ row_at-without_row_other (key_of o) k w.store.rows other ∙ is))
   ];
   rises = omega arith;
   logged = λ new h. inl h;
