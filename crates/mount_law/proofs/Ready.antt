@@ -25,32 +25,10 @@ use Rattle.world_invariant.specs.Was.{Was}
 use Rattle.world_invariant.proofs.Came.{row_was}
 use Rattle.world_invariant.specs.Good.{Good}
 use Rattle.std.proofs.lemmas.Bool.{and_parts}
-
--- keys that are equal by their test
-kind_of_index : ℕ → Kind
-kind_of_index n = if n == 0 then kinds.StorageClass else if n == 1 then kinds.Node else if n == 2 then kinds.PersistentVolume else if n == 3 then kinds.PersistentVolumeClaim else kinds.Pod
-
-kind_back : (k : Kind) → kind_of_index (kind_index k) ≡ k
-unfolding kind_of_index
-kind_back kinds.StorageClass = refl
-kind_back kinds.Node = refl
-kind_back kinds.PersistentVolume = refl
-kind_back kinds.PersistentVolumeClaim = refl
-kind_back kinds.Pod = refl
-
-pub key_same : (a b : Key) → same_key a b ≡ true → a ≡ b
-key_same a b e =
-    let t = and_parts (kind_index a.kind == kind_index b.kind && bytes_eq a.namespace b.namespace) (bytes_eq a.name b.name) e in
-    let s = and_parts (kind_index a.kind == kind_index b.kind) (bytes_eq a.namespace b.namespace) t.0 in
-    let s0 = s.0 in
-    let i : kind_index a.kind ≡ kind_index b.kind = grind (arith, nat_tests) in
-    let k : a.kind ≡ b.kind = sym (kind_back a.kind) ∙ ap kind_of_index i ∙ kind_back b.kind in
-    let n = same_text a.namespace b.namespace s.1 in
-    let m = same_text a.name b.name t.1 in
-    λ j. record { kind = k j; namespace = n j; name = m j }
+use Rattle.kube_types.proofs.SameKeys.{same_key-Decides}
 
 get_of : (key : Key) (request : Request) → is_get_of key request ≡ true → request ≡ requests.Get key
-get_of key (requests.Get asked) e = ap (λ (k : Key). requests.Get k) (key_same asked key e)
+get_of key (requests.Get asked) e = ap (λ (k : Key). requests.Get k) ((same_key-Decides asked key).0 e)
 get_of key request e = absurd (true≢false (sym e))
 
 -- what a Get found stands there

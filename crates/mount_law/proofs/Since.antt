@@ -34,7 +34,8 @@ use Rattle.model_laws.proofs.Versions.{versions_count_writes}
 use Rattle.model_laws.proofs.Readings.{lists_tell_what_stands}
 use Rattle.world_moves.specs.Writes.{IsIn}
 use Rattle.world_moves.specs.Writes.{is_watch}
-use Rattle.world_moves.proofs.Tells.{tells_now, events_some, some_take, some_reverse, some_filter, TellsIt}
+use Rattle.world_moves.proofs.Lists.{some_take, some_reverse, some_filter}
+use Rattle.world_moves.proofs.Tells.{tells_now, events_some, TellsIt}
 use Rattle.world_invariant.specs.Was.{Was, Stands}
 use Rattle.world_invariant.specs.Good.{Good}
 use Rattle.world_invariant.proofs.Known.{invariant_of, entry_tells}

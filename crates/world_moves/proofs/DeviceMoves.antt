@@ -21,6 +21,9 @@ use Rattle.world_moves.proofs.Tests.{same_text}
 use Rattle.std.proofs.lemmas.Bool.{and_parts, or_right, not-true}
 use Rattle.std.proofs.lemmas.Option.{none-some}
 use Rattle.world_moves.proofs.Tests.{uid_same}
+use Rattle.binder_model.specs.Devices.{put_mount}
+use Rattle.binder_model.proofs.Mounts.{put_was}
+use Rattle.world_moves.proofs.Lists.{some_filter}
 
 -- epochs and mounts as they were
 still : (d new : Devices) (request : Request) (reply : Reply) → new.epochs ≡ d.epochs → new.mounts ≡ d.mounts → DeviceMove d new request reply
@@ -82,10 +85,6 @@ take_move d node = record {
         }))
     by other false is = inl (rw is refl)
 
-mount_in_or : (m : MountAt) (xs ys : List MountAt) → MountIn m (xs ++ ys) → MountIn m xs ⊎ MountIn m ys
-mount_in_or m [] ys h = inr h
-mount_in_or m (x ∷ xs) ys h = elim h [ inl is ↦ inl (inl is) | inr more ↦ elim (mount_in_or m xs ys more) [ inl a ↦ inl (inr a) | inr b ↦ inr b ] ]
-
 mount_move : (d : Devices) (node : List ℕ) (epoch : ℕ) (pod : Uid) (claims : List Uid) → epoch ≡ epoch_of node d.epochs → DeviceMove d (with_mounts d node (with_mount node pod claims d.mounts)).devices (requests.Mount node epoch pod claims) (with_mounts d node (with_mount node pod claims d.mounts)).reply
 unfolding with_mounts
 mount_move d node epoch pod claims current = record {
@@ -93,27 +92,16 @@ mount_move d node epoch pod claims current = record {
   mount = λ m h. by m (is_mounted_on node pod d.mounts) h;
 }
   where
-    by : (m : MountAt) (b : Bool) → MountIn m (if b then d.mounts else d.mounts ++ (record { node = node; row = record { pod = pod; claims = claims } }) ∷ []) → MountIn m d.mounts ⊎ IsMounting d (requests.Mount node epoch pod claims) m
+    by : (m : MountAt) (b : Bool) → MountIn m (if b then d.mounts else put_mount (record { node = node; row = record { pod = pod; claims = claims } }) d.mounts) → MountIn m d.mounts ⊎ IsMounting d (requests.Mount node epoch pod claims) m
     by m true h = inl h
-    by m false h = elim (mount_in_or m d.mounts _ h) [
+    by m false h = elim (put_was (record { node = node; row = record { pod = pod; claims = claims } }) m d.mounts h) [
       | inl before ↦ inl before
-      | inr new ↦ elim new [
-        | inl is ↦ inr (subst (λ (x : MountAt). IsMounting d (requests.Mount node epoch pod claims) x) is (record { epoch = epoch; asked = refl; current = current }))
-        | inr none ↦ absurd none
-      ]
+      | inr is ↦ inr (subst (λ (x : MountAt). IsMounting d (requests.Mount node epoch pod claims) x) is (record { epoch = epoch; asked = refl; current = current }))
     ]
-
-kept_mount : (p : MountAt → Bool) (m : MountAt) (ms : List MountAt) → MountIn m (filter p ms) → MountIn m ms
-kept_mount p m [] h = absurd h
-kept_mount p m (x ∷ xs) h = by (p x) h (kept_mount p m xs)
-  where
-    by : (b : Bool) → MountIn m (cond b (x ∷ filter p xs) (filter p xs)) → (MountIn m (filter p xs) → MountIn m xs) → MountIn m (x ∷ xs)
-    by true h f = elim h [ inl is ↦ inl is | inr more ↦ inr (f more) ]
-    by false h f = inr (f h)
 
 unmount_move : (d : Devices) (node : List ℕ) (request : Request) (pod : Uid) → DeviceMove d (with_mounts d node (without_mount node pod d.mounts)).devices request (with_mounts d node (without_mount node pod d.mounts)).reply
 unfolding with_mounts
-unmount_move d node request pod = record { epoch = λ other. inl refl; mount = λ m h. inl (kept_mount _ m d.mounts h) }
+unmount_move d node request pod = record { epoch = λ other. inl refl; mount = λ m h. inl (some_filter (λ x. x ≡ m) _ d.mounts h) }
 
 devices_move : (setup : Setup) (d : Devices) (request : Request) → IsMove d request (device_answer setup d request)
 unfolding device_answer erase with_mounts

@@ -38,6 +38,7 @@ use Rattle.call_types.specs.declared.reply.Refusal.TheVariants.{Invalid, Gone}
 use Rattle.call_types.specs.declared.reply.Reply.TheVariants.{Events}
 use Rattle.binder_model.specs.Watching.{told_events}
 use Rattle.world_moves.proofs.Effects.{effect_form}
+use Rattle.world_moves.proofs.Lists.{some_or, some_left, some_right, some_take, some_reverse, some_filter}
 
 -- the devices tell of no object
 abbrev IsMute : Option DeviceAnswer → Type 0
@@ -81,18 +82,6 @@ devices_mute setup d _ = tt
 abbrev pub TellsIt : Object → Event → Type 0
 TellsIt o e = IsIn o (objects_of_event e.change e.object)
 
-some_or : {X : Type 0} (P : X → Type 0) (xs ys : List X) → SomeOf P (xs ++ ys) → SomeOf P xs ⊎ SomeOf P ys
-some_or P [] ys h = inr h
-some_or P (x ∷ xs) ys h = elim h [ inl is ↦ inl (inl is) | inr more ↦ elim (some_or P xs ys more) [ inl a ↦ inl (inr a) | inr b ↦ inr b ] ]
-
-pub some_left : {X : Type 0} (P : X → Type 0) (xs ys : List X) → SomeOf P xs → SomeOf P (xs ++ ys)
-some_left P [] ys h = absurd h
-some_left P (x ∷ xs) ys h = elim h [ inl is ↦ inl is | inr more ↦ inr (some_left P xs ys more) ]
-
-pub some_right : {X : Type 0} (P : X → Type 0) (xs ys : List X) → SomeOf P ys → SomeOf P (xs ++ ys)
-some_right P [] ys h = h
-some_right P (x ∷ xs) ys h = inr (some_right P xs ys h)
-
 pub events_some : (o : Object) (es : List Event) → IsIn o (objects_of_events es) → SomeOf (TellsIt o) es
 events_some o [] h = absurd h
 events_some o (e ∷ es) h = elim (some_or (λ x. x ≡ o) (objects_of_event e.change e.object) (objects_of_events es) h) [ inl is ↦ inl is | inr more ↦ inr (events_some o es more) ]
@@ -100,26 +89,6 @@ events_some o (e ∷ es) h = elim (some_or (λ x. x ≡ o) (objects_of_event e.c
 some_events : (o : Object) (es : List Event) → SomeOf (TellsIt o) es → IsIn o (objects_of_events es)
 some_events o [] h = absurd h
 some_events o (e ∷ es) h = elim h [ inl is ↦ some_left (λ x. x ≡ o) (objects_of_event e.change e.object) (objects_of_events es) is | inr more ↦ some_right (λ x. x ≡ o) (objects_of_event e.change e.object) (objects_of_events es) (some_events o es more) ]
-
-pub some_take : {X : Type 0} (P : X → Type 0) (n : ℕ) (xs : List X) → SomeOf P (take n xs) → SomeOf P xs
-some_take P zero xs h = absurd h
-some_take P (suc n) [] h = absurd h
-some_take P (suc n) (x ∷ xs) h = elim h [ inl is ↦ inl is | inr more ↦ inr (some_take P n xs more) ]
-
-pub some_reverse : {X : Type 0} (P : X → Type 0) (xs : List X) → SomeOf P (reverse xs) → SomeOf P xs
-some_reverse P [] h = absurd h
-some_reverse P (x ∷ xs) h = elim (some_or P (reverse xs) (x ∷ []) (subst (SomeOf P) (reverse_onto xs x []) h)) [
-  | inl rest ↦ inr (some_reverse P xs rest)
-  | inr last ↦ elim last [ inl is ↦ inl is | inr none ↦ absurd none ]
-]
-
-pub some_filter : {X : Type 0} (P : X → Type 0) (p : X → Bool) (xs : List X) → SomeOf P (filter p xs) → SomeOf P xs
-some_filter P p [] h = absurd h
-some_filter P p (x ∷ xs) h = by (p x) h (some_filter P p xs)
-  where
-    by : (b : Bool) → SomeOf P (cond b (x ∷ filter p xs) (filter p xs)) → (SomeOf P (filter p xs) → SomeOf P xs) → SomeOf P (x ∷ xs)
-    by true h f = elim h [ inl is ↦ inl is | inr more ↦ inr (f more) ]
-    by false h f = inr (f h)
 
 -- what a watch tells, the log has
 watched : (k : Kind) (from : ℕ) (log : List Event) (o : Object) → IsIn o (objects_of_events (take most_events (reverse (filter (is_later k from) log)))) → IsIn o (objects_of_events log)
