@@ -38,10 +38,9 @@ use Rattle.binder_model.specs.BinderLicence.{WasReadGone, MayComplete}
 use Rattle.binder_model.specs.OpsLicence.{MayCreate, MayClearNode}
 use Rattle.binder_model.specs.Licence.{Licensed, BinderVolume, BinderPhase, OpsPhase, VolumeGuard, ClaimGuard, SchedulerVolume}
 use Rattle.binder_model.specs.SchedulerLicence.{MaySelectNode}
-use Rattle.binder_model.specs.Told.{ToldVolume, ToldClaim}
+use Rattle.binder_model.specs.Told.{ToldVolume, ToldClaim, own}
 use Rattle.binder_model.specs.World.{world}
 use Rattle.binder_model.specs.Same.{same_names}
-use Rattle.binder_model.specs.Run.{own}
 use Rattle.world_moves.specs.Writes.{IsCreate, IsUpdate, IsEdit, IsStatus, IsMark, Writes}
 use Rattle.world_moves.proofs.Whence.{created_first, updated_next, status_next, marked_next, bound_next, finished_next}
 use Rattle.world_moves.proofs.Newest.{newest_told}
@@ -58,6 +57,8 @@ use Rattle.std.proofs.lemmas.Bool.{and_parts, not-false}
 use Rattle.std.proofs.lemmas.Option.{same_Some}
 use Rattle.world_moves.proofs.Objects.{same_volume}
 use Rattle.world_moves.proofs.Objects.{same_claim as same_claim_object}
+use Rattle.std.specs.Prelude.{◌<◌, ◌+◌}
+use Rattle.binder_model.specs.Imports.{most_serials}
 
 -- what is known by what the seat was told
 pub record Known (setup : Setup) (past mine : List Entry) : Type 1 where
@@ -340,8 +341,9 @@ create_start setup past mine known seats.Ops lacks default (Volume v) n moment l
 create_start setup past mine known seats.Ops lacks default new n moment l fault g = absurd l.1
 create_start setup past mine known kind lacks default new n moment l fault g = absurd l.1
 
-create_made : (setup : Setup) (past mine : List Entry) → Known setup past mine → (kind : SeatKind) (new o : Object) → Licensed kind mine (requests.Create new) → IsCreate (world setup past).store kind (world setup past).moment new o → Made setup past o
-create_made setup past mine known kind new o l c = inl (record {
+create_made : (setup : Setup) (past mine : List Entry) → (world setup past).store.version + 1 < most_serials → Known setup past mine → (kind : SeatKind) (new o : Object) → Licensed kind mine (requests.Create new) → IsCreate (world setup past).store kind (world setup past).moment new o → Made setup past o
+create_made setup past mine room known kind new o l c = inl (record {
+  room = room;
   first = created_first (world setup past).store kind (world setup past).moment new o c;
   start = subst (KindStart setup past) (sym c.is) (create_start setup past mine known kind _ _ new _ _ l c.fault c.guard);
 })
@@ -351,12 +353,13 @@ edit_made : (setup : Setup) (past mine : List Entry) → Invariant setup past �
 edit_made setup past mine inv seats.User key change o l f = edited_made setup past inv f.new o f.update
 edit_made setup past mine inv kind key change o l f = absurd l.1
 
-pub made : (setup : Setup) (past mine : List Entry) → Invariant setup past → Known setup past mine → (kind : SeatKind) (request : Request) → Licensed kind mine request → (o : Object) → Writes (world setup past) kind request o → Made setup past o
-made setup past mine inv known kind (requests.Create new) l o f = create_made setup past mine known kind new o l f
-made setup past mine inv known kind (requests.Update new given) l o f = update_made setup past mine inv known kind new given o l f
-made setup past mine inv known kind (requests.UpdateStatus key status given) l o f = status_made setup past mine inv known kind key status given o l f
-made setup past mine inv known kind (requests.Edit key change) l o f = edit_made setup past mine inv kind key change o l f
-made setup past mine inv known kind (requests.Delete key given) l o f = mark_made setup past inv key given o f
-made setup past mine inv known kind (requests.BindPod key uid node) l o f = inr (record { old = Pod f.pod; next = bound_next (world setup past).store kind key uid node o f; step = subst (KindStep setup past (Pod f.pod)) (sym f.is) (bind_step_pod setup past f.pod node _ f.unscheduled) })
-made setup past mine inv known kind (requests.FinishPod key uid node epoch) l o f = inr (record { old = Pod f.pod; next = finished_next (world setup past).store kind key uid node _ o f; step = subst (KindStep setup past (Pod f.pod)) (sym f.is) (finish_step_pod setup past f.pod _) })
-made setup past mine inv known kind request l o f = absurd f
+-- each write of an allowed request is one that any run may make
+pub made : (setup : Setup) (past mine : List Entry) → (world setup past).store.version + 1 < most_serials → Invariant setup past → Known setup past mine → (kind : SeatKind) (request : Request) → Licensed kind mine request → (o : Object) → Writes (world setup past) kind request o → Made setup past o
+made setup past mine room inv known kind (requests.Create new) l o f = create_made setup past mine room known kind new o l f
+made setup past mine room inv known kind (requests.Update new given) l o f = update_made setup past mine inv known kind new given o l f
+made setup past mine room inv known kind (requests.UpdateStatus key status given) l o f = status_made setup past mine inv known kind key status given o l f
+made setup past mine room inv known kind (requests.Edit key change) l o f = edit_made setup past mine inv kind key change o l f
+made setup past mine room inv known kind (requests.Delete key given) l o f = mark_made setup past inv key given o f
+made setup past mine room inv known kind (requests.BindPod key uid node) l o f = inr (record { old = Pod f.pod; next = bound_next (world setup past).store kind key uid node o f; step = subst (KindStep setup past (Pod f.pod)) (sym f.is) (bind_step_pod setup past f.pod node _ f.unscheduled) })
+made setup past mine room inv known kind (requests.FinishPod key uid node epoch) l o f = inr (record { old = Pod f.pod; next = finished_next (world setup past).store kind key uid node _ o f; step = subst (KindStep setup past (Pod f.pod)) (sym f.is) (finish_step_pod setup past f.pod _) })
+made setup past mine room inv known kind request l o f = absurd f

@@ -20,8 +20,7 @@ use Rattle.binder_model.specs.GuardLicence.{IsDeletingVersion, TellsUnused, MayU
 use Rattle.binder_model.specs.Licence.{GuardsClaim}
 use Rattle.binder_model.specs.OpsLicence.{MayClearNode}
 use Rattle.binder_model.specs.SchedulerLicence.{MaySelectNode}
-use Rattle.binder_model.specs.Told.{ToldClaim, After}
-use Rattle.binder_model.specs.Run.{own}
+use Rattle.binder_model.specs.Told.{ToldClaim, After, own}
 use Rattle.world_invariant.specs.Was.{ClaimStep}
 use Rattle.world_invariant.proofs.KeptBindings.{carries_on}
 use Rattle.world_invariant.specs.Good.{IsTrue}

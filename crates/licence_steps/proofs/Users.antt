@@ -127,8 +127,9 @@ is_none_none (Some r) e = absurd (true≢false (sym e))
 
 cleared : (old new : VolumeData) → clears_released (Some (Volume old)) (Volume new) ≡ true → IsCleared old new
 cleared old new e =
-    let t = and_parts (is_in_phase_released old.phase && not (is_delete old.policy)) (is_none new.claim_ref) e in
-    let s = and_parts (is_in_phase_released old.phase) (not (is_delete old.policy)) t.0 in
+    let t = and_parts (is_in_phase_released old.phase && not (is_delete old.policy) && is_some old.claim_ref) (is_none new.claim_ref) e in
+    let r = and_parts (is_in_phase_released old.phase && not (is_delete old.policy)) (is_some old.claim_ref) t.0 in
+    let s = and_parts (is_in_phase_released old.phase) (not (is_delete old.policy)) r.0 in
     record { phase = s.0; policy = not-true _ s.1; none = is_none_none new.claim_ref t.1 }
 
 user_refers : (o new : VolumeData) (r : Ref) (uid : Uid) → Reference o.claim_ref new.claim_ref (clears_released (Some (Volume o)) (Volume new)) → Refers new r uid → Refers o r uid

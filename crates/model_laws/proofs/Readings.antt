@@ -14,6 +14,7 @@ use Rattle.binder_model.specs.Devices.{device_answer}
 use Rattle.binder_model.specs.Told.{SomeOf}
 use Rattle.binder_model.specs.World.{effect, on_devices, reply_to}
 use Rattle.model_laws.specs.Reads.{found, fits_namespace, GetsTellWhatStands, ListsTellWhatStands}
+use Rattle.kube_types.specs.declared.parts.Kind.{Kind}
 
 abbrev IsIn : {X : Type 0} → X → List X → Type 0
 IsIn x xs = SomeOf (λ y. y ≡ x) xs

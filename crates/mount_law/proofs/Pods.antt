@@ -22,7 +22,8 @@ use Rattle.binder_model.specs.Devices.{epoch_of}
 use Rattle.binder_model.specs.AgentLicence.{MayFinish, never_finished, is_finish_of}
 use Rattle.binder_model.specs.Licence.{Licensed}
 use Rattle.binder_model.specs.World.{World, OnStore, world}
-use Rattle.binder_model.specs.Run.{Run, own}
+use Rattle.binder_model.specs.Told.{own}
+use Rattle.binder_model.specs.Run.{Run}
 use Rattle.binder_model.specs.Store.{at_version}
 use Rattle.model_laws.proofs.Identity.{key-at_version}
 use Rattle.world_moves.specs.Writes.{IsLeaving, Writes, PodGoes}

@@ -6,7 +6,7 @@ use Rattle.kube_types.specs.declared.key.Key.{Key}
 use Rattle.kube_types.specs.declared.parts.Kind.{Kind}
 use Rattle.kube_types.specs.declared.parts.Kind.TheVariants as kinds
 use Rattle.kube_types.specs.declared.objects.Object.{Object}
-use Rattle.kube_types.specs.Keys.{key_of, kind_index, row_at, same_key}
+use Rattle.kube_types.specs.Keys.{key_of, kind_index, row_at}
 use Rattle.kube_types.proofs.KeyOrder.{row_at_key}
 use Rattle.call_types.specs.declared.entry.Entry.{Entry}
 use Rattle.call_types.specs.declared.setup.Setup.{Setup}
@@ -14,10 +14,10 @@ use Rattle.call_types.specs.declared.request.Request.{Request}
 use Rattle.call_types.specs.declared.request.Request.TheVariants as requests
 use Rattle.call_types.specs.declared.reply.Reply.{Reply}
 use Rattle.call_types.specs.declared.reply.Reply.TheVariants.{Found}
-use Rattle.binder_model.specs.Told.{SomeOf}
+use Rattle.binder_model.specs.ObjectKeys.{same_key}
+use Rattle.binder_model.specs.Told.{SomeOf, own}
 use Rattle.binder_model.specs.AgentLicence.{is_get_of, last_get, since_epoch, epoch_in}
 use Rattle.binder_model.specs.World.{world, effect, reply_to}
-use Rattle.binder_model.specs.Run.{own}
 use Rattle.model_laws.specs.Reads.{found}
 use Rattle.model_laws.proofs.Readings.{gets_tell_what_stands}
 use Rattle.world_moves.proofs.Tests.{same_text}

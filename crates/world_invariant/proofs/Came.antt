@@ -22,6 +22,8 @@ use Rattle.world_invariant.specs.Invariant.{IsOld, IsLater}
 use Rattle.world_invariant.specs.Good.{MovesAt}
 use Rattle.std.proofs.lemmas.Option.{same_Some}
 use Rattle.world_moves.proofs.Objects.{volume_keyed, claim_keyed}
+use Rattle.std.specs.Prelude.{◌<◌}
+use Rattle.binder_model.specs.Imports.{most_serials}
 
 abbrev pub WrittenAt : Setup → Entry → List Entry → Object → Type 0
 WrittenAt setup e past o = IsWritten (world setup past) (effect setup (world setup past) e.kind e.request) (Made setup past) o
@@ -67,11 +69,12 @@ pub record VolumeCame (setup : Setup) (past : List Entry) (v : VolumeData) : Typ
   pub step : VolumeStep setup past old v
 
 pub record VolumeBegan (setup : Setup) (past : List Entry) (v : VolumeData) : Type 0 where
+  pub room : (world setup past).store.version + 1 < most_serials
   pub first : IsFirst (world setup past).store (Volume v)
   pub start : VolumeStart setup past v
 
 pub volume_came : (setup : Setup) (past : List Entry) (v : VolumeData) → Made setup past (Volume v) → VolumeBegan setup past v ⊎ VolumeCame setup past v
-volume_came setup past v (inl s) = inl (record { first = s.first; start = s.start })
+volume_came setup past v (inl s) = inl (record { room = s.room; first = s.first; start = s.start })
 volume_came setup past v (inr f) = by f.old f.next f.step (volume_keyed f.old v f.next.key)
   where
     by : (old : Object) → IsNext (world setup past).store old (Volume v) → KindStep setup past old (Volume v) → (a : VolumeData) × (old ≡ Volume a) → VolumeBegan setup past v ⊎ VolumeCame setup past v
@@ -87,11 +90,12 @@ pub record ClaimCame (setup : Setup) (past : List Entry) (c : ClaimData) : Type 
   pub step : ClaimStep setup past old c
 
 pub record ClaimBegan (setup : Setup) (past : List Entry) (c : ClaimData) : Type 0 where
+  pub room : (world setup past).store.version + 1 < most_serials
   pub first : IsFirst (world setup past).store (Claim c)
   pub start : ClaimStart setup past c
 
 pub claim_came : (setup : Setup) (past : List Entry) (c : ClaimData) → Made setup past (Claim c) → ClaimBegan setup past c ⊎ ClaimCame setup past c
-claim_came setup past c (inl s) = inl (record { first = s.first; start = s.start })
+claim_came setup past c (inl s) = inl (record { room = s.room; first = s.first; start = s.start })
 claim_came setup past c (inr f) = by f.old f.next f.step (claim_keyed f.old c f.next.key)
   where
     by : (old : Object) → IsNext (world setup past).store old (Claim c) → KindStep setup past old (Claim c) → (a : ClaimData) × (old ≡ Claim a) → ClaimBegan setup past c ⊎ ClaimCame setup past c
@@ -104,15 +108,15 @@ claim_came setup past c (inr f) = by f.old f.next f.step (claim_keyed f.old c f.
 -- UIDs
 
 -- the UID of the next write is not one of an object that was
-pub fresh : {G : Type 0} (version : ℕ) (uid : Option Uid) → IsOld version uid → uid ≡ Some (uid_of_serial (version + 1)) → G
-fresh version uid old is = absurd (old (version + 1) (omega arith) is)
+pub fresh : {G : Type 0} {version : ℕ} → version + 1 < most_serials → (uid : Option Uid) → IsOld version uid → uid ≡ Some (uid_of_serial (version + 1)) → G
+fresh {version = version} room uid old is = absurd (old (version + 1) (omega arith) room is)
 
 pub older : (n m : ℕ) (uid : Option Uid) → n ≤ m → IsOld n uid → IsOld m uid
-older n m uid low old k above = old k (omega (arith, low, above))
+older n m uid low old k above below = old k (omega (arith, low, above)) below
 
 -- the UID that a write gives is not that of a later one
 pub given_old : (version : ℕ) (uid : Option Uid) → uid ≡ Some (uid_of_serial (version + 1)) → IsOld (version + 1) uid
-given_old version uid is k above same =
+given_old version uid is k above below same =
     let e : version + 1 ≡ k = serials_apart (version + 1) k (same_Some _ _ (sym is ∙ same)) in
     omega (arith, e, above)
 

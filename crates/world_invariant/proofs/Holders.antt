@@ -12,10 +12,9 @@ use Rattle.call_types.specs.declared.reply.Reply.{Reply}
 use Rattle.call_types.specs.declared.reply.Reply.TheVariants as replies
 use Rattle.binder_model.specs.Answers.{is_user, reply_of}
 use Rattle.binder_model.specs.Devices.{epoch_of, take_node, device_answer}
-use Rattle.binder_model.specs.Told.{first_some}
+use Rattle.binder_model.specs.Told.{first_some, own}
 use Rattle.binder_model.specs.AgentLicence.{epoch_told, epoch_in, last_epoch, since_epoch}
 use Rattle.binder_model.specs.World.{World, Effect, OnDevices, world, effect, reply_to, world_after, on_devices, refused_rule}
-use Rattle.binder_model.specs.Run.{own}
 use Rattle.world_moves.proofs.DeviceMoves.{device_moves}
 use Rattle.world_invariant.specs.Good.{Good}
 use Rattle.world_invariant.specs.Holders.{epoch_now, Holds}

@@ -16,19 +16,20 @@ use Rattle.kube_types.specs.Bindings.{is_ended, is_bound, is_completed, is_prote
 use Rattle.kube_types.proofs.KeyOrder.{row_at_key}
 use Rattle.call_types.specs.declared.entry.Entry.{Entry}
 use Rattle.call_types.specs.declared.setup.Setup.{Setup}
-use Rattle.binder_model.specs.BindWrites.{volume_key}
+use Rattle.binder_model.specs.ObjectKeys.{volume_key}
 use Rattle.binder_model.specs.World.{world}
 use Rattle.binder_model.specs.Store.{leaves}
 use Rattle.world_moves.specs.Writes.{IsLeaving}
 use Rattle.world_moves.specs.Whence.{Keeps}
 use Rattle.world_invariant.proofs.KeptObjects.{kept_placed, kept_later}
 use Rattle.world_invariant.specs.Was.{Was, IsPlaced, Made, NamesOther, OfThoseWith, IsAway, IsNotThere, Refers, WasNamed, WasBound, IsFinal, VolumeStep}
-use Rattle.world_invariant.specs.Invariant.{Invariant, IsOld, NamesAtMost, StillBound}
+use Rattle.world_invariant.specs.Invariant.{Invariant, IsReferred, IsOld, NamesAtMost, StillBound}
 use Rattle.world_invariant.specs.Good.{MovesAt}
-use Rattle.world_invariant.proofs.Came.{row_was, new_or, fresh, VolumeCame, volume_came, ClaimCame, claim_came}
+use Rattle.world_invariant.proofs.Came.{older, row_was, new_or, fresh, VolumeCame, volume_came, ClaimCame, claim_came}
 use Rattle.call_types.specs.declared.request.Request.{Request}
 use Rattle.std.proofs.lemmas.Option.{none-some}
 use Rattle.world_moves.proofs.Objects.{volume_keyed, some_volume}
+use Rattle.binder_model.specs.Safe.{was_imported_as_lost}
 
 -- the claims of an old UID
 
@@ -38,7 +39,7 @@ pub kept_of : (setup : Setup) (e : Entry) (past : List Entry) → MovesAt setup 
 kept_of setup e past m Q stable uid old holds k c is its = elim (m.row k (Claim c) is) [
   | inl there ↦ holds k c there its
   | inr new ↦ elim (claim_came setup past c new.write) [
-    | inl began ↦ fresh _ (Some uid) old (sym its ∙ began.first.uid)
+    | inl began ↦ fresh began.room (Some uid) old (sym its ∙ began.first.uid)
     | inr came ↦ stable came.old c came.next.keeps (holds (key_of (Claim c)) came.old came.next.there (sym came.next.keeps.uid ∙ its))
   ]
 ]
@@ -57,26 +58,38 @@ kept_not_there setup e past m uid old gone = kept_of setup e past m (λ c. ⊥) 
 
 -- references
 
-later_named : (setup : Setup) (e : Entry) (past : List Entry) (r : Ref) (uid : Uid) → WasNamed setup past r uid → WasNamed setup (e ∷ past) r uid
-later_named setup e past r uid n = record { claim = n.claim; was = inl n.was; placed = n.placed; named = n.named; its = n.its }
+named_referred : (setup : Setup) (past : List Entry) → Invariant setup past → (r : Ref) (uid : Uid) → WasNamed setup past r uid → IsReferred setup past r uid
+named_referred setup past inv r uid n = record {
+  old = subst (IsOld (world setup past).store.version) n.its (inv.old (Claim n.claim) n.was);
+  named = λ c was its. inv.keyed (Claim c) (Claim n.claim) was n.was (its ∙ sym n.its) ∙ (λ i. record { kind = kinds.PersistentVolumeClaim; namespace = n.placed i; name = n.named i });
+}
 
-pub kept_refers : (setup : Setup) (e : Entry) (past : List Entry) → Invariant setup past → MovesAt setup e past → (v : VolumeData) (r : Ref) (uid : Uid) → Was setup (e ∷ past) (Volume v) → Refers v r uid → WasNamed setup (e ∷ past) r uid
-kept_refers setup e past inv m v r uid was is = later_named setup e past r uid (elim (new_or setup e past m (Volume v) was) [
+later_referred : (setup : Setup) (e : Entry) (past : List Entry) → MovesAt setup e past → (r : Ref) (uid : Uid) → IsReferred setup past r uid → IsReferred setup (e ∷ past) r uid
+later_referred setup e past m r uid x = record {
+  old = older _ _ (Some uid) m.rises x.old;
+  named = λ c was its. elim (new_or setup e past m (Claim c) was) [
+    | inl before ↦ x.named c before its
+    | inr new ↦ elim (claim_came setup past c new.written.write) [
+      | inl began ↦ fresh began.room (Some uid) x.old (sym its ∙ began.first.uid)
+      | inr came ↦ came.next.key ∙ x.named came.old (row_was setup past (key_of (Claim c)) (Claim came.old) came.next.there) (sym came.next.keeps.uid ∙ its)
+    ]
+  ];
+}
+
+pub kept_refers : (setup : Setup) (e : Entry) (past : List Entry) → Invariant setup past → MovesAt setup e past → (v : VolumeData) (r : Ref) (uid : Uid) → Was setup (e ∷ past) (Volume v) → Refers v r uid → IsReferred setup (e ∷ past) r uid
+kept_refers setup e past inv m v r uid was is = later_referred setup e past m r uid (elim (new_or setup e past m (Volume v) was) [
   | inl before ↦ inv.refers v r uid before is
   | inr new ↦ elim (volume_came setup past v new.written.write) [
-    | inl began ↦ began.start.refers r uid is
+    | inl began ↦ named_referred setup past inv r uid (began.start.refers r uid is)
     | inr came ↦ elim (came.step.refers r uid is) [
       | inl same ↦ inv.refers came.old r uid (row_was setup past (key_of (Volume v)) (Volume came.old) came.next.there) same
-      | inr named ↦ named
+      | inr named ↦ named_referred setup past inv r uid named
     ]
   ]
 ])
 
-pub named_old : (setup : Setup) (past : List Entry) → Invariant setup past → (r : Ref) (uid : Uid) → WasNamed setup past r uid → IsOld (world setup past).store.version (Some uid)
-named_old setup past inv r uid n = subst (IsOld (world setup past).store.version) n.its (inv.old (Claim n.claim) n.was)
-
 pub refers_old : (setup : Setup) (past : List Entry) → Invariant setup past → (v : VolumeData) (r : Ref) (uid : Uid) → Was setup past (Volume v) → Refers v r uid → IsOld (world setup past).store.version (Some uid)
-refers_old setup past inv v r uid was is = named_old setup past inv r uid (inv.refers v r uid was is)
+refers_old setup past inv v r uid was is = (inv.refers v r uid was is).old
 
 came_was : (setup : Setup) (past : List Entry) (v : VolumeData) → (came : VolumeCame setup past v) → Was setup past (Volume came.old)
 came_was setup past v came = row_was setup past (key_of (Volume v)) (Volume came.old) came.next.there
@@ -84,7 +97,7 @@ came_was setup past v came = row_was setup past (key_of (Volume v)) (Volume came
 step_old : (setup : Setup) (past : List Entry) → Invariant setup past → (v : VolumeData) → VolumeCame setup past v → (r : Ref) (uid : Uid) → Refers v r uid → IsOld (world setup past).store.version (Some uid)
 step_old setup past inv v came r uid is = elim (came.step.refers r uid is) [
   | inl same ↦ refers_old setup past inv came.old r uid (came_was setup past v came) same
-  | inr named ↦ named_old setup past inv r uid named
+  | inr named ↦ (named_referred setup past inv r uid named).old
 ]
 
 -- phases
@@ -150,13 +163,13 @@ from_old setup past inv c came b = record {
   ];
 }
 
-pub kept_completed : (setup : Setup) (e : Entry) (past : List Entry) → Invariant setup past → MovesAt setup e past → (k : Key) (c : ClaimData) → row_at k (world setup (e ∷ past)).store.rows ≡ Some (Claim c) → is_completed c ≡ true → WasBound setup (e ∷ past) c
-kept_completed setup e past inv m k c is done = later_bound setup e past c (elim (m.row k (Claim c) is) [
-  | inl there ↦ inv.completed k c there done
+pub kept_completed : (setup : Setup) (e : Entry) (past : List Entry) → Invariant setup past → MovesAt setup e past → (k : Key) (c : ClaimData) → row_at k (world setup (e ∷ past)).store.rows ≡ Some (Claim c) → is_completed c ≡ true → was_imported_as_lost setup c.meta.uid ≡ false → WasBound setup (e ∷ past) c
+kept_completed setup e past inv m k c is done found = later_bound setup e past c (elim (m.row k (Claim c) is) [
+  | inl there ↦ inv.completed k c there done found
   | inr new ↦ elim (claim_came setup past c new.write) [
     | inl began ↦ absurd (true≢false (sym done ∙ began.start.fresh))
     | inr came ↦ elim (came.step.completed done) [
-      | inl before ↦ from_old setup past inv c came (inv.completed (key_of (Claim c)) came.old came.next.there before)
+      | inl before ↦ from_old setup past inv c came (inv.completed (key_of (Claim c)) came.old came.next.there before (ap (was_imported_as_lost setup) (sym came.next.keeps.uid) ∙ found))
       | inr bound ↦ bound
     ]
   ]
@@ -254,7 +267,7 @@ kept_binding setup e past inv m v r uid k c was bound refers there its most = el
       kept_bound setup e past inv m v.meta.name r uid k c refers.known old (elim (m.row k (Claim c) there) [
         | inl same ↦ inv.binding v r uid k c before bound refers same its most
         | inr new ↦ elim (claim_came setup past c new.write) [
-          | inl began ↦ fresh _ (Some uid) old (sym its ∙ began.first.uid)
+          | inl began ↦ fresh began.room (Some uid) old (sym its ∙ began.first.uid)
           | inr came ↦ inv.binding v r uid (key_of (Claim c)) came.old before bound refers came.next.there (sym came.next.keeps.uid ∙ its) (at_most_before v.meta.name came.old c came.next.keeps most)
         ]
       ]) there its most
@@ -268,7 +281,7 @@ lasts_before : (setup : Setup) (e : Entry) (past : List Entry) → Invariant set
 lasts_before setup e past inv m v r uid k x was refers final is same = elim (m.row k (Volume x) is) [
   | inl there ↦ inv.lasts v r uid k x was refers final there same
   | inr new ↦ elim (volume_came setup past x new.write) [
-    | inl began ↦ fresh _ v.meta.uid (inv.old (Volume v) was) (sym same ∙ began.first.uid)
+    | inl began ↦ fresh began.room v.meta.uid (inv.old (Volume v) was) (sym same ∙ began.first.uid)
     | inr came ↦
         let f = inv.lasts v r uid (key_of (Volume x)) came.old was refers final came.next.there (sym came.next.keeps.uid ∙ same) in
         came.step.lasts r uid (record { is = f.refers; known = refers.known }) f.released f.policy

@@ -4,8 +4,7 @@ use Rattle.kube_types.specs.declared.objects.Object.{Object}
 use Rattle.call_types.specs.declared.entry.Entry.{Entry}
 use Rattle.call_types.specs.declared.setup.Setup.{Setup}
 use Rattle.binder_model.specs.World.{world, effect, reply_to}
-use Rattle.binder_model.specs.Told.{ToldObject}
-use Rattle.binder_model.specs.Run.{own}
+use Rattle.binder_model.specs.Told.{ToldObject, own}
 use Rattle.world_moves.specs.Moves.{Moves}
 use Rattle.world_invariant.specs.Was.{Was, Made}
 use Rattle.world_invariant.specs.Invariant.{Invariant}

@@ -14,7 +14,7 @@ use Rattle.binder_model.specs.Answers.{Outcome, is_user, reply_of}
 use Rattle.binder_model.specs.Devices.{Data, first_fit, Devices, DeviceAnswer, MountAt, epoch_of, after_call, provision_new, provision, erase, unless_planned, unless_stale, take_node, with_mounts, device_answer, data_named, is_planned, epoch_if_stale, with_mount, without_mount, rows_on, is_mounted_on}
 use Rattle.binder_model.specs.Watching.{oldest}
 use Rattle.binder_model.specs.AgentLicence.{has_row, is_of_epoch, lacks_pod}
-use Rattle.binder_model.specs.World.{World, Effect, OnStore, OnDevices, SetsMoment, effect, reply_to, world_after, on_devices, set_time, watch, is_time, refused_rule}
+use Rattle.binder_model.specs.World.{base, World, Effect, OnStore, OnDevices, SetsMoment, effect, reply_to, world_after, on_devices, set_time, watch, is_time, refused_rule}
 use Rattle.binder_model.specs.Same.{same_uid}
 use Rattle.world_moves.specs.DeviceMoves.{MountIn, IsMounting, IsTaking, DeviceMove, EffectMove}
 use Rattle.world_moves.proofs.Tests.{same_text}
@@ -142,7 +142,7 @@ unfolding effect set_time watch
 device_moves setup w kind (requests.SetTime at) = test (is_time at) (SetsMoment _) (OnStore _) (at_moment w kind _ at) (λ b. on_store w kind _ _)
 device_moves setup w kind (requests.Watch k from) =
     test (nat_lt w.store.version from) (OnStore _) _ (on_store w kind _ _)
-    (λ c. test (nat_lt from (oldest w.store.version)) (OnStore _) (OnStore _) (on_store w kind _ _) (λ b. on_store w kind _ _))
+    (λ c. test (nat_lt from (oldest (base setup) w.store.version)) (OnStore _) (OnStore _) (on_store w kind _ _) (λ b. on_store w kind _ _))
 device_moves setup w kind request = asked w kind request _ (devices_move setup w.devices request)
 
 -- what a list of a node's mounts tells

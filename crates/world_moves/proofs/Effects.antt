@@ -11,7 +11,7 @@ use Rattle.call_types.specs.declared.reply.Reply.TheVariants.{Refused}
 use Rattle.binder_model.specs.Answers.{Says, is_user}
 use Rattle.binder_model.specs.Devices.{DeviceAnswer, device_answer}
 use Rattle.binder_model.specs.Watching.{oldest}
-use Rattle.binder_model.specs.World.{World, Effect, OnStore, OnDevices, SetsMoment, effect, watch, on_devices, set_time, is_time}
+use Rattle.binder_model.specs.World.{base, World, Effect, OnStore, OnDevices, SetsMoment, effect, watch, on_devices, set_time, is_time}
 use Rattle.world_moves.specs.Writes.{EffectOf, CallsComeToWhatWasAsked}
 use Rattle.world_moves.proofs.Forms.{outcome_form}
 
@@ -36,7 +36,7 @@ unfolding effect set_time watch
 effect_is setup w kind (requests.SetTime at) rows = test (is_time at) (SetsMoment _) (OnStore _) (λ e. record { is = refl }) (λ e. refused _)
 effect_is setup w kind (requests.Watch k from) rows =
     test (nat_lt w.store.version from) (OnStore _) _ (λ e. refused _)
-    (λ f. test (nat_lt from (oldest w.store.version)) (OnStore _) (OnStore _) (λ e. refused _) (λ e. record { is = λ other. absurd (true≢false other) }))
+    (λ f. test (nat_lt from (oldest (base setup) w.store.version)) (OnStore _) (OnStore _) (λ e. refused _) (λ e. record { is = λ other. absurd (true≢false other) }))
 effect_is setup w kind request rows = asked setup w kind request _ refl rows
 
 pub effect_form : CallsComeToWhatWasAsked

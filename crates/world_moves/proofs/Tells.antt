@@ -28,7 +28,7 @@ use Rattle.binder_model.specs.Answers.{Outcome, Says, Stores, Removes, is_user, 
 use Rattle.binder_model.specs.Devices.{Devices, Data, data_named, first_fit, epoch_if_stale, DeviceAnswer, provision_new, provision, erase, unless_planned, unless_stale, take_node, with_mounts, device_answer, is_planned}
 use Rattle.binder_model.specs.Told.{SomeOf, objects_in, objects_of_event, objects_of_events}
 use Rattle.binder_model.specs.Watching.{oldest, is_later, most_events}
-use Rattle.binder_model.specs.World.{World, Effect, OnStore, OnDevices, SetsMoment, effect, watch, on_devices, set_time, is_time, reply_to, world_after}
+use Rattle.binder_model.specs.World.{base, World, Effect, OnStore, OnDevices, SetsMoment, effect, watch, on_devices, set_time, is_time, reply_to, world_after}
 use Rattle.model_laws.proofs.Readings.{lists_tell_what_stands}
 use Rattle.world_moves.specs.Writes.{IsIn}
 use Rattle.world_moves.specs.Tellings.{TellsTrue, TellsNow, AnswersAreTrue, AnswersTellTheMoment}
@@ -114,11 +114,11 @@ pub tells_now : AnswersTellTheMoment
 tells_now setup w kind request rows other = tells_of_effect setup w kind request _ (effect_form setup w kind request rows) other
 
 -- what a watch tells is in the log
-watch_tells : (w : World) (k : Kind) (from : ℕ) → TellsTrue w (watch w k from)
+watch_tells : (setup : Setup) (w : World) (k : Kind) (from : ℕ) → TellsTrue w (watch setup w k from)
 unfolding watch reply_to reply_of
-watch_tells w k from = by (nat_lt w.store.version from) (nat_lt from (oldest w.store.version))
+watch_tells setup w k from = by (nat_lt w.store.version from) (nat_lt from (oldest (base setup) w.store.version))
   where
-    by : (a b : Bool) → TellsTrue w (if a then OnStore (Says (Refused (Invalid fields.From))) else if b then OnStore (Says (Refused (Gone (oldest w.store.version)))) else OnStore (Says (Events (told_events k from w.store.version w.log))))
+    by : (a b : Bool) → TellsTrue w (if a then OnStore (Says (Refused (Invalid fields.From))) else if b then OnStore (Says (Refused (Gone (oldest (base setup) w.store.version)))) else OnStore (Says (Events (told_events k from w.store.version w.log))))
     by true b = record { true_of = λ o h. absurd h }
     by false true = record { true_of = λ o h. absurd h }
     by false false = record { true_of = λ o h. inr (inr (watched k from w.log o h)) }
@@ -126,7 +126,7 @@ watch_tells w k from = by (nat_lt w.store.version from) (nat_lt from (oldest w.s
 -- each telling is true
 pub tells : AnswersAreTrue
 unfolding effect
-tells setup w kind (requests.Watch k from) rows = watch_tells w k from
+tells setup w kind (requests.Watch k from) rows = watch_tells setup w k from
 tells setup w kind request rows = record {
   true_of = λ o h. elim ((tells_now setup w kind request rows refl).now o h) [ inl before ↦ inl before | inr after ↦ inr (inl after) ];
 }
