@@ -288,7 +288,7 @@ empty_text (c ∷ cs) e = absurd (true≢false (sym e))
 titled : (name : List ℕ) → is_subdomain name ≡ true → name ≢ []
 titled name e none = let no : is_subdomain [] ≡ true = subst (λ (x : List ℕ). is_subdomain x ≡ true) none e in absurd (true≢false (sym no))
 
-volume_placed : (lacks : Bool) (v : VolumeData) → create_fault lacks (Volume v) ≡ None → IsPlaced (key_of (Volume v))
+pub volume_placed : (lacks : Bool) (v : VolumeData) → create_fault lacks (Volume v) ≡ None → IsPlaced (key_of (Volume v))
 unfolding create_fault kind_fault volume_fault
 volume_placed lacks v e =
     let t = faulty_none _ _ _ e in
@@ -313,7 +313,7 @@ has_appended name (x ∷ xs) = by (bytes_eq x name) (has_appended name xs)
     by true e = refl
     by false e = e
 
-has_given : (name : List ℕ) (names : List (List ℕ)) → has_name name (with_finalizer name names) ≡ true
+pub has_given : (name : List ℕ) (names : List (List ℕ)) → has_name name (with_finalizer name names) ≡ true
 has_given name names = by (has_name name names) refl
   where
     by : (b : Bool) → has_name name names ≡ b → has_name name (if b then names else names ++ name ∷ []) ≡ true

@@ -14,7 +14,6 @@ use Rattle.call_types.specs.declared.request.Request.{Request}
 use Rattle.call_types.specs.declared.request.Request.TheVariants as requests
 use Rattle.call_types.specs.declared.reply.Reply.{Reply}
 use Rattle.call_types.specs.declared.reply.Reply.TheVariants.{Found}
-use Rattle.binder_model.specs.ObjectKeys.{same_key}
 use Rattle.binder_model.specs.Told.{SomeOf, own}
 use Rattle.binder_model.specs.AgentLicence.{is_get_of, last_get, since_epoch, epoch_in}
 use Rattle.binder_model.specs.World.{world, effect, reply_to}
