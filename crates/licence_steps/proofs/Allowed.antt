@@ -38,23 +38,27 @@ use Rattle.binder_model.specs.BinderLicence.{WasReadGone, MayComplete}
 use Rattle.binder_model.specs.OpsLicence.{MayCreate, MayClearNode}
 use Rattle.binder_model.specs.Licence.{Licensed, BinderVolume, BinderPhase, OpsPhase, VolumeGuard, ClaimGuard, SchedulerVolume}
 use Rattle.binder_model.specs.SchedulerLicence.{MaySelectNode}
-use Rattle.binder_model.specs.Told.{ToldVolume, ToldClaim}
+use Rattle.binder_model.specs.Told.{ToldVolume, ToldClaim, own}
 use Rattle.binder_model.specs.World.{world}
 use Rattle.binder_model.specs.Same.{same_names}
-use Rattle.binder_model.specs.Run.{own}
-use Rattle.world_moves.proofs.Moves.{one}
 use Rattle.world_moves.specs.Writes.{IsCreate, IsUpdate, IsEdit, IsStatus, IsMark, Writes}
 use Rattle.world_moves.proofs.Whence.{created_first, updated_next, status_next, marked_next, bound_next, finished_next}
 use Rattle.world_moves.proofs.Newest.{newest_told}
-use Rattle.world_moves.proofs.Tests.{both, same_text}
+use Rattle.world_moves.proofs.Tests.{same_text}
 use Rattle.world_invariant.specs.Was.{Was, IsPlaced, WasNamed, KindStep, KindStart, Made, IsNotThere, Refers, VolumeStep, ClaimStep}
 use Rattle.world_invariant.specs.Invariant.{Invariant}
 use Rattle.world_invariant.proofs.Came.{row_was}
 use Rattle.world_invariant.specs.Good.{IsTrue}
 use Rattle.world_invariant.proofs.Known.{told_volume, told_claim}
-use Rattle.licence_steps.proofs.Rows.{ref_one, stored_volume, phased, IsSafe, same_step, take_step, unbind_step, bind_step, free_step, release_away, end_step, unguard_step, guard_step}
+use Rattle.licence_steps.proofs.Rows.{stored_volume, phased, IsSafe, same_step, take_step, unbind_step, bind_step, free_step, release_away, end_step, unguard_step, guard_step}
 use Rattle.licence_steps.proofs.Claims.{stored_claim, same_claim, complete_step, select_step, clear_step, guard_claim_step, unguard_claim_step}
 use Rattle.licence_steps.proofs.Users.{claim_guards_same, passes, completion_same, user_step, no_uid_given}
+use Rattle.std.proofs.lemmas.Bool.{and_parts, not-false}
+use Rattle.std.proofs.lemmas.Option.{same_Some}
+use Rattle.world_moves.proofs.Objects.{same_volume}
+use Rattle.world_moves.proofs.Objects.{same_claim as same_claim_object}
+use Rattle.std.specs.Prelude.{◌<◌, ◌+◌}
+use Rattle.binder_model.specs.Imports.{most_serials}
 
 -- what is known by what the seat was told
 pub record Known (setup : Setup) (past mine : List Entry) : Type 1 where
@@ -63,16 +67,12 @@ pub record Known (setup : Setup) (past mine : List Entry) : Type 1 where
   pub told : IsTrue setup past mine
   pub gone : (o : VolumeData) (r : Ref) (uid : Uid) → r.uid ≡ Some uid → WasReadGone mine o r uid → IsNotThere (world setup past) uid
 
-not_false : (b : Bool) → not b ≡ false → b ≡ true
-not_false true e = refl
-not_false false e = absurd (true≢false e)
-
 -- the told object at the current version is the one that stands
 same_version : (given : Option ℕ) (told now : ℕ) → given ≡ Some told → is_other_version given now ≡ false → told ≡ now
 same_version None told now e v = absurd (true≢false (sym (ap is_some e)))
 same_version (Some g) told now e v =
     let same : g ≡ told = ap (λ x. unwrap_or x g) e in
-    let t : (g == now) ≡ true = not_false (g == now) v in
+    let t : (g == now) ≡ true = not-false (g == now) v in
     let n : g ≡ now = grind (arith, nat_tests) in
     sym same ∙ n
 
@@ -86,33 +86,19 @@ volume_at o key given k at = λ i. record { kind = sym k i; namespace = at.place
 claim_at : (o : ClaimData) (key : Key) (given : Option ℕ) → key.kind ≡ kinds.PersistentVolumeClaim → IsWrittenAt given key.namespace key.name o.meta → key_of (Claim o) ≡ key
 claim_at o key given k at = λ i. record { kind = sym k i; namespace = at.placed i; name = at.named i }
 
-volume_of : (a b : VolumeData) → Volume a ≡ Volume b → a ≡ b
-volume_of a b e = ap (λ x. of x) e
-  where
-    of : Object → VolumeData
-    of (Volume v) = v
-    of x = a
-
-claim_of : (a b : ClaimData) → Claim a ≡ Claim b → a ≡ b
-claim_of a b e = ap (λ x. of x) e
-  where
-    of : Object → ClaimData
-    of (Claim v) = v
-    of x = a
-
 -- a row at the told object is one at the object that stands
 at_volume : (setup : Setup) (past mine : List Entry) → Invariant setup past → Known setup past mine → (a : VolumeData) (key : Key) (given : Option ℕ) (Row : VolumeData → Type 0) → key.kind ≡ kinds.PersistentVolume
     → ToldVolume (λ o. IsWrittenAt given key.namespace key.name o.meta × Row o) mine → row_at key (world setup past).store.rows ≡ Some (Volume a) → is_other_version given a.meta.version ≡ false → Row a
 at_volume setup past mine inv known a key given Row k told is v =
     let t = told_volume setup past mine known.told (λ o. IsWrittenAt given key.namespace key.name o.meta × Row o) told in
-    let same : t.0 ≡ a = volume_of t.0 a (at_one setup past inv (Volume t.0) (Volume a) key given t.1 t.2.0.version (volume_at t.0 key given k t.2.0) is v) in
+    let same : t.0 ≡ a = same_volume t.0 a (at_one setup past inv (Volume t.0) (Volume a) key given t.1 t.2.0.version (volume_at t.0 key given k t.2.0) is v) in
     subst Row same t.2.1
 
 pub at_claim : (setup : Setup) (past mine : List Entry) → Invariant setup past → Known setup past mine → (a : ClaimData) (key : Key) (given : Option ℕ) (Row : ClaimData → Type 0) → key.kind ≡ kinds.PersistentVolumeClaim
     → ToldClaim (λ o. IsWrittenAt given key.namespace key.name o.meta × Row o) mine → row_at key (world setup past).store.rows ≡ Some (Claim a) → is_other_version given a.meta.version ≡ false → Row a
 at_claim setup past mine inv known a key given Row k told is v =
     let t = told_claim setup past mine known.told (λ o. IsWrittenAt given key.namespace key.name o.meta × Row o) told in
-    let same : t.0 ≡ a = claim_of t.0 a (at_one setup past inv (Claim t.0) (Claim a) key given t.1 t.2.0.version (claim_at t.0 key given k t.2.0) is v) in
+    let same : t.0 ≡ a = same_claim_object t.0 a (at_one setup past inv (Claim t.0) (Claim a) key given t.1 t.2.0.version (claim_at t.0 key given k t.2.0) is v) in
     subst Row same t.2.1
 
 faulty_none : (b : Bool) (f : Field) (next : Option Field) → faulty b f next ≡ None → (b ≡ false) × (next ≡ None)
@@ -127,7 +113,7 @@ same_lists [] [] e = refl
 same_lists [] (y ∷ ys) e = absurd (true≢false (sym e))
 same_lists (x ∷ xs) [] e = absurd (true≢false (sym e))
 same_lists (x ∷ xs) (y ∷ ys) e =
-    let t = both (bytes_eq x y) (same_names xs ys) e in
+    let t = and_parts (bytes_eq x y) (same_names xs ys) e in
     let h = same_text x y t.0 in
     let r = same_lists xs ys t.1 in
     λ i. h i ∷ r i
@@ -136,8 +122,8 @@ pod_same : (a b : PodData) → update_fault (Pod a) (Pod b) ≡ None → (b.node
 unfolding update_fault changed_field
 pod_same a b e =
     let f = faulty_none _ _ _ e in
-    let t = both (same_names a.claims b.claims && bytes_eq a.node b.node) (bytes_eq a.extra b.extra) (not_false _ f.0) in
-    let s = both (same_names a.claims b.claims) (bytes_eq a.node b.node) t.0 in
+    let t = and_parts (same_names a.claims b.claims && bytes_eq a.node b.node) (bytes_eq a.extra b.extra) (not-false _ f.0) in
+    let s = and_parts (same_names a.claims b.claims) (bytes_eq a.node b.node) t.0 in
     (sym (same_text a.node b.node s.1), sym (same_lists a.claims b.claims s.0))
 
 -- updates
@@ -255,9 +241,9 @@ status_step : (setup : Setup) (past mine : List Entry) → Invariant setup past 
     → is_user kind ≡ false → is_other_version given (meta_of old).version ≡ false → row_at key (world setup past).store.rows ≡ Some old → with_status status old ≡ Some new → KindStep setup past old (at_version new n)
 unfolding with_status at_version with_meta
 status_step setup past mine inv known kind key (statuses.Volume phase) (Volume a) new given n l c v is fits =
-    subst (λ (x : Object). KindStep setup past (Volume a) (at_version x n)) (one _ _ fits) (volume_status setup past mine inv known kind key a phase given n l c v is)
+    subst (λ (x : Object). KindStep setup past (Volume a) (at_version x n)) (same_Some _ _ fits) (volume_status setup past mine inv known kind key a phase given n l c v is)
 status_step setup past mine inv known kind key (statuses.Claim phase modes amount) (Claim a) new given n l c v is fits =
-    subst (λ (x : Object). KindStep setup past (Claim a) (at_version x n)) (one _ _ fits) (same_claim setup past a _ refl refl)
+    subst (λ (x : Object). KindStep setup past (Claim a) (at_version x n)) (same_Some _ _ fits) (same_claim setup past a _ refl refl)
 status_step setup past mine inv known kind key status old new given n l c v is fits = absurd (true≢false (sym (ap is_some fits)))
 
 status_made : (setup : Setup) (past mine : List Entry) → Invariant setup past → Known setup past mine → (kind : SeatKind) (key : Key) (status : NewStatus) (given : Option ℕ) (o : Object) → Licensed kind mine (requests.UpdateStatus key status given) → IsStatus (world setup past).store kind key status given o → Made setup past o
@@ -302,12 +288,12 @@ empty_text (c ∷ cs) e = absurd (true≢false (sym e))
 titled : (name : List ℕ) → is_subdomain name ≡ true → name ≢ []
 titled name e none = let no : is_subdomain [] ≡ true = subst (λ (x : List ℕ). is_subdomain x ≡ true) none e in absurd (true≢false (sym no))
 
-volume_placed : (lacks : Bool) (v : VolumeData) → create_fault lacks (Volume v) ≡ None → IsPlaced (key_of (Volume v))
+pub volume_placed : (lacks : Bool) (v : VolumeData) → create_fault lacks (Volume v) ≡ None → IsPlaced (key_of (Volume v))
 unfolding create_fault kind_fault volume_fault
 volume_placed lacks v e =
     let t = faulty_none _ _ _ e in
     let s = faulty_none _ _ _ t.1 in
-    record { global = empty_text v.meta.namespace (not_false _ s.0); titled = titled v.meta.name (not_false _ t.0) }
+    record { global = empty_text v.meta.namespace (not-false _ s.0); titled = titled v.meta.name (not-false _ t.0) }
 
 -- a new volume, whose reference with a UID, if any, names a claim that was
 created_volume : (setup : Setup) (past : List Entry) (lacks : Bool) (default : Option (List ℕ)) (v : VolumeData) (n : ℕ) (moment : List ℕ) → create_fault lacks (Volume v) ≡ None → ((r : Ref) (uid : Uid) → Refers v r uid → WasNamed setup past r uid) → KindStart setup past (created_object default (Volume v) n moment)
@@ -327,7 +313,7 @@ has_appended name (x ∷ xs) = by (bytes_eq x name) (has_appended name xs)
     by true e = refl
     by false e = e
 
-has_given : (name : List ℕ) (names : List (List ℕ)) → has_name name (with_finalizer name names) ≡ true
+pub has_given : (name : List ℕ) (names : List (List ℕ)) → has_name name (with_finalizer name names) ≡ true
 has_given name names = by (has_name name names) refl
   where
     by : (b : Bool) → has_name name names ≡ b → has_name name (if b then names else names ++ name ∷ []) ≡ true
@@ -346,7 +332,7 @@ unfolding provisioned_volume
 provisioned setup past mine known v row r uid h =
     let t = known.told (λ x. x ≡ Claim row.claim) (newest_told mine _ (Claim row.claim) row.newest) in
     let was : Was setup past (Claim row.claim) = subst (Was setup past) t.2 t.1 in
-    let e : ref_to row.claim ≡ r = ref_one _ _ (sym (ap (λ (x : VolumeData). x.claim_ref) row.object) ∙ h.is) in
+    let e : ref_to row.claim ≡ r = same_Some _ _ (sym (ap (λ (x : VolumeData). x.claim_ref) row.object) ∙ h.is) in
     record { claim = row.claim; was = was; placed = ap (λ (z : Ref). z.namespace) e; named = ap (λ (z : Ref). z.name) e; its = ap (λ (z : Ref). z.uid) e ∙ h.known }
 
 create_start : (setup : Setup) (past mine : List Entry) → Known setup past mine → (kind : SeatKind) (lacks : Bool) (default : Option (List ℕ)) (new : Object) (n : ℕ) (moment : List ℕ) → Licensed kind mine (requests.Create new) → create_fault lacks new ≡ None → guard_on kind None new ≡ None → KindStart setup past (created_object default new n moment)
@@ -355,8 +341,9 @@ create_start setup past mine known seats.Ops lacks default (Volume v) n moment l
 create_start setup past mine known seats.Ops lacks default new n moment l fault g = absurd l.1
 create_start setup past mine known kind lacks default new n moment l fault g = absurd l.1
 
-create_made : (setup : Setup) (past mine : List Entry) → Known setup past mine → (kind : SeatKind) (new o : Object) → Licensed kind mine (requests.Create new) → IsCreate (world setup past).store kind (world setup past).moment new o → Made setup past o
-create_made setup past mine known kind new o l c = inl (record {
+create_made : (setup : Setup) (past mine : List Entry) → (world setup past).store.version + 1 < most_serials → Known setup past mine → (kind : SeatKind) (new o : Object) → Licensed kind mine (requests.Create new) → IsCreate (world setup past).store kind (world setup past).moment new o → Made setup past o
+create_made setup past mine room known kind new o l c = inl (record {
+  room = room;
   first = created_first (world setup past).store kind (world setup past).moment new o c;
   start = subst (KindStart setup past) (sym c.is) (create_start setup past mine known kind _ _ new _ _ l c.fault c.guard);
 })
@@ -366,12 +353,13 @@ edit_made : (setup : Setup) (past mine : List Entry) → Invariant setup past �
 edit_made setup past mine inv seats.User key change o l f = edited_made setup past inv f.new o f.update
 edit_made setup past mine inv kind key change o l f = absurd l.1
 
-pub made : (setup : Setup) (past mine : List Entry) → Invariant setup past → Known setup past mine → (kind : SeatKind) (request : Request) → Licensed kind mine request → (o : Object) → Writes (world setup past) kind request o → Made setup past o
-made setup past mine inv known kind (requests.Create new) l o f = create_made setup past mine known kind new o l f
-made setup past mine inv known kind (requests.Update new given) l o f = update_made setup past mine inv known kind new given o l f
-made setup past mine inv known kind (requests.UpdateStatus key status given) l o f = status_made setup past mine inv known kind key status given o l f
-made setup past mine inv known kind (requests.Edit key change) l o f = edit_made setup past mine inv kind key change o l f
-made setup past mine inv known kind (requests.Delete key given) l o f = mark_made setup past inv key given o f
-made setup past mine inv known kind (requests.BindPod key uid node) l o f = inr (record { old = Pod f.pod; next = bound_next (world setup past).store kind key uid node o f; step = subst (KindStep setup past (Pod f.pod)) (sym f.is) (bind_step_pod setup past f.pod node _ f.unscheduled) })
-made setup past mine inv known kind (requests.FinishPod key uid node epoch) l o f = inr (record { old = Pod f.pod; next = finished_next (world setup past).store kind key uid node _ o f; step = subst (KindStep setup past (Pod f.pod)) (sym f.is) (finish_step_pod setup past f.pod _) })
-made setup past mine inv known kind request l o f = absurd f
+-- each write of an allowed request is one that any run may make
+pub made : (setup : Setup) (past mine : List Entry) → (world setup past).store.version + 1 < most_serials → Invariant setup past → Known setup past mine → (kind : SeatKind) (request : Request) → Licensed kind mine request → (o : Object) → Writes (world setup past) kind request o → Made setup past o
+made setup past mine room inv known kind (requests.Create new) l o f = create_made setup past mine room known kind new o l f
+made setup past mine room inv known kind (requests.Update new given) l o f = update_made setup past mine inv known kind new given o l f
+made setup past mine room inv known kind (requests.UpdateStatus key status given) l o f = status_made setup past mine inv known kind key status given o l f
+made setup past mine room inv known kind (requests.Edit key change) l o f = edit_made setup past mine inv kind key change o l f
+made setup past mine room inv known kind (requests.Delete key given) l o f = mark_made setup past inv key given o f
+made setup past mine room inv known kind (requests.BindPod key uid node) l o f = inr (record { old = Pod f.pod; next = bound_next (world setup past).store kind key uid node o f; step = subst (KindStep setup past (Pod f.pod)) (sym f.is) (bind_step_pod setup past f.pod node _ f.unscheduled) })
+made setup past mine room inv known kind (requests.FinishPod key uid node epoch) l o f = inr (record { old = Pod f.pod; next = finished_next (world setup past).store kind key uid node _ o f; step = subst (KindStep setup past (Pod f.pod)) (sym f.is) (finish_step_pod setup past f.pod _) })
+made setup past mine room inv known kind request l o f = absurd f

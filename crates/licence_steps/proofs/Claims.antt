@@ -20,12 +20,12 @@ use Rattle.binder_model.specs.GuardLicence.{IsDeletingVersion, TellsUnused, MayU
 use Rattle.binder_model.specs.Licence.{GuardsClaim}
 use Rattle.binder_model.specs.OpsLicence.{MayClearNode}
 use Rattle.binder_model.specs.SchedulerLicence.{MaySelectNode}
-use Rattle.binder_model.specs.Told.{ToldClaim, After}
-use Rattle.binder_model.specs.Run.{own}
+use Rattle.binder_model.specs.Told.{ToldClaim, After, own}
 use Rattle.world_invariant.specs.Was.{ClaimStep}
 use Rattle.world_invariant.proofs.KeptBindings.{carries_on}
 use Rattle.world_invariant.specs.Good.{IsTrue}
 use Rattle.world_invariant.proofs.Known.{told_volume}
+use Rattle.licence_steps.proofs.Rows.{annotated_guards}
 
 -- what an update and a status leave in the store
 abbrev pub stored_claim : ClaimData → ClaimData → ℕ → ClaimData
@@ -35,14 +35,9 @@ stored_claim o new n = record new { phase = o.phase; got_modes = o.got_modes; go
 pub same_claim : (setup : Setup) (past : List Entry) (o new : ClaimData) → is_completed new ≡ is_completed o → is_protected_claim new ≡ is_protected_claim o → ClaimStep setup past o new
 same_claim setup past o new same guards = record { completed = λ done. inl (sym same ∙ done); loose = λ none. inl (sym guards ∙ none) }
 
--- the annotations of a completion leave the finalizers
-annotated_guards : (b : Bool) (name : List ℕ) (m : Meta) → has_name pvc_protection (annotated_meta_if b name m).finalizers ≡ has_name pvc_protection m.finalizers
-annotated_guards true name m = refl
-annotated_guards false name m = refl
-
 completed_guards : (o : ClaimData) (v : VolumeData) → is_protected_claim (completed_with o v) ≡ is_protected_claim o
 unfolding completed_with
-completed_guards o v = annotated_guards (is_empty o.volume_name) bound_by_controller o.meta
+completed_guards o v = annotated_guards pvc_protection (is_empty o.volume_name) bound_by_controller o.meta
 
 -- the annotations of a completion leave namespace and name
 annotated_key : (b : Bool) (name : List ℕ) (m : Meta) → ((annotated_meta_if b name m).namespace ≡ m.namespace) × ((annotated_meta_if b name m).name ≡ m.name)

@@ -21,6 +21,7 @@ use Rattle.world_invariant.specs.Was.{Refers, IsAway, IsNotThere, VolumeStep}
 use Rattle.world_invariant.specs.Invariant.{Invariant}
 use Rattle.world_invariant.specs.Good.{IsTrue}
 use Rattle.world_invariant.proofs.Known.{told_claim, elsewhere}
+use Rattle.std.proofs.lemmas.Option.{same_Some}
 
 -- what an update and a status leave in the store
 abbrev pub stored_volume : VolumeData → VolumeData → ℕ → VolumeData
@@ -48,12 +49,9 @@ same_step setup past o new refs phases policies safe = record {
 
 -- references
 
-pub ref_one : (a b : Ref) → Some a ≡ Some b → a ≡ b
-ref_one a b e = ap (λ x. unwrap_or x a) e
-
 uid_one : (v : VolumeData) (a b : Ref) (u w : Uid) → v.claim_ref ≡ Some a → a.uid ≡ Some u → Refers v b w → u ≡ w
 uid_one v a b u w is known h =
-    let r : a ≡ b = ref_one a b (sym is ∙ h.is) in
+    let r : a ≡ b = same_Some a b (sym is ∙ h.is) in
     ap (λ x. unwrap_or x u) (sym known ∙ ap (λ x. x.uid) r ∙ h.known)
 
 -- the UID in the reference
@@ -65,11 +63,12 @@ no_ref_uid v r w free h = absurd (true≢false (sym (ap is_some (sym free ∙ ap
 
 free_of_it : {G : Type 0} (x : Option Ref) (c : ClaimData) (r : Ref) (uid : Uid) → IsFreeFor x c → x ≡ Some r → r.uid ≡ Some uid → G
 free_of_it None c r uid free is known = absurd (true≢false (sym (ap is_some is)))
-free_of_it (Some a) c r uid free is known = absurd (true≢false (sym (ap is_some (sym free.1 ∙ ap (λ (z : Ref). z.uid) (ref_one a r is) ∙ known))))
+free_of_it (Some a) c r uid free is known = absurd (true≢false (sym (ap is_some (sym free.1 ∙ ap (λ (z : Ref). z.uid) (same_Some a r is) ∙ known))))
 
-annotated_guards : (b : Bool) (name : List ℕ) (m : Meta) → has_name pv_protection (annotated_meta_if b name m).finalizers ≡ has_name pv_protection m.finalizers
-annotated_guards true name m = refl
-annotated_guards false name m = refl
+-- an annotation leaves the finalizers
+pub annotated_guards : (guard : List ℕ) (b : Bool) (name : List ℕ) (m : Meta) → has_name guard (annotated_meta_if b name m).finalizers ≡ has_name guard m.finalizers
+annotated_guards guard true name m = refl
+annotated_guards guard false name m = refl
 
 -- the row ClaimRef
 pub take_step : (setup : Setup) (past mine : List Entry) → IsTrue setup past mine → (o new : VolumeData) (n : ℕ) → IsSafe o → MayTake mine o new → VolumeStep setup past o (stored_volume o new n)
@@ -80,11 +79,11 @@ take_step setup past mine true_of o new n safe row =
     let taken : IsTaken o new c = t.2 in
     subst (λ (x : VolumeData). VolumeStep setup past o (stored_volume o x n)) (sym taken.change) record {
       refers = λ r uid h.
-          let e : ref_to c ≡ r = ref_one (ref_to c) r h.is in
+          let e : ref_to c ≡ r = same_Some (ref_to c) r h.is in
           inr (record { claim = c; was = t.1; placed = ap (λ (z : Ref). z.namespace) e; named = ap (λ (z : Ref). z.name) e; its = ap (λ (z : Ref). z.uid) e ∙ h.known });
       keeps = λ r uid bound h. free_of_it o.claim_ref c r uid taken.free h.is h.known;
-      guarded = λ bound. annotated_guards (is_none o.claim_ref) bound_by_controller o.meta ∙ safe bound;
-      stays = λ bound. annotated_guards (is_none o.claim_ref) bound_by_controller o.meta ∙ safe bound;
+      guarded = λ bound. annotated_guards pv_protection (is_none o.claim_ref) bound_by_controller o.meta ∙ safe bound;
+      stays = λ bound. annotated_guards pv_protection (is_none o.claim_ref) bound_by_controller o.meta ∙ safe bound;
       released = λ r uid ended h. not_both (is_ended o.phase) ended row.live;
       lasts = λ r uid h ended policy. not_both (is_ended o.phase) ended row.live;
     }

@@ -4,13 +4,20 @@ use Rattle.std.specs.Prelude.{ℕ, List, [], ◌∷◌}
 use Rattle.call_types.specs.declared.entry.Entry.{Entry}
 use Rattle.call_types.specs.declared.setup.Setup.{Setup}
 use Rattle.binder_model.specs.World.{world, effect}
-use Rattle.binder_model.specs.Run.{Run, own}
+use Rattle.binder_model.specs.Told.{own}
+use Rattle.binder_model.specs.Run.{Run}
 use Rattle.world_moves.proofs.Moves.{moves, as_made}
 use Rattle.world_invariant.specs.Invariant.{Invariant}
 use Rattle.world_invariant.specs.Good.{MovesAt, Good}
 use Rattle.world_invariant.proofs.Kept.{kept}
 use Rattle.world_invariant.proofs.Known.{invariant_of, told_was, gone_read}
 use Rattle.licence_steps.proofs.Allowed.{Known, made}
+use Rattle.std.proofs.Common.{arith, ap, inl, inr}
+use Rattle.std.specs.Prelude.{ℕ, ◌+◌, ◌<◌, ◌≤◌, length}
+use Rattle.binder_model.specs.Imports.{most_serials}
+use Rattle.binder_model.specs.World.{base}
+use Rattle.model_laws.proofs.Versions.{versions_count_writes}
+use Rattle.licence_steps.specs.Runs.{RunsAreGood}
 
 -- what a seat knows after a good history
 pub known : (setup : Setup) (past : List Entry) → Good setup past → (seat : ℕ) → Known setup past (own seat past)
@@ -21,16 +28,28 @@ known setup past g seat = record {
   gone = λ o r uid is h. (gone_read setup past g seat o r uid is h).0;
 }
 
+-- a call gives one version at most
+version_low : (setup : Setup) (past : List Entry) → (world setup past).store.version ≤ base setup + length past
+version_low setup [] = omega arith
+version_low setup (e ∷ past) =
+    let low = version_low setup past in
+    elim (versions_count_writes setup (world setup past) e.kind e.request) [
+      | inl kept ↦ let same = ap (λ s. s.version) kept.store in omega (arith, low, same)
+      | inr wrote ↦ let next = wrote.version in omega (arith, low, next)
+    ]
+
 -- how the store moves at the newest entry of a run
-pub run_moves : (setup : Setup) (e : Entry) (past : List Entry) → Good setup past → Run setup (e ∷ past) → MovesAt setup e past
-run_moves setup e past g run =
+pub run_moves : (setup : Setup) (e : Entry) (past : List Entry) → base setup + length (e ∷ past) < most_serials → Good setup past → Run setup (e ∷ past) → MovesAt setup e past
+run_moves setup e past short g run =
     let inv = invariant_of setup past g in
-    as_made (world setup past) (effect setup (world setup past) e.kind e.request) (made setup past (own e.seat past) inv (known setup past g e.seat) e.kind e.request run.2) (moves setup (world setup past) e.kind e.request inv.order)
+    let low = version_low setup past in
+    let room : (world setup past).store.version + 1 < most_serials = omega (arith, low, short) in
+    as_made (world setup past) e.request (effect setup (world setup past) e.kind e.request) (made setup past (own e.seat past) room inv (known setup past g e.seat) e.kind e.request run.2) (moves setup (world setup past) e.kind e.request inv.order)
 
 -- a run that begins in a world which meets the invariant meets it throughout
-pub run_good : (setup : Setup) → Invariant setup [] → (past : List Entry) → Run setup past → Good setup past
-run_good setup start [] run = start
-run_good setup start (e ∷ past) run =
-    let g = run_good setup start past run.0 in
-    let m = run_moves setup e past g run in
+pub run_good : RunsAreGood
+run_good setup start [] short run = start
+run_good setup start (e ∷ past) short run =
+    let g = run_good setup start past (omega (arith, short)) run.0 in
+    let m = run_moves setup e past short g run in
     (g, m, run.1, kept setup e past (invariant_of setup past g) m)

@@ -20,9 +20,10 @@ use Rattle.call_types.specs.declared.request.SeatKind.TheVariants.{User}
 use Rattle.binder_model.specs.Same.{same_option, same_ref, same_uid}
 use Rattle.binder_model.specs.Guard.{guard, breaks, breaks_annotation, breaks_finalizer, breaks_reference, breaks_policy, clears_released, is_in_phase_released, has_uid, annotations_before}
 use Rattle.binder_model.specs.Answers.{guard_on}
-use Rattle.world_moves.proofs.Tests.{both, same_text}
+use Rattle.world_moves.proofs.Tests.{same_text}
 use Rattle.world_invariant.specs.Was.{Refers, VolumeStep}
 use Rattle.licence_steps.proofs.Rows.{stored_volume, IsSafe, not_both}
+use Rattle.std.proofs.lemmas.Bool.{and_parts, or_parts, not-true, not-false}
 
 breaks_none : (b : Bool) (r : Rule) (next : Option Rule) → breaks b r next ≡ None → (b ≡ false) × (next ≡ None)
 unfolding breaks
@@ -46,14 +47,6 @@ passes old new e =
     record { annotation = a.0; finalizer = f.0; reference = r.0; policy = p.0 }
 
 -- tests
-
-or_false : (a b : Bool) → (a || b) ≡ false → (a ≡ false) × (b ≡ false)
-or_false true b e = absurd (true≢false e)
-or_false false b e = (refl, e)
-
-not_false : (b : Bool) → not b ≡ false → b ≡ true
-not_false true e = refl
-not_false false e = absurd (true≢false e)
 
 xor_false : (a b : Bool) → (xor a b && true) ≡ false → a ≡ b
 unfolding xor
@@ -79,8 +72,8 @@ same_refs None None e = refl
 same_refs None (Some b) e = absurd (true≢false (sym e))
 same_refs (Some a) None e = absurd (true≢false (sym e))
 same_refs (Some a) (Some b) e =
-    let t = both (bytes_eq a.namespace b.namespace && bytes_eq a.name b.name) (same_option same_uid a.uid b.uid) e in
-    let s = both (bytes_eq a.namespace b.namespace) (bytes_eq a.name b.name) t.0 in
+    let t = and_parts (bytes_eq a.namespace b.namespace && bytes_eq a.name b.name) (same_option same_uid a.uid b.uid) e in
+    let s = and_parts (bytes_eq a.namespace b.namespace) (bytes_eq a.name b.name) t.0 in
     let n = same_text a.namespace b.namespace s.0 in
     let m = same_text a.name b.name s.1 in
     let u = same_uids a.uid b.uid t.1 in
@@ -88,14 +81,14 @@ same_refs (Some a) (Some b) e =
 
 -- the annotation that marks completion stays
 pub completion_same : (old : Option Object) (new : Object) → Passes old new → value_at bind_completed (annotations_before old) ≡ value_at bind_completed (meta_of new).annotations
-completion_same old new p = same_texts _ _ (not_false _ (or_false _ _ (or_false _ _ p.annotation).0).0)
+completion_same old new p = same_texts _ _ (not-false _ (or_parts _ _ (or_parts _ _ p.annotation).0).0)
 
 -- and so does the finalizer of volumes
 guards_same : (old : Object) (new : Object) → Passes (Some old) new → has_name pv_protection (meta_of old).finalizers ≡ has_name pv_protection (meta_of new).finalizers
-guards_same old new p = xor_false _ _ (or_false _ _ p.finalizer).0
+guards_same old new p = xor_false _ _ (or_parts _ _ p.finalizer).0
 
 pub claim_guards_same : (old : Object) (new : Object) → Passes (Some old) new → has_name pvc_protection (meta_of old).finalizers ≡ has_name pvc_protection (meta_of new).finalizers
-claim_guards_same old new p = xor_false _ _ (or_false _ _ p.finalizer).1
+claim_guards_same old new p = xor_false _ _ (or_parts _ _ p.finalizer).1
 
 -- a reference that is not broken is the same, or has no UID before and after, or is that of a Released volume, cleared
 pub data Reference (old : Option Ref) (new : Option Ref) (clears : Bool) : Type 0 where
@@ -108,7 +101,7 @@ reference_of a b c e = by (same_option same_ref a b) (has_uid a || has_uid b) c 
   where
     by : (s u d : Bool) → same_option same_ref a b ≡ s → (has_uid a || has_uid b) ≡ u → (not s && u && not d) ≡ false → Reference a b d
     by true u d is uids e = Same (same_refs a b is)
-    by false false d is uids e = let f = or_false (has_uid a) (has_uid b) uids in Free f.0 f.1
+    by false false d is uids e = let f = or_parts (has_uid a) (has_uid b) uids in Free f.0 f.1
     by false true true is uids e = Cleared refl
     by false true false is uids e = absurd (true≢false e)
 
@@ -132,15 +125,12 @@ is_none_none : (x : Option Ref) → is_none x ≡ true → x ≡ None
 is_none_none None e = refl
 is_none_none (Some r) e = absurd (true≢false (sym e))
 
-not_true : (b : Bool) → not b ≡ true → b ≡ false
-not_true true e = absurd (true≢false (sym e))
-not_true false e = refl
-
 cleared : (old new : VolumeData) → clears_released (Some (Volume old)) (Volume new) ≡ true → IsCleared old new
 cleared old new e =
-    let t = both (is_in_phase_released old.phase && not (is_delete old.policy)) (is_none new.claim_ref) e in
-    let s = both (is_in_phase_released old.phase) (not (is_delete old.policy)) t.0 in
-    record { phase = s.0; policy = not_true _ s.1; none = is_none_none new.claim_ref t.1 }
+    let t = and_parts (is_in_phase_released old.phase && not (is_delete old.policy) && is_some old.claim_ref) (is_none new.claim_ref) e in
+    let r = and_parts (is_in_phase_released old.phase && not (is_delete old.policy)) (is_some old.claim_ref) t.0 in
+    let s = and_parts (is_in_phase_released old.phase) (not (is_delete old.policy)) r.0 in
+    record { phase = s.0; policy = not-true _ s.1; none = is_none_none new.claim_ref t.1 }
 
 user_refers : (o new : VolumeData) (r : Ref) (uid : Uid) → Reference o.claim_ref new.claim_ref (clears_released (Some (Volume o)) (Volume new)) → Refers new r uid → Refers o r uid
 user_refers o new r uid (Same e) h = record { is = e ∙ h.is; known = h.known }

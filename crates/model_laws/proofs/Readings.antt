@@ -14,6 +14,7 @@ use Rattle.binder_model.specs.Devices.{device_answer}
 use Rattle.binder_model.specs.Told.{SomeOf}
 use Rattle.binder_model.specs.World.{effect, on_devices, reply_to}
 use Rattle.model_laws.specs.Reads.{found, fits_namespace, GetsTellWhatStands, ListsTellWhatStands}
+use Rattle.kube_types.specs.declared.parts.Kind.{Kind}
 
 abbrev IsIn : {X : Type 0} → X → List X → Type 0
 IsIn x xs = SomeOf (λ y. y ≡ x) xs
@@ -81,6 +82,10 @@ listed_keeps : (namespace : Option (List ℕ)) (x : Object) (xs : List Object) �
 listed_keeps None x xs h e = h
 listed_keeps (Some namespace) x xs h e = filter_keeps (is_in_namespace namespace) x xs h e
 
+-- what a list tells stands under its key
+pub listed_stand : (kind : Kind) (namespace : Option (List ℕ)) (rows : List Object) → AreRows rows → (o : Object) → IsIn o (listed_rows namespace (rows_of kind rows)) → row_at (key_of o) rows ≡ Some o
+listed_stand kind namespace rows r o h = member_stands o rows r (filter_stands (is_of_kind kind) o rows (listed_stands namespace o _ h))
+
 pub lists_tell_what_stands : ListsTellWhatStands
 unfolding effect on_devices device_answer outcome list reply_to reply_of
 lists_tell_what_stands setup w kind of_kind namespace rows = (
@@ -91,7 +96,7 @@ lists_tell_what_stands setup w kind of_kind namespace rows = (
       refl,
       record {
         at = refl;
-        stands = λ o h. member_stands o w.store.rows rows (filter_stands (is_of_kind of_kind) o w.store.rows (listed_stands namespace o _ h));
+        stands = listed_stand of_kind namespace w.store.rows rows;
         listed = λ o is of fits. listed_keeps namespace o _ (filter_keeps (is_of_kind of_kind) o w.store.rows (found_stands (key_of o) o w.store.rows is) of) fits;
       },
     ),

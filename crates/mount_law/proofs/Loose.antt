@@ -18,16 +18,14 @@ use Rattle.call_types.specs.declared.request.Request.{Request}
 use Rattle.call_types.specs.declared.request.Request.TheVariants as requests
 use Rattle.call_types.specs.declared.reply.Reply.{Reply}
 use Rattle.call_types.specs.declared.reply.Reply.TheVariants.{Found, Listed}
-use Rattle.binder_model.specs.BindWrites.{claim_key}
-use Rattle.binder_model.specs.Told.{ToldClaim, After}
+use Rattle.binder_model.specs.ObjectKeys.{claim_key}
+use Rattle.binder_model.specs.Told.{ToldClaim, After, own}
 use Rattle.binder_model.specs.GuardLicence.{IsDeletingVersion, TellsUnused, IsPodList, uses}
 use Rattle.binder_model.specs.AgentLicence.{is_get_of, last_get, never_finished, since_epoch, is_finish_of}
 use Rattle.binder_model.specs.World.{world, effect, reply_to}
-use Rattle.binder_model.specs.Run.{Run, own}
+use Rattle.binder_model.specs.Run.{Run}
 use Rattle.model_laws.proofs.Readings.{lists_tell_what_stands}
-use Rattle.world_moves.specs.Moves.{IsIn}
-use Rattle.world_moves.proofs.Moves.{none_some}
-use Rattle.world_moves.proofs.Tests.{both}
+use Rattle.world_moves.specs.Writes.{IsIn}
 use Rattle.world_invariant.specs.Was.{Was, Unguards}
 use Rattle.world_invariant.specs.Invariant.{IsOld}
 use Rattle.world_invariant.proofs.Came.{IsNew, new_or, row_was, one_written, fresh, older, claim_came}
@@ -37,27 +35,15 @@ use Rattle.world_invariant.proofs.Known.{invariant_of, told_was, told_claim}
 use Rattle.world_invariant.specs.Holders.{Holds}
 use Rattle.world_invariant.proofs.Holders.{HolderStep, Took, Mine, Other, holder_step, OwnStep, Own, Others, own_step}
 use Rattle.mount_law.proofs.Unmounted.{new_mount}
-use Rattle.mount_law.specs.Mounts.{AreAgents, StandsOn, IsHalfReady, Mountless, MayGo, AreDeleting, IsGoing, LooseMayGo}
+use Rattle.mount_law.specs.Mounts.{StandsOn, IsHalfReady, Mountless, MayGo, AreDeleting, IsGoing, LooseMayGo}
 use Rattle.mount_law.proofs.Since.{no_split, head_of, tail_of}
 use Rattle.mount_law.proofs.Ready.{found_row, read_was}
 use Rattle.mount_law.proofs.Mounts.{half_ready, mount_is_agents, shown_stands, mounted}
-
--- one UID, one key
-pub uid_key : (setup : Setup) (past : List Entry) → Good setup past → (a b : Object) → Was setup past a → Was setup past b → (meta_of a).uid ≡ (meta_of b).uid → key_of a ≡ key_of b
-uid_key setup [] g a b wa wb same = sym ((invariant_of setup [] g).later a (key_of b) b wa wb (sym same)).key
-uid_key setup (e ∷ past) g a b wa wb same = by (uid_key setup past g.0) (new_or setup e past g.1 a wa) (new_or setup e past g.1 b wb)
-  where
-    from : ((a b : Object) → Was setup past a → Was setup past b → (meta_of a).uid ≡ (meta_of b).uid → key_of a ≡ key_of b) → (x y : Object) → IsNew setup e past x → Was setup past y → (meta_of x).uid ≡ (meta_of y).uid → key_of x ≡ key_of y
-    from f x y new was u = elim new.written.write [
-      | inl starts ↦ fresh _ (meta_of y).uid ((invariant_of setup past g.0).old y was) (sym u ∙ starts.first.uid)
-      | inr came ↦ came.next.key ∙ f came.old y (row_was setup past (key_of x) came.old came.next.there) was (sym came.next.keeps.uid ∙ u)
-    ]
-
-    by : ((a b : Object) → Was setup past a → Was setup past b → (meta_of a).uid ≡ (meta_of b).uid → key_of a ≡ key_of b) → Was setup past a ⊎ IsNew setup e past a → Was setup past b ⊎ IsNew setup e past b → key_of a ≡ key_of b
-    by f (inl x) (inl y) = f a b x y same
-    by f (inl x) (inr y) = sym (from f b a y x (sym same))
-    by f (inr x) (inl y) = from f a b x y same
-    by f (inr x) (inr y) = ap key_of (one_written setup e past a b x.written y.written)
+use Rattle.std.proofs.lemmas.Bool.{and_parts}
+use Rattle.std.proofs.lemmas.Option.{none-some}
+use Rattle.world_moves.proofs.Tests.{text_same}
+use Rattle.binder_model.specs.Licence.{AreOfKind}
+use Rattle.call_types.specs.declared.request.SeatKind.TheVariants as seats
 
 pub kept_deleting : (setup : Setup) (e : Entry) (past : List Entry) → Good setup (e ∷ past) → (u : Uid) → IsOld (world setup past).store.version (Some u) → AreDeleting setup past u → AreDeleting setup (e ∷ past) u
 kept_deleting setup e past g u old d = kept_of setup e past g.1 (λ c. is_deleting c.meta ≡ true) (λ a b keeps x. keeps.deleting x) u old d
@@ -93,7 +79,7 @@ half_before setup e past g u deleting seat node (Mine at flag o since same held)
     read : (rest : List Entry) → since_epoch node (own seat past) ≡ rest ++ h.teller ∷ h.earlier → (b : Bool) → (e.told && is_get_of (claim_key h.pod.meta.namespace h.name) e.request) ≡ b
         → (if b then Some e.reply else last_get (claim_key h.pod.meta.namespace h.name) rest) ≡ Some (Found (Claim h.claim)) → IsHalfReady setup past seat node u
     read rest eq true t r =
-        let asked = (both e.told (is_get_of (claim_key h.pod.meta.namespace h.name) e.request) t).1 in
+        let asked = (and_parts e.told (is_get_of (claim_key h.pod.meta.namespace h.name) e.request) t).1 in
         let reply : e.reply ≡ Found (Claim h.claim) = ap (λ z. unwrap_or z e.reply) r in
         let there = found_row setup e past g (claim_key h.pod.meta.namespace h.name) (Claim h.claim) asked reply in
         absurd (true≢false (sym (deleting (claim_key h.pod.meta.namespace h.name) h.claim there h.its) ∙ h.staying))
@@ -118,18 +104,18 @@ half_before setup e past g u deleting seat node (Mine at flag o since same held)
     }
 
     by : (recent : List Entry) → e ∷ since_epoch node (own seat past) ≡ recent ++ h.teller ∷ h.earlier → last_get (claim_key h.pod.meta.namespace h.name) recent ≡ Some (Found (Claim h.claim)) → IsHalfReady setup past seat node u
-    by [] eq r = absurd (none_some r)
+    by [] eq r = absurd (none-some _ r)
     by (x ∷ rest) eq r =
         let is_e : x ≡ e = ap (head_of e) (sym eq) in
         let r2 = subst (λ (y : Entry). last_get (claim_key h.pod.meta.namespace h.name) (y ∷ rest) ≡ Some (Found (Claim h.claim))) is_e r in
         read rest (ap tail_of eq) (e.told && is_get_of (claim_key h.pod.meta.namespace h.name) e.request) refl r2
 
-agents_before : (setup : Setup) (e : Entry) (past : List Entry) (seat : ℕ) → AreAgents (own seat (e ∷ past)) → AreAgents (own seat past)
+agents_before : (setup : Setup) (e : Entry) (past : List Entry) (seat : ℕ) → AreOfKind seats.Agent (own seat (e ∷ past)) → AreOfKind seats.Agent (own seat past)
 agents_before setup e past seat a = by (own_step seat e past)
   where
-    by : OwnStep seat e past → AreAgents (own seat past)
-    by (Own at same) = (let b : AreAgents (e ∷ own seat past) = subst AreAgents same a in b.1)
-    by (Others apart same) = subst AreAgents same a
+    by : OwnStep seat e past → AreOfKind seats.Agent (own seat past)
+    by (Own at same) = (let b : AreOfKind seats.Agent (e ∷ own seat past) = subst (AreOfKind seats.Agent) same a in b.1)
+    by (Others apart same) = subst (AreOfKind seats.Agent) same a
 
 held_before : (setup : Setup) (e : Entry) (past : List Entry) (node : List ℕ) (seat : ℕ) (u : Uid) → HolderStep setup e past node seat → IsHalfReady setup (e ∷ past) seat node u → Holds setup past node seat
 held_before setup e past node seat u (Took at flag none next) h = absurd (no_split h.recent h.teller h.earlier (sym none ∙ h.split.since))
@@ -174,9 +160,6 @@ any_in f x (y ∷ ys) (inr more) e = by (f y) (any_in f x ys more e)
 abbrev items_of : List Object → Reply → List Object
 items_of none (Listed items version) = items
 items_of none r = none
-
-text_same : (a b : List ℕ) → a ≡ b → bytes_eq a b ≡ true
-text_same a b e = (bytes_eq-Decides a b).1 e
 
 -- a scheduled pod that stands and names the claim would have been listed
 pod_listed : (setup : Setup) (e : Entry) (past : List Entry) → Good setup (e ∷ past) → (o : ClaimData) → IsListing o e.request e.reply → (p : PodData) → StandsOn (world setup past) p → is_scheduled p ≡ true → (name : List ℕ) → has_name name p.claims ≡ true → key_of (Claim o) ≡ claim_key p.meta.namespace name → ⊥
@@ -233,7 +216,7 @@ unguards setup (e ∷ past) g run start seat o u known keyed h = by (unguards se
 -- the evidence of a step
 pub step_going : (setup : Setup) (past : List Entry) → Good setup past → Run setup past → Mountless setup → (o : ClaimData) (u : Uid) → Was setup past (Claim o) → o.meta.uid ≡ Some u → Unguards past o → IsGoing setup past u
 step_going setup past g run start o u was known un =
-    unguards setup past g run start un.seat o u known (λ c w its. uid_key setup past g (Claim c) (Claim o) w was (its ∙ sym known)) un.unused
+    unguards setup past g run start un.seat o u known (λ c w its. (invariant_of setup past g).keyed (Claim c) (Claim o) w was (its ∙ sym known)) un.unused
 
 pub loose : (setup : Setup) (past : List Entry) → Good setup past → Run setup past → Mountless setup → LooseMayGo setup [] → LooseMayGo setup past
 loose setup [] g run start first k c u is none known = first k c u is none known

@@ -19,14 +19,16 @@ use Rattle.binder_model.specs.Safe.{is_mounted, KeepsMounted}
 use Rattle.binder_model.specs.World.{world}
 use Rattle.binder_model.specs.Run.{Run}
 use Rattle.world_moves.specs.Writes.{IsLeaving}
-use Rattle.world_moves.proofs.Moves.{none_some}
 use Rattle.world_moves.specs.DeviceMoves.{MountIn}
 use Rattle.world_invariant.specs.Was.{Was, Made}
-use Rattle.world_invariant.proofs.Came.{claim_keyed, claim_came, row_was}
+use Rattle.world_invariant.proofs.Came.{claim_came, row_was}
 use Rattle.world_invariant.specs.Good.{Good}
 use Rattle.world_invariant.proofs.Known.{invariant_of}
 use Rattle.mount_law.specs.Mounts.{UidIn, Mountless, IsGoing, LooseMayGo}
 use Rattle.mount_law.proofs.Loose.{loose, step_going}
+use Rattle.std.proofs.lemmas.Option.{none-some}
+use Rattle.world_moves.proofs.Objects.{claim_keyed, some_claim}
+use Rattle.world_moves.proofs.Tests.{known_uid}
 
 -- what leaves has no finalizers
 unguarded_claim : (c : ClaimData) → leaves (Claim c) ≡ true → is_protected_claim c ≡ false
@@ -40,13 +42,6 @@ unguarded_claim c l = by c.meta.finalizers refl
     by : (fs : List (List ℕ)) → c.meta.finalizers ≡ fs → has_name pvc_protection c.meta.finalizers ≡ false
     by [] e = rw e refl
     by (f ∷ fs) e = let none : (is_deleting c.meta && false) ≡ true = rw e at l in no_and (is_deleting c.meta) none
-
-claim_one : (a b : ClaimData) → Some (Claim a) ≡ Some (Claim b) → a ≡ b
-claim_one a b e = ap (λ x. of x) e
-  where
-    of : Option Object → ClaimData
-    of (Some (Claim v)) = v
-    of x = a
 
 uid_of_same : (a b : Uid) → same_uid a b ≡ true → b ≡ a
 uid_of_same a b e = let n : b.0 ≡ a.0 = grind (arith, nat_tests) in ap (λ (k : ℕ). record { 0 = k }) n
@@ -76,10 +71,6 @@ mount_of u (m ∷ ms) e = by (list_any (same_uid u) m.row.claims) refl e (mount_
 mounted_uid : (d : Devices) (c : ClaimData) (u : Uid) → c.meta.uid ≡ Some u → is_mounted d c ≡ true → HasMount d.mounts u
 mounted_uid d c u known is = mount_of u d.mounts (let t : list_any (λ m. list_any (same_uid u) m.row.claims) d.mounts ≡ true = rw known at is in t)
 
-pub known_uid : (x : Option Uid) → is_some x ≡ true → (u : Uid) × (x ≡ Some u)
-known_uid None e = absurd (true≢false (sym e))
-known_uid (Some u) e = (u, refl)
-
 pub mounts_kept : (setup : Setup) (e : Entry) (past : List Entry) → Good setup (e ∷ past) → Run setup (e ∷ past) → Mountless setup → LooseMayGo setup [] → KeepsMounted (world setup past) (world setup (e ∷ past)).store.rows
 mounts_kept setup e past g run start first key c is mounted = by (row_at key (world setup (e ∷ past)).store.rows) refl
   where
@@ -87,12 +78,12 @@ mounts_kept setup e past g run start first key c is mounted = by (row_at key (wo
     gone : (u : Uid) → c.meta.uid ≡ Some u → IsGoing setup past u → ⊥
     gone u known i = let m = mounted_uid (world setup past).devices c u known mounted in i.go.unmounted m.mount m.is_in m.has
 
-    left : (l : ClaimData) → Made setup past (Claim l) → key_of (Claim l) ≡ key → IsLeaving (Claim l) → ⊥
+    left : (l : ClaimData) → Made setup past (Claim l) → key_of (Claim l) ≡ key → IsLeaving e.request (Claim l) → ⊥
     left l made at leaving = elim (claim_came setup past l made) [
-      | inl began ↦ none_some (sym began.first.free ∙ ap (λ j. row_at j (world setup past).store.rows) at ∙ is)
+      | inl began ↦ none-some _ (sym began.first.free ∙ ap (λ j. row_at j (world setup past).store.rows) at ∙ is)
       | inr came ↦
           let there : row_at key (world setup past).store.rows ≡ Some (Claim came.old) = ap (λ j. row_at j (world setup past).store.rows) (sym at) ∙ came.next.there in
-          let old : came.old ≡ c = claim_one came.old c (sym there ∙ is) in
+          let old : came.old ≡ c = some_claim came.old c (sym there ∙ is) in
           let was : Was setup past (Claim came.old) = row_was setup past key (Claim came.old) there in
           let u = known_uid came.old.meta.uid ((invariant_of setup past g.0).has (Claim came.old) was) in
           let known : c.meta.uid ≡ Some u.0 = ap (λ (x : ClaimData). x.meta.uid) (sym old) ∙ u.1 in
@@ -107,4 +98,4 @@ mounts_kept setup e past g run start first key c is mounted = by (row_at key (wo
     by None now =
         let h = g.1.left key (Claim c) is now in
         let l = claim_keyed h.last c (row_at_key key (Claim c) (world setup past).store.rows is ∙ sym h.key) in
-        absurd (left l.0 (subst (Made setup past) l.1 h.written.write) (sym (ap key_of l.1) ∙ h.key) (subst IsLeaving l.1 h.leaving))
+        absurd (left l.0 (subst (Made setup past) l.1 h.written.write) (sym (ap key_of l.1) ∙ h.key) (subst (IsLeaving e.request) l.1 h.leaving))

@@ -17,20 +17,21 @@ use Rattle.call_types.specs.declared.request.Request.TheVariants as requests
 use Rattle.call_types.specs.declared.reply.Reply.TheVariants.{Found}
 use Rattle.binder_model.specs.Answers.{is_user}
 use Rattle.binder_model.specs.Devices.{MountAt}
-use Rattle.binder_model.specs.Told.{TellsObject, IsPodWith}
-use Rattle.binder_model.specs.BindWrites.{claim_key}
+use Rattle.binder_model.specs.Told.{TellsObject, IsPodWith, own}
+use Rattle.binder_model.specs.ObjectKeys.{claim_key}
 use Rattle.binder_model.specs.AgentLicence.{AreReadReady, last_get, never_finished}
 use Rattle.binder_model.specs.Licence.{Licensed, AreOfKind}
 use Rattle.binder_model.specs.World.{world}
-use Rattle.binder_model.specs.Run.{Run, own}
+use Rattle.binder_model.specs.Run.{Run}
 use Rattle.world_moves.specs.DeviceMoves.{MountIn}
 use Rattle.world_invariant.specs.Good.{Good}
 use Rattle.world_invariant.specs.Holders.{Holds}
 use Rattle.mount_law.proofs.Unmounted.{MountedBy, new_mount, unmounted}
-use Rattle.mount_law.specs.Mounts.{IsSplit, AreAgents, StandsOn, UidIn, NamesUid, IsPodMount, IsHalfReady, Mountless}
+use Rattle.mount_law.specs.Mounts.{IsSplit, StandsOn, UidIn, NamesUid, IsPodMount, IsHalfReady, Mountless}
 use Rattle.mount_law.proofs.Since.{has_taken, told_since}
 use Rattle.mount_law.proofs.Pods.{pod_next, pods_stay}
 use Rattle.mount_law.proofs.Ready.{read_was}
+use Rattle.std.proofs.lemmas.Bool.{or_right}
 
 -- the name and the read of a UID among those that are ready
 pub record IsReadyFor (recent : List Entry) (namespace : List ℕ) (names : List (List ℕ)) (u : Uid) : Type 0 where
@@ -44,10 +45,6 @@ pub record IsReadyFor (recent : List Entry) (namespace : List ℕ) (names : List
 has_first : (name : List ℕ) (names : List (List ℕ)) → has_name name (name ∷ names) ≡ true
 has_first name names = let same : bytes_eq name name ≡ true = (bytes_eq-Decides name name).1 refl in rw same refl
 
-or_right : (a b : Bool) → b ≡ true → (a || b) ≡ true
-or_right true b e = refl
-or_right false b e = e
-
 ready_for : (recent : List Entry) (namespace : List ℕ) (names : List (List ℕ)) (uids : List Uid) → AreReadReady recent namespace names uids → (u : Uid) → UidIn u uids → IsReadyFor recent namespace names u
 ready_for recent namespace [] [] r u h = absurd h
 ready_for recent namespace [] (x ∷ xs) r u h = absurd r
@@ -59,14 +56,10 @@ ready_for recent namespace (n ∷ ns) (x ∷ xs) r u h = elim h [
       record { name = f.name; named = or_right (bytes_eq n f.name) (has_name f.name ns) f.named; claim = f.claim; read = f.read; its = f.its; staying = f.staying }
 ]
 
-agents : (mine : List Entry) → AreOfKind seats.Agent mine → AreAgents mine
-agents [] all = tt
-agents (e ∷ mine) all = (All-head (λ e. e.kind ≡ seats.Agent) e mine all, agents mine (All-tail (λ e. e.kind ≡ seats.Agent) e mine all))
-
 -- the seat of an allowed Mount is an agent's throughout
-mount_agents : (mine : List Entry) (kind : SeatKind) (node : List ℕ) (epoch : ℕ) (pod : Uid) (claims : List Uid) → is_user kind ≡ false → Licensed kind mine (requests.Mount node epoch pod claims) → AreAgents mine
+mount_agents : (mine : List Entry) (kind : SeatKind) (node : List ℕ) (epoch : ℕ) (pod : Uid) (claims : List Uid) → is_user kind ≡ false → Licensed kind mine (requests.Mount node epoch pod claims) → AreOfKind seats.Agent mine
 mount_agents mine seats.User node epoch pod claims c l = absurd (true≢false c)
-mount_agents mine seats.Agent node epoch pod claims c l = agents mine l.0
+mount_agents mine seats.Agent node epoch pod claims c l = l.0
 mount_agents mine kind node epoch pod claims c l = absurd l.1
 
 -- who mounts, is half ready for each claim
@@ -94,11 +87,11 @@ half_ready setup e past run m by_this u h =
       staying = r.staying;
     }
 
-pub mount_is_agents : (setup : Setup) (e : Entry) (past : List Entry) → Run setup (e ∷ past) → (m : MountAt) → MountedBy setup e past m → AreAgents (own e.seat past)
+pub mount_is_agents : (setup : Setup) (e : Entry) (past : List Entry) → Run setup (e ∷ past) → (m : MountAt) → MountedBy setup e past m → AreOfKind seats.Agent (own e.seat past)
 mount_is_agents setup e past run m b = mount_agents (own e.seat past) e.kind m.node b.epoch m.row.pod m.row.claims b.controller (subst (Licensed e.kind (own e.seat past)) b.asked run.2)
 
 -- the pod for which the holder is half ready stands, and the claim that it found was
-pub shown_stands : (setup : Setup) (past : List Entry) → Good setup past → Run setup past → (node : List ℕ) (seat : ℕ) → Holds setup past node seat → AreAgents (own seat past)
+pub shown_stands : (setup : Setup) (past : List Entry) → Good setup past → Run setup past → (node : List ℕ) (seat : ℕ) → Holds setup past node seat → AreOfKind seats.Agent (own seat past)
     → (recent : List Entry) (teller : Entry) (earlier : List Entry) → IsSplit node (own seat past) recent teller earlier → (p : PodData) (uid : Uid) → TellsObject (IsPodWith (λ x. x ≡ p)) teller → p.node ≡ node → is_scheduled p ≡ true → p.meta.uid ≡ Some uid → never_finished uid (own seat past) ≡ true → StandsOn (world setup past) p
 shown_stands setup past g run node seat holds agents recent teller earlier split p uid told on scheduled known never =
     let t = has_taken setup past seat node _ holds in

@@ -22,14 +22,14 @@ use Rattle.binder_model.specs.Devices.{epoch_of}
 use Rattle.binder_model.specs.AgentLicence.{MayFinish, never_finished, is_finish_of}
 use Rattle.binder_model.specs.Licence.{Licensed}
 use Rattle.binder_model.specs.World.{World, OnStore, world}
-use Rattle.binder_model.specs.Run.{Run, own}
+use Rattle.binder_model.specs.Told.{own}
+use Rattle.binder_model.specs.Run.{Run}
 use Rattle.binder_model.specs.Store.{at_version}
 use Rattle.model_laws.proofs.Identity.{key-at_version}
-use Rattle.world_moves.specs.Writes.{Writes, PodGoes}
+use Rattle.world_moves.specs.Writes.{IsLeaving, Writes, PodGoes}
 use Rattle.world_moves.specs.Whence.{IsNext}
-use Rattle.world_moves.proofs.Moves.{moves, one, none_some}
-use Rattle.world_moves.proofs.DeviceMoves.{uid_same, stale_none}
-use Rattle.world_moves.proofs.PodsLeft.{pod_goes}
+use Rattle.world_moves.proofs.Moves.{moves}
+use Rattle.world_moves.proofs.DeviceMoves.{stale_none}
 use Rattle.world_moves.proofs.Tests.{same_text, uid_is}
 use Rattle.world_invariant.specs.Was.{Stands, KindStep, PodStep, Made}
 use Rattle.world_invariant.specs.Good.{Good}
@@ -38,26 +38,12 @@ use Rattle.world_invariant.specs.Holders.{Holds}
 use Rattle.world_invariant.proofs.Holders.{HolderStep, Took, Mine, Other, holder_step, one_holder}
 use Rattle.mount_law.proofs.Since.{takes_node, Unless, WasSince}
 use Rattle.mount_law.specs.Mounts.{StandsOn}
+use Rattle.std.proofs.lemmas.Option.{same_Some, none-some}
+use Rattle.world_moves.proofs.Objects.{pod_keyed, some_pod}
+use Rattle.world_moves.proofs.Tests.{uid_same}
 
 pub itself_on : (w : World) (p : PodData) → Stands w (Pod p) → StandsOn w p
 itself_on w p is = record { pod = p; there = is; uid = refl; node = refl; claims = refl }
-
-pod_of_kind : (o : Object) → kind_index (key_of o).kind ≡ 4 → (p : PodData) × (o ≡ Pod p)
-pod_of_kind (Class x) e = absurd (omega (arith, e))
-pod_of_kind (Node x) e = absurd (omega (arith, e))
-pod_of_kind (Volume x) e = absurd (omega (arith, e))
-pod_of_kind (Claim x) e = absurd (omega (arith, e))
-pod_of_kind (Pod x) e = (x, refl)
-
-pub pod_keyed : (o : Object) (p : PodData) → key_of (Pod p) ≡ key_of o → (q : PodData) × (o ≡ Pod q)
-pod_keyed o p e = pod_of_kind o (ap (λ k. kind_index k.kind) (sym e))
-
-pub pod_one : (a b : PodData) → Some (Pod a) ≡ Some (Pod b) → a ≡ b
-pod_one a b e = ap (λ x. of x) e
-  where
-    of : Option Object → PodData
-    of (Some (Pod v)) = v
-    of x = a
 
 -- a pod that was made of one that stands
 record PodCame (setup : Setup) (past : List Entry) (q p : PodData) : Type 0 where
@@ -65,12 +51,12 @@ record PodCame (setup : Setup) (past : List Entry) (q p : PodData) : Type 0 wher
   step : PodStep q p
 
 pod_came : (setup : Setup) (past : List Entry) (q p : PodData) → row_at (key_of (Pod p)) (world setup past).store.rows ≡ Some (Pod q) → Made setup past (Pod p) → PodCame setup past q p
-pod_came setup past q p is (inl s) = absurd (none_some (sym s.first.free ∙ is))
-pod_came setup past q p is (inr f) = by f.old f.next f.step (one f.old (Pod q) (sym f.next.there ∙ is))
+pod_came setup past q p is (inl s) = absurd (none-some _ (sym s.first.free ∙ is))
+pod_came setup past q p is (inr f) = by f.old f.next f.step (same_Some f.old (Pod q) (sym f.next.there ∙ is))
   where
     by : (old : Object) → IsNext (world setup past).store old (Pod p) → KindStep setup past old (Pod p) → old ≡ Pod q → PodCame setup past q p
     by (Pod a) n s e =
-        let same : a ≡ q = pod_one a q (ap (λ (o : Object). Some o) e) in
+        let same : a ≡ q = some_pod a q (ap (λ (o : Object). Some o) e) in
         subst (λ (x : PodData). PodCame setup past x p) same (record { next = n; step = s })
     by (Class a) n s e = absurd (omega (arith, ap (λ o. kind_index (key_of o).kind) e))
     by (Node a) n s e = absurd (omega (arith, ap (λ o. kind_index (key_of o).kind) e))
@@ -95,7 +81,7 @@ finished_is : (rows : List Object) (q : PodData) (k : Key) → row_at k rows ≡
 finished_is rows q k is p at f key n there e =
     let same : key_of (Pod f) ≡ k = sym (key-at_version (Pod f) n) ∙ ap key_of (sym e) ∙ at in
     let here : row_at k rows ≡ Some (Pod f) = ap (λ j. row_at j rows) (sym same ∙ row_at_key key (Pod f) rows there) ∙ there in
-    pod_one f q (sym here ∙ is)
+    some_pod f q (sym here ∙ is)
 
 -- a scheduled pod that stood and stands no more was finished
 pod_finished : (setup : Setup) (e : Entry) (past : List Entry) → Good setup (e ∷ past) → Run setup (e ∷ past) → (q : PodData) (k : Key) (uid : Uid) → row_at k (world setup past).store.rows ≡ Some (Pod q) → is_scheduled q ≡ true → q.meta.uid ≡ Some uid
@@ -105,9 +91,9 @@ pod_finished setup e past g run q k uid is scheduled known none =
     let a = g.1.left k (Pod q) is none in
     let b = (moves setup w e.kind e.request (invariant_of setup past g.0).order).left k (Pod q) is none in
     let p = pod_keyed a.last q (row_at_key k (Pod q) _ is ∙ sym a.key) in
-    let same : b.last ≡ a.last = one b.last a.last (sym b.written.is ∙ a.written.is) in
+    let same : b.last ≡ a.last = same_Some b.last a.last (sym b.written.is ∙ a.written.is) in
     by e.request refl p.0 (subst (Made setup past) p.1 a.written.write) (sym (ap key_of p.1) ∙ a.key)
-    (pod_goes setup w e.kind e.request p.0 (a.removes ∙ ap (λ (o : Object). OnStore (Removes o)) p.1))
+    (subst (IsLeaving e.request) p.1 a.leaving)
     (subst (λ (o : Object). Writes w e.kind e.request o) (same ∙ p.1) b.written.write)
   where
     by : (request : Request) → e.request ≡ request → (p : PodData) → Made setup past (Pod p) → key_of (Pod p) ≡ k → PodGoes request p → Writes (world setup past) e.kind request (Pod p) → IsFinished setup e past q.node uid
@@ -137,7 +123,7 @@ pod_next setup e past g run p uid scheduled known s not_finished = by (row_at (k
     stands : (q : PodData) → row_at (key_of (Pod p)) (world setup (e ∷ past)).store.rows ≡ Some (Pod q) → StandsOn (world setup (e ∷ past)) p
     stands q is = elim (g.1.row (key_of (Pod p)) (Pod q) is) [
       | inl same ↦
-          let e1 : s.pod ≡ q = pod_one s.pod q (sym s.there ∙ same) in
+          let e1 : s.pod ≡ q = some_pod s.pod q (sym s.there ∙ same) in
           record { pod = q; there = is; uid = ap (λ (x : PodData). x.meta.uid) (sym e1) ∙ s.uid; node = ap (λ (x : PodData). x.node) (sym e1) ∙ s.node; claims = ap (λ (x : PodData). x.claims) (sym e1) ∙ s.claims }
       | inr new ↦
           let at = row_at_key (key_of (Pod p)) (Pod q) (world setup (e ∷ past)).store.rows is in

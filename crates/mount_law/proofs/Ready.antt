@@ -6,7 +6,7 @@ use Rattle.kube_types.specs.declared.key.Key.{Key}
 use Rattle.kube_types.specs.declared.parts.Kind.{Kind}
 use Rattle.kube_types.specs.declared.parts.Kind.TheVariants as kinds
 use Rattle.kube_types.specs.declared.objects.Object.{Object}
-use Rattle.kube_types.specs.Keys.{key_of, kind_index, row_at, same_key}
+use Rattle.kube_types.specs.Keys.{key_of, kind_index, row_at}
 use Rattle.kube_types.proofs.KeyOrder.{row_at_key}
 use Rattle.call_types.specs.declared.entry.Entry.{Entry}
 use Rattle.call_types.specs.declared.setup.Setup.{Setup}
@@ -14,42 +14,20 @@ use Rattle.call_types.specs.declared.request.Request.{Request}
 use Rattle.call_types.specs.declared.request.Request.TheVariants as requests
 use Rattle.call_types.specs.declared.reply.Reply.{Reply}
 use Rattle.call_types.specs.declared.reply.Reply.TheVariants.{Found}
-use Rattle.binder_model.specs.Told.{SomeOf}
+use Rattle.binder_model.specs.Told.{SomeOf, own}
 use Rattle.binder_model.specs.AgentLicence.{is_get_of, last_get, since_epoch, epoch_in}
 use Rattle.binder_model.specs.World.{world, effect, reply_to}
-use Rattle.binder_model.specs.Run.{own}
 use Rattle.model_laws.specs.Reads.{found}
 use Rattle.model_laws.proofs.Readings.{gets_tell_what_stands}
-use Rattle.world_moves.proofs.Tests.{both, same_text}
+use Rattle.world_moves.proofs.Tests.{same_text}
 use Rattle.world_invariant.specs.Was.{Was}
 use Rattle.world_invariant.proofs.Came.{row_was}
 use Rattle.world_invariant.specs.Good.{Good}
-
--- keys that are equal by their test
-kind_of_index : ℕ → Kind
-kind_of_index n = if n == 0 then kinds.StorageClass else if n == 1 then kinds.Node else if n == 2 then kinds.PersistentVolume else if n == 3 then kinds.PersistentVolumeClaim else kinds.Pod
-
-kind_back : (k : Kind) → kind_of_index (kind_index k) ≡ k
-unfolding kind_of_index
-kind_back kinds.StorageClass = refl
-kind_back kinds.Node = refl
-kind_back kinds.PersistentVolume = refl
-kind_back kinds.PersistentVolumeClaim = refl
-kind_back kinds.Pod = refl
-
-pub key_same : (a b : Key) → same_key a b ≡ true → a ≡ b
-key_same a b e =
-    let t = both (kind_index a.kind == kind_index b.kind && bytes_eq a.namespace b.namespace) (bytes_eq a.name b.name) e in
-    let s = both (kind_index a.kind == kind_index b.kind) (bytes_eq a.namespace b.namespace) t.0 in
-    let s0 = s.0 in
-    let i : kind_index a.kind ≡ kind_index b.kind = grind (arith, nat_tests) in
-    let k : a.kind ≡ b.kind = sym (kind_back a.kind) ∙ ap kind_of_index i ∙ kind_back b.kind in
-    let n = same_text a.namespace b.namespace s.1 in
-    let m = same_text a.name b.name t.1 in
-    λ j. record { kind = k j; namespace = n j; name = m j }
+use Rattle.std.proofs.lemmas.Bool.{and_parts}
+use Rattle.kube_types.proofs.SameKeys.{same_key-Decides}
 
 get_of : (key : Key) (request : Request) → is_get_of key request ≡ true → request ≡ requests.Get key
-get_of key (requests.Get asked) e = ap (λ (k : Key). requests.Get k) (key_same asked key e)
+get_of key (requests.Get asked) e = ap (λ (k : Key). requests.Get k) ((same_key-Decides asked key).0 e)
 get_of key request e = absurd (true≢false (sym e))
 
 -- what a Get found stands there
@@ -108,7 +86,7 @@ last_get_in key [] reply e = absurd (true≢false (sym (ap is_some e)))
 last_get_in key (x ∷ mine) reply e = by (x.told && is_get_of key x.request) refl e (last_get_in key mine reply)
   where
     by : (b : Bool) → (x.told && is_get_of key x.request) ≡ b → (if b then Some x.reply else last_get key mine) ≡ Some reply → (last_get key mine ≡ Some reply → IsLastGet key mine reply) → IsLastGet key (x ∷ mine) reply
-    by true t e f = record { entry = x; is_in = inl refl; asked = (both x.told (is_get_of key x.request) t).1; answer = ap (λ z. unwrap_or z x.reply) e }
+    by true t e f = record { entry = x; is_in = inl refl; asked = (and_parts x.told (is_get_of key x.request) t).1; answer = ap (λ z. unwrap_or z x.reply) e }
     by false t e f = let r = f e in record { entry = r.entry; is_in = inr r.is_in; asked = r.asked; answer = r.answer }
 
 -- the entries since the epoch are among all

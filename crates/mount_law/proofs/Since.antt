@@ -23,25 +23,26 @@ use Rattle.call_types.specs.declared.reply.Refusal.TheVariants.{Gone}
 use Rattle.call_types.specs.declared.reply.Reply.{Reply}
 use Rattle.call_types.specs.declared.reply.Reply.TheVariants.{Listed, Events, Refused}
 use Rattle.binder_model.specs.Answers.{Says, reply_of}
-use Rattle.binder_model.specs.Told.{SomeOf, first_some, objects_in, objects_of_event, objects_of_events, IsPodWith, TellsObject}
+use Rattle.binder_model.specs.Told.{SomeOf, first_some, objects_in, objects_of_event, objects_of_events, IsPodWith, TellsObject, own}
 use Rattle.binder_model.specs.Watching.{most_events, is_later, events_after, last_version, reached_version, told_events, oldest}
 use Rattle.binder_model.specs.AgentLicence.{epoch_in, last_epoch, since_epoch, is_pod_list, ListedPods}
-use Rattle.binder_model.specs.Licence.{Licensed}
+use Rattle.binder_model.specs.Licence.{AreOfKind, Licensed}
 use Rattle.binder_model.specs.Reading.{Following, Unlisted, ListedAt, follow_on, following_of, IsFrom}
-use Rattle.binder_model.specs.World.{World, OnStore, world, effect, reply_to, watch}
-use Rattle.binder_model.specs.Run.{Run, own}
+use Rattle.binder_model.specs.World.{base, World, OnStore, world, effect, reply_to, watch}
+use Rattle.binder_model.specs.Run.{Run}
 use Rattle.model_laws.proofs.Versions.{versions_count_writes}
 use Rattle.model_laws.proofs.Readings.{lists_tell_what_stands}
-use Rattle.world_moves.specs.Moves.{IsIn}
-use Rattle.world_moves.proofs.Moves.{none_some}
-use Rattle.world_moves.specs.Tellings.{is_watch}
-use Rattle.world_moves.proofs.Tells.{tells_now, events_some, some_take, some_reverse, some_filter, TellsIt}
-use Rattle.world_moves.proofs.Tests.{both}
+use Rattle.world_moves.specs.Writes.{IsIn}
+use Rattle.world_moves.specs.Writes.{is_watch}
+use Rattle.world_moves.proofs.Lists.{some_take, some_reverse, some_filter}
+use Rattle.world_moves.proofs.Tells.{tells_now, events_some, TellsIt}
 use Rattle.world_invariant.specs.Was.{Was, Stands}
 use Rattle.world_invariant.specs.Good.{Good}
 use Rattle.world_invariant.proofs.Known.{invariant_of, entry_tells}
 use Rattle.world_invariant.proofs.Holders.{OwnStep, Own, Others, own_step}
-use Rattle.mount_law.specs.Mounts.{AreAgents, IsSplit}
+use Rattle.mount_law.specs.Mounts.{IsSplit}
+use Rattle.std.proofs.lemmas.Bool.{and_parts}
+use Rattle.std.proofs.lemmas.Option.{same_Some, none-some}
 
 -- the entry tells the seat an epoch of the node
 abbrev pub takes_node : ℕ → List ℕ → Entry → Bool
@@ -72,15 +73,12 @@ on_since setup seat node e past o f h = inr (subst (λ (b : Bool). Unless b (Was
 same_taken : (setup : Setup) (seat : ℕ) (node : List ℕ) (e : Entry) (past : List Entry) → takes_node seat node e ≡ false → taken_version setup seat node (e ∷ past) ≡ taken_version setup seat node past
 same_taken setup seat node e past f = rw f refl
 
-nat_one : (a b : ℕ) → Some a ≡ Some b → a ≡ b
-nat_one a b e = ap (λ x. unwrap_or x a) e
-
 pub taken_low : (setup : Setup) (past : List Entry) → Good setup past → (seat : ℕ) (node : List ℕ) (v : ℕ) → taken_version setup seat node past ≡ Some v → v ≤ (world setup past).store.version
-taken_low setup [] g seat node v is = absurd (none_some is)
+taken_low setup [] g seat node v is = absurd (none-some _ is)
 taken_low setup (e ∷ past) g seat node v is = by (taken_low setup past g.0 seat node v) (takes_node seat node e) is
   where
     by : (taken_version setup seat node past ≡ Some v → v ≤ (world setup past).store.version) → (b : Bool) → (if b then Some (world setup (e ∷ past)).store.version else taken_version setup seat node past) ≡ Some v → v ≤ (world setup (e ∷ past)).store.version
-    by f true t = let s = nat_one _ v t in omega (arith, s)
+    by f true t = let s = same_Some _ v t in omega (arith, s)
     by f false t = let low = f t in let up = g.1.rises in omega (arith, low, up)
 
 -- what was, above that version, was since
@@ -92,13 +90,13 @@ above_since setup (e ∷ past) g seat node v is o above was = by (above_since se
         → Stands (world setup (e ∷ past)) o ⊎ Unless b (WasSince setup seat node past o)
     by f true t =
         let low = (invariant_of setup (e ∷ past) g).version o was in
-        let s = nat_one (world setup (e ∷ past)).store.version v t in
+        let s = same_Some (world setup (e ∷ past)).store.version v t in
         absurd (omega (arith, low, s, above))
     by f false t = elim was [ inl before ↦ inr (f t o above before) | inr now ↦ inl now ]
 
 -- whoever was told an epoch took the node
 pub has_taken : (setup : Setup) (past : List Entry) (seat : ℕ) (node : List ℕ) (epoch : ℕ) → last_epoch node (own seat past) ≡ Some epoch → (v : ℕ) × (taken_version setup seat node past ≡ Some v)
-has_taken setup [] seat node epoch is = absurd (none_some is)
+has_taken setup [] seat node epoch is = absurd (none-some _ is)
 has_taken setup (e ∷ past) seat node epoch is = by (has_taken setup past seat node epoch) (own_step seat e past)
   where
     first : (last_epoch node (own seat past) ≡ Some epoch → (v : ℕ) × (taken_version setup seat node past ≡ Some v)) → e.seat ≡ seat → (x : Option ℕ) → epoch_in node e ≡ x → first_some x (last_epoch node (own seat past)) ≡ Some epoch → (v : ℕ) × (taken_version setup seat node (e ∷ past) ≡ Some v)
@@ -148,7 +146,7 @@ lt_is a b h = grind (arith, nat_tests)
 pub watched_event : (k : Kind) (from : ℕ) (log : List Event) (x : Event) → SomeOf (λ y. y ≡ x) (take most_events (events_after k from log)) → IsWatched k from log x
 watched_event k from log x h =
     let f = some_reverse (λ y. y ≡ x) (filter (is_later k from) log) (some_take (λ y. y ≡ x) most_events (events_after k from log) h) in
-    let p = both (nat_lt from x.version) (is_of_kind k x.object) (filter_passes (is_later k from) x log f) in
+    let p = and_parts (nat_lt from x.version) (is_of_kind k x.object) (filter_passes (is_later k from) x log f) in
     record { logged = some_filter (λ y. y ≡ x) (is_later k from) log f; later = lt_is from x.version p.0; kind = p.1 }
 
 abbrev AllAbove : ℕ → List Event → Type 0
@@ -189,7 +187,7 @@ events_or false false q r x es e = sym (ap (events_of es) e)
 
 pub watch_events : (setup : Setup) (w : World) (kind : SeatKind) (k : Kind) (from : ℕ) (es : EventsData) → reply_to (effect setup w kind (requests.Watch k from)) ≡ Events es → es ≡ told_events k from w.store.version w.log
 unfolding effect watch
-watch_events setup w kind k from es e = events_or (nat_lt w.store.version from) (nat_lt from (oldest w.store.version)) _ _ _ es e
+watch_events setup w kind k from es e = events_or (nat_lt w.store.version from) (nat_lt from (oldest (base setup) w.store.version)) _ _ _ es e
 
 -- where the seat stands with pods
 
@@ -267,12 +265,12 @@ listed_or : (v : ℕ) (e : Entry) (mine : List Entry) (since : List Entry) → L
 listed_or v e mine since listed f true t facts = step v e.request e.reply (following_of mine kinds.Pod) facts (elim listed [ inl now ↦ inl now.1 | inr more ↦ inr (f more) ])
 listed_or v e mine since listed f false t facts = elim listed [ inl now ↦ absurd (true≢false (sym now.0 ∙ t)) | inr more ↦ f more ]
 
-pub followed_since : (setup : Setup) (past : List Entry) → Good setup past → Run setup past → (seat : ℕ) (node : List ℕ) (v : ℕ) → taken_version setup seat node past ≡ Some v → AreAgents (own seat past) → ListedPods (since_epoch node (own seat past)) → AtLeast v (following_of (own seat past) kinds.Pod)
+pub followed_since : (setup : Setup) (past : List Entry) → Good setup past → Run setup past → (seat : ℕ) (node : List ℕ) (v : ℕ) → taken_version setup seat node past ≡ Some v → AreOfKind seats.Agent (own seat past) → ListedPods (since_epoch node (own seat past)) → AtLeast v (following_of (own seat past) kinds.Pod)
 followed_since setup [] g run seat node v is agents listed = absurd listed
 followed_since setup (e ∷ past) g run seat node v is agents listed = by (followed_since setup past g.0 run.0 seat node v) (own_step seat e past)
   where
-    mine : (taken_version setup seat node past ≡ Some v → AreAgents (own seat past) → ListedPods (since_epoch node (own seat past)) → AtLeast v (following_of (own seat past) kinds.Pod))
-        → e.seat ≡ seat → (b : Bool) → is_some (epoch_in node e) ≡ b → AreAgents (e ∷ own seat past) → ListedPods (if b then [] else e ∷ since_epoch node (own seat past)) → AtLeast v (following_of (e ∷ own seat past) kinds.Pod)
+    mine : (taken_version setup seat node past ≡ Some v → AreOfKind seats.Agent (own seat past) → ListedPods (since_epoch node (own seat past)) → AtLeast v (following_of (own seat past) kinds.Pod))
+        → e.seat ≡ seat → (b : Bool) → is_some (epoch_in node e) ≡ b → AreOfKind seats.Agent (e ∷ own seat past) → ListedPods (if b then [] else e ∷ since_epoch node (own seat past)) → AtLeast v (following_of (e ∷ own seat past) kinds.Pod)
     mine f at true flag a l = absurd l
     mine f at false flag a l =
         let own_seat : (e.seat == seat) ≡ true = grind (arith, nat_tests) in
@@ -281,12 +279,12 @@ followed_since setup (e ∷ past) g run seat node v is agents listed = by (follo
         let known = subst (λ (s : ℕ). Facts v e.request e.reply (following_of (own s past) kinds.Pod)) at (facts setup e past g run v (taken_low setup past g.0 seat node v t) a.0) in
         listed_or v e (own seat past) (since_epoch node (own seat past)) l (λ more. f t a.1 more) e.told refl known
 
-    by : (taken_version setup seat node past ≡ Some v → AreAgents (own seat past) → ListedPods (since_epoch node (own seat past)) → AtLeast v (following_of (own seat past) kinds.Pod)) → OwnStep seat e past → AtLeast v (following_of (own seat (e ∷ past)) kinds.Pod)
-    by f (Own at same) = subst (λ (m : List Entry). AtLeast v (following_of m kinds.Pod)) (sym same) (mine f at (is_some (epoch_in node e)) refl (subst AreAgents same agents) (subst (λ (m : List Entry). ListedPods (since_epoch node m)) same listed))
+    by : (taken_version setup seat node past ≡ Some v → AreOfKind seats.Agent (own seat past) → ListedPods (since_epoch node (own seat past)) → AtLeast v (following_of (own seat past) kinds.Pod)) → OwnStep seat e past → AtLeast v (following_of (own seat (e ∷ past)) kinds.Pod)
+    by f (Own at same) = subst (λ (m : List Entry). AtLeast v (following_of m kinds.Pod)) (sym same) (mine f at (is_some (epoch_in node e)) refl (subst (AreOfKind seats.Agent) same agents) (subst (λ (m : List Entry). ListedPods (since_epoch node m)) same listed))
     by f (Others apart same) =
         let not_taken : takes_node seat node e ≡ false = rw apart refl in
         subst (λ (m : List Entry). AtLeast v (following_of m kinds.Pod)) (sym same)
-        (f (sym (same_taken setup seat node e past not_taken) ∙ is) (subst AreAgents same agents) (subst (λ (m : List Entry). ListedPods (since_epoch node m)) same listed))
+        (f (sym (same_taken setup seat node e past not_taken) ∙ is) (subst (AreOfKind seats.Agent) same agents) (subst (λ (m : List Entry). ListedPods (since_epoch node m)) same listed))
 
 abbrev pub head_of : Entry → List Entry → Entry
 head_of none [] = none
@@ -356,7 +354,7 @@ told_or false false q r x o h = refl
 
 watch_tells_events : (setup : Setup) (w : World) (kind : SeatKind) (k : Kind) (from : ℕ) (o : Object) → IsIn o (objects_in (reply_to (effect setup w kind (requests.Watch k from)))) → is_events (reply_to (effect setup w kind (requests.Watch k from))) ≡ true
 unfolding effect watch
-watch_tells_events setup w kind k from o h = told_or (nat_lt w.store.version from) (nat_lt from (oldest w.store.version)) _ _ _ o h
+watch_tells_events setup w kind k from o h = told_or (nat_lt w.store.version from) (nat_lt from (oldest (base setup) w.store.version)) _ _ _ o h
 
 some_pod : (p : PodData) (os : List Object) → SomeOf (IsPodWith (λ x. x ≡ p)) os → IsIn (Pod p) os
 some_pod p [] h = absurd h
@@ -372,7 +370,7 @@ list_no_watch (requests.Watch k from) reply e l = true≢false (sym l)
 list_no_watch request reply e l = absurd (true≢false (sym e))
 
 -- what the newest own entry tells of a pod
-newest_since : (setup : Setup) (e : Entry) (past : List Entry) → Good setup (e ∷ past) → Run setup (e ∷ past) → (node : List ℕ) (v : ℕ) → takes_node e.seat node e ≡ false → taken_version setup e.seat node past ≡ Some v → e.kind ≡ seats.Agent → AreAgents (own e.seat past)
+newest_since : (setup : Setup) (e : Entry) (past : List Entry) → Good setup (e ∷ past) → Run setup (e ∷ past) → (node : List ℕ) (v : ℕ) → takes_node e.seat node e ≡ false → taken_version setup e.seat node past ≡ Some v → e.kind ≡ seats.Agent → AreOfKind seats.Agent (own e.seat past)
     → ListedPods (e ∷ since_epoch node (own e.seat past)) → (p : PodData) → TellsObject (IsPodWith (λ x. x ≡ p)) e → WasSince setup e.seat node (e ∷ past) (Pod p)
 newest_since setup e past g run node v not_taken is agent agents listed p told = by (is_watch e.request) refl
   where
@@ -400,13 +398,13 @@ newest_since setup e past g run node v not_taken is agent agents listed p told =
     ]
 
 -- the pod that was told by a list after the node was taken, or after it, stood since then
-pub told_since : (setup : Setup) (past : List Entry) → Good setup past → Run setup past → (seat : ℕ) (node : List ℕ) (v : ℕ) → taken_version setup seat node past ≡ Some v → AreAgents (own seat past)
+pub told_since : (setup : Setup) (past : List Entry) → Good setup past → Run setup past → (seat : ℕ) (node : List ℕ) (v : ℕ) → taken_version setup seat node past ≡ Some v → AreOfKind seats.Agent (own seat past)
     → (recent : List Entry) (teller : Entry) (earlier : List Entry) → IsSplit node (own seat past) recent teller earlier → (p : PodData) → TellsObject (IsPodWith (λ x. x ≡ p)) teller → WasSince setup seat node past (Pod p)
-told_since setup [] g run seat node v is agents recent teller earlier split p told = absurd (none_some is)
+told_since setup [] g run seat node v is agents recent teller earlier split p told = absurd (none-some _ is)
 told_since setup (e ∷ past) g run seat node v is agents recent teller earlier split p told = by (told_since setup past g.0 run.0 seat node v) (own_step seat e past)
   where
-    mine : ((t : taken_version setup seat node past ≡ Some v) → AreAgents (own seat past) → (recent : List Entry) (teller : Entry) (earlier : List Entry) → IsSplit node (own seat past) recent teller earlier → (p : PodData) → TellsObject (IsPodWith (λ x. x ≡ p)) teller → WasSince setup seat node past (Pod p))
-        → e.seat ≡ seat → is_some (epoch_in node e) ≡ false → AreAgents (e ∷ own seat past) → (recent : List Entry) → e ∷ since_epoch node (own seat past) ≡ recent ++ teller ∷ earlier → WasSince setup seat node (e ∷ past) (Pod p)
+    mine : ((t : taken_version setup seat node past ≡ Some v) → AreOfKind seats.Agent (own seat past) → (recent : List Entry) (teller : Entry) (earlier : List Entry) → IsSplit node (own seat past) recent teller earlier → (p : PodData) → TellsObject (IsPodWith (λ x. x ≡ p)) teller → WasSince setup seat node past (Pod p))
+        → e.seat ≡ seat → is_some (epoch_in node e) ≡ false → AreOfKind seats.Agent (e ∷ own seat past) → (recent : List Entry) → e ∷ since_epoch node (own seat past) ≡ recent ++ teller ∷ earlier → WasSince setup seat node (e ∷ past) (Pod p)
     mine f at flag a [] eq =
         let own_seat : (e.seat == seat) ≡ true = grind (arith, nat_tests) in
         let not_taken : takes_node seat node e ≡ false = rw (own_seat, flag) refl in
@@ -416,7 +414,7 @@ told_since setup (e ∷ past) g run seat node v is agents recent teller earlier 
         let l1 : ListedPods (e ∷ earlier) = subst (λ (x : Entry). ListedPods (x ∷ earlier)) is_e split.listed in
         let l2 : ListedPods (e ∷ since_epoch node (own seat past)) = subst (λ (x : List Entry). ListedPods (e ∷ x)) rest l1 in
         let told_e : TellsObject (IsPodWith (λ x. x ≡ p)) e = subst (λ (x : Entry). TellsObject (IsPodWith (λ y. y ≡ p)) x) is_e told in
-        subst (λ (s : ℕ). takes_node s node e ≡ false → taken_version setup s node past ≡ Some v → AreAgents (own s past) → ListedPods (e ∷ since_epoch node (own s past)) → WasSince setup s node (e ∷ past) (Pod p)) at
+        subst (λ (s : ℕ). takes_node s node e ≡ false → taken_version setup s node past ≡ Some v → AreOfKind seats.Agent (own s past) → ListedPods (e ∷ since_epoch node (own s past)) → WasSince setup s node (e ∷ past) (Pod p)) at
         (λ nt tv ag ls. newest_since setup e past g run node v nt tv a.0 ag ls p told_e) not_taken t a.1 l2
     mine f at flag a (x ∷ recent) eq =
         let own_seat : (e.seat == seat) ≡ true = grind (arith, nat_tests) in
@@ -424,14 +422,14 @@ told_since setup (e ∷ past) g run seat node v is agents recent teller earlier 
         let t : taken_version setup seat node past ≡ Some v = sym (same_taken setup seat node e past not_taken) ∙ is in
         on_since setup seat node e past (Pod p) not_taken (f t a.1 recent teller earlier (record { since = ap tail_of eq; listed = split.listed }) p told)
 
-    cases : ((t : taken_version setup seat node past ≡ Some v) → AreAgents (own seat past) → (recent : List Entry) (teller : Entry) (earlier : List Entry) → IsSplit node (own seat past) recent teller earlier → (p : PodData) → TellsObject (IsPodWith (λ x. x ≡ p)) teller → WasSince setup seat node past (Pod p))
-        → e.seat ≡ seat → (b : Bool) → is_some (epoch_in node e) ≡ b → AreAgents (e ∷ own seat past) → (if b then [] else e ∷ since_epoch node (own seat past)) ≡ recent ++ teller ∷ earlier → WasSince setup seat node (e ∷ past) (Pod p)
+    cases : ((t : taken_version setup seat node past ≡ Some v) → AreOfKind seats.Agent (own seat past) → (recent : List Entry) (teller : Entry) (earlier : List Entry) → IsSplit node (own seat past) recent teller earlier → (p : PodData) → TellsObject (IsPodWith (λ x. x ≡ p)) teller → WasSince setup seat node past (Pod p))
+        → e.seat ≡ seat → (b : Bool) → is_some (epoch_in node e) ≡ b → AreOfKind seats.Agent (e ∷ own seat past) → (if b then [] else e ∷ since_epoch node (own seat past)) ≡ recent ++ teller ∷ earlier → WasSince setup seat node (e ∷ past) (Pod p)
     cases f at true flag a eq = absurd (no_split recent teller earlier eq)
     cases f at false flag a eq = mine f at flag a recent eq
 
-    by : ((t : taken_version setup seat node past ≡ Some v) → AreAgents (own seat past) → (recent : List Entry) (teller : Entry) (earlier : List Entry) → IsSplit node (own seat past) recent teller earlier → (p : PodData) → TellsObject (IsPodWith (λ x. x ≡ p)) teller → WasSince setup seat node past (Pod p)) → OwnStep seat e past → WasSince setup seat node (e ∷ past) (Pod p)
-    by f (Own at same) = cases f at (is_some (epoch_in node e)) refl (subst AreAgents same agents) (ap (since_epoch node) (sym same) ∙ split.since)
+    by : ((t : taken_version setup seat node past ≡ Some v) → AreOfKind seats.Agent (own seat past) → (recent : List Entry) (teller : Entry) (earlier : List Entry) → IsSplit node (own seat past) recent teller earlier → (p : PodData) → TellsObject (IsPodWith (λ x. x ≡ p)) teller → WasSince setup seat node past (Pod p)) → OwnStep seat e past → WasSince setup seat node (e ∷ past) (Pod p)
+    by f (Own at same) = cases f at (is_some (epoch_in node e)) refl (subst (AreOfKind seats.Agent) same agents) (ap (since_epoch node) (sym same) ∙ split.since)
     by f (Others apart same) =
         let not_taken : takes_node seat node e ≡ false = rw apart refl in
         let t : taken_version setup seat node past ≡ Some v = sym (same_taken setup seat node e past not_taken) ∙ is in
-        on_since setup seat node e past (Pod p) not_taken (f t (subst AreAgents same agents) recent teller earlier (record { since = ap (since_epoch node) (sym same) ∙ split.since; listed = split.listed }) p told)
+        on_since setup seat node e past (Pod p) not_taken (f t (subst (AreOfKind seats.Agent) same agents) recent teller earlier (record { since = ap (since_epoch node) (sym same) ∙ split.since; listed = split.listed }) p told)

@@ -13,19 +13,22 @@ use Rattle.binder_model.specs.Devices.{Devices, MountAt}
 use Rattle.binder_model.specs.AgentLicence.{MayMount, since_epoch, was_told_unmounted, is_of_epoch, lacks_pod, is_mount_of}
 use Rattle.binder_model.specs.Licence.{Licensed}
 use Rattle.binder_model.specs.World.{world, effect, reply_to}
-use Rattle.binder_model.specs.Run.{Run, own}
+use Rattle.binder_model.specs.Told.{own}
+use Rattle.binder_model.specs.Run.{Run}
 use Rattle.world_moves.specs.DeviceMoves.{MountIn, IsMounting}
-use Rattle.world_moves.proofs.DeviceMoves.{device_moves, mounts_told, has_row_of, uid_same}
-use Rattle.world_moves.proofs.Tests.{both}
+use Rattle.world_moves.proofs.DeviceMoves.{device_moves, mounts_told, has_row_of}
 use Rattle.world_invariant.specs.Good.{Good}
 use Rattle.world_invariant.specs.Holders.{Holds}
 use Rattle.world_invariant.proofs.Holders.{HolderStep, Took, Mine, Other, holder_step, one_holder}
+use Rattle.std.proofs.lemmas.Bool.{and_parts}
+use Rattle.world_moves.proofs.Tests.{uid_same}
+use Rattle.model_laws.proofs.Mounting.{MountSplit, mount_split}
 
 -- the row that allowed a mount
 pub record MountedBy (setup : Setup) (e : Entry) (past : List Entry) (m : MountAt) : Type 0 where
   pub epoch : ℕ
   pub asked : e.request ≡ requests.Mount m.node epoch m.row.pod m.row.claims
-  pub row : MayMount (own e.seat past) m.node epoch m.row.pod m.row.claims
+  pub row : MountSplit (own e.seat past) m.node epoch m.row.pod m.row.claims
   pub holds : Holds setup past m.node e.seat
   pub controller : is_user e.kind ≡ false
 
@@ -40,7 +43,7 @@ new_mount setup e past run m h = by (is_user e.kind) refl
   where
     made : is_user e.kind ≡ false → IsMounting (world setup past).devices e.request m → MountedBy setup e past m
     made c i =
-        let row = mount_row (own e.seat past) e.kind m.node i.epoch m.row.pod m.row.claims c (subst (Licensed e.kind (own e.seat past)) i.asked run.2) in
+        let row = mount_split (own e.seat past) m.node i.epoch m.row.pod m.row.claims (mount_row (own e.seat past) e.kind m.node i.epoch m.row.pod m.row.claims c (subst (Licensed e.kind (own e.seat past)) i.asked run.2)) in
         record { epoch = i.epoch; asked = i.asked; row = row; holds = row.current ∙ ap (λ (n : ℕ). Some n) i.current; controller = c }
 
     by : (b : Bool) → is_user e.kind ≡ b → MountIn m (world setup past).devices.mounts ⊎ MountedBy setup e past m
@@ -56,8 +59,8 @@ tells_unmounted node epoch pod e = e.told && is_of_epoch node epoch e.request &&
 
 unmounted_now : (setup : Setup) (e : Entry) (past : List Entry) → Good setup (e ∷ past) → (node : List ℕ) (epoch : ℕ) (pod : Uid) → tells_unmounted node epoch pod e ≡ true → IsUnmounted setup (e ∷ past) node pod
 unmounted_now setup e past g node epoch pod t m h n p =
-    let outer = both (e.told && is_of_epoch node epoch e.request) (lacks_pod pod e.reply) t in
-    let inner = both e.told (is_of_epoch node epoch e.request) outer.0 in
+    let outer = and_parts (e.told && is_of_epoch node epoch e.request) (lacks_pod pod e.reply) t in
+    let inner = and_parts e.told (is_of_epoch node epoch e.request) outer.0 in
     let lacks : lacks_pod pod (reply_to (effect setup (world setup past) e.kind e.request)) ≡ true = ap (lacks_pod pod) (sym g.2) ∙ outer.1 in
     let none = (mounts_told setup (world setup past) e.kind e.request).lacks node epoch pod inner.1 lacks in
     true≢false (sym (has_row_of m (world setup (e ∷ past)).devices.mounts node pod h n p) ∙ none)

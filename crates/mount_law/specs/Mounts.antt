@@ -11,12 +11,11 @@ use Rattle.call_types.specs.declared.entry.Entry.{Entry}
 use Rattle.call_types.specs.declared.setup.Setup.{Setup}
 use Rattle.call_types.specs.declared.request.SeatKind.TheVariants as seats
 use Rattle.call_types.specs.declared.reply.Reply.TheVariants.{Found}
-use Rattle.binder_model.specs.Told.{SomeOf, IsPodWith, TellsObject}
+use Rattle.binder_model.specs.Told.{SomeOf, IsPodWith, TellsObject, own}
 use Rattle.binder_model.specs.AgentLicence.{since_epoch, ListedPods, never_finished, last_get}
 use Rattle.binder_model.specs.World.{World, world}
-use Rattle.binder_model.specs.Run.{own}
 use Rattle.binder_model.specs.Devices.{MountAt}
-use Rattle.binder_model.specs.BindWrites.{claim_key}
+use Rattle.binder_model.specs.ObjectKeys.{claim_key}
 use Rattle.world_moves.specs.DeviceMoves.{MountIn}
 use Rattle.world_invariant.specs.Was.{Was, OfThoseWith}
 use Rattle.world_invariant.specs.Holders.{Holds}
@@ -24,11 +23,7 @@ use Rattle.world_invariant.specs.Invariant.{IsOld}
 use Rattle.binder_model.specs.Run.{Run}
 use Rattle.binder_model.specs.Safe.{KeepsMounted}
 use Rattle.world_invariant.specs.Good.{Good}
-
--- all own entries are an agent's
-abbrev pub AreAgents : List Entry → Type 0
-AreAgents [] = ⊤
-AreAgents (e ∷ mine) = (e.kind ≡ seats.Agent) × AreAgents mine
+use Rattle.binder_model.specs.Licence.{AreOfKind}
 
 -- the split of the entries since the epoch was told
 pub record IsSplit (node : List ℕ) (mine recent : List Entry) (teller : Entry) (earlier : List Entry) : Type 0 where
@@ -92,7 +87,7 @@ Mountless setup = (m : MountAt) → MountIn m (world setup []).devices.mounts �
 -- nobody has the claim mounted, and no holder is half ready for it
 pub record MayGo (setup : Setup) (past : List Entry) (u : Uid) : Type 0 where
   pub unmounted : (m : MountAt) → MountIn m (world setup past).devices.mounts → UidIn u m.row.claims → ⊥
-  pub unready : (seat : ℕ) (node : List ℕ) → Holds setup past node seat → AreAgents (own seat past) → IsHalfReady setup past seat node u → ⊥
+  pub unready : (seat : ℕ) (node : List ℕ) → Holds setup past node seat → AreOfKind seats.Agent (own seat past) → IsHalfReady setup past seat node u → ⊥
 
 -- the claim is deleting, where it is there
 abbrev pub AreDeleting : Setup → List Entry → Uid → Type 0

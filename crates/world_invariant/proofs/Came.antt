@@ -17,10 +17,13 @@ use Rattle.binder_model.specs.World.{World, world, effect}
 use Rattle.model_laws.specs.Histories.{NamesOnce}
 use Rattle.world_moves.specs.Whence.{IsFirst, IsNext}
 use Rattle.world_moves.specs.Moves.{IsWritten}
-use Rattle.world_moves.proofs.Moves.{one}
 use Rattle.world_invariant.specs.Was.{Stands, Was, KindStep, Made, VolumeStep, VolumeStart, ClaimStep, ClaimStart}
 use Rattle.world_invariant.specs.Invariant.{IsOld, IsLater}
 use Rattle.world_invariant.specs.Good.{MovesAt}
+use Rattle.std.proofs.lemmas.Option.{same_Some}
+use Rattle.world_moves.proofs.Objects.{volume_keyed, claim_keyed}
+use Rattle.std.specs.Prelude.{◌<◌}
+use Rattle.binder_model.specs.Imports.{most_serials}
 
 abbrev pub WrittenAt : Setup → Entry → List Entry → Object → Type 0
 WrittenAt setup e past o = IsWritten (world setup past) (effect setup (world setup past) e.kind e.request) (Made setup past) o
@@ -52,33 +55,11 @@ new_or setup e past m o was = elim was [
 
 -- two that were written are one
 pub one_written : (setup : Setup) (e : Entry) (past : List Entry) (a b : Object) → WrittenAt setup e past a → WrittenAt setup e past b → a ≡ b
-one_written setup e past a b x y = one a b (sym x.is ∙ y.is)
+one_written setup e past a b x y = same_Some a b (sym x.is ∙ y.is)
 
 pub made_version : (setup : Setup) (past : List Entry) (o : Object) → Made setup past o → (meta_of o).version ≡ (world setup past).store.version + 1
 made_version setup past o (inl s) = s.first.version
 made_version setup past o (inr f) = f.next.version
-
--- keys of one kind
-
-kind_of_volume : (o : Object) → kind_index (key_of o).kind ≡ 2 → (v : VolumeData) × (o ≡ Volume v)
-kind_of_volume (Class x) e = absurd (omega (arith, e))
-kind_of_volume (Node x) e = absurd (omega (arith, e))
-kind_of_volume (Volume x) e = (x, refl)
-kind_of_volume (Claim x) e = absurd (omega (arith, e))
-kind_of_volume (Pod x) e = absurd (omega (arith, e))
-
-kind_of_claim : (o : Object) → kind_index (key_of o).kind ≡ 3 → (c : ClaimData) × (o ≡ Claim c)
-kind_of_claim (Class x) e = absurd (omega (arith, e))
-kind_of_claim (Node x) e = absurd (omega (arith, e))
-kind_of_claim (Volume x) e = absurd (omega (arith, e))
-kind_of_claim (Claim x) e = (x, refl)
-kind_of_claim (Pod x) e = absurd (omega (arith, e))
-
-pub volume_keyed : (o : Object) (v : VolumeData) → key_of (Volume v) ≡ key_of o → (a : VolumeData) × (o ≡ Volume a)
-volume_keyed o v e = kind_of_volume o (ap (λ k. kind_index k.kind) (sym e))
-
-pub claim_keyed : (o : Object) (c : ClaimData) → key_of (Claim c) ≡ key_of o → (a : ClaimData) × (o ≡ Claim a)
-claim_keyed o c e = kind_of_claim o (ap (λ k. kind_index k.kind) (sym e))
 
 -- a volume that was made of a volume
 
@@ -88,11 +69,12 @@ pub record VolumeCame (setup : Setup) (past : List Entry) (v : VolumeData) : Typ
   pub step : VolumeStep setup past old v
 
 pub record VolumeBegan (setup : Setup) (past : List Entry) (v : VolumeData) : Type 0 where
+  pub room : (world setup past).store.version + 1 < most_serials
   pub first : IsFirst (world setup past).store (Volume v)
   pub start : VolumeStart setup past v
 
 pub volume_came : (setup : Setup) (past : List Entry) (v : VolumeData) → Made setup past (Volume v) → VolumeBegan setup past v ⊎ VolumeCame setup past v
-volume_came setup past v (inl s) = inl (record { first = s.first; start = s.start })
+volume_came setup past v (inl s) = inl (record { room = s.room; first = s.first; start = s.start })
 volume_came setup past v (inr f) = by f.old f.next f.step (volume_keyed f.old v f.next.key)
   where
     by : (old : Object) → IsNext (world setup past).store old (Volume v) → KindStep setup past old (Volume v) → (a : VolumeData) × (old ≡ Volume a) → VolumeBegan setup past v ⊎ VolumeCame setup past v
@@ -108,11 +90,12 @@ pub record ClaimCame (setup : Setup) (past : List Entry) (c : ClaimData) : Type 
   pub step : ClaimStep setup past old c
 
 pub record ClaimBegan (setup : Setup) (past : List Entry) (c : ClaimData) : Type 0 where
+  pub room : (world setup past).store.version + 1 < most_serials
   pub first : IsFirst (world setup past).store (Claim c)
   pub start : ClaimStart setup past c
 
 pub claim_came : (setup : Setup) (past : List Entry) (c : ClaimData) → Made setup past (Claim c) → ClaimBegan setup past c ⊎ ClaimCame setup past c
-claim_came setup past c (inl s) = inl (record { first = s.first; start = s.start })
+claim_came setup past c (inl s) = inl (record { room = s.room; first = s.first; start = s.start })
 claim_came setup past c (inr f) = by f.old f.next f.step (claim_keyed f.old c f.next.key)
   where
     by : (old : Object) → IsNext (world setup past).store old (Claim c) → KindStep setup past old (Claim c) → (a : ClaimData) × (old ≡ Claim a) → ClaimBegan setup past c ⊎ ClaimCame setup past c
@@ -124,20 +107,17 @@ claim_came setup past c (inr f) = by f.old f.next f.step (claim_keyed f.old c f.
 
 -- UIDs
 
-pub one_uid : (a b : Uid) → Some a ≡ Some b → a ≡ b
-one_uid a b e = ap (λ x. unwrap_or x a) e
-
 -- the UID of the next write is not one of an object that was
-pub fresh : {G : Type 0} (version : ℕ) (uid : Option Uid) → IsOld version uid → uid ≡ Some (uid_of_serial (version + 1)) → G
-fresh version uid old is = absurd (old (version + 1) (omega arith) is)
+pub fresh : {G : Type 0} {version : ℕ} → version + 1 < most_serials → (uid : Option Uid) → IsOld version uid → uid ≡ Some (uid_of_serial (version + 1)) → G
+fresh {version = version} room uid old is = absurd (old (version + 1) (omega arith) room is)
 
 pub older : (n m : ℕ) (uid : Option Uid) → n ≤ m → IsOld n uid → IsOld m uid
-older n m uid low old k above = old k (omega (arith, low, above))
+older n m uid low old k above below = old k (omega (arith, low, above)) below
 
 -- the UID that a write gives is not that of a later one
 pub given_old : (version : ℕ) (uid : Option Uid) → uid ≡ Some (uid_of_serial (version + 1)) → IsOld (version + 1) uid
-given_old version uid is k above same =
-    let e : version + 1 ≡ k = serials_apart (version + 1) k (one_uid _ _ (sym is ∙ same)) in
+given_old version uid is k above below same =
+    let e : version + 1 ≡ k = serials_apart (version + 1) k (same_Some _ _ (sym is ∙ same)) in
     omega (arith, e, above)
 
 -- one object, in time

@@ -9,7 +9,8 @@ use Rattle.kube_types.specs.declared.objects.Volume.{Volume as VolumeData}
 use Rattle.kube_types.specs.declared.objects.Claim.{Claim as ClaimData}
 use Rattle.kube_types.specs.Bindings.{carries, refers_carrying, uid_carries, names_claim, is_uid}
 use Rattle.world_invariant.specs.Was.{Refers}
-use Rattle.world_moves.proofs.Tests.{both, same_text, uid_is}
+use Rattle.world_moves.proofs.Tests.{same_text, uid_is}
+use Rattle.std.proofs.lemmas.Bool.{and_parts}
 
 pub record Carried (v : VolumeData) (c : ClaimData) : Type 0 where
   pub reference : Ref
@@ -22,7 +23,7 @@ pub record Carried (v : VolumeData) (c : ClaimData) : Type 0 where
 carried_by : (v : VolumeData) (c : ClaimData) (r : Ref) (u : Option Uid) → v.claim_ref ≡ Some r → r.uid ≡ u → names_claim r c ≡ true → uid_carries u c ≡ true → Carried v c
 carried_by v c r None is known names fits = absurd (true≢false (sym fits))
 carried_by v c r (Some u) is known names fits =
-    let n = both (bytes_eq r.namespace c.meta.namespace) (bytes_eq r.name c.meta.name) names in
+    let n = and_parts (bytes_eq r.namespace c.meta.namespace) (bytes_eq r.name c.meta.name) names in
     record {
       reference = r;
       uid = u;
@@ -37,4 +38,4 @@ carried v c e = by v.claim_ref refl e
   where
     by : (x : Option Ref) → v.claim_ref ≡ x → refers_carrying x c ≡ true → Carried v c
     by None is e = absurd (true≢false (sym e))
-    by (Some r) is e = let t = both (names_claim r c) (uid_carries r.uid c) e in carried_by v c r r.uid is refl t.0 t.1
+    by (Some r) is e = let t = and_parts (names_claim r c) (uid_carries r.uid c) e in carried_by v c r r.uid is refl t.0 t.1

@@ -12,14 +12,13 @@ use Rattle.call_types.specs.declared.reply.Reply.{Reply}
 use Rattle.call_types.specs.declared.reply.Reply.TheVariants as replies
 use Rattle.binder_model.specs.Answers.{is_user, reply_of}
 use Rattle.binder_model.specs.Devices.{epoch_of, take_node, device_answer}
-use Rattle.binder_model.specs.Told.{first_some}
+use Rattle.binder_model.specs.Told.{first_some, own}
 use Rattle.binder_model.specs.AgentLicence.{epoch_told, epoch_in, last_epoch, since_epoch}
 use Rattle.binder_model.specs.World.{World, Effect, OnDevices, world, effect, reply_to, world_after, on_devices, refused_rule}
-use Rattle.binder_model.specs.Run.{own}
-use Rattle.world_moves.proofs.Moves.{none_some}
 use Rattle.world_moves.proofs.DeviceMoves.{device_moves}
 use Rattle.world_invariant.specs.Good.{Good}
 use Rattle.world_invariant.specs.Holders.{epoch_now, Holds}
+use Rattle.std.proofs.lemmas.Option.{same_Some, none-some}
 
 -- a TakeNode that tells an epoch tells the next one, and it is the node's from then on
 pub record Takes (node : List ℕ) (w : World) (x : Effect) (epoch : ℕ) : Type 0 where
@@ -56,23 +55,20 @@ record IsTold (node : List ℕ) (request : Request) (reply : Reply) (epoch : ℕ
   asked : request ≡ requests.TakeNode node
   answered : reply ≡ replies.Epoch epoch
 
-some_nat : (a b : ℕ) → Some a ≡ Some b → a ≡ b
-some_nat a b e = ap (λ x. unwrap_or x a) e
-
 is_told : (node : List ℕ) (request : Request) (reply : Reply) (epoch : ℕ) → epoch_told node request reply ≡ Some epoch → IsTold node request reply epoch
 is_told node (requests.TakeNode name) (replies.Epoch n) epoch e = by (bytes_eq name node) refl e
   where
     by : (b : Bool) → bytes_eq name node ≡ b → (if b then Some n else None) ≡ Some epoch → IsTold node (requests.TakeNode name) (replies.Epoch n) epoch
-    by true is f = record { asked = ap (λ (x : List ℕ). requests.TakeNode x) ((bytes_eq-Decides name node).0 is); answered = ap (λ (x : ℕ). replies.Epoch x) (some_nat n epoch f) }
-    by false is f = absurd (none_some f)
-is_told node request reply epoch e = absurd (none_some e)
+    by true is f = record { asked = ap (λ (x : List ℕ). requests.TakeNode x) ((bytes_eq-Decides name node).0 is); answered = ap (λ (x : ℕ). replies.Epoch x) (same_Some n epoch f) }
+    by false is f = absurd (none-some _ f)
+is_told node request reply epoch e = absurd (none-some _ e)
 
 entry_takes : (setup : Setup) (e : Entry) (past : List Entry) → e.reply ≡ reply_to (effect setup (world setup past) e.kind e.request) → (node : List ℕ) (epoch : ℕ) → epoch_in node e ≡ Some epoch → Takes node (world setup past) (effect setup (world setup past) e.kind e.request) epoch
 entry_takes setup e past reply node epoch is = by e.told is
   where
     by : (b : Bool) → (if b then epoch_told node e.request e.reply else None) ≡ Some epoch → Takes node (world setup past) (effect setup (world setup past) e.kind e.request) epoch
     by true f = let t = is_told node e.request e.reply epoch f in takes setup (world setup past) e.kind e.request node epoch t.asked (sym reply ∙ t.answered)
-    by false f = absurd (none_some f)
+    by false f = absurd (none-some _ f)
 
 -- epochs do not fall
 pub epoch_rises : (setup : Setup) (e : Entry) (past : List Entry) (node : List ℕ) → epoch_now setup past node ≤ epoch_now setup (e ∷ past) node
@@ -95,13 +91,13 @@ own_step seat e past = by (e.seat == seat) refl
 
 -- no epoch that was told is above the current one
 pub told_low : (setup : Setup) (past : List Entry) → Good setup past → (seat : ℕ) (node : List ℕ) (epoch : ℕ) → last_epoch node (own seat past) ≡ Some epoch → epoch ≤ epoch_now setup past node
-told_low setup [] g seat node epoch is = absurd (none_some is)
+told_low setup [] g seat node epoch is = absurd (none-some _ is)
 told_low setup (e ∷ past) g seat node epoch is = by (told_low setup past g.0 seat node epoch) (own_step seat e past)
   where
     first : (last_epoch node (own seat past) ≡ Some epoch → epoch ≤ epoch_now setup past node) → (x : Option ℕ) → epoch_in node e ≡ x → first_some x (last_epoch node (own seat past)) ≡ Some epoch → epoch ≤ epoch_now setup (e ∷ past) node
     first before (Some k) told f =
         let t = entry_takes setup e past g.2 node k told in
-        let same = some_nat k epoch f in
+        let same = same_Some k epoch f in
         let stays = t.stays in
         omega (arith, same, stays)
     first before None told f = let low = before f in let up = epoch_rises setup e past node in omega (arith, low, up)
@@ -145,7 +141,7 @@ holder_step setup e past g node seat holds = by (own_step seat e past)
 
 -- an epoch was told to one seat
 pub one_holder : (setup : Setup) (past : List Entry) → Good setup past → (node : List ℕ) (s t : ℕ) → Holds setup past node s → Holds setup past node t → s ≡ t
-one_holder setup [] g node s t hs ht = absurd (none_some hs)
+one_holder setup [] g node s t hs ht = absurd (none-some _ hs)
 one_holder setup (e ∷ past) g node s t hs ht = by (one_holder setup past g.0 node s t) (holder_step setup e past g node s hs) (holder_step setup e past g node t ht)
   where
     by : (Holds setup past node s → Holds setup past node t → s ≡ t) → HolderStep setup e past node s → HolderStep setup e past node t → s ≡ t

@@ -1,12 +1,12 @@
--- All parts of the invariant are kept where the store moves, and they hold at the start.
+-- All parts of the invariant are kept where the store moves.
 use Rattle.std.specs.Prelude.{List, [], ◌∷◌}
 use Rattle.call_types.specs.declared.entry.Entry.{Entry}
 use Rattle.call_types.specs.declared.setup.Setup.{Setup}
-use Rattle.world_moves.proofs.Moves.{none_some}
 use Rattle.world_invariant.specs.Invariant.{Invariant}
 use Rattle.world_invariant.specs.Good.{MovesAt}
-use Rattle.world_invariant.proofs.KeptObjects.{kept_version, kept_one, kept_old, kept_has, kept_later, kept_placed, kept_logged}
+use Rattle.world_invariant.proofs.KeptObjects.{kept_keyed, kept_version, kept_one, kept_old, kept_has, kept_later, kept_placed, kept_logged}
 use Rattle.world_invariant.proofs.KeptBindings.{kept_refers, kept_guarded, kept_binding, kept_completed, kept_released, kept_lasts}
+use Rattle.std.proofs.lemmas.Option.{none-some}
 
 pub kept : (setup : Setup) (e : Entry) (past : List Entry) → Invariant setup past → MovesAt setup e past → Invariant setup (e ∷ past)
 kept setup e past inv m = record {
@@ -15,6 +15,7 @@ kept setup e past inv m = record {
   one = kept_one setup e past inv m;
   old = kept_old setup e past inv m;
   has = kept_has setup e past inv m;
+  keyed = kept_keyed setup e past inv m;
   later = kept_later setup e past inv m;
   placed = kept_placed setup e past inv m;
   logged = kept_logged setup e past inv m;
@@ -24,23 +25,4 @@ kept setup e past inv m = record {
   completed = kept_completed setup e past inv m;
   released = kept_released setup e past inv m;
   lasts = kept_lasts setup e past inv m;
-}
-
--- of the empty store
-pub at_start : (setup : Setup) → Invariant setup []
-at_start setup = record {
-  order = tt;
-  version = λ o was. absurd (none_some was);
-  one = λ a b was _ _ _. absurd (none_some was);
-  old = λ o was. absurd (none_some was);
-  has = λ o was. absurd (none_some was);
-  later = λ a k b was _ _. absurd (none_some was);
-  placed = λ v was. absurd (none_some was);
-  logged = λ o h. absurd h;
-  refers = λ v r uid was _. absurd (none_some was);
-  guarded = λ k v is _. absurd (none_some is);
-  binding = λ v r uid k c was _ _ _ _ _. absurd (none_some was);
-  completed = λ k c is _. absurd (none_some is);
-  released = λ k v r uid is _ _. absurd (none_some is);
-  lasts = λ v r uid k x was _ _ _ _. absurd (none_some was);
 }

@@ -16,17 +16,20 @@ use Rattle.kube_types.specs.Bindings.{is_ended, is_bound, is_completed, is_prote
 use Rattle.kube_types.proofs.KeyOrder.{row_at_key}
 use Rattle.call_types.specs.declared.entry.Entry.{Entry}
 use Rattle.call_types.specs.declared.setup.Setup.{Setup}
-use Rattle.binder_model.specs.BindWrites.{volume_key}
+use Rattle.binder_model.specs.ObjectKeys.{volume_key}
 use Rattle.binder_model.specs.World.{world}
 use Rattle.binder_model.specs.Store.{leaves}
 use Rattle.world_moves.specs.Writes.{IsLeaving}
 use Rattle.world_moves.specs.Whence.{Keeps}
-use Rattle.world_moves.proofs.Moves.{none_some}
 use Rattle.world_invariant.proofs.KeptObjects.{kept_placed, kept_later}
 use Rattle.world_invariant.specs.Was.{Was, IsPlaced, Made, NamesOther, OfThoseWith, IsAway, IsNotThere, Refers, WasNamed, WasBound, IsFinal, VolumeStep}
-use Rattle.world_invariant.specs.Invariant.{Invariant, IsOld, NamesAtMost, StillBound}
+use Rattle.world_invariant.specs.Invariant.{Invariant, IsReferred, IsOld, NamesAtMost, StillBound}
 use Rattle.world_invariant.specs.Good.{MovesAt}
-use Rattle.world_invariant.proofs.Came.{volume_keyed, row_was, new_or, fresh, VolumeCame, volume_came, ClaimCame, claim_came}
+use Rattle.world_invariant.proofs.Came.{older, row_was, new_or, fresh, VolumeCame, volume_came, ClaimCame, claim_came}
+use Rattle.call_types.specs.declared.request.Request.{Request}
+use Rattle.std.proofs.lemmas.Option.{none-some}
+use Rattle.world_moves.proofs.Objects.{volume_keyed, some_volume}
+use Rattle.binder_model.specs.Safe.{was_imported_as_lost}
 
 -- the claims of an old UID
 
@@ -36,7 +39,7 @@ pub kept_of : (setup : Setup) (e : Entry) (past : List Entry) → MovesAt setup 
 kept_of setup e past m Q stable uid old holds k c is its = elim (m.row k (Claim c) is) [
   | inl there ↦ holds k c there its
   | inr new ↦ elim (claim_came setup past c new.write) [
-    | inl began ↦ fresh _ (Some uid) old (sym its ∙ began.first.uid)
+    | inl began ↦ fresh began.room (Some uid) old (sym its ∙ began.first.uid)
     | inr came ↦ stable came.old c came.next.keeps (holds (key_of (Claim c)) came.old came.next.there (sym came.next.keeps.uid ∙ its))
   ]
 ]
@@ -55,26 +58,38 @@ kept_not_there setup e past m uid old gone = kept_of setup e past m (λ c. ⊥) 
 
 -- references
 
-later_named : (setup : Setup) (e : Entry) (past : List Entry) (r : Ref) (uid : Uid) → WasNamed setup past r uid → WasNamed setup (e ∷ past) r uid
-later_named setup e past r uid n = record { claim = n.claim; was = inl n.was; placed = n.placed; named = n.named; its = n.its }
+named_referred : (setup : Setup) (past : List Entry) → Invariant setup past → (r : Ref) (uid : Uid) → WasNamed setup past r uid → IsReferred setup past r uid
+named_referred setup past inv r uid n = record {
+  old = subst (IsOld (world setup past).store.version) n.its (inv.old (Claim n.claim) n.was);
+  named = λ c was its. inv.keyed (Claim c) (Claim n.claim) was n.was (its ∙ sym n.its) ∙ (λ i. record { kind = kinds.PersistentVolumeClaim; namespace = n.placed i; name = n.named i });
+}
 
-pub kept_refers : (setup : Setup) (e : Entry) (past : List Entry) → Invariant setup past → MovesAt setup e past → (v : VolumeData) (r : Ref) (uid : Uid) → Was setup (e ∷ past) (Volume v) → Refers v r uid → WasNamed setup (e ∷ past) r uid
-kept_refers setup e past inv m v r uid was is = later_named setup e past r uid (elim (new_or setup e past m (Volume v) was) [
+later_referred : (setup : Setup) (e : Entry) (past : List Entry) → MovesAt setup e past → (r : Ref) (uid : Uid) → IsReferred setup past r uid → IsReferred setup (e ∷ past) r uid
+later_referred setup e past m r uid x = record {
+  old = older _ _ (Some uid) m.rises x.old;
+  named = λ c was its. elim (new_or setup e past m (Claim c) was) [
+    | inl before ↦ x.named c before its
+    | inr new ↦ elim (claim_came setup past c new.written.write) [
+      | inl began ↦ fresh began.room (Some uid) x.old (sym its ∙ began.first.uid)
+      | inr came ↦ came.next.key ∙ x.named came.old (row_was setup past (key_of (Claim c)) (Claim came.old) came.next.there) (sym came.next.keeps.uid ∙ its)
+    ]
+  ];
+}
+
+pub kept_refers : (setup : Setup) (e : Entry) (past : List Entry) → Invariant setup past → MovesAt setup e past → (v : VolumeData) (r : Ref) (uid : Uid) → Was setup (e ∷ past) (Volume v) → Refers v r uid → IsReferred setup (e ∷ past) r uid
+kept_refers setup e past inv m v r uid was is = later_referred setup e past m r uid (elim (new_or setup e past m (Volume v) was) [
   | inl before ↦ inv.refers v r uid before is
   | inr new ↦ elim (volume_came setup past v new.written.write) [
-    | inl began ↦ began.start.refers r uid is
+    | inl began ↦ named_referred setup past inv r uid (began.start.refers r uid is)
     | inr came ↦ elim (came.step.refers r uid is) [
       | inl same ↦ inv.refers came.old r uid (row_was setup past (key_of (Volume v)) (Volume came.old) came.next.there) same
-      | inr named ↦ named
+      | inr named ↦ named_referred setup past inv r uid named
     ]
   ]
 ])
 
-pub named_old : (setup : Setup) (past : List Entry) → Invariant setup past → (r : Ref) (uid : Uid) → WasNamed setup past r uid → IsOld (world setup past).store.version (Some uid)
-named_old setup past inv r uid n = subst (IsOld (world setup past).store.version) n.its (inv.old (Claim n.claim) n.was)
-
 pub refers_old : (setup : Setup) (past : List Entry) → Invariant setup past → (v : VolumeData) (r : Ref) (uid : Uid) → Was setup past (Volume v) → Refers v r uid → IsOld (world setup past).store.version (Some uid)
-refers_old setup past inv v r uid was is = named_old setup past inv r uid (inv.refers v r uid was is)
+refers_old setup past inv v r uid was is = (inv.refers v r uid was is).old
 
 came_was : (setup : Setup) (past : List Entry) (v : VolumeData) → (came : VolumeCame setup past v) → Was setup past (Volume came.old)
 came_was setup past v came = row_was setup past (key_of (Volume v)) (Volume came.old) came.next.there
@@ -82,7 +97,7 @@ came_was setup past v came = row_was setup past (key_of (Volume v)) (Volume came
 step_old : (setup : Setup) (past : List Entry) → Invariant setup past → (v : VolumeData) → VolumeCame setup past v → (r : Ref) (uid : Uid) → Refers v r uid → IsOld (world setup past).store.version (Some uid)
 step_old setup past inv v came r uid is = elim (came.step.refers r uid is) [
   | inl same ↦ refers_old setup past inv came.old r uid (came_was setup past v came) same
-  | inr named ↦ named_old setup past inv r uid named
+  | inr named ↦ (named_referred setup past inv r uid named).old
 ]
 
 -- phases
@@ -148,13 +163,13 @@ from_old setup past inv c came b = record {
   ];
 }
 
-pub kept_completed : (setup : Setup) (e : Entry) (past : List Entry) → Invariant setup past → MovesAt setup e past → (k : Key) (c : ClaimData) → row_at k (world setup (e ∷ past)).store.rows ≡ Some (Claim c) → is_completed c ≡ true → WasBound setup (e ∷ past) c
-kept_completed setup e past inv m k c is done = later_bound setup e past c (elim (m.row k (Claim c) is) [
-  | inl there ↦ inv.completed k c there done
+pub kept_completed : (setup : Setup) (e : Entry) (past : List Entry) → Invariant setup past → MovesAt setup e past → (k : Key) (c : ClaimData) → row_at k (world setup (e ∷ past)).store.rows ≡ Some (Claim c) → is_completed c ≡ true → was_imported_as_lost setup c.meta.uid ≡ false → WasBound setup (e ∷ past) c
+kept_completed setup e past inv m k c is done found = later_bound setup e past c (elim (m.row k (Claim c) is) [
+  | inl there ↦ inv.completed k c there done found
   | inr new ↦ elim (claim_came setup past c new.write) [
     | inl began ↦ absurd (true≢false (sym done ∙ began.start.fresh))
     | inr came ↦ elim (came.step.completed done) [
-      | inl before ↦ from_old setup past inv c came (inv.completed (key_of (Claim c)) came.old came.next.there before)
+      | inl before ↦ from_old setup past inv c came (inv.completed (key_of (Claim c)) came.old came.next.there before (ap (was_imported_as_lost setup) (sym came.next.keeps.uid) ∙ found))
       | inr bound ↦ bound
     ]
   ]
@@ -186,13 +201,6 @@ unguarded v l = by v.meta.finalizers refl
     by [] e = rw e refl
     by (f ∷ fs) e = let no : (is_deleting v.meta && false) ≡ true = rw e at l in no_and (is_deleting v.meta) no
 
-pub volume_one : (a b : VolumeData) → Some (Volume a) ≡ Some (Volume b) → a ≡ b
-volume_one a b e = ap (λ x. of x) e
-  where
-    of : Option Object → VolumeData
-    of (Some (Volume v)) = v
-    of x = a
-
 -- a Bound volume has not left
 pub bound_stays : (setup : Setup) (e : Entry) (past : List Entry) → Invariant setup past → MovesAt setup e past → (k : Key) (v : VolumeData) → row_at k (world setup past).store.rows ≡ Some (Volume v) → is_bound v.phase ≡ true
     → (x : Option Object) → row_at k (world setup (e ∷ past)).store.rows ≡ x → (o : Object) × (x ≡ Some o)
@@ -201,16 +209,16 @@ bound_stays setup e past inv m k v is bound None now =
     let h = m.left k (Volume v) is now in
     let same : key_of (Volume v) ≡ key_of h.last = row_at_key k (Volume v) _ is ∙ sym h.key in
     let l = volume_keyed h.last v same in
-    gone h.last h.written.write h.key h.leaving l.0 l.1
+    gone e.request h.last h.written.write h.key h.leaving l.0 l.1
   where
-    gone : (last : Object) → Made setup past last → key_of last ≡ k → IsLeaving last → (l : VolumeData) → last ≡ Volume l → (o : Object) × (None ≡ Some o)
-    gone last made at leaving l e = absurd (true≢false (sym (protected (subst (Made setup past) e made) (sym (ap key_of e) ∙ at)) ∙ unguarded l (subst IsLeaving e leaving)))
+    gone : (request : Request) (last : Object) → Made setup past last → key_of last ≡ k → IsLeaving request last → (l : VolumeData) → last ≡ Volume l → (o : Object) × (None ≡ Some o)
+    gone request last made at leaving l e = absurd (true≢false (sym (protected (subst (Made setup past) e made) (sym (ap key_of e) ∙ at)) ∙ unguarded l (subst (IsLeaving request) e leaving)))
       where
         protected : Made setup past (Volume l) → key_of (Volume l) ≡ k → is_protected_volume l ≡ true
         protected made at = elim (volume_came setup past l made) [
-          | inl began ↦ absurd (none_some (sym began.first.free ∙ ap (λ j. row_at j (world setup past).store.rows) at ∙ is))
+          | inl began ↦ absurd (none-some _ (sym began.first.free ∙ ap (λ j. row_at j (world setup past).store.rows) at ∙ is))
           | inr came ↦
-              let old : v ≡ came.old = volume_one v came.old (sym is ∙ ap (λ j. row_at j (world setup past).store.rows) (sym at) ∙ came.next.there) in
+              let old : v ≡ came.old = some_volume v came.old (sym is ∙ ap (λ j. row_at j (world setup past).store.rows) (sym at) ∙ came.next.there) in
               came.step.stays (subst (λ (x : VolumeData). is_bound x.phase ≡ true) old bound)
         ]
 
@@ -228,7 +236,7 @@ kept_bound setup e past inv m name r uid k c known old s there its most =
     written : (u : VolumeData) → row_at (volume_key name) (world setup (e ∷ past)).store.rows ≡ Some (Volume u) → VolumeCame setup past u → StillBound (world setup (e ∷ past)) name r
     written u is came =
         let at = row_at_key (volume_key name) (Volume u) (world setup (e ∷ past)).store.rows is in
-        let same : s.volume ≡ came.old = volume_one s.volume came.old (sym s.there ∙ ap (λ j. row_at j (world setup past).store.rows) (sym at) ∙ came.next.there) in
+        let same : s.volume ≡ came.old = some_volume s.volume came.old (sym s.there ∙ ap (λ j. row_at j (world setup past).store.rows) (sym at) ∙ came.next.there) in
         let called : s.volume.meta.name ≡ name = ap (λ j. j.name) (row_at_key (volume_key name) (Volume s.volume) (world setup past).store.rows s.there) in
         let step : VolumeStep setup past s.volume u = subst (λ (x : VolumeData). VolumeStep setup past x u) (sym same) came.step in
         elim (step.keeps r uid s.bound (record { is = s.refers; known = known })) [
@@ -238,9 +246,9 @@ kept_bound setup e past inv m name r uid k c known old s there its most =
 
     volume : (u : VolumeData) → row_at (volume_key name) (world setup (e ∷ past)).store.rows ≡ Some (Volume u) → StillBound (world setup (e ∷ past)) name r
     volume u is = elim (m.row (volume_key name) (Volume u) is) [
-      | inl same ↦ let one_v : s.volume ≡ u = volume_one s.volume u (sym s.there ∙ same) in record { volume = u; there = is; bound = subst (λ (x : VolumeData). is_bound x.phase ≡ true) one_v s.bound; refers = subst (λ (x : VolumeData). x.claim_ref ≡ Some r) one_v s.refers }
+      | inl same ↦ let one_v : s.volume ≡ u = some_volume s.volume u (sym s.there ∙ same) in record { volume = u; there = is; bound = subst (λ (x : VolumeData). is_bound x.phase ≡ true) one_v s.bound; refers = subst (λ (x : VolumeData). x.claim_ref ≡ Some r) one_v s.refers }
       | inr new ↦ elim (volume_came setup past u new.write) [
-        | inl began ↦ absurd (none_some (sym began.first.free ∙ ap (λ j. row_at j (world setup past).store.rows) (row_at_key (volume_key name) (Volume u) (world setup (e ∷ past)).store.rows is) ∙ s.there))
+        | inl began ↦ absurd (none-some _ (sym began.first.free ∙ ap (λ j. row_at j (world setup past).store.rows) (row_at_key (volume_key name) (Volume u) (world setup (e ∷ past)).store.rows is) ∙ s.there))
         | inr came ↦ written u is came
       ]
     ]
@@ -259,7 +267,7 @@ kept_binding setup e past inv m v r uid k c was bound refers there its most = el
       kept_bound setup e past inv m v.meta.name r uid k c refers.known old (elim (m.row k (Claim c) there) [
         | inl same ↦ inv.binding v r uid k c before bound refers same its most
         | inr new ↦ elim (claim_came setup past c new.write) [
-          | inl began ↦ fresh _ (Some uid) old (sym its ∙ began.first.uid)
+          | inl began ↦ fresh began.room (Some uid) old (sym its ∙ began.first.uid)
           | inr came ↦ inv.binding v r uid (key_of (Claim c)) came.old before bound refers came.next.there (sym came.next.keeps.uid ∙ its) (at_most_before v.meta.name came.old c came.next.keeps most)
         ]
       ]) there its most
@@ -273,7 +281,7 @@ lasts_before : (setup : Setup) (e : Entry) (past : List Entry) → Invariant set
 lasts_before setup e past inv m v r uid k x was refers final is same = elim (m.row k (Volume x) is) [
   | inl there ↦ inv.lasts v r uid k x was refers final there same
   | inr new ↦ elim (volume_came setup past x new.write) [
-    | inl began ↦ fresh _ v.meta.uid (inv.old (Volume v) was) (sym same ∙ began.first.uid)
+    | inl began ↦ fresh began.room v.meta.uid (inv.old (Volume v) was) (sym same ∙ began.first.uid)
     | inr came ↦
         let f = inv.lasts v r uid (key_of (Volume x)) came.old was refers final came.next.there (sym came.next.keeps.uid ∙ same) in
         came.step.lasts r uid (record { is = f.refers; known = refers.known }) f.released f.policy
@@ -288,6 +296,6 @@ kept_lasts setup e past inv m v r uid k x was refers final is same = elim (new_o
       -- the new one and the one that stands are one object
       let l = kept_later setup e past inv m (Volume v) k (Volume x) was is same in
       let at : key_of (Volume v) ≡ k = sym l.key ∙ row_at_key k (Volume x) _ is in
-      let e : v ≡ x = volume_one v x (sym new.stands ∙ ap (λ j. row_at j (world setup (e ∷ past)).store.rows) at ∙ is) in
+      let e : v ≡ x = some_volume v x (sym new.stands ∙ ap (λ j. row_at j (world setup (e ∷ past)).store.rows) at ∙ is) in
       subst (IsFinal r) e final
 ]

@@ -11,12 +11,12 @@ use Rattle.call_types.specs.declared.entry.Entry.{Entry}
 use Rattle.call_types.specs.declared.setup.Setup.{Setup}
 use Rattle.binder_model.specs.Told.{objects_of_events}
 use Rattle.binder_model.specs.World.{world}
-use Rattle.world_moves.specs.Moves.{IsIn}
-use Rattle.world_moves.proofs.Moves.{one}
+use Rattle.world_moves.specs.Writes.{IsIn}
 use Rattle.world_invariant.specs.Was.{Was, IsPlaced}
 use Rattle.world_invariant.specs.Invariant.{Invariant, IsOld, IsLater}
 use Rattle.world_invariant.specs.Good.{MovesAt}
 use Rattle.world_invariant.proofs.Came.{row_was, IsNew, new_or, one_written, made_version, fresh, older, given_old, itself, then, volume_came}
+use Rattle.std.proofs.lemmas.Option.{same_Some}
 
 pub kept_version : (setup : Setup) (e : Entry) (past : List Entry) → Invariant setup past → MovesAt setup e past → (o : Object) → Was setup (e ∷ past) o → (meta_of o).version ≤ (world setup (e ∷ past)).store.version
 kept_version setup e past inv m o was = elim (new_or setup e past m o was) [
@@ -54,12 +54,31 @@ kept_has setup e past inv m o was = elim (new_or setup e past m o was) [
   ]
 ]
 
+-- one UID, one key
+kept_keyed_new : (setup : Setup) (e : Entry) (past : List Entry) → Invariant setup past → (a b : Object) → IsNew setup e past a → Was setup past b → (meta_of a).uid ≡ (meta_of b).uid → key_of a ≡ key_of b
+kept_keyed_new setup e past inv a b new was same = elim new.written.write [
+  | inl starts ↦ fresh starts.room (meta_of b).uid (inv.old b was) (sym same ∙ starts.first.uid)
+  | inr from ↦ from.next.key ∙ inv.keyed from.old b (row_was setup past (key_of a) from.old from.next.there) was (sym from.next.keeps.uid ∙ same)
+]
+
+pub kept_keyed : (setup : Setup) (e : Entry) (past : List Entry) → Invariant setup past → MovesAt setup e past → (a b : Object) → Was setup (e ∷ past) a → Was setup (e ∷ past) b → (meta_of a).uid ≡ (meta_of b).uid → key_of a ≡ key_of b
+kept_keyed setup e past inv m a b wa wb same = elim (new_or setup e past m a wa) [
+  | inl a_before ↦ elim (new_or setup e past m b wb) [
+    | inl b_before ↦ inv.keyed a b a_before b_before same
+    | inr b_new ↦ sym (kept_keyed_new setup e past inv b a b_new a_before (sym same))
+  ]
+  | inr a_new ↦ elim (new_or setup e past m b wb) [
+    | inl b_before ↦ kept_keyed_new setup e past inv a b a_new b_before same
+    | inr b_new ↦ ap key_of (one_written setup e past a b a_new.written b_new.written)
+  ]
+]
+
 -- one that was before, and one that stands now
 later_now : (setup : Setup) (e : Entry) (past : List Entry) → Invariant setup past → MovesAt setup e past → (a : Object) (k : Key) (b : Object) → Was setup past a → row_at k (world setup (e ∷ past)).store.rows ≡ Some b → (meta_of b).uid ≡ (meta_of a).uid → IsLater a b
 later_now setup e past inv m a k b was is same = elim (m.row k b is) [
   | inl there ↦ inv.later a k b was there same
   | inr new ↦ elim new.write [
-    | inl starts ↦ fresh _ (meta_of a).uid (inv.old a was) (sym same ∙ starts.first.uid)
+    | inl starts ↦ fresh starts.room (meta_of a).uid (inv.old a was) (sym same ∙ starts.first.uid)
     | inr from ↦ then (inv.later a (key_of b) from.old was from.next.there (sym from.next.keeps.uid ∙ same)) (record { key = from.next.key; keeps = from.next.keeps })
   ]
 ]
@@ -67,11 +86,11 @@ later_now setup e past inv m a k b was is same = elim (m.row k b is) [
 -- one that is new, and one that stood before and stands now
 later_new : (setup : Setup) (e : Entry) (past : List Entry) → Invariant setup past → (a : Object) (k : Key) (b : Object) → IsNew setup e past a → row_at k (world setup past).store.rows ≡ Some b → row_at k (world setup (e ∷ past)).store.rows ≡ Some b → (meta_of b).uid ≡ (meta_of a).uid → IsLater a b
 later_new setup e past inv a k b new there is same = elim new.written.write [
-  | inl starts ↦ fresh _ (meta_of b).uid (inv.old b (row_was setup past k b there)) (same ∙ starts.first.uid)
+  | inl starts ↦ fresh starts.room (meta_of b).uid (inv.old b (row_was setup past k b there)) (same ∙ starts.first.uid)
   | inr from ↦
       let l = inv.later b (key_of a) from.old (row_was setup past k b there) from.next.there (sym (same ∙ from.next.keeps.uid)) in
       let at : key_of a ≡ k = from.next.key ∙ l.key ∙ row_at_key k b (world setup past).store.rows there in
-      let e : a ≡ b = one a b (sym new.stands ∙ ap (λ j. row_at j (world setup (e ∷ past)).store.rows) at ∙ is) in
+      let e : a ≡ b = same_Some a b (sym new.stands ∙ ap (λ j. row_at j (world setup (e ∷ past)).store.rows) at ∙ is) in
       subst (IsLater a) e (itself a)
 ]
 

@@ -13,20 +13,19 @@ use Rattle.kube_types.proofs.KeyOrder.{row_at_key}
 use Rattle.call_types.specs.declared.entry.Entry.{Entry}
 use Rattle.call_types.specs.declared.setup.Setup.{Setup}
 use Rattle.call_types.specs.declared.reply.Reply.{Reply}
-use Rattle.binder_model.specs.Told.{SomeOf, TellsObject, ToldObject, ToldVolume, ToldClaim, IsVolumeWith, IsClaimWith, objects_in, TellsLive, IsLiveAnswer}
-use Rattle.binder_model.specs.BindWrites.{claim_key}
+use Rattle.binder_model.specs.Told.{SomeOf, TellsObject, ToldObject, ToldVolume, ToldClaim, IsVolumeWith, IsClaimWith, objects_in, TellsLive, IsLiveAnswer, own}
+use Rattle.binder_model.specs.ObjectKeys.{claim_key}
 use Rattle.binder_model.specs.At.{IsElsewhere}
 use Rattle.binder_model.specs.BinderLicence.{IsReferring, IsGone, WasReadGone}
 use Rattle.binder_model.specs.World.{world, effect, reply_to}
-use Rattle.binder_model.specs.Run.{own}
 use Rattle.model_laws.specs.Reads.{found}
 use Rattle.model_laws.proofs.Readings.{gets_tell_what_stands}
-use Rattle.world_moves.specs.Moves.{IsIn}
+use Rattle.world_moves.specs.Writes.{IsIn}
 use Rattle.world_moves.proofs.Tells.{tells}
 use Rattle.world_invariant.specs.Was.{Was, Refers, IsNotThere, IsAway, WasNamed}
-use Rattle.world_invariant.specs.Invariant.{Invariant, IsOld}
+use Rattle.world_invariant.specs.Invariant.{Invariant, IsReferred, IsOld}
 use Rattle.world_invariant.specs.Good.{TellingsAreTrue, Good, IsTrue}
-use Rattle.world_invariant.proofs.Came.{stood, older}
+use Rattle.world_invariant.proofs.Came.{row_was, stood, older}
 use Rattle.world_invariant.proofs.KeptBindings.{kept_not_there, refers_old, other_stays}
 
 pub invariant_of : (setup : Setup) (past : List Entry) → Good setup past → Invariant setup past
@@ -102,10 +101,9 @@ live None P h = h
 live (Some o) P h = h
 
 -- no claim of the UID stood at its key, so none stands anywhere
-read_gone : (setup : Setup) (past : List Entry) → Invariant setup past → (r : Ref) (uid : Uid) → WasNamed setup past r uid → IsGone uid (row_at (claim_key r.namespace r.name) (world setup past).store.rows) → IsNotThere (world setup past) uid
+read_gone : (setup : Setup) (past : List Entry) → Invariant setup past → (r : Ref) (uid : Uid) → IsReferred setup past r uid → IsGone uid (row_at (claim_key r.namespace r.name) (world setup past).store.rows) → IsNotThere (world setup past) uid
 read_gone setup past inv r uid n gone k c there its =
-    let l = inv.later (Claim n.claim) k (Claim c) n.was there (its ∙ sym n.its) in
-    let keyed : key_of (Claim c) ≡ claim_key r.namespace r.name = λ i. record { kind = kinds.PersistentVolumeClaim; namespace = (ap (λ j. j.namespace) l.key ∙ n.placed) i; name = (ap (λ j. j.name) l.key ∙ n.named) i } in
+    let keyed : key_of (Claim c) ≡ claim_key r.namespace r.name = n.named c (row_was setup past k (Claim c) there) its in
     let at : row_at (claim_key r.namespace r.name) (world setup past).store.rows ≡ Some (Claim c) = ap (λ j. row_at j (world setup past).store.rows) (sym keyed ∙ row_at_key k (Claim c) _ there) ∙ there in
     let h : IsGone uid (Some (Claim c)) = subst (IsGone uid) at gone in
     h its

@@ -4,8 +4,7 @@ use Rattle.kube_types.specs.declared.objects.Object.{Object}
 use Rattle.call_types.specs.declared.entry.Entry.{Entry}
 use Rattle.call_types.specs.declared.setup.Setup.{Setup}
 use Rattle.binder_model.specs.World.{world, effect, reply_to}
-use Rattle.binder_model.specs.Told.{ToldObject}
-use Rattle.binder_model.specs.Run.{own}
+use Rattle.binder_model.specs.Told.{ToldObject, own}
 use Rattle.world_moves.specs.Moves.{Moves}
 use Rattle.world_invariant.specs.Was.{Was, Made}
 use Rattle.world_invariant.specs.Invariant.{Invariant}
@@ -13,7 +12,7 @@ use Rattle.world_invariant.specs.Invariant.{Invariant}
 
 -- how the store moves at this entry
 abbrev pub MovesAt : Setup → Entry → List Entry → Type 0
-MovesAt setup e past = Moves (world setup past) (effect setup (world setup past) e.kind e.request) (Made setup past)
+MovesAt setup e past = Moves (world setup past) e.request (effect setup (world setup past) e.kind e.request) (Made setup past)
 
 -- a history along which the invariant held, and the store moved as it may
 abbrev pub Good : Setup → List Entry → Type 0

@@ -5,7 +5,7 @@ use Rattle.call_types.specs.declared.setup.Setup.{Setup}
 use Rattle.binder_model.specs.Devices.{epoch_of}
 use Rattle.binder_model.specs.AgentLicence.{last_epoch}
 use Rattle.binder_model.specs.World.{world}
-use Rattle.binder_model.specs.Run.{own}
+use Rattle.binder_model.specs.Told.{own}
 use Rattle.world_invariant.specs.Good.{Good}
 
 -- the node's epoch now

@@ -1,5 +1,5 @@
 -- What holds in every world of a run.
-use Rattle.std.specs.Prelude.{ℕ, ◌≡◌, ◌≢◌, ◌⊎◌, ◌<◌, ◌≤◌, true, List, [], Option, Some, is_some}
+use Rattle.std.specs.Prelude.{false, ℕ, ◌≡◌, ◌≢◌, ◌⊎◌, ◌<◌, ◌≤◌, true, List, [], Option, Some, is_some}
 use Rattle.kube_types.specs.declared.uid.Uid.{Uid}
 use Rattle.kube_types.specs.declared.key.Key.{Key}
 use Rattle.kube_types.specs.declared.objects.Ref.{Ref}
@@ -13,14 +13,16 @@ use Rattle.kube_types.specs.Bindings.{is_ended, is_bound, is_completed, is_prote
 use Rattle.call_types.specs.declared.entry.Entry.{Entry}
 use Rattle.call_types.specs.declared.setup.Setup.{Setup}
 use Rattle.binder_model.specs.Told.{SomeOf, objects_of_events}
-use Rattle.binder_model.specs.BindWrites.{volume_key}
+use Rattle.binder_model.specs.ObjectKeys.{volume_key, claim_key}
 use Rattle.binder_model.specs.World.{World, world}
 use Rattle.world_moves.specs.Whence.{Keeps}
-use Rattle.world_invariant.specs.Was.{Was, IsPlaced, IsAway, Refers, WasNamed, WasBound, IsFinal}
+use Rattle.world_invariant.specs.Was.{Was, IsPlaced, IsAway, Refers, WasBound, IsFinal}
+use Rattle.binder_model.specs.Imports.{most_serials}
+use Rattle.binder_model.specs.Safe.{was_imported_as_lost}
 
 -- no later write gives this UID
 abbrev pub IsOld : ℕ → Option Uid → Type 0
-IsOld version uid = (n : ℕ) → version < n → uid ≢ Some (uid_of_serial n)
+IsOld version uid = (n : ℕ) → version < n → n < most_serials → uid ≢ Some (uid_of_serial n)
 
 -- the same object, at its old key
 pub record IsLater (old new : Object) : Type 0 where
@@ -38,6 +40,12 @@ pub record StillBound (w : World) (name : List ℕ) (r : Ref) : Type 0 where
   pub bound : is_bound volume.phase ≡ true
   pub refers : volume.claim_ref ≡ Some r
 
+-- no claim under another key ever had the UID of the reference, and no later write gives it
+pub record IsReferred (setup : Setup) (past : List Entry) (r : Ref) (uid : Uid) : Type 0 where
+  pub old : IsOld (world setup past).store.version (Some uid)
+  pub named : (c : ClaimData) → Was setup past (Claim c) → c.meta.uid ≡ Some uid → key_of (Claim c) ≡ claim_key r.namespace r.name
+
+-- what holds of all that stood in the store, and of what stands there
 pub record Invariant (setup : Setup) (past : List Entry) : Type 0 where
   pub order : AreRows (world setup past).store.rows
   -- versions, UIDs and keys: (b)
@@ -45,19 +53,20 @@ pub record Invariant (setup : Setup) (past : List Entry) : Type 0 where
   pub one : (a b : Object) → Was setup past a → Was setup past b → key_of a ≡ key_of b → (meta_of a).version ≡ (meta_of b).version → a ≡ b
   pub old : (o : Object) → Was setup past o → IsOld (world setup past).store.version (meta_of o).uid
   pub has : (o : Object) → Was setup past o → is_some (meta_of o).uid ≡ true
+  pub keyed : (a b : Object) → Was setup past a → Was setup past b → (meta_of a).uid ≡ (meta_of b).uid → key_of a ≡ key_of b
   pub later : (a : Object) (k : Key) (b : Object) → Was setup past a → row_at k (world setup past).store.rows ≡ Some b → (meta_of b).uid ≡ (meta_of a).uid → IsLater a b
   pub placed : (v : VolumeData) → Was setup past (Volume v) → IsPlaced (key_of (Volume v))
   -- what the log tells stood in the store
   pub logged : (o : Object) → SomeOf (λ x. x ≡ o) (objects_of_events (world setup past).log) → Was setup past o
-  -- each UID in a reference was that of a claim of this namespace and name: (a)
-  pub refers : (v : VolumeData) (r : Ref) (uid : Uid) → Was setup past (Volume v) → Refers v r uid → WasNamed setup past r uid
+  -- each UID in a reference is that of a claim of this namespace and name, or of none: (a)
+  pub refers : (v : VolumeData) (r : Ref) (uid : Uid) → Was setup past (Volume v) → Refers v r uid → IsReferred setup past r uid
   -- what is Bound is protected: (d)
   pub guarded : (k : Key) (v : VolumeData) → row_at k (world setup past).store.rows ≡ Some (Volume v) → is_bound v.phase ≡ true → is_protected_volume v ≡ true
   -- what was Bound to a claim that is there and not elsewhere is so still: (c)
   pub binding : (v : VolumeData) (r : Ref) (uid : Uid) (k : Key) (c : ClaimData) → Was setup past (Volume v) → is_bound v.phase ≡ true → Refers v r uid
       → row_at k (world setup past).store.rows ≡ Some (Claim c) → c.meta.uid ≡ Some uid → NamesAtMost v.meta.name c → StillBound (world setup past) v.meta.name r
-  -- a completed claim was carried by a Bound volume
-  pub completed : (k : Key) (c : ClaimData) → row_at k (world setup past).store.rows ≡ Some (Claim c) → is_completed c ≡ true → WasBound setup past c
+  -- a completed claim was carried by a Bound volume, if it was not imported as Lost
+  pub completed : (k : Key) (c : ClaimData) → row_at k (world setup past).store.rows ≡ Some (Claim c) → is_completed c ≡ true → was_imported_as_lost setup c.meta.uid ≡ false → WasBound setup past c
   -- the claim of an ended volume is gone or elsewhere, and with policy Delete it is so until it leaves: (e)
   pub released : (k : Key) (v : VolumeData) (r : Ref) (uid : Uid) → row_at k (world setup past).store.rows ≡ Some (Volume v) → is_ended v.phase ≡ true → Refers v r uid → IsAway (world setup past) uid v.meta.name
   pub lasts : (v : VolumeData) (r : Ref) (uid : Uid) (k : Key) (x : VolumeData) → Was setup past (Volume v) → Refers v r uid → IsFinal r v

@@ -1,5 +1,5 @@
 -- What stood in the store at some time, and what a write may make of an object. Lists of entries begin with the newest.
-use Rattle.std.specs.Prelude.{ℕ, ◌≡◌, ◌≢◌, ◌⊎◌, true, false, List, [], ◌∷◌, Some, ⊤}
+use Rattle.std.specs.Prelude.{ℕ, ◌+◌, ◌<◌, ◌≡◌, ◌≢◌, ◌⊎◌, true, false, List, [], ◌∷◌, Some, ⊤}
 use Rattle.kube_types.specs.declared.uid.Uid.{Uid}
 use Rattle.kube_types.specs.declared.key.Key.{Key}
 use Rattle.kube_types.specs.declared.objects.Ref.{Ref}
@@ -13,11 +13,11 @@ use Rattle.kube_types.specs.Bindings.{is_ended, is_bound, is_completed, is_delet
 use Rattle.kube_types.specs.declared.objects.Pod.{Pod as PodData}
 use Rattle.call_types.specs.declared.entry.Entry.{Entry}
 use Rattle.call_types.specs.declared.setup.Setup.{Setup}
-use Rattle.binder_model.specs.Told.{ToldClaim, After}
+use Rattle.binder_model.specs.Told.{ToldClaim, After, own}
 use Rattle.binder_model.specs.GuardLicence.{IsDeletingVersion, TellsUnused}
-use Rattle.binder_model.specs.Run.{own}
 use Rattle.binder_model.specs.World.{World, world}
 use Rattle.world_moves.specs.Whence.{IsFirst, IsNext}
+use Rattle.binder_model.specs.Imports.{most_serials}
 
 -- the object stands in the store, under its key
 abbrev pub Stands : World → Object → Type 0
@@ -130,6 +130,7 @@ KindStart setup past o = ⊤
 
 -- what may be made of what stands there: none, or an old object
 pub record Starts (setup : Setup) (past : List Entry) (new : Object) : Type 0 where
+  pub room : (world setup past).store.version + 1 < most_serials
   pub first : IsFirst (world setup past).store new
   pub start : KindStart setup past new
 

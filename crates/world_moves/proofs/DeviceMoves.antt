@@ -14,11 +14,16 @@ use Rattle.binder_model.specs.Answers.{Outcome, is_user, reply_of}
 use Rattle.binder_model.specs.Devices.{Data, first_fit, Devices, DeviceAnswer, MountAt, epoch_of, after_call, provision_new, provision, erase, unless_planned, unless_stale, take_node, with_mounts, device_answer, data_named, is_planned, epoch_if_stale, with_mount, without_mount, rows_on, is_mounted_on}
 use Rattle.binder_model.specs.Watching.{oldest}
 use Rattle.binder_model.specs.AgentLicence.{has_row, is_of_epoch, lacks_pod}
-use Rattle.binder_model.specs.World.{World, Effect, OnStore, OnDevices, SetsMoment, effect, reply_to, world_after, on_devices, set_time, watch, is_time, refused_rule}
+use Rattle.binder_model.specs.World.{base, World, Effect, OnStore, OnDevices, SetsMoment, effect, reply_to, world_after, on_devices, set_time, watch, is_time, refused_rule}
 use Rattle.binder_model.specs.Same.{same_uid}
-use Rattle.world_moves.proofs.Moves.{none_some}
 use Rattle.world_moves.specs.DeviceMoves.{MountIn, IsMounting, IsTaking, DeviceMove, EffectMove}
-use Rattle.world_moves.proofs.Tests.{both, same_text}
+use Rattle.world_moves.proofs.Tests.{same_text}
+use Rattle.std.proofs.lemmas.Bool.{and_parts, or_right, not-true}
+use Rattle.std.proofs.lemmas.Option.{none-some}
+use Rattle.world_moves.proofs.Tests.{uid_same}
+use Rattle.binder_model.specs.Devices.{put_mount}
+use Rattle.binder_model.proofs.Mounts.{put_was}
+use Rattle.world_moves.proofs.Lists.{some_filter}
 
 -- epochs and mounts as they were
 still : (d new : Devices) (request : Request) (reply : Reply) → new.epochs ≡ d.epochs → new.mounts ≡ d.mounts → DeviceMove d new request reply
@@ -46,7 +51,7 @@ stale_none d node given e = by (given == epoch_of node d.epochs) refl e
   where
     by : (b : Bool) → (given == epoch_of node d.epochs) ≡ b → (if b then None else Some (epoch_of node d.epochs)) ≡ None → given ≡ epoch_of node d.epochs
     by true t e = grind (arith, nat_tests)
-    by false t e = absurd (none_some (sym e))
+    by false t e = absurd (none-some _ (sym e))
 
 stale_move : (d : Devices) (request : Request) (s : Option ℕ) (next : DeviceAnswer) → (s ≡ None → DeviceMove d next.devices request next.reply) → DeviceMove d (unless_stale d s next).devices request (unless_stale d s next).reply
 unfolding unless_stale
@@ -80,10 +85,6 @@ take_move d node = record {
         }))
     by other false is = inl (rw is refl)
 
-mount_in_or : (m : MountAt) (xs ys : List MountAt) → MountIn m (xs ++ ys) → MountIn m xs ⊎ MountIn m ys
-mount_in_or m [] ys h = inr h
-mount_in_or m (x ∷ xs) ys h = elim h [ inl is ↦ inl (inl is) | inr more ↦ elim (mount_in_or m xs ys more) [ inl a ↦ inl (inr a) | inr b ↦ inr b ] ]
-
 mount_move : (d : Devices) (node : List ℕ) (epoch : ℕ) (pod : Uid) (claims : List Uid) → epoch ≡ epoch_of node d.epochs → DeviceMove d (with_mounts d node (with_mount node pod claims d.mounts)).devices (requests.Mount node epoch pod claims) (with_mounts d node (with_mount node pod claims d.mounts)).reply
 unfolding with_mounts
 mount_move d node epoch pod claims current = record {
@@ -91,27 +92,16 @@ mount_move d node epoch pod claims current = record {
   mount = λ m h. by m (is_mounted_on node pod d.mounts) h;
 }
   where
-    by : (m : MountAt) (b : Bool) → MountIn m (if b then d.mounts else d.mounts ++ (record { node = node; row = record { pod = pod; claims = claims } }) ∷ []) → MountIn m d.mounts ⊎ IsMounting d (requests.Mount node epoch pod claims) m
+    by : (m : MountAt) (b : Bool) → MountIn m (if b then d.mounts else put_mount (record { node = node; row = record { pod = pod; claims = claims } }) d.mounts) → MountIn m d.mounts ⊎ IsMounting d (requests.Mount node epoch pod claims) m
     by m true h = inl h
-    by m false h = elim (mount_in_or m d.mounts _ h) [
+    by m false h = elim (put_was (record { node = node; row = record { pod = pod; claims = claims } }) m d.mounts h) [
       | inl before ↦ inl before
-      | inr new ↦ elim new [
-        | inl is ↦ inr (subst (λ (x : MountAt). IsMounting d (requests.Mount node epoch pod claims) x) is (record { epoch = epoch; asked = refl; current = current }))
-        | inr none ↦ absurd none
-      ]
+      | inr is ↦ inr (subst (λ (x : MountAt). IsMounting d (requests.Mount node epoch pod claims) x) is (record { epoch = epoch; asked = refl; current = current }))
     ]
-
-kept_mount : (p : MountAt → Bool) (m : MountAt) (ms : List MountAt) → MountIn m (filter p ms) → MountIn m ms
-kept_mount p m [] h = absurd h
-kept_mount p m (x ∷ xs) h = by (p x) h (kept_mount p m xs)
-  where
-    by : (b : Bool) → MountIn m (cond b (x ∷ filter p xs) (filter p xs)) → (MountIn m (filter p xs) → MountIn m xs) → MountIn m (x ∷ xs)
-    by true h f = elim h [ inl is ↦ inl is | inr more ↦ inr (f more) ]
-    by false h f = inr (f h)
 
 unmount_move : (d : Devices) (node : List ℕ) (request : Request) (pod : Uid) → DeviceMove d (with_mounts d node (without_mount node pod d.mounts)).devices request (with_mounts d node (without_mount node pod d.mounts)).reply
 unfolding with_mounts
-unmount_move d node request pod = record { epoch = λ other. inl refl; mount = λ m h. inl (kept_mount _ m d.mounts h) }
+unmount_move d node request pod = record { epoch = λ other. inl refl; mount = λ m h. inl (some_filter (λ x. x ≡ m) _ d.mounts h) }
 
 devices_move : (setup : Setup) (d : Devices) (request : Request) → IsMove d request (device_answer setup d request)
 unfolding device_answer erase with_mounts
@@ -152,17 +142,10 @@ unfolding effect set_time watch
 device_moves setup w kind (requests.SetTime at) = test (is_time at) (SetsMoment _) (OnStore _) (at_moment w kind _ at) (λ b. on_store w kind _ _)
 device_moves setup w kind (requests.Watch k from) =
     test (nat_lt w.store.version from) (OnStore _) _ (on_store w kind _ _)
-    (λ c. test (nat_lt from (oldest w.store.version)) (OnStore _) (OnStore _) (on_store w kind _ _) (λ b. on_store w kind _ _))
+    (λ c. test (nat_lt from (oldest (base setup) w.store.version)) (OnStore _) (OnStore _) (on_store w kind _ _) (λ b. on_store w kind _ _))
 device_moves setup w kind request = asked w kind request _ (devices_move setup w.devices request)
 
 -- what a list of a node's mounts tells
-
-pub uid_same : (a b : Uid) → a ≡ b → same_uid a b ≡ true
-uid_same a b e = let n : a.0 ≡ b.0 = ap (λ (u : Uid). u.0) e in grind (arith, nat_tests)
-
-or_true : (a b : Bool) → b ≡ true → (a || b) ≡ true
-or_true true b e = refl
-or_true false b e = e
 
 pub has_row_of : (m : MountAt) (ms : List MountAt) (node : List ℕ) (pod : Uid) → MountIn m ms → m.node ≡ node → m.row.pod ≡ pod → has_row pod (rows_on node ms) ≡ true
 has_row_of m [] node pod h n p = absurd h
@@ -173,7 +156,7 @@ has_row_of m (x ∷ xs) node pod (inl is) n p =
 has_row_of m (x ∷ xs) node pod (inr more) n p = by (bytes_eq x.node node) (has_row_of m xs node pod more n p)
   where
     by : (b : Bool) → has_row pod (rows_on node xs) ≡ true → has_row pod (if b then x.row ∷ rows_on node xs else rows_on node xs) ≡ true
-    by true e = or_true (same_uid x.row.pod pod) (has_row pod (rows_on node xs)) e
+    by true e = or_right (same_uid x.row.pod pod) (has_row pod (rows_on node xs)) e
     by false e = e
 
 -- the node's list, as it then is
@@ -181,17 +164,13 @@ abbrev TellsMounts : Request → Option DeviceAnswer → Type 0
 TellsMounts request None = ⊤
 TellsMounts request (Some a) = (node : List ℕ) (epoch : ℕ) (pod : Uid) → is_of_epoch node epoch request ≡ true → lacks_pod pod a.reply ≡ true → has_row pod (rows_on node a.devices.mounts) ≡ false
 
-not_true : (b : Bool) → not b ≡ true → b ≡ false
-not_true true e = absurd (true≢false (sym e))
-not_true false e = refl
-
 told_rows : (d : Devices) (n : List ℕ) (e : ℕ) (s : Option ℕ) (mounts : List MountAt) (node : List ℕ) (epoch : ℕ) (pod : Uid) → (bytes_eq n node && e == epoch) ≡ true
     → lacks_pod pod (unless_stale d s (with_mounts d n mounts)).reply ≡ true → has_row pod (rows_on node (unless_stale d s (with_mounts d n mounts)).devices.mounts) ≡ false
 unfolding unless_stale with_mounts
 told_rows d n e (Some k) mounts node epoch pod is lacks = absurd (true≢false (sym lacks))
 told_rows d n e None mounts node epoch pod is lacks =
-    let same : n ≡ node = same_text n node (both (bytes_eq n node) (e == epoch) is).0 in
-    subst (λ (x : List ℕ). has_row pod (rows_on x mounts) ≡ false) same (not_true _ lacks)
+    let same : n ≡ node = same_text n node (and_parts (bytes_eq n node) (e == epoch) is).0 in
+    subst (λ (x : List ℕ). has_row pod (rows_on x mounts) ≡ false) same (not-true _ lacks)
 
 tells_mounts : (setup : Setup) (d : Devices) (request : Request) → TellsMounts request (device_answer setup d request)
 unfolding device_answer
@@ -219,7 +198,7 @@ pub mounts_told : (setup : Setup) (w : World) (kind : SeatKind) (request : Reque
 unfolding effect device_answer
 mounts_told setup w kind (requests.SetTime at) = record { lacks = λ node epoch pod is lacks. absurd (true≢false (sym is)) }
 mounts_told setup w kind (requests.Watch k from) = record { lacks = λ node epoch pod is lacks. absurd (true≢false (sym is)) }
-mounts_told setup w kind (requests.Mounts n e) = lacks_of w kind (requests.Mounts n e) _ (tells_mounts setup w.devices (requests.Mounts n e)) (λ node epoch no. absurd (none_some (sym no)))
-mounts_told setup w kind (requests.Mount n e p claims) = lacks_of w kind (requests.Mount n e p claims) _ (tells_mounts setup w.devices (requests.Mount n e p claims)) (λ node epoch no. absurd (none_some (sym no)))
-mounts_told setup w kind (requests.Unmount n e p) = lacks_of w kind (requests.Unmount n e p) _ (tells_mounts setup w.devices (requests.Unmount n e p)) (λ node epoch no. absurd (none_some (sym no)))
+mounts_told setup w kind (requests.Mounts n e) = lacks_of w kind (requests.Mounts n e) _ (tells_mounts setup w.devices (requests.Mounts n e)) (λ node epoch no. absurd (none-some _ (sym no)))
+mounts_told setup w kind (requests.Mount n e p claims) = lacks_of w kind (requests.Mount n e p claims) _ (tells_mounts setup w.devices (requests.Mount n e p claims)) (λ node epoch no. absurd (none-some _ (sym no)))
+mounts_told setup w kind (requests.Unmount n e p) = lacks_of w kind (requests.Unmount n e p) _ (tells_mounts setup w.devices (requests.Unmount n e p)) (λ node epoch no. absurd (none-some _ (sym no)))
 mounts_told setup w kind request = record { lacks = λ node epoch pod is lacks. absurd (true≢false (sym is)) }

@@ -1,9 +1,10 @@
 pub mod Tests
+pub mod Objects
+pub mod Lists
 pub mod Forms
 pub mod Effects
 pub mod Whence
 pub mod Moves
-pub mod PodsLeft
 pub mod DeviceMoves
 pub mod Tells
 pub mod Newest

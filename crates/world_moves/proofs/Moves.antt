@@ -15,22 +15,16 @@ use Rattle.binder_model.specs.Answers.{Outcome, Says, Stores, Removes, after}
 use Rattle.binder_model.specs.World.{World, Effect, OnStore, OnDevices, SetsMoment, effect, world_after, log_after}
 use Rattle.model_laws.proofs.Kept.{key_tells}
 use Rattle.model_laws.proofs.Histories.{rows_after}
-use Rattle.world_moves.proofs.Forms.{FormOf}
-use Rattle.world_moves.specs.Writes.{Writes}
-use Rattle.world_moves.proofs.Effects.{EffectOf, effect_form}
-use Rattle.world_moves.specs.Moves.{IsWritten, IsIn, Moves}
+use Rattle.world_moves.specs.Writes.{Writes, IsIn, FormOf, EffectOf}
+use Rattle.world_moves.proofs.Effects.{effect_form}
+use Rattle.world_moves.specs.Moves.{IsWritten, Moves, CallsMoveTheStore}
+use Rattle.std.proofs.lemmas.Option.{same_Some, none-some}
 
-pub one : (a b : Object) → Some a ≡ Some b → a ≡ b
-one a b e = ap (λ x. unwrap_or x a) e
-
-pub none_some : {X : Type 0} {x : X} → ◌≡◌ {A = Option X} None (Some x) → ⊥
-none_some e = true≢false (sym (ap is_some e))
-
-still : (w : World) (x : Effect) (W : Object → Type 0) → AreRows w.store.rows → (world_after w x).store ≡ w.store → (world_after w x).log ≡ w.log → Moves w x W
-still w x W rows e l = record {
+still : (w : World) (request : Request) (x : Effect) (W : Object → Type 0) → AreRows w.store.rows → (world_after w x).store ≡ w.store → (world_after w x).log ≡ w.log → Moves w request x W
+still w request x W rows e l = record {
   logged = λ o h. inl (subst (λ (es : List Event). IsIn o (objects_of_events es)) l h);
   row = λ k o is. inl (ap (λ s. row_at k s.rows) (sym e) ∙ is);
-  left = λ k o is none. absurd (none_some (sym none ∙ ap (λ s. row_at k s.rows) e ∙ is));
+  left = λ k o is none. absurd (none-some _ (sym none ∙ ap (λ s. row_at k s.rows) e ∙ is));
   rises = let v = ap (λ s. s.version) e in omega (arith, v);
   order = subst (λ s. AreRows s.rows) (sym e) rows;
 }
@@ -48,50 +42,50 @@ stored_event rows change o new log h = by change h
     by changes.Modified h = elim h [ inl e ↦ inr (here e) | inr more ↦ inl more ]
     by changes.Deleted h = inl h
 
-store_moves : (w : World) (W : Object → Type 0) (x : Outcome) → AreRows w.store.rows → FormOf W x → Moves w (OnStore x) W
+store_moves : (w : World) (request : Request) (W : Object → Type 0) (x : Outcome) → AreRows w.store.rows → FormOf w.store W request x → Moves w request (OnStore x) W
 unfolding world_after after log_after
-store_moves w W (Says reply) rows f = still w (OnStore (Says reply)) W rows refl refl
-store_moves w W (Stores change o) rows f = record {
+store_moves w request W (Says reply) rows f = still w request (OnStore (Says reply)) W rows refl refl
+store_moves w request W (Stores change o) rows f = record {
   row = λ k new is. elim (key_tells (key_of o) k) [
     | inl same ↦
-        let e : o ≡ new = one o new (sym (row_at-put_row o w.store.rows) ∙ ap (λ j. row_at j (put_row o w.store.rows)) same ∙ is) in
+        let e : o ≡ new = same_Some o new (sym (row_at-put_row o w.store.rows) ∙ ap (λ j. row_at j (put_row o w.store.rows)) same ∙ is) in
         inr (subst (IsWritten w (OnStore (Stores change o)) W) e (record { is = refl; write = f; counted = refl }))
     | inr other ↦ inl (sym (row_at-put_row_other k o w.store.rows other) ∙ is)
   ];
   left = λ k old is none. elim (key_tells (key_of o) k) [
-    | inl same ↦ absurd (none_some (sym none ∙ ap (λ j. row_at j (put_row o w.store.rows)) (sym same) ∙ row_at-put_row o w.store.rows))
-    | inr other ↦ absurd (none_some (sym none ∙ row_at-put_row_other k o w.store.rows other ∙ is))
+    | inl same ↦ absurd (none-some _ (sym none ∙ ap (λ j. row_at j (put_row o w.store.rows)) (sym same) ∙ row_at-put_row o w.store.rows))
+    | inr other ↦ absurd (none-some _ (sym none ∙ row_at-put_row_other k o w.store.rows other ∙ is))
   ];
   rises = omega arith;
   logged = λ new h. stored_event w.store.rows change o new w.log h;
   order = rows_after w.store (Stores change o) rows;
 }
-store_moves w W (Removes o) rows f = record {
+store_moves w request W (Removes o) rows f = record {
   row = λ k new is. elim (key_tells (key_of o) k) [
-    | inl same ↦ absurd (none_some (sym (row_at-without_row (key_of o) w.store.rows rows) ∙ ap (λ j. row_at j (without_row (key_of o) w.store.rows)) same ∙ is))
+    | inl same ↦ absurd (none-some _ (sym (row_at-without_row (key_of o) w.store.rows rows) ∙ ap (λ j. row_at j (without_row (key_of o) w.store.rows)) same ∙ is))
     | inr other ↦ inl (sym (row_at-without_row_other (key_of o) k w.store.rows other) ∙ is)
   ];
   left = λ k old is none. elim (key_tells (key_of o) k) [
     | inl same ↦ record { last = o; written = record { is = refl; write = f.0; counted = refl }; key = same; leaving = f.1; removes = refl }
-    | inr other ↦ absurd (none_some (sym none ∙ row_at-without_row_other (key_of o) k w.store.rows other ∙ is))
+    | inr other ↦ absurd (none-some _ (sym none ∙ row_at-without_row_other (key_of o) k w.store.rows other ∙ is))
   ];
   rises = omega arith;
   logged = λ new h. inl h;
   order = rows_after w.store (Removes o) rows;
 }
 
-effect_moves : (setup : Setup) (w : World) (kind : SeatKind) (request : Request) (x : Effect) → AreRows w.store.rows → EffectOf setup w kind request x → Moves w x (Writes w kind request)
+effect_moves : (setup : Setup) (w : World) (kind : SeatKind) (request : Request) (x : Effect) → AreRows w.store.rows → EffectOf setup w kind request x → Moves w request x (Writes w kind request)
 unfolding world_after
-effect_moves setup w kind request (OnStore o) rows f = store_moves w _ o rows f
-effect_moves setup w kind request (OnDevices a) rows f = still w (OnDevices a) _ rows refl refl
-effect_moves setup w kind request (SetsMoment at) rows f = still w (SetsMoment at) _ rows refl refl
+effect_moves setup w kind request (OnStore o) rows f = store_moves w request _ o rows f
+effect_moves setup w kind request (OnDevices a) rows f = still w request (OnDevices a) _ rows refl refl
+effect_moves setup w kind request (SetsMoment at) rows f = still w request (SetsMoment at) _ rows refl refl
 
-pub moves : (setup : Setup) (w : World) (kind : SeatKind) (request : Request) → AreRows w.store.rows → Moves w (effect setup w kind request) (Writes w kind request)
-moves setup w kind request rows = effect_moves setup w kind request _ rows (effect_form setup w kind request).is
+pub moves : CallsMoveTheStore
+moves setup w kind request rows = effect_moves setup w kind request _ rows (effect_form setup w kind request rows)
 
 -- what is known of the writes may be weakened
-pub as_made : {W V : Object → Type 0} (w : World) (x : Effect) → ((o : Object) → W o → V o) → Moves w x W → Moves w x V
-as_made {W = W} {V = V} w x f m = record {
+pub as_made : {W V : Object → Type 0} (w : World) (request : Request) (x : Effect) → ((o : Object) → W o → V o) → Moves w request x W → Moves w request x V
+as_made {W = W} {V = V} w request x f m = record {
   row = λ k o is. elim (m.row k o is) [ inl same ↦ inl same | inr new ↦ inr (to o new) ];
   left = λ k o is none. let h = m.left k o is none in record { last = h.last; written = to h.last h.written; key = h.key; leaving = h.leaving; removes = h.removes };
   rises = m.rises;

@@ -49,9 +49,9 @@ version-at : (o : Object) (n : ℕ) → (meta_of (at_version o n)).version ≡ n
 unfolding at_version
 version-at o n = ap (λ m. m.version) (meta-with_meta o _)
 
-version-marked : (o : Object) (n : ℕ) (moment : List ℕ) → (meta_of (marked_object o n moment)).version ≡ n
+version-marked_object : (o : Object) (n : ℕ) (moment : List ℕ) → (meta_of (marked_object o n moment)).version ≡ n
 unfolding marked_object
-version-marked o n moment = ap (λ m. m.version) (meta-with_meta o _)
+version-marked_object o n moment = ap (λ m. m.version) (meta-with_meta o _)
 
 pub status_next : (s : State) (kind : SeatKind) (key : Key) (status : NewStatus) (given : Option ℕ) (o : Object) → (u : IsStatus s kind key status given o) → IsNext s u.old o
 status_next s kind key status given o u =
@@ -77,7 +77,7 @@ mark_keeps old n moment = record {
 
 pub marked_next : (s : State) (moment : List ℕ) (key : Key) (given : Option Uid) (o : Object) → (u : IsMark s moment key given o) → IsNext s u.old o
 marked_next s moment key given o u =
-    subst (IsNext s u.old) (sym u.is) (next s key u.old _ u.there (key-marked u.old _ moment ∙ row_at_key key u.old s.rows u.there) (mark_keeps u.old _ moment) (version-marked u.old _ moment))
+    subst (IsNext s u.old) (sym u.is) (next s key u.old _ u.there (key-marked u.old _ moment ∙ row_at_key key u.old s.rows u.there) (mark_keeps u.old _ moment) (version-marked_object u.old _ moment))
 
 pub bound_next : (s : State) (kind : SeatKind) (key : Key) (uid : Uid) (node : List ℕ) (o : Object) → (u : IsBind s kind key uid node o) → IsNext s (Pod u.pod) o
 bound_next s kind key uid node o u =

@@ -3,10 +3,10 @@ use Rattle.std.specs.Prelude.{◌≡◌, ◌⊎◌, ◌+◌, ◌≤◌, List, Op
 use Rattle.kube_types.specs.declared.key.Key.{Key}
 use Rattle.kube_types.specs.declared.objects.Object.{Object}
 use Rattle.kube_types.specs.Keys.{AreRows, key_of, row_at}
-use Rattle.binder_model.specs.Told.{SomeOf, objects_of_events}
+use Rattle.binder_model.specs.Told.{objects_of_events}
 use Rattle.binder_model.specs.Answers.{Stores, Removes}
 use Rattle.binder_model.specs.World.{World, Effect, OnStore, effect, world_after}
-use Rattle.world_moves.specs.Writes.{IsLeaving}
+use Rattle.world_moves.specs.Writes.{IsLeaving, IsIn}
 use Rattle.call_types.specs.declared.setup.Setup.{Setup}
 use Rattle.call_types.specs.declared.request.SeatKind.{SeatKind}
 use Rattle.call_types.specs.declared.request.Request.{Request}
@@ -18,25 +18,25 @@ written_by (OnStore (Stores change o)) = Some o
 written_by (OnStore (Removes o)) = Some o
 written_by x = None
 
--- the object under the key was written by this effect
+-- the object was written by this effect
 pub record IsWritten (w : World) (x : Effect) (W : Object → Type 0) (o : Object) : Type 0 where
   pub is : written_by x ≡ Some o
   pub write : W o
   pub counted : (world_after w x).store.version ≡ w.store.version + 1
 
-pub record HasLeft (w : World) (x : Effect) (W : Object → Type 0) (k : Key) : Type 0 where
+-- the key is empty after this effect: the last object there was written, and left
+pub record HasLeft (w : World) (request : Request) (x : Effect) (W : Object → Type 0) (k : Key) : Type 0 where
   pub last : Object
   pub written : IsWritten w x W last
   pub key : key_of last ≡ k
-  pub leaving : IsLeaving last
+  pub leaving : IsLeaving request last
   pub removes : x ≡ OnStore (Removes last)
 
-abbrev pub IsIn : Object → List Object → Type 0
-IsIn o os = SomeOf (λ x. x ≡ o) os
-
-pub record Moves (w : World) (x : Effect) (W : Object → Type 0) : Type 0 where
+-- what stands at a key stood there before or was written; what stands there no more has left; the version does not fall;
+-- the log tells what it told before, and what stands now
+pub record Moves (w : World) (request : Request) (x : Effect) (W : Object → Type 0) : Type 0 where
   pub row : (k : Key) (o : Object) → row_at k (world_after w x).store.rows ≡ Some o → (row_at k w.store.rows ≡ Some o) ⊎ IsWritten w x W o
-  pub left : (k : Key) (o : Object) → row_at k w.store.rows ≡ Some o → row_at k (world_after w x).store.rows ≡ None → HasLeft w x W k
+  pub left : (k : Key) (o : Object) → row_at k w.store.rows ≡ Some o → row_at k (world_after w x).store.rows ≡ None → HasLeft w request x W k
   pub rises : w.store.version ≤ (world_after w x).store.version
   pub logged : (o : Object) → IsIn o (objects_of_events (world_after w x).log) → IsIn o (objects_of_events w.log) ⊎ (row_at (key_of o) (world_after w x).store.rows ≡ Some o)
   pub order : AreRows (world_after w x).store.rows
@@ -45,4 +45,4 @@ pub record Moves (w : World) (x : Effect) (W : Object → Type 0) : Type 0 where
 abbrev pub CallsMoveTheStore : Type 0
 CallsMoveTheStore =
     (setup : Setup) (w : World) (kind : SeatKind) (request : Request)
-    → AreRows w.store.rows → Moves w (effect setup w kind request) (Writes w kind request)
+    → AreRows w.store.rows → Moves w request (effect setup w kind request) (Writes w kind request)

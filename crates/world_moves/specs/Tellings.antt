@@ -7,7 +7,7 @@ use Rattle.call_types.specs.declared.request.Request.TheVariants as requests
 use Rattle.binder_model.specs.Answers.{after}
 use Rattle.binder_model.specs.Told.{objects_in, objects_of_events}
 use Rattle.binder_model.specs.World.{World, Effect, watch, reply_to, world_after}
-use Rattle.world_moves.specs.Moves.{IsIn}
+use Rattle.world_moves.specs.Writes.{IsIn, is_watch}
 use Rattle.call_types.specs.declared.setup.Setup.{Setup}
 use Rattle.call_types.specs.declared.request.SeatKind.{SeatKind}
 use Rattle.kube_types.specs.Keys.{AreRows}
@@ -20,11 +20,6 @@ pub record TellsTrue (w : World) (x : Effect) : Type 0 where
 -- what is told at an entry that is no watch stands before or after
 pub record TellsNow (w : World) (x : Effect) : Type 0 where
   pub now : (o : Object) → IsIn o (objects_in (reply_to x)) → (row_at (key_of o) w.store.rows ≡ Some o) ⊎ (row_at (key_of o) (world_after w x).store.rows ≡ Some o)
-
--- the request is a watch
-abbrev pub is_watch : Request → Bool
-is_watch (requests.Watch k from) = true
-is_watch request = false
 
 -- each answer is true, and only a watch tells of the past
 abbrev pub AnswersAreTrue : Type 0

@@ -1,11 +1,11 @@
--- What each write of the store was asked as, and what was tested before it: a record for each verb; and how an object leaves.
-use Rattle.std.specs.Prelude.{ℕ, ◌≡◌, ◌⊎◌, ◌+◌, true, false, List, Option, Some, None, bytes_eq, ⊤}
+-- What one call comes to: a record for each verb that writes, with all that was tested before the write; how an object leaves; true answers.
+use Rattle.std.specs.Prelude.{ℕ, ◌≡◌, ◌⊎◌, ◌+◌, Bool, true, false, List, Option, Some, None, bytes_eq, ⊤}
 use Rattle.kube_types.specs.declared.uid.Uid.{Uid}
 use Rattle.kube_types.specs.declared.key.Key.{Key}
 use Rattle.kube_types.specs.declared.objects.Pod.{Pod as PodData}
 use Rattle.kube_types.specs.declared.objects.Object.{Object}
 use Rattle.kube_types.specs.declared.objects.Object.TheVariants.{Pod}
-use Rattle.kube_types.specs.Keys.{meta_of, key_of, row_at}
+use Rattle.kube_types.specs.Keys.{AreRows, meta_of, key_of, row_at}
 use Rattle.kube_types.specs.Bindings.{is_deleting, is_scheduled, is_uid}
 use Rattle.call_types.specs.declared.request.NewStatus.{NewStatus}
 use Rattle.call_types.specs.declared.request.SeatKind.{SeatKind}
@@ -13,11 +13,12 @@ use Rattle.call_types.specs.declared.request.Request.{Request}
 use Rattle.call_types.specs.declared.request.Request.TheVariants as requests
 use Rattle.binder_model.specs.Store.{State, at_version, marked_object, created_object, updated_object, leaves, leaves_at_once, lacks_node, class_name, default_class}
 use Rattle.binder_model.specs.Fields.{update_fault, create_fault}
-use Rattle.binder_model.specs.Answers.{is_user, is_other_version, is_other_uid, guard_on, update, with_status, edit}
-use Rattle.binder_model.specs.World.{World, stale_epoch}
+use Rattle.binder_model.specs.Answers.{Outcome, Says, Stores, Removes, is_user, is_other_version, is_other_uid, guard_on, with_status}
+use Rattle.binder_model.specs.Devices.{device_answer}
+use Rattle.binder_model.specs.Told.{SomeOf, objects_in}
+use Rattle.binder_model.specs.World.{World, Effect, OnStore, OnDevices, SetsMoment, effect, stale_epoch}
+use Rattle.call_types.specs.declared.reply.Reply.{Reply}
 use Rattle.call_types.specs.declared.setup.Setup.{Setup}
-use Rattle.binder_model.specs.Answers.{Removes}
-use Rattle.binder_model.specs.World.{OnStore, effect}
 
 -- the first write of an object
 pub record IsCreate (s : State) (kind : SeatKind) (moment : List ℕ) (new o : Object) : Type 0 where
@@ -84,23 +85,47 @@ WriteOf s kind moment stale (requests.BindPod key uid node) o = IsBind s kind ke
 WriteOf s kind moment stale (requests.FinishPod key uid node epoch) o = IsFinish s kind key uid node stale o
 WriteOf s kind moment stale _ o = ⊥
 
--- what leaves: pods by their own verbs
-abbrev pub IsLeaving : Object → Type 0
-IsLeaving (Pod p) = ⊤
-IsLeaving o = leaves o ≡ true
-
--- the write of the store that was asked in this world
-abbrev pub Writes : World → SeatKind → Request → Object → Type 0
-Writes w kind request o = WriteOf w.store kind w.moment (stale_epoch w.devices request) request o
-
--- the requests by which the pod may leave
+-- the requests by which a pod may leave: FinishPod, or Delete where no node runs it
 abbrev pub PodGoes : Request → PodData → Type 0
 PodGoes (requests.FinishPod key uid node epoch) p = ⊤
 PodGoes (requests.Delete key given) p = is_scheduled p ≡ false
 PodGoes _ p = ⊥
 
--- a pod leaves by FinishPod, or by Delete where no node runs it
-abbrev pub PodsLeaveByTheirVerbs : Type 0
-PodsLeaveByTheirVerbs =
-    (setup : Setup) (w : World) (kind : SeatKind) (request : Request) (p : PodData)
-    → effect setup w kind request ≡ OnStore (Removes (Pod p)) → PodGoes request p
+-- how an object leaves: a pod by its own verbs, any other without finalizers once it is deleting
+abbrev pub IsLeaving : Request → Object → Type 0
+IsLeaving request (Pod p) = PodGoes request p
+IsLeaving request o = leaves o ≡ true
+
+-- the write of the store that was asked in this world
+abbrev pub Writes : World → SeatKind → Request → Object → Type 0
+Writes w kind request o = WriteOf w.store kind w.moment (stale_epoch w.devices request) request o
+
+-- the request is a watch
+abbrev pub is_watch : Request → Bool
+is_watch (requests.Watch k from) = true
+is_watch request = false
+
+abbrev pub IsIn : Object → List Object → Type 0
+IsIn o os = SomeOf (λ x. x ≡ o) os
+
+-- each object that the answer tells stands there
+abbrev pub TellsStanding : List Object → Reply → Type 0
+TellsStanding rows reply = (o : Object) → IsIn o (objects_in reply) → row_at (key_of o) rows ≡ Some o
+
+-- an outcome: an answer that tells what stands there, a write, or a write after which the object leaves
+abbrev pub FormOf : State → (Object → Type 0) → Request → Outcome → Type 0
+FormOf s W request (Says reply) = is_watch request ≡ false → TellsStanding s.rows reply
+FormOf s W request (Stores change o) = W o
+FormOf s W request (Removes o) = W o × IsLeaving request o
+
+-- an effect: an outcome of the store, an answer of the devices to a controller, or a new moment
+abbrev pub EffectOf : Setup → World → SeatKind → Request → Effect → Type 0
+EffectOf setup w kind request (OnStore o) = FormOf w.store (Writes w kind request) request o
+EffectOf setup w kind request (OnDevices a) = (is_user kind ≡ false) × (device_answer setup w.devices request ≡ Some a)
+EffectOf setup w kind request (SetsMoment at) = request ≡ requests.SetTime at
+
+-- each call comes to what was asked, past the tests of its verb
+abbrev pub CallsComeToWhatWasAsked : Type 0
+CallsComeToWhatWasAsked =
+    (setup : Setup) (w : World) (kind : SeatKind) (request : Request)
+    → AreRows w.store.rows → EffectOf setup w kind request (effect setup w kind request)

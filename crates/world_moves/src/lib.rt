@@ -1,22 +1,23 @@
 //! How one call moves the world: the ground of the safety law.
 //!
-//! The verbs are walked here and nowhere above. A call makes one write that was asked and tested, or none
-//! (`calls_move_the_store`); a written object is a first version or the next one of what stands (`writes_follow`); a pod
-//! leaves by its own verbs alone (`pods_leave_by_their_verbs`); epochs and mounts move by the calls of agents
-//! (`calls_move_the_devices`); and each answer is true (`answers_are_true`), of this very moment where it is no watch
-//! (`answers_tell_the_moment`).
+//! The verbs are walked here and nowhere above: each call comes to what was asked, past the tests of its verb
+//! (`calls_come_to_what_was_asked`). So the store moves by one write or not at all (`calls_move_the_store`), a written
+//! object is a first version or the next one of what stands (`writes_follow`), epochs and mounts move by the calls of
+//! agents alone (`calls_move_the_devices`), and each answer is true (`answers_are_true`): of this very moment where it is
+//! no watch (`answers_tell_the_moment`).
 #![tactic(auto)]
 
-ghost use Rattle.world_moves.specs.Writes.{PodsLeaveByTheirVerbs};
+ghost use Rattle.world_moves.specs.Writes.{CallsComeToWhatWasAsked};
 ghost use Rattle.world_moves.specs.Whence.{WritesFollow};
 ghost use Rattle.world_moves.specs.Moves.{CallsMoveTheStore};
 ghost use Rattle.world_moves.specs.DeviceMoves.{CallsMoveTheDevices};
 ghost use Rattle.world_moves.specs.Tellings.{AnswersAreTrue, AnswersTellTheMoment};
 
-/// A pod leaves by FinishPod, or by Delete where no node runs it.
-#[tactic(auto, using(crate::proofs::PodsLeft::pod_goes))]
-pub fn pods_leave_by_their_verbs()
-    ensures { PodsLeaveByTheirVerbs }
+/// Each call comes to what was asked, past the tests of its verb; a pod leaves by FinishPod, or by Delete where no node
+/// runs it.
+#[tactic(auto, using(crate::proofs::Effects::effect_form))]
+pub fn calls_come_to_what_was_asked()
+    ensures { CallsComeToWhatWasAsked }
 {}
 
 /// Each write gives a first version of an object, or the next one of an object that stands.
