@@ -13,7 +13,7 @@ use Rattle.kube_types.specs.Bindings.{ref_uid, is_uid}
 use Rattle.kube_types.proofs.SameKeys.{same_key-Decides}
 use Rattle.binder_model.specs.Fields.{create_fault}
 use Rattle.binder_model.specs.Imports.{most_imported, serial_or_zero, reference_of, shares_uid, refers_to_another, is_ended_for, holds_of_pair, fault_if, fault_of_field, import_fault, PassAfter, ImportsPass}
-use Rattle.model_laws.proofs.Lists.{append_assoc, append_none}
+use Rattle.std.proofs.lemmas.List.{append_assoc, append-nil}
 use Rattle.world_moves.specs.Writes.{IsIn}
 use Rattle.world_moves.proofs.Lists.{some_or}
 
@@ -140,9 +140,9 @@ sound_with before x p a h = elim (some_or (λ y. y ≡ a) before (x ∷ []) h) [
 
 two_after : (before os : List Object) → PassAfter before os → ((a b : Object) → IsIn a before → IsIn b before → AreSound a b)
     → (a b : Object) → IsIn a (before ++ os) → IsIn b (before ++ os) → AreSound a b
-two_after before [] p known a b in_a in_b = known a b (subst (IsIn a) (append_none before) in_a) (subst (IsIn b) (append_none before) in_b)
+two_after before [] p known a b in_a in_b = known a b (subst (IsIn a) (append-nil before) in_a) (subst (IsIn b) (append-nil before) in_b)
 two_after before (x ∷ os) p known a b in_a in_b =
-    two_after (before ++ x ∷ []) os p.1 next a b (subst (IsIn a) (append_assoc before (x ∷ []) os) in_a) (subst (IsIn b) (append_assoc before (x ∷ []) os) in_b)
+    two_after (before ++ x ∷ []) os p.1 next a b (subst (IsIn a) (sym (append_assoc before (x ∷ []) os)) in_a) (subst (IsIn b) (sym (append_assoc before (x ∷ []) os)) in_b)
   where
     next : (c d : Object) → IsIn c (before ++ x ∷ []) → IsIn d (before ++ x ∷ []) → AreSound c d
     next c d in_c in_d = elim (some_or (λ y. y ≡ c) before (x ∷ []) in_c) [
