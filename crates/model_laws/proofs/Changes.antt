@@ -1,6 +1,6 @@
 -- Whose place an outcome's object takes: none, or that of an object whose identity it keeps.
-use Rattle.std.proofs.Common.{sym, refl, inl, inr, ap, ◌∙◌, true≢false}
-use Rattle.std.specs.Prelude.{ℕ, ◌≡◌, ◌⊎◌, Bool, true, false, List, Option, Some, None, is_some, option_map, ⊤}
+use Rattle.std.proofs.Common.{sym, refl, ap, ◌∙◌, true≢false}
+use Rattle.std.specs.Prelude.{ℕ, ◌≡◌, Bool, true, false, List, Option, Some, None, is_some, option_map, ⊤}
 use Rattle.kube_types.specs.declared.uid.Uid.{Uid}
 use Rattle.kube_types.specs.declared.key.Key.{Key}
 use Rattle.kube_types.specs.declared.objects.Pod.{Pod as PodData}
@@ -14,27 +14,34 @@ use Rattle.call_types.specs.declared.request.NewStatus.{NewStatus}
 use Rattle.call_types.specs.declared.request.SeatKind.{SeatKind}
 use Rattle.call_types.specs.declared.request.Request.{Request}
 use Rattle.call_types.specs.declared.request.Request.TheVariants as requests
+use Rattle.call_types.specs.declared.reply.Change.{Change}
+use Rattle.call_types.specs.declared.reply.Change.TheVariants.{Added}
 use Rattle.binder_model.specs.Store.{State, leaves}
 use Rattle.binder_model.specs.Answers.{Outcome, Says, Stores, Removes, write_outcome, create, update, written_if_fits, update_status, edit_to, edit, delete_of, delete, get, list, pod_with, bind, finish, outcome}
 use Rattle.model_laws.proofs.OnOutcome.{OnOutcome, says, refused_or, field_or, rule_or, stale_or}
 use Rattle.model_laws.specs.Histories.{KeepsIdentity}
 use Rattle.model_laws.proofs.Identity.{key-created, key-updated, key-at_version, key-marked, updated_keeps, at_version_keeps, marked_keeps, IsKeyKept, IsVersionOf, status_kept, edit_kept}
 
--- an object is put where none stood, or where one stood whose identity it keeps
-abbrev pub IsInPlace : List Object → Object → Type 0
-IsInPlace rows o = (row_at (key_of o) rows ≡ None) ⊎ ((old : Object) × ((row_at (key_of o) rows ≡ Some old) × KeepsIdentity old o))
+-- an object is put where one stood whose identity it keeps
+abbrev pub IsOver : List Object → Object → Type 0
+IsOver rows o = (old : Object) × ((row_at (key_of o) rows ≡ Some old) × KeepsIdentity old o)
+
+-- a new object is put where none stood, another over an old one
+abbrev pub IsInPlace : List Object → Change → Object → Type 0
+IsInPlace rows Added o = row_at (key_of o) rows ≡ None
+IsInPlace rows change o = IsOver rows o
 
 abbrev pub ChangeOf : List Object → Outcome → Type 0
 ChangeOf rows (Says reply) = ⊤
-ChangeOf rows (Stores change o) = IsInPlace rows o
+ChangeOf rows (Stores change o) = IsInPlace rows change o
 ChangeOf rows (Removes o) = ⊤
 
 abbrev pub IsChange : List Object → Outcome → Type 0
 IsChange rows = OnOutcome (ChangeOf rows)
 
 -- the object of an old one's key is written, and keeps its identity
-over : (rows : List Object) (key : Key) (old new : Object) → row_at key rows ≡ Some old → key_of new ≡ key → KeepsIdentity old new → IsInPlace rows new
-over rows key old new is same keeps = inr (old, (ap (λ k. row_at k rows) same ∙ is, keeps))
+over : (rows : List Object) (key : Key) (old new : Object) → row_at key rows ≡ Some old → key_of new ≡ key → KeepsIdentity old new → IsOver rows new
+over rows key old new is same keeps = (old, (ap (λ k. row_at k rows) same ∙ is, keeps))
 
 wrote : (rows : List Object) (key : Key) (old new : Object) → row_at key rows ≡ Some old → key_of new ≡ key → KeepsIdentity old new → IsChange rows (write_outcome new)
 wrote rows key old new is same keeps = by_leaving (leaves new) refl
@@ -46,7 +53,7 @@ wrote rows key old new is same keeps = by_leaving (leaves new) refl
 create_changes : (s : State) (kind : SeatKind) (o : Object) (moment : List ℕ) (x : Option Object) → row_at (key_of o) s.rows ≡ x → IsChange s.rows (create s kind o moment x)
 unfolding create
 create_changes s kind o moment (Some old) is = says (λ r. tt) _
-create_changes s kind o moment None is = rule_or (λ r. tt) _ _ (field_or (λ r. tt) _ _ (λ e. record { holds = inl (ap (λ k. row_at k s.rows) (key-created _ o _ moment) ∙ is) }))
+create_changes s kind o moment None is = rule_or (λ r. tt) _ _ (field_or (λ r. tt) _ _ (λ e. record { holds = ap (λ k. row_at k s.rows) (key-created _ o _ moment) ∙ is }))
 
 update_changes : (s : State) (kind : SeatKind) (o : Object) (given : Option ℕ) (x : Option Object) → row_at (key_of o) s.rows ≡ x → IsChange s.rows (update s kind o given x)
 unfolding update

@@ -7,6 +7,8 @@ use Rattle.std.specs.Ordering.{is_eq}
 use Rattle.std.proofs.lemmas.Cmp.{tied_itself}
 use Rattle.kube_types.specs.declared.key.Key.{Key}
 use Rattle.kube_types.specs.declared.objects.Object.{Object}
+use Rattle.call_types.specs.declared.reply.Change.{Change}
+use Rattle.call_types.specs.declared.reply.Change.TheVariants.{Added, Modified, Deleted}
 use Rattle.kube_types.specs.declared.objects.Object.TheVariants.{Class, Node, Volume, Claim, Pod}
 use Rattle.kube_types.specs.Keys.{AreRows, key_cmp, key_of, row_at, put_row, without_row}
 use Rattle.kube_types.proofs.KeyOrder.{key_cmp_total, equal_keys, row_at-put_row, row_at-put_row_other, row_at-without_row, row_at-without_row_other}
@@ -14,7 +16,7 @@ use Rattle.binder_model.specs.Store.{State}
 use Rattle.binder_model.specs.Answers.{Outcome, Says, Stores, Removes, after}
 use Rattle.binder_model.specs.World.{World, Effect, OnStore, OnDevices, SetsMoment, world_after}
 use Rattle.model_laws.specs.Histories.{NamesOnce, KeepsIdentity, CallsKeepIdentity}
-use Rattle.model_laws.proofs.Changes.{ChangeOf, IsInPlace, outcome_changes}
+use Rattle.model_laws.proofs.Changes.{ChangeOf, IsOver, IsInPlace, outcome_changes}
 use Rattle.model_laws.proofs.Effects.{OfStore, on_effects}
 
 -- two keys are one, or they are not
@@ -48,16 +50,20 @@ keeps a b e = subst (KeepsIdentity a) e (keeps-own a)
 none_is_none : {o : Object} → ◌≡◌ {A = Option Object} None (Some o) → ⊥
 none_is_none e = true≢false (sym (ap is_some e))
 
-in_place : (rows : List Object) (o old : Object) → IsInPlace rows o → row_at (key_of o) rows ≡ Some old → KeepsIdentity old o
-in_place rows o old (inl gone) is = absurd (none_is_none (sym gone ∙ is))
-in_place rows o old (inr found) is = subst (λ x. KeepsIdentity x o) (one found.0 old (sym found.1.0 ∙ is)) found.1.1
+over_it : (rows : List Object) (o old : Object) → IsOver rows o → row_at (key_of o) rows ≡ Some old → KeepsIdentity old o
+over_it rows o old found is = subst (λ x. KeepsIdentity x o) (one found.0 old (sym found.1.0 ∙ is)) found.1.1
 
-stored : (s : State) (key : Key) (o old new : Object) → IsInPlace s.rows o → row_at key s.rows ≡ Some old → row_at key (put_row o s.rows) ≡ Some new
+in_place : (rows : List Object) (change : Change) (o old : Object) → IsInPlace rows change o → row_at (key_of o) rows ≡ Some old → KeepsIdentity old o
+in_place rows Added o old gone is = absurd (none_is_none (sym gone ∙ is))
+in_place rows Modified o old found is = over_it rows o old found is
+in_place rows Deleted o old found is = over_it rows o old found is
+
+stored : (s : State) (change : Change) (key : Key) (o old new : Object) → IsInPlace s.rows change o → row_at key s.rows ≡ Some old → row_at key (put_row o s.rows) ≡ Some new
     → (key_of o ≡ key) ⊎ (key_of o ≢ key) → KeepsIdentity old new
-stored s key o old new place was is (inl same) =
-    let kept = in_place s.rows o old place (ap (λ k. row_at k s.rows) same ∙ was) in
+stored s change key o old new place was is (inl same) =
+    let kept = in_place s.rows change o old place (ap (λ k. row_at k s.rows) same ∙ was) in
     subst (KeepsIdentity old) (one o new (sym (row_at-put_row o s.rows) ∙ ap (λ k. row_at k (put_row o s.rows)) same ∙ is)) kept
-stored s key o old new place was is (inr other) = keeps old new (one old new (sym was ∙ sym (row_at-put_row_other key o s.rows other) ∙ is))
+stored s change key o old new place was is (inr other) = keeps old new (one old new (sym was ∙ sym (row_at-put_row_other key o s.rows other) ∙ is))
 
 removed : (s : State) (key : Key) (o old new : Object) → AreRows s.rows → row_at key s.rows ≡ Some old → row_at key (without_row (key_of o) s.rows) ≡ Some new
     → (key_of o ≡ key) ⊎ (key_of o ≢ key) → KeepsIdentity old new
@@ -69,7 +75,7 @@ outcome_keeps : (s : State) (x : Outcome) → ChangeOf s.rows x → AreRows s.ro
     → row_at key s.rows ≡ Some old → row_at key (after s x).rows ≡ Some new → KeepsIdentity old new
 unfolding after
 outcome_keeps s (Says reply) c rows key old new was is = keeps old new (one old new (sym was ∙ is))
-outcome_keeps s (Stores change o) c rows key old new was is = stored s key o old new c was is (key_tells (key_of o) key)
+outcome_keeps s (Stores change o) c rows key old new was is = stored s change key o old new c was is (key_tells (key_of o) key)
 outcome_keeps s (Removes o) c rows key old new was is = removed s key o old new rows was is (key_tells (key_of o) key)
 
 effect_keeps : (w : World) (x : Effect) → OfStore (ChangeOf w.store.rows) x → AreRows w.store.rows → (key : Key) (old new : Object)

@@ -15,6 +15,7 @@ pub mod Newest
 pub mod OnOutcome
 pub mod Readings
 pub mod Replies
+pub mod Said
 pub mod Refused
 pub mod Releases
 pub mod Steps
