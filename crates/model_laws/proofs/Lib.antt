@@ -8,6 +8,7 @@ pub mod Goings
 pub mod Growing
 pub mod Histories
 pub mod Identity
+pub mod Imported
 pub mod Kept
 pub mod Lists
 pub mod Mounting
@@ -19,7 +20,9 @@ pub mod Said
 pub mod Refused
 pub mod Releases
 pub mod Steps
+pub mod Stood
 pub mod Stored
+pub mod Truths
 pub mod Uids
 pub mod Versions
 pub mod Watched

@@ -45,7 +45,7 @@ found_stands k x (y ∷ ys) e = by (is_eq (key_cmp (key_of y) k)) refl (found_st
     by true is more = let f : Some y ≡ Some x = rw is at e in inl (ap (λ o. unwrap_or o y) f)
     by false is more = let f : row_at k ys ≡ Some x = rw is at e in inr (more f)
 
-filter_stands : (p : Object → Bool) (x : Object) (xs : List Object) → IsIn x (filter p xs) → IsIn x xs
+pub filter_stands : (p : Object → Bool) (x : Object) (xs : List Object) → IsIn x (filter p xs) → IsIn x xs
 filter_stands p x [] h = elim h [ ]
 filter_stands p x (y ∷ ys) h = by (p y) h (filter_stands p x ys)
   where
@@ -74,7 +74,7 @@ pub gets_tell_what_stands : GetsTellWhatStands
 unfolding effect on_devices device_answer outcome reply_to
 gets_tell_what_stands setup w kind key = get_found (row_at key w.store.rows)
 
-listed_stands : (namespace : Option (List ℕ)) (x : Object) (xs : List Object) → IsIn x (listed_rows namespace xs) → IsIn x xs
+pub listed_stands : (namespace : Option (List ℕ)) (x : Object) (xs : List Object) → IsIn x (listed_rows namespace xs) → IsIn x xs
 listed_stands None x xs h = h
 listed_stands (Some namespace) x xs h = filter_stands (is_in_namespace namespace) x xs h
 

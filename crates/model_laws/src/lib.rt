@@ -10,6 +10,7 @@ ghost use Rattle.model_laws.specs.NoImports.{NoImportsSayAsBefore};
 ghost use Rattle.model_laws.specs.Reads.{DataIdsAreGivenOnce, EpochsRise, GetsTellWhatStands, ListsAreInOrder, ListsTellWhatStands, WatchesGoOn, WatchesTellWhatCameAfter};
 ghost use Rattle.model_laws.specs.ReleaseOrder.{IsReleaseOrder};
 ghost use Rattle.model_laws.specs.Steps.{RefusalsChangeNothing, VersionsCountWrites};
+ghost use Rattle.model_laws.specs.Stood.{OneUidOneKey, OneVersionOneObject, ToldIsTrue, ToldLiveIsTrueNow};
 ghost use Rattle.model_laws.specs.Tellings.{AfterStays, NewestWasTold, OlderPartsAreRuns, RunsAreHistories, ToldStays};
 ghost use Rattle.model_laws.specs.Worked.{ClaimGoneBetweenWrites, DeletedVolumeRefuses, FirstRun, GuardOnAnnotations, IsModesBeforeSize, IsTieByName, StaleEpochs, TwoClaimsOneVolume, Watches};
 
@@ -200,4 +201,28 @@ pub fn default_is_found()
 #[tactic(auto, using(crate::proofs::Without::no_imports_say_as_before))]
 pub fn no_imports_say_as_before()
     ensures { NoImportsSayAsBefore }
+{}
+
+/// One version, one object.
+#[tactic(auto, using(crate::proofs::Stood::one_version_one_object))]
+pub fn one_version_one_object()
+    ensures { OneVersionOneObject }
+{}
+
+/// One UID, one key.
+#[tactic(auto, using(crate::proofs::Stood::one_uid_one_key))]
+pub fn one_uid_one_key()
+    ensures { OneUidOneKey }
+{}
+
+/// What a seat was told stood in the store.
+#[tactic(auto, using(crate::proofs::Truths::told_is_true))]
+pub fn told_is_true()
+    ensures { ToldIsTrue }
+{}
+
+/// What a Get told stood there at that moment.
+#[tactic(auto, using(crate::proofs::Truths::told_live_is_true_now))]
+pub fn told_live_is_true_now()
+    ensures { ToldLiveIsTrueNow }
 {}
