@@ -14,7 +14,7 @@ use Rattle.call_types.specs.declared.reply.Reply.TheVariants.{Done, Left, Listed
 use Rattle.binder_model.specs.Told.{ToldObject, TellsObject, Telling, presence, later, listing, of_event, told_by_events, tells_of, told_of, newest, object_of, IsNewest, objects_in, objects_of_event, objects_of_events}
 use Rattle.model_laws.proofs.Readings.{found_stands}
 use Rattle.world_moves.specs.Writes.{IsIn}
-use Rattle.world_moves.proofs.Lists.{some_left, some_right}
+use Rattle.model_laws.proofs.Lists.{some_left, some_right}
 use Rattle.std.proofs.lemmas.Option.{same_Some, none-some}
 
 later_of : (a b : Option Telling) (o : Object) → object_of (later a b) ≡ Some o → (object_of a ≡ Some o) ⊎ (object_of b ≡ Some o)
