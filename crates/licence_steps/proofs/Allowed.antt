@@ -43,7 +43,7 @@ use Rattle.binder_model.specs.World.{world}
 use Rattle.binder_model.specs.Same.{same_names}
 use Rattle.world_moves.specs.Writes.{IsCreate, IsUpdate, IsEdit, IsStatus, IsMark, Writes}
 use Rattle.world_moves.proofs.Whence.{created_first, updated_next, status_next, marked_next, bound_next, finished_next}
-use Rattle.world_moves.proofs.Newest.{newest_told}
+use Rattle.model_laws.proofs.Newest.{newest_told}
 use Rattle.world_moves.proofs.Tests.{same_text}
 use Rattle.world_invariant.specs.Was.{Was, IsPlaced, WasNamed, KindStep, KindStart, Made, IsNotThere, Refers, VolumeStep, ClaimStep}
 use Rattle.world_invariant.specs.Invariant.{Invariant}
