@@ -1,7 +1,7 @@
 -- Each write of an allowed request is one that any run may make.
 use Rattle.std.proofs.Common.{sym, refl, subst, inl, inr, ap, ◌∙◌, true≢false, arith}
 use Rattle.std.proofs.lemmas.Bool.Decides.{nat_tests}
-use Rattle.std.specs.Prelude.{if◌then◌else◌, ℕ, ◌≡◌, ◌≢◌, ◌==◌, Bool, true, false, not, ◌&&◌, List, [], ◌∷◌, Option, Some, None, is_some, bytes_eq, unwrap_or, ◌||◌, ◌++◌}
+use Rattle.std.specs.Prelude.{if◌then◌else◌, ℕ, ◌≡◌, ◌≢◌, ◌==◌, Bool, true, false, ◌&&◌, List, [], ◌∷◌, Option, Some, None, is_some, bytes_eq, unwrap_or, ◌||◌, ◌++◌}
 use Rattle.std.proofs.lemmas.Slice.Eq.{bytes_eq-Decides}
 use Rattle.plain_data.specs.Pairs.{value_at}
 use Rattle.kube_types.specs.declared.uid.Uid.{Uid}
@@ -43,7 +43,7 @@ use Rattle.binder_model.specs.World.{world}
 use Rattle.binder_model.specs.Same.{same_names}
 use Rattle.world_moves.specs.Writes.{IsCreate, IsUpdate, IsEdit, IsStatus, IsMark, Writes}
 use Rattle.world_moves.proofs.Whence.{created_first, updated_next, status_next, marked_next, bound_next, finished_next}
-use Rattle.world_moves.proofs.Newest.{newest_told}
+use Rattle.model_laws.proofs.Newest.{newest_told}
 use Rattle.world_moves.proofs.Tests.{same_text}
 use Rattle.world_invariant.specs.Was.{Was, IsPlaced, WasNamed, KindStep, KindStart, Made, IsNotThere, Refers, VolumeStep, ClaimStep}
 use Rattle.world_invariant.specs.Invariant.{Invariant}

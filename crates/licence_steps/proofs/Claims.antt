@@ -11,7 +11,7 @@ use Rattle.kube_types.specs.declared.objects.Volume.{Volume as VolumeData}
 use Rattle.kube_types.specs.declared.objects.Claim.{Claim as ClaimData}
 use Rattle.kube_types.specs.declared.objects.Object.TheVariants.{Claim}
 use Rattle.kube_types.specs.Keys.{key_of}
-use Rattle.kube_types.specs.Bindings.{is_completed, bind_completed, bound_by_controller, selected_node, pvc_protection, is_empty, is_protected_claim, has_name}
+use Rattle.kube_types.specs.Bindings.{is_completed, bind_completed, bound_by_controller, selected_node, pvc_protection, is_empty, is_protected_claim}
 use Rattle.call_types.specs.declared.entry.Entry.{Entry}
 use Rattle.call_types.specs.declared.setup.Setup.{Setup}
 use Rattle.binder_model.specs.BindWrites.{completed_with, annotated_meta_if}

@@ -7,7 +7,6 @@ use Rattle.binder_model.specs.World.{world, effect}
 use Rattle.binder_model.specs.Told.{own}
 use Rattle.binder_model.specs.Run.{Run}
 use Rattle.world_moves.proofs.Moves.{moves, as_made}
-use Rattle.world_invariant.specs.Invariant.{Invariant}
 use Rattle.world_invariant.specs.Good.{MovesAt, Good}
 use Rattle.world_invariant.proofs.Kept.{kept}
 use Rattle.world_invariant.proofs.Known.{invariant_of, told_was, gone_read}

@@ -1,15 +1,14 @@
 -- A claim without its guard is not mounted, and nobody can mount it: (g).
 use Rattle.std.proofs.Common.{sym, refl, subst, inl, inr, ap, ◌∙◌, true≢false}
-use Rattle.std.specs.Prelude.{if◌then◌else◌, ℕ, ◌≡◌, ◌⊎◌, Bool, true, false, not, ◌&&◌, ◌||◌, List, [], ◌∷◌, ◌++◌, Some, bytes_eq, unwrap_or}
+use Rattle.std.specs.Prelude.{if◌then◌else◌, ℕ, ◌≡◌, Bool, true, false, not, ◌&&◌, ◌||◌, List, [], ◌∷◌, ◌++◌, Some, bytes_eq, unwrap_or}
 use Rattle.std.specs.List.{list_any}
-use Rattle.std.proofs.lemmas.Slice.Eq.{bytes_eq-Decides}
 use Rattle.kube_types.specs.declared.uid.Uid.{Uid}
 use Rattle.kube_types.specs.declared.parts.Kind.TheVariants as kinds
 use Rattle.kube_types.specs.declared.objects.Claim.{Claim as ClaimData}
 use Rattle.kube_types.specs.declared.objects.Pod.{Pod as PodData}
 use Rattle.kube_types.specs.declared.objects.Object.{Object}
 use Rattle.kube_types.specs.declared.objects.Object.TheVariants.{Claim, Pod}
-use Rattle.kube_types.specs.Keys.{meta_of, key_of, row_at}
+use Rattle.kube_types.specs.Keys.{key_of, row_at}
 use Rattle.kube_types.specs.Bindings.{is_empty, has_name, is_scheduled, is_deleting}
 use Rattle.kube_types.proofs.KeyOrder.{row_at_key}
 use Rattle.call_types.specs.declared.entry.Entry.{Entry}
@@ -28,7 +27,7 @@ use Rattle.model_laws.proofs.Readings.{lists_tell_what_stands}
 use Rattle.world_moves.specs.Writes.{IsIn}
 use Rattle.world_invariant.specs.Was.{Was, Unguards}
 use Rattle.world_invariant.specs.Invariant.{IsOld}
-use Rattle.world_invariant.proofs.Came.{IsNew, new_or, row_was, one_written, fresh, older, claim_came}
+use Rattle.world_invariant.proofs.Came.{row_was, older, claim_came}
 use Rattle.world_invariant.proofs.KeptBindings.{kept_of}
 use Rattle.world_invariant.specs.Good.{Good}
 use Rattle.world_invariant.proofs.Known.{invariant_of, told_was, told_claim}

@@ -17,11 +17,11 @@ use Rattle.call_types.specs.declared.request.SeatKind.{SeatKind}
 use Rattle.call_types.specs.declared.request.SeatKind.TheVariants as seats
 use Rattle.call_types.specs.declared.request.Request.{Request}
 use Rattle.call_types.specs.declared.request.Request.TheVariants as requests
-use Rattle.binder_model.specs.Answers.{is_user, Removes}
+use Rattle.binder_model.specs.Answers.{is_user}
 use Rattle.binder_model.specs.Devices.{epoch_of}
 use Rattle.binder_model.specs.AgentLicence.{MayFinish, never_finished, is_finish_of}
 use Rattle.binder_model.specs.Licence.{Licensed}
-use Rattle.binder_model.specs.World.{World, OnStore, world}
+use Rattle.binder_model.specs.World.{World, world}
 use Rattle.binder_model.specs.Told.{own}
 use Rattle.binder_model.specs.Run.{Run}
 use Rattle.binder_model.specs.Store.{at_version}

@@ -1,5 +1,5 @@
 -- Whose a mount is, who is about to mount a claim, and when a claim may go.
-use Rattle.std.specs.Prelude.{ℕ, ◌≡◌, true, false, List, [], ◌∷◌, ◌++◌, Some, ⊤, not}
+use Rattle.std.specs.Prelude.{ℕ, ◌≡◌, true, false, List, [], ◌∷◌, ◌++◌, Some}
 use Rattle.kube_types.specs.declared.objects.Pod.{Pod as PodData}
 use Rattle.kube_types.specs.declared.objects.Object.TheVariants.{Claim, Pod}
 use Rattle.kube_types.specs.declared.uid.Uid.{Uid}

@@ -3,7 +3,7 @@ use Rattle.std.proofs.Common.{sym, refl, subst, inl, inr, ap, ◌∙◌, true≢
 use Rattle.std.proofs.lemmas.Bool.{and_parts, or_parts, not-false, le-leb, lt-ltb}
 use Rattle.std.proofs.lemmas.Option.{same_Some, none-some}
 use Rattle.std.proofs.lemmas.Slice.Eq.{bytes_eq-Decides}
-use Rattle.std.specs.Prelude.{if◌then◌else◌, ℕ, ◌≡◌, ◌≢◌, ◌⊎◌, ◌+◌, ◌-◌, ◌^◌, ◌<◌, ◌≤◌, nat_lt, nat_le, Bool, true, false, not, ◌&&◌, ◌||◌, List, [], ◌∷◌, Option, Some, None, bytes_eq, is_some, unwrap_or}
+use Rattle.std.specs.Prelude.{if◌then◌else◌, ℕ, ◌≡◌, ◌<◌, ◌≤◌, nat_lt, nat_le, Bool, true, false, not, ◌&&◌, ◌||◌, List, [], ◌∷◌, Option, Some, bytes_eq, is_some}
 use Rattle.std.specs.List.{list_any}
 use Rattle.kube_types.specs.declared.uid.Uid.{Uid}
 use Rattle.kube_types.specs.declared.key.Key.{Key}
@@ -15,26 +15,25 @@ use Rattle.kube_types.specs.declared.objects.Object.{Object}
 use Rattle.kube_types.specs.declared.objects.Object.TheVariants.{Class, Node, Volume, Claim, Pod}
 use Rattle.kube_types.specs.Keys.{meta_of, key_of, kind_index, row_at, put_row}
 use Rattle.kube_types.specs.Uids.{uid_of_serial}
-use Rattle.kube_types.specs.Bindings.{pv_protection, pvc_protection, is_empty, is_bound, is_ended, is_completed, is_protected_volume, is_protected_claim, is_deleting, carries, names_claim, ref_uid}
-use Rattle.kube_types.proofs.KeyOrder.{row_at_key, row_at-put_row, row_at-put_row_other}
+use Rattle.kube_types.specs.Bindings.{pv_protection, pvc_protection, is_empty, is_bound, is_ended, is_completed, is_protected_volume, is_protected_claim, carries, names_claim, ref_uid}
+use Rattle.kube_types.proofs.KeyOrder.{row_at-put_row, row_at-put_row_other}
 use Rattle.call_types.specs.declared.setup.Setup.{Setup}
-use Rattle.binder_model.specs.ObjectKeys.{volume_key, claim_key}
-use Rattle.binder_model.specs.Imports.{most_imported, most_serials, serial_or_zero, serial_of, reference_of, greatest_number, base_of, binds_claim, is_imported_as_lost, imported_phase, imported_meta, imported_object, is_dropped, rows_of_imports, shares_uid, is_claim_named, names_another, refers_to_another, is_ended_for, ImportsPass}
+use Rattle.binder_model.specs.Imports.{most_imported, most_serials, serial_or_zero, greatest_number, base_of, binds_claim, is_imported_as_lost, imported_phase, imported_meta, imported_object, is_dropped, rows_of_imports, shares_uid, names_another, refers_to_another, is_ended_for, ImportsPass}
 use Rattle.binder_model.specs.Store.{with_finalizer}
 use Rattle.binder_model.specs.World.{world, base}
 use Rattle.binder_model.specs.Safe.{is_lost_import, was_imported_as_lost}
 use Rattle.model_laws.proofs.Kept.{key_tells}
 use Rattle.model_laws.proofs.Histories.{import_rows_rise}
 use Rattle.world_moves.specs.Writes.{IsIn}
-use Rattle.world_moves.proofs.Objects.{same_volume, same_claim, some_volume}
+use Rattle.world_moves.proofs.Objects.{same_volume, same_claim}
 use Rattle.world_moves.proofs.Tests.{same_text}
-use Rattle.world_invariant.specs.Was.{Stands, IsPlaced, NamesOther, Refers, WasBound, IsFinal, IsAway}
+use Rattle.world_invariant.specs.Was.{Stands, IsPlaced, Refers, WasBound, IsFinal, IsAway}
 use Rattle.world_invariant.specs.Invariant.{Invariant, IsOld, IsLater, IsReferred}
 use Rattle.world_invariant.proofs.Came.{itself, row_stands}
 use Rattle.world_invariant.proofs.KeptBindings.{by_name, carries_on}
 use Rattle.licence_steps.proofs.Allowed.{volume_placed, has_given}
 use Rattle.safety_law.specs.Law.{IsGoodStart}
-use Rattle.safety_law.proofs.Passing.{IsSound, AreSound, each_sound, two_sound, shares_same}
+use Rattle.safety_law.proofs.Passing.{none_of, IsSound, each_sound, two_sound, shares_same}
 
 -- what is made of an import
 
@@ -185,11 +184,6 @@ some_of f (x ∷ xs) e = by (f x) refl e (some_of f xs)
     by true t e more = (x, (inl refl, t))
     by false t e more = let r = more e in (r.0, (inr r.1.0, r.1.1))
 
-none_in : (f : Object → Bool) (xs : List Object) (a : Object) → IsIn a xs → list_any f xs ≡ false → f a ≡ false
-none_in f [] a h e = absurd h
-none_in f (x ∷ xs) a (inl is) e = ap f (sym is) ∙ (or_parts (f x) (list_any f xs) e).0
-none_in f (x ∷ xs) a (inr more) e = none_in f xs a more (or_parts (f x) (list_any f xs) e).1
-
 and_false : (a b : Bool) → (a && b) ≡ false → a ≡ true → b ≡ false
 and_false true b e t = e
 and_false false b e t = absurd (true≢false (sym t))
@@ -310,7 +304,7 @@ module _ (setup : Setup) (pass : ImportsPass setup.imports) where
   first_completed c was done found =
       let i = claim_import setup.imports c (stands_import (Claim c) was) in
       let uid : c.meta.uid ≡ i.origin.meta.uid = ap (λ (x : ClaimData). x.meta.uid) i.is in
-      let none : (shares_uid i.origin.meta.uid c.meta.uid && is_imported_as_lost setup.imports i.origin) ≡ false = none_in (is_lost_import setup.imports c.meta.uid) setup.imports (Claim i.origin) i.among found in
+      let none : (shares_uid i.origin.meta.uid c.meta.uid && is_imported_as_lost setup.imports i.origin) ≡ false = none_of (is_lost_import setup.imports c.meta.uid) setup.imports (Claim i.origin) i.among found in
       let not_lost = and_false _ _ none (shares_same i.origin.meta.uid c.meta.uid (each_sound setup.imports pass (Claim i.origin) i.among).uid uid) in
       let completed : is_completed i.origin ≡ true = ap (λ (x : ClaimData). is_completed x) (sym i.is) ∙ done in
       let some = some_of (binds_claim i.origin) setup.imports (not-false _ (and_false _ _ not_lost completed)) in

@@ -2,7 +2,7 @@
 use Rattle.std.proofs.Common.{sym, refl, subst, inl, inr, ap, ◌∙◌, true≢false, arith}
 use Rattle.std.proofs.lemmas.Bool.{or_parts}
 use Rattle.std.proofs.lemmas.Bool.Decides.{nat_tests}
-use Rattle.std.specs.Prelude.{ℕ, ◌≡◌, ◌⊎◌, ◌≤◌, nat_lt, Bool, true, false, ◌||◌, List, [], ◌∷◌, ◌++◌, Option, Some, None, is_some, is_none}
+use Rattle.std.specs.Prelude.{ℕ, ◌≡◌, ◌≤◌, nat_lt, Bool, true, false, ◌||◌, List, [], ◌∷◌, ◌++◌, Option, Some, None, is_some, is_none}
 use Rattle.std.specs.List.{list_any}
 use Rattle.kube_types.specs.declared.uid.Uid.{Uid}
 use Rattle.kube_types.specs.declared.names.Field.{Field}
@@ -91,7 +91,7 @@ pub each_sound : (imports : List Object) → ImportsPass imports → (o : Object
 each_sound imports p = sound_after [] imports p
 
 -- no test holds of an element where it holds of none
-none_of : (f : Object → Bool) (xs : List Object) (a : Object) → IsIn a xs → list_any f xs ≡ false → f a ≡ false
+pub none_of : (f : Object → Bool) (xs : List Object) (a : Object) → IsIn a xs → list_any f xs ≡ false → f a ≡ false
 none_of f [] a h e = absurd h
 none_of f (x ∷ xs) a (inl is) e = ap f (sym is) ∙ (or_parts (f x) (list_any f xs) e).0
 none_of f (x ∷ xs) a (inr more) e = none_of f xs a more (or_parts (f x) (list_any f xs) e).1

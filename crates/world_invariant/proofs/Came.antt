@@ -1,6 +1,6 @@
 -- Where what stood in the store came from at the newest entry.
 use Rattle.std.proofs.Common.{sym, refl, inl, inr, ap, ◌∙◌, arith}
-use Rattle.std.specs.Prelude.{ℕ, ◌≡◌, ◌⊎◌, ◌+◌, ◌≤◌, List, [], ◌∷◌, Option, Some, unwrap_or}
+use Rattle.std.specs.Prelude.{ℕ, ◌≡◌, ◌⊎◌, ◌+◌, ◌≤◌, List, [], ◌∷◌, Option, Some}
 use Rattle.kube_types.specs.declared.uid.Uid.{Uid}
 use Rattle.kube_types.specs.declared.key.Key.{Key}
 use Rattle.kube_types.specs.declared.objects.Volume.{Volume as VolumeData}

@@ -1,13 +1,11 @@
 -- What a volume that carries a claim refers to.
-use Rattle.std.proofs.Common.{sym, refl, ap, true≢false, arith}
-use Rattle.std.proofs.lemmas.Bool.Decides.{nat_tests}
-use Rattle.std.specs.Prelude.{ℕ, ◌≡◌, Bool, true, false, ◌&&◌, List, Option, Some, None, bytes_eq}
-use Rattle.std.proofs.lemmas.Slice.Eq.{bytes_eq-Decides}
+use Rattle.std.proofs.Common.{sym, refl, true≢false}
+use Rattle.std.specs.Prelude.{◌≡◌, true, Option, Some, None, bytes_eq}
 use Rattle.kube_types.specs.declared.uid.Uid.{Uid}
 use Rattle.kube_types.specs.declared.objects.Ref.{Ref}
 use Rattle.kube_types.specs.declared.objects.Volume.{Volume as VolumeData}
 use Rattle.kube_types.specs.declared.objects.Claim.{Claim as ClaimData}
-use Rattle.kube_types.specs.Bindings.{carries, refers_carrying, uid_carries, names_claim, is_uid}
+use Rattle.kube_types.specs.Bindings.{carries, refers_carrying, uid_carries, names_claim}
 use Rattle.world_invariant.specs.Was.{Refers}
 use Rattle.world_moves.proofs.Tests.{same_text, uid_is}
 use Rattle.std.proofs.lemmas.Bool.{and_parts}

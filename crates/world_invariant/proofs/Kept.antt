@@ -1,12 +1,11 @@
 -- All parts of the invariant are kept where the store moves.
-use Rattle.std.specs.Prelude.{List, [], ◌∷◌}
+use Rattle.std.specs.Prelude.{List, ◌∷◌}
 use Rattle.call_types.specs.declared.entry.Entry.{Entry}
 use Rattle.call_types.specs.declared.setup.Setup.{Setup}
 use Rattle.world_invariant.specs.Invariant.{Invariant}
 use Rattle.world_invariant.specs.Good.{MovesAt}
 use Rattle.world_invariant.proofs.KeptObjects.{kept_keyed, kept_version, kept_one, kept_old, kept_has, kept_later, kept_placed, kept_logged}
 use Rattle.world_invariant.proofs.KeptBindings.{kept_refers, kept_guarded, kept_binding, kept_completed, kept_released, kept_lasts}
-use Rattle.std.proofs.lemmas.Option.{none-some}
 
 pub kept : (setup : Setup) (e : Entry) (past : List Entry) → Invariant setup past → MovesAt setup e past → Invariant setup (e ∷ past)
 kept setup e past inv m = record {

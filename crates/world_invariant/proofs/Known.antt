@@ -2,7 +2,6 @@
 use Rattle.std.proofs.Common.{sym, refl, subst, inl, inr, ap, ◌∙◌}
 use Rattle.std.specs.Prelude.{if◌then◌else◌, ℕ, ◌≡◌, ◌==◌, Bool, true, false, List, [], ◌∷◌, Option, Some, None}
 use Rattle.kube_types.specs.declared.uid.Uid.{Uid}
-use Rattle.kube_types.specs.declared.parts.Kind.TheVariants as kinds
 use Rattle.kube_types.specs.declared.objects.Ref.{Ref}
 use Rattle.kube_types.specs.declared.objects.Volume.{Volume as VolumeData}
 use Rattle.kube_types.specs.declared.objects.Claim.{Claim as ClaimData}
@@ -22,7 +21,7 @@ use Rattle.model_laws.specs.Reads.{found}
 use Rattle.model_laws.proofs.Readings.{gets_tell_what_stands}
 use Rattle.world_moves.specs.Writes.{IsIn}
 use Rattle.world_moves.proofs.Tells.{tells}
-use Rattle.world_invariant.specs.Was.{Was, Refers, IsNotThere, IsAway, WasNamed}
+use Rattle.world_invariant.specs.Was.{Was, Refers, IsNotThere, IsAway}
 use Rattle.world_invariant.specs.Invariant.{Invariant, IsReferred, IsOld}
 use Rattle.world_invariant.specs.Good.{TellingsAreTrue, Good, IsTrue}
 use Rattle.world_invariant.proofs.Came.{row_was, stood, older}

@@ -9,7 +9,6 @@ use Rattle.world_moves.specs.Moves.{Moves}
 use Rattle.world_invariant.specs.Was.{Was, Made}
 use Rattle.world_invariant.specs.Invariant.{Invariant}
 
-
 -- how the store moves at this entry
 abbrev pub MovesAt : Setup → Entry → List Entry → Type 0
 MovesAt setup e past = Moves (world setup past) e.request (effect setup (world setup past) e.kind e.request) (Made setup past)

@@ -11,7 +11,7 @@ use Rattle.call_types.specs.declared.reply.Reply.TheVariants.{Refused}
 use Rattle.binder_model.specs.Answers.{Says, is_user}
 use Rattle.binder_model.specs.Devices.{DeviceAnswer, device_answer}
 use Rattle.binder_model.specs.Watching.{oldest}
-use Rattle.binder_model.specs.World.{base, World, Effect, OnStore, OnDevices, SetsMoment, effect, watch, on_devices, set_time, is_time}
+use Rattle.binder_model.specs.World.{base, World, Effect, OnStore, SetsMoment, effect, watch, on_devices, set_time, is_time}
 use Rattle.world_moves.specs.Writes.{EffectOf, CallsComeToWhatWasAsked}
 use Rattle.world_moves.proofs.Forms.{outcome_form}
 

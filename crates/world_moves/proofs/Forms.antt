@@ -1,6 +1,6 @@
 -- Each outcome of the store is what was asked, past the tests of its verb: the one walk over the verbs.
 use Rattle.std.proofs.Common.{sym, refl, subst, ap, inl, inr, ◌∙◌, true≢false}
-use Rattle.std.specs.Prelude.{ℕ, ◌≡◌, Bool, true, false, not, List, [], ◌∷◌, Option, Some, None, is_some, unwrap_or, ⊤}
+use Rattle.std.specs.Prelude.{ℕ, ◌≡◌, Bool, true, false, List, [], ◌∷◌, Option, Some, None, is_some, unwrap_or}
 use Rattle.kube_types.specs.declared.uid.Uid.{Uid}
 use Rattle.kube_types.specs.declared.names.Field.{Field}
 use Rattle.kube_types.specs.declared.names.Rule.{Rule}
@@ -22,7 +22,7 @@ use Rattle.call_types.specs.declared.reply.Reply.TheVariants.{Refused}
 use Rattle.binder_model.specs.Told.{objects_in}
 use Rattle.binder_model.specs.Store.{State, with_meta, at_version, marked_object, leaves, leaves_at_once}
 use Rattle.binder_model.specs.Edits.{edited_object}
-use Rattle.binder_model.specs.Answers.{Outcome, Says, Stores, Removes, is_user, is_other_version, is_other_uid, refuse, refuse_field, refuse_rule, refuse_stale, write_outcome, create, update, with_status, written_if_fits, update_status, edit_to, edit, delete_of, delete, get, list, pod_with, bind, finish, outcome}
+use Rattle.binder_model.specs.Answers.{Outcome, Says, is_user, is_other_version, is_other_uid, refuse, refuse_field, refuse_rule, refuse_stale, write_outcome, create, update, with_status, written_if_fits, update_status, edit_to, edit, delete_of, delete, get, list, pod_with, bind, finish, outcome}
 use Rattle.model_laws.proofs.Identity.{edit_kept, IsKeyKept}
 use Rattle.world_moves.specs.Writes.{IsCreate, IsUpdate, IsEdit, IsStatus, IsMark, IsBind, IsFinish, WriteOf, IsLeaving, IsIn, FormOf}
 use Rattle.model_laws.proofs.Readings.{listed_stand}

@@ -7,4 +7,3 @@ pub mod Whence
 pub mod Moves
 pub mod DeviceMoves
 pub mod Tells
-pub mod Newest

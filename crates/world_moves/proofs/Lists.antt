@@ -8,14 +8,6 @@ pub some_or : {X : Type 0} (P : X → Type 0) (xs ys : List X) → SomeOf P (xs 
 some_or P [] ys h = inr h
 some_or P (x ∷ xs) ys h = elim h [ inl is ↦ inl (inl is) | inr more ↦ elim (some_or P xs ys more) [ inl a ↦ inl (inr a) | inr b ↦ inr b ] ]
 
-pub some_left : {X : Type 0} (P : X → Type 0) (xs ys : List X) → SomeOf P xs → SomeOf P (xs ++ ys)
-some_left P [] ys h = absurd h
-some_left P (x ∷ xs) ys h = elim h [ inl is ↦ inl is | inr more ↦ inr (some_left P xs ys more) ]
-
-pub some_right : {X : Type 0} (P : X → Type 0) (xs ys : List X) → SomeOf P ys → SomeOf P (xs ++ ys)
-some_right P [] ys h = h
-some_right P (x ∷ xs) ys h = inr (some_right P xs ys h)
-
 pub some_take : {X : Type 0} (P : X → Type 0) (n : ℕ) (xs : List X) → SomeOf P (take n xs) → SomeOf P xs
 some_take P zero xs h = absurd h
 some_take P (suc n) [] h = absurd h

@@ -1,6 +1,6 @@
 -- What the kind of an object and its key tell: objects of one key are of one kind.
 use Rattle.std.proofs.Common.{sym, refl, ap, arith}
-use Rattle.std.specs.Prelude.{◌≡◌, Option, Some}
+use Rattle.std.specs.Prelude.{◌≡◌, Some}
 use Rattle.kube_types.specs.declared.objects.Volume.{Volume as VolumeData}
 use Rattle.kube_types.specs.declared.objects.Claim.{Claim as ClaimData}
 use Rattle.kube_types.specs.declared.objects.Pod.{Pod as PodData}

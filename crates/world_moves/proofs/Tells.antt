@@ -1,44 +1,32 @@
 -- Each telling of an object was true: it stood in the store.
-use Rattle.std.proofs.Common.{refl, subst, inl, inr, ap, ◌∙◌, true≢false, zero, suc}
-use Rattle.std.specs.Prelude.{if◌then◌else◌, ℕ, ◌≡◌, ◌⊎◌, ◌+◌, Bool, true, false, List, [], ◌∷◌, ◌++◌, Option, Some, None, reverse, filter, take, cond, nat_lt, ⊤}
-use Rattle.std.proofs.lemmas.Grind.{reverse_onto}
+use Rattle.std.proofs.Common.{refl, subst, inl, inr}
+use Rattle.std.specs.Prelude.{if◌then◌else◌, ℕ, ◌≡◌, ◌+◌, Bool, true, false, List, [], ◌∷◌, Option, Some, None, reverse, filter, take, nat_lt, ⊤}
 use Rattle.plain_data.specs.Pairs.{Pair}
-use Rattle.kube_types.specs.declared.uid.Uid.{Uid}
-use Rattle.kube_types.specs.declared.names.Field.{Field}
-use Rattle.kube_types.specs.declared.names.Rule.{Rule}
-use Rattle.kube_types.specs.declared.key.Key.{Key}
 use Rattle.kube_types.specs.declared.parts.Kind.{Kind}
-use Rattle.kube_types.specs.declared.objects.Pod.{Pod as PodData}
 use Rattle.kube_types.specs.declared.objects.Object.{Object}
-use Rattle.kube_types.specs.Keys.{AreRows, meta_of, key_of, row_at, put_row}
-use Rattle.kube_types.specs.Bindings.{is_deleting}
-use Rattle.kube_types.proofs.KeyOrder.{row_at_key, row_at-put_row}
+use Rattle.kube_types.specs.Keys.{key_of, row_at, put_row}
+use Rattle.kube_types.proofs.KeyOrder.{row_at-put_row}
 use Rattle.call_types.specs.declared.setup.Setup.{Setup}
-use Rattle.call_types.specs.declared.edit.Edit.{Edit}
-use Rattle.call_types.specs.declared.request.NewStatus.{NewStatus}
 use Rattle.call_types.specs.declared.request.SeatKind.{SeatKind}
 use Rattle.call_types.specs.declared.request.Request.{Request}
 use Rattle.call_types.specs.declared.request.Request.TheVariants as requests
 use Rattle.call_types.specs.declared.reply.Event.{Event}
-use Rattle.call_types.specs.declared.reply.Refusal.{Refusal}
-use Rattle.call_types.specs.declared.reply.Reply.{Reply}
 use Rattle.call_types.specs.declared.reply.Reply.TheVariants.{Refused}
-use Rattle.binder_model.specs.Store.{State, leaves, leaves_at_once}
-use Rattle.binder_model.specs.Answers.{Outcome, Says, Stores, Removes, is_user, refuse, refuse_field, refuse_rule, refuse_stale, write_outcome, create, update, written_if_fits, update_status, edit_to, edit, delete_of, delete, get, bind, finish, outcome, reply_of, after}
+use Rattle.binder_model.specs.Answers.{Says, Stores, Removes, reply_of, after}
 use Rattle.binder_model.specs.Devices.{Devices, Data, data_named, first_fit, epoch_if_stale, DeviceAnswer, provision_new, provision, erase, unless_planned, unless_stale, take_node, with_mounts, device_answer, is_planned}
 use Rattle.binder_model.specs.Told.{SomeOf, objects_in, objects_of_event, objects_of_events}
 use Rattle.binder_model.specs.Watching.{oldest, is_later, most_events}
-use Rattle.binder_model.specs.World.{base, World, Effect, OnStore, OnDevices, SetsMoment, effect, watch, on_devices, set_time, is_time, reply_to, world_after}
-use Rattle.model_laws.proofs.Readings.{lists_tell_what_stands}
+use Rattle.binder_model.specs.World.{base, World, Effect, OnStore, OnDevices, SetsMoment, effect, watch, reply_to, world_after}
 use Rattle.world_moves.specs.Writes.{IsIn}
 use Rattle.world_moves.specs.Tellings.{TellsTrue, TellsNow, AnswersAreTrue, AnswersTellTheMoment}
-use Rattle.world_moves.specs.Writes.{is_watch, FormOf, EffectOf, Writes}
+use Rattle.world_moves.specs.Writes.{is_watch, EffectOf}
 use Rattle.kube_types.specs.declared.names.Field.TheVariants as fields
 use Rattle.call_types.specs.declared.reply.Refusal.TheVariants.{Invalid, Gone}
 use Rattle.call_types.specs.declared.reply.Reply.TheVariants.{Events}
 use Rattle.binder_model.specs.Watching.{told_events}
 use Rattle.world_moves.proofs.Effects.{effect_form}
-use Rattle.world_moves.proofs.Lists.{some_or, some_left, some_right, some_take, some_reverse, some_filter}
+use Rattle.model_laws.proofs.Lists.{some_left, some_right}
+use Rattle.world_moves.proofs.Lists.{some_or, some_take, some_reverse, some_filter}
 
 -- the devices tell of no object
 abbrev IsMute : Option DeviceAnswer → Type 0

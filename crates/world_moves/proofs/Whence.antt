@@ -1,6 +1,6 @@
 -- Whose place a written object takes, for every verb: none, as a new object, or that of an object whose key and identity it keeps.
 use Rattle.std.proofs.Common.{sym, refl, subst, inl, inr, ap, ◌∙◌, true≢false}
-use Rattle.std.specs.Prelude.{ℕ, ◌≡◌, ◌+◌, true, List, Option, Some, None, is_some}
+use Rattle.std.specs.Prelude.{ℕ, ◌≡◌, ◌+◌, List, Option, Some, None, is_some}
 use Rattle.kube_types.specs.declared.uid.Uid.{Uid}
 use Rattle.kube_types.specs.declared.key.Key.{Key}
 use Rattle.kube_types.specs.declared.objects.Object.{Object}

@@ -1,12 +1,10 @@
 -- What a true answer is: each object that it tells stands in the store, or stood there and is in the log.
-use Rattle.std.specs.Prelude.{◌≡◌, ◌⊎◌, Bool, true, false, Some}
+use Rattle.std.specs.Prelude.{◌≡◌, ◌⊎◌, false, Some}
 use Rattle.kube_types.specs.declared.objects.Object.{Object}
 use Rattle.kube_types.specs.Keys.{key_of, row_at}
 use Rattle.call_types.specs.declared.request.Request.{Request}
-use Rattle.call_types.specs.declared.request.Request.TheVariants as requests
-use Rattle.binder_model.specs.Answers.{after}
 use Rattle.binder_model.specs.Told.{objects_in, objects_of_events}
-use Rattle.binder_model.specs.World.{World, Effect, watch, reply_to, world_after}
+use Rattle.binder_model.specs.World.{World, Effect, reply_to, world_after}
 use Rattle.world_moves.specs.Writes.{IsIn, is_watch}
 use Rattle.call_types.specs.declared.setup.Setup.{Setup}
 use Rattle.call_types.specs.declared.request.SeatKind.{SeatKind}
