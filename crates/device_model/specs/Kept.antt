@@ -1,15 +1,16 @@
 -- What the devices keep, as the lists of the definitions, and the one change that a call makes.
-use Rattle.std.specs.Prelude.{ℕ, ◌+◌, Bool, true, false, ◌&&◌, List, [], ◌∷◌, ◌++◌, map, bytes_eq, length, if◌then◌else◌}
-use Rattle.kube_types.specs.declared.uid.Uid.{Uid}
+use Rattle.std.specs.Prelude.{ℕ, ◌+◌, Bool, true, false, List, [], ◌∷◌, ◌++◌, map, length, if◌then◌else◌}
+use Rattle.plain_data.specs.Pairs.{text_cmp}
+use Rattle.plain_data.specs.Rows.{IsRising, IsAt, IsGap}
 use Rattle.call_types.specs.declared.setup.Setup.{Setup}
 use Rattle.call_types.specs.declared.request.Request.{Request}
 use Rattle.call_types.specs.declared.request.Request.TheVariants.{Provision, Erase, TakeNode, Mounts, Mount, Unmount}
+use Rattle.call_types.specs.declared.reply.MountRow.{MountRow}
 use Rattle.call_types.specs.declared.reply.Reply.{Reply}
-use Rattle.binder_model.specs.Devices.{Data, MountAt, Devices, DeviceAnswer, epoch_of}
-use Rattle.binder_model.specs.Same.{same_uid}
-use Rattle.device_model.specs.declared.kept.Stored.{Stored}
+use Rattle.binder_model.specs.Devices.{Data, MountAt, Devices, DeviceAnswer, epoch_of, data_after_erase, put_mount, without_mount}
+use Rattle.device_model.specs.declared.kept.StoredData.{StoredData}
 use Rattle.device_model.specs.declared.devices.DeviceCounts.{DeviceCounts}
-use Rattle.device_model.specs.declared.kept.Placed.{Placed}
+use Rattle.device_model.specs.declared.mounts.NodeRows.{NodeRows}
 use Rattle.device_model.specs.declared.kept.Move.{Move}
 use Rattle.device_model.specs.declared.kept.Move.TheVariants as moves
 
@@ -18,11 +19,30 @@ pub record State : Type 0 where
   pub setup : Setup
   pub devices : Devices
 
-abbrev pub stored_data : Stored → Data
+abbrev pub stored_data : StoredData → Data
 stored_data x = record { id = x.id; name = x.name; pool = x.pool; bytes = x.bytes; there = x.there }
 
-abbrev pub mount_at : Placed → MountAt
-mount_at m = record { node = m.node; row = m.row }
+-- the nodes in the order of their names, none twice
+
+abbrev pub node_name : NodeRows → List ℕ
+node_name n = n.node
+
+abbrev pub AreNodes : List NodeRows → Type 0
+AreNodes ns = IsRising text_cmp node_name ns
+
+abbrev pub IsNodeAt : List NodeRows → List ℕ → ℕ → Type 0
+IsNodeAt ns node i = IsAt text_cmp node_name node ns i
+
+abbrev pub IsNodeGap : List NodeRows → List ℕ → ℕ → Type 0
+IsNodeGap ns node i = IsGap text_cmp node_name node ns i
+
+abbrev pub mount_at : List ℕ → MountRow → MountAt
+mount_at node row = record { node = node; row = row }
+
+-- the rows of all nodes, one node after the other
+abbrev pub mounts_of : List NodeRows → List MountAt
+mounts_of [] = []
+mounts_of (n ∷ ns) = map (mount_at n.node) n.rows.items ++ mounts_of ns
 
 -- the requests that devices answer
 abbrev pub is_for_devices : Request → Bool
@@ -51,12 +71,12 @@ taken_epoch d (TakeNode node) = epoch_of node d.epochs
 taken_epoch d _ = 0
 
 -- how many of the data are there
-abbrev pub there : List Data → ℕ
-there [] = 0
-there (x ∷ xs) = if x.there then 1 + there xs else there xs
+abbrev pub count_there : List Data → ℕ
+count_there [] = 0
+count_there (x ∷ xs) = if x.there then 1 + count_there xs else count_there xs
 
 abbrev pub counts : Devices → DeviceCounts
-counts d = record { mounted = length d.mounts; stored = there d.stored; calls = d.calls }
+counts d = record { mounted = length d.mounts; stored = count_there d.stored; calls = d.calls }
 
 abbrev pub counted : Devices → Devices
 counted d = record d { calls = d.calls + 1 }
@@ -66,14 +86,11 @@ abbrev pub after : Devices → Move → Devices
 after d moves.Stays = d
 after d moves.Counts = counted d
 after d (moves.Gives x) = counted (record d { stored = stored_data x ∷ d.stored })
-after d (moves.Erases left) = counted (record d { stored = map stored_data left.items })
+after d (moves.Erases id) = counted (record d { stored = data_after_erase id d.stored })
 after d (moves.Takes node epoch) = record d { epochs = (node, epoch) ∷ d.epochs }
-after d (moves.Mounts m) = record d { mounts = d.mounts ++ mount_at m ∷ [] }
-after d (moves.Unmounts kept) = record d { mounts = map mount_at kept.items }
+after d (moves.Mounts node row) = record d { mounts = put_mount (mount_at node row) d.mounts }
+after d (moves.Unmounts node pod) = record d { mounts = without_mount node pod d.mounts }
 
 -- an answer and its change
-abbrev pub answered : Devices → Move → Reply → DeviceAnswer
-answered d move reply = record { devices = after d move; reply = reply }
-
-abbrev pub is_pod_on : List ℕ → Uid → MountAt → Bool
-is_pod_on node pod m = bytes_eq m.node node && same_uid m.row.pod pod
+abbrev pub answer_after : Devices → Move → Reply → DeviceAnswer
+answer_after d move reply = record { devices = after d move; reply = reply }

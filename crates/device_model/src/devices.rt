@@ -4,13 +4,14 @@ ghost use Rattle.std.specs.Prelude.{◌≡◌, ◌+◌, ◌<◌, ◌^◌, ◌++�
 ghost use Rattle.std.specs.Option.{option_copied};
 ghost use Rattle.call_types.specs.declared.reply.Reply.TheVariants as replies;
 ghost use Rattle.call_types.specs.declared.reply.Refusal.TheVariants as refusals;
-ghost use Rattle.binder_model.specs.Devices.{DeviceAnswer, data_named, device_answer, epoch_of, erase, first_fit, fresh_id, has_data, no_devices, pool_fits, provision, provision_new, epoch_if_stale, take_node, topology_at, unless_planned, unless_stale, with_mount, with_mounts, without_mount};
-ghost use Rattle.device_model.specs.Kept.{State, after, answered, counts, is_for_back_end, is_for_devices, is_for_mounts, mount_at, stored_data, taken_epoch};
+ghost use Rattle.binder_model.specs.Devices.{DeviceAnswer, data_named, device_answer, epoch_of, erase, first_fit, fresh_id, has_data, no_devices, pool_fits, provision, provision_new, put_mount, epoch_if_stale, take_node, rows_on, topology_at, unless_planned, unless_stale, with_mount, with_mounts, without_mount};
+ghost use Rattle.device_model.specs.Kept.{State, after, answer_after, counts, is_for_back_end, is_for_devices, is_for_mounts, mount_at, taken_epoch};
 
-use crate::kept::{Move, Placed, Stored};
-use crate::nodes::{epoch_of, is_mounted, others, rows_on, rows_with, rows_without};
+use crate::epochs::epoch_of;
+use crate::kept::{Move, StoredData};
+use crate::mounts::{Mounts, rows_with, rows_without};
 use crate::pools::{
-    count_there, data_named, erased, first_fit, has_id, has_name, is_planned, most_free,
+    count_there, data_named, erase_all, first_fit, has_id, has_name, is_planned, most_free,
     topology_at,
 };
 use call_types::reply::{MountRow, Refusal, Reply};
@@ -35,23 +36,40 @@ pub struct DeviceCounts {
 }
 
 /// The back ends and the nodes. Contracts see what they began with, and the lists of the definitions.
-#[derive(Debug, Drop)]
+#[derive(Debug)]
 pub struct Devices {
     alloc: Global,
     setup: Setup,
-    stored: Vec<Stored>,
+    stored: Vec<StoredData>,
     epochs: Vec<(Text, u64)>,
-    mounts: Vec<Placed>,
+    mounts: Mounts,
     calls: u64,
+}
+
+impl Drop for Devices {
+    fn drop(self) {
+        let Devices {
+            alloc: _,
+            setup,
+            stored,
+            epochs,
+            mounts,
+            calls: _,
+        } = self;
+        drop(setup);
+        drop(stored);
+        drop(epochs);
+        drop(mounts);
+    }
 }
 
 impl Model for Devices {
     ghost use Rattle.std.specs.Prelude.{map};
-    ghost use Rattle.device_model.specs.Kept.{State, mount_at, stored_data, taken_epoch};
+    ghost use Rattle.device_model.specs.Kept.{State, stored_data};
 
     ghost Value = { State };
 
-    ghost view = { λ d. record { setup = d.setup; devices = record { stored = map stored_data d.stored.items; epochs = d.epochs.items; mounts = map mount_at d.mounts.items; calls = d.calls } } };
+    ghost view = { λ d. record { setup = d.setup; devices = record { stored = map stored_data d.stored.items; epochs = d.epochs.items; mounts = d.mounts; calls = d.calls } } };
 }
 
 /// Whether devices answer the request.
@@ -83,7 +101,7 @@ impl Devices {
             },
             stored: Vec::new(alloc),
             epochs: Vec::new(alloc),
-            mounts: Vec::new(alloc),
+            mounts: Mounts::new(alloc),
             calls: 0,
         })
     }
@@ -101,7 +119,7 @@ impl Devices {
         })
     }
 
-    fn provisioned(&self, id: &DataId, place: usize) -> Result<Reply, OutOfMemory>
+    fn provision_reply(&self, id: &DataId, place: usize) -> Result<Reply, OutOfMemory>
         ensures { IfOk result (λ reply. reply ≡ replies.Provisioned id.now (topology_at place self.now.setup.pools)) }
     {
         let topology = match topology_at(self.setup.pools.as_slice(), place) {
@@ -123,7 +141,7 @@ impl Devices {
         bytes: u64,
         labels: Option<&Pairs>,
     ) -> Result<(Move, Reply), OutOfMemory>
-        ensures { IfOk result (λ m. answered self.now.devices m.0 m.1 ≡ provision_new self.now.setup.pools self.now.devices name.now provisioner.now bytes (option_copied labels.entry) (first_fit provisioner.now bytes (option_copied labels.entry) self.now.devices.stored 0 self.now.setup.pools)) }
+        ensures { IfOk result (λ m. answer_after self.now.devices m.0 m.1 ≡ provision_new self.now.setup.pools self.now.devices name.now provisioner.now bytes (option_copied labels.entry) (first_fit provisioner.now bytes (option_copied labels.entry) self.now.devices.stored 0 self.now.setup.pools)) }
     {
         let pools = self.setup.pools.as_slice();
         match first_fit(pools, provisioner, bytes, labels, &self.stored) {
@@ -133,10 +151,10 @@ impl Devices {
             }
             Some(pool) => {
                 let id = self.fresh_id(provisioner)?;
-                let reply = self.provisioned(&id, pool)?;
+                let reply = self.provision_reply(&id, pool)?;
                 let name = name.copy(self.alloc)?;
                 Ok((
-                    Move::Gives(Stored {
+                    Move::Gives(StoredData {
                         id,
                         name,
                         pool,
@@ -157,21 +175,23 @@ impl Devices {
         bytes: u64,
         labels: Option<&Pairs>,
     ) -> Result<(Move, Reply), OutOfMemory>
-        ensures { IfOk result (λ m. answered self.now.devices m.0 m.1 ≡ provision self.now.setup.pools self.now.devices name.now provisioner.now bytes (option_copied labels.entry) (data_named name.now self.now.devices.stored)) }
+        ensures { IfOk result (λ m. answer_after self.now.devices m.0 m.1 ≡ provision self.now.setup.pools self.now.devices name.now provisioner.now bytes (option_copied labels.entry) (data_named name.now self.now.devices.stored)) }
     {
         match data_named(&self.stored, name) {
-            Some(found) => Ok((Move::Counts, self.provisioned(&found.id, found.pool)?)),
+            Some(found) => Ok((Move::Counts, self.provision_reply(&found.id, found.pool)?)),
             None => self.provision_new(name, provisioner, bytes, labels),
         }
     }
 
     #[tactic(auto, unfolding(binder_model::specs::Devices::erase))]
     fn erase(&self, id: &DataId) -> Result<(Move, Reply), OutOfMemory>
-        ensures { IfOk result (λ m. answered self.now.devices m.0 m.1 ≡ erase self.now.devices id.now) }
+        ensures { IfOk result (λ m. answer_after self.now.devices m.0 m.1 ≡ erase self.now.devices id.now) }
     {
         let removed = has_id(&self.stored, id);
-        let left = erased(self.alloc, &self.stored, id)?;
-        Ok((Move::Erases(left), Reply::Erased { removed }))
+        Ok((
+            Move::Erases(id.copy(self.alloc)?),
+            Reply::Erased { removed },
+        ))
     }
 
     /// The answer of a back end, or its fault where the number of the call is planned.
@@ -179,7 +199,7 @@ impl Devices {
     fn on_back_end(&self, request: &Request) -> Result<(Move, Reply), OutOfMemory>
         requires asked { is_for_back_end request.now ≡ true }
         requires calls { self.now.devices.calls < 2 ^ 63 }
-        ensures { IfOk result (λ m. Some (answered self.now.devices m.0 m.1) ≡ device_answer self.now.setup self.now.devices request.now) }
+        ensures { IfOk result (λ m. Some (answer_after self.now.devices m.0 m.1) ≡ device_answer self.now.setup self.now.devices request.now) }
     {
         let planned = self.calls + 1;
         if is_planned(self.setup.faults.as_slice(), planned) {
@@ -198,7 +218,7 @@ impl Devices {
     }
 
     /// The current epoch of the node, where the given one is another.
-    fn stale(&self, node: &Text, given: u64) -> Option<u64>
+    fn epoch_if_stale(&self, node: &Text, given: u64) -> Option<u64>
         ensures { result ≡ epoch_if_stale self.now.devices node.now given }
     {
         let current = epoch_of(&self.epochs, node);
@@ -212,7 +232,7 @@ impl Devices {
     #[tactic(auto, unfolding(binder_model::specs::Devices::take_node))]
     fn take_node(&self, node: &Text) -> Result<(Move, Reply), OutOfMemory>
         requires { epoch_of node.now self.now.devices.epochs < 2 ^ 63 }
-        ensures { IfOk result (λ m. answered self.now.devices m.0 m.1 ≡ take_node self.now.devices node.now) }
+        ensures { IfOk result (λ m. answer_after self.now.devices m.0 m.1 ≡ take_node self.now.devices node.now) }
     {
         let epoch = epoch_of(&self.epochs, node) + 1;
         Ok((
@@ -223,49 +243,51 @@ impl Devices {
 
     #[tactic(auto, unfolding(binder_model::specs::Devices::with_mounts))]
     fn show_mounts(&self, node: &Text) -> Result<(Move, Reply), OutOfMemory>
-        ensures { IfOk result (λ m. answered self.now.devices m.0 m.1 ≡ with_mounts self.now.devices node.now self.now.devices.mounts) }
+        ensures { IfOk result (λ m. answer_after self.now.devices m.0 m.1 ≡ with_mounts self.now.devices node.now self.now.devices.mounts) }
     {
-        let rows = rows_on(self.alloc, &self.mounts, node)?;
-        Ok((Move::Stays, Reply::Mounted(rows)))
+        let rows = copy_all(self.alloc, self.mounts.on(node))?;
+        Ok((Move::Stays, Reply::Mounted(Items::from_vec(rows))))
     }
 
-    #[tactic(auto, unfolding(binder_model::specs::Devices::with_mounts))]
+    /// The node's rows and then the new one.
+    #[tactic(auto, unfolding(binder_model::specs::Devices::with_mounts), using(binder_model::proofs::Mounts::rows_on_put))]
+    fn mount_row(&self, node: &Text, row: MountRow) -> Result<(Move, Reply), OutOfMemory>
+        ensures { IfOk result (λ m. answer_after self.now.devices m.0 m.1 ≡ with_mounts self.now.devices node.now (put_mount (mount_at node.now row) self.now.devices.mounts)) }
+    {
+        let rows = rows_with(self.alloc, self.mounts.on(node), &row)?;
+        let node = node.copy(self.alloc)?;
+        Ok((Move::Mounts(node, row), Reply::Mounted(rows)))
+    }
+
     fn mount(
         &self,
         node: &Text,
         pod: Uid,
         claims: &Items<Uid>,
     ) -> Result<(Move, Reply), OutOfMemory>
-        ensures { IfOk result (λ m. answered self.now.devices m.0 m.1 ≡ with_mounts self.now.devices node.now (with_mount node.now pod claims.now self.now.devices.mounts)) }
+        ensures { IfOk result (λ m. answer_after self.now.devices m.0 m.1 ≡ with_mounts self.now.devices node.now (with_mount node.now pod claims.now self.now.devices.mounts)) }
     {
-        if is_mounted(&self.mounts, node, pod) {
+        if self.mounts.has(node, pod) {
             return self.show_mounts(node);
         }
-        let placed = Placed {
-            node: node.copy(self.alloc)?,
-            row: MountRow {
-                pod,
-                claims: claims.copy(self.alloc)?,
-            },
-        };
-        let rows = rows_with(self.alloc, &self.mounts, &placed)?;
-        Ok((Move::Mounts(placed), Reply::Mounted(rows)))
+        let claims = claims.copy(self.alloc)?;
+        self.mount_row(node, MountRow { pod, claims })
     }
 
-    #[tactic(auto, unfolding(binder_model::specs::Devices::with_mounts))]
+    #[tactic(auto, unfolding(binder_model::specs::Devices::with_mounts), using(crate::proofs::NodeLists::rows_on_without))]
     fn unmount(&self, node: &Text, pod: Uid) -> Result<(Move, Reply), OutOfMemory>
-        ensures { IfOk result (λ m. answered self.now.devices m.0 m.1 ≡ with_mounts self.now.devices node.now (without_mount node.now pod self.now.devices.mounts)) }
+        ensures { IfOk result (λ m. answer_after self.now.devices m.0 m.1 ≡ with_mounts self.now.devices node.now (without_mount node.now pod self.now.devices.mounts)) }
     {
-        let rows = rows_without(self.alloc, &self.mounts, node, pod)?;
-        let kept = others(self.alloc, &self.mounts, node, pod)?;
-        Ok((Move::Unmounts(kept), Reply::Mounted(rows)))
+        let rows = rows_without(self.alloc, self.mounts.on(node), pod)?;
+        let node = node.copy(self.alloc)?;
+        Ok((Move::Unmounts(node, pod), Reply::Mounted(rows)))
     }
 
     /// The answer of a node, where the epoch is its current one.
     #[tactic(auto, unfolding(binder_model::specs::Devices::unless_stale, binder_model::specs::Devices::device_answer))]
     fn on_node(&self, request: &Request) -> Result<(Move, Reply), OutOfMemory>
         requires { is_for_mounts request.now ≡ true }
-        ensures { IfOk result (λ m. Some (answered self.now.devices m.0 m.1) ≡ device_answer self.now.setup self.now.devices request.now) }
+        ensures { IfOk result (λ m. Some (answer_after self.now.devices m.0 m.1) ≡ device_answer self.now.setup self.now.devices request.now) }
     {
         let (node, given) = match request {
             Request::Mounts { node, epoch } => (node, *epoch),
@@ -273,7 +295,7 @@ impl Devices {
             Request::Unmount { node, epoch, .. } => (node, *epoch),
             _ => unreachable!(),
         };
-        if let Some(current) = self.stale(node, given) {
+        if let Some(current) = self.epoch_if_stale(node, given) {
             return Ok((Move::Stays, Reply::Refused(Refusal::StaleEpoch { current })));
         }
         match request {
@@ -294,7 +316,7 @@ impl Devices {
         requires request { is_for_devices request.now ≡ true }
         requires calls { self.now.devices.calls < 2 ^ 63 }
         requires epoch { taken_epoch self.now.devices request.now < 2 ^ 63 }
-        ensures { IfOk result (λ m. Some (answered self.now.devices m.0 m.1) ≡ device_answer self.now.setup self.now.devices request.now) }
+        ensures { IfOk result (λ m. Some (answer_after self.now.devices m.0 m.1) ≡ device_answer self.now.setup self.now.devices request.now) }
     {
         match request {
             Request::Provision { .. } => self.on_back_end(request),
@@ -318,13 +340,13 @@ impl Devices {
                 self.stored.insert(0, data)?;
                 self.calls += 1;
             }
-            Move::Erases(left) => {
-                self.stored = left;
+            Move::Erases(id) => {
+                erase_all(&mut self.stored, &id);
                 self.calls += 1;
             }
             Move::Takes(node, epoch) => self.epochs.insert(0, (node, epoch))?,
-            Move::Mounts(placed) => self.mounts.push(placed)?,
-            Move::Unmounts(kept) => self.mounts = kept,
+            Move::Mounts(node, row) => self.mounts.put(self.alloc, node, row)?,
+            Move::Unmounts(node, pod) => self.mounts.take_out(&node, pod),
         }
         Ok(())
     }
@@ -361,6 +383,13 @@ impl Devices {
         epoch_of(&self.epochs, node)
     }
 
+    /// The mounts of the node, in the order of mounting.
+    pub fn mounts(&self, node: &Text) -> &[MountRow]
+        ensures { result.now ≡ rows_on node.now self.now.devices.mounts }
+    {
+        self.mounts.on(node)
+    }
+
     /// Whether a pool has these bytes free for such a request.
     pub fn fits(&self, provisioner: &Text, bytes: u64, labels: Option<&Pairs>) -> bool
         ensures { result ≡ pool_fits self.now.setup self.now.devices provisioner.now bytes (option_copied labels.entry) }
@@ -381,7 +410,7 @@ impl Devices {
         ensures { result ≡ counts self.now.devices }
     {
         DeviceCounts {
-            mounted: self.mounts.len() as u64,
+            mounted: self.mounts.count() as u64,
             stored: count_there(&self.stored),
             calls: self.calls,
         }

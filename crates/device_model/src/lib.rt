@@ -2,6 +2,7 @@
 #![tactic(auto)]
 
 pub mod devices;
+mod epochs;
 pub mod kept;
-mod nodes;
+pub mod mounts;
 mod pools;

@@ -1,18 +1,16 @@
 //! Pools, and the data that they gave.
 
-ghost use Rattle.std.specs.Prelude.{◌≡◌, ◌&&◌, IfOk, bytes_eq, map, option_map};
+ghost use Rattle.std.specs.Prelude.{◌≡◌, ◌&&◌, bytes_eq, map, option_map};
 ghost use Rattle.std.specs.List.{list_any};
 ghost use Rattle.std.specs.Option.{option_copied};
 ghost use Rattle.binder_model.specs.Devices.{data_named, erase_one, data_after_erase, first_fit, free_bytes, has_id, is_planned, most_free, same_id, serves, topology_at, used_bytes, would_serve};
-ghost use Rattle.device_model.specs.Kept.{stored_data, there};
+ghost use Rattle.device_model.specs.Kept.{count_there, stored_data};
 
-use crate::kept::Stored;
+use crate::kept::StoredData;
 use call_types::setup::Pool;
-use kube_types::copies::{OutOfMemory, Plain};
 use kube_types::objects::DataId;
 use kube_types::pairs::Pairs;
 use kube_types::text::Text;
-use std::alloc::Global;
 
 /// Whether a pool with this topology serves a node with these labels. Without a topology it serves
 /// each request; without a node it is asked by none.
@@ -39,7 +37,7 @@ fn would_serve(pool: &Pool, provisioner: &Text, labels: Option<&Pairs>) -> bool
 }
 
 /// The bytes that the pool at the place has left.
-fn free(pool: &Pool, place: usize, stored: &[Stored]) -> u64
+fn free(pool: &Pool, place: usize, stored: &[StoredData]) -> u64
     ensures { result ≡ free_bytes pool.now place (map stored_data stored.now) }
 {
     let mut left = pool.bytes;
@@ -57,7 +55,7 @@ pub fn first_fit(
     provisioner: &Text,
     bytes: u64,
     labels: Option<&Pairs>,
-    stored: &[Stored],
+    stored: &[StoredData],
 ) -> Option<usize>
     ensures { result ≡ first_fit provisioner.now bytes (option_copied labels.entry) (map stored_data stored.now) 0 pools.now }
 {
@@ -76,7 +74,7 @@ pub fn most_free(
     pools: &[Pool],
     provisioner: &Text,
     labels: Option<&Pairs>,
-    stored: &[Stored],
+    stored: &[StoredData],
 ) -> u64
     ensures { result ≡ most_free provisioner.now (option_copied labels.entry) (map stored_data stored.now) 0 pools.now }
 {
@@ -106,7 +104,7 @@ pub fn topology_at(pools: &[Pool], place: usize) -> Option<&(Text, Text)>
 }
 
 /// The data of the name that are there.
-pub fn data_named<'a>(stored: &'a [Stored], name: &Text) -> Option<&'a Stored>
+pub fn data_named<'a>(stored: &'a [StoredData], name: &Text) -> Option<&'a StoredData>
     ensures { option_map stored_data (option_copied result) ≡ data_named name.now (map stored_data stored.now) }
 {
     for item in stored {
@@ -118,7 +116,7 @@ pub fn data_named<'a>(stored: &'a [Stored], name: &Text) -> Option<&'a Stored>
 }
 
 /// Whether data of the name are there.
-pub fn has_name(stored: &[Stored], name: &Text) -> bool
+pub fn has_name(stored: &[StoredData], name: &Text) -> bool
     ensures { result ≡ list_any (λ x. x.there && bytes_eq x.name name.now) (map stored_data stored.now) }
 {
     for item in stored {
@@ -136,7 +134,7 @@ fn same_id(a: &DataId, b: &DataId) -> bool
 }
 
 /// Whether data of the id are there.
-pub fn has_id(stored: &[Stored], id: &DataId) -> bool
+pub fn has_id(stored: &[StoredData], id: &DataId) -> bool
     ensures { result ≡ has_id id.now (map stored_data stored.now) }
 {
     for item in stored {
@@ -147,26 +145,24 @@ pub fn has_id(stored: &[Stored], id: &DataId) -> bool
     false
 }
 
-/// A copy of the data, which are not there where they have the id.
-fn erase_one(alloc: Global, stored: &Stored, id: &DataId) -> Result<Stored, OutOfMemory>
-    ensures { IfOk result (λ x. stored_data x ≡ erase_one id.now (stored_data stored.now)) }
+/// Takes the data away where they have the id.
+fn erase_one(stored: &mut StoredData, id: &DataId)
+    ensures { stored_data stored.new ≡ erase_one id.now (stored_data stored.old) }
 {
-    let mut copy = stored.copy(alloc)?;
     if same_id(&stored.id, id) {
-        copy.there = false;
+        stored.there = false;
     }
-    Ok(copy)
 }
 
-/// The data after an erase of the id.
-pub fn erased(alloc: Global, stored: &[Stored], id: &DataId) -> Result<Vec<Stored>, OutOfMemory>
-    ensures { IfOk result (λ xs. map stored_data xs.items ≡ data_after_erase id.now (map stored_data stored.now)) }
+/// Takes the data of the id away.
+pub fn erase_all(stored: &mut [StoredData], id: &DataId)
+    ensures { map stored_data stored.new ≡ data_after_erase id.now (map stored_data stored.old) }
 {
-    let mut left = Vec::new(alloc);
-    for item in stored {
-        left.push(erase_one(alloc, item, id)?)?;
+    let mut at = 0;
+    while at < stored.len() {
+        erase_one(&mut stored[at], id);
+        at += 1;
     }
-    Ok(left)
 }
 
 /// Whether the call is one that fails.
@@ -182,8 +178,8 @@ pub fn is_planned(faults: &[u64], call: u64) -> bool
 }
 
 /// How many of the data are there.
-pub fn count_there(stored: &[Stored]) -> u64
-    ensures { result ≡ there (map stored_data stored.now) }
+pub fn count_there(stored: &[StoredData]) -> u64
+    ensures { result ≡ count_there (map stored_data stored.now) }
 {
     let mut count = 0;
     for item in stored {

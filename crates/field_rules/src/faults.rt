@@ -171,6 +171,7 @@ fn check_volume(volume: &Volume) -> Result<(), Field>
     ensures { result_err result ≡ volume_fault volume.now }
 {
     refuse!(
+        !volume.meta.namespace.as_str().is_empty() => Field::Namespace,
         volume.amount.bytes == 0 => Field::Capacity,
         has_no_mode(volume.modes) => Field::AccessModes,
         is_nameless(&volume.claim_ref) => Field::ClaimRef,
@@ -197,6 +198,7 @@ fn check_class(class: &Class) -> Result<(), Field>
     ensures { result_err result ≡ class_fault class.now }
 {
     refuse!(
+        !class.meta.namespace.as_str().is_empty() => Field::Namespace,
         class.provisioner.as_str().is_empty() => Field::Provisioner,
         has_twice(&class.meta.finalizers) => Field::Finalizers
     );
@@ -223,7 +225,10 @@ fn check_kind(lacks_node: bool, object: &Object) -> Result<(), Field>
     match object {
         Object::Class(class) => check_class(class),
         Object::Node(node) => {
-            refuse!(has_twice(&node.meta.finalizers) => Field::Finalizers);
+            refuse!(
+                !node.meta.namespace.as_str().is_empty() => Field::Namespace,
+                has_twice(&node.meta.finalizers) => Field::Finalizers
+            );
             Ok(())
         }
         Object::Volume(volume) => check_volume(volume),

@@ -57,7 +57,7 @@ fn is_delete(policy: Policy) -> bool
     }
 }
 
-fn is_released(phase: VolumePhase) -> bool
+fn is_ended(phase: VolumePhase) -> bool
     ensures { result ≡ is_ended phase }
 {
     match phase {
@@ -66,13 +66,15 @@ fn is_released(phase: VolumePhase) -> bool
     }
 }
 
-/// Whether the write may clear the reference of a released volume that is not to be deleted.
+/// Whether the write clears the reference that a volume in phase Released has, where its policy is not Delete.
 fn clears_released(old: Option<&Object>, new: &Object) -> bool
     ensures { result ≡ clears_released (option_copied old.entry) new.now }
 {
     match (old, new) {
         (Some(Object::Volume(old)), Object::Volume(new)) => match old.phase {
-            VolumePhase::Released => !is_delete(old.policy) && new.claim_ref.is_none(),
+            VolumePhase::Released => {
+                !is_delete(old.policy) && old.claim_ref.is_some() && new.claim_ref.is_none()
+            }
             _ => false,
         },
         _ => false,
@@ -188,13 +190,13 @@ fn breaks_reference(old: Option<&Object>, new: &Object) -> bool
     }
 }
 
-/// Whether what is to be deleted once released is to stay.
+/// Whether policy Delete goes from a volume that has ended.
 fn breaks_policy(old: Option<&Object>, new: &Object) -> bool
     ensures { result ≡ breaks_policy (option_copied old.entry) new.now }
 {
     match (old, new) {
         (Some(Object::Volume(old)), Object::Volume(new)) => {
-            is_released(old.phase) && is_delete(old.policy) && !is_delete(new.policy)
+            is_ended(old.phase) && is_delete(old.policy) && !is_delete(new.policy)
         }
         _ => false,
     }

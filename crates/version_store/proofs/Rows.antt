@@ -1,12 +1,12 @@
 -- A default class and a list, row by row.
-use Rattle.std.proofs.Common.{◌≡◌, ◌+◌, ◌<◌, ℕ, suc, Bool, true, false, ◌&&◌, List, [], ◌∷◌, ◌++◌, Option, Some, None, refl, sym, ◌∙◌, ap, if◌then◌else◌, length, drop, get_or, add-one, drop-cons, append_assoc}
+use Rattle.std.proofs.Common.{◌≡◌, ◌+◌, ◌<◌, ℕ, suc, Bool, true, false, ◌&&◌, List, ◌∷◌, Option, Some, None, refl, if◌then◌else◌, length, drop, get_or, add-one, drop-cons}
 use Rattle.kube_types.specs.declared.parts.Kind.{Kind}
 use Rattle.kube_types.specs.declared.objects.Object.{Object}
 use Rattle.kube_types.specs.declared.objects.Object.TheVariants.{Class, Node, Volume, Claim, Pod}
 use Rattle.kube_types.specs.Keys.{is_of_kind, rows_of}
 use Rattle.binder_model.specs.Store.{default_class}
 use Rattle.binder_model.specs.Answers.{is_in_namespace, listed_rows}
-use Rattle.version_store.specs.Made.{default_from, is_listed, is_wanted}
+use Rattle.version_store.specs.Made.{default_from, is_wanted}
 
 pub default_class-cons : (o : Object) (os : List Object) → default_class (o ∷ os) ≡ default_from o (default_class os)
 default_class-cons (Class x) os = refl

@@ -69,7 +69,7 @@ fn with_reference(mut volume: Volume, reference: Option<Ref>) -> Volume
     volume
 }
 
-fn finalizer_added(alloc: Global, name: &Text, object: &Object) -> Result<Object, OutOfMemory>
+fn with_added_finalizer(alloc: Global, name: &Text, object: &Object) -> Result<Object, OutOfMemory>
     ensures { IfOk result (λ o. o ≡ with_meta object.now (record (meta_of object.now) { finalizers = with_finalizer name.now (meta_of object.now).finalizers })) }
 {
     let mut finalizers = meta_of(object).finalizers.copy(alloc)?;
@@ -83,14 +83,18 @@ fn without_name(alloc: Global, name: &Text, names: &Names) -> Result<Names, OutO
     names.without(alloc, name.as_str())
 }
 
-fn finalizer_dropped(alloc: Global, name: &Text, object: &Object) -> Result<Object, OutOfMemory>
+fn with_dropped_finalizer(
+    alloc: Global,
+    name: &Text,
+    object: &Object,
+) -> Result<Object, OutOfMemory>
     ensures { IfOk result (λ o. o ≡ with_meta object.now (record (meta_of object.now) { finalizers = without_name name.now (meta_of object.now).finalizers })) }
 {
     let finalizers = without_name(alloc, name, &meta_of(object).finalizers)?;
     Ok(with_finalizers(object.copy(alloc)?, finalizers))
 }
 
-fn label_set(
+fn with_set_label(
     alloc: Global,
     key: &Text,
     value: &Text,
@@ -103,7 +107,7 @@ fn label_set(
     Ok(with_labels(object.copy(alloc)?, labels))
 }
 
-fn label_dropped(alloc: Global, key: &Text, object: &Object) -> Result<Object, OutOfMemory>
+fn with_dropped_label(alloc: Global, key: &Text, object: &Object) -> Result<Object, OutOfMemory>
     ensures { IfOk result (λ o. o ≡ with_meta object.now (record (meta_of object.now) { labels = without_key key.now (meta_of object.now).labels })) }
 {
     let mut labels = meta_of(object).labels.copy(alloc)?;
@@ -111,7 +115,7 @@ fn label_dropped(alloc: Global, key: &Text, object: &Object) -> Result<Object, O
     Ok(with_labels(object.copy(alloc)?, labels))
 }
 
-fn annotation_set(
+fn with_set_annotation(
     alloc: Global,
     key: &Text,
     value: &Text,
@@ -124,7 +128,11 @@ fn annotation_set(
     Ok(with_annotations(object.copy(alloc)?, annotations))
 }
 
-fn annotation_dropped(alloc: Global, key: &Text, object: &Object) -> Result<Object, OutOfMemory>
+fn with_dropped_annotation(
+    alloc: Global,
+    key: &Text,
+    object: &Object,
+) -> Result<Object, OutOfMemory>
     ensures { IfOk result (λ o. o ≡ with_meta object.now (record (meta_of object.now) { annotations = without_key key.now (meta_of object.now).annotations })) }
 {
     let mut annotations = meta_of(object).annotations.copy(alloc)?;
@@ -184,7 +192,7 @@ fn without_maker(alloc: Global, annotations: &Pairs) -> Result<Pairs, OutOfMemor
 }
 
 /// The volume without its reference, and with these annotations.
-fn cleared(mut volume: Volume, annotations: Pairs) -> Volume
+fn without_reference(mut volume: Volume, annotations: Pairs) -> Volume
     ensures { result ≡ record volume { claim_ref = None; meta = record volume.meta { annotations = annotations } } }
 {
     volume.meta.annotations = annotations;
@@ -198,7 +206,7 @@ fn without_claim(alloc: Global, object: &Object) -> Result<Option<Object>, OutOf
     match object {
         Object::Volume(volume) => {
             let annotations = without_maker(alloc, &volume.meta.annotations)?;
-            let volume = cleared(volume.copy(alloc)?, annotations);
+            let volume = without_reference(volume.copy(alloc)?, annotations);
             Ok(Some(Object::Volume(volume)))
         }
         _ => Ok(None),
@@ -207,17 +215,21 @@ fn without_claim(alloc: Global, object: &Object) -> Result<Option<Object>, OutOf
 
 /// The object with the edit, or none where the edit does not fit its kind.
 #[tactic(auto, unfolding(binder_model::specs::Edits::edited_object))]
-pub fn edited(alloc: Global, edit: &Edit, object: &Object) -> Result<Option<Object>, OutOfMemory>
+pub fn edited_object(
+    alloc: Global,
+    edit: &Edit,
+    object: &Object,
+) -> Result<Option<Object>, OutOfMemory>
     ensures { IfOk result (λ o. o ≡ edited_object edit.now object.now) }
 {
     match edit {
-        Edit::AddFinalizer(name) => Ok(Some(finalizer_added(alloc, name, object)?)),
-        Edit::DropFinalizer(name) => Ok(Some(finalizer_dropped(alloc, name, object)?)),
-        Edit::DropLabel(key) => Ok(Some(label_dropped(alloc, key, object)?)),
-        Edit::DropAnnotation(key) => Ok(Some(annotation_dropped(alloc, key, object)?)),
-        Edit::SetLabel { key, value } => Ok(Some(label_set(alloc, key, value, object)?)),
+        Edit::AddFinalizer(name) => Ok(Some(with_added_finalizer(alloc, name, object)?)),
+        Edit::DropFinalizer(name) => Ok(Some(with_dropped_finalizer(alloc, name, object)?)),
+        Edit::DropLabel(key) => Ok(Some(with_dropped_label(alloc, key, object)?)),
+        Edit::DropAnnotation(key) => Ok(Some(with_dropped_annotation(alloc, key, object)?)),
+        Edit::SetLabel { key, value } => Ok(Some(with_set_label(alloc, key, value, object)?)),
         Edit::SetAnnotation { key, value } => {
-            Ok(Some(annotation_set(alloc, key, value, object)?))
+            Ok(Some(with_set_annotation(alloc, key, value, object)?))
         }
         Edit::SetVolumeName(name) => with_volume_name(alloc, name, object),
         Edit::SetPolicy(policy) => with_policy(alloc, *policy, object),

@@ -6,15 +6,17 @@ ghost use Rattle.std.specs.Result.{result_err};
 ghost use Rattle.kube_types.specs.declared.objects.Object.{Object};
 ghost use Rattle.kube_types.specs.declared.objects.Object.TheVariants as objects;
 ghost use Rattle.kube_types.specs.Keys.{AreRows, key_of, is_of_kind, row_at, rows_of};
+ghost use Rattle.kube_types.specs.declared.names.Rule.TheVariants as rules;
+ghost use Rattle.call_types.specs.declared.reply.Refusal.TheVariants as refusals;
 ghost use Rattle.call_types.specs.declared.reply.Reply.TheVariants as replies;
 ghost use Rattle.binder_model.specs.Store.{at_version};
-ghost use Rattle.binder_model.specs.Answers.{Says, is_user, guard_on, is_other_version, is_other_uid, write_outcome, written_if_fits, create, update, update_status, edit, edit_to, delete, get, list, listed_rows, is_in_namespace, pod_with, bind, finish, outcome};
+ghost use Rattle.binder_model.specs.Answers.{Says, is_user, guard_on, is_other_version, is_other_uid, write_outcome, written_if_fits, create, update, update_status, edit, edit_to, delete, get, list, listed_rows, is_in_namespace, pod_with, bind, finish, outcome, refuse};
 ghost use Rattle.version_store.specs.Made.{is_listed, is_wanted, outcome_of, state_of};
 
 use crate::classes::{default_class_name, lacks_named_node, lacks_node};
-use crate::edits::edited;
+use crate::edits::edited_object;
 use crate::outcome::Made;
-use crate::writes::{at_version, created, marked, updated, with_status};
+use crate::writes::{at_version, created_object, marked_object, updated_object, with_status};
 use call_types::edit::Edit;
 use call_types::reply::{Change, Refusal, Reply};
 use call_types::request::{NewStatus, Request, SeatKind};
@@ -32,14 +34,14 @@ use kube_types::text::Text;
 use kube_types::uid::Uid;
 use std::alloc::Global;
 
-fn refused(refusal: Refusal) -> Made
+fn refuse_with(refusal: Refusal) -> Made
     ensures { outcome_of result ≡ Says (replies.Refused refusal) }
 {
     Made::Says(Reply::Refused(refusal))
 }
 
 /// The write of an object, which leaves where it is to be deleted and has no finalizers.
-fn written(object: Object) -> Made
+fn write_outcome(object: Object) -> Made
     ensures { outcome_of result ≡ write_outcome object }
 {
     if leaves(&object) {
@@ -102,16 +104,16 @@ fn create(
 {
     let key = key_of(alloc, object)?;
     if row(rows, &key).is_some() {
-        return Ok(refused(Refusal::AlreadyExists));
+        return Ok(refuse_with(Refusal::AlreadyExists));
     }
     if let Err(rule) = guard_on(kind, None, object) {
-        return Ok(refused(Refusal::Forbidden(rule)));
+        return Ok(refuse_with(Refusal::Forbidden(rule)));
     }
     let lacks = lacks_node(alloc, object, rows)?;
     if let Err(field) = check_new(lacks, object) {
-        return Ok(refused(Refusal::Invalid(field)));
+        return Ok(refuse_with(Refusal::Invalid(field)));
     }
-    let made = created(alloc, default_class_name(rows), object, version + 1, moment)?;
+    let made = created_object(alloc, default_class_name(rows), object, version + 1, moment)?;
     Ok(Made::Stores(Change::Added, made))
 }
 
@@ -128,19 +130,19 @@ fn update(
     ensures { IfOk result (λ made. (rows : List Object) → outcome_of made ≡ update (state_of rows version) kind new.now given (option_copied old.entry)) }
 {
     let Some(old) = old else {
-        return Ok(refused(Refusal::NotFound));
+        return Ok(refuse_with(Refusal::NotFound));
     };
     let current = meta_of(old).version;
     if is_other_version(given, current) {
-        return Ok(refused(Refusal::Conflict { current }));
+        return Ok(refuse_with(Refusal::Conflict { current }));
     }
     if let Err(rule) = guard_on(kind, Some(old), new) {
-        return Ok(refused(Refusal::Forbidden(rule)));
+        return Ok(refuse_with(Refusal::Forbidden(rule)));
     }
     if let Err(field) = check_update(old, new) {
-        return Ok(refused(Refusal::Invalid(field)));
+        return Ok(refuse_with(Refusal::Invalid(field)));
     }
-    Ok(written(updated(alloc, old, new, version + 1)?))
+    Ok(write_outcome(updated_object(alloc, old, new, version + 1)?))
 }
 
 #[tactic(auto, unfolding(binder_model::specs::Answers::update_status, binder_model::specs::Answers::written_if_fits, binder_model::specs::Answers::refuse))]
@@ -156,18 +158,18 @@ fn update_status(
     ensures { IfOk result (λ made. (rows : List Object) → outcome_of made ≡ update_status (state_of rows version) kind status.now given (option_copied old.entry)) }
 {
     if is_user(kind) {
-        return Ok(refused(Refusal::Forbidden(Rule::Verb)));
+        return Ok(refuse_with(Refusal::Forbidden(Rule::Verb)));
     }
     let Some(old) = old else {
-        return Ok(refused(Refusal::NotFound));
+        return Ok(refuse_with(Refusal::NotFound));
     };
     let current = meta_of(old).version;
     if is_other_version(given, current) {
-        return Ok(refused(Refusal::Conflict { current }));
+        return Ok(refuse_with(Refusal::Conflict { current }));
     }
     match with_status(alloc, status, old)? {
-        None => Ok(refused(Refusal::Invalid(Field::Kind))),
-        Some(new) => Ok(written(at_version(new, version + 1))),
+        None => Ok(refuse_with(Refusal::Invalid(Field::Kind))),
+        Some(new) => Ok(write_outcome(at_version(new, version + 1))),
     }
 }
 
@@ -183,18 +185,18 @@ fn edit(
     ensures { IfOk result (λ made. (rows : List Object) → outcome_of made ≡ edit (state_of rows version) kind change.now (option_copied old.entry)) }
 {
     let Some(old) = old else {
-        return Ok(refused(Refusal::NotFound));
+        return Ok(refuse_with(Refusal::NotFound));
     };
-    let Some(new) = edited(alloc, change, old)? else {
-        return Ok(refused(Refusal::Invalid(Field::Kind)));
+    let Some(new) = edited_object(alloc, change, old)? else {
+        return Ok(refuse_with(Refusal::Invalid(Field::Kind)));
     };
     if let Err(rule) = guard_on(kind, Some(old), &new) {
-        return Ok(refused(Refusal::Forbidden(rule)));
+        return Ok(refuse_with(Refusal::Forbidden(rule)));
     }
     if let Err(field) = check_update(old, &new) {
-        return Ok(refused(Refusal::Invalid(field)));
+        return Ok(refuse_with(Refusal::Invalid(field)));
     }
-    Ok(written(updated(alloc, old, &new, version + 1)?))
+    Ok(write_outcome(updated_object(alloc, old, &new, version + 1)?))
 }
 
 #[tactic(auto, unfolding(binder_model::specs::Answers::delete, binder_model::specs::Answers::delete_of, binder_model::specs::Answers::refuse))]
@@ -209,21 +211,21 @@ fn delete(
     ensures { IfOk result (λ made. (rows : List Object) → outcome_of made ≡ delete (state_of rows version) moment.now given (option_copied old.entry)) }
 {
     let Some(old) = old else {
-        return Ok(refused(Refusal::NotFound));
+        return Ok(refuse_with(Refusal::NotFound));
     };
     let meta = meta_of(old);
     if is_other_uid(given, meta.uid) {
-        return Ok(refused(Refusal::Conflict {
+        return Ok(refuse_with(Refusal::Conflict {
             current: meta.version,
         }));
     }
     if leaves_at_once(old) {
-        return Ok(Made::Removes(marked(alloc, old, version + 1, moment)?));
+        return Ok(Made::Removes(marked_object(alloc, old, version + 1, moment)?));
     }
     if is_deleting(meta) {
         return Ok(Made::Says(Reply::Done(old.copy(alloc)?)));
     }
-    Ok(written(marked(alloc, old, version + 1, moment)?))
+    Ok(write_outcome(marked_object(alloc, old, version + 1, moment)?))
 }
 
 #[tactic(auto, unfolding(binder_model::specs::Answers::get))]
@@ -231,7 +233,7 @@ fn get(alloc: Global, row: Option<&Object>) -> Result<Made, OutOfMemory>
     ensures { IfOk result (λ made. outcome_of made ≡ get (option_copied row.entry)) }
 {
     match row {
-        None => Ok(refused(Refusal::NotFound)),
+        None => Ok(refuse_with(Refusal::NotFound)),
         Some(found) => Ok(Made::Says(Reply::Found(found.copy(alloc)?))),
     }
 }
@@ -260,7 +262,7 @@ fn is_wanted(kind: Kind, namespace: &Option<Text>, object: &Object) -> bool
 }
 
 /// The objects of the kind, and of the namespace where one is given.
-fn listed(
+fn listed_rows(
     alloc: Global,
     rows: &[Object],
     kind: Kind,
@@ -288,7 +290,7 @@ fn list(
 ) -> Result<Made, OutOfMemory>
     ensures { IfOk result (λ made. outcome_of made ≡ list (state_of rows.now version) kind namespace.now) }
 {
-    let items = listed(alloc, rows, kind, namespace)?;
+    let items = listed_rows(alloc, rows, kind, namespace)?;
     Ok(Made::Says(Reply::Listed { items, version }))
 }
 
@@ -317,7 +319,7 @@ fn with_node(mut pod: Pod, node: Text) -> Pod
 }
 
 /// The pod on this node.
-fn bound(alloc: Global, pod: &Pod, node: &Text, version: Version) -> Result<Object, OutOfMemory>
+fn bound_pod(alloc: Global, pod: &Pod, node: &Text, version: Version) -> Result<Object, OutOfMemory>
     ensures { IfOk result (λ o. o ≡ at_version (objects.Pod (record pod.now { node = node.now })) version) }
 {
     let node = node.copy(alloc)?;
@@ -338,16 +340,16 @@ fn bind(
     ensures { IfOk result (λ made. outcome_of made ≡ bind (state_of rows.now version) node.now (option_copied pod.entry)) }
 {
     let Some(pod) = pod else {
-        return Ok(refused(Refusal::NotFound));
+        return Ok(refuse_with(Refusal::NotFound));
     };
     if is_scheduled(pod) {
         let node = pod.node.copy(alloc)?;
-        return Ok(refused(Refusal::Assigned { node }));
+        return Ok(refuse_with(Refusal::Assigned { node }));
     }
     if lacks_named_node(alloc, node, rows)? {
-        return Ok(refused(Refusal::Invalid(Field::NodeName)));
+        return Ok(refuse_with(Refusal::Invalid(Field::NodeName)));
     }
-    let bound = bound(alloc, pod, node, version + 1)?;
+    let bound = bound_pod(alloc, pod, node, version + 1)?;
     Ok(Made::Stores(Change::Modified, bound))
 }
 
@@ -363,19 +365,77 @@ fn finish(
     ensures { IfOk result (λ made. (rows : List Object) → outcome_of made ≡ finish (state_of rows version) stale node.now (option_copied pod.entry)) }
 {
     let Some(pod) = pod else {
-        return Ok(refused(Refusal::NotFound));
+        return Ok(refuse_with(Refusal::NotFound));
     };
     if let Some(current) = stale {
-        return Ok(refused(Refusal::StaleEpoch { current }));
+        return Ok(refuse_with(Refusal::StaleEpoch { current }));
     }
     if !is_deleting(&pod.meta) {
-        return Ok(refused(Refusal::Invalid(Field::Deletion)));
+        return Ok(refuse_with(Refusal::Invalid(Field::Deletion)));
     }
     if !pod.node.is(node.as_str()) {
-        return Ok(refused(Refusal::Invalid(Field::NodeName)));
+        return Ok(refuse_with(Refusal::Invalid(Field::NodeName)));
     }
     let finished = Object::Pod(pod.copy(alloc)?);
     Ok(Made::Removes(at_version(finished, version + 1)))
+}
+
+/// What an update comes to.
+fn update_row(
+    alloc: Global,
+    rows: &[Object],
+    version: Version,
+    kind: SeatKind,
+    new: &Object,
+    given: Option<Version>,
+) -> Result<Made, OutOfMemory>
+    requires rows { AreRows rows.now }
+    requires room { version + 1 < 2 ^ 62 }
+    ensures { IfOk result (λ made. outcome_of made ≡ update (state_of rows.now version) kind new.now given (row_at (key_of new.now) rows.now)) }
+{
+    let key = key_of(alloc, new)?;
+    update(alloc, version, kind, new, given, row(rows, &key))
+}
+
+/// What a BindPod comes to. `row` is the object of its key.
+#[tactic(auto, unfolding(binder_model::specs::Answers::refuse))]
+fn bind_row(
+    alloc: Global,
+    rows: &[Object],
+    version: Version,
+    kind: SeatKind,
+    uid: Uid,
+    node: &Text,
+    row: Option<&Object>,
+) -> Result<Made, OutOfMemory>
+    requires rows { AreRows rows.now }
+    requires room { version + 1 < 2 ^ 62 }
+    ensures { IfOk result (λ made. outcome_of made ≡ refuse (is_user kind) (refusals.Forbidden rules.Verb) (bind (state_of rows.now version) node.now (pod_with uid (option_copied row.entry)))) }
+{
+    if is_user(kind) {
+        return Ok(refuse_with(Refusal::Forbidden(Rule::Verb)));
+    }
+    bind(alloc, rows, version, node, pod_with(uid, row))
+}
+
+/// What a FinishPod comes to. `row` is the object of its key.
+#[tactic(auto, unfolding(binder_model::specs::Answers::refuse))]
+fn finish_row(
+    alloc: Global,
+    version: Version,
+    kind: SeatKind,
+    uid: Uid,
+    node: &Text,
+    stale: Option<u64>,
+    row: Option<&Object>,
+) -> Result<Made, OutOfMemory>
+    requires { version + 1 < 2 ^ 62 }
+    ensures { IfOk result (λ made. (rows : List Object) → outcome_of made ≡ refuse (is_user kind) (refusals.Forbidden rules.Verb) (finish (state_of rows version) stale node.now (pod_with uid (option_copied row.entry)))) }
+{
+    if is_user(kind) {
+        return Ok(refuse_with(Refusal::Forbidden(Rule::Verb)));
+    }
+    finish(alloc, version, stale, node, pod_with(uid, row))
 }
 
 /// What the request comes to. `stale` is the current epoch of the node that a FinishPod names, where
@@ -399,10 +459,7 @@ pub fn outcome(
         Request::Update {
             object,
             version: given,
-        } => {
-            let key = key_of(alloc, object)?;
-            update(alloc, version, kind, object, *given, row(rows, &key))
-        }
+        } => update_row(alloc, rows, version, kind, object, *given),
         Request::UpdateStatus {
             key,
             status,
@@ -413,22 +470,17 @@ pub fn outcome(
         Request::Get { key } => get(alloc, row(rows, key)),
         Request::List { kind, namespace } => list(alloc, rows, version, *kind, namespace),
         Request::BindPod { key, uid, node } => {
-            if is_user(kind) {
-                return Ok(refused(Refusal::Forbidden(Rule::Verb)));
-            }
-            bind(alloc, rows, version, node, pod_with(*uid, row(rows, key)))
+            bind_row(alloc, rows, version, kind, *uid, node, row(rows, key))
         }
-        Request::FinishPod {
-            key,
-            uid,
+        Request::FinishPod { key, uid, node, .. } => finish_row(
+            alloc,
+            version,
+            kind,
+            *uid,
             node,
-            epoch: _,
-        } => {
-            if is_user(kind) {
-                return Ok(refused(Refusal::Forbidden(Rule::Verb)));
-            }
-            finish(alloc, version, stale, node, pod_with(*uid, row(rows, key)))
-        }
-        _ => Ok(refused(Refusal::Invalid(Field::Kind))),
+            stale,
+            row(rows, key),
+        ),
+        _ => Ok(refuse_with(Refusal::Invalid(Field::Kind))),
     }
 }

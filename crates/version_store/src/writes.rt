@@ -34,7 +34,7 @@ fn with_identity(
     created: Text,
     deleted: Option<Text>,
 ) -> Object
-    ensures { result ≡ with_meta object (record (meta_of object) { uid = uid; version = version; created = created_object; deleted = deleted }) }
+    ensures { result ≡ with_meta object (record (meta_of object) { uid = uid; version = version; created = created; deleted = deleted }) }
 {
     set_meta!(object, uid, version, created, deleted);
     object
@@ -42,7 +42,7 @@ fn with_identity(
 
 /// The object at this version, to be deleted since this moment.
 #[tactic(auto, unfolding(binder_model::specs::Store::marked_object, binder_model::specs::Store::with_meta))]
-pub fn marked(
+pub fn marked_object(
     alloc: Global,
     object: &Object,
     version: Version,
@@ -100,7 +100,7 @@ fn without_status(alloc: Global, object: &Object) -> Result<Object, OutOfMemory>
 
 /// The object as the write of this version creates it.
 #[tactic(auto, unfolding(binder_model::specs::Store::created_object))]
-pub fn created(
+pub fn created_object(
     alloc: Global,
     default_class: Option<&Text>,
     object: &Object,
@@ -139,7 +139,7 @@ fn with_status_of(alloc: Global, old: &Object, new: &Object) -> Result<Object, O
 
 /// The new object in place of the old one.
 #[tactic(auto, unfolding(binder_model::specs::Store::updated_object))]
-pub fn updated(
+pub fn updated_object(
     alloc: Global,
     old: &Object,
     new: &Object,

@@ -108,7 +108,7 @@ fn events_among(
 
 /// A full answer reaches to its last event, any other to the version.
 #[tactic(auto, using(crate::proofs::Numbered::reached_full))]
-fn reached(version: Version, told: &[Event]) -> Version
+fn reached_version(version: Version, told: &[Event]) -> Version
     ensures { result ≡ reached_version version told.now }
 {
     if told.len() != MOST_EVENTS {
@@ -197,7 +197,7 @@ impl WatchLog {
         }
         let count = (self.version - from) as usize;
         let told = events_among(self.alloc, &self.events, kind, count)?;
-        let upto = reached(self.version, told.as_slice());
+        let upto = reached_version(self.version, told.as_slice());
         Ok(Events { events: told, upto })
     }
 }
