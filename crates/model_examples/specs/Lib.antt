@@ -1,0 +1,2 @@
+pub mod BinderRows
+pub mod Samples

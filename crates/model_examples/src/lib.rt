@@ -1,0 +1,36 @@
+//! Computed examples of the definitions of the model: what is allowed, and what each single condition refuses.
+//!
+//! Each is a function with nothing to do, whose contract has the examples.
+#![tactic(auto)]
+
+ghost use Rattle.model_examples.specs.BinderRows.{AvailableExamples, ClaimRefExamples, ClaimStatusExamples, CompletionExamples, PhaseBoundExamples};
+
+/// The first write of a binding.
+#[tactic(auto, using(crate::proofs::BinderRows::claim_ref_examples))]
+pub fn claim_ref_examples()
+    ensures { ClaimRefExamples }
+{}
+
+/// The second write of a binding.
+#[tactic(auto, using(crate::proofs::BinderRows::phase_bound_examples))]
+pub fn phase_bound_examples()
+    ensures { PhaseBoundExamples }
+{}
+
+/// The third write of a binding.
+#[tactic(auto, using(crate::proofs::BinderRows::completion_examples))]
+pub fn completion_examples()
+    ensures { CompletionExamples }
+{}
+
+/// The fourth write of a binding.
+#[tactic(auto, using(crate::proofs::BinderRows::claim_status_examples))]
+pub fn claim_status_examples()
+    ensures { ClaimStatusExamples }
+{}
+
+/// A volume is made Available.
+#[tactic(auto, using(crate::proofs::BinderRows::available_examples))]
+pub fn available_examples()
+    ensures { AvailableExamples }
+{}
