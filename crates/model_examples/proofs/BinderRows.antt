@@ -21,7 +21,7 @@ use Rattle.binder_model.specs.BinderLicence.{MayTake, IsTaken, MayBind, IsHere, 
 use Rattle.binder_model.specs.Licence.{Licensed, AtVolume, AtClaim, AtVolumeKey, AtClaimKey}
 use Rattle.model_examples.specs.Samples.{Exchange, seat_of, unheard, tells_volume, tells_claim, tells_both, once, amount, a, c, other_c, naming, key_a, key_c, uid_c, taken_a, bound_a, released_a, completed_c}
 use Rattle.model_examples.specs.BinderRows.{ClaimRefExamples, prebound_a, failed_a, prebound_to_d, taken_by_other, taken_and_changed, taken_unmarked, PhaseBoundExamples, unguarded_a, CompletionExamples, bound_for_other, bound_by_name, completed_elsewhere, ClaimStatusExamples, bound_b, AvailableExamples}
-use Rattle.model_examples.proofs.Tellings.{differ, sole, own_kind, told_volumes, told_claims, volume_row, claim_row, volume_status_row, claim_status_row, volumes_in, claims_in, told_objects}
+use Rattle.model_examples.proofs.Tellings.{differ, neither, sole, own_kind, told_volumes, told_claims, volume_row, claim_row, volume_status_row, claim_status_row, volumes_in, claims_in, told_objects}
 
 abbrev mine : List Exchange → List Entry
 mine xs = seat_of seats.Binder xs
@@ -85,10 +85,6 @@ pub record Binds (x : ClaimData) (v : VolumeData) (key : Key) (given : Option �
 
 bind : (x : ClaimData) (v : VolumeData) (key : Key) (given : Option ℕ) → BindAt (tells_both x v) key given → Binds x v key given
 bind x v key given h = let found = sole (bind_at (tells_both x v) key given h) in record { written = found.0; row = found.1; claim = sole (here (tells_both x v) v found.1) }
-
-neither : {A B : Type 0} → (A → ⊥) → (B → ⊥) → A ⊎ B → ⊥
-neither f g (inl a) = f a
-neither f g (inr b) = g b
 
 pub phase_bound_examples : PhaseBoundExamples
 phase_bound_examples = record {

@@ -10,7 +10,9 @@ use Rattle.kube_types.specs.declared.objects.Object.{Object}
 use Rattle.kube_types.specs.declared.objects.Object.TheVariants.{Class, Node, Volume, Claim, Pod}
 use Rattle.call_types.specs.declared.entry.Entry.{Entry}
 use Rattle.call_types.specs.declared.request.SeatKind.{SeatKind}
-use Rattle.binder_model.specs.Told.{SomeOf, TellsObject, ToldObject, ToldVolume, ToldClaim, IsVolumeWith, IsClaimWith, objects_in, After}
+use Rattle.call_types.specs.declared.request.Request.{Request}
+use Rattle.call_types.specs.declared.request.Request.TheVariants as requests
+use Rattle.binder_model.specs.Told.{SomeOf, TellsObject, ToldObject, ToldVolume, ToldClaim, IsVolumeWith, IsClaimWith, objects_in, After, TellsLive}
 use Rattle.binder_model.specs.At.{IsWrittenAt}
 use Rattle.binder_model.specs.Licence.{AreOfKind, AtVolume, AtClaim, AtVolumeKey, AtClaimKey}
 use Rattle.model_examples.specs.Samples.{Exchange, seat_of, entry_of}
@@ -18,6 +20,10 @@ use Rattle.model_examples.specs.Samples.{Exchange, seat_of, entry_of}
 -- two that a test tells apart
 pub differ : {X : Type 0} {a b : X} (test : X → Bool) → a ≡ b → test a ≡ true → test b ≡ false → ⊥
 differ test e at_a at_b = true≢false (sym at_a ∙ ap test e ∙ at_b)
+
+pub neither : {A B : Type 0} → (A → ⊥) → (B → ⊥) → A ⊎ B → ⊥
+neither f g (inl a) = f a
+neither f g (inr b) = g b
 
 pub sole : {A : Type 0} → A ⊎ ⊥ → A
 sole (inl a) = a
@@ -101,3 +107,43 @@ volume_status_row Row mine key given h = told_volumes (λ o. IsWrittenAt given k
 
 pub claim_status_row : (Row : ClaimData → Type 0) (mine : List Entry) (key : Key) (given : Option ℕ) → AtClaimKey mine key given Row → SomeOf (λ o. IsWrittenAt given key.namespace key.name o.meta × Row o) (claims_in (told_objects mine))
 claim_status_row Row mine key given h = told_claims (λ o. IsWrittenAt given key.namespace key.name o.meta × Row o) mine h.1
+
+-- after
+
+-- what was told before was told
+pub after_told : (P : Object → Type 0) (Q : Entry → Type 0) (mine : List Entry) → After (ToldObject P) Q mine → ToldObject P mine
+after_told P Q [] h = absurd h
+after_told P Q (e ∷ mine) (inl h) = inr h.1
+after_told P Q (e ∷ mine) (inr h) = inr (after_told P Q mine h)
+
+-- the later entry is one of them
+pub after_tells : (P : List Entry → Type 0) (Q : Entry → Type 0) (mine : List Entry) → After P Q mine → SomeOf Q mine
+after_tells P Q [] h = h
+after_tells P Q (e ∷ mine) (inl h) = inl h.0
+after_tells P Q (e ∷ mine) (inr h) = inr (after_tells P Q mine h)
+
+abbrev pub is_get : Request → Bool
+is_get (requests.Get key) = true
+is_get request = false
+
+abbrev pub has_get : List Entry → Bool
+has_get [] = false
+has_get (e ∷ mine) = if is_get e.request then true else has_get mine
+
+-- no read was told where none was asked
+pub never_read : (key : Key) (P : Option Object → Type 0) (mine : List Entry) → has_get mine ≡ false → SomeOf (TellsLive key P) mine → ⊥
+never_read key P [] none h = h
+never_read key P (e ∷ mine) none h = by (is_get e.request) refl none h (never_read key P mine)
+  where
+    by : (b : Bool) → is_get e.request ≡ b → (if b then true else has_get mine) ≡ false → TellsLive key P e ⊎ SomeOf (TellsLive key P) mine → (has_get mine ≡ false → SomeOf (TellsLive key P) mine → ⊥) → ⊥
+    by true is none h more = true≢false none
+    by false is none (inl t) more = true≢false (sym (ap is_get t.1) ∙ is)
+    by false is none (inr h) more = more none h
+
+-- the key that a request reads
+abbrev pub key_read : Request → Option Key
+key_read (requests.Get key) = Some key
+key_read request = None
+
+pub not_get : {request : Request} {key : Key} → request ≡ requests.Get key → is_get request ≡ false → ⊥
+not_get e none = true≢false (sym (ap is_get e) ∙ none)

@@ -1,2 +1,3 @@
+pub mod BinderReleases
 pub mod BinderRows
 pub mod Samples

@@ -3,6 +3,7 @@
 //! Each is a function with nothing to do, whose contract has the examples.
 #![tactic(auto)]
 
+ghost use Rattle.model_examples.specs.BinderReleases.{LostExamples, ReleasedExamples, UnbindExamples};
 ghost use Rattle.model_examples.specs.BinderRows.{AvailableExamples, ClaimRefExamples, ClaimStatusExamples, CompletionExamples, PhaseBoundExamples};
 
 /// The first write of a binding.
@@ -33,4 +34,22 @@ pub fn claim_status_examples()
 #[tactic(auto, using(crate::proofs::BinderRows::available_examples))]
 pub fn available_examples()
     ensures { AvailableExamples }
+{}
+
+/// A volume is made Released.
+#[tactic(auto, using(crate::proofs::BinderReleases::released_examples))]
+pub fn released_examples()
+    ensures { ReleasedExamples }
+{}
+
+/// A volume is unbound.
+#[tactic(auto, using(crate::proofs::BinderReleases::unbind_examples))]
+pub fn unbind_examples()
+    ensures { UnbindExamples }
+{}
+
+/// A claim is made Lost.
+#[tactic(auto, using(crate::proofs::BinderReleases::lost_examples))]
+pub fn lost_examples()
+    ensures { LostExamples }
 {}
