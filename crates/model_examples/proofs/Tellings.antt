@@ -1,18 +1,28 @@
 -- What a literal list of entries tells, computed: so that a case can be refused by looking at each object told.
 use Rattle.std.proofs.Common.{sym, refl, ap, subst, inl, inr, true≢false, ◌∙◌}
 use Rattle.std.proofs.lemmas.List.Elements.{All-nil, All-cons}
-use Rattle.std.specs.Prelude.{ℕ, ◌≡◌, ◌⊎◌, Bool, true, false, List, [], ◌∷◌, ◌++◌, Option, Some, None, if◌then◌else◌}
+use Rattle.std.specs.Prelude.{ℕ, ◌≡◌, ◌⊎◌, Bool, true, false, List, [], ◌∷◌, ◌++◌, Option, Some, None, if◌then◌else◌, is_some, unwrap_or, nat_lt}
+use Rattle.std.specs.Ordering.{is_eq}
 use Rattle.kube_types.specs.declared.key.Key.{Key}
 use Rattle.kube_types.specs.declared.parts.Kind.TheVariants as kinds
+use Rattle.kube_types.specs.declared.objects.Class.{Class as ClassData}
+use Rattle.kube_types.specs.declared.objects.Node.{Node as NodeData}
+use Rattle.kube_types.specs.declared.objects.Pod.{Pod as PodData}
 use Rattle.kube_types.specs.declared.objects.Volume.{Volume as VolumeData}
 use Rattle.kube_types.specs.declared.objects.Claim.{Claim as ClaimData}
 use Rattle.kube_types.specs.declared.objects.Object.{Object}
 use Rattle.kube_types.specs.declared.objects.Object.TheVariants.{Class, Node, Volume, Claim, Pod}
 use Rattle.call_types.specs.declared.entry.Entry.{Entry}
+use Rattle.kube_types.specs.Keys.{meta_of, key_of, key_cmp, row_at}
+use Rattle.call_types.specs.declared.reply.Change.{Change}
+use Rattle.call_types.specs.declared.reply.Change.TheVariants as changes
+use Rattle.call_types.specs.declared.reply.Event.{Event}
+use Rattle.call_types.specs.declared.reply.Reply.{Reply}
+use Rattle.call_types.specs.declared.reply.Reply.TheVariants.{Done, Left, Listed, Events}
 use Rattle.call_types.specs.declared.request.SeatKind.{SeatKind}
 use Rattle.call_types.specs.declared.request.Request.{Request}
 use Rattle.call_types.specs.declared.request.Request.TheVariants as requests
-use Rattle.binder_model.specs.Told.{SomeOf, TellsObject, ToldObject, ToldVolume, ToldClaim, IsVolumeWith, IsClaimWith, objects_in, After, TellsLive}
+use Rattle.binder_model.specs.Told.{SomeOf, TellsObject, ToldObject, ToldVolume, ToldClaim, ToldPod, IsPodWith, IsVolumeWith, IsClaimWith, objects_in, objects_of_event, objects_of_events, After, TellsLive, Telling, presence, later, listing, of_event, told_by_events, tells_of, told_of, newest, object_of, IsNewest}
 use Rattle.binder_model.specs.At.{IsWrittenAt}
 use Rattle.binder_model.specs.Licence.{AreOfKind, AtVolume, AtClaim, AtVolumeKey, AtClaimKey}
 use Rattle.model_examples.specs.Samples.{Exchange, seat_of, entry_of}
@@ -147,3 +157,191 @@ key_read request = None
 
 pub not_get : {request : Request} {key : Key} → request ≡ requests.Get key → is_get request ≡ false → ⊥
 not_get e none = true≢false (sym (ap is_get e) ∙ none)
+
+-- the newest told
+
+abbrev pub IsIn : Object → List Object → Type 0
+IsIn o os = SomeOf (λ x. x ≡ o) os
+
+none_some : {X : Type 0} {x : X} → None ≡ Some x → ⊥
+none_some e = true≢false (sym (ap is_some e))
+
+one : {X : Type 0} (a b : X) → Some a ≡ Some b → a ≡ b
+one a b e = ap (λ o. unwrap_or o a) e
+
+later_of : (a b : Option Telling) (o : Object) → object_of (later a b) ≡ Some o → (object_of a ≡ Some o) ⊎ (object_of b ≡ Some o)
+later_of None b o e = inr e
+later_of (Some a) None o e = inl e
+later_of (Some a) (Some b) o e = by (nat_lt a.version b.version) e
+  where
+    by : (t : Bool) → object_of (if t then Some b else Some a) ≡ Some o → (object_of (Some a) ≡ Some o) ⊎ (object_of (Some b) ≡ Some o)
+    by true e = inr e
+    by false e = inl e
+
+told_if : (b : Bool) (t : Telling) (o : Object) → object_of (if b then Some t else None) ≡ Some o → t.object ≡ Some o
+told_if true t o e = e
+told_if false t o e = absurd (none_some e)
+
+event_tells : (change : Change) (p o : Object) (version : ℕ) → (of_event change p version).object ≡ Some o → IsIn o (objects_of_event change p)
+event_tells changes.Added p o version e = inl (one p o e)
+event_tells changes.Modified p o version e = inl (one p o e)
+event_tells changes.Deleted p o version e = absurd (none_some e)
+
+events_tell : (es : List Event) (key : Key) (o : Object) → object_of (told_by_events es key) ≡ Some o → IsIn o (objects_of_events es)
+events_tell [] key o e = absurd (none_some e)
+events_tell (x ∷ es) key o e = elim (later_of _ (told_by_events es key) o e) [
+  | inl here ↦ some_left (λ y. y ≡ o) (objects_of_event x.change x.object) (objects_of_events es) (event_tells x.change x.object o x.version (told_if _ (of_event x.change x.object x.version) o here))
+  | inr more ↦ some_right (λ y. y ≡ o) (objects_of_event x.change x.object) (objects_of_events es) (events_tell es key o more)
+]
+
+found_in : (key : Key) (x : Object) (xs : List Object) → row_at key xs ≡ Some x → IsIn x xs
+found_in key x [] e = absurd (none_some e)
+found_in key x (y ∷ ys) e = by (is_eq (key_cmp (key_of y) key)) refl (found_in key x ys)
+  where
+    by : (b : Bool) → is_eq (key_cmp (key_of y) key) ≡ b → (row_at key ys ≡ Some x → IsIn x ys) → IsIn x (y ∷ ys)
+    by true is more = let f : Some y ≡ Some x = rw is at e in inl (one y x f)
+    by false is more = let f : row_at key ys ≡ Some x = rw is at e in inr (more f)
+
+list_tells : (items : List Object) (key : Key) (version : ℕ) (x : Option Object) (o : Object) → row_at key items ≡ x → (listing version x).object ≡ Some o → IsIn o items
+list_tells items key version None o is e = absurd (none_some e)
+list_tells items key version (Some p) o is e = found_in key o items (is ∙ e)
+
+reply_tells : (request : Request) (reply : Reply) (key : Key) (o : Object) → object_of (tells_of request reply key) ≡ Some o → IsIn o (objects_in reply)
+reply_tells request (Done p) key o e = inl (one p o (told_if _ (presence p) o e))
+reply_tells request (Left p) key o e = absurd (none_some (told_if _ (record { version = (meta_of p).version; object = None }) o e))
+reply_tells request (Listed items version) key o e = list_tells items key version (row_at key items) o refl (told_if _ (listing version (row_at key items)) o e)
+reply_tells request (Events events) key o e = events_tell events.events key o e
+reply_tells request reply key o e = absurd (none_some e)
+
+entry_tells : (e : Entry) (key : Key) (o : Object) → object_of (told_of e key) ≡ Some o → IsIn o (heard_of e)
+entry_tells e key o is = by e.told is
+  where
+    by : (b : Bool) → object_of (if b then tells_of e.request e.reply key else None) ≡ Some o → IsIn o (if b then objects_in e.reply else [])
+    by true is = reply_tells e.request e.reply key o is
+    by false is = absurd (none_some is)
+
+-- the newest told object of a key is one that was told
+pub newest_in : (mine : List Entry) (key : Key) (o : Object) → IsNewest mine key o → IsIn o (told_objects mine)
+newest_in [] key o e = absurd (none_some e)
+newest_in (x ∷ mine) key o e = elim (later_of (told_of x key) (newest mine key) o e) [
+  | inl here ↦ some_left (λ y. y ≡ o) (heard_of x) (told_objects mine) (entry_tells x key o here)
+  | inr more ↦ some_right (λ y. y ≡ o) (heard_of x) (told_objects mine) (newest_in mine key o more)
+]
+
+-- of each kind
+
+abbrev pub classes_in : List Object → List ClassData
+classes_in [] = []
+classes_in (Class x ∷ os) = x ∷ classes_in os
+classes_in (o ∷ os) = classes_in os
+
+abbrev pub nodes_in : List Object → List NodeData
+nodes_in [] = []
+nodes_in (Node x ∷ os) = x ∷ nodes_in os
+nodes_in (o ∷ os) = nodes_in os
+
+abbrev pub pods_in : List Object → List PodData
+pods_in [] = []
+pods_in (Pod x ∷ os) = x ∷ pods_in os
+pods_in (o ∷ os) = pods_in os
+
+abbrev claim_or : ClaimData → Object → ClaimData
+claim_or x (Claim y) = y
+claim_or x o = x
+
+abbrev class_or : ClassData → Object → ClassData
+class_or x (Class y) = y
+class_or x o = x
+
+abbrev node_or : NodeData → Object → NodeData
+node_or x (Node y) = y
+node_or x o = x
+
+abbrev volume_or : VolumeData → Object → VolumeData
+volume_or x (Volume y) = y
+volume_or x o = x
+
+abbrev pod_or : PodData → Object → PodData
+pod_or x (Pod y) = y
+pod_or x o = x
+
+abbrev is_claim : Object → Bool
+is_claim (Claim x) = true
+is_claim o = false
+
+abbrev is_class : Object → Bool
+is_class (Class x) = true
+is_class o = false
+
+abbrev is_node : Object → Bool
+is_node (Node x) = true
+is_node o = false
+
+abbrev is_volume : Object → Bool
+is_volume (Volume x) = true
+is_volume o = false
+
+abbrev is_pod : Object → Bool
+is_pod (Pod x) = true
+is_pod o = false
+
+claim_in : (y : ClaimData) (os : List Object) → IsIn (Claim y) os → SomeOf (λ x. x ≡ y) (claims_in os)
+claim_in y [] h = h
+claim_in y (Claim x ∷ os) (inl e) = inl (ap (claim_or x) e)
+claim_in y (Claim x ∷ os) (inr h) = inr (claim_in y os h)
+claim_in y (o ∷ os) (inl e) = absurd (true≢false (sym (ap is_claim e)))
+claim_in y (o ∷ os) (inr h) = claim_in y os h
+
+class_in : (y : ClassData) (os : List Object) → IsIn (Class y) os → SomeOf (λ x. x ≡ y) (classes_in os)
+class_in y [] h = h
+class_in y (Class x ∷ os) (inl e) = inl (ap (class_or x) e)
+class_in y (Class x ∷ os) (inr h) = inr (class_in y os h)
+class_in y (o ∷ os) (inl e) = absurd (true≢false (sym (ap is_class e)))
+class_in y (o ∷ os) (inr h) = class_in y os h
+
+node_in : (y : NodeData) (os : List Object) → IsIn (Node y) os → SomeOf (λ x. x ≡ y) (nodes_in os)
+node_in y [] h = h
+node_in y (Node x ∷ os) (inl e) = inl (ap (node_or x) e)
+node_in y (Node x ∷ os) (inr h) = inr (node_in y os h)
+node_in y (o ∷ os) (inl e) = absurd (true≢false (sym (ap is_node e)))
+node_in y (o ∷ os) (inr h) = node_in y os h
+
+volume_in : (y : VolumeData) (os : List Object) → IsIn (Volume y) os → SomeOf (λ x. x ≡ y) (volumes_in os)
+volume_in y [] h = h
+volume_in y (Volume x ∷ os) (inl e) = inl (ap (volume_or x) e)
+volume_in y (Volume x ∷ os) (inr h) = inr (volume_in y os h)
+volume_in y (o ∷ os) (inl e) = absurd (true≢false (sym (ap is_volume e)))
+volume_in y (o ∷ os) (inr h) = volume_in y os h
+
+pod_in : (y : PodData) (os : List Object) → IsIn (Pod y) os → SomeOf (λ x. x ≡ y) (pods_in os)
+pod_in y [] h = h
+pod_in y (Pod x ∷ os) (inl e) = inl (ap (pod_or x) e)
+pod_in y (Pod x ∷ os) (inr h) = inr (pod_in y os h)
+pod_in y (o ∷ os) (inl e) = absurd (true≢false (sym (ap is_pod e)))
+pod_in y (o ∷ os) (inr h) = pod_in y os h
+
+pub newest_claim : (mine : List Entry) (key : Key) (y : ClaimData) → IsNewest mine key (Claim y) → SomeOf (λ x. x ≡ y) (claims_in (told_objects mine))
+newest_claim mine key y e = claim_in y (told_objects mine) (newest_in mine key (Claim y) e)
+
+pub newest_class : (mine : List Entry) (key : Key) (y : ClassData) → IsNewest mine key (Class y) → SomeOf (λ x. x ≡ y) (classes_in (told_objects mine))
+newest_class mine key y e = class_in y (told_objects mine) (newest_in mine key (Class y) e)
+
+pub newest_node : (mine : List Entry) (key : Key) (y : NodeData) → IsNewest mine key (Node y) → SomeOf (λ x. x ≡ y) (nodes_in (told_objects mine))
+newest_node mine key y e = node_in y (told_objects mine) (newest_in mine key (Node y) e)
+
+pub newest_volume : (mine : List Entry) (key : Key) (y : VolumeData) → IsNewest mine key (Volume y) → SomeOf (λ x. x ≡ y) (volumes_in (told_objects mine))
+newest_volume mine key y e = volume_in y (told_objects mine) (newest_in mine key (Volume y) e)
+
+pub newest_pod : (mine : List Entry) (key : Key) (y : PodData) → IsNewest mine key (Pod y) → SomeOf (λ x. x ≡ y) (pods_in (told_objects mine))
+newest_pod mine key y e = pod_in y (told_objects mine) (newest_in mine key (Pod y) e)
+
+-- each pod that was told
+some_pod : (P : PodData → Type 0) (os : List Object) → SomeOf (IsPodWith P) os → SomeOf P (pods_in os)
+some_pod P [] h = h
+some_pod P (Pod x ∷ os) (inl h) = inl h
+some_pod P (Pod x ∷ os) (inr h) = inr (some_pod P os h)
+some_pod P (o ∷ os) (inl h) = absurd h
+some_pod P (o ∷ os) (inr h) = some_pod P os h
+
+pub told_pods : (P : PodData → Type 0) (mine : List Entry) → ToldPod P mine → SomeOf P (pods_in (told_objects mine))
+told_pods P mine h = some_pod P (told_objects mine) (told_some (IsPodWith P) mine h)

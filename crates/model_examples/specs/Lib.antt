@@ -1,3 +1,5 @@
 pub mod BinderReleases
 pub mod BinderRows
+pub mod OpsRows
+
 pub mod Samples

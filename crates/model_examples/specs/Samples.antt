@@ -15,13 +15,15 @@ use Rattle.kube_types.specs.declared.parts.ClaimPhase.TheVariants as claims
 use Rattle.kube_types.specs.declared.objects.Amount.{Amount}
 use Rattle.kube_types.specs.declared.objects.Meta.{Meta}
 use Rattle.kube_types.specs.declared.objects.Ref.{Ref}
+use Rattle.kube_types.specs.declared.objects.Class.{Class as ClassData}
+use Rattle.kube_types.specs.declared.objects.Node.{Node as NodeData}
 use Rattle.kube_types.specs.declared.objects.Volume.{Volume as VolumeData}
 use Rattle.kube_types.specs.declared.objects.Claim.{Claim as ClaimData}
 use Rattle.kube_types.specs.declared.objects.Object.{Object}
 use Rattle.kube_types.specs.declared.objects.Object.TheVariants.{Class, Node, Volume, Claim, Pod}
 use Rattle.kube_types.specs.Keys.{meta_of}
 use Rattle.kube_types.specs.Uids.{uid_of_serial}
-use Rattle.kube_types.specs.Bindings.{bind_completed, bound_by_controller, pv_protection, pvc_protection, yes}
+use Rattle.kube_types.specs.Bindings.{bind_completed, bound_by_controller, selected_node, pv_protection, pvc_protection, yes}
 use Rattle.call_types.specs.declared.entry.Entry.{Entry}
 use Rattle.call_types.specs.declared.request.SeatKind.{SeatKind}
 use Rattle.call_types.specs.declared.request.Request.{Request}
@@ -57,6 +59,12 @@ tells_volume v = lists kinds.PersistentVolume (Volume v ∷ []) v.meta.version
 
 abbrev pub tells_claim : ClaimData → Exchange
 tells_claim c = lists kinds.PersistentVolumeClaim (Claim c ∷ []) c.meta.version
+
+abbrev pub tells_class : ClassData → Exchange
+tells_class x = lists kinds.StorageClass (Class x ∷ []) x.meta.version
+
+abbrev pub tells_node : NodeData → Exchange
+tells_node n = lists kinds.Node (Node n ∷ []) n.meta.version
 
 -- first the volume was told, then the claim
 abbrev pub tells_both : ClaimData → VolumeData → List Exchange
@@ -198,3 +206,24 @@ completed_c = record c { meta = record c.meta { version = 6; annotations = (bind
 
 abbrev pub bound_c : ClaimData
 bound_c = record completed_c { meta = record completed_c.meta { version = 7 }; phase = claims.Bound; got_modes = once; got = Some (amount 5) }
+
+-- a class that provisions at once, and one that waits for the first pod; a node
+
+abbrev pub fast : ClassData
+fast = record { meta = standing [] (codes "slow") 4 1 [] []; provisioner = codes "x/y"; policy = policies.Delete; delayed = false; parameters = []; extra = [] }
+
+abbrev pub late : ClassData
+late = record fast { delayed = true }
+
+abbrev pub zone : List Pair
+zone = (codes "zone", codes "z1") ∷ []
+
+abbrev pub n1 : NodeData
+n1 = record { meta = record (standing [] (codes "n1") 5 1 [] []) { labels = zone }; extra = [] }
+
+-- the claim with the node that the scheduler chose
+abbrev pub chosen_c : ClaimData
+chosen_c = record c { meta = record c.meta { annotations = (selected_node, codes "n1") ∷ [] } }
+
+abbrev pub deleting : Meta → Meta
+deleting m = record m { deleted = Some first_moment }

@@ -5,6 +5,7 @@
 
 ghost use Rattle.model_examples.specs.BinderReleases.{LostExamples, ReleasedExamples, UnbindExamples};
 ghost use Rattle.model_examples.specs.BinderRows.{AvailableExamples, ClaimRefExamples, ClaimStatusExamples, CompletionExamples, PhaseBoundExamples};
+ghost use Rattle.model_examples.specs.OpsRows.{CreateVolumeExamples, ProvisionExamples};
 
 /// The first write of a binding.
 #[tactic(auto, using(crate::proofs::BinderRows::claim_ref_examples))]
@@ -52,4 +53,16 @@ pub fn unbind_examples()
 #[tactic(auto, using(crate::proofs::BinderReleases::lost_examples))]
 pub fn lost_examples()
     ensures { LostExamples }
+{}
+
+/// Data are asked for a claim.
+#[tactic(auto, using(crate::proofs::OpsRows::provision_examples))]
+pub fn provision_examples()
+    ensures { ProvisionExamples }
+{}
+
+/// A volume is made over data that were given.
+#[tactic(auto, using(crate::proofs::OpsRows::create_volume_examples))]
+pub fn create_volume_examples()
+    ensures { CreateVolumeExamples }
 {}
