@@ -51,7 +51,7 @@ nine_fits = omega arith
 two_fits : uid_c.0 < 2 ^ 128
 two_fits = omega arith
 
-names_apart : data_name (uid_of_serial 9) ≡ data_name uid_c → ⊥
+pub names_apart : data_name (uid_of_serial 9) ≡ data_name uid_c → ⊥
 names_apart e =
     let texts : uid_text (uid_of_serial 9) ≡ uid_text uid_c = ap (λ n. rest (rest (rest (rest n)))) e in
     differ (λ u. is_uid u (uid_of_serial 9)) (sym (reads_back (uid_of_serial 9) nine_fits) ∙ ap uid_of_text texts ∙ reads_back uid_c two_fits) refl refl

@@ -1,5 +1,6 @@
 pub mod BinderReleases
 pub mod BinderRows
 pub mod OpsRows
-
+pub mod Reclaiming
 pub mod Samples
+pub mod SchedulerRows

@@ -6,6 +6,8 @@
 ghost use Rattle.model_examples.specs.BinderReleases.{LostExamples, ReleasedExamples, UnbindExamples};
 ghost use Rattle.model_examples.specs.BinderRows.{AvailableExamples, ClaimRefExamples, ClaimStatusExamples, CompletionExamples, PhaseBoundExamples};
 ghost use Rattle.model_examples.specs.OpsRows.{CreateVolumeExamples, ProvisionExamples};
+ghost use Rattle.model_examples.specs.Reclaiming.{ClearNodeExamples, DeleteVolumeExamples, EraseExamples, FailedExamples};
+ghost use Rattle.model_examples.specs.SchedulerRows.{SchedulerClaimRefExamples, SelectNodeExamples};
 
 /// The first write of a binding.
 #[tactic(auto, using(crate::proofs::BinderRows::claim_ref_examples))]
@@ -65,4 +67,40 @@ pub fn provision_examples()
 #[tactic(auto, using(crate::proofs::OpsRows::create_volume_examples))]
 pub fn create_volume_examples()
     ensures { CreateVolumeExamples }
+{}
+
+/// Data are erased.
+#[tactic(auto, using(crate::proofs::Reclaiming::erase_examples))]
+pub fn erase_examples()
+    ensures { EraseExamples }
+{}
+
+/// A volume is made Failed.
+#[tactic(auto, using(crate::proofs::Reclaiming::failed_examples))]
+pub fn failed_examples()
+    ensures { FailedExamples }
+{}
+
+/// A volume is deleted after its data.
+#[tactic(auto, using(crate::proofs::Reclaiming::delete_volume_examples))]
+pub fn delete_volume_examples()
+    ensures { DeleteVolumeExamples }
+{}
+
+/// The node that was chosen for a claim is cleared.
+#[tactic(auto, using(crate::proofs::Reclaiming::clear_node_examples))]
+pub fn clear_node_examples()
+    ensures { ClearNodeExamples }
+{}
+
+/// The scheduler takes a volume for a claim.
+#[tactic(auto, using(crate::proofs::SchedulerRows::scheduler_claim_ref_examples))]
+pub fn scheduler_claim_ref_examples()
+    ensures { SchedulerClaimRefExamples }
+{}
+
+/// The scheduler chooses a node for a claim.
+#[tactic(auto, using(crate::proofs::SchedulerRows::select_node_examples))]
+pub fn select_node_examples()
+    ensures { SelectNodeExamples }
 {}
