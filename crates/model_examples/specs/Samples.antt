@@ -17,6 +17,7 @@ use Rattle.kube_types.specs.declared.objects.Meta.{Meta}
 use Rattle.kube_types.specs.declared.objects.Ref.{Ref}
 use Rattle.kube_types.specs.declared.objects.Class.{Class as ClassData}
 use Rattle.kube_types.specs.declared.objects.Node.{Node as NodeData}
+use Rattle.kube_types.specs.declared.objects.Pod.{Pod as PodData}
 use Rattle.kube_types.specs.declared.objects.Volume.{Volume as VolumeData}
 use Rattle.kube_types.specs.declared.objects.Claim.{Claim as ClaimData}
 use Rattle.kube_types.specs.declared.objects.Object.{Object}
@@ -65,6 +66,13 @@ tells_class x = lists kinds.StorageClass (Class x ∷ []) x.meta.version
 
 abbrev pub tells_node : NodeData → Exchange
 tells_node n = lists kinds.Node (Node n ∷ []) n.meta.version
+
+abbrev pub tells_pod : PodData → Exchange
+tells_pod p = lists kinds.Pod (Pod p ∷ []) p.meta.version
+
+-- the pods of a namespace
+abbrev pub lists_in : List ℕ → List Object → ℕ → Exchange
+lists_in namespace items version = heard (requests.List kinds.Pod (Some namespace)) (replies.Listed items version)
 
 -- first the volume was told, then the claim
 abbrev pub tells_both : ClaimData → VolumeData → List Exchange
@@ -227,3 +235,16 @@ chosen_c = record c { meta = record c.meta { annotations = (selected_node, codes
 
 abbrev pub deleting : Meta → Meta
 deleting m = record m { deleted = Some first_moment }
+
+-- a pod that runs on the node and uses the claim; the same before it was given a node, and as it is to go
+abbrev pub p : PodData
+p = record { meta = standing (codes "default") (codes "p") 9 9 [] []; claims = codes "c" ∷ []; node = codes "n1"; extra = [] }
+
+abbrev pub waiting_p : PodData
+waiting_p = record p { node = [] }
+
+abbrev pub ending_p : PodData
+ending_p = record p { meta = deleting (record p.meta { version = 10 }) }
+
+abbrev pub uid_p : Uid
+uid_p = uid_of_serial 9

@@ -6,6 +6,7 @@
 ghost use Rattle.model_examples.specs.BinderReleases.{LostExamples, ReleasedExamples, UnbindExamples};
 ghost use Rattle.model_examples.specs.BinderRows.{AvailableExamples, ClaimRefExamples, ClaimStatusExamples, CompletionExamples, PhaseBoundExamples};
 ghost use Rattle.model_examples.specs.OpsRows.{CreateVolumeExamples, ProvisionExamples};
+ghost use Rattle.model_examples.specs.ProtectionRows.{AddClaimGuardExamples, AddVolumeGuardExamples, DropClaimGuardExamples, DropVolumeGuardExamples};
 ghost use Rattle.model_examples.specs.Reclaiming.{ClearNodeExamples, DeleteVolumeExamples, EraseExamples, FailedExamples};
 ghost use Rattle.model_examples.specs.SchedulerRows.{SchedulerClaimRefExamples, SelectNodeExamples};
 
@@ -103,4 +104,28 @@ pub fn scheduler_claim_ref_examples()
 #[tactic(auto, using(crate::proofs::SchedulerRows::select_node_examples))]
 pub fn select_node_examples()
     ensures { SelectNodeExamples }
+{}
+
+/// A volume gets its protection finalizer.
+#[tactic(auto, using(crate::proofs::ProtectionRows::add_volume_guard_examples))]
+pub fn add_volume_guard_examples()
+    ensures { AddVolumeGuardExamples }
+{}
+
+/// A claim gets its protection finalizer.
+#[tactic(auto, using(crate::proofs::ProtectionRows::add_claim_guard_examples))]
+pub fn add_claim_guard_examples()
+    ensures { AddClaimGuardExamples }
+{}
+
+/// A volume's protection finalizer is dropped.
+#[tactic(auto, using(crate::proofs::ProtectionRows::drop_volume_guard_examples))]
+pub fn drop_volume_guard_examples()
+    ensures { DropVolumeGuardExamples }
+{}
+
+/// A claim's protection finalizer is dropped.
+#[tactic(auto, using(crate::proofs::ProtectionRows::drop_claim_guard_examples))]
+pub fn drop_claim_guard_examples()
+    ensures { DropClaimGuardExamples }
 {}
