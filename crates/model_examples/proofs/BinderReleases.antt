@@ -16,7 +16,8 @@ use Rattle.kube_types.specs.Bindings.{is_empty, is_uid, ref_uid}
 use Rattle.call_types.specs.declared.entry.Entry.{Entry}
 use Rattle.call_types.specs.declared.request.SeatKind.TheVariants as seats
 use Rattle.binder_model.specs.At.{IsWrittenAt, IsElsewhere, IsSameObject}
-use Rattle.binder_model.specs.BindWrites.{unbound_volume, volume_key, claim_key}
+use Rattle.binder_model.specs.ObjectKeys.{volume_key, claim_key}
+use Rattle.binder_model.specs.BindWrites.{unbound_volume}
 use Rattle.binder_model.specs.BinderDue.{is_reclaimed}
 use Rattle.binder_model.specs.Told.{SomeOf, ToldVolume, ToldClaim, After, TellsLive}
 use Rattle.binder_model.specs.BinderLicence.{MayRelease, WasReadGone, IsReferring, IsGone, MayUnbind, MayLose, WasReadLost, IsNotCarrying, IsCompletedVersion}

@@ -15,7 +15,8 @@ use Rattle.kube_types.specs.Bindings.{is_delete, is_empty, is_completed, has_key
 use Rattle.call_types.specs.declared.entry.Entry.{Entry}
 use Rattle.call_types.specs.declared.request.SeatKind.TheVariants as seats
 use Rattle.binder_model.specs.At.{IsWrittenAt}
-use Rattle.binder_model.specs.BindWrites.{taken_for, completed_with, unbound_volume, volume_key, claim_key}
+use Rattle.binder_model.specs.ObjectKeys.{volume_key, claim_key}
+use Rattle.binder_model.specs.BindWrites.{taken_for, completed_with, unbound_volume}
 use Rattle.binder_model.specs.Told.{SomeOf, ToldVolume, ToldClaim}
 use Rattle.binder_model.specs.BinderLicence.{MayTake, IsTaken, MayBind, IsHere, MayComplete, IsBoundFor, MayShow, IsShown, MayFree}
 use Rattle.binder_model.specs.Licence.{Licensed, AtVolume, AtClaim, AtVolumeKey, AtClaimKey}

@@ -18,9 +18,7 @@ use Rattle.kube_types.specs.Uids.{uid_of_serial}
 use Rattle.kube_types.specs.Bindings.{selected_node, class_of_claim, is_uid, no_provisioner, is_delete, provisioned_by}
 use Rattle.call_types.specs.declared.entry.Entry.{Entry}
 use Rattle.call_types.specs.declared.request.SeatKind.TheVariants as seats
-use Rattle.binder_model.specs.Store.{node_key}
-use Rattle.binder_model.specs.Matching.{class_key}
-use Rattle.binder_model.specs.BindWrites.{claim_key}
+use Rattle.binder_model.specs.ObjectKeys.{node_key, class_key, claim_key}
 use Rattle.binder_model.specs.At.{HasUid}
 use Rattle.binder_model.specs.Provisioning.{data_name, provisioned_volume, is_wanting, provisions, terms_for}
 use Rattle.binder_model.specs.Told.{SomeOf, ToldClaim, After, IsNewest}

@@ -17,11 +17,11 @@ use Rattle.call_types.specs.declared.request.SeatKind.TheVariants as seats
 use Rattle.call_types.specs.declared.request.Request.TheVariants as requests
 use Rattle.call_types.specs.declared.reply.Refusal.TheVariants as refusals
 use Rattle.call_types.specs.declared.reply.Reply.TheVariants as replies
-use Rattle.binder_model.specs.Store.{node_key}
+use Rattle.binder_model.specs.ObjectKeys.{node_key}
 use Rattle.binder_model.specs.At.{IsWrittenAt}
 use Rattle.binder_model.specs.Provisioning.{data_name}
-use Rattle.binder_model.specs.Told.{SomeOf, ToldVolume, ToldClaim, After, IsNewestAbsent}
-use Rattle.binder_model.specs.OpsLicence.{MayErase, IsToErase, last_found, MayFail, IsThisVolume, TellsEraseFailed, MayDelete, IsEndedOver, TellsErased, MayClearNode, IsThisClaim, TellsExhausted, IsUnserved}
+use Rattle.binder_model.specs.Told.{SomeOf, ToldVolume, ToldClaim, After, IsNewestAbsent, last_found}
+use Rattle.binder_model.specs.OpsLicence.{MayErase, IsToErase, MayFail, IsThisVolume, TellsEraseFailed, MayDelete, IsEndedOver, TellsErased, MayClearNode, IsThisClaim, TellsExhausted, IsUnserved}
 use Rattle.binder_model.specs.Licence.{AtVolumeKey, AtClaim}
 use Rattle.model_examples.specs.Samples.{Exchange, heard, amount, entry_of, seat_of, unheard, lists, tells_volume, tells_claim, tells_node, finds, finds_none, a, c, key_a, uid_c, n1, chosen_c, volume_at, claim_at, with_uid}
 use Rattle.model_examples.specs.Reclaiming.{EraseExamples, ended_a, id_a, id_b, kept_a, still_bound_a, never_bound_a, deleting_a, failed_a, FailedExamples, erases, faults, DeleteVolumeExamples, done, uid_a, elsewhere_a, ClearNodeExamples, exhausts, exhausted, cleared_c, completed_on_node, completed_cleared, chosen_without_uid, later_chosen_c}

@@ -13,8 +13,7 @@ use Rattle.kube_types.specs.Keys.{meta_of}
 use Rattle.kube_types.specs.Bindings.{selected_node, class_of_claim, is_empty}
 use Rattle.call_types.specs.declared.entry.Entry.{Entry}
 use Rattle.call_types.specs.declared.request.SeatKind.TheVariants as seats
-use Rattle.binder_model.specs.Store.{node_key}
-use Rattle.binder_model.specs.Matching.{class_key}
+use Rattle.binder_model.specs.ObjectKeys.{node_key, class_key}
 use Rattle.binder_model.specs.At.{IsWrittenAt}
 use Rattle.binder_model.specs.BindWrites.{taken_for, unbound_volume}
 use Rattle.binder_model.specs.Told.{SomeOf, IsNewest}

@@ -1,6 +1,5 @@
 -- What a literal list of entries tells, computed: so that a case can be refused by looking at each object told.
 use Rattle.std.proofs.Common.{sym, refl, ap, subst, inl, inr, true≢false, ◌∙◌}
-use Rattle.std.proofs.lemmas.List.Elements.{All-nil, All-cons}
 use Rattle.std.specs.Prelude.{ℕ, ◌≡◌, ◌⊎◌, Bool, true, false, List, [], ◌∷◌, ◌++◌, Option, Some, None, if◌then◌else◌, is_some, unwrap_or, nat_lt}
 use Rattle.std.specs.Ordering.{is_eq}
 use Rattle.kube_types.specs.declared.key.Key.{Key}
@@ -41,8 +40,8 @@ sole (inr h) = absurd h
 
 -- each entry has the seat's kind
 pub own_kind : (kind : SeatKind) (xs : List Exchange) → AreOfKind kind (seat_of kind xs)
-own_kind kind [] = All-nil (λ e. e.kind ≡ kind)
-own_kind kind (x ∷ xs) = All-cons (λ e. e.kind ≡ kind) (entry_of kind x) (seat_of kind xs) refl (own_kind kind xs)
+own_kind kind [] = tt
+own_kind kind (x ∷ xs) = (refl, own_kind kind xs)
 
 -- the objects that were told
 

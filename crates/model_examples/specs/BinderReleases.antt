@@ -18,7 +18,8 @@ use Rattle.call_types.specs.declared.request.NewStatus.TheVariants as statuses
 use Rattle.call_types.specs.declared.request.SeatKind.TheVariants as seats
 use Rattle.call_types.specs.declared.request.Request.{Request}
 use Rattle.call_types.specs.declared.request.Request.TheVariants as requests
-use Rattle.binder_model.specs.BindWrites.{claim_key, volume_key, unbound_volume, write_unbound}
+use Rattle.binder_model.specs.ObjectKeys.{claim_key, volume_key}
+use Rattle.binder_model.specs.BindWrites.{unbound_volume, write_unbound}
 use Rattle.model_examples.specs.Samples.{Allows, Refuses, Exchange, unheard, lists, tells_volume, tells_claim, tells_both, finds, finds_none, once, amount, a, c, other_c, in_phase, with_reference, with_uid, naming, key_a, key_c, name_c, ref_c, other_ref_c, taken_a, bound_a, completed_c, bound_c}
 
 -- Released

@@ -19,7 +19,8 @@ use Rattle.call_types.specs.declared.request.SeatKind.TheVariants as seats
 use Rattle.call_types.specs.declared.request.Request.{Request}
 use Rattle.call_types.specs.declared.request.Request.TheVariants as requests
 use Rattle.binder_model.specs.Store.{no_modes}
-use Rattle.binder_model.specs.BindWrites.{claim_key, volume_key, taken_for, completed_with, unbound_volume, write_reference, write_bound, write_completion, write_claim_status, write_available, write_unbound}
+use Rattle.binder_model.specs.ObjectKeys.{claim_key, volume_key}
+use Rattle.binder_model.specs.BindWrites.{taken_for, completed_with, unbound_volume, write_reference, write_bound, write_completion, write_claim_status, write_available, write_unbound}
 use Rattle.model_examples.specs.Samples.{Allows, Refuses, Exchange, heard, unheard, lists, tells_volume, tells_claim, tells_both, finds, finds_none, once, amount, a, c, d, other_c, volume_at, in_phase, with_reference, claim_at, with_uid, naming, key_a, key_c, uid_c, name_c, ref_c, other_ref_c, taken_a, bound_a, released_a, completed_c, bound_c}
 
 -- ClaimRef: the first write of a binding

@@ -21,7 +21,7 @@ use Rattle.call_types.specs.declared.request.Request.TheVariants as requests
 use Rattle.call_types.specs.declared.reply.Refusal.TheVariants as refusals
 use Rattle.call_types.specs.declared.reply.Reply.{Reply}
 use Rattle.call_types.specs.declared.reply.Reply.TheVariants as replies
-use Rattle.binder_model.specs.BindWrites.{claim_key, volume_key}
+use Rattle.binder_model.specs.ObjectKeys.{claim_key, volume_key}
 use Rattle.binder_model.specs.Provisioning.{data_name}
 use Rattle.model_examples.specs.Samples.{Allows, Refuses, Exchange, heard, unheard, lists, tells_volume, tells_claim, tells_node, finds, finds_none, amount, a, c, in_phase, volume_at, claim_at, with_reference, with_uid, key_a, key_c, uid_c, name_c, bound_a, released_a, n1, chosen_c, deleting}
 

@@ -32,9 +32,9 @@ use Rattle.call_types.specs.declared.request.Request.TheVariants as requests
 use Rattle.call_types.specs.declared.reply.Refusal.TheVariants as refusals
 use Rattle.call_types.specs.declared.reply.Reply.{Reply}
 use Rattle.call_types.specs.declared.reply.Reply.TheVariants as replies
-use Rattle.binder_model.specs.Store.{no_modes}
-use Rattle.binder_model.specs.World.{first_moment}
-use Rattle.binder_model.specs.BindWrites.{ref_to, claim_key, volume_key}
+use Rattle.binder_model.specs.Store.{no_modes, first_moment}
+use Rattle.binder_model.specs.ObjectKeys.{claim_key, volume_key}
+use Rattle.binder_model.specs.BindWrites.{ref_to}
 use Rattle.binder_model.specs.Licence.{Licensed}
 
 -- what a seat asked and was answered
