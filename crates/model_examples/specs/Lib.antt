@@ -1,5 +1,7 @@
+pub mod AgentRows
 pub mod BinderReleases
 pub mod BinderRows
+pub mod Mounting
 pub mod OpsRows
 pub mod ProtectionRows
 pub mod Reclaiming

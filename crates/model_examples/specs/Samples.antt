@@ -1,6 +1,6 @@
 -- Sample objects, and what a seat asked and was answered, for the computed examples. A choice of this project.
 -- Lists of entries stand newest first.
-use Rattle.std.specs.Prelude.{ℕ, ◌*◌, ◌^◌, Bool, true, false, List, [], ◌∷◌, Option, Some, None, codes}
+use Rattle.std.specs.Prelude.{ℕ, ◌-◌, ◌*◌, ◌^◌, Bool, true, false, List, [], ◌∷◌, Option, Some, None, codes}
 use Rattle.plain_data.specs.Pairs.{Pair}
 use Rattle.kube_types.specs.declared.uid.Uid.{Uid}
 use Rattle.kube_types.specs.declared.key.Key.{Key}
@@ -29,6 +29,7 @@ use Rattle.call_types.specs.declared.entry.Entry.{Entry}
 use Rattle.call_types.specs.declared.request.SeatKind.{SeatKind}
 use Rattle.call_types.specs.declared.request.Request.{Request}
 use Rattle.call_types.specs.declared.request.Request.TheVariants as requests
+use Rattle.call_types.specs.declared.reply.Change.{Change}
 use Rattle.call_types.specs.declared.reply.Refusal.TheVariants as refusals
 use Rattle.call_types.specs.declared.reply.Reply.{Reply}
 use Rattle.call_types.specs.declared.reply.Reply.TheVariants as replies
@@ -248,3 +249,17 @@ ending_p = record p { meta = deleting (record p.meta { version = 10 }) }
 
 abbrev pub uid_p : Uid
 uid_p = uid_of_serial 9
+
+-- what an agent is answered
+abbrev pub takes : List ℕ → ℕ → Exchange
+takes node epoch = heard (requests.TakeNode node) (replies.Epoch epoch)
+
+abbrev pub node_1 : List ℕ
+node_1 = codes "n1"
+
+abbrev pub node_2 : List ℕ
+node_2 = codes "n2"
+
+-- a watch that tells a change of one object
+abbrev pub watches : Kind → Change → Object → ℕ → Exchange
+watches kind change o version = heard (requests.Watch kind (version - 1)) (replies.Events (record { events = record { change = change; object = o; version = version } ∷ []; upto = version }))

@@ -3,8 +3,10 @@
 //! Each is a function with nothing to do, whose contract has the examples.
 #![tactic(auto)]
 
+ghost use Rattle.model_examples.specs.AgentRows.{FinishPodExamples, MountsExamples, UnmountExamples};
 ghost use Rattle.model_examples.specs.BinderReleases.{LostExamples, ReleasedExamples, UnbindExamples};
 ghost use Rattle.model_examples.specs.BinderRows.{AvailableExamples, ClaimRefExamples, ClaimStatusExamples, CompletionExamples, PhaseBoundExamples};
+ghost use Rattle.model_examples.specs.Mounting.{MountExamples, MountOrderExamples};
 ghost use Rattle.model_examples.specs.OpsRows.{CreateVolumeExamples, ProvisionExamples};
 ghost use Rattle.model_examples.specs.ProtectionRows.{AddClaimGuardExamples, AddVolumeGuardExamples, DropClaimGuardExamples, DropVolumeGuardExamples};
 ghost use Rattle.model_examples.specs.Reclaiming.{ClearNodeExamples, DeleteVolumeExamples, EraseExamples, FailedExamples};
@@ -128,4 +130,34 @@ pub fn drop_volume_guard_examples()
 #[tactic(auto, using(crate::proofs::ProtectionRows::drop_claim_guard_examples))]
 pub fn drop_claim_guard_examples()
     ensures { DropClaimGuardExamples }
+{}
+
+/// The mounts of a node are read.
+#[tactic(auto, using(crate::proofs::AgentRows::mounts_examples))]
+pub fn mounts_examples()
+    ensures { MountsExamples }
+{}
+
+/// A pod is unmounted.
+#[tactic(auto, using(crate::proofs::AgentRows::unmount_examples))]
+pub fn unmount_examples()
+    ensures { UnmountExamples }
+{}
+
+/// A pod is finished.
+#[tactic(auto, using(crate::proofs::AgentRows::finish_pod_examples))]
+pub fn finish_pod_examples()
+    ensures { FinishPodExamples }
+{}
+
+/// What an agent is told before it mounts, and in which order.
+#[tactic(auto, using(crate::proofs::Mounting::mount_order_examples))]
+pub fn mount_order_examples()
+    ensures { MountOrderExamples }
+{}
+
+/// What an agent reads before it mounts.
+#[tactic(auto, using(crate::proofs::Mounting::mount_examples))]
+pub fn mount_examples()
+    ensures { MountExamples }
 {}
