@@ -344,3 +344,33 @@ some_pod P (o ∷ os) (inr h) = some_pod P os h
 
 pub told_pods : (P : PodData → Type 0) (mine : List Entry) → ToldPod P mine → SomeOf P (pods_in (told_objects mine))
 told_pods P mine h = some_pod P (told_objects mine) (told_some (IsPodWith P) mine h)
+
+-- two objects that are the newest told of one key
+
+abbrev pod_of : PodData → Option Object → PodData
+pod_of x None = x
+pod_of x (Some o) = pod_or x o
+
+abbrev node_of : NodeData → Option Object → NodeData
+node_of x None = x
+node_of x (Some o) = node_or x o
+
+abbrev claim_of : ClaimData → Option Object → ClaimData
+claim_of x None = x
+claim_of x (Some o) = claim_or x o
+
+abbrev volume_of : VolumeData → Option Object → VolumeData
+volume_of x None = x
+volume_of x (Some o) = volume_or x o
+
+pub same_pod : (mine : List Entry) (key : Key) (x y : PodData) → IsNewest mine key (Pod x) → IsNewest mine key (Pod y) → x ≡ y
+same_pod mine key x y e f = ap (pod_of x) (sym e ∙ f)
+
+pub same_node : (mine : List Entry) (key : Key) (x y : NodeData) → IsNewest mine key (Node x) → IsNewest mine key (Node y) → x ≡ y
+same_node mine key x y e f = ap (node_of x) (sym e ∙ f)
+
+pub same_claim : (mine : List Entry) (key : Key) (x y : ClaimData) → IsNewest mine key (Claim x) → IsNewest mine key (Claim y) → x ≡ y
+same_claim mine key x y e f = ap (claim_of x) (sym e ∙ f)
+
+pub same_volume : (mine : List Entry) (key : Key) (x y : VolumeData) → IsNewest mine key (Volume x) → IsNewest mine key (Volume y) → x ≡ y
+same_volume mine key x y e f = ap (volume_of x) (sym e ∙ f)

@@ -10,7 +10,7 @@ ghost use Rattle.model_examples.specs.Mounting.{MountExamples, MountOrderExample
 ghost use Rattle.model_examples.specs.OpsRows.{CreateVolumeExamples, ProvisionExamples};
 ghost use Rattle.model_examples.specs.ProtectionRows.{AddClaimGuardExamples, AddVolumeGuardExamples, DropClaimGuardExamples, DropVolumeGuardExamples};
 ghost use Rattle.model_examples.specs.Reclaiming.{ClearNodeExamples, DeleteVolumeExamples, EraseExamples, FailedExamples};
-ghost use Rattle.model_examples.specs.SchedulerRows.{SchedulerClaimRefExamples, SelectNodeExamples};
+ghost use Rattle.model_examples.specs.SchedulerRows.{BindPodExamples, SchedulerClaimRefExamples, SelectNodeExamples};
 
 /// The first write of a binding.
 #[tactic(auto, using(crate::proofs::BinderRows::claim_ref_examples))]
@@ -160,4 +160,10 @@ pub fn mount_order_examples()
 #[tactic(auto, using(crate::proofs::Mounting::mount_examples))]
 pub fn mount_examples()
     ensures { MountExamples }
+{}
+
+/// A pod is bound to a node.
+#[tactic(auto, using(crate::proofs::SchedulerRows::bind_pod_examples))]
+pub fn bind_pod_examples()
+    ensures { BindPodExamples }
 {}
