@@ -4,6 +4,7 @@ pub mod BinderRows
 pub mod Mounting
 pub mod OpsRows
 pub mod ProtectionRows
+pub mod ReadingRows
 pub mod Reclaiming
 pub mod Samples
 pub mod SchedulerRows

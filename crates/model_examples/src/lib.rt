@@ -9,6 +9,7 @@ ghost use Rattle.model_examples.specs.BinderRows.{AvailableExamples, ClaimRefExa
 ghost use Rattle.model_examples.specs.Mounting.{MountExamples, MountOrderExamples};
 ghost use Rattle.model_examples.specs.OpsRows.{CreateVolumeExamples, ProvisionExamples};
 ghost use Rattle.model_examples.specs.ProtectionRows.{AddClaimGuardExamples, AddVolumeGuardExamples, DropClaimGuardExamples, DropVolumeGuardExamples};
+ghost use Rattle.model_examples.specs.ReadingRows.{AgentGetExamples, BinderGetExamples, FollowsExamples, ListExamples, OpsGetExamples, OtherGetExamples, WatchExamples};
 ghost use Rattle.model_examples.specs.Reclaiming.{ClearNodeExamples, DeleteVolumeExamples, EraseExamples, FailedExamples};
 ghost use Rattle.model_examples.specs.SchedulerRows.{BindPodExamples, SchedulerClaimRefExamples, SelectNodeExamples};
 
@@ -166,4 +167,46 @@ pub fn mount_examples()
 #[tactic(auto, using(crate::proofs::SchedulerRows::bind_pod_examples))]
 pub fn bind_pod_examples()
     ensures { BindPodExamples }
+{}
+
+/// The kinds that each controller lists.
+#[tactic(auto, using(crate::proofs::ReadingRows::follows_examples))]
+pub fn follows_examples()
+    ensures { FollowsExamples }
+{}
+
+/// When a kind is listed again, and the pods of a namespace.
+#[tactic(auto, using(crate::proofs::ReadingRows::list_examples))]
+pub fn list_examples()
+    ensures { ListExamples }
+{}
+
+/// The versions from which a controller watches.
+#[tactic(auto, using(crate::proofs::ReadingRows::watch_examples))]
+pub fn watch_examples()
+    ensures { WatchExamples }
+{}
+
+/// The binder's reads of single objects.
+#[tactic(auto, using(crate::proofs::ReadingRows::binder_get_examples))]
+pub fn binder_get_examples()
+    ensures { BinderGetExamples }
+{}
+
+/// The reads of ops.
+#[tactic(auto, using(crate::proofs::ReadingRows::ops_get_examples))]
+pub fn ops_get_examples()
+    ensures { OpsGetExamples }
+{}
+
+/// The agent's reads.
+#[tactic(auto, using(crate::proofs::ReadingRows::agent_get_examples))]
+pub fn agent_get_examples()
+    ensures { AgentGetExamples }
+{}
+
+/// The other controllers read nothing by itself.
+#[tactic(auto, using(crate::proofs::ReadingRows::other_get_examples))]
+pub fn other_get_examples()
+    ensures { OtherGetExamples }
 {}
