@@ -6,5 +6,6 @@ pub mod OpsRows
 pub mod ProtectionRows
 pub mod ReadingRows
 pub mod Reclaiming
+pub mod Refusals
 pub mod Samples
 pub mod SchedulerRows

@@ -11,6 +11,7 @@ ghost use Rattle.model_examples.specs.OpsRows.{CreateVolumeExamples, ProvisionEx
 ghost use Rattle.model_examples.specs.ProtectionRows.{AddClaimGuardExamples, AddVolumeGuardExamples, DropClaimGuardExamples, DropVolumeGuardExamples};
 ghost use Rattle.model_examples.specs.ReadingRows.{AgentGetExamples, BinderGetExamples, FollowsExamples, ListExamples, OpsGetExamples, OtherGetExamples, WatchExamples};
 ghost use Rattle.model_examples.specs.Reclaiming.{ClearNodeExamples, DeleteVolumeExamples, EraseExamples, FailedExamples};
+ghost use Rattle.model_examples.specs.Refusals.{NoRowExamples, RefusingRuleExamples, RulesOfRows, TwoKindsExamples};
 ghost use Rattle.model_examples.specs.SchedulerRows.{BindPodExamples, SchedulerClaimRefExamples, SelectNodeExamples};
 
 /// The first write of a binding.
@@ -209,4 +210,28 @@ pub fn agent_get_examples()
 #[tactic(auto, using(crate::proofs::ReadingRows::other_get_examples))]
 pub fn other_get_examples()
     ensures { OtherGetExamples }
+{}
+
+/// A seat keeps its kind.
+#[tactic(auto, using(crate::proofs::Refusals::two_kinds_examples))]
+pub fn two_kinds_examples()
+    ensures { TwoKindsExamples }
+{}
+
+/// Requests that no row allows.
+#[tactic(auto, using(crate::proofs::Refusals::no_row_examples))]
+pub fn no_row_examples()
+    ensures { NoRowExamples }
+{}
+
+/// The rule of each row.
+#[tactic(auto, using(crate::proofs::Refusals::rules_of_rows))]
+pub fn rules_of_rows()
+    ensures { RulesOfRows }
+{}
+
+/// The rule by which a request is refused: Kind comes first.
+#[tactic(auto, using(crate::proofs::Refusals::refusing_rule_examples))]
+pub fn refusing_rule_examples()
+    ensures { RefusingRuleExamples }
 {}
