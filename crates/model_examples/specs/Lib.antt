@@ -1,7 +1,10 @@
 pub mod AgentRows
 pub mod BinderReleases
 pub mod BinderRows
+pub mod EmptyNode
+pub mod GuardRuns
 pub mod Mounting
+pub mod NamespacedVolume
 pub mod OpsRows
 pub mod ProtectionRows
 pub mod ReadingRows

@@ -6,6 +6,9 @@
 ghost use Rattle.model_examples.specs.AgentRows.{FinishPodExamples, MountsExamples, UnmountExamples};
 ghost use Rattle.model_examples.specs.BinderReleases.{LostExamples, ReleasedExamples, UnbindExamples};
 ghost use Rattle.model_examples.specs.BinderRows.{AvailableExamples, ClaimRefExamples, ClaimStatusExamples, CompletionExamples, PhaseBoundExamples};
+ghost use Rattle.model_examples.specs.EmptyNode.{MountsOnNoNode};
+ghost use Rattle.model_examples.specs.GuardRuns.{GuardOfReleased};
+ghost use Rattle.model_examples.specs.NamespacedVolume.{NamespacedVolumeIsRefused};
 ghost use Rattle.model_examples.specs.Mounting.{MountExamples, MountOrderExamples};
 ghost use Rattle.model_examples.specs.OpsRows.{CreateVolumeExamples, ProvisionExamples};
 ghost use Rattle.model_examples.specs.ProtectionRows.{AddClaimGuardExamples, AddVolumeGuardExamples, DropClaimGuardExamples, DropVolumeGuardExamples};
@@ -234,4 +237,22 @@ pub fn rules_of_rows()
 #[tactic(auto, using(crate::proofs::Refusals::refusing_rule_examples))]
 pub fn refusing_rule_examples()
     ensures { RefusingRuleExamples }
+{}
+
+/// An agent of the node without a name mounts no pod that is not scheduled.
+#[tactic(auto, using(crate::proofs::EmptyNode::mounts_on_no_node))]
+pub fn mounts_on_no_node()
+    ensures { MountsOnNoNode }
+{}
+
+/// A volume in a namespace is refused at its creation.
+#[tactic(auto, using(crate::proofs::NamespacedVolume::namespaced_volume_is_refused))]
+pub fn namespaced_volume_is_refused()
+    ensures { NamespacedVolumeIsRefused }
+{}
+
+/// What a user may change of a released volume.
+#[tactic(auto, using(crate::proofs::GuardRuns::guard_of_released))]
+pub fn guard_of_released()
+    ensures { GuardOfReleased }
 {}
