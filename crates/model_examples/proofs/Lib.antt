@@ -1,6 +1,7 @@
 pub mod AgentRows
 pub mod BinderReleases
 pub mod BinderRows
+pub mod DueActions
 pub mod EmptyNode
 pub mod GuardRuns
 pub mod Mounting

@@ -165,7 +165,7 @@ IsIn o os = SomeOf (λ x. x ≡ o) os
 none_some : {X : Type 0} {x : X} → None ≡ Some x → ⊥
 none_some e = true≢false (sym (ap is_some e))
 
-one : {X : Type 0} (a b : X) → Some a ≡ Some b → a ≡ b
+pub one : {X : Type 0} (a b : X) → Some a ≡ Some b → a ≡ b
 one a b e = ap (λ o. unwrap_or o a) e
 
 later_of : (a b : Option Telling) (o : Object) → object_of (later a b) ≡ Some o → (object_of a ≡ Some o) ⊎ (object_of b ≡ Some o)
@@ -193,7 +193,7 @@ events_tell (x ∷ es) key o e = elim (later_of _ (told_by_events es key) o e) [
   | inr more ↦ some_right (λ y. y ≡ o) (objects_of_event x.change x.object) (objects_of_events es) (events_tell es key o more)
 ]
 
-found_in : (key : Key) (x : Object) (xs : List Object) → row_at key xs ≡ Some x → IsIn x xs
+pub found_in : (key : Key) (x : Object) (xs : List Object) → row_at key xs ≡ Some x → IsIn x xs
 found_in key x [] e = absurd (none_some e)
 found_in key x (y ∷ ys) e = by (is_eq (key_cmp (key_of y) key)) refl (found_in key x ys)
   where
@@ -284,7 +284,7 @@ abbrev is_pod : Object → Bool
 is_pod (Pod x) = true
 is_pod o = false
 
-claim_in : (y : ClaimData) (os : List Object) → IsIn (Claim y) os → SomeOf (λ x. x ≡ y) (claims_in os)
+pub claim_in : (y : ClaimData) (os : List Object) → IsIn (Claim y) os → SomeOf (λ x. x ≡ y) (claims_in os)
 claim_in y [] h = h
 claim_in y (Claim x ∷ os) (inl e) = inl (ap (claim_or x) e)
 claim_in y (Claim x ∷ os) (inr h) = inr (claim_in y os h)
@@ -298,14 +298,14 @@ class_in y (Class x ∷ os) (inr h) = inr (class_in y os h)
 class_in y (o ∷ os) (inl e) = absurd (true≢false (sym (ap is_class e)))
 class_in y (o ∷ os) (inr h) = class_in y os h
 
-node_in : (y : NodeData) (os : List Object) → IsIn (Node y) os → SomeOf (λ x. x ≡ y) (nodes_in os)
+pub node_in : (y : NodeData) (os : List Object) → IsIn (Node y) os → SomeOf (λ x. x ≡ y) (nodes_in os)
 node_in y [] h = h
 node_in y (Node x ∷ os) (inl e) = inl (ap (node_or x) e)
 node_in y (Node x ∷ os) (inr h) = inr (node_in y os h)
 node_in y (o ∷ os) (inl e) = absurd (true≢false (sym (ap is_node e)))
 node_in y (o ∷ os) (inr h) = node_in y os h
 
-volume_in : (y : VolumeData) (os : List Object) → IsIn (Volume y) os → SomeOf (λ x. x ≡ y) (volumes_in os)
+pub volume_in : (y : VolumeData) (os : List Object) → IsIn (Volume y) os → SomeOf (λ x. x ≡ y) (volumes_in os)
 volume_in y [] h = h
 volume_in y (Volume x ∷ os) (inl e) = inl (ap (volume_or x) e)
 volume_in y (Volume x ∷ os) (inr h) = inr (volume_in y os h)

@@ -6,6 +6,7 @@
 ghost use Rattle.model_examples.specs.AgentRows.{FinishPodExamples, MountsExamples, UnmountExamples};
 ghost use Rattle.model_examples.specs.BinderReleases.{LostExamples, ReleasedExamples, UnbindExamples};
 ghost use Rattle.model_examples.specs.BinderRows.{AvailableExamples, ClaimRefExamples, ClaimStatusExamples, CompletionExamples, PhaseBoundExamples};
+ghost use Rattle.model_examples.specs.DueActions.{ClaimDueExamples, PodDueExamples, PrepareDueExamples, ProvisionDueExamples, ReclaimDueExamples, SettledExamples, VolumeDueExamples};
 ghost use Rattle.model_examples.specs.EmptyNode.{MountsOnNoNode};
 ghost use Rattle.model_examples.specs.GuardRuns.{GuardOfReleased};
 ghost use Rattle.model_examples.specs.NamespacedVolume.{NamespacedVolumeIsRefused};
@@ -255,4 +256,46 @@ pub fn namespaced_volume_is_refused()
 #[tactic(auto, using(crate::proofs::GuardRuns::guard_of_released))]
 pub fn guard_of_released()
     ensures { GuardOfReleased }
+{}
+
+/// What the binder has to do for a volume.
+#[tactic(auto, using(crate::proofs::DueActions::volume_due_examples))]
+pub fn volume_due_examples()
+    ensures { VolumeDueExamples }
+{}
+
+/// What is to be done for the data and the protection of a volume.
+#[tactic(auto, using(crate::proofs::DueActions::reclaim_due_examples))]
+pub fn reclaim_due_examples()
+    ensures { ReclaimDueExamples }
+{}
+
+/// What is to be done for a claim.
+#[tactic(auto, using(crate::proofs::DueActions::claim_due_examples))]
+pub fn claim_due_examples()
+    ensures { ClaimDueExamples }
+{}
+
+/// When data are due for a claim.
+#[tactic(auto, using(crate::proofs::DueActions::provision_due_examples))]
+pub fn provision_due_examples()
+    ensures { ProvisionDueExamples }
+{}
+
+/// What is to be done for a pod.
+#[tactic(auto, using(crate::proofs::DueActions::pod_due_examples))]
+pub fn pod_due_examples()
+    ensures { PodDueExamples }
+{}
+
+/// When the scheduler has to prepare claims.
+#[tactic(auto, using(crate::proofs::DueActions::prepare_due_examples))]
+pub fn prepare_due_examples()
+    ensures { PrepareDueExamples }
+{}
+
+/// Settled worlds, and the first action that is due.
+#[tactic(auto, using(crate::proofs::DueActions::settled_examples))]
+pub fn settled_examples()
+    ensures { SettledExamples }
 {}
