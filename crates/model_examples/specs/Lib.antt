@@ -4,6 +4,7 @@ pub mod BinderRows
 pub mod DueActions
 pub mod EmptyNode
 pub mod GuardRuns
+pub mod Imported
 pub mod Mounting
 pub mod NamespacedVolume
 pub mod OpsRows

@@ -9,6 +9,7 @@ ghost use Rattle.model_examples.specs.BinderRows.{AvailableExamples, ClaimRefExa
 ghost use Rattle.model_examples.specs.DueActions.{ClaimDueExamples, PodDueExamples, PrepareDueExamples, ProvisionDueExamples, ReclaimDueExamples, SettledExamples, VolumeDueExamples};
 ghost use Rattle.model_examples.specs.EmptyNode.{MountsOnNoNode};
 ghost use Rattle.model_examples.specs.GuardRuns.{GuardOfReleased};
+ghost use Rattle.model_examples.specs.Imported.{FirstWorldExamples, ImportFaultExamples};
 ghost use Rattle.model_examples.specs.NamespacedVolume.{NamespacedVolumeIsRefused};
 ghost use Rattle.model_examples.specs.Mounting.{MountExamples, MountOrderExamples};
 ghost use Rattle.model_examples.specs.OpsRows.{CreateVolumeExamples, ProvisionExamples};
@@ -298,4 +299,16 @@ pub fn prepare_due_examples()
 #[tactic(auto, using(crate::proofs::DueActions::settled_examples))]
 pub fn settled_examples()
     ensures { SettledExamples }
+{}
+
+/// Imports that pass, and one that fails for each reason.
+#[tactic(auto, using(crate::proofs::Imported::import_fault_examples))]
+pub fn import_fault_examples()
+    ensures { ImportFaultExamples }
+{}
+
+/// The world that imports make.
+#[tactic(auto, using(crate::proofs::Imported::first_world_examples))]
+pub fn first_world_examples()
+    ensures { FirstWorldExamples }
 {}
