@@ -1,0 +1,376 @@
+-- What a literal list of entries tells, computed: so that a case can be refused by looking at each object told.
+use Rattle.std.proofs.Common.{sym, refl, ap, subst, inl, inr, true≢false, ◌∙◌}
+use Rattle.std.specs.Prelude.{ℕ, ◌≡◌, ◌⊎◌, Bool, true, false, List, [], ◌∷◌, ◌++◌, Option, Some, None, if◌then◌else◌, is_some, unwrap_or, nat_lt}
+use Rattle.std.specs.Ordering.{is_eq}
+use Rattle.kube_types.specs.declared.key.Key.{Key}
+use Rattle.kube_types.specs.declared.parts.Kind.TheVariants as kinds
+use Rattle.kube_types.specs.declared.objects.Class.{Class as ClassData}
+use Rattle.kube_types.specs.declared.objects.Node.{Node as NodeData}
+use Rattle.kube_types.specs.declared.objects.Pod.{Pod as PodData}
+use Rattle.kube_types.specs.declared.objects.Volume.{Volume as VolumeData}
+use Rattle.kube_types.specs.declared.objects.Claim.{Claim as ClaimData}
+use Rattle.kube_types.specs.declared.objects.Object.{Object}
+use Rattle.kube_types.specs.declared.objects.Object.TheVariants.{Class, Node, Volume, Claim, Pod}
+use Rattle.call_types.specs.declared.entry.Entry.{Entry}
+use Rattle.kube_types.specs.Keys.{meta_of, key_of, key_cmp, row_at}
+use Rattle.call_types.specs.declared.reply.Change.{Change}
+use Rattle.call_types.specs.declared.reply.Change.TheVariants as changes
+use Rattle.call_types.specs.declared.reply.Event.{Event}
+use Rattle.call_types.specs.declared.reply.Reply.{Reply}
+use Rattle.call_types.specs.declared.reply.Reply.TheVariants.{Done, Left, Listed, Events}
+use Rattle.call_types.specs.declared.request.SeatKind.{SeatKind}
+use Rattle.call_types.specs.declared.request.Request.{Request}
+use Rattle.call_types.specs.declared.request.Request.TheVariants as requests
+use Rattle.binder_model.specs.Told.{SomeOf, TellsObject, ToldObject, ToldVolume, ToldClaim, ToldPod, IsPodWith, IsVolumeWith, IsClaimWith, objects_in, objects_of_event, objects_of_events, After, TellsLive, Telling, presence, later, listing, of_event, told_by_events, tells_of, told_of, newest, object_of, IsNewest}
+use Rattle.binder_model.specs.At.{IsWrittenAt}
+use Rattle.binder_model.specs.Licence.{AreOfKind, AtVolume, AtClaim, AtVolumeKey, AtClaimKey}
+use Rattle.model_examples.specs.Samples.{Exchange, seat_of, entry_of}
+
+-- two that a test tells apart
+pub differ : {X : Type 0} {a b : X} (test : X → Bool) → a ≡ b → test a ≡ true → test b ≡ false → ⊥
+differ test e at_a at_b = true≢false (sym at_a ∙ ap test e ∙ at_b)
+
+pub neither : {A B : Type 0} → (A → ⊥) → (B → ⊥) → A ⊎ B → ⊥
+neither f g (inl a) = f a
+neither f g (inr b) = g b
+
+pub sole : {A : Type 0} → A ⊎ ⊥ → A
+sole (inl a) = a
+sole (inr h) = absurd h
+
+-- each entry has the seat's kind
+pub own_kind : (kind : SeatKind) (xs : List Exchange) → AreOfKind kind (seat_of kind xs)
+own_kind kind [] = tt
+own_kind kind (x ∷ xs) = (refl, own_kind kind xs)
+
+-- the objects that were told
+
+abbrev pub heard_of : Entry → List Object
+heard_of e = if e.told then objects_in e.reply else []
+
+abbrev pub told_objects : List Entry → List Object
+told_objects [] = []
+told_objects (e ∷ mine) = heard_of e ++ told_objects mine
+
+abbrev pub volumes_in : List Object → List VolumeData
+volumes_in [] = []
+volumes_in (Volume v ∷ os) = v ∷ volumes_in os
+volumes_in (o ∷ os) = volumes_in os
+
+abbrev pub claims_in : List Object → List ClaimData
+claims_in [] = []
+claims_in (Claim x ∷ os) = x ∷ claims_in os
+claims_in (o ∷ os) = claims_in os
+
+pub some_left : (P : Object → Type 0) (xs ys : List Object) → SomeOf P xs → SomeOf P (xs ++ ys)
+some_left P [] ys h = absurd h
+some_left P (x ∷ xs) ys (inl h) = inl h
+some_left P (x ∷ xs) ys (inr h) = inr (some_left P xs ys h)
+
+pub some_right : (P : Object → Type 0) (xs ys : List Object) → SomeOf P ys → SomeOf P (xs ++ ys)
+some_right P [] ys h = h
+some_right P (x ∷ xs) ys h = inr (some_right P xs ys h)
+
+heard_some : (P : Object → Type 0) (e : Entry) → TellsObject P e → SomeOf P (heard_of e)
+heard_some P e t = by e.told t.0
+  where
+    by : (b : Bool) → b ≡ true → SomeOf P (if b then objects_in e.reply else [])
+    by true told = t.1
+    by false told = absurd (true≢false (sym told))
+
+pub told_some : (P : Object → Type 0) (mine : List Entry) → ToldObject P mine → SomeOf P (told_objects mine)
+told_some P [] h = h
+told_some P (e ∷ mine) (inl t) = some_left P (heard_of e) (told_objects mine) (heard_some P e t)
+told_some P (e ∷ mine) (inr h) = some_right P (heard_of e) (told_objects mine) (told_some P mine h)
+
+some_volume : (P : VolumeData → Type 0) (os : List Object) → SomeOf (IsVolumeWith P) os → SomeOf P (volumes_in os)
+some_volume P [] h = h
+some_volume P (Volume v ∷ os) (inl h) = inl h
+some_volume P (Volume v ∷ os) (inr h) = inr (some_volume P os h)
+some_volume P (o ∷ os) (inl h) = absurd h
+some_volume P (o ∷ os) (inr h) = some_volume P os h
+
+some_claim : (P : ClaimData → Type 0) (os : List Object) → SomeOf (IsClaimWith P) os → SomeOf P (claims_in os)
+some_claim P [] h = h
+some_claim P (Claim x ∷ os) (inl h) = inl h
+some_claim P (Claim x ∷ os) (inr h) = inr (some_claim P os h)
+some_claim P (o ∷ os) (inl h) = absurd h
+some_claim P (o ∷ os) (inr h) = some_claim P os h
+
+-- each volume, and each claim, that was told
+pub told_volumes : (P : VolumeData → Type 0) (mine : List Entry) → ToldVolume P mine → SomeOf P (volumes_in (told_objects mine))
+told_volumes P mine h = some_volume P (told_objects mine) (told_some (IsVolumeWith P) mine h)
+
+pub told_claims : (P : ClaimData → Type 0) (mine : List Entry) → ToldClaim P mine → SomeOf P (claims_in (told_objects mine))
+told_claims P mine h = some_claim P (told_objects mine) (told_some (IsClaimWith P) mine h)
+
+-- the row at each volume, and each claim, that was told
+pub volume_row : (Row : VolumeData → Type 0) (mine : List Entry) (new : VolumeData) (given : Option ℕ) → AtVolume mine new given Row → SomeOf (λ o. IsWrittenAt given new.meta.namespace new.meta.name o.meta × Row o) (volumes_in (told_objects mine))
+volume_row Row mine new given h = told_volumes (λ o. IsWrittenAt given new.meta.namespace new.meta.name o.meta × Row o) mine h
+
+pub claim_row : (Row : ClaimData → Type 0) (mine : List Entry) (new : ClaimData) (given : Option ℕ) → AtClaim mine new given Row → SomeOf (λ o. IsWrittenAt given new.meta.namespace new.meta.name o.meta × Row o) (claims_in (told_objects mine))
+claim_row Row mine new given h = told_claims (λ o. IsWrittenAt given new.meta.namespace new.meta.name o.meta × Row o) mine h
+
+pub volume_status_row : (Row : VolumeData → Type 0) (mine : List Entry) (key : Key) (given : Option ℕ) → AtVolumeKey mine key given Row → SomeOf (λ o. IsWrittenAt given key.namespace key.name o.meta × Row o) (volumes_in (told_objects mine))
+volume_status_row Row mine key given h = told_volumes (λ o. IsWrittenAt given key.namespace key.name o.meta × Row o) mine h.1
+
+pub claim_status_row : (Row : ClaimData → Type 0) (mine : List Entry) (key : Key) (given : Option ℕ) → AtClaimKey mine key given Row → SomeOf (λ o. IsWrittenAt given key.namespace key.name o.meta × Row o) (claims_in (told_objects mine))
+claim_status_row Row mine key given h = told_claims (λ o. IsWrittenAt given key.namespace key.name o.meta × Row o) mine h.1
+
+-- after
+
+-- what was told before was told
+pub after_told : (P : Object → Type 0) (Q : Entry → Type 0) (mine : List Entry) → After (ToldObject P) Q mine → ToldObject P mine
+after_told P Q [] h = absurd h
+after_told P Q (e ∷ mine) (inl h) = inr h.1
+after_told P Q (e ∷ mine) (inr h) = inr (after_told P Q mine h)
+
+-- the later entry is one of them
+pub after_tells : (P : List Entry → Type 0) (Q : Entry → Type 0) (mine : List Entry) → After P Q mine → SomeOf Q mine
+after_tells P Q [] h = h
+after_tells P Q (e ∷ mine) (inl h) = inl h.0
+after_tells P Q (e ∷ mine) (inr h) = inr (after_tells P Q mine h)
+
+abbrev pub is_get : Request → Bool
+is_get (requests.Get key) = true
+is_get request = false
+
+abbrev pub has_get : List Entry → Bool
+has_get [] = false
+has_get (e ∷ mine) = if is_get e.request then true else has_get mine
+
+-- no read was told where none was asked
+pub never_read : (key : Key) (P : Option Object → Type 0) (mine : List Entry) → has_get mine ≡ false → SomeOf (TellsLive key P) mine → ⊥
+never_read key P [] none h = h
+never_read key P (e ∷ mine) none h = by (is_get e.request) refl none h (never_read key P mine)
+  where
+    by : (b : Bool) → is_get e.request ≡ b → (if b then true else has_get mine) ≡ false → TellsLive key P e ⊎ SomeOf (TellsLive key P) mine → (has_get mine ≡ false → SomeOf (TellsLive key P) mine → ⊥) → ⊥
+    by true is none h more = true≢false none
+    by false is none (inl t) more = true≢false (sym (ap is_get t.1) ∙ is)
+    by false is none (inr h) more = more none h
+
+-- the key that a request reads
+abbrev pub key_read : Request → Option Key
+key_read (requests.Get key) = Some key
+key_read request = None
+
+pub not_get : {request : Request} {key : Key} → request ≡ requests.Get key → is_get request ≡ false → ⊥
+not_get e none = true≢false (sym (ap is_get e) ∙ none)
+
+-- the newest told
+
+abbrev pub IsIn : Object → List Object → Type 0
+IsIn o os = SomeOf (λ x. x ≡ o) os
+
+none_some : {X : Type 0} {x : X} → None ≡ Some x → ⊥
+none_some e = true≢false (sym (ap is_some e))
+
+pub one : {X : Type 0} (a b : X) → Some a ≡ Some b → a ≡ b
+one a b e = ap (λ o. unwrap_or o a) e
+
+later_of : (a b : Option Telling) (o : Object) → object_of (later a b) ≡ Some o → (object_of a ≡ Some o) ⊎ (object_of b ≡ Some o)
+later_of None b o e = inr e
+later_of (Some a) None o e = inl e
+later_of (Some a) (Some b) o e = by (nat_lt a.version b.version) e
+  where
+    by : (t : Bool) → object_of (if t then Some b else Some a) ≡ Some o → (object_of (Some a) ≡ Some o) ⊎ (object_of (Some b) ≡ Some o)
+    by true e = inr e
+    by false e = inl e
+
+told_if : (b : Bool) (t : Telling) (o : Object) → object_of (if b then Some t else None) ≡ Some o → t.object ≡ Some o
+told_if true t o e = e
+told_if false t o e = absurd (none_some e)
+
+event_tells : (change : Change) (p o : Object) (version : ℕ) → (of_event change p version).object ≡ Some o → IsIn o (objects_of_event change p)
+event_tells changes.Added p o version e = inl (one p o e)
+event_tells changes.Modified p o version e = inl (one p o e)
+event_tells changes.Deleted p o version e = absurd (none_some e)
+
+events_tell : (es : List Event) (key : Key) (o : Object) → object_of (told_by_events es key) ≡ Some o → IsIn o (objects_of_events es)
+events_tell [] key o e = absurd (none_some e)
+events_tell (x ∷ es) key o e = elim (later_of _ (told_by_events es key) o e) [
+  | inl here ↦ some_left (λ y. y ≡ o) (objects_of_event x.change x.object) (objects_of_events es) (event_tells x.change x.object o x.version (told_if _ (of_event x.change x.object x.version) o here))
+  | inr more ↦ some_right (λ y. y ≡ o) (objects_of_event x.change x.object) (objects_of_events es) (events_tell es key o more)
+]
+
+pub found_in : (key : Key) (x : Object) (xs : List Object) → row_at key xs ≡ Some x → IsIn x xs
+found_in key x [] e = absurd (none_some e)
+found_in key x (y ∷ ys) e = by (is_eq (key_cmp (key_of y) key)) refl (found_in key x ys)
+  where
+    by : (b : Bool) → is_eq (key_cmp (key_of y) key) ≡ b → (row_at key ys ≡ Some x → IsIn x ys) → IsIn x (y ∷ ys)
+    by true is more = let f : Some y ≡ Some x = rw is at e in inl (one y x f)
+    by false is more = let f : row_at key ys ≡ Some x = rw is at e in inr (more f)
+
+list_tells : (items : List Object) (key : Key) (version : ℕ) (x : Option Object) (o : Object) → row_at key items ≡ x → (listing version x).object ≡ Some o → IsIn o items
+list_tells items key version None o is e = absurd (none_some e)
+list_tells items key version (Some p) o is e = found_in key o items (is ∙ e)
+
+reply_tells : (request : Request) (reply : Reply) (key : Key) (o : Object) → object_of (tells_of request reply key) ≡ Some o → IsIn o (objects_in reply)
+reply_tells request (Done p) key o e = inl (one p o (told_if _ (presence p) o e))
+reply_tells request (Left p) key o e = absurd (none_some (told_if _ (record { version = (meta_of p).version; object = None }) o e))
+reply_tells request (Listed items version) key o e = list_tells items key version (row_at key items) o refl (told_if _ (listing version (row_at key items)) o e)
+reply_tells request (Events events) key o e = events_tell events.events key o e
+reply_tells request reply key o e = absurd (none_some e)
+
+entry_tells : (e : Entry) (key : Key) (o : Object) → object_of (told_of e key) ≡ Some o → IsIn o (heard_of e)
+entry_tells e key o is = by e.told is
+  where
+    by : (b : Bool) → object_of (if b then tells_of e.request e.reply key else None) ≡ Some o → IsIn o (if b then objects_in e.reply else [])
+    by true is = reply_tells e.request e.reply key o is
+    by false is = absurd (none_some is)
+
+-- the newest told object of a key is one that was told
+pub newest_in : (mine : List Entry) (key : Key) (o : Object) → IsNewest mine key o → IsIn o (told_objects mine)
+newest_in [] key o e = absurd (none_some e)
+newest_in (x ∷ mine) key o e = elim (later_of (told_of x key) (newest mine key) o e) [
+  | inl here ↦ some_left (λ y. y ≡ o) (heard_of x) (told_objects mine) (entry_tells x key o here)
+  | inr more ↦ some_right (λ y. y ≡ o) (heard_of x) (told_objects mine) (newest_in mine key o more)
+]
+
+-- of each kind
+
+abbrev pub classes_in : List Object → List ClassData
+classes_in [] = []
+classes_in (Class x ∷ os) = x ∷ classes_in os
+classes_in (o ∷ os) = classes_in os
+
+abbrev pub nodes_in : List Object → List NodeData
+nodes_in [] = []
+nodes_in (Node x ∷ os) = x ∷ nodes_in os
+nodes_in (o ∷ os) = nodes_in os
+
+abbrev pub pods_in : List Object → List PodData
+pods_in [] = []
+pods_in (Pod x ∷ os) = x ∷ pods_in os
+pods_in (o ∷ os) = pods_in os
+
+abbrev claim_or : ClaimData → Object → ClaimData
+claim_or x (Claim y) = y
+claim_or x o = x
+
+abbrev class_or : ClassData → Object → ClassData
+class_or x (Class y) = y
+class_or x o = x
+
+abbrev node_or : NodeData → Object → NodeData
+node_or x (Node y) = y
+node_or x o = x
+
+abbrev volume_or : VolumeData → Object → VolumeData
+volume_or x (Volume y) = y
+volume_or x o = x
+
+abbrev pod_or : PodData → Object → PodData
+pod_or x (Pod y) = y
+pod_or x o = x
+
+abbrev is_claim : Object → Bool
+is_claim (Claim x) = true
+is_claim o = false
+
+abbrev is_class : Object → Bool
+is_class (Class x) = true
+is_class o = false
+
+abbrev is_node : Object → Bool
+is_node (Node x) = true
+is_node o = false
+
+abbrev is_volume : Object → Bool
+is_volume (Volume x) = true
+is_volume o = false
+
+abbrev is_pod : Object → Bool
+is_pod (Pod x) = true
+is_pod o = false
+
+pub claim_in : (y : ClaimData) (os : List Object) → IsIn (Claim y) os → SomeOf (λ x. x ≡ y) (claims_in os)
+claim_in y [] h = h
+claim_in y (Claim x ∷ os) (inl e) = inl (ap (claim_or x) e)
+claim_in y (Claim x ∷ os) (inr h) = inr (claim_in y os h)
+claim_in y (o ∷ os) (inl e) = absurd (true≢false (sym (ap is_claim e)))
+claim_in y (o ∷ os) (inr h) = claim_in y os h
+
+class_in : (y : ClassData) (os : List Object) → IsIn (Class y) os → SomeOf (λ x. x ≡ y) (classes_in os)
+class_in y [] h = h
+class_in y (Class x ∷ os) (inl e) = inl (ap (class_or x) e)
+class_in y (Class x ∷ os) (inr h) = inr (class_in y os h)
+class_in y (o ∷ os) (inl e) = absurd (true≢false (sym (ap is_class e)))
+class_in y (o ∷ os) (inr h) = class_in y os h
+
+pub node_in : (y : NodeData) (os : List Object) → IsIn (Node y) os → SomeOf (λ x. x ≡ y) (nodes_in os)
+node_in y [] h = h
+node_in y (Node x ∷ os) (inl e) = inl (ap (node_or x) e)
+node_in y (Node x ∷ os) (inr h) = inr (node_in y os h)
+node_in y (o ∷ os) (inl e) = absurd (true≢false (sym (ap is_node e)))
+node_in y (o ∷ os) (inr h) = node_in y os h
+
+pub volume_in : (y : VolumeData) (os : List Object) → IsIn (Volume y) os → SomeOf (λ x. x ≡ y) (volumes_in os)
+volume_in y [] h = h
+volume_in y (Volume x ∷ os) (inl e) = inl (ap (volume_or x) e)
+volume_in y (Volume x ∷ os) (inr h) = inr (volume_in y os h)
+volume_in y (o ∷ os) (inl e) = absurd (true≢false (sym (ap is_volume e)))
+volume_in y (o ∷ os) (inr h) = volume_in y os h
+
+pod_in : (y : PodData) (os : List Object) → IsIn (Pod y) os → SomeOf (λ x. x ≡ y) (pods_in os)
+pod_in y [] h = h
+pod_in y (Pod x ∷ os) (inl e) = inl (ap (pod_or x) e)
+pod_in y (Pod x ∷ os) (inr h) = inr (pod_in y os h)
+pod_in y (o ∷ os) (inl e) = absurd (true≢false (sym (ap is_pod e)))
+pod_in y (o ∷ os) (inr h) = pod_in y os h
+
+pub newest_claim : (mine : List Entry) (key : Key) (y : ClaimData) → IsNewest mine key (Claim y) → SomeOf (λ x. x ≡ y) (claims_in (told_objects mine))
+newest_claim mine key y e = claim_in y (told_objects mine) (newest_in mine key (Claim y) e)
+
+pub newest_class : (mine : List Entry) (key : Key) (y : ClassData) → IsNewest mine key (Class y) → SomeOf (λ x. x ≡ y) (classes_in (told_objects mine))
+newest_class mine key y e = class_in y (told_objects mine) (newest_in mine key (Class y) e)
+
+pub newest_node : (mine : List Entry) (key : Key) (y : NodeData) → IsNewest mine key (Node y) → SomeOf (λ x. x ≡ y) (nodes_in (told_objects mine))
+newest_node mine key y e = node_in y (told_objects mine) (newest_in mine key (Node y) e)
+
+pub newest_volume : (mine : List Entry) (key : Key) (y : VolumeData) → IsNewest mine key (Volume y) → SomeOf (λ x. x ≡ y) (volumes_in (told_objects mine))
+newest_volume mine key y e = volume_in y (told_objects mine) (newest_in mine key (Volume y) e)
+
+pub newest_pod : (mine : List Entry) (key : Key) (y : PodData) → IsNewest mine key (Pod y) → SomeOf (λ x. x ≡ y) (pods_in (told_objects mine))
+newest_pod mine key y e = pod_in y (told_objects mine) (newest_in mine key (Pod y) e)
+
+-- each pod that was told
+some_pod : (P : PodData → Type 0) (os : List Object) → SomeOf (IsPodWith P) os → SomeOf P (pods_in os)
+some_pod P [] h = h
+some_pod P (Pod x ∷ os) (inl h) = inl h
+some_pod P (Pod x ∷ os) (inr h) = inr (some_pod P os h)
+some_pod P (o ∷ os) (inl h) = absurd h
+some_pod P (o ∷ os) (inr h) = some_pod P os h
+
+pub told_pods : (P : PodData → Type 0) (mine : List Entry) → ToldPod P mine → SomeOf P (pods_in (told_objects mine))
+told_pods P mine h = some_pod P (told_objects mine) (told_some (IsPodWith P) mine h)
+
+-- two objects that are the newest told of one key
+
+abbrev pod_of : PodData → Option Object → PodData
+pod_of x None = x
+pod_of x (Some o) = pod_or x o
+
+abbrev node_of : NodeData → Option Object → NodeData
+node_of x None = x
+node_of x (Some o) = node_or x o
+
+abbrev claim_of : ClaimData → Option Object → ClaimData
+claim_of x None = x
+claim_of x (Some o) = claim_or x o
+
+abbrev volume_of : VolumeData → Option Object → VolumeData
+volume_of x None = x
+volume_of x (Some o) = volume_or x o
+
+pub same_pod : (mine : List Entry) (key : Key) (x y : PodData) → IsNewest mine key (Pod x) → IsNewest mine key (Pod y) → x ≡ y
+same_pod mine key x y e f = ap (pod_of x) (sym e ∙ f)
+
+pub same_node : (mine : List Entry) (key : Key) (x y : NodeData) → IsNewest mine key (Node x) → IsNewest mine key (Node y) → x ≡ y
+same_node mine key x y e f = ap (node_of x) (sym e ∙ f)
+
+pub same_claim : (mine : List Entry) (key : Key) (x y : ClaimData) → IsNewest mine key (Claim x) → IsNewest mine key (Claim y) → x ≡ y
+same_claim mine key x y e f = ap (claim_of x) (sym e ∙ f)
+
+pub same_volume : (mine : List Entry) (key : Key) (x y : VolumeData) → IsNewest mine key (Volume x) → IsNewest mine key (Volume y) → x ≡ y
+same_volume mine key x y e f = ap (volume_of x) (sym e ∙ f)

@@ -1,0 +1,16 @@
+pub mod AgentRows
+pub mod BinderReleases
+pub mod BinderRows
+pub mod DueActions
+pub mod EmptyNode
+pub mod GuardRuns
+pub mod Imported
+pub mod Mounting
+pub mod NamespacedVolume
+pub mod OpsRows
+pub mod ProtectionRows
+pub mod ReadingRows
+pub mod Reclaiming
+pub mod Refusals
+pub mod Samples
+pub mod SchedulerRows
