@@ -1,5 +1,6 @@
 //! One run of the program.
 
+use crate::ends;
 use binder_console::console::pvbind;
 use fault_io::gate::NoGate;
 use fault_io::memory::{MemorySink, MemorySource};
@@ -13,12 +14,12 @@ const PIECE: usize = 100;
 
 /// A case: the words, the limit of the sink, the call that fails, and the input.
 #[derive(Clone, Copy)]
-struct Case<'a> {
-    words: &'a str,
-    limit: usize,
-    fails: u64,
-    times: usize,
-    text: &'a str,
+pub struct Case<'a> {
+    pub words: &'a str,
+    pub limit: usize,
+    pub fails: u64,
+    pub times: usize,
+    pub text: &'a str,
 }
 
 fn number(word: &str) -> u64 {
@@ -68,7 +69,7 @@ fn plain(byte: u8) -> u8 {
     }
 }
 
-fn input(alloc: Global, case: &Case<'_>) -> Result<Vec<u8>, OutOfMemory> {
+fn input(alloc: Global, case: Case<'_>) -> Result<Vec<u8>, OutOfMemory> {
     let mut bytes = Vec::new(alloc);
     for _ in 0..case.times {
         for byte in case.text.as_bytes() {
@@ -78,7 +79,8 @@ fn input(alloc: Global, case: &Case<'_>) -> Result<Vec<u8>, OutOfMemory> {
     Ok(bytes)
 }
 
-fn source(alloc: Global, case: &Case<'_>) -> Result<MemorySource, OutOfMemory> {
+/// The source of the input.
+pub fn source(alloc: Global, case: Case<'_>) -> Result<MemorySource, OutOfMemory> {
     let bytes = input(alloc, case)?;
     MemorySource::new(alloc, &bytes, PIECE, &[case.fails])
 }
@@ -94,17 +96,32 @@ fn shown(alloc: Global, written: &[u8]) -> Result<String, OutOfMemory> {
     }
 }
 
-/// The status and the output of the case of a line.
+// The status and the output of the program.
+fn run<R: Threads + Wait + Sync>(
+    rt: &R,
+    alloc: Global,
+    case: Case<'_>,
+) -> Result<String, OutOfMemory> {
+    let words = words_of(alloc, case.words)?;
+    let mut source = source(alloc, case)?;
+    let mut sink = MemorySink::new(alloc, case.limit)?;
+    let status = pvbind(rt, alloc, &words, &mut source, &mut sink, &NoGate).number();
+    let output = shown(alloc, sink.written())?;
+    Ok(format!(in alloc; "{status} {output}")?)
+}
+
+/// What is written for a line.
 pub fn answer<R: Threads + Wait + Sync>(
     rt: &R,
     alloc: Global,
     line: &str,
 ) -> Result<String, OutOfMemory> {
     let case = case_of(line);
-    let words = words_of(alloc, case.words)?;
-    let mut source = source(alloc, &case)?;
-    let mut sink = MemorySink::new(alloc, case.limit)?;
-    let status = pvbind(rt, alloc, &words, &mut source, &mut sink, &NoGate).number();
-    let output = shown(alloc, sink.written())?;
-    Ok(format!(in alloc; "{status} {output}")?)
+    match case.words {
+        "@read" => ends::read(alloc, case),
+        "@write" => ends::write(alloc, case),
+        "@broken-source" => ends::broken_source(alloc),
+        "@broken-sink" => ends::broken_sink(alloc),
+        _ => run(rt, alloc, case),
+    }
 }

@@ -72,15 +72,8 @@ impl Bench {
             return Ok(Reply::Refused(Refusal::NotFound));
         }
         let stale = stale_epoch(&self.devices, request);
-        let made = self
-            .store
-            .outcome(self.kind, request, &self.moment, stale)?;
-        tell(
-            self.alloc,
-            &mut self.log,
-            &made,
-            self.store.version() + 1,
-        )?;
+        let made = self.store.outcome(self.kind, request, &self.moment, stale)?;
+        tell(self.alloc, &mut self.log, &made, self.store.version() + 1)?;
         self.store.apply(made)
     }
 
@@ -92,12 +85,17 @@ impl Bench {
         }
     }
 
-    /// Makes the call.
+    fn set_moment(&mut self, at: &Text) -> Result<Reply, OutOfMemory> {
+        self.moment = at.copy(self.alloc)?;
+        Ok(Reply::Timed)
+    }
+
+    /// Makes the call. A SetTime is answered Timed, whatever its moment.
     pub fn call(&mut self, request: &Request) -> Result<Reply, OutOfMemory> {
-        if is_for_store(request) {
-            self.write(request)
-        } else {
-            self.on_devices(request)
+        match request {
+            Request::SetTime { at } => self.set_moment(at),
+            _ if is_for_store(request) => self.write(request),
+            _ => self.on_devices(request),
         }
     }
 
@@ -122,12 +120,7 @@ impl Bench {
     }
 
     /// The line of the call's entry.
-    pub fn line(
-        &self,
-        request: Request,
-        reply: Reply,
-        told: bool,
-    ) -> Result<String, OutOfMemory> {
+    pub fn line(&self, request: Request, reply: Reply, told: bool) -> Result<String, OutOfMemory> {
         let seat = match self.kind {
             SeatKind::User => 1,
             _ => 5,
@@ -164,7 +157,11 @@ fn stale_epoch(devices: &Devices, request: &Request) -> Option<u64> {
     match request {
         Request::FinishPod { node, epoch, .. } => {
             let current = devices.epoch(node);
-            if current == *epoch { None } else { Some(current) }
+            if current == *epoch {
+                None
+            } else {
+                Some(current)
+            }
         }
         _ => None,
     }

@@ -9,9 +9,19 @@ use call_types::request::Request;
 use plain_data::copies::OutOfMemory;
 use std::alloc::Global;
 
+fn time(alloc: Global, words: &[&str]) -> Result<Option<Request>, OutOfMemory> {
+    match words {
+        [at] => Ok(Some(Request::SetTime {
+            at: text(alloc, at)?,
+        })),
+        _ => Ok(None),
+    }
+}
+
 fn of_words(alloc: Global, verb: &str, words: &[&str]) -> Result<Option<Request>, OutOfMemory> {
     match verb {
         "list" => list(alloc, words),
+        "time" => time(alloc, words),
         "get" | "delete" | "edit" | "status" | "bind" | "finish" => match words {
             [kind, namespace, name, rest @ ..] => keyed(
                 alloc,
@@ -51,7 +61,6 @@ fn sets_up(
     match (verb, words) {
         ("new", _) => bench.clear()?,
         ("as", [word]) => bench.kind = seat(word),
-        ("at", [word]) => bench.moment = text(alloc, word)?,
         ("fault", [word]) => bench.faults.push(number(word))?,
         ("devices", _) => bench.equip()?,
         ("pool", _) => match pool(alloc, words)? {
@@ -157,11 +166,7 @@ fn other(
 }
 
 /// What is written for a line, if anything.
-pub fn answer(
-    alloc: Global,
-    bench: &mut Bench,
-    line: &str,
-) -> Result<Option<String>, OutOfMemory> {
+pub fn answer(alloc: Global, bench: &mut Bench, line: &str) -> Result<Option<String>, OutOfMemory> {
     let (verb, rest) = split(line);
     let (next, behind) = split(rest);
     match verb {

@@ -3,7 +3,7 @@
 use crate::bench::{Bench, text_of};
 use crate::nodes::labels;
 use crate::words::{Named, key, kind, number, text};
-use call_types::reply::Reply;
+use call_types::reply::{Refusal, Reply};
 use call_types::request::Request;
 use call_types::setup::Setup;
 use history_text::entries::print_setup;
@@ -76,12 +76,7 @@ fn has_pool(
     Ok(String::from_str(alloc, flag(fits))?)
 }
 
-fn of_devices(
-    alloc: Global,
-    bench: &Bench,
-    verb: &str,
-    word: &str,
-) -> Result<String, OutOfMemory> {
+fn of_devices(alloc: Global, bench: &Bench, verb: &str, word: &str) -> Result<String, OutOfMemory> {
     let name = text(alloc, word)?;
     if verb == "epoch" {
         let epoch = bench.devices.epoch(&name);
@@ -95,7 +90,10 @@ fn watch(alloc: Global, bench: &Bench, one: &str, from: &str) -> Result<String, 
     let kind = kind(one);
     let from = number(from);
     match bench.log.since(kind, from) {
-        Err(LogError::Gone { oldest }) => Ok(format!(in alloc; "Gone {oldest}")?),
+        Err(LogError::Gone { oldest }) => {
+            let reply = Reply::Refused(Refusal::Gone { oldest });
+            bench.line(Request::Watch { kind, from }, reply, true)
+        }
         Err(LogError::Ahead { current }) => Ok(format!(in alloc; "Ahead {current}")?),
         Err(LogError::OutOfMemory) => Err(OutOfMemory),
         Ok(events) => bench.line(Request::Watch { kind, from }, Reply::Events(events), true),
@@ -108,7 +106,11 @@ fn span(alloc: Global, bench: &Bench, one: &str, from: &str) -> Result<String, O
         Err(_) => Ok(String::from_str(alloc, "none")?),
         Ok(events) => {
             let count = events.events.as_slice().len();
-            let first = events.events.as_slice().first().map_or(0, |event| event.version);
+            let first = events
+                .events
+                .as_slice()
+                .first()
+                .map_or(0, |event| event.version);
             let upto = events.upto;
             Ok(format!(in alloc; "{count} from {first} to {upto}")?)
         }

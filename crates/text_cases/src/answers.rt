@@ -1,6 +1,6 @@
 //! The call of a line.
 
-use crate::{manifests, parts};
+use crate::{format_words, manifests, parts, tables};
 use plain_data::copies::OutOfMemory;
 use std::alloc::Global;
 
@@ -16,6 +16,8 @@ fn of_part(alloc: Global, call: &str, text: &str) -> Result<String, OutOfMemory>
         "value" => parts::value(alloc, text),
         "keys" => parts::keys(alloc, text),
         "modes" => parts::modes(alloc, text),
+        "table" => tables::table(alloc, text),
+        "words" => format_words::words(alloc, text),
         _ => parts::word(alloc, "no such call"),
     }
 }

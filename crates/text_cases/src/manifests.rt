@@ -56,7 +56,7 @@ fn bytes_of(alloc: Global, text: &str) -> Result<Bytes, OutOfMemory> {
     for word in text.split(' ') {
         bytes.push(word.parse::<u8>().unwrap_or(0))?;
     }
-    Ok(Bytes::from_vec(bytes))
+    Bytes::new(alloc, &bytes)
 }
 
 /// The manifest whose bytes are given as numbers.
