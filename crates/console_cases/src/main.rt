@@ -1,0 +1,23 @@
+//! Cases of the whole program over a source and a sink in memory. A line that is read is its words,
+//! joined by commas or `-` for none, the bytes that the sink has room for, the number of the call at
+//! which the source fails or 0, how often the text behind stands in the input, and that text, in which
+//! `|` stands for a line feed and `~` for a blank. A line is written with the status and the output.
+//! In place of the words stand `@read` and `@write` for a source and a sink by themselves, and
+//! `@broken-source` and `@broken-sink` for those over streams of std that break.
+#![tactic(auto)]
+
+mod cases;
+mod ends;
+
+use plain_data::copies::OutOfMemory;
+use std::io;
+
+fn main(rt: HostRuntime) -> io::Result<()> {
+    for line in rt.lines(rt.alloc()) {
+        match cases::answer(&rt, rt.alloc(), line?.as_str()) {
+            Ok(text) => println!(rt; "{text}")?,
+            Err(OutOfMemory) => println!(rt; "no memory")?,
+        }
+    }
+    Ok(())
+}

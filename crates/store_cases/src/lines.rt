@@ -1,0 +1,179 @@
+//! What a line asks for.
+
+use crate::bench::Bench;
+use crate::keyed::{create, create_in, keyed, list, update};
+use crate::nodes::{of_devices, pool};
+use crate::shown::shown;
+use crate::words::{Named, number, seat, small, text, words_of};
+use call_types::request::Request;
+use plain_data::copies::OutOfMemory;
+use std::alloc::Global;
+
+fn time(alloc: Global, words: &[&str]) -> Result<Option<Request>, OutOfMemory> {
+    match words {
+        [at] => Ok(Some(Request::SetTime {
+            at: text(alloc, at)?,
+        })),
+        _ => Ok(None),
+    }
+}
+
+fn of_words(alloc: Global, verb: &str, words: &[&str]) -> Result<Option<Request>, OutOfMemory> {
+    match verb {
+        "list" => list(alloc, words),
+        "time" => time(alloc, words),
+        "get" | "delete" | "edit" | "status" | "bind" | "finish" => match words {
+            [kind, namespace, name, rest @ ..] => keyed(
+                alloc,
+                verb,
+                Named {
+                    kind,
+                    namespace,
+                    name,
+                },
+                rest,
+            ),
+            _ => Ok(None),
+        },
+        _ => of_devices(alloc, verb, words),
+    }
+}
+
+fn request(alloc: Global, verb: &str, rest: &str) -> Result<Option<Request>, OutOfMemory> {
+    match verb {
+        "create" => Ok(create(alloc, rest)),
+        "update" => Ok(update(alloc, rest)),
+        "create-in" => create_in(alloc, rest),
+        _ => {
+            let words = words_of(alloc, rest)?;
+            of_words(alloc, verb, &words)
+        }
+    }
+}
+
+// Sets up what the words say. True where they set something up.
+fn sets_up(
+    alloc: Global,
+    bench: &mut Bench,
+    verb: &str,
+    words: &[&str],
+) -> Result<bool, OutOfMemory> {
+    match (verb, words) {
+        ("new", _) => bench.clear()?,
+        ("as", [word]) => bench.kind = seat(word),
+        ("fault", [word]) => bench.faults.push(number(word))?,
+        ("devices", _) => bench.equip()?,
+        ("pool", _) => match pool(alloc, words)? {
+            None => return Ok(false),
+            Some(pool) => bench.pools.push(pool)?,
+        },
+        _ => return Ok(false),
+    }
+    Ok(true)
+}
+
+fn no_call(alloc: Global) -> Result<Option<String>, OutOfMemory> {
+    Ok(Some(String::from_str(alloc, "no such call")?))
+}
+
+fn called(
+    alloc: Global,
+    bench: &mut Bench,
+    verb: &str,
+    rest: &str,
+) -> Result<Option<String>, OutOfMemory> {
+    match request(alloc, verb, rest)? {
+        None => no_call(alloc),
+        Some(request) => {
+            let reply = bench.call(&request)?;
+            Ok(Some(bench.line(request, reply, true)?))
+        }
+    }
+}
+
+// The call on the store alone.
+fn stored(
+    alloc: Global,
+    bench: &mut Bench,
+    verb: &str,
+    rest: &str,
+) -> Result<Option<String>, OutOfMemory> {
+    match request(alloc, verb, rest)? {
+        None => no_call(alloc),
+        Some(request) => {
+            let reply = bench.call_store(&request)?;
+            Ok(Some(bench.line(request, reply, true)?))
+        }
+    }
+}
+
+// What the call would be answered. It counts as not told.
+fn answered(
+    alloc: Global,
+    bench: &Bench,
+    verb: &str,
+    rest: &str,
+) -> Result<Option<String>, OutOfMemory> {
+    match request(alloc, verb, rest)? {
+        None => no_call(alloc),
+        Some(request) => {
+            let reply = bench.answer(&request)?;
+            Ok(Some(bench.line(request, reply, false)?))
+        }
+    }
+}
+
+// The call so many times, without a line.
+fn repeated(
+    alloc: Global,
+    bench: &mut Bench,
+    count: &str,
+    call: &str,
+) -> Result<Option<String>, OutOfMemory> {
+    let (verb, rest) = split(call);
+    match request(alloc, verb, rest)? {
+        None => no_call(alloc),
+        Some(request) => {
+            for _ in 0..small(count) {
+                let _ = bench.call(&request)?;
+            }
+            Ok(None)
+        }
+    }
+}
+
+fn split(line: &str) -> (&str, &str) {
+    match line.split_once(' ') {
+        None => (line, ""),
+        Some(parts) => parts,
+    }
+}
+
+fn other(
+    alloc: Global,
+    bench: &mut Bench,
+    verb: &str,
+    rest: &str,
+) -> Result<Option<String>, OutOfMemory> {
+    let words = words_of(alloc, rest)?;
+    if sets_up(alloc, bench, verb, &words)? {
+        return Ok(None);
+    }
+    match shown(alloc, bench, verb, &words)? {
+        None => called(alloc, bench, verb, rest),
+        Some(text) => Ok(Some(text)),
+    }
+}
+
+/// What is written for a line, if anything.
+pub fn answer(alloc: Global, bench: &mut Bench, line: &str) -> Result<Option<String>, OutOfMemory> {
+    let (verb, rest) = split(line);
+    let (next, behind) = split(rest);
+    match verb {
+        "create" | "update" | "create-in" => called(alloc, bench, verb, rest),
+        "plain" => stored(alloc, bench, next, behind),
+        "answer" => answered(alloc, bench, next, behind),
+        "repeat" => repeated(alloc, bench, next, behind),
+        _ => other(alloc, bench, verb, rest),
+    }
+}
