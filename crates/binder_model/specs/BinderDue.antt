@@ -20,7 +20,7 @@ unfoldable pub claim_with : Uid → Option Object → Option ClaimData
 claim_with uid (Some (Claim c)) = if is_uid c.meta.uid uid then Some c else None
 claim_with uid _ = None
 
--- the volume's reference is the controller's to take back, and its data are to be erased
+-- a provisioner made the volume, and its policy is Delete
 abbrev pub is_reclaimed : VolumeData → Bool
 is_reclaimed v = has_key provisioned_by v.meta.annotations && is_delete v.policy
 
