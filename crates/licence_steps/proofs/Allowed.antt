@@ -76,30 +76,37 @@ same_version (Some g) told now e v =
     let n : g ≡ now = grind (arith, nat_tests) in
     sym same ∙ n
 
-at_one : (setup : Setup) (past : List Entry) → Invariant setup past → (o a : Object) (key : Key) (given : Option ℕ) → Was setup past o → given ≡ Some (meta_of o).version → key_of o ≡ key → row_at key (world setup past).store.rows ≡ Some a → is_other_version given (meta_of a).version ≡ false → o ≡ a
+at_one : (setup : Setup) (past : List Entry) → Invariant setup past → (o a : Object) (key : Key) (given : Option ℕ) → Was setup past o
+    → given ≡ Some (meta_of o).version → key_of o ≡ key → row_at key (world setup past).store.rows ≡ Some a
+    → is_other_version given (meta_of a).version ≡ false → o ≡ a
 at_one setup past inv o a key given was version keyed is v =
     inv.one o a was (row_was setup past key a is) (keyed ∙ sym (row_at_key key a _ is)) (same_version given (meta_of o).version (meta_of a).version version v)
 
-volume_at : (o : VolumeData) (key : Key) (given : Option ℕ) → key.kind ≡ kinds.PersistentVolume → IsWrittenAt given key.namespace key.name o.meta → key_of (Volume o) ≡ key
+volume_at : (o : VolumeData) (key : Key) (given : Option ℕ) → key.kind ≡ kinds.PersistentVolume → IsWrittenAt given key.namespace key.name o.meta
+    → key_of (Volume o) ≡ key
 volume_at o key given k at = λ i. record { kind = sym k i; namespace = at.placed i; name = at.named i }
 
-claim_at : (o : ClaimData) (key : Key) (given : Option ℕ) → key.kind ≡ kinds.PersistentVolumeClaim → IsWrittenAt given key.namespace key.name o.meta → key_of (Claim o) ≡ key
+claim_at : (o : ClaimData) (key : Key) (given : Option ℕ) → key.kind ≡ kinds.PersistentVolumeClaim → IsWrittenAt given key.namespace key.name o.meta
+    → key_of (Claim o) ≡ key
 claim_at o key given k at = λ i. record { kind = sym k i; namespace = at.placed i; name = at.named i }
 
--- a row at the told object is one at the object that stands
-at_volume : (setup : Setup) (past mine : List Entry) → Invariant setup past → Known setup past mine → (a : VolumeData) (key : Key) (given : Option ℕ) (Row : VolumeData → Type 0) → key.kind ≡ kinds.PersistentVolume
-    → ToldVolume (λ o. IsWrittenAt given key.namespace key.name o.meta × Row o) mine → row_at key (world setup past).store.rows ≡ Some (Volume a) → is_other_version given a.meta.version ≡ false → Row a
-at_volume setup past mine inv known a key given Row k told is v =
-    let t = told_volume setup past mine known.told (λ o. IsWrittenAt given key.namespace key.name o.meta × Row o) told in
-    let same : t.0 ≡ a = same_volume t.0 a (at_one setup past inv (Volume t.0) (Volume a) key given t.1 t.2.0.version (volume_at t.0 key given k t.2.0) is v) in
-    subst Row same t.2.1
+module _ (setup : Setup) (past mine : List Entry) (inv : Invariant setup past) (known : Known setup past mine) where
+  -- a row at the told object is one at the object that stands
+  at_volume : (a : VolumeData) (key : Key) (given : Option ℕ) (Row : VolumeData → Type 0) → key.kind ≡ kinds.PersistentVolume
+      → ToldVolume (λ o. IsWrittenAt given key.namespace key.name o.meta × Row o) mine → row_at key (world setup past).store.rows ≡ Some (Volume a)
+      → is_other_version given a.meta.version ≡ false → Row a
+  at_volume a key given Row k told is v =
+      let t = told_volume setup past mine known.told (λ o. IsWrittenAt given key.namespace key.name o.meta × Row o) told in
+      let same : t.0 ≡ a = same_volume t.0 a (at_one setup past inv (Volume t.0) (Volume a) key given t.1 t.2.0.version (volume_at t.0 key given k t.2.0) is v) in
+      subst Row same t.2.1
 
-pub at_claim : (setup : Setup) (past mine : List Entry) → Invariant setup past → Known setup past mine → (a : ClaimData) (key : Key) (given : Option ℕ) (Row : ClaimData → Type 0) → key.kind ≡ kinds.PersistentVolumeClaim
-    → ToldClaim (λ o. IsWrittenAt given key.namespace key.name o.meta × Row o) mine → row_at key (world setup past).store.rows ≡ Some (Claim a) → is_other_version given a.meta.version ≡ false → Row a
-at_claim setup past mine inv known a key given Row k told is v =
-    let t = told_claim setup past mine known.told (λ o. IsWrittenAt given key.namespace key.name o.meta × Row o) told in
-    let same : t.0 ≡ a = same_claim_object t.0 a (at_one setup past inv (Claim t.0) (Claim a) key given t.1 t.2.0.version (claim_at t.0 key given k t.2.0) is v) in
-    subst Row same t.2.1
+  pub at_claim : (a : ClaimData) (key : Key) (given : Option ℕ) (Row : ClaimData → Type 0) → key.kind ≡ kinds.PersistentVolumeClaim
+      → ToldClaim (λ o. IsWrittenAt given key.namespace key.name o.meta × Row o) mine → row_at key (world setup past).store.rows ≡ Some (Claim a)
+      → is_other_version given a.meta.version ≡ false → Row a
+  at_claim a key given Row k told is v =
+      let t = told_claim setup past mine known.told (λ o. IsWrittenAt given key.namespace key.name o.meta × Row o) told in
+      let same : t.0 ≡ a = same_claim_object t.0 a (at_one setup past inv (Claim t.0) (Claim a) key given t.1 t.2.0.version (claim_at t.0 key given k t.2.0) is v) in
+      subst Row same t.2.1
 
 faulty_none : (b : Bool) (f : Field) (next : Option Field) → faulty b f next ≡ None → (b ≡ false) × (next ≡ None)
 unfolding faulty
@@ -128,73 +135,87 @@ pod_same a b e =
 
 -- updates
 
-binder_volume : (setup : Setup) (past mine : List Entry) → Invariant setup past → Known setup past mine → (a b : VolumeData) (n : ℕ) (u : Option Uid) → IsSafe a → BinderVolume u mine b a → VolumeStep setup past a (stored_volume a b n)
-binder_volume setup past mine inv known a b n None safe row = unbind_step setup past mine inv known.told a b n safe row
-binder_volume setup past mine inv known a b n (Some u) safe row = take_step setup past mine known.told a b n safe row
+module _ (setup : Setup) (past mine : List Entry) (inv : Invariant setup past) (known : Known setup past mine) where
+  binder_volume : (a b : VolumeData) (n : ℕ) (u : Option Uid) → IsSafe a → BinderVolume u mine b a → VolumeStep setup past a (stored_volume a b n)
+  binder_volume a b n None safe row = unbind_step setup past mine inv known.told a b n safe row
+  binder_volume a b n (Some u) safe row = take_step setup past mine known.told a b n safe row
 
-volume_guard : (setup : Setup) (past : List Entry) (a b : VolumeData) (n : ℕ) (guards : Bool) → IsSafe a → VolumeGuard guards b a → VolumeStep setup past a (stored_volume a b n)
+volume_guard : (setup : Setup) (past : List Entry) (a b : VolumeData) (n : ℕ) (guards : Bool) → IsSafe a → VolumeGuard guards b a
+    → VolumeStep setup past a (stored_volume a b n)
 volume_guard setup past a b n true safe row = guard_step setup past a b n safe row
 volume_guard setup past a b n false safe row = unguard_step setup past a b n row
 
-claim_guard : (setup : Setup) (past mine : List Entry) → Known setup past mine → (a b : ClaimData) (n : ℕ) (guards : Bool) → is_protected_claim b ≡ guards → ClaimGuard guards mine b a → ClaimStep setup past a (stored_claim a b n)
+claim_guard : (setup : Setup) (past mine : List Entry) → Known setup past mine → (a b : ClaimData) (n : ℕ) (guards : Bool)
+    → is_protected_claim b ≡ guards → ClaimGuard guards mine b a → ClaimStep setup past a (stored_claim a b n)
 claim_guard setup past mine known a b n true is row = guard_claim_step setup past a b n is row
 claim_guard setup past mine known a b n false is row = unguard_claim_step setup past mine known.seat known.is_own a b n row
 
-user_volume : (setup : Setup) (past : List Entry) (a b : VolumeData) (n : ℕ) → IsSafe a → guard_on seats.User (Some (Volume a)) (Volume b) ≡ None → VolumeStep setup past a (stored_volume a b n)
+user_volume : (setup : Setup) (past : List Entry) (a b : VolumeData) (n : ℕ) → IsSafe a → guard_on seats.User (Some (Volume a)) (Volume b) ≡ None
+    → VolumeStep setup past a (stored_volume a b n)
 user_volume setup past a b n safe g = user_step setup past a b n safe (passes (Some (Volume a)) (Volume b) g)
 
-user_claim : (setup : Setup) (past : List Entry) (a b : ClaimData) (n : ℕ) → guard_on seats.User (Some (Claim a)) (Claim b) ≡ None → ClaimStep setup past a (stored_claim a b n)
+user_claim : (setup : Setup) (past : List Entry) (a b : ClaimData) (n : ℕ) → guard_on seats.User (Some (Claim a)) (Claim b) ≡ None
+    → ClaimStep setup past a (stored_claim a b n)
 user_claim setup past a b n g = same_claim setup past a (stored_claim a b n) (ap is_some (sym (completion_same (Some (Claim a)) (Claim b) (passes (Some (Claim a)) (Claim b) g)))) (sym (claim_guards_same (Claim a) (Claim b) (passes (Some (Claim a)) (Claim b) g)))
 
-update_volume : (setup : Setup) (past mine : List Entry) → Invariant setup past → Known setup past mine → (kind : SeatKind) (a b : VolumeData) (given : Option ℕ) (n : ℕ) → IsSafe a → Licensed kind mine (requests.Update (Volume b) given)
-    → guard_on kind (Some (Volume a)) (Volume b) ≡ None → is_other_version given a.meta.version ≡ false → row_at (key_of (Volume b)) (world setup past).store.rows ≡ Some (Volume a) → VolumeStep setup past a (stored_volume a b n)
-update_volume setup past mine inv known seats.User a b given n safe l g v is = user_volume setup past a b n safe g
-update_volume setup past mine inv known seats.Binder a b given n safe l g v is =
-    binder_volume setup past mine inv known a b n (ref_uid b.claim_ref) safe (at_volume setup past mine inv known a (key_of (Volume b)) given (BinderVolume (ref_uid b.claim_ref) mine b) refl l.1 is v)
-update_volume setup past mine inv known seats.Ops a b given n safe l g v is = absurd l.1
-update_volume setup past mine inv known seats.Scheduler a b given n safe l g v is =
-    take_step setup past mine known.told a b n safe (at_volume setup past mine inv known a (key_of (Volume b)) given (SchedulerVolume mine b) refl l.1 is v)
-update_volume setup past mine inv known seats.ClaimProtect a b given n safe l g v is = absurd l.1
-update_volume setup past mine inv known seats.VolumeProtect a b given n safe l g v is =
-    volume_guard setup past a b n (is_protected_volume b) safe (at_volume setup past mine inv known a (key_of (Volume b)) given (VolumeGuard (is_protected_volume b) b) refl l.1 is v)
-update_volume setup past mine inv known seats.Agent a b given n safe l g v is = absurd l.1
+module _ (setup : Setup) (past mine : List Entry) (inv : Invariant setup past) (known : Known setup past mine) where
+  update_volume : (kind : SeatKind) (a b : VolumeData) (given : Option ℕ) (n : ℕ) → IsSafe a → Licensed kind mine (requests.Update (Volume b) given)
+      → guard_on kind (Some (Volume a)) (Volume b) ≡ None → is_other_version given a.meta.version ≡ false
+      → row_at (key_of (Volume b)) (world setup past).store.rows ≡ Some (Volume a) → VolumeStep setup past a (stored_volume a b n)
+  update_volume seats.User a b given n safe l g v is = user_volume setup past a b n safe g
+  update_volume seats.Binder a b given n safe l g v is =
+      binder_volume setup past mine inv known a b n (ref_uid b.claim_ref) safe (at_volume setup past mine inv known a (key_of (Volume b)) given (BinderVolume (ref_uid b.claim_ref) mine b) refl l.1 is v)
+  update_volume seats.Ops a b given n safe l g v is = absurd l.1
+  update_volume seats.Scheduler a b given n safe l g v is =
+      take_step setup past mine known.told a b n safe (at_volume setup past mine inv known a (key_of (Volume b)) given (SchedulerVolume mine b) refl l.1 is v)
+  update_volume seats.ClaimProtect a b given n safe l g v is = absurd l.1
+  update_volume seats.VolumeProtect a b given n safe l g v is =
+      volume_guard setup past a b n (is_protected_volume b) safe (at_volume setup past mine inv known a (key_of (Volume b)) given (VolumeGuard (is_protected_volume b) b) refl l.1 is v)
+  update_volume seats.Agent a b given n safe l g v is = absurd l.1
 
-update_claim : (setup : Setup) (past mine : List Entry) → Invariant setup past → Known setup past mine → (kind : SeatKind) (a b : ClaimData) (given : Option ℕ) (n : ℕ) → Licensed kind mine (requests.Update (Claim b) given)
-    → guard_on kind (Some (Claim a)) (Claim b) ≡ None → is_other_version given a.meta.version ≡ false → row_at (key_of (Claim b)) (world setup past).store.rows ≡ Some (Claim a) → ClaimStep setup past a (stored_claim a b n)
-update_claim setup past mine inv known seats.User a b given n l g v is = user_claim setup past a b n g
-update_claim setup past mine inv known seats.Binder a b given n l g v is =
-    complete_step setup past mine known.told a b n (at_claim setup past mine inv known a (key_of (Claim b)) given (λ o. MayComplete mine o b) refl l.1 is v)
-update_claim setup past mine inv known seats.Ops a b given n l g v is =
-    clear_step setup past mine a b n (at_claim setup past mine inv known a (key_of (Claim b)) given (λ o. MayClearNode mine o b) refl l.1 is v)
-update_claim setup past mine inv known seats.Scheduler a b given n l g v is =
-    select_step setup past mine a b n (at_claim setup past mine inv known a (key_of (Claim b)) given (λ o. MaySelectNode mine o b) refl l.1 is v)
-update_claim setup past mine inv known seats.ClaimProtect a b given n l g v is =
-    claim_guard setup past mine known a b n (is_protected_claim b) refl (at_claim setup past mine inv known a (key_of (Claim b)) given (ClaimGuard (is_protected_claim b) mine b) refl l.1 is v)
-update_claim setup past mine inv known seats.VolumeProtect a b given n l g v is = absurd l.1
-update_claim setup past mine inv known seats.Agent a b given n l g v is = absurd l.1
+  update_claim : (kind : SeatKind) (a b : ClaimData) (given : Option ℕ) (n : ℕ) → Licensed kind mine (requests.Update (Claim b) given)
+      → guard_on kind (Some (Claim a)) (Claim b) ≡ None → is_other_version given a.meta.version ≡ false
+      → row_at (key_of (Claim b)) (world setup past).store.rows ≡ Some (Claim a) → ClaimStep setup past a (stored_claim a b n)
+  update_claim seats.User a b given n l g v is = user_claim setup past a b n g
+  update_claim seats.Binder a b given n l g v is =
+      complete_step setup past mine known.told a b n (at_claim setup past mine inv known a (key_of (Claim b)) given (λ o. MayComplete mine o b) refl l.1 is v)
+  update_claim seats.Ops a b given n l g v is =
+      clear_step setup past mine a b n (at_claim setup past mine inv known a (key_of (Claim b)) given (λ o. MayClearNode mine o b) refl l.1 is v)
+  update_claim seats.Scheduler a b given n l g v is =
+      select_step setup past mine a b n (at_claim setup past mine inv known a (key_of (Claim b)) given (λ o. MaySelectNode mine o b) refl l.1 is v)
+  update_claim seats.ClaimProtect a b given n l g v is =
+      claim_guard setup past mine known a b n (is_protected_claim b) refl (at_claim setup past mine inv known a (key_of (Claim b)) given (ClaimGuard (is_protected_claim b) mine b) refl l.1 is v)
+  update_claim seats.VolumeProtect a b given n l g v is = absurd l.1
+  update_claim seats.Agent a b given n l g v is = absurd l.1
 
 -- what is Bound in the store is protected
-is_safe : (setup : Setup) (past : List Entry) → Invariant setup past → (key : Key) (a : VolumeData) → row_at key (world setup past).store.rows ≡ Some (Volume a) → IsSafe a
+is_safe : (setup : Setup) (past : List Entry) → Invariant setup past → (key : Key) (a : VolumeData)
+    → row_at key (world setup past).store.rows ≡ Some (Volume a) → IsSafe a
 is_safe setup past inv key a is bound = inv.guarded key a is bound
 
-update_step : (setup : Setup) (past mine : List Entry) → Invariant setup past → Known setup past mine → (kind : SeatKind) (old new : Object) (given : Option ℕ) (n : ℕ) → Licensed kind mine (requests.Update new given)
-    → guard_on kind (Some old) new ≡ None → is_other_version given (meta_of old).version ≡ false → row_at (key_of new) (world setup past).store.rows ≡ Some old → update_fault old new ≡ None → KindStep setup past old (updated_object old new n)
-unfolding updated_object with_status_of with_meta
-update_step setup past mine inv known kind (Volume a) (Volume b) given n l g v is f = update_volume setup past mine inv known kind a b given n (is_safe setup past inv (key_of (Volume b)) a is) l g v is
-update_step setup past mine inv known kind (Claim a) (Claim b) given n l g v is f = update_claim setup past mine inv known kind a b given n l g v is
-update_step setup past mine inv known kind (Pod a) (Pod b) given n l g v is f = let s = pod_same a b f in record { placed = λ t. s.0; claims = s.1 }
-update_step setup past mine inv known kind old new given n l g v is f = tt
+module _ (setup : Setup) (past mine : List Entry) (inv : Invariant setup past) (known : Known setup past mine) where
+  update_step : (kind : SeatKind) (old new : Object) (given : Option ℕ) (n : ℕ) → Licensed kind mine (requests.Update new given)
+      → guard_on kind (Some old) new ≡ None → is_other_version given (meta_of old).version ≡ false
+      → row_at (key_of new) (world setup past).store.rows ≡ Some old → update_fault old new ≡ None
+      → KindStep setup past old (updated_object old new n)
+  unfolding updated_object with_status_of with_meta
+  update_step kind (Volume a) (Volume b) given n l g v is f = update_volume setup past mine inv known kind a b given n (is_safe setup past inv (key_of (Volume b)) a is) l g v is
+  update_step kind (Claim a) (Claim b) given n l g v is f = update_claim setup past mine inv known kind a b given n l g v is
+  update_step kind (Pod a) (Pod b) given n l g v is f = let s = pod_same a b f in record { placed = λ t. s.0; claims = s.1 }
+  update_step kind old new given n l g v is f = tt
 
-update_made : (setup : Setup) (past mine : List Entry) → Invariant setup past → Known setup past mine → (kind : SeatKind) (new : Object) (given : Option ℕ) (o : Object) → Licensed kind mine (requests.Update new given) → IsUpdate (world setup past).store kind new given o → Made setup past o
-update_made setup past mine inv known kind new given o l u = inr (record {
-  old = u.old;
-  next = updated_next (world setup past).store kind new given o u;
-  step = subst (KindStep setup past u.old) (sym u.is) (update_step setup past mine inv known kind u.old new given _ l u.guard u.version u.there u.fault);
-})
+  update_made : (kind : SeatKind) (new : Object) (given : Option ℕ) (o : Object) → Licensed kind mine (requests.Update new given)
+      → IsUpdate (world setup past).store kind new given o → Made setup past o
+  update_made kind new given o l u = inr (record {
+    old = u.old;
+    next = updated_next (world setup past).store kind new given o u;
+    step = subst (KindStep setup past u.old) (sym u.is) (update_step kind u.old new given _ l u.guard u.version u.there u.fault);
+  })
 
--- edits
+  -- edits
 
-edit_step : (setup : Setup) (past : List Entry) → Invariant setup past → (old new : Object) (n : ℕ) → guard_on seats.User (Some old) new ≡ None → row_at (key_of new) (world setup past).store.rows ≡ Some old → update_fault old new ≡ None → KindStep setup past old (updated_object old new n)
+edit_step : (setup : Setup) (past : List Entry) → Invariant setup past → (old new : Object) (n : ℕ) → guard_on seats.User (Some old) new ≡ None
+    → row_at (key_of new) (world setup past).store.rows ≡ Some old → update_fault old new ≡ None → KindStep setup past old (updated_object old new n)
 unfolding updated_object with_status_of with_meta
 edit_step setup past inv (Volume a) (Volume b) n g is f = user_volume setup past a b n (is_safe setup past inv (key_of (Volume b)) a is) g
 edit_step setup past inv (Claim a) (Claim b) n g is f = user_claim setup past a b n g
@@ -210,59 +231,69 @@ edited_made setup past inv new o u = inr (record {
 
 -- statuses
 
-binder_phase : (setup : Setup) (past mine : List Entry) → Invariant setup past → Known setup past mine → (a : VolumeData) (phase : VolumePhase) (n : ℕ) → IsSafe a → BinderPhase phase mine a → VolumeStep setup past a (phased a phase n)
-binder_phase setup past mine inv known a volumes.Pending n safe row = absurd row
-binder_phase setup past mine inv known a volumes.Available n safe row = free_step setup past a n safe row
-binder_phase setup past mine inv known a volumes.Bound n safe row = bind_step setup past mine a n row
-binder_phase setup past mine inv known a volumes.Released n safe row = end_step setup past a volumes.Released n refl refl safe (inr (release_away setup past mine inv known.told known.gone a row))
-binder_phase setup past mine inv known a volumes.Failed n safe row = absurd row
+module _ (setup : Setup) (past mine : List Entry) (inv : Invariant setup past) (known : Known setup past mine) where
+  binder_phase : (a : VolumeData) (phase : VolumePhase) (n : ℕ) → IsSafe a → BinderPhase phase mine a → VolumeStep setup past a (phased a phase n)
+  binder_phase a volumes.Pending n safe row = absurd row
+  binder_phase a volumes.Available n safe row = free_step setup past a n safe row
+  binder_phase a volumes.Bound n safe row = bind_step setup past mine a n row
+  binder_phase a volumes.Released n safe row = end_step setup past a volumes.Released n refl refl safe (inr (release_away setup past mine inv known.told known.gone a row))
+  binder_phase a volumes.Failed n safe row = absurd row
 
-ops_phase : (setup : Setup) (past mine : List Entry) (a : VolumeData) (phase : VolumePhase) (n : ℕ) → IsSafe a → OpsPhase phase mine a → VolumeStep setup past a (phased a phase n)
+ops_phase : (setup : Setup) (past mine : List Entry) (a : VolumeData) (phase : VolumePhase) (n : ℕ) → IsSafe a → OpsPhase phase mine a
+    → VolumeStep setup past a (phased a phase n)
 ops_phase setup past mine a volumes.Failed n safe row = end_step setup past a volumes.Failed n refl refl safe (inl row.ended)
 ops_phase setup past mine a volumes.Pending n safe row = absurd row
 ops_phase setup past mine a volumes.Available n safe row = absurd row
 ops_phase setup past mine a volumes.Bound n safe row = absurd row
 ops_phase setup past mine a volumes.Released n safe row = absurd row
 
-volume_status : (setup : Setup) (past mine : List Entry) → Invariant setup past → Known setup past mine → (kind : SeatKind) (key : Key) (a : VolumeData) (phase : VolumePhase) (given : Option ℕ) (n : ℕ) → Licensed kind mine (requests.UpdateStatus key (statuses.Volume phase) given)
-    → is_user kind ≡ false → is_other_version given a.meta.version ≡ false → row_at key (world setup past).store.rows ≡ Some (Volume a) → VolumeStep setup past a (phased a phase n)
-volume_status setup past mine inv known seats.User key a phase given n l c v is = absurd (true≢false c)
-volume_status setup past mine inv known seats.Binder key a phase given n l c v is =
-    binder_phase setup past mine inv known a phase n (is_safe setup past inv key a is) (at_volume setup past mine inv known a key given (BinderPhase phase mine) l.1.0 l.1.1 is v)
-volume_status setup past mine inv known seats.Ops key a phase given n l c v is =
-    ops_phase setup past mine a phase n (is_safe setup past inv key a is) (at_volume setup past mine inv known a key given (OpsPhase phase mine) l.1.0 l.1.1 is v)
-volume_status setup past mine inv known seats.Scheduler key a phase given n l c v is = absurd l.1
-volume_status setup past mine inv known seats.ClaimProtect key a phase given n l c v is = absurd l.1
-volume_status setup past mine inv known seats.VolumeProtect key a phase given n l c v is = absurd l.1
-volume_status setup past mine inv known seats.Agent key a phase given n l c v is = absurd l.1
+module _ (setup : Setup) (past mine : List Entry) (inv : Invariant setup past) (known : Known setup past mine) where
+  volume_status : (kind : SeatKind) (key : Key) (a : VolumeData) (phase : VolumePhase) (given : Option ℕ) (n : ℕ)
+      → Licensed kind mine (requests.UpdateStatus key (statuses.Volume phase) given)
+      → is_user kind ≡ false → is_other_version given a.meta.version ≡ false → row_at key (world setup past).store.rows ≡ Some (Volume a)
+      → VolumeStep setup past a (phased a phase n)
+  volume_status seats.User key a phase given n l c v is = absurd (true≢false c)
+  volume_status seats.Binder key a phase given n l c v is =
+      binder_phase setup past mine inv known a phase n (is_safe setup past inv key a is) (at_volume setup past mine inv known a key given (BinderPhase phase mine) l.1.0 l.1.1 is v)
+  volume_status seats.Ops key a phase given n l c v is =
+      ops_phase setup past mine a phase n (is_safe setup past inv key a is) (at_volume setup past mine inv known a key given (OpsPhase phase mine) l.1.0 l.1.1 is v)
+  volume_status seats.Scheduler key a phase given n l c v is = absurd l.1
+  volume_status seats.ClaimProtect key a phase given n l c v is = absurd l.1
+  volume_status seats.VolumeProtect key a phase given n l c v is = absurd l.1
+  volume_status seats.Agent key a phase given n l c v is = absurd l.1
 
--- what a status makes of an object
-status_step : (setup : Setup) (past mine : List Entry) → Invariant setup past → Known setup past mine → (kind : SeatKind) (key : Key) (status : NewStatus) (old new : Object) (given : Option ℕ) (n : ℕ) → Licensed kind mine (requests.UpdateStatus key status given)
-    → is_user kind ≡ false → is_other_version given (meta_of old).version ≡ false → row_at key (world setup past).store.rows ≡ Some old → with_status status old ≡ Some new → KindStep setup past old (at_version new n)
-unfolding with_status at_version with_meta
-status_step setup past mine inv known kind key (statuses.Volume phase) (Volume a) new given n l c v is fits =
-    subst (λ (x : Object). KindStep setup past (Volume a) (at_version x n)) (same_Some _ _ fits) (volume_status setup past mine inv known kind key a phase given n l c v is)
-status_step setup past mine inv known kind key (statuses.Claim phase modes amount) (Claim a) new given n l c v is fits =
-    subst (λ (x : Object). KindStep setup past (Claim a) (at_version x n)) (same_Some _ _ fits) (same_claim setup past a _ refl refl)
-status_step setup past mine inv known kind key status old new given n l c v is fits = absurd (true≢false (sym (ap is_some fits)))
+  -- what a status makes of an object
+  status_step : (kind : SeatKind) (key : Key) (status : NewStatus) (old new : Object) (given : Option ℕ) (n : ℕ)
+      → Licensed kind mine (requests.UpdateStatus key status given)
+      → is_user kind ≡ false → is_other_version given (meta_of old).version ≡ false → row_at key (world setup past).store.rows ≡ Some old
+      → with_status status old ≡ Some new → KindStep setup past old (at_version new n)
+  unfolding with_status at_version with_meta
+  status_step kind key (statuses.Volume phase) (Volume a) new given n l c v is fits =
+      subst (λ (x : Object). KindStep setup past (Volume a) (at_version x n)) (same_Some _ _ fits) (volume_status kind key a phase given n l c v is)
+  status_step kind key (statuses.Claim phase modes amount) (Claim a) new given n l c v is fits =
+      subst (λ (x : Object). KindStep setup past (Claim a) (at_version x n)) (same_Some _ _ fits) (same_claim setup past a _ refl refl)
+  status_step kind key status old new given n l c v is fits = absurd (true≢false (sym (ap is_some fits)))
 
-status_made : (setup : Setup) (past mine : List Entry) → Invariant setup past → Known setup past mine → (kind : SeatKind) (key : Key) (status : NewStatus) (given : Option ℕ) (o : Object) → Licensed kind mine (requests.UpdateStatus key status given) → IsStatus (world setup past).store kind key status given o → Made setup past o
-status_made setup past mine inv known kind key status given o l u = inr (record {
-  old = u.old;
-  next = status_next (world setup past).store kind key status given o u;
-  step = subst (KindStep setup past u.old) (sym u.is) (status_step setup past mine inv known kind key status u.old u.new given _ l u.controller u.version u.there u.fits);
-})
+  status_made : (kind : SeatKind) (key : Key) (status : NewStatus) (given : Option ℕ) (o : Object)
+      → Licensed kind mine (requests.UpdateStatus key status given) → IsStatus (world setup past).store kind key status given o → Made setup past o
+  status_made kind key status given o l u = inr (record {
+    old = u.old;
+    next = status_next (world setup past).store kind key status given o u;
+    step = subst (KindStep setup past u.old) (sym u.is) (status_step kind key status u.old u.new given _ l u.controller u.version u.there u.fits);
+  })
 
--- deletes, by anyone
+  -- deletes, by anyone
 
-mark_step : (setup : Setup) (past : List Entry) → Invariant setup past → (key : Key) (old : Object) (n : ℕ) (moment : List ℕ) → row_at key (world setup past).store.rows ≡ Some old → KindStep setup past old (marked_object old n moment)
+mark_step : (setup : Setup) (past : List Entry) → Invariant setup past → (key : Key) (old : Object) (n : ℕ) (moment : List ℕ)
+    → row_at key (world setup past).store.rows ≡ Some old → KindStep setup past old (marked_object old n moment)
 unfolding marked_object with_meta
 mark_step setup past inv key (Volume a) n moment is = same_step setup past a _ refl refl refl (is_safe setup past inv key a is)
 mark_step setup past inv key (Claim a) n moment is = same_claim setup past a _ refl refl
 mark_step setup past inv key (Pod a) n moment is = record { placed = λ s. refl; claims = refl }
 mark_step setup past inv key old n moment is = tt
 
-mark_made : (setup : Setup) (past : List Entry) → Invariant setup past → (key : Key) (given : Option Uid) (o : Object) → IsMark (world setup past).store (world setup past).moment key given o → Made setup past o
+mark_made : (setup : Setup) (past : List Entry) → Invariant setup past → (key : Key) (given : Option Uid) (o : Object)
+    → IsMark (world setup past).store (world setup past).moment key given o → Made setup past o
 mark_made setup past inv key given o u = inr (record {
   old = u.old;
   next = marked_next (world setup past).store (world setup past).moment key given o u;
@@ -296,7 +327,9 @@ volume_placed lacks v e =
     record { global = empty_text v.meta.namespace (not-false _ s.0); titled = titled v.meta.name (not-false _ t.0) }
 
 -- a new volume, whose reference with a UID, if any, names a claim that was
-created_volume : (setup : Setup) (past : List Entry) (lacks : Bool) (default : Option (List ℕ)) (v : VolumeData) (n : ℕ) (moment : List ℕ) → create_fault lacks (Volume v) ≡ None → ((r : Ref) (uid : Uid) → Refers v r uid → WasNamed setup past r uid) → KindStart setup past (created_object default (Volume v) n moment)
+created_volume : (setup : Setup) (past : List Entry) (lacks : Bool) (default : Option (List ℕ)) (v : VolumeData) (n : ℕ) (moment : List ℕ)
+    → create_fault lacks (Volume v) ≡ None → ((r : Ref) (uid : Uid) → Refers v r uid → WasNamed setup past r uid)
+    → KindStart setup past (created_object default (Volume v) n moment)
 unfolding created_object admitted_object without_status with_meta
 created_volume setup past lacks default v n moment fault refers =
     let p = volume_placed lacks v fault in
@@ -320,14 +353,16 @@ has_given name names = by (has_name name names) refl
     by true e = e
     by false e = has_appended name names
 
-user_start : (setup : Setup) (past : List Entry) (lacks : Bool) (default : Option (List ℕ)) (new : Object) (n : ℕ) (moment : List ℕ) → create_fault lacks new ≡ None → guard_on seats.User None new ≡ None → KindStart setup past (created_object default new n moment)
+user_start : (setup : Setup) (past : List Entry) (lacks : Bool) (default : Option (List ℕ)) (new : Object) (n : ℕ) (moment : List ℕ)
+    → create_fault lacks new ≡ None → guard_on seats.User None new ≡ None → KindStart setup past (created_object default new n moment)
 unfolding created_object admitted_object without_status with_meta
 user_start setup past lacks default (Volume v) n moment fault g = created_volume setup past lacks default v n moment fault (λ r uid h. no_uid_given v r uid (passes None (Volume v) g) h)
 user_start setup past lacks default (Claim c) n moment fault g = record { fresh = no_value (value_at bind_completed c.meta.annotations) (completion_same None (Claim c) (passes None (Claim c) g)); guarded = has_given pvc_protection c.meta.finalizers }
 user_start setup past lacks default new n moment fault g = tt
 
 -- the reference of a provisioned volume names a claim that was told
-provisioned : (setup : Setup) (past mine : List Entry) → Known setup past mine → (v : VolumeData) → MayCreate mine v → (r : Ref) (uid : Uid) → Refers v r uid → WasNamed setup past r uid
+provisioned : (setup : Setup) (past mine : List Entry) → Known setup past mine → (v : VolumeData) → MayCreate mine v → (r : Ref) (uid : Uid)
+    → Refers v r uid → WasNamed setup past r uid
 unfolding provisioned_volume
 provisioned setup past mine known v row r uid h =
     let t = known.told (λ x. x ≡ Claim row.claim) (newest_told mine _ (Claim row.claim) row.newest) in
@@ -335,13 +370,17 @@ provisioned setup past mine known v row r uid h =
     let e : ref_to row.claim ≡ r = same_Some _ _ (sym (ap (λ (x : VolumeData). x.claim_ref) row.object) ∙ h.is) in
     record { claim = row.claim; was = was; placed = ap (λ (z : Ref). z.namespace) e; named = ap (λ (z : Ref). z.name) e; its = ap (λ (z : Ref). z.uid) e ∙ h.known }
 
-create_start : (setup : Setup) (past mine : List Entry) → Known setup past mine → (kind : SeatKind) (lacks : Bool) (default : Option (List ℕ)) (new : Object) (n : ℕ) (moment : List ℕ) → Licensed kind mine (requests.Create new) → create_fault lacks new ≡ None → guard_on kind None new ≡ None → KindStart setup past (created_object default new n moment)
+create_start : (setup : Setup) (past mine : List Entry) → Known setup past mine
+    → (kind : SeatKind) (lacks : Bool) (default : Option (List ℕ)) (new : Object) (n : ℕ) (moment : List ℕ) → Licensed kind mine (requests.Create new)
+    → create_fault lacks new ≡ None → guard_on kind None new ≡ None → KindStart setup past (created_object default new n moment)
 create_start setup past mine known seats.User lacks default new n moment l fault g = user_start setup past lacks default new n moment fault g
 create_start setup past mine known seats.Ops lacks default (Volume v) n moment l fault g = created_volume setup past lacks default v n moment fault (provisioned setup past mine known v l.1)
 create_start setup past mine known seats.Ops lacks default new n moment l fault g = absurd l.1
 create_start setup past mine known kind lacks default new n moment l fault g = absurd l.1
 
-create_made : (setup : Setup) (past mine : List Entry) → (world setup past).store.version + 1 < most_serials → Known setup past mine → (kind : SeatKind) (new o : Object) → Licensed kind mine (requests.Create new) → IsCreate (world setup past).store kind (world setup past).moment new o → Made setup past o
+create_made : (setup : Setup) (past mine : List Entry) → (world setup past).store.version + 1 < most_serials → Known setup past mine
+    → (kind : SeatKind) (new o : Object) → Licensed kind mine (requests.Create new)
+    → IsCreate (world setup past).store kind (world setup past).moment new o → Made setup past o
 create_made setup past mine room known kind new o l c = inl (record {
   room = room;
   first = created_first (world setup past).store kind (world setup past).moment new o c;
@@ -349,12 +388,15 @@ create_made setup past mine room known kind new o l c = inl (record {
 })
 
 -- no controller edits
-edit_made : (setup : Setup) (past mine : List Entry) → Invariant setup past → (kind : SeatKind) (key : Key) (change : Edit) (o : Object) → Licensed kind mine (requests.Edit key change) → IsEdit (world setup past).store kind o → Made setup past o
+edit_made : (setup : Setup) (past mine : List Entry) → Invariant setup past → (kind : SeatKind) (key : Key) (change : Edit) (o : Object)
+    → Licensed kind mine (requests.Edit key change) → IsEdit (world setup past).store kind o → Made setup past o
 edit_made setup past mine inv seats.User key change o l f = edited_made setup past inv f.new o f.update
 edit_made setup past mine inv kind key change o l f = absurd l.1
 
 -- each write of an allowed request is one that any run may make
-pub made : (setup : Setup) (past mine : List Entry) → (world setup past).store.version + 1 < most_serials → Invariant setup past → Known setup past mine → (kind : SeatKind) (request : Request) → Licensed kind mine request → (o : Object) → Writes (world setup past) kind request o → Made setup past o
+pub made : (setup : Setup) (past mine : List Entry) → (world setup past).store.version + 1 < most_serials → Invariant setup past
+    → Known setup past mine → (kind : SeatKind) (request : Request) → Licensed kind mine request → (o : Object)
+    → Writes (world setup past) kind request o → Made setup past o
 made setup past mine room inv known kind (requests.Create new) l o f = create_made setup past mine room known kind new o l f
 made setup past mine room inv known kind (requests.Update new given) l o f = update_made setup past mine inv known kind new given o l f
 made setup past mine room inv known kind (requests.UpdateStatus key status given) l o f = status_made setup past mine inv known kind key status given o l f

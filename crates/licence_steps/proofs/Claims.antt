@@ -32,7 +32,8 @@ abbrev pub stored_claim : ClaimData → ClaimData → ℕ → ClaimData
 stored_claim o new n = record new { phase = o.phase; got_modes = o.got_modes; got = o.got; meta = record new.meta { uid = o.meta.uid; version = n; created = o.meta.created; deleted = o.meta.deleted } }
 
 -- what keeps the mark of completion
-pub same_claim : (setup : Setup) (past : List Entry) (o new : ClaimData) → is_completed new ≡ is_completed o → is_protected_claim new ≡ is_protected_claim o → ClaimStep setup past o new
+pub same_claim : (setup : Setup) (past : List Entry) (o new : ClaimData) → is_completed new ≡ is_completed o
+    → is_protected_claim new ≡ is_protected_claim o → ClaimStep setup past o new
 same_claim setup past o new same guards = record { completed = λ done. inl (sym same ∙ done); loose = λ none. inl (sym guards ∙ none) }
 
 completed_guards : (o : ClaimData) (v : VolumeData) → is_protected_claim (completed_with o v) ≡ is_protected_claim o
@@ -55,7 +56,8 @@ unfolding completed_with
 completed_name o v = refl
 
 -- the row Completion
-pub complete_step : (setup : Setup) (past mine : List Entry) → IsTrue setup past mine → (o new : ClaimData) (n : ℕ) → MayComplete mine o new → ClaimStep setup past o (stored_claim o new n)
+pub complete_step : (setup : Setup) (past mine : List Entry) → IsTrue setup past mine → (o new : ClaimData) (n : ℕ) → MayComplete mine o new
+    → ClaimStep setup past o (stored_claim o new n)
 complete_step setup past mine true_of o new n row =
     let t = told_volume setup past mine true_of (IsBoundFor o new) row in
     let b : IsBoundFor o new t.0 = t.2 in
@@ -86,13 +88,15 @@ pub clear_step : (setup : Setup) (past mine : List Entry) (o new : ClaimData) (n
 clear_step setup past mine o new n row = same_claim setup past o (stored_claim o new n) (ap (λ (x : ClaimData). is_completed x) row.change ∙ ap is_some (clear_keeps o.meta.annotations)) (ap (λ (x : ClaimData). is_protected_claim x) row.change)
 
 -- the rows AddGuard and DropClaimGuard
-pub guard_claim_step : (setup : Setup) (past : List Entry) (o new : ClaimData) (n : ℕ) → is_protected_claim new ≡ true → GuardsClaim o new → ClaimStep setup past o (stored_claim o new n)
+pub guard_claim_step : (setup : Setup) (past : List Entry) (o new : ClaimData) (n : ℕ) → is_protected_claim new ≡ true → GuardsClaim o new
+    → ClaimStep setup past o (stored_claim o new n)
 guard_claim_step setup past o new n guards row = record {
   completed = λ done. inl (sym (ap (λ (m : Meta). is_some (value_at bind_completed m.annotations)) row.guard.change) ∙ done);
   loose = λ none. absurd (true≢false (sym guards ∙ none));
 }
 
-pub unguard_claim_step : (setup : Setup) (past mine : List Entry) (seat : ℕ) → mine ≡ own seat past → (o new : ClaimData) (n : ℕ) → MayUnguardClaim mine o new → ClaimStep setup past o (stored_claim o new n)
+pub unguard_claim_step : (setup : Setup) (past mine : List Entry) (seat : ℕ) → mine ≡ own seat past → (o new : ClaimData) (n : ℕ)
+    → MayUnguardClaim mine o new → ClaimStep setup past o (stored_claim o new n)
 unguard_claim_step setup past mine seat is_own o new n row = record {
   completed = λ done. inl (sym (ap (λ (x : ClaimData). is_completed x) row.change) ∙ done);
   loose = λ none. inr (record { seat = seat; deleting = row.deleting; unused = subst (After (ToldClaim (IsDeletingVersion o)) (TellsUnused o)) is_own row.unused });

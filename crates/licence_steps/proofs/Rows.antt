@@ -37,7 +37,8 @@ pub not_both : {G : Type 0} (b : Bool) → b ≡ true → b ≡ false → G
 not_both b t f = absurd (true≢false (sym t ∙ f))
 
 -- what keeps phase, policy and reference
-pub same_step : (setup : Setup) (past : List Entry) (o new : VolumeData) → new.claim_ref ≡ o.claim_ref → new.phase ≡ o.phase → new.policy ≡ o.policy → (is_bound o.phase ≡ true → is_protected_volume new ≡ true) → VolumeStep setup past o new
+pub same_step : (setup : Setup) (past : List Entry) (o new : VolumeData) → new.claim_ref ≡ o.claim_ref → new.phase ≡ o.phase → new.policy ≡ o.policy
+    → (is_bound o.phase ≡ true → is_protected_volume new ≡ true) → VolumeStep setup past o new
 same_step setup past o new refs phases policies safe = record {
   refers = λ r uid h. inl (record { is = sym refs ∙ h.is; known = h.known });
   keeps = λ r uid bound h. inl (ap is_bound phases ∙ bound, record { is = refs ∙ h.is; known = h.known });
@@ -71,7 +72,8 @@ annotated_guards guard true name m = refl
 annotated_guards guard false name m = refl
 
 -- the row ClaimRef
-pub take_step : (setup : Setup) (past mine : List Entry) → IsTrue setup past mine → (o new : VolumeData) (n : ℕ) → IsSafe o → MayTake mine o new → VolumeStep setup past o (stored_volume o new n)
+pub take_step : (setup : Setup) (past mine : List Entry) → IsTrue setup past mine → (o new : VolumeData) (n : ℕ) → IsSafe o → MayTake mine o new
+    → VolumeStep setup past o (stored_volume o new n)
 unfolding taken_for
 take_step setup past mine true_of o new n safe row =
     let t = told_claim setup past mine true_of (IsTaken o new) row.told in
@@ -107,7 +109,8 @@ is_unbound o = by (has_key bound_by_controller o.meta.annotations)
     by false = record { phase = refl; free = no_uid o.claim_ref; guards = refl }
 
 -- the row Unbind
-pub unbind_step : (setup : Setup) (past mine : List Entry) → Invariant setup past → IsTrue setup past mine → (o new : VolumeData) (n : ℕ) → IsSafe o → MayUnbind mine o new → VolumeStep setup past o (stored_volume o new n)
+pub unbind_step : (setup : Setup) (past mine : List Entry) → Invariant setup past → IsTrue setup past mine → (o new : VolumeData) (n : ℕ) → IsSafe o
+    → MayUnbind mine o new → VolumeStep setup past o (stored_volume o new n)
 unbind_step setup past mine inv true_of o new n safe row =
     let u : IsUnbound o new = subst (IsUnbound o) (sym row.change) (is_unbound o) in record {
       refers = λ r uid h. no_ref_uid new r uid u.free (record { is = h.is; known = h.known });
@@ -144,7 +147,9 @@ free_step setup past o n safe row = record {
 abbrev pub IsAwayAt : Setup → List Entry → VolumeData → Type 0
 IsAwayAt setup past o = (r : Ref) (uid : Uid) → Refers o r uid → IsAway (world setup past) uid o.meta.name
 
-pub release_away : (setup : Setup) (past mine : List Entry) → Invariant setup past → IsTrue setup past mine → ((o : VolumeData) (r : Ref) (uid : Uid) → r.uid ≡ Some uid → WasReadGone mine o r uid → IsNotThere (world setup past) uid) → (o : VolumeData) → MayRelease mine o → IsAwayAt setup past o
+pub release_away : (setup : Setup) (past mine : List Entry) → Invariant setup past → IsTrue setup past mine
+    → ((o : VolumeData) (r : Ref) (uid : Uid) → r.uid ≡ Some uid → WasReadGone mine o r uid → IsNotThere (world setup past) uid) → (o : VolumeData)
+    → MayRelease mine o → IsAwayAt setup past o
 release_away setup past mine inv true_of gone o row r uid h =
     subst (λ (w : Uid). IsAway (world setup past) w o.meta.name) (uid_one o row.reference r row.uid uid row.refers row.known h) (elim row.why [
       | inl read ↦ (λ k c there its. absurd (gone o row.reference row.uid row.known read k c there its))
@@ -152,7 +157,8 @@ release_away setup past mine inv true_of gone o row r uid h =
     ])
 
 -- the rows Released and Failed
-pub end_step : (setup : Setup) (past : List Entry) (o : VolumeData) (phase : VolumePhase) (n : ℕ) → is_bound phase ≡ false → is_ended phase ≡ true → IsSafe o → (is_ended o.phase ≡ true ⊎ IsAwayAt setup past o) → VolumeStep setup past o (phased o phase n)
+pub end_step : (setup : Setup) (past : List Entry) (o : VolumeData) (phase : VolumePhase) (n : ℕ) → is_bound phase ≡ false → is_ended phase ≡ true
+    → IsSafe o → (is_ended o.phase ≡ true ⊎ IsAwayAt setup past o) → VolumeStep setup past o (phased o phase n)
 end_step setup past o phase n loose ended safe why = record {
   refers = λ r uid h. inl (record { is = h.is; known = h.known });
   keeps = λ r uid bound h. elim why [ inl was ↦ bound_not_ended o.phase bound was | inr away ↦ inr (away r uid (record { is = h.is; known = h.known })) ];

@@ -38,7 +38,8 @@ version_low setup (e ∷ past) =
     ]
 
 -- how the store moves at the newest entry of a run
-pub run_moves : (setup : Setup) (e : Entry) (past : List Entry) → base setup + length (e ∷ past) < most_serials → Good setup past → Run setup (e ∷ past) → MovesAt setup e past
+pub run_moves : (setup : Setup) (e : Entry) (past : List Entry) → base setup + length (e ∷ past) < most_serials → Good setup past
+    → Run setup (e ∷ past) → MovesAt setup e past
 run_moves setup e past short g run =
     let inv = invariant_of setup past g in
     let low = version_low setup past in

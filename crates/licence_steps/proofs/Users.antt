@@ -80,14 +80,16 @@ same_refs (Some a) (Some b) e =
     λ i. Some (record { namespace = n i; name = m i; uid = u i })
 
 -- the annotation that marks completion stays
-pub completion_same : (old : Option Object) (new : Object) → Passes old new → value_at bind_completed (annotations_before old) ≡ value_at bind_completed (meta_of new).annotations
+pub completion_same : (old : Option Object) (new : Object) → Passes old new
+    → value_at bind_completed (annotations_before old) ≡ value_at bind_completed (meta_of new).annotations
 completion_same old new p = same_texts _ _ (not-false _ (or_parts _ _ (or_parts _ _ p.annotation).0).0)
 
 -- and so does the finalizer of volumes
 guards_same : (old : Object) (new : Object) → Passes (Some old) new → has_name pv_protection (meta_of old).finalizers ≡ has_name pv_protection (meta_of new).finalizers
 guards_same old new p = xor_false _ _ (or_parts _ _ p.finalizer).0
 
-pub claim_guards_same : (old : Object) (new : Object) → Passes (Some old) new → has_name pvc_protection (meta_of old).finalizers ≡ has_name pvc_protection (meta_of new).finalizers
+pub claim_guards_same : (old : Object) (new : Object) → Passes (Some old) new
+    → has_name pvc_protection (meta_of old).finalizers ≡ has_name pvc_protection (meta_of new).finalizers
 claim_guards_same old new p = xor_false _ _ (or_parts _ _ p.finalizer).1
 
 -- a reference that is not broken is the same, or has no UID before and after, or is that of a Released volume, cleared
@@ -132,17 +134,20 @@ cleared old new e =
     let s = and_parts (is_in_phase_released old.phase) (not (is_delete old.policy)) r.0 in
     record { phase = s.0; policy = not-true _ s.1; none = is_none_none new.claim_ref t.1 }
 
-user_refers : (o new : VolumeData) (r : Ref) (uid : Uid) → Reference o.claim_ref new.claim_ref (clears_released (Some (Volume o)) (Volume new)) → Refers new r uid → Refers o r uid
+user_refers : (o new : VolumeData) (r : Ref) (uid : Uid) → Reference o.claim_ref new.claim_ref (clears_released (Some (Volume o)) (Volume new))
+    → Refers new r uid → Refers o r uid
 user_refers o new r uid (Same e) h = record { is = e ∙ h.is; known = h.known }
 user_refers o new r uid (Free before after) h = not_free new.claim_ref r uid after h.is h.known
 user_refers o new r uid (Cleared e) h = absurd (true≢false (sym (ap is_some (sym (cleared o new e).none ∙ h.is))))
 
-user_keeps : (o new : VolumeData) (r : Ref) (uid : Uid) → Reference o.claim_ref new.claim_ref (clears_released (Some (Volume o)) (Volume new)) → is_bound o.phase ≡ true → Refers o r uid → Refers new r uid
+user_keeps : (o new : VolumeData) (r : Ref) (uid : Uid) → Reference o.claim_ref new.claim_ref (clears_released (Some (Volume o)) (Volume new))
+    → is_bound o.phase ≡ true → Refers o r uid → Refers new r uid
 user_keeps o new r uid (Same e) bound h = record { is = sym e ∙ h.is; known = h.known }
 user_keeps o new r uid (Free before after) bound h = not_free o.claim_ref r uid before h.is h.known
 user_keeps o new r uid (Cleared e) bound h = not_both (is_bound o.phase) bound (phase_released o.phase (cleared o new e).phase)
 
-user_lasts : (o new : VolumeData) (r : Ref) (uid : Uid) → Reference o.claim_ref new.claim_ref (clears_released (Some (Volume o)) (Volume new)) → is_delete o.policy ≡ true → Refers o r uid → new.claim_ref ≡ Some r
+user_lasts : (o new : VolumeData) (r : Ref) (uid : Uid) → Reference o.claim_ref new.claim_ref (clears_released (Some (Volume o)) (Volume new))
+    → is_delete o.policy ≡ true → Refers o r uid → new.claim_ref ≡ Some r
 user_lasts o new r uid (Same e) policy h = sym e ∙ h.is
 user_lasts o new r uid (Free before after) policy h = not_free o.claim_ref r uid before h.is h.known
 user_lasts o new r uid (Cleared e) policy h = not_both (is_delete o.policy) policy (cleared o new e).policy
@@ -153,7 +158,8 @@ policy_stays true true false e x y = absurd (true≢false e)
 policy_stays true false c e x y = absurd (true≢false (sym y))
 policy_stays false b c e x y = absurd (true≢false (sym x))
 
-pub user_step : (setup : Setup) (past : List Entry) (o new : VolumeData) (n : ℕ) → IsSafe o → Passes (Some (Volume o)) (Volume new) → VolumeStep setup past o (stored_volume o new n)
+pub user_step : (setup : Setup) (past : List Entry) (o new : VolumeData) (n : ℕ) → IsSafe o → Passes (Some (Volume o)) (Volume new)
+    → VolumeStep setup past o (stored_volume o new n)
 user_step setup past o new n safe p =
     let ref = reference_of o.claim_ref new.claim_ref (clears_released (Some (Volume o)) (Volume new)) p.reference in
     let guards : is_protected_volume o ≡ is_protected_volume new = guards_same (Volume o) (Volume new) p in

@@ -1,4 +1,4 @@
--- A claim without its guard is not mounted, and nobody can mount it: (g).
+-- A claim without its guard is not mounted, and nobody can mount it.
 use Rattle.std.proofs.Common.{sym, refl, subst, inl, inr, ap, ◌∙◌, true≢false}
 use Rattle.std.specs.Prelude.{if◌then◌else◌, ℕ, ◌≡◌, Bool, true, false, not, ◌&&◌, ◌||◌, List, [], ◌∷◌, ◌++◌, Some, bytes_eq, unwrap_or}
 use Rattle.std.specs.List.{list_any}
@@ -44,11 +44,13 @@ use Rattle.world_moves.proofs.Tests.{text_same}
 use Rattle.binder_model.specs.Licence.{AreOfKind}
 use Rattle.call_types.specs.declared.request.SeatKind.TheVariants as seats
 
-pub kept_deleting : (setup : Setup) (e : Entry) (past : List Entry) → Good setup (e ∷ past) → (u : Uid) → IsOld (world setup past).store.version (Some u) → AreDeleting setup past u → AreDeleting setup (e ∷ past) u
+pub kept_deleting : (setup : Setup) (e : Entry) (past : List Entry) → Good setup (e ∷ past) → (u : Uid)
+    → IsOld (world setup past).store.version (Some u) → AreDeleting setup past u → AreDeleting setup (e ∷ past) u
 kept_deleting setup e past g u old d = kept_of setup e past g.1 (λ c. is_deleting c.meta ≡ true) (λ a b keeps x. keeps.deleting x) u old d
 
 -- being half ready is no news of an entry, but for a read of the claim
-half_before : (setup : Setup) (e : Entry) (past : List Entry) → Good setup (e ∷ past) → (u : Uid) → AreDeleting setup past u → (seat : ℕ) (node : List ℕ) → HolderStep setup e past node seat → IsHalfReady setup (e ∷ past) seat node u → IsHalfReady setup past seat node u
+half_before : (setup : Setup) (e : Entry) (past : List Entry) → Good setup (e ∷ past) → (u : Uid) → AreDeleting setup past u
+    → (seat : ℕ) (node : List ℕ) → HolderStep setup e past node seat → IsHalfReady setup (e ∷ past) seat node u → IsHalfReady setup past seat node u
 half_before setup e past g u deleting seat node (Took at flag none next) h = absurd (no_split h.recent h.teller h.earlier (sym none ∙ h.split.since))
 half_before setup e past g u deleting seat node (Other apart o same held) h = record {
   recent = h.recent;
@@ -75,7 +77,8 @@ half_before setup e past g u deleting seat node (Mine at flag o since same held)
     never true b x = absurd (true≢false (sym x))
     never false b x = x
 
-    read : (rest : List Entry) → since_epoch node (own seat past) ≡ rest ++ h.teller ∷ h.earlier → (b : Bool) → (e.told && is_get_of (claim_key h.pod.meta.namespace h.name) e.request) ≡ b
+    read : (rest : List Entry) → since_epoch node (own seat past) ≡ rest ++ h.teller ∷ h.earlier → (b : Bool)
+        → (e.told && is_get_of (claim_key h.pod.meta.namespace h.name) e.request) ≡ b
         → (if b then Some e.reply else last_get (claim_key h.pod.meta.namespace h.name) rest) ≡ Some (Found (Claim h.claim)) → IsHalfReady setup past seat node u
     read rest eq true t r =
         let asked = (and_parts e.told (is_get_of (claim_key h.pod.meta.namespace h.name) e.request) t).1 in
@@ -102,7 +105,8 @@ half_before setup e past g u deleting seat node (Mine at flag o since same held)
       staying = h.staying;
     }
 
-    by : (recent : List Entry) → e ∷ since_epoch node (own seat past) ≡ recent ++ h.teller ∷ h.earlier → last_get (claim_key h.pod.meta.namespace h.name) recent ≡ Some (Found (Claim h.claim)) → IsHalfReady setup past seat node u
+    by : (recent : List Entry) → e ∷ since_epoch node (own seat past) ≡ recent ++ h.teller ∷ h.earlier
+        → last_get (claim_key h.pod.meta.namespace h.name) recent ≡ Some (Found (Claim h.claim)) → IsHalfReady setup past seat node u
     by [] eq r = absurd (none-some _ r)
     by (x ∷ rest) eq r =
         let is_e : x ≡ e = ap (head_of e) (sym eq) in
@@ -116,12 +120,14 @@ agents_before setup e past seat a = by (own_step seat e past)
     by (Own at same) = (let b : AreOfKind seats.Agent (e ∷ own seat past) = subst (AreOfKind seats.Agent) same a in b.1)
     by (Others apart same) = subst (AreOfKind seats.Agent) same a
 
-held_before : (setup : Setup) (e : Entry) (past : List Entry) (node : List ℕ) (seat : ℕ) (u : Uid) → HolderStep setup e past node seat → IsHalfReady setup (e ∷ past) seat node u → Holds setup past node seat
+held_before : (setup : Setup) (e : Entry) (past : List Entry) (node : List ℕ) (seat : ℕ) (u : Uid) → HolderStep setup e past node seat
+    → IsHalfReady setup (e ∷ past) seat node u → Holds setup past node seat
 held_before setup e past node seat u (Took at flag none next) h = absurd (no_split h.recent h.teller h.earlier (sym none ∙ h.split.since))
 held_before setup e past node seat u (Mine at flag o since same held) h = held
 held_before setup e past node seat u (Other apart o same held) h = held
 
-pub go_on : (setup : Setup) (e : Entry) (past : List Entry) → Good setup (e ∷ past) → Run setup (e ∷ past) → (u : Uid) → AreDeleting setup past u → MayGo setup past u → MayGo setup (e ∷ past) u
+pub go_on : (setup : Setup) (e : Entry) (past : List Entry) → Good setup (e ∷ past) → Run setup (e ∷ past) → (u : Uid) → AreDeleting setup past u
+    → MayGo setup past u → MayGo setup (e ∷ past) u
 go_on setup e past g run u deleting go = record {
   unmounted = λ m h x. elim (new_mount setup e past run m h) [
     | inl before ↦ go.unmounted m before x
@@ -161,7 +167,9 @@ items_of none (Listed items version) = items
 items_of none r = none
 
 -- a scheduled pod that stands and names the claim would have been listed
-pod_listed : (setup : Setup) (e : Entry) (past : List Entry) → Good setup (e ∷ past) → (o : ClaimData) → IsListing o e.request e.reply → (p : PodData) → StandsOn (world setup past) p → is_scheduled p ≡ true → (name : List ℕ) → has_name name p.claims ≡ true → key_of (Claim o) ≡ claim_key p.meta.namespace name → ⊥
+pod_listed : (setup : Setup) (e : Entry) (past : List Entry) → Good setup (e ∷ past) → (o : ClaimData) → IsListing o e.request e.reply → (p : PodData)
+    → StandsOn (world setup past) p → is_scheduled p ≡ true → (name : List ℕ) → has_name name p.claims ≡ true
+    → key_of (Claim o) ≡ claim_key p.meta.namespace name → ⊥
 pod_listed setup e past g o l p s scheduled name named keyed =
     let q = s.pod in
     let at : key_of (Pod q) ≡ key_of (Pod p) = row_at_key (key_of (Pod p)) (Pod q) (world setup past).store.rows s.there in
@@ -177,11 +185,13 @@ pod_listed setup e past g o l p s scheduled name named keyed =
     let u : uses o (Pod q) ≡ true = rw (t1, t2, t3) refl in
     true≢false (sym (any_in (uses o) (Pod q) l.items (subst (IsIn (Pod q)) same listed) u) ∙ l.unused)
 
-pub going_on : (setup : Setup) (e : Entry) (past : List Entry) → Good setup (e ∷ past) → Run setup (e ∷ past) → (u : Uid) → IsGoing setup past u → IsGoing setup (e ∷ past) u
+pub going_on : (setup : Setup) (e : Entry) (past : List Entry) → Good setup (e ∷ past) → Run setup (e ∷ past) → (u : Uid) → IsGoing setup past u
+    → IsGoing setup (e ∷ past) u
 going_on setup e past g run u i = record { go = go_on setup e past g run u i.deleting i.go; deleting = kept_deleting setup e past g u i.old i.deleting; old = older _ _ (Some u) g.1.rises i.old }
 
 -- a seat's evidence holds of the world
-pub unguards : (setup : Setup) (past : List Entry) → Good setup past → Run setup past → Mountless setup → (seat : ℕ) (o : ClaimData) (u : Uid) → o.meta.uid ≡ Some u → ((c : ClaimData) → Was setup past (Claim c) → c.meta.uid ≡ Some u → key_of (Claim c) ≡ key_of (Claim o))
+pub unguards : (setup : Setup) (past : List Entry) → Good setup past → Run setup past → Mountless setup → (seat : ℕ) (o : ClaimData) (u : Uid)
+    → o.meta.uid ≡ Some u → ((c : ClaimData) → Was setup past (Claim c) → c.meta.uid ≡ Some u → key_of (Claim c) ≡ key_of (Claim o))
     → After (ToldClaim (IsDeletingVersion o)) (TellsUnused o) (own seat past) → IsGoing setup past u
 unguards setup [] g run start seat o u known keyed h = absurd h
 unguards setup (e ∷ past) g run start seat o u known keyed h = by (unguards setup past g.0 run.0 start seat o u known (λ c was its. keyed c (inl was) its)) (own_step seat e past)
@@ -213,7 +223,8 @@ unguards setup (e ∷ past) g run start seat o u known keyed h = by (unguards se
     by f (Others apart same) = going_on setup e past g run u (f (subst (After (ToldClaim (IsDeletingVersion o)) (TellsUnused o)) same h))
 
 -- the evidence of a step
-pub step_going : (setup : Setup) (past : List Entry) → Good setup past → Run setup past → Mountless setup → (o : ClaimData) (u : Uid) → Was setup past (Claim o) → o.meta.uid ≡ Some u → Unguards past o → IsGoing setup past u
+pub step_going : (setup : Setup) (past : List Entry) → Good setup past → Run setup past → Mountless setup → (o : ClaimData) (u : Uid)
+    → Was setup past (Claim o) → o.meta.uid ≡ Some u → Unguards past o → IsGoing setup past u
 step_going setup past g run start o u was known un =
     unguards setup past g run start un.seat o u known (λ c w its. (invariant_of setup past g).keyed (Claim c) (Claim o) w was (its ∙ sym known)) un.unused
 

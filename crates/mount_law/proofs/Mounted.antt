@@ -1,4 +1,4 @@
--- No mounted claim leaves: the fourth clause.
+-- No mounted claim leaves: the fourth part.
 use Rattle.std.proofs.Common.{sym, refl, subst, inl, inr, ap, ◌∙◌, true≢false, arith}
 use Rattle.std.proofs.lemmas.Bool.Decides.{nat_tests}
 use Rattle.std.specs.Prelude.{ℕ, ◌≡◌, Bool, true, false, ◌&&◌, ◌||◌, List, [], ◌∷◌, Option, Some, None, is_some}
@@ -64,14 +64,16 @@ mount_of : (u : Uid) (ms : List MountAt) → list_any (λ m. list_any (same_uid 
 mount_of u [] e = absurd (true≢false (sym e))
 mount_of u (m ∷ ms) e = by (list_any (same_uid u) m.row.claims) refl e (mount_of u ms)
   where
-    by : (b : Bool) → list_any (same_uid u) m.row.claims ≡ b → (b || list_any (λ x. list_any (same_uid u) x.row.claims) ms) ≡ true → (list_any (λ x. list_any (same_uid u) x.row.claims) ms ≡ true → HasMount ms u) → HasMount (m ∷ ms) u
+    by : (b : Bool) → list_any (same_uid u) m.row.claims ≡ b → (b || list_any (λ x. list_any (same_uid u) x.row.claims) ms) ≡ true
+        → (list_any (λ x. list_any (same_uid u) x.row.claims) ms ≡ true → HasMount ms u) → HasMount (m ∷ ms) u
     by true t e f = record { mount = m; is_in = inl refl; has = uids_in u m.row.claims t }
     by false t e f = let r = f e in record { mount = r.mount; is_in = inr r.is_in; has = r.has }
 
 mounted_uid : (d : Devices) (c : ClaimData) (u : Uid) → c.meta.uid ≡ Some u → is_mounted d c ≡ true → HasMount d.mounts u
 mounted_uid d c u known is = mount_of u d.mounts (let t : list_any (λ m. list_any (same_uid u) m.row.claims) d.mounts ≡ true = rw known at is in t)
 
-pub mounts_kept : (setup : Setup) (e : Entry) (past : List Entry) → Good setup (e ∷ past) → Run setup (e ∷ past) → Mountless setup → LooseMayGo setup [] → KeepsMounted (world setup past) (world setup (e ∷ past)).store.rows
+pub mounts_kept : (setup : Setup) (e : Entry) (past : List Entry) → Good setup (e ∷ past) → Run setup (e ∷ past) → Mountless setup
+    → LooseMayGo setup [] → KeepsMounted (world setup past) (world setup (e ∷ past)).store.rows
 mounts_kept setup e past g run start first key c is mounted = by (row_at key (world setup (e ∷ past)).store.rows) refl
   where
     -- the claim that left may go, so it was not mounted

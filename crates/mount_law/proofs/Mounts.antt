@@ -1,4 +1,4 @@
--- What is mounted is a scheduled pod's, whose claims it names: (f).
+-- What is mounted is a scheduled pod's, whose claims it names.
 use Rattle.std.proofs.Common.{sym, refl, subst, inl, inr, ap, ◌∙◌, true≢false}
 use Rattle.std.specs.Prelude.{ℕ, ◌≡◌, ◌⊎◌, Bool, true, false, List, [], ◌∷◌, Some, bytes_eq}
 use Rattle.std.proofs.lemmas.Slice.Eq.{bytes_eq-Decides}
@@ -44,7 +44,8 @@ pub record IsReadyFor (recent : List Entry) (namespace : List ℕ) (names : List
 has_first : (name : List ℕ) (names : List (List ℕ)) → has_name name (name ∷ names) ≡ true
 has_first name names = let same : bytes_eq name name ≡ true = (bytes_eq-Decides name name).1 refl in rw same refl
 
-ready_for : (recent : List Entry) (namespace : List ℕ) (names : List (List ℕ)) (uids : List Uid) → AreReadReady recent namespace names uids → (u : Uid) → UidIn u uids → IsReadyFor recent namespace names u
+ready_for : (recent : List Entry) (namespace : List ℕ) (names : List (List ℕ)) (uids : List Uid) → AreReadReady recent namespace names uids
+    → (u : Uid) → UidIn u uids → IsReadyFor recent namespace names u
 ready_for recent namespace [] [] r u h = absurd h
 ready_for recent namespace [] (x ∷ xs) r u h = absurd r
 ready_for recent namespace (n ∷ ns) [] r u h = absurd r
@@ -56,13 +57,15 @@ ready_for recent namespace (n ∷ ns) (x ∷ xs) r u h = elim h [
 ]
 
 -- the seat of an allowed Mount is an agent's throughout
-mount_agents : (mine : List Entry) (kind : SeatKind) (node : List ℕ) (epoch : ℕ) (pod : Uid) (claims : List Uid) → is_user kind ≡ false → Licensed kind mine (requests.Mount node epoch pod claims) → AreOfKind seats.Agent mine
+mount_agents : (mine : List Entry) (kind : SeatKind) (node : List ℕ) (epoch : ℕ) (pod : Uid) (claims : List Uid) → is_user kind ≡ false
+    → Licensed kind mine (requests.Mount node epoch pod claims) → AreOfKind seats.Agent mine
 mount_agents mine seats.User node epoch pod claims c l = absurd (true≢false c)
 mount_agents mine seats.Agent node epoch pod claims c l = l.0
 mount_agents mine kind node epoch pod claims c l = absurd l.1
 
 -- who mounts, is half ready for each claim
-pub half_ready : (setup : Setup) (e : Entry) (past : List Entry) → Run setup (e ∷ past) → (m : MountAt) → MountedBy setup e past m → (u : Uid) → UidIn u m.row.claims → IsHalfReady setup past e.seat m.node u
+pub half_ready : (setup : Setup) (e : Entry) (past : List Entry) → Run setup (e ∷ past) → (m : MountAt) → MountedBy setup e past m → (u : Uid)
+    → UidIn u m.row.claims → IsHalfReady setup past e.seat m.node u
 half_ready setup e past run m by_this u h =
     let row = by_this.row in
     let r = ready_for row.recent row.shown.meta.namespace row.shown.claims m.row.claims row.ready u h in
@@ -86,12 +89,16 @@ half_ready setup e past run m by_this u h =
       staying = r.staying;
     }
 
-pub mount_is_agents : (setup : Setup) (e : Entry) (past : List Entry) → Run setup (e ∷ past) → (m : MountAt) → MountedBy setup e past m → AreOfKind seats.Agent (own e.seat past)
+pub mount_is_agents : (setup : Setup) (e : Entry) (past : List Entry) → Run setup (e ∷ past) → (m : MountAt) → MountedBy setup e past m
+    → AreOfKind seats.Agent (own e.seat past)
 mount_is_agents setup e past run m b = mount_agents (own e.seat past) e.kind m.node b.epoch m.row.pod m.row.claims b.controller (subst (Licensed e.kind (own e.seat past)) b.asked run.2)
 
 -- the pod for which the holder is half ready stands, and the claim that it found was
-pub shown_stands : (setup : Setup) (past : List Entry) → Good setup past → Run setup past → (node : List ℕ) (seat : ℕ) → Holds setup past node seat → AreOfKind seats.Agent (own seat past)
-    → (recent : List Entry) (teller : Entry) (earlier : List Entry) → IsSplit node (own seat past) recent teller earlier → (p : PodData) (uid : Uid) → TellsObject (IsPodWith (λ x. x ≡ p)) teller → p.node ≡ node → is_scheduled p ≡ true → p.meta.uid ≡ Some uid → never_finished uid (own seat past) ≡ true → StandsOn (world setup past) p
+pub shown_stands : (setup : Setup) (past : List Entry) → Good setup past → Run setup past → (node : List ℕ) (seat : ℕ) → Holds setup past node seat
+    → AreOfKind seats.Agent (own seat past)
+    → (recent : List Entry) (teller : Entry) (earlier : List Entry) → IsSplit node (own seat past) recent teller earlier → (p : PodData) (uid : Uid)
+    → TellsObject (IsPodWith (λ x. x ≡ p)) teller → p.node ≡ node → is_scheduled p ≡ true → p.meta.uid ≡ Some uid
+    → never_finished uid (own seat past) ≡ true → StandsOn (world setup past) p
 shown_stands setup past g run node seat holds agents recent teller earlier split p uid told on scheduled known never =
     let t = has_taken setup past seat node _ holds in
     pods_stay setup past g run node seat holds p uid on scheduled known (told_since setup past g run seat node t.0 t.1 agents recent teller earlier split p told) never
@@ -104,7 +111,8 @@ abbrev is_finish : Request → Bool
 is_finish (requests.FinishPod key uid node epoch) = true
 is_finish request = false
 
-pub mounted : (setup : Setup) (past : List Entry) → Good setup past → Run setup past → Mountless setup → (m : MountAt) → MountIn m (world setup past).devices.mounts → IsPodMount setup past m
+pub mounted : (setup : Setup) (past : List Entry) → Good setup past → Run setup past → Mountless setup → (m : MountAt)
+    → MountIn m (world setup past).devices.mounts → IsPodMount setup past m
 mounted setup [] g run start m h = absurd (start m h)
 mounted setup (e ∷ past) g run start m h = by (mounted setup past g.0 run.0 start m) (new_mount setup e past run m h)
   where
@@ -136,6 +144,7 @@ mounted setup (e ∷ past) g run start m h = by (mounted setup past g.0 run.0 st
               record { name = r.name; named = r.named; claim = r.claim; was = inl w.was; placed = ap (λ k. k.namespace) w.keyed; called = ap (λ k. k.name) w.keyed; its = r.its };
         }
 
-    by : (MountIn m (world setup past).devices.mounts → IsPodMount setup past m) → MountIn m (world setup past).devices.mounts ⊎ MountedBy setup e past m → IsPodMount setup (e ∷ past) m
+    by : (MountIn m (world setup past).devices.mounts → IsPodMount setup past m)
+        → MountIn m (world setup past).devices.mounts ⊎ MountedBy setup e past m → IsPodMount setup (e ∷ past) m
     by f (inl there) = on there (f there)
     by f (inr b) = new b

@@ -50,7 +50,8 @@ record PodCame (setup : Setup) (past : List Entry) (q p : PodData) : Type 0 wher
   next : IsNext (world setup past).store (Pod q) (Pod p)
   step : PodStep q p
 
-pod_came : (setup : Setup) (past : List Entry) (q p : PodData) → row_at (key_of (Pod p)) (world setup past).store.rows ≡ Some (Pod q) → Made setup past (Pod p) → PodCame setup past q p
+pod_came : (setup : Setup) (past : List Entry) (q p : PodData) → row_at (key_of (Pod p)) (world setup past).store.rows ≡ Some (Pod q)
+    → Made setup past (Pod p) → PodCame setup past q p
 pod_came setup past q p is (inl s) = absurd (none-some _ (sym s.first.free ∙ is))
 pod_came setup past q p is (inr f) = by f.old f.next f.step (same_Some f.old (Pod q) (sym f.next.there ∙ is))
   where
@@ -71,20 +72,23 @@ pub record IsFinished (setup : Setup) (e : Entry) (past : List Entry) (node : Li
   pub row : MayFinish (own e.seat past) key uid node epoch
   pub holds : Holds setup past node e.seat
 
-finish_row : (mine : List Entry) (kind : SeatKind) (key : Key) (uid : Uid) (node : List ℕ) (epoch : ℕ) → is_user kind ≡ false → Licensed kind mine (requests.FinishPod key uid node epoch) → MayFinish mine key uid node epoch
+finish_row : (mine : List Entry) (kind : SeatKind) (key : Key) (uid : Uid) (node : List ℕ) (epoch : ℕ) → is_user kind ≡ false
+    → Licensed kind mine (requests.FinishPod key uid node epoch) → MayFinish mine key uid node epoch
 finish_row mine seats.User key uid node epoch c l = absurd (true≢false c)
 finish_row mine seats.Agent key uid node epoch c l = l.1
 finish_row mine kind key uid node epoch c l = absurd l.1
 
 -- the pod of a FinishPod is the one at the key of what is written
-finished_is : (rows : List Object) (q : PodData) (k : Key) → row_at k rows ≡ Some (Pod q) → (p : PodData) → key_of (Pod p) ≡ k → (f : PodData) (key : Key) (n : ℕ) → row_at key rows ≡ Some (Pod f) → Pod p ≡ at_version (Pod f) n → f ≡ q
+finished_is : (rows : List Object) (q : PodData) (k : Key) → row_at k rows ≡ Some (Pod q) → (p : PodData) → key_of (Pod p) ≡ k
+    → (f : PodData) (key : Key) (n : ℕ) → row_at key rows ≡ Some (Pod f) → Pod p ≡ at_version (Pod f) n → f ≡ q
 finished_is rows q k is p at f key n there e =
     let same : key_of (Pod f) ≡ k = sym (key-at_version (Pod f) n) ∙ ap key_of (sym e) ∙ at in
     let here : row_at k rows ≡ Some (Pod f) = ap (λ j. row_at j rows) (sym same ∙ row_at_key key (Pod f) rows there) ∙ there in
     some_pod f q (sym here ∙ is)
 
 -- a scheduled pod that stood and stands no more was finished
-pod_finished : (setup : Setup) (e : Entry) (past : List Entry) → Good setup (e ∷ past) → Run setup (e ∷ past) → (q : PodData) (k : Key) (uid : Uid) → row_at k (world setup past).store.rows ≡ Some (Pod q) → is_scheduled q ≡ true → q.meta.uid ≡ Some uid
+pod_finished : (setup : Setup) (e : Entry) (past : List Entry) → Good setup (e ∷ past) → Run setup (e ∷ past) → (q : PodData) (k : Key) (uid : Uid)
+    → row_at k (world setup past).store.rows ≡ Some (Pod q) → is_scheduled q ≡ true → q.meta.uid ≡ Some uid
     → row_at k (world setup (e ∷ past)).store.rows ≡ None → IsFinished setup e past q.node uid
 pod_finished setup e past g run q k uid is scheduled known none =
     let w = world setup past in
@@ -96,7 +100,8 @@ pod_finished setup e past g run q k uid is scheduled known none =
     (subst (IsLeaving e.request) p.1 a.leaving)
     (subst (λ (o : Object). Writes w e.kind e.request o) (same ∙ p.1) b.written.write)
   where
-    by : (request : Request) → e.request ≡ request → (p : PodData) → Made setup past (Pod p) → key_of (Pod p) ≡ k → PodGoes request p → Writes (world setup past) e.kind request (Pod p) → IsFinished setup e past q.node uid
+    by : (request : Request) → e.request ≡ request → (p : PodData) → Made setup past (Pod p) → key_of (Pod p) ≡ k → PodGoes request p
+        → Writes (world setup past) e.kind request (Pod p) → IsFinished setup e past q.node uid
     by (requests.FinishPod key u node epoch) r p made at goes f =
         let n : f.pod.node ≡ node = same_text f.pod.node node f.placed in
         let pod_is : f.pod ≡ q = finished_is (world setup past).store.rows q k is p at f.pod key _ f.there f.is in
@@ -113,7 +118,8 @@ pod_finished setup e past g run q k uid is scheduled known none =
     by request r p made at goes f = absurd goes
 
 -- what stood on stands on, or was finished
-pub pod_next : (setup : Setup) (e : Entry) (past : List Entry) → Good setup (e ∷ past) → Run setup (e ∷ past) → (p : PodData) (uid : Uid) → is_scheduled p ≡ true → p.meta.uid ≡ Some uid → StandsOn (world setup past) p
+pub pod_next : (setup : Setup) (e : Entry) (past : List Entry) → Good setup (e ∷ past) → Run setup (e ∷ past) → (p : PodData) (uid : Uid)
+    → is_scheduled p ≡ true → p.meta.uid ≡ Some uid → StandsOn (world setup past) p
     → (IsFinished setup e past p.node uid → ⊥) → StandsOn (world setup (e ∷ past)) p
 pod_next setup e past g run p uid scheduled known s not_finished = by (row_at (key_of (Pod p)) (world setup (e ∷ past)).store.rows) refl
   where
@@ -142,7 +148,8 @@ or_none true b e = absurd (true≢false (sym e))
 or_none false b e = (refl, e)
 
 -- a pod on the node that was since the holder took it stands, if the holder never asked to finish it
-pub pods_stay : (setup : Setup) (past : List Entry) → Good setup past → Run setup past → (node : List ℕ) (seat : ℕ) → Holds setup past node seat → (p : PodData) (uid : Uid) → p.node ≡ node → is_scheduled p ≡ true → p.meta.uid ≡ Some uid
+pub pods_stay : (setup : Setup) (past : List Entry) → Good setup past → Run setup past → (node : List ℕ) (seat : ℕ) → Holds setup past node seat
+    → (p : PodData) (uid : Uid) → p.node ≡ node → is_scheduled p ≡ true → p.meta.uid ≡ Some uid
     → WasSince setup seat node past (Pod p) → never_finished uid (own seat past) ≡ true → StandsOn (world setup past) p
 pods_stay setup [] g run node seat holds p uid on scheduled known since never = itself_on (world setup []) p since
 pods_stay setup (e ∷ past) g run node seat holds p uid on scheduled known since never =
@@ -151,10 +158,13 @@ pods_stay setup (e ∷ past) g run node seat holds p uid on scheduled known sinc
       | inr before ↦ by (λ h w n. pods_stay setup past g.0 run.0 node seat h p uid on scheduled known w n) before (holder_step setup e past g node seat holds)
     ]
   where
-    was : (b : Bool) → takes_node seat node e ≡ b → b ≡ false → Unless (takes_node seat node e) (WasSince setup seat node past (Pod p)) → WasSince setup seat node past (Pod p)
+    was : (b : Bool) → takes_node seat node e ≡ b → b ≡ false → Unless (takes_node seat node e) (WasSince setup seat node past (Pod p))
+        → WasSince setup seat node past (Pod p)
     was b e1 f u = subst (λ (x : Bool). Unless x (WasSince setup seat node past (Pod p))) (e1 ∙ f) u
 
-    by : (Holds setup past node seat → WasSince setup seat node past (Pod p) → never_finished uid (own seat past) ≡ true → StandsOn (world setup past) p) → Unless (takes_node seat node e) (WasSince setup seat node past (Pod p)) → HolderStep setup e past node seat → StandsOn (world setup (e ∷ past)) p
+    by : (Holds setup past node seat → WasSince setup seat node past (Pod p) → never_finished uid (own seat past) ≡ true → StandsOn (world setup past) p)
+        → Unless (takes_node seat node e) (WasSince setup seat node past (Pod p)) → HolderStep setup e past node seat
+        → StandsOn (world setup (e ∷ past)) p
     by f u (Took at flag none next) =
         let own_seat : (e.seat == seat) ≡ true = grind (arith, nat_tests) in
         let taken : takes_node seat node e ≡ true = rw (own_seat, flag) refl in

@@ -39,7 +39,8 @@ found_is (Some y) o e = ap (λ r. Some (of r)) e
     of (Found z) = z
     of r = y
 
-pub found_row : (setup : Setup) (e : Entry) (past : List Entry) → Good setup (e ∷ past) → (key : Key) (o : Object) → is_get_of key e.request ≡ true → e.reply ≡ Found o → row_at key (world setup past).store.rows ≡ Some o
+pub found_row : (setup : Setup) (e : Entry) (past : List Entry) → Good setup (e ∷ past) → (key : Key) (o : Object) → is_get_of key e.request ≡ true
+    → e.reply ≡ Found o → row_at key (world setup past).store.rows ≡ Some o
 found_row setup e past g key o q r =
     let asked = get_of key e.request q in
     found_is (row_at key (world setup past).store.rows) o (sym (gets_tell_what_stands setup (world setup past) e.kind key) ∙ ap (λ x. reply_to (effect setup (world setup past) e.kind x)) (sym asked) ∙ sym g.2 ∙ r)
@@ -54,7 +55,8 @@ abbrev pub IsEntryIn : Entry → List Entry → Type 0
 IsEntryIn x mine = SomeOf (λ y. y ≡ x) mine
 
 -- a Get among the own entries found what was
-pub own_found : (setup : Setup) (past : List Entry) → Good setup past → (seat : ℕ) (x : Entry) (key : Key) (o : Object) → IsEntryIn x (own seat past) → is_get_of key x.request ≡ true → x.reply ≡ Found o → WasAt setup past key o
+pub own_found : (setup : Setup) (past : List Entry) → Good setup past → (seat : ℕ) (x : Entry) (key : Key) (o : Object) → IsEntryIn x (own seat past)
+    → is_get_of key x.request ≡ true → x.reply ≡ Found o → WasAt setup past key o
 own_found setup [] g seat x key o h q r = absurd h
 own_found setup (e ∷ past) g seat x key o h q r = by (own_found setup past g.0 seat x key o) (e.seat == seat) h
   where
@@ -66,7 +68,8 @@ own_found setup (e ∷ past) g seat x key o h q r = by (own_found setup past g.0
         let there = found_row setup e past g key o (subst (λ (y : Entry). is_get_of key y.request ≡ true) (sym is) q) (subst (λ (y : Entry). y.reply ≡ Found o) (sym is) r) in
         record { was = inl (row_was setup past key o there); keyed = row_at_key key o (world setup past).store.rows there }
 
-    by : (IsEntryIn x (own seat past) → is_get_of key x.request ≡ true → x.reply ≡ Found o → WasAt setup past key o) → (b : Bool) → IsEntryIn x (if b then e ∷ own seat past else own seat past) → WasAt setup (e ∷ past) key o
+    by : (IsEntryIn x (own seat past) → is_get_of key x.request ≡ true → x.reply ≡ Found o → WasAt setup past key o) → (b : Bool)
+        → IsEntryIn x (if b then e ∷ own seat past else own seat past) → WasAt setup (e ∷ past) key o
     by f true h = elim h [ inl is ↦ here is | inr rest ↦ more (f rest q r) ]
     by f false h = more (f h q r)
 
@@ -81,7 +84,8 @@ pub last_get_in : (key : Key) (mine : List Entry) (reply : Reply) → last_get k
 last_get_in key [] reply e = absurd (true≢false (sym (ap is_some e)))
 last_get_in key (x ∷ mine) reply e = by (x.told && is_get_of key x.request) refl e (last_get_in key mine reply)
   where
-    by : (b : Bool) → (x.told && is_get_of key x.request) ≡ b → (if b then Some x.reply else last_get key mine) ≡ Some reply → (last_get key mine ≡ Some reply → IsLastGet key mine reply) → IsLastGet key (x ∷ mine) reply
+    by : (b : Bool) → (x.told && is_get_of key x.request) ≡ b → (if b then Some x.reply else last_get key mine) ≡ Some reply
+        → (last_get key mine ≡ Some reply → IsLastGet key mine reply) → IsLastGet key (x ∷ mine) reply
     by true t e f = record { entry = x; is_in = inl refl; asked = (and_parts x.told (is_get_of key x.request) t).1; answer = ap (λ z. unwrap_or z x.reply) e }
     by false t e f = let r = f e in record { entry = r.entry; is_in = inr r.is_in; asked = r.asked; answer = r.answer }
 
@@ -99,7 +103,8 @@ front_in x [] ys h = absurd h
 front_in x (y ∷ xs) ys h = elim h [ inl is ↦ inl is | inr more ↦ inr (front_in x xs ys more) ]
 
 -- what the last Get in the recent entries found was, under its key
-pub read_was : (setup : Setup) (past : List Entry) → Good setup past → (seat : ℕ) (node : List ℕ) (recent rest : List Entry) → since_epoch node (own seat past) ≡ recent ++ rest → (key : Key) (o : Object) → last_get key recent ≡ Some (Found o) → WasAt setup past key o
+pub read_was : (setup : Setup) (past : List Entry) → Good setup past → (seat : ℕ) (node : List ℕ) (recent rest : List Entry)
+    → since_epoch node (own seat past) ≡ recent ++ rest → (key : Key) (o : Object) → last_get key recent ≡ Some (Found o) → WasAt setup past key o
 read_was setup past g seat node recent rest since key o read =
     let l = last_get_in key recent (Found o) read in
     own_found setup past g seat l.entry key o (since_in node (own seat past) l.entry (subst (λ (z : List Entry). IsEntryIn l.entry z) (sym since) (front_in l.entry recent rest l.is_in))) l.asked l.answer

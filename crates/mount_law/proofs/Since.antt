@@ -67,26 +67,33 @@ now_since setup seat node [] o is = is
 now_since setup seat node (e ∷ past) o is = inl is
 
 -- an entry that does not take the node adds to it
-pub on_since : (setup : Setup) (seat : ℕ) (node : List ℕ) (e : Entry) (past : List Entry) (o : Object) → takes_node seat node e ≡ false → WasSince setup seat node past o → WasSince setup seat node (e ∷ past) o
+pub on_since : (setup : Setup) (seat : ℕ) (node : List ℕ) (e : Entry) (past : List Entry) (o : Object) → takes_node seat node e ≡ false
+    → WasSince setup seat node past o → WasSince setup seat node (e ∷ past) o
 on_since setup seat node e past o f h = inr (subst (λ (b : Bool). Unless b (WasSince setup seat node past o)) (sym f) h)
 
-same_taken : (setup : Setup) (seat : ℕ) (node : List ℕ) (e : Entry) (past : List Entry) → takes_node seat node e ≡ false → taken_version setup seat node (e ∷ past) ≡ taken_version setup seat node past
+same_taken : (setup : Setup) (seat : ℕ) (node : List ℕ) (e : Entry) (past : List Entry) → takes_node seat node e ≡ false
+    → taken_version setup seat node (e ∷ past) ≡ taken_version setup seat node past
 same_taken setup seat node e past f = rw f refl
 
-pub taken_low : (setup : Setup) (past : List Entry) → Good setup past → (seat : ℕ) (node : List ℕ) (v : ℕ) → taken_version setup seat node past ≡ Some v → v ≤ (world setup past).store.version
+pub taken_low : (setup : Setup) (past : List Entry) → Good setup past → (seat : ℕ) (node : List ℕ) (v : ℕ)
+    → taken_version setup seat node past ≡ Some v → v ≤ (world setup past).store.version
 taken_low setup [] g seat node v is = absurd (none-some _ is)
 taken_low setup (e ∷ past) g seat node v is = by (taken_low setup past g.0 seat node v) (takes_node seat node e) is
   where
-    by : (taken_version setup seat node past ≡ Some v → v ≤ (world setup past).store.version) → (b : Bool) → (if b then Some (world setup (e ∷ past)).store.version else taken_version setup seat node past) ≡ Some v → v ≤ (world setup (e ∷ past)).store.version
+    by : (taken_version setup seat node past ≡ Some v → v ≤ (world setup past).store.version) → (b : Bool)
+        → (if b then Some (world setup (e ∷ past)).store.version else taken_version setup seat node past) ≡ Some v
+        → v ≤ (world setup (e ∷ past)).store.version
     by f true t = let s = same_Some _ v t in omega (arith, s)
     by f false t = let low = f t in let up = g.1.rises in omega (arith, low, up)
 
 -- what was, above that version, was since
-pub above_since : (setup : Setup) (past : List Entry) → Good setup past → (seat : ℕ) (node : List ℕ) (v : ℕ) → taken_version setup seat node past ≡ Some v → (o : Object) → v < (meta_of o).version → Was setup past o → WasSince setup seat node past o
+pub above_since : (setup : Setup) (past : List Entry) → Good setup past → (seat : ℕ) (node : List ℕ) (v : ℕ)
+    → taken_version setup seat node past ≡ Some v → (o : Object) → v < (meta_of o).version → Was setup past o → WasSince setup seat node past o
 above_since setup [] g seat node v is o above was = was
 above_since setup (e ∷ past) g seat node v is o above was = by (above_since setup past g.0 seat node v) (takes_node seat node e) is
   where
-    by : (taken_version setup seat node past ≡ Some v → (o : Object) → v < (meta_of o).version → Was setup past o → WasSince setup seat node past o) → (b : Bool) → (if b then Some (world setup (e ∷ past)).store.version else taken_version setup seat node past) ≡ Some v
+    by : (taken_version setup seat node past ≡ Some v → (o : Object) → v < (meta_of o).version → Was setup past o → WasSince setup seat node past o)
+        → (b : Bool) → (if b then Some (world setup (e ∷ past)).store.version else taken_version setup seat node past) ≡ Some v
         → Stands (world setup (e ∷ past)) o ⊎ Unless b (WasSince setup seat node past o)
     by f true t =
         let low = (invariant_of setup (e ∷ past) g).version o was in
@@ -95,11 +102,14 @@ above_since setup (e ∷ past) g seat node v is o above was = by (above_since se
     by f false t = elim was [ inl before ↦ inr (f t o above before) | inr now ↦ inl now ]
 
 -- whoever was told an epoch took the node
-pub has_taken : (setup : Setup) (past : List Entry) (seat : ℕ) (node : List ℕ) (epoch : ℕ) → last_epoch node (own seat past) ≡ Some epoch → (v : ℕ) × (taken_version setup seat node past ≡ Some v)
+pub has_taken : (setup : Setup) (past : List Entry) (seat : ℕ) (node : List ℕ) (epoch : ℕ) → last_epoch node (own seat past) ≡ Some epoch
+    → (v : ℕ) × (taken_version setup seat node past ≡ Some v)
 has_taken setup [] seat node epoch is = absurd (none-some _ is)
 has_taken setup (e ∷ past) seat node epoch is = by (has_taken setup past seat node epoch) (own_step seat e past)
   where
-    first : (last_epoch node (own seat past) ≡ Some epoch → (v : ℕ) × (taken_version setup seat node past ≡ Some v)) → e.seat ≡ seat → (x : Option ℕ) → epoch_in node e ≡ x → first_some x (last_epoch node (own seat past)) ≡ Some epoch → (v : ℕ) × (taken_version setup seat node (e ∷ past) ≡ Some v)
+    first : (last_epoch node (own seat past) ≡ Some epoch → (v : ℕ) × (taken_version setup seat node past ≡ Some v)) → e.seat ≡ seat → (x : Option ℕ)
+        → epoch_in node e ≡ x → first_some x (last_epoch node (own seat past)) ≡ Some epoch
+        → (v : ℕ) × (taken_version setup seat node (e ∷ past) ≡ Some v)
     first f seats (Some k) told t =
         let own_seat : (e.seat == seat) ≡ true = grind (arith, nat_tests) in
         let flag : is_some (epoch_in node e) ≡ true = ap is_some told in
@@ -109,7 +119,8 @@ has_taken setup (e ∷ past) seat node epoch is = by (has_taken setup past seat 
         let flag : is_some (epoch_in node e) ≡ false = ap is_some told in
         let r = f t in (r.0, rw (own_seat, flag) r.1)
 
-    by : (last_epoch node (own seat past) ≡ Some epoch → (v : ℕ) × (taken_version setup seat node past ≡ Some v)) → OwnStep seat e past → (v : ℕ) × (taken_version setup seat node (e ∷ past) ≡ Some v)
+    by : (last_epoch node (own seat past) ≡ Some epoch → (v : ℕ) × (taken_version setup seat node past ≡ Some v)) → OwnStep seat e past
+        → (v : ℕ) × (taken_version setup seat node (e ∷ past) ≡ Some v)
     by f (Own seats same) = first f seats (epoch_in node e) refl (ap (last_epoch node) (sym same) ∙ is)
     by f (Others apart same) = let r = f (ap (last_epoch node) (sym same) ∙ is) in let not_taken : takes_node seat node e ≡ false = rw apart refl in (r.0, same_taken setup seat node e past not_taken ∙ r.1)
 
@@ -179,13 +190,15 @@ abbrev events_of : EventsData → Reply → EventsData
 events_of none (Events x) = x
 events_of none r = none
 
-events_or : (a b : Bool) (q r : Refusal) (x es : EventsData) → reply_to (if a then OnStore (Says (Refused q)) else if b then OnStore (Says (Refused r)) else OnStore (Says (Events x))) ≡ Events es → es ≡ x
+events_or : (a b : Bool) (q r : Refusal) (x es : EventsData)
+    → reply_to (if a then OnStore (Says (Refused q)) else if b then OnStore (Says (Refused r)) else OnStore (Says (Events x))) ≡ Events es → es ≡ x
 unfolding reply_to reply_of
 events_or true b q r x es e = absurd (true≢false (sym (ap is_events e)))
 events_or false true q r x es e = absurd (true≢false (sym (ap is_events e)))
 events_or false false q r x es e = sym (ap (events_of es) e)
 
-pub watch_events : (setup : Setup) (w : World) (kind : SeatKind) (k : Kind) (from : ℕ) (es : EventsData) → reply_to (effect setup w kind (requests.Watch k from)) ≡ Events es → es ≡ told_events k from w.store.version w.log
+pub watch_events : (setup : Setup) (w : World) (kind : SeatKind) (k : Kind) (from : ℕ) (es : EventsData)
+    → reply_to (effect setup w kind (requests.Watch k from)) ≡ Events es → es ≡ told_events k from w.store.version w.log
 unfolding effect watch
 watch_events setup w kind k from es e = events_or (nat_lt w.store.version from) (nat_lt from (oldest (base setup) w.store.version)) _ _ _ es e
 
@@ -213,7 +226,8 @@ reach : (v : ℕ) (es : EventsData) (before : Following) → v ≤ es.upto → A
 reach v es Unlisted up a = tt
 reach v es (ListedAt version upto) up a = (a.0, up)
 
-step : (v : ℕ) (request : Request) (reply : Reply) (before : Following) → Facts v request reply before → (is_pod_list request reply ≡ true) ⊎ AtLeast v before → AtLeast v (follow_on request reply kinds.Pod before)
+step : (v : ℕ) (request : Request) (reply : Reply) (before : Following) → Facts v request reply before
+    → (is_pod_list request reply ≡ true) ⊎ AtLeast v before → AtLeast v (follow_on request reply kinds.Pod before)
 step v (requests.List kinds.Pod None) (Listed items version) before f h = (f.list kinds.Pod items version refl refl, tt)
 step v (requests.List kinds.StorageClass None) (Listed items version) before f h = elim h [ inl e ↦ absurd (true≢false (sym e)) | inr a ↦ a ]
 step v (requests.List kinds.Node None) (Listed items version) before f h = elim h [ inl e ↦ absurd (true≢false (sym e)) | inr a ↦ a ]
@@ -236,17 +250,20 @@ version_of none (Listed items version) = version
 version_of none r = none
 
 -- the version that a list tells is the store's
-list_version : (setup : Setup) (w : World) (kind : SeatKind) (k : Kind) (rows : AreRows w.store.rows) (items : List Object) (version : ℕ) → reply_to (effect setup w kind (requests.List k None)) ≡ Listed items version → version ≡ w.store.version
+list_version : (setup : Setup) (w : World) (kind : SeatKind) (k : Kind) (rows : AreRows w.store.rows) (items : List Object) (version : ℕ)
+    → reply_to (effect setup w kind (requests.List k None)) ≡ Listed items version → version ≡ w.store.version
 list_version setup w kind k rows items version e =
     let l = lists_tell_what_stands setup w kind k None rows in
     let same : l.1.0 ≡ version = ap (version_of version) (sym l.1.1.0 ∙ e) in
     sym same ∙ l.1.1.1.at
 
-agent_watch : (mine : List Entry) (kind : SeatKind) (k : Kind) (from : ℕ) → kind ≡ seats.Agent → Licensed kind mine (requests.Watch k from) → IsFrom from (following_of mine k)
+agent_watch : (mine : List Entry) (kind : SeatKind) (k : Kind) (from : ℕ) → kind ≡ seats.Agent → Licensed kind mine (requests.Watch k from)
+    → IsFrom from (following_of mine k)
 agent_watch mine kind k from e l = let a : Licensed seats.Agent mine (requests.Watch k from) = subst (λ (x : SeatKind). Licensed x mine (requests.Watch k from)) e l in a.1.1
 
 -- the facts of an own entry of an agent
-facts : (setup : Setup) (e : Entry) (past : List Entry) → Good setup (e ∷ past) → Run setup (e ∷ past) → (v : ℕ) → v ≤ (world setup past).store.version → e.kind ≡ seats.Agent → Facts v e.request e.reply (following_of (own e.seat past) kinds.Pod)
+facts : (setup : Setup) (e : Entry) (past : List Entry) → Good setup (e ∷ past) → Run setup (e ∷ past) → (v : ℕ)
+    → v ≤ (world setup past).store.version → e.kind ≡ seats.Agent → Facts v e.request e.reply (following_of (own e.seat past) kinds.Pod)
 facts setup e past g run v low agent = record {
   list = λ k items version is r.
       let at = list_version setup (world setup past) e.kind k (invariant_of setup past g.0).order items version (ap (λ x. reply_to (effect setup (world setup past) e.kind x)) (sym is) ∙ sym g.2 ∙ r) in
@@ -260,17 +277,21 @@ facts setup e past g run v low agent = record {
 }
 
 -- the list is there, or was before
-listed_or : (v : ℕ) (e : Entry) (mine : List Entry) (since : List Entry) → ListedPods (e ∷ since) → (ListedPods since → AtLeast v (following_of mine kinds.Pod)) → (b : Bool) → e.told ≡ b → Facts v e.request e.reply (following_of mine kinds.Pod)
+listed_or : (v : ℕ) (e : Entry) (mine : List Entry) (since : List Entry) → ListedPods (e ∷ since)
+    → (ListedPods since → AtLeast v (following_of mine kinds.Pod)) → (b : Bool) → e.told ≡ b → Facts v e.request e.reply (following_of mine kinds.Pod)
     → AtLeast v (if b then follow_on e.request e.reply kinds.Pod (following_of mine kinds.Pod) else following_of mine kinds.Pod)
 listed_or v e mine since listed f true t facts = step v e.request e.reply (following_of mine kinds.Pod) facts (elim listed [ inl now ↦ inl now.1 | inr more ↦ inr (f more) ])
 listed_or v e mine since listed f false t facts = elim listed [ inl now ↦ absurd (true≢false (sym now.0 ∙ t)) | inr more ↦ f more ]
 
-pub followed_since : (setup : Setup) (past : List Entry) → Good setup past → Run setup past → (seat : ℕ) (node : List ℕ) (v : ℕ) → taken_version setup seat node past ≡ Some v → AreOfKind seats.Agent (own seat past) → ListedPods (since_epoch node (own seat past)) → AtLeast v (following_of (own seat past) kinds.Pod)
+pub followed_since : (setup : Setup) (past : List Entry) → Good setup past → Run setup past → (seat : ℕ) (node : List ℕ) (v : ℕ)
+    → taken_version setup seat node past ≡ Some v → AreOfKind seats.Agent (own seat past) → ListedPods (since_epoch node (own seat past))
+    → AtLeast v (following_of (own seat past) kinds.Pod)
 followed_since setup [] g run seat node v is agents listed = absurd listed
 followed_since setup (e ∷ past) g run seat node v is agents listed = by (followed_since setup past g.0 run.0 seat node v) (own_step seat e past)
   where
     mine : (taken_version setup seat node past ≡ Some v → AreOfKind seats.Agent (own seat past) → ListedPods (since_epoch node (own seat past)) → AtLeast v (following_of (own seat past) kinds.Pod))
-        → e.seat ≡ seat → (b : Bool) → is_some (epoch_in node e) ≡ b → AreOfKind seats.Agent (e ∷ own seat past) → ListedPods (if b then [] else e ∷ since_epoch node (own seat past)) → AtLeast v (following_of (e ∷ own seat past) kinds.Pod)
+        → e.seat ≡ seat → (b : Bool) → is_some (epoch_in node e) ≡ b → AreOfKind seats.Agent (e ∷ own seat past)
+        → ListedPods (if b then [] else e ∷ since_epoch node (own seat past)) → AtLeast v (following_of (e ∷ own seat past) kinds.Pod)
     mine f at true flag a l = absurd l
     mine f at false flag a l =
         let own_seat : (e.seat == seat) ≡ true = grind (arith, nat_tests) in
@@ -279,7 +300,8 @@ followed_since setup (e ∷ past) g run seat node v is agents listed = by (follo
         let known = subst (λ (s : ℕ). Facts v e.request e.reply (following_of (own s past) kinds.Pod)) at (facts setup e past g run v (taken_low setup past g.0 seat node v t) a.0) in
         listed_or v e (own seat past) (since_epoch node (own seat past)) l (λ more. f t a.1 more) e.told refl known
 
-    by : (taken_version setup seat node past ≡ Some v → AreOfKind seats.Agent (own seat past) → ListedPods (since_epoch node (own seat past)) → AtLeast v (following_of (own seat past) kinds.Pod)) → OwnStep seat e past → AtLeast v (following_of (own seat (e ∷ past)) kinds.Pod)
+    by : (taken_version setup seat node past ≡ Some v → AreOfKind seats.Agent (own seat past) → ListedPods (since_epoch node (own seat past)) → AtLeast v (following_of (own seat past) kinds.Pod))
+        → OwnStep seat e past → AtLeast v (following_of (own seat (e ∷ past)) kinds.Pod)
     by f (Own at same) = subst (λ (m : List Entry). AtLeast v (following_of m kinds.Pod)) (sym same) (mine f at (is_some (epoch_in node e)) refl (subst (AreOfKind seats.Agent) same agents) (subst (λ (m : List Entry). ListedPods (since_epoch node m)) same listed))
     by f (Others apart same) =
         let not_taken : takes_node seat node e ≡ false = rw apart refl in
@@ -335,7 +357,9 @@ some_event o (x ∷ es) h = elim h [
 ]
 
 -- what a reply to a watch tells
-watch_above : (setup : Setup) (past : List Entry) (kind : SeatKind) (k : Kind) (from : ℕ) (o : Object) (reply : Reply) → reply ≡ reply_to (effect setup (world setup past) kind (requests.Watch k from)) → IsIn o (objects_in reply) → is_events reply ≡ true → IsAbove k from o
+watch_above : (setup : Setup) (past : List Entry) (kind : SeatKind) (k : Kind) (from : ℕ) (o : Object) (reply : Reply)
+    → reply ≡ reply_to (effect setup (world setup past) kind (requests.Watch k from)) → IsIn o (objects_in reply) → is_events reply ≡ true
+    → IsAbove k from o
 watch_above setup past kind k from o (Events es) r h e =
     let told = watch_events setup (world setup past) kind k from es (sym r) in
     let h2 = subst (λ (x : EventsData). IsIn o (objects_of_events x.events)) told h in
@@ -346,13 +370,17 @@ watch_above setup past kind k from o (Events es) r h e =
 watch_above setup past kind k from o reply r h e = absurd (true≢false (sym e))
 
 -- a reply to a watch that tells an object tells events
-told_or : (a b : Bool) (q r : Refusal) (x : EventsData) (o : Object) → IsIn o (objects_in (reply_to (if a then OnStore (Says (Refused q)) else if b then OnStore (Says (Refused r)) else OnStore (Says (Events x))))) → is_events (reply_to (if a then OnStore (Says (Refused q)) else if b then OnStore (Says (Refused r)) else OnStore (Says (Events x)))) ≡ true
+told_or : (a b : Bool) (q r : Refusal) (x : EventsData) (o : Object)
+    → IsIn o (objects_in (reply_to (if a then OnStore (Says (Refused q)) else if b then OnStore (Says (Refused r)) else OnStore (Says (Events x)))))
+    → is_events (reply_to (if a then OnStore (Says (Refused q)) else if b then OnStore (Says (Refused r)) else OnStore (Says (Events x)))) ≡ true
 unfolding reply_to reply_of
 told_or true b q r x o h = absurd h
 told_or false true q r x o h = absurd h
 told_or false false q r x o h = refl
 
-watch_tells_events : (setup : Setup) (w : World) (kind : SeatKind) (k : Kind) (from : ℕ) (o : Object) → IsIn o (objects_in (reply_to (effect setup w kind (requests.Watch k from)))) → is_events (reply_to (effect setup w kind (requests.Watch k from))) ≡ true
+watch_tells_events : (setup : Setup) (w : World) (kind : SeatKind) (k : Kind) (from : ℕ) (o : Object)
+    → IsIn o (objects_in (reply_to (effect setup w kind (requests.Watch k from))))
+    → is_events (reply_to (effect setup w kind (requests.Watch k from))) ≡ true
 unfolding effect watch
 watch_tells_events setup w kind k from o h = told_or (nat_lt w.store.version from) (nat_lt from (oldest (base setup) w.store.version)) _ _ _ o h
 
@@ -370,7 +398,9 @@ list_no_watch (requests.Watch k from) reply e l = true≢false (sym l)
 list_no_watch request reply e l = absurd (true≢false (sym e))
 
 -- what the newest own entry tells of a pod
-newest_since : (setup : Setup) (e : Entry) (past : List Entry) → Good setup (e ∷ past) → Run setup (e ∷ past) → (node : List ℕ) (v : ℕ) → takes_node e.seat node e ≡ false → taken_version setup e.seat node past ≡ Some v → e.kind ≡ seats.Agent → AreOfKind seats.Agent (own e.seat past)
+newest_since : (setup : Setup) (e : Entry) (past : List Entry) → Good setup (e ∷ past) → Run setup (e ∷ past) → (node : List ℕ) (v : ℕ)
+    → takes_node e.seat node e ≡ false → taken_version setup e.seat node past ≡ Some v → e.kind ≡ seats.Agent
+    → AreOfKind seats.Agent (own e.seat past)
     → ListedPods (e ∷ since_epoch node (own e.seat past)) → (p : PodData) → TellsObject (IsPodWith (λ x. x ≡ p)) e → WasSince setup e.seat node (e ∷ past) (Pod p)
 newest_since setup e past g run node v not_taken is agent agents listed p told = by (is_watch e.request) refl
   where
@@ -398,13 +428,16 @@ newest_since setup e past g run node v not_taken is agent agents listed p told =
     ]
 
 -- the pod that was told by a list after the node was taken, or after it, stood since then
-pub told_since : (setup : Setup) (past : List Entry) → Good setup past → Run setup past → (seat : ℕ) (node : List ℕ) (v : ℕ) → taken_version setup seat node past ≡ Some v → AreOfKind seats.Agent (own seat past)
-    → (recent : List Entry) (teller : Entry) (earlier : List Entry) → IsSplit node (own seat past) recent teller earlier → (p : PodData) → TellsObject (IsPodWith (λ x. x ≡ p)) teller → WasSince setup seat node past (Pod p)
+pub told_since : (setup : Setup) (past : List Entry) → Good setup past → Run setup past → (seat : ℕ) (node : List ℕ) (v : ℕ)
+    → taken_version setup seat node past ≡ Some v → AreOfKind seats.Agent (own seat past)
+    → (recent : List Entry) (teller : Entry) (earlier : List Entry) → IsSplit node (own seat past) recent teller earlier → (p : PodData)
+    → TellsObject (IsPodWith (λ x. x ≡ p)) teller → WasSince setup seat node past (Pod p)
 told_since setup [] g run seat node v is agents recent teller earlier split p told = absurd (none-some _ is)
 told_since setup (e ∷ past) g run seat node v is agents recent teller earlier split p told = by (told_since setup past g.0 run.0 seat node v) (own_step seat e past)
   where
     mine : ((t : taken_version setup seat node past ≡ Some v) → AreOfKind seats.Agent (own seat past) → (recent : List Entry) (teller : Entry) (earlier : List Entry) → IsSplit node (own seat past) recent teller earlier → (p : PodData) → TellsObject (IsPodWith (λ x. x ≡ p)) teller → WasSince setup seat node past (Pod p))
-        → e.seat ≡ seat → is_some (epoch_in node e) ≡ false → AreOfKind seats.Agent (e ∷ own seat past) → (recent : List Entry) → e ∷ since_epoch node (own seat past) ≡ recent ++ teller ∷ earlier → WasSince setup seat node (e ∷ past) (Pod p)
+        → e.seat ≡ seat → is_some (epoch_in node e) ≡ false → AreOfKind seats.Agent (e ∷ own seat past) → (recent : List Entry)
+        → e ∷ since_epoch node (own seat past) ≡ recent ++ teller ∷ earlier → WasSince setup seat node (e ∷ past) (Pod p)
     mine f at flag a [] eq =
         let own_seat : (e.seat == seat) ≡ true = grind (arith, nat_tests) in
         let not_taken : takes_node seat node e ≡ false = rw (own_seat, flag) refl in
@@ -423,11 +456,13 @@ told_since setup (e ∷ past) g run seat node v is agents recent teller earlier 
         on_since setup seat node e past (Pod p) not_taken (f t a.1 recent teller earlier (record { since = ap tail_of eq; listed = split.listed }) p told)
 
     cases : ((t : taken_version setup seat node past ≡ Some v) → AreOfKind seats.Agent (own seat past) → (recent : List Entry) (teller : Entry) (earlier : List Entry) → IsSplit node (own seat past) recent teller earlier → (p : PodData) → TellsObject (IsPodWith (λ x. x ≡ p)) teller → WasSince setup seat node past (Pod p))
-        → e.seat ≡ seat → (b : Bool) → is_some (epoch_in node e) ≡ b → AreOfKind seats.Agent (e ∷ own seat past) → (if b then [] else e ∷ since_epoch node (own seat past)) ≡ recent ++ teller ∷ earlier → WasSince setup seat node (e ∷ past) (Pod p)
+        → e.seat ≡ seat → (b : Bool) → is_some (epoch_in node e) ≡ b → AreOfKind seats.Agent (e ∷ own seat past)
+        → (if b then [] else e ∷ since_epoch node (own seat past)) ≡ recent ++ teller ∷ earlier → WasSince setup seat node (e ∷ past) (Pod p)
     cases f at true flag a eq = absurd (no_split recent teller earlier eq)
     cases f at false flag a eq = mine f at flag a recent eq
 
-    by : ((t : taken_version setup seat node past ≡ Some v) → AreOfKind seats.Agent (own seat past) → (recent : List Entry) (teller : Entry) (earlier : List Entry) → IsSplit node (own seat past) recent teller earlier → (p : PodData) → TellsObject (IsPodWith (λ x. x ≡ p)) teller → WasSince setup seat node past (Pod p)) → OwnStep seat e past → WasSince setup seat node (e ∷ past) (Pod p)
+    by : ((t : taken_version setup seat node past ≡ Some v) → AreOfKind seats.Agent (own seat past) → (recent : List Entry) (teller : Entry) (earlier : List Entry) → IsSplit node (own seat past) recent teller earlier → (p : PodData) → TellsObject (IsPodWith (λ x. x ≡ p)) teller → WasSince setup seat node past (Pod p))
+        → OwnStep seat e past → WasSince setup seat node (e ∷ past) (Pod p)
     by f (Own at same) = cases f at (is_some (epoch_in node e)) refl (subst (AreOfKind seats.Agent) same agents) (ap (since_epoch node) (sym same) ∙ split.since)
     by f (Others apart same) =
         let not_taken : takes_node seat node e ≡ false = rw apart refl in

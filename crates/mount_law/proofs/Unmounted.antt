@@ -32,13 +32,15 @@ pub record MountedBy (setup : Setup) (e : Entry) (past : List Entry) (m : MountA
   pub holds : Holds setup past m.node e.seat
   pub controller : is_user e.kind ≡ false
 
-mount_row : (mine : List Entry) (kind : SeatKind) (node : List ℕ) (epoch : ℕ) (pod : Uid) (claims : List Uid) → is_user kind ≡ false → Licensed kind mine (requests.Mount node epoch pod claims) → MayMount mine node epoch pod claims
+mount_row : (mine : List Entry) (kind : SeatKind) (node : List ℕ) (epoch : ℕ) (pod : Uid) (claims : List Uid) → is_user kind ≡ false
+    → Licensed kind mine (requests.Mount node epoch pod claims) → MayMount mine node epoch pod claims
 mount_row mine seats.User node epoch pod claims c l = absurd (true≢false c)
 mount_row mine seats.Agent node epoch pod claims c l = l.1
 mount_row mine kind node epoch pod claims c l = absurd l.1
 
 -- what is mounted now was mounted before, or was mounted by an allowed Mount of the node's holder
-pub new_mount : (setup : Setup) (e : Entry) (past : List Entry) → Run setup (e ∷ past) → (m : MountAt) → MountIn m (world setup (e ∷ past)).devices.mounts → MountIn m (world setup past).devices.mounts ⊎ MountedBy setup e past m
+pub new_mount : (setup : Setup) (e : Entry) (past : List Entry) → Run setup (e ∷ past) → (m : MountAt)
+    → MountIn m (world setup (e ∷ past)).devices.mounts → MountIn m (world setup past).devices.mounts ⊎ MountedBy setup e past m
 new_mount setup e past run m h = by (is_user e.kind) refl
   where
     made : is_user e.kind ≡ false → IsMounting (world setup past).devices e.request m → MountedBy setup e past m
@@ -57,7 +59,8 @@ IsUnmounted setup past node pod = (m : MountAt) → MountIn m (world setup past)
 abbrev tells_unmounted : List ℕ → ℕ → Uid → Entry → Bool
 tells_unmounted node epoch pod e = e.told && is_of_epoch node epoch e.request && lacks_pod pod e.reply
 
-unmounted_now : (setup : Setup) (e : Entry) (past : List Entry) → Good setup (e ∷ past) → (node : List ℕ) (epoch : ℕ) (pod : Uid) → tells_unmounted node epoch pod e ≡ true → IsUnmounted setup (e ∷ past) node pod
+unmounted_now : (setup : Setup) (e : Entry) (past : List Entry) → Good setup (e ∷ past) → (node : List ℕ) (epoch : ℕ) (pod : Uid)
+    → tells_unmounted node epoch pod e ≡ true → IsUnmounted setup (e ∷ past) node pod
 unmounted_now setup e past g node epoch pod t m h n p =
     let outer = and_parts (e.told && is_of_epoch node epoch e.request) (lacks_pod pod e.reply) t in
     let inner = and_parts e.told (is_of_epoch node epoch e.request) outer.0 in
@@ -74,14 +77,16 @@ unmounted setup (e ∷ past) g run node seat epoch pod holds is = by (λ h w. un
     on : IsUnmounted setup past node pod → ((m : MountAt) → MountedBy setup e past m → m.node ≡ node → m.row.pod ≡ pod → ⊥) → IsUnmounted setup (e ∷ past) node pod
     on before new m h n p = elim (new_mount setup e past run m h) [ inl old ↦ before m old n p | inr by_this ↦ new m by_this n p ]
 
-    mine : (Holds setup past node seat → was_told_unmounted node epoch pod (since_epoch node (own seat past)) ≡ true → IsUnmounted setup past node pod) → Holds setup past node seat
+    mine : (Holds setup past node seat → was_told_unmounted node epoch pod (since_epoch node (own seat past)) ≡ true → IsUnmounted setup past node pod)
+        → Holds setup past node seat
         → (a b : Bool) → tells_unmounted node epoch pod e ≡ a → is_mount_of pod e.request ≡ b
         → (if a then true else if b then false else was_told_unmounted node epoch pod (since_epoch node (own seat past))) ≡ true → IsUnmounted setup (e ∷ past) node pod
     mine f held true b t x w = unmounted_now setup e past g node epoch pod t
     mine f held false true t x w = absurd (true≢false (sym w))
     mine f held false false t x w = on (f held w) (λ m by_this n p. true≢false (sym (ap (is_mount_of pod) by_this.asked ∙ uid_same m.row.pod pod p) ∙ x))
 
-    by : (Holds setup past node seat → was_told_unmounted node epoch pod (since_epoch node (own seat past)) ≡ true → IsUnmounted setup past node pod) → HolderStep setup e past node seat → IsUnmounted setup (e ∷ past) node pod
+    by : (Holds setup past node seat → was_told_unmounted node epoch pod (since_epoch node (own seat past)) ≡ true → IsUnmounted setup past node pod)
+        → HolderStep setup e past node seat → IsUnmounted setup (e ∷ past) node pod
     by f (Took a flag none next) = absurd (true≢false (sym (ap (was_told_unmounted node epoch pod) (sym none) ∙ is)))
     by f (Mine a flag o since same held) = mine f held (tells_unmounted node epoch pod e) (is_mount_of pod e.request) refl refl (ap (was_told_unmounted node epoch pod) (sym since) ∙ is)
     by f (Other apart o same held) =

@@ -81,7 +81,9 @@ row_made imports (o ∷ os) k x is = by (is_dropped o) (row_made imports os k x)
     more : IsImport imports os x → IsImport imports (o ∷ os) x
     more i = record { origin = i.origin; among = inr i.among; is = i.is }
 
-    by : (b : Bool) → (row_at k (rows_of_imports imports os) ≡ Some x → IsImport imports os x) → row_at k (if b then rows_of_imports imports os else put_row (imported_object imports o) (rows_of_imports imports os)) ≡ Some x → IsImport imports (o ∷ os) x
+    by : (b : Bool) → (row_at k (rows_of_imports imports os) ≡ Some x → IsImport imports os x)
+        → row_at k (if b then rows_of_imports imports os else put_row (imported_object imports o) (rows_of_imports imports os)) ≡ Some x
+        → IsImport imports (o ∷ os) x
     by true f e = more (f e)
     by false f e = elim (key_tells (key_of (imported_object imports o)) k) [
       | inl same ↦ record {
@@ -180,7 +182,8 @@ some_of : (f : Object → Bool) (xs : List Object) → list_any f xs ≡ true �
 some_of f [] e = absurd (true≢false (sym e))
 some_of f (x ∷ xs) e = by (f x) refl e (some_of f xs)
   where
-    by : (b : Bool) → f x ≡ b → (b || list_any f xs) ≡ true → (list_any f xs ≡ true → (a : Object) × (IsIn a xs × (f a ≡ true))) → (a : Object) × (IsIn a (x ∷ xs) × (f a ≡ true))
+    by : (b : Bool) → f x ≡ b → (b || list_any f xs) ≡ true → (list_any f xs ≡ true → (a : Object) × (IsIn a xs × (f a ≡ true)))
+        → (a : Object) × (IsIn a (x ∷ xs) × (f a ≡ true))
     by true t e more = (x, (inl refl, t))
     by false t e more = let r = more e in (r.0, (inr r.1.0, r.1.1))
 
@@ -227,7 +230,8 @@ module _ (setup : Setup) (pass : ImportsPass setup.imports) where
       subst (λ (x : VolumeData). IsPlaced (key_of (Volume x))) (sym i.is) (record { global = p.global; titled = p.titled })
 
   -- the reference of an imported volume, and an imported claim that has its UID
-  first_named : (a : VolumeData) (c : ClaimData) (r : Ref) (uid : Uid) → IsIn (Volume a) setup.imports → IsIn (Claim c) setup.imports → a.claim_ref ≡ Some r → r.uid ≡ Some uid → c.meta.uid ≡ Some uid → names_claim r c ≡ true
+  first_named : (a : VolumeData) (c : ClaimData) (r : Ref) (uid : Uid) → IsIn (Volume a) setup.imports → IsIn (Claim c) setup.imports
+      → a.claim_ref ≡ Some r → r.uid ≡ Some uid → c.meta.uid ≡ Some uid → names_claim r c ≡ true
   first_named a c r uid in_a in_c is known its =
       let none : refers_to_another (Volume a) (Claim c) ≡ false = (two_sound setup.imports pass (Volume a) (Claim c) in_a in_c).refers in
       let test : (shares_uid r.uid c.meta.uid && not (names_claim r c)) ≡ false = subst (λ (x : Option Ref). names_another x (Claim c) ≡ false) is none in
@@ -260,7 +264,8 @@ module _ (setup : Setup) (pass : ImportsPass setup.imports) where
       ap (λ (x : ClaimData). is_protected_claim x) i.is ∙ has_given pvc_protection i.origin.meta.finalizers
 
   -- the claim of an ended volume names another one
-  first_away : (v : VolumeData) (r : Ref) (uid : Uid) → Stands (world setup []) (Volume v) → is_ended v.phase ≡ true → Refers v r uid → IsAway (world setup []) uid v.meta.name
+  first_away : (v : VolumeData) (r : Ref) (uid : Uid) → Stands (world setup []) (Volume v) → is_ended v.phase ≡ true → Refers v r uid
+      → IsAway (world setup []) uid v.meta.name
   first_away v r uid was ended h k c there its =
       let i = volume_import setup.imports v (stands_import (Volume v) was) in
       let j = claim_import setup.imports c (row_import k (Claim c) there) in
@@ -279,7 +284,8 @@ module _ (setup : Setup) (pass : ImportsPass setup.imports) where
       }
 
   -- a completed claim that was not imported as Lost is bound
-  bound_by : (c : ClaimData) (origin : ClaimData) → c ≡ imported_claim setup.imports origin → (o : Object) → IsIn o setup.imports → binds_claim origin o ≡ true → WasBound setup [] c
+  bound_by : (c : ClaimData) (origin : ClaimData) → c ≡ imported_claim setup.imports origin → (o : Object) → IsIn o setup.imports
+      → binds_claim origin o ≡ true → WasBound setup [] c
   unfolding imported_object
   bound_by c origin is (Volume a) h e =
       let t = and_parts (bytes_eq a.meta.name origin.volume_name && carries a origin) (is_bound a.phase) e in
@@ -287,7 +293,8 @@ module _ (setup : Setup) (pass : ImportsPass setup.imports) where
       let there = rows_stand setup.imports setup.imports (λ x y in_x in_y. (two_sound setup.imports pass x y in_x in_y).key) (Volume a) h refl in
       volume_stands there s.0 s.1 t.1
     where
-      volume_stands : row_at (key_of (Volume a)) (rows_of_imports setup.imports setup.imports) ≡ Some (imported_object setup.imports (Volume a)) → bytes_eq a.meta.name origin.volume_name ≡ true → carries a origin ≡ true → is_bound a.phase ≡ true → WasBound setup [] c
+      volume_stands : row_at (key_of (Volume a)) (rows_of_imports setup.imports setup.imports) ≡ Some (imported_object setup.imports (Volume a))
+          → bytes_eq a.meta.name origin.volume_name ≡ true → carries a origin ≡ true → is_bound a.phase ≡ true → WasBound setup [] c
       volume_stands there names carrying bound = record {
         volume = imported_volume a;
         was = there;

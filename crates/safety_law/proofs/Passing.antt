@@ -115,7 +115,8 @@ apart_from before x p a h = record {
 }
 
 -- a test of pairs does not hold of the import and it or one before it, either way round
-no_pair : (test : Object → Object → Bool) (before : List Object) (x a : Object) → holds_of_pair test before x ≡ false → IsIn a (x ∷ before) → (test x a ≡ false) × (test a x ≡ false)
+no_pair : (test : Object → Object → Bool) (before : List Object) (x a : Object) → holds_of_pair test before x ≡ false → IsIn a (x ∷ before)
+    → (test x a ≡ false) × (test a x ≡ false)
 no_pair test before x a e h = or_parts (test x a) (test a x) (none_of (λ other. test x other || test other x) (x ∷ before) a h e)
 
 sound_with : (before : List Object) (x : Object) → IsPassed before x → (a : Object) → IsIn a (before ++ x ∷ []) → AreSound x a × AreSound a x

@@ -77,7 +77,8 @@ pub volume_came : (setup : Setup) (past : List Entry) (v : VolumeData) → Made 
 volume_came setup past v (inl s) = inl (record { room = s.room; first = s.first; start = s.start })
 volume_came setup past v (inr f) = by f.old f.next f.step (volume_keyed f.old v f.next.key)
   where
-    by : (old : Object) → IsNext (world setup past).store old (Volume v) → KindStep setup past old (Volume v) → (a : VolumeData) × (old ≡ Volume a) → VolumeBegan setup past v ⊎ VolumeCame setup past v
+    by : (old : Object) → IsNext (world setup past).store old (Volume v) → KindStep setup past old (Volume v) → (a : VolumeData) × (old ≡ Volume a)
+        → VolumeBegan setup past v ⊎ VolumeCame setup past v
     by (Volume a) n s h = inr (record { old = a; next = n; step = s })
     by (Class a) n s h = absurd (omega (arith, ap (λ o. kind_index (key_of o).kind) h.1))
     by (Node a) n s h = absurd (omega (arith, ap (λ o. kind_index (key_of o).kind) h.1))
@@ -98,7 +99,8 @@ pub claim_came : (setup : Setup) (past : List Entry) (c : ClaimData) → Made se
 claim_came setup past c (inl s) = inl (record { room = s.room; first = s.first; start = s.start })
 claim_came setup past c (inr f) = by f.old f.next f.step (claim_keyed f.old c f.next.key)
   where
-    by : (old : Object) → IsNext (world setup past).store old (Claim c) → KindStep setup past old (Claim c) → (a : ClaimData) × (old ≡ Claim a) → ClaimBegan setup past c ⊎ ClaimCame setup past c
+    by : (old : Object) → IsNext (world setup past).store old (Claim c) → KindStep setup past old (Claim c) → (a : ClaimData) × (old ≡ Claim a)
+        → ClaimBegan setup past c ⊎ ClaimCame setup past c
     by (Claim a) n s h = inr (record { old = a; next = n; step = s })
     by (Class a) n s h = absurd (omega (arith, ap (λ o. kind_index (key_of o).kind) h.1))
     by (Node a) n s h = absurd (omega (arith, ap (λ o. kind_index (key_of o).kind) h.1))

@@ -18,7 +18,8 @@ pub record Carried (v : VolumeData) (c : ClaimData) : Type 0 where
   pub placed : reference.namespace ≡ c.meta.namespace
   pub named : reference.name ≡ c.meta.name
 
-carried_by : (v : VolumeData) (c : ClaimData) (r : Ref) (u : Option Uid) → v.claim_ref ≡ Some r → r.uid ≡ u → names_claim r c ≡ true → uid_carries u c ≡ true → Carried v c
+carried_by : (v : VolumeData) (c : ClaimData) (r : Ref) (u : Option Uid) → v.claim_ref ≡ Some r → r.uid ≡ u → names_claim r c ≡ true
+    → uid_carries u c ≡ true → Carried v c
 carried_by v c r None is known names fits = absurd (true≢false (sym fits))
 carried_by v c r (Some u) is known names fits =
     let n = and_parts (bytes_eq r.namespace c.meta.namespace) (bytes_eq r.name c.meta.name) names in

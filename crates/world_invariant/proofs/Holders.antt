@@ -36,7 +36,9 @@ is_epoch : Reply → Bool
 is_epoch (replies.Epoch n) = true
 is_epoch r = false
 
-taken : (w : World) (node : List ℕ) (epoch : ℕ) (b : Bool) → reply_to (if b then refused_rule else OnDevices (take_node w.devices node)) ≡ replies.Epoch epoch → Takes node w (if b then refused_rule else OnDevices (take_node w.devices node)) epoch
+taken : (w : World) (node : List ℕ) (epoch : ℕ) (b : Bool)
+    → reply_to (if b then refused_rule else OnDevices (take_node w.devices node)) ≡ replies.Epoch epoch
+    → Takes node w (if b then refused_rule else OnDevices (take_node w.devices node)) epoch
 unfolding reply_to reply_of take_node world_after is_epoch
 taken w node epoch true e = absurd (true≢false (sym (ap is_epoch e)))
 taken w node epoch false e =
@@ -63,10 +65,13 @@ is_told node (requests.TakeNode name) (replies.Epoch n) epoch e = by (bytes_eq n
     by false is f = absurd (none-some _ f)
 is_told node request reply epoch e = absurd (none-some _ e)
 
-entry_takes : (setup : Setup) (e : Entry) (past : List Entry) → e.reply ≡ reply_to (effect setup (world setup past) e.kind e.request) → (node : List ℕ) (epoch : ℕ) → epoch_in node e ≡ Some epoch → Takes node (world setup past) (effect setup (world setup past) e.kind e.request) epoch
+entry_takes : (setup : Setup) (e : Entry) (past : List Entry) → e.reply ≡ reply_to (effect setup (world setup past) e.kind e.request)
+    → (node : List ℕ) (epoch : ℕ) → epoch_in node e ≡ Some epoch
+    → Takes node (world setup past) (effect setup (world setup past) e.kind e.request) epoch
 entry_takes setup e past reply node epoch is = by e.told is
   where
-    by : (b : Bool) → (if b then epoch_told node e.request e.reply else None) ≡ Some epoch → Takes node (world setup past) (effect setup (world setup past) e.kind e.request) epoch
+    by : (b : Bool) → (if b then epoch_told node e.request e.reply else None) ≡ Some epoch
+        → Takes node (world setup past) (effect setup (world setup past) e.kind e.request) epoch
     by true f = let t = is_told node e.request e.reply epoch f in takes setup (world setup past) e.kind e.request node epoch t.asked (sym reply ∙ t.answered)
     by false f = absurd (none-some _ f)
 
@@ -90,11 +95,13 @@ own_step seat e past = by (e.seat == seat) refl
     by false is = Others is (rw is refl)
 
 -- no epoch that was told is above the current one
-pub told_low : (setup : Setup) (past : List Entry) → Good setup past → (seat : ℕ) (node : List ℕ) (epoch : ℕ) → last_epoch node (own seat past) ≡ Some epoch → epoch ≤ epoch_now setup past node
+pub told_low : (setup : Setup) (past : List Entry) → Good setup past → (seat : ℕ) (node : List ℕ) (epoch : ℕ)
+    → last_epoch node (own seat past) ≡ Some epoch → epoch ≤ epoch_now setup past node
 told_low setup [] g seat node epoch is = absurd (none-some _ is)
 told_low setup (e ∷ past) g seat node epoch is = by (told_low setup past g.0 seat node epoch) (own_step seat e past)
   where
-    first : (last_epoch node (own seat past) ≡ Some epoch → epoch ≤ epoch_now setup past node) → (x : Option ℕ) → epoch_in node e ≡ x → first_some x (last_epoch node (own seat past)) ≡ Some epoch → epoch ≤ epoch_now setup (e ∷ past) node
+    first : (last_epoch node (own seat past) ≡ Some epoch → epoch ≤ epoch_now setup past node) → (x : Option ℕ) → epoch_in node e ≡ x
+        → first_some x (last_epoch node (own seat past)) ≡ Some epoch → epoch ≤ epoch_now setup (e ∷ past) node
     first before (Some k) told f =
         let t = entry_takes setup e past g.2 node k told in
         let same = same_Some k epoch f in
@@ -108,11 +115,16 @@ told_low setup (e ∷ past) g seat node epoch is = by (told_low setup past g.0 s
 
 -- who holds the node after an entry took it with that, or held it before, by an own entry or another's
 pub data HolderStep (setup : Setup) (e : Entry) (past : List Entry) (node : List ℕ) (seat : ℕ) : Type 0 where
-  Took : e.seat ≡ seat → is_some (epoch_in node e) ≡ true → since_epoch node (own seat (e ∷ past)) ≡ [] → epoch_now setup (e ∷ past) node ≡ epoch_now setup past node + 1 → HolderStep setup e past node seat
-  Mine : e.seat ≡ seat → is_some (epoch_in node e) ≡ false → own seat (e ∷ past) ≡ e ∷ own seat past → since_epoch node (own seat (e ∷ past)) ≡ e ∷ since_epoch node (own seat past) → epoch_now setup (e ∷ past) node ≡ epoch_now setup past node → Holds setup past node seat → HolderStep setup e past node seat
-  Other : (e.seat == seat) ≡ false → own seat (e ∷ past) ≡ own seat past → epoch_now setup (e ∷ past) node ≡ epoch_now setup past node → Holds setup past node seat → HolderStep setup e past node seat
+  Took : e.seat ≡ seat → is_some (epoch_in node e) ≡ true → since_epoch node (own seat (e ∷ past)) ≡ []
+      → epoch_now setup (e ∷ past) node ≡ epoch_now setup past node + 1 → HolderStep setup e past node seat
+  Mine : e.seat ≡ seat → is_some (epoch_in node e) ≡ false → own seat (e ∷ past) ≡ e ∷ own seat past
+      → since_epoch node (own seat (e ∷ past)) ≡ e ∷ since_epoch node (own seat past) → epoch_now setup (e ∷ past) node ≡ epoch_now setup past node
+      → Holds setup past node seat → HolderStep setup e past node seat
+  Other : (e.seat == seat) ≡ false → own seat (e ∷ past) ≡ own seat past → epoch_now setup (e ∷ past) node ≡ epoch_now setup past node
+      → Holds setup past node seat → HolderStep setup e past node seat
 
-pub holder_step : (setup : Setup) (e : Entry) (past : List Entry) → Good setup (e ∷ past) → (node : List ℕ) (seat : ℕ) → Holds setup (e ∷ past) node seat → HolderStep setup e past node seat
+pub holder_step : (setup : Setup) (e : Entry) (past : List Entry) → Good setup (e ∷ past) → (node : List ℕ) (seat : ℕ)
+    → Holds setup (e ∷ past) node seat → HolderStep setup e past node seat
 holder_step setup e past g node seat holds = by (own_step seat e past)
   where
     -- what was told before and is current now was current before
@@ -122,7 +134,8 @@ holder_step setup e past g node seat holds = by (own_step seat e past)
     held : last_epoch node (own seat past) ≡ Some (epoch_now setup (e ∷ past) node) → Holds setup past node seat
     held f = f ∙ ap (λ (n : ℕ). Some n) (same_epoch f)
 
-    first : e.seat ≡ seat → own seat (e ∷ past) ≡ e ∷ own seat past → (x : Option ℕ) → epoch_in node e ≡ x → first_some x (last_epoch node (own seat past)) ≡ Some (epoch_now setup (e ∷ past) node) → HolderStep setup e past node seat
+    first : e.seat ≡ seat → own seat (e ∷ past) ≡ e ∷ own seat past → (x : Option ℕ) → epoch_in node e ≡ x
+        → first_some x (last_epoch node (own seat past)) ≡ Some (epoch_now setup (e ∷ past) node) → HolderStep setup e past node seat
     first seats same (Some k) told f =
         let t = entry_takes setup e past g.2 node k told in
         let next = t.next in

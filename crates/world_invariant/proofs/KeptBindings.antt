@@ -34,7 +34,8 @@ use Rattle.binder_model.specs.Safe.{was_imported_as_lost}
 -- the claims of an old UID
 
 -- what held of those with an old UID holds on, if it stays when a claim is written
-pub kept_of : (setup : Setup) (e : Entry) (past : List Entry) → MovesAt setup e past → (Q : ClaimData → Type 0) → ((a b : ClaimData) → Keeps (Claim a) (Claim b) → Q a → Q b)
+pub kept_of : (setup : Setup) (e : Entry) (past : List Entry) → MovesAt setup e past → (Q : ClaimData → Type 0)
+    → ((a b : ClaimData) → Keeps (Claim a) (Claim b) → Q a → Q b)
     → (uid : Uid) → IsOld (world setup past).store.version (Some uid) → OfThoseWith (world setup past) uid Q → OfThoseWith (world setup (e ∷ past)) uid Q
 kept_of setup e past m Q stable uid old holds k c is its = elim (m.row k (Claim c) is) [
   | inl there ↦ holds k c there its
@@ -50,10 +51,12 @@ other_stays name a b keeps o = elim keeps.named [
   | inr same ↦ record { named = λ none. o.named (sym same ∙ none); other = λ is. o.other (sym same ∙ is) }
 ]
 
-pub kept_away : (setup : Setup) (e : Entry) (past : List Entry) → MovesAt setup e past → (uid : Uid) (name : List ℕ) → IsOld (world setup past).store.version (Some uid) → IsAway (world setup past) uid name → IsAway (world setup (e ∷ past)) uid name
+pub kept_away : (setup : Setup) (e : Entry) (past : List Entry) → MovesAt setup e past → (uid : Uid) (name : List ℕ)
+    → IsOld (world setup past).store.version (Some uid) → IsAway (world setup past) uid name → IsAway (world setup (e ∷ past)) uid name
 kept_away setup e past m uid name old away = kept_of setup e past m (NamesOther name) (other_stays name) uid old away
 
-pub kept_not_there : (setup : Setup) (e : Entry) (past : List Entry) → MovesAt setup e past → (uid : Uid) → IsOld (world setup past).store.version (Some uid) → IsNotThere (world setup past) uid → IsNotThere (world setup (e ∷ past)) uid
+pub kept_not_there : (setup : Setup) (e : Entry) (past : List Entry) → MovesAt setup e past → (uid : Uid)
+    → IsOld (world setup past).store.version (Some uid) → IsNotThere (world setup past) uid → IsNotThere (world setup (e ∷ past)) uid
 kept_not_there setup e past m uid old gone = kept_of setup e past m (λ c. ⊥) (λ a b k no. no) uid old gone
 
 -- references
@@ -64,7 +67,8 @@ named_referred setup past inv r uid n = record {
   named = λ c was its. inv.keyed (Claim c) (Claim n.claim) was n.was (its ∙ sym n.its) ∙ (λ i. record { kind = kinds.PersistentVolumeClaim; namespace = n.placed i; name = n.named i });
 }
 
-later_referred : (setup : Setup) (e : Entry) (past : List Entry) → MovesAt setup e past → (r : Ref) (uid : Uid) → IsReferred setup past r uid → IsReferred setup (e ∷ past) r uid
+later_referred : (setup : Setup) (e : Entry) (past : List Entry) → MovesAt setup e past → (r : Ref) (uid : Uid) → IsReferred setup past r uid
+    → IsReferred setup (e ∷ past) r uid
 later_referred setup e past m r uid x = record {
   old = older _ _ (Some uid) m.rises x.old;
   named = λ c was its. elim (new_or setup e past m (Claim c) was) [
@@ -76,25 +80,28 @@ later_referred setup e past m r uid x = record {
   ];
 }
 
-pub kept_refers : (setup : Setup) (e : Entry) (past : List Entry) → Invariant setup past → MovesAt setup e past → (v : VolumeData) (r : Ref) (uid : Uid) → Was setup (e ∷ past) (Volume v) → Refers v r uid → IsReferred setup (e ∷ past) r uid
-kept_refers setup e past inv m v r uid was is = later_referred setup e past m r uid (elim (new_or setup e past m (Volume v) was) [
-  | inl before ↦ inv.refers v r uid before is
-  | inr new ↦ elim (volume_came setup past v new.written.write) [
-    | inl began ↦ named_referred setup past inv r uid (began.start.refers r uid is)
-    | inr came ↦ elim (came.step.refers r uid is) [
-      | inl same ↦ inv.refers came.old r uid (row_was setup past (key_of (Volume v)) (Volume came.old) came.next.there) same
-      | inr named ↦ named_referred setup past inv r uid named
+module _ (setup : Setup) (e : Entry) (past : List Entry) (inv : Invariant setup past) (m : MovesAt setup e past) where
+  pub kept_refers : (v : VolumeData) (r : Ref) (uid : Uid) → Was setup (e ∷ past) (Volume v) → Refers v r uid → IsReferred setup (e ∷ past) r uid
+  kept_refers v r uid was is = later_referred setup e past m r uid (elim (new_or setup e past m (Volume v) was) [
+    | inl before ↦ inv.refers v r uid before is
+    | inr new ↦ elim (volume_came setup past v new.written.write) [
+      | inl began ↦ named_referred setup past inv r uid (began.start.refers r uid is)
+      | inr came ↦ elim (came.step.refers r uid is) [
+        | inl same ↦ inv.refers came.old r uid (row_was setup past (key_of (Volume v)) (Volume came.old) came.next.there) same
+        | inr named ↦ named_referred setup past inv r uid named
+      ]
     ]
-  ]
-])
+  ])
 
-pub refers_old : (setup : Setup) (past : List Entry) → Invariant setup past → (v : VolumeData) (r : Ref) (uid : Uid) → Was setup past (Volume v) → Refers v r uid → IsOld (world setup past).store.version (Some uid)
+pub refers_old : (setup : Setup) (past : List Entry) → Invariant setup past → (v : VolumeData) (r : Ref) (uid : Uid) → Was setup past (Volume v)
+    → Refers v r uid → IsOld (world setup past).store.version (Some uid)
 refers_old setup past inv v r uid was is = (inv.refers v r uid was is).old
 
 came_was : (setup : Setup) (past : List Entry) (v : VolumeData) → (came : VolumeCame setup past v) → Was setup past (Volume came.old)
 came_was setup past v came = row_was setup past (key_of (Volume v)) (Volume came.old) came.next.there
 
-step_old : (setup : Setup) (past : List Entry) → Invariant setup past → (v : VolumeData) → VolumeCame setup past v → (r : Ref) (uid : Uid) → Refers v r uid → IsOld (world setup past).store.version (Some uid)
+step_old : (setup : Setup) (past : List Entry) → Invariant setup past → (v : VolumeData) → VolumeCame setup past v → (r : Ref) (uid : Uid)
+    → Refers v r uid → IsOld (world setup past).store.version (Some uid)
 step_old setup past inv v came r uid is = elim (came.step.refers r uid is) [
   | inl same ↦ refers_old setup past inv came.old r uid (came_was setup past v came) same
   | inr named ↦ (named_referred setup past inv r uid named).old
@@ -105,35 +112,38 @@ step_old setup past inv v came r uid is = elim (came.step.refers r uid is) [
 pub no_phase : {G : Type 0} (p : VolumePhase) → p ≡ volumes.Pending → is_bound p ≡ true → G
 no_phase p pending bound = absurd (true≢false (sym bound ∙ ap is_bound pending))
 
-pub kept_guarded : (setup : Setup) (e : Entry) (past : List Entry) → Invariant setup past → MovesAt setup e past → (k : Key) (v : VolumeData) → row_at k (world setup (e ∷ past)).store.rows ≡ Some (Volume v) → is_bound v.phase ≡ true → is_protected_volume v ≡ true
-kept_guarded setup e past inv m k v is bound = elim (m.row k (Volume v) is) [
-  | inl there ↦ inv.guarded k v there bound
-  | inr new ↦ elim (volume_came setup past v new.write) [
-    | inl began ↦ no_phase v.phase began.start.pending bound
-    | inr came ↦ came.step.guarded bound
+module _ (setup : Setup) (e : Entry) (past : List Entry) (inv : Invariant setup past) (m : MovesAt setup e past) where
+  pub kept_guarded : (k : Key) (v : VolumeData) → row_at k (world setup (e ∷ past)).store.rows ≡ Some (Volume v) → is_bound v.phase ≡ true → is_protected_volume v ≡ true
+  kept_guarded k v is bound = elim (m.row k (Volume v) is) [
+    | inl there ↦ inv.guarded k v there bound
+    | inr new ↦ elim (volume_came setup past v new.write) [
+      | inl began ↦ no_phase v.phase began.start.pending bound
+      | inr came ↦ came.step.guarded bound
+    ]
   ]
-]
 
 -- the name of the volume in the store at the key of the volume that was written
 name_of : (v old : VolumeData) → key_of (Volume v) ≡ key_of (Volume old) → v.meta.name ≡ old.meta.name
 name_of v old e = ap (λ k. k.name) e
 
-pub kept_released : (setup : Setup) (e : Entry) (past : List Entry) → Invariant setup past → MovesAt setup e past → (k : Key) (v : VolumeData) (r : Ref) (uid : Uid) → row_at k (world setup (e ∷ past)).store.rows ≡ Some (Volume v) → is_ended v.phase ≡ true → Refers v r uid → IsAway (world setup (e ∷ past)) uid v.meta.name
-kept_released setup e past inv m k v r uid is ended refers = elim (m.row k (Volume v) is) [
-  | inl there ↦ kept_away setup e past m uid v.meta.name (refers_old setup past inv v r uid (row_was setup past k (Volume v) there) refers) (inv.released k v r uid there ended refers)
-  | inr new ↦ elim (volume_came setup past v new.write) [
-    | inl began ↦ absurd (true≢false (sym ended ∙ ap is_ended began.start.pending))
-    | inr came ↦
-        let at = name_of v came.old came.next.key in
-        let old = step_old setup past inv v came r uid refers in
-        elim (came.step.released r uid ended refers) [
-          | inl before ↦ kept_away setup e past m uid v.meta.name old (subst (IsAway (world setup past) uid) (sym at) (inv.released (key_of (Volume v)) came.old r uid came.next.there before.0 before.1))
-          | inr away ↦ kept_away setup e past m uid v.meta.name old (subst (IsAway (world setup past) uid) (sym at) away)
-        ]
+module _ (setup : Setup) (e : Entry) (past : List Entry) (inv : Invariant setup past) (m : MovesAt setup e past) where
+  pub kept_released : (k : Key) (v : VolumeData) (r : Ref) (uid : Uid) → row_at k (world setup (e ∷ past)).store.rows ≡ Some (Volume v)
+      → is_ended v.phase ≡ true → Refers v r uid → IsAway (world setup (e ∷ past)) uid v.meta.name
+  kept_released k v r uid is ended refers = elim (m.row k (Volume v) is) [
+    | inl there ↦ kept_away setup e past m uid v.meta.name (refers_old setup past inv v r uid (row_was setup past k (Volume v) there) refers) (inv.released k v r uid there ended refers)
+    | inr new ↦ elim (volume_came setup past v new.write) [
+      | inl began ↦ absurd (true≢false (sym ended ∙ ap is_ended began.start.pending))
+      | inr came ↦
+          let at = name_of v came.old came.next.key in
+          let old = step_old setup past inv v came r uid refers in
+          elim (came.step.released r uid ended refers) [
+            | inl before ↦ kept_away setup e past m uid v.meta.name old (subst (IsAway (world setup past) uid) (sym at) (inv.released (key_of (Volume v)) came.old r uid came.next.there before.0 before.1))
+            | inr away ↦ kept_away setup e past m uid v.meta.name old (subst (IsAway (world setup past) uid) (sym at) away)
+          ]
+    ]
   ]
-]
 
--- completed claims
+  -- completed claims
 
 pub later_bound : (setup : Setup) (e : Entry) (past : List Entry) (c : ClaimData) → WasBound setup past c → WasBound setup (e ∷ past) c
 later_bound setup e past c b = record { volume = b.volume; was = inl b.was; bound = b.bound; carries = b.carries; names = b.names }
@@ -151,7 +161,8 @@ carries_on v a b k u = by v.claim_ref
     by (Some r) = λ i. bytes_eq r.namespace (k i).namespace && bytes_eq r.name (k i).name && on r.uid i
 
 -- a claim that was carried by a volume that it names is so after it was written
-from_old : (setup : Setup) (past : List Entry) → Invariant setup past → (c : ClaimData) (came : ClaimCame setup past c) → WasBound setup past came.old → WasBound setup past c
+from_old : (setup : Setup) (past : List Entry) → Invariant setup past → (c : ClaimData) (came : ClaimCame setup past c) → WasBound setup past came.old
+    → WasBound setup past c
 from_old setup past inv c came b = record {
   volume = b.volume;
   was = b.was;
@@ -163,19 +174,21 @@ from_old setup past inv c came b = record {
   ];
 }
 
-pub kept_completed : (setup : Setup) (e : Entry) (past : List Entry) → Invariant setup past → MovesAt setup e past → (k : Key) (c : ClaimData) → row_at k (world setup (e ∷ past)).store.rows ≡ Some (Claim c) → is_completed c ≡ true → was_imported_as_lost setup c.meta.uid ≡ false → WasBound setup (e ∷ past) c
-kept_completed setup e past inv m k c is done found = later_bound setup e past c (elim (m.row k (Claim c) is) [
-  | inl there ↦ inv.completed k c there done found
-  | inr new ↦ elim (claim_came setup past c new.write) [
-    | inl began ↦ absurd (true≢false (sym done ∙ began.start.fresh))
-    | inr came ↦ elim (came.step.completed done) [
-      | inl before ↦ from_old setup past inv c came (inv.completed (key_of (Claim c)) came.old came.next.there before (ap (was_imported_as_lost setup) (sym came.next.keeps.uid) ∙ found))
-      | inr bound ↦ bound
+module _ (setup : Setup) (e : Entry) (past : List Entry) (inv : Invariant setup past) (m : MovesAt setup e past) where
+  pub kept_completed : (k : Key) (c : ClaimData) → row_at k (world setup (e ∷ past)).store.rows ≡ Some (Claim c) → is_completed c ≡ true
+      → was_imported_as_lost setup c.meta.uid ≡ false → WasBound setup (e ∷ past) c
+  kept_completed k c is done found = later_bound setup e past c (elim (m.row k (Claim c) is) [
+    | inl there ↦ inv.completed k c there done found
+    | inr new ↦ elim (claim_came setup past c new.write) [
+      | inl began ↦ absurd (true≢false (sym done ∙ began.start.fresh))
+      | inr came ↦ elim (came.step.completed done) [
+        | inl before ↦ from_old setup past inv c came (inv.completed (key_of (Claim c)) came.old came.next.there before (ap (was_imported_as_lost setup) (sym came.next.keeps.uid) ∙ found))
+        | inr bound ↦ bound
+      ]
     ]
-  ]
-])
+  ])
 
--- bindings
+  -- bindings
 
 -- a volume's key is that of its name
 pub by_name : (v : VolumeData) → IsPlaced (key_of (Volume v)) → key_of (Volume v) ≡ volume_key v.meta.name
@@ -201,101 +214,107 @@ unguarded v l = by v.meta.finalizers refl
     by [] e = rw e refl
     by (f ∷ fs) e = let no : (is_deleting v.meta && false) ≡ true = rw e at l in no_and (is_deleting v.meta) no
 
--- a Bound volume has not left
-pub bound_stays : (setup : Setup) (e : Entry) (past : List Entry) → Invariant setup past → MovesAt setup e past → (k : Key) (v : VolumeData) → row_at k (world setup past).store.rows ≡ Some (Volume v) → is_bound v.phase ≡ true
-    → (x : Option Object) → row_at k (world setup (e ∷ past)).store.rows ≡ x → (o : Object) × (x ≡ Some o)
-bound_stays setup e past inv m k v is bound (Some o) now = (o, refl)
-bound_stays setup e past inv m k v is bound None now =
-    let h = m.left k (Volume v) is now in
-    let same : key_of (Volume v) ≡ key_of h.last = row_at_key k (Volume v) _ is ∙ sym h.key in
-    let l = volume_keyed h.last v same in
-    gone e.request h.last h.written.write h.key h.leaving l.0 l.1
-  where
-    gone : (request : Request) (last : Object) → Made setup past last → key_of last ≡ k → IsLeaving request last → (l : VolumeData) → last ≡ Volume l → (o : Object) × (None ≡ Some o)
-    gone request last made at leaving l e = absurd (true≢false (sym (protected (subst (Made setup past) e made) (sym (ap key_of e) ∙ at)) ∙ unguarded l (subst (IsLeaving request) e leaving)))
-      where
-        protected : Made setup past (Volume l) → key_of (Volume l) ≡ k → is_protected_volume l ≡ true
-        protected made at = elim (volume_came setup past l made) [
-          | inl began ↦ absurd (none-some _ (sym began.first.free ∙ ap (λ j. row_at j (world setup past).store.rows) at ∙ is))
-          | inr came ↦
-              let old : v ≡ came.old = some_volume v came.old (sym is ∙ ap (λ j. row_at j (world setup past).store.rows) (sym at) ∙ came.next.there) in
-              came.step.stays (subst (λ (x : VolumeData). is_bound x.phase ≡ true) old bound)
-        ]
+module _ (setup : Setup) (e : Entry) (past : List Entry) (inv : Invariant setup past) (m : MovesAt setup e past) where
+  -- a Bound volume has not left
+  pub bound_stays : (k : Key) (v : VolumeData) → row_at k (world setup past).store.rows ≡ Some (Volume v) → is_bound v.phase ≡ true
+      → (x : Option Object) → row_at k (world setup (e ∷ past)).store.rows ≡ x → (o : Object) × (x ≡ Some o)
+  bound_stays k v is bound (Some o) now = (o, refl)
+  bound_stays k v is bound None now =
+      let h = m.left k (Volume v) is now in
+      let same : key_of (Volume v) ≡ key_of h.last = row_at_key k (Volume v) _ is ∙ sym h.key in
+      let l = volume_keyed h.last v same in
+      gone e.request h.last h.written.write h.key h.leaving l.0 l.1
+    where
+      gone : (request : Request) (last : Object) → Made setup past last → key_of last ≡ k → IsLeaving request last → (l : VolumeData)
+          → last ≡ Volume l → (o : Object) × (None ≡ Some o)
+      gone request last made at leaving l e = absurd (true≢false (sym (protected (subst (Made setup past) e made) (sym (ap key_of e) ∙ at)) ∙ unguarded l (subst (IsLeaving request) e leaving)))
+        where
+          protected : Made setup past (Volume l) → key_of (Volume l) ≡ k → is_protected_volume l ≡ true
+          protected made at = elim (volume_came setup past l made) [
+            | inl began ↦ absurd (none-some _ (sym began.first.free ∙ ap (λ j. row_at j (world setup past).store.rows) at ∙ is))
+            | inr came ↦
+                let old : v ≡ came.old = some_volume v came.old (sym is ∙ ap (λ j. row_at j (world setup past).store.rows) (sym at) ∙ came.next.there) in
+                came.step.stays (subst (λ (x : VolumeData). is_bound x.phase ≡ true) old bound)
+          ]
 
 -- what is at most this name is not elsewhere
 at_most_not_other : (name : List ℕ) (c : ClaimData) → NamesAtMost name c → NamesOther name c → ⊥
 at_most_not_other name c most o = elim most [ inl none ↦ o.named none | inr is ↦ o.other is ]
 
--- a volume that is Bound to a claim which is there and not elsewhere stays so
-kept_bound : (setup : Setup) (e : Entry) (past : List Entry) → Invariant setup past → MovesAt setup e past → (name : List ℕ) (r : Ref) (uid : Uid) (k : Key) (c : ClaimData) → r.uid ≡ Some uid → IsOld (world setup past).store.version (Some uid)
-    → StillBound (world setup past) name r → row_at k (world setup (e ∷ past)).store.rows ≡ Some (Claim c) → c.meta.uid ≡ Some uid → NamesAtMost name c → StillBound (world setup (e ∷ past)) name r
-kept_bound setup e past inv m name r uid k c known old s there its most =
-    let x = bound_stays setup e past inv m (volume_key name) s.volume s.there s.bound _ refl in
-    now x.0 x.1
-  where
-    written : (u : VolumeData) → row_at (volume_key name) (world setup (e ∷ past)).store.rows ≡ Some (Volume u) → VolumeCame setup past u → StillBound (world setup (e ∷ past)) name r
-    written u is came =
-        let at = row_at_key (volume_key name) (Volume u) (world setup (e ∷ past)).store.rows is in
-        let same : s.volume ≡ came.old = some_volume s.volume came.old (sym s.there ∙ ap (λ j. row_at j (world setup past).store.rows) (sym at) ∙ came.next.there) in
-        let called : s.volume.meta.name ≡ name = ap (λ j. j.name) (row_at_key (volume_key name) (Volume s.volume) (world setup past).store.rows s.there) in
-        let step : VolumeStep setup past s.volume u = subst (λ (x : VolumeData). VolumeStep setup past x u) (sym same) came.step in
-        elim (step.keeps r uid s.bound (record { is = s.refers; known = known })) [
-          | inl kept ↦ record { volume = u; there = is; bound = kept.0; refers = kept.1.is }
-          | inr away ↦ absurd (at_most_not_other name c most (kept_away setup e past m uid name old (subst (IsAway (world setup past) uid) called away) k c there its))
-        ]
+module _ (setup : Setup) (e : Entry) (past : List Entry) (inv : Invariant setup past) (m : MovesAt setup e past) where
+  -- a volume that is Bound to a claim which is there and not elsewhere stays so
+  kept_bound : (name : List ℕ) (r : Ref) (uid : Uid) (k : Key) (c : ClaimData) → r.uid ≡ Some uid → IsOld (world setup past).store.version (Some uid)
+      → StillBound (world setup past) name r → row_at k (world setup (e ∷ past)).store.rows ≡ Some (Claim c) → c.meta.uid ≡ Some uid
+      → NamesAtMost name c → StillBound (world setup (e ∷ past)) name r
+  kept_bound name r uid k c known old s there its most =
+      let x = bound_stays setup e past inv m (volume_key name) s.volume s.there s.bound _ refl in
+      now x.0 x.1
+    where
+      written : (u : VolumeData) → row_at (volume_key name) (world setup (e ∷ past)).store.rows ≡ Some (Volume u) → VolumeCame setup past u
+          → StillBound (world setup (e ∷ past)) name r
+      written u is came =
+          let at = row_at_key (volume_key name) (Volume u) (world setup (e ∷ past)).store.rows is in
+          let same : s.volume ≡ came.old = some_volume s.volume came.old (sym s.there ∙ ap (λ j. row_at j (world setup past).store.rows) (sym at) ∙ came.next.there) in
+          let called : s.volume.meta.name ≡ name = ap (λ j. j.name) (row_at_key (volume_key name) (Volume s.volume) (world setup past).store.rows s.there) in
+          let step : VolumeStep setup past s.volume u = subst (λ (x : VolumeData). VolumeStep setup past x u) (sym same) came.step in
+          elim (step.keeps r uid s.bound (record { is = s.refers; known = known })) [
+            | inl kept ↦ record { volume = u; there = is; bound = kept.0; refers = kept.1.is }
+            | inr away ↦ absurd (at_most_not_other name c most (kept_away setup e past m uid name old (subst (IsAway (world setup past) uid) called away) k c there its))
+          ]
 
-    volume : (u : VolumeData) → row_at (volume_key name) (world setup (e ∷ past)).store.rows ≡ Some (Volume u) → StillBound (world setup (e ∷ past)) name r
-    volume u is = elim (m.row (volume_key name) (Volume u) is) [
-      | inl same ↦ let one_v : s.volume ≡ u = some_volume s.volume u (sym s.there ∙ same) in record { volume = u; there = is; bound = subst (λ (x : VolumeData). is_bound x.phase ≡ true) one_v s.bound; refers = subst (λ (x : VolumeData). x.claim_ref ≡ Some r) one_v s.refers }
-      | inr new ↦ elim (volume_came setup past u new.write) [
-        | inl began ↦ absurd (none-some _ (sym began.first.free ∙ ap (λ j. row_at j (world setup past).store.rows) (row_at_key (volume_key name) (Volume u) (world setup (e ∷ past)).store.rows is) ∙ s.there))
-        | inr came ↦ written u is came
+      volume : (u : VolumeData) → row_at (volume_key name) (world setup (e ∷ past)).store.rows ≡ Some (Volume u) → StillBound (world setup (e ∷ past)) name r
+      volume u is = elim (m.row (volume_key name) (Volume u) is) [
+        | inl same ↦ let one_v : s.volume ≡ u = some_volume s.volume u (sym s.there ∙ same) in record { volume = u; there = is; bound = subst (λ (x : VolumeData). is_bound x.phase ≡ true) one_v s.bound; refers = subst (λ (x : VolumeData). x.claim_ref ≡ Some r) one_v s.refers }
+        | inr new ↦ elim (volume_came setup past u new.write) [
+          | inl began ↦ absurd (none-some _ (sym began.first.free ∙ ap (λ j. row_at j (world setup past).store.rows) (row_at_key (volume_key name) (Volume u) (world setup (e ∷ past)).store.rows is) ∙ s.there))
+          | inr came ↦ written u is came
+        ]
       ]
-    ]
 
-    now : (o : Object) → row_at (volume_key name) (world setup (e ∷ past)).store.rows ≡ Some o → StillBound (world setup (e ∷ past)) name r
-    now o is =
-        let l = volume_keyed o s.volume (row_at_key (volume_key name) (Volume s.volume) (world setup past).store.rows s.there ∙ sym (row_at_key (volume_key name) o (world setup (e ∷ past)).store.rows is)) in
-        volume l.0 (is ∙ ap (λ z. Some z) l.1)
+      now : (o : Object) → row_at (volume_key name) (world setup (e ∷ past)).store.rows ≡ Some o → StillBound (world setup (e ∷ past)) name r
+      now o is =
+          let l = volume_keyed o s.volume (row_at_key (volume_key name) (Volume s.volume) (world setup past).store.rows s.there ∙ sym (row_at_key (volume_key name) o (world setup (e ∷ past)).store.rows is)) in
+          volume l.0 (is ∙ ap (λ z. Some z) l.1)
 
-pub kept_binding : (setup : Setup) (e : Entry) (past : List Entry) → Invariant setup past → MovesAt setup e past → (v : VolumeData) (r : Ref) (uid : Uid) (k : Key) (c : ClaimData) → Was setup (e ∷ past) (Volume v) → is_bound v.phase ≡ true → Refers v r uid
-    → row_at k (world setup (e ∷ past)).store.rows ≡ Some (Claim c) → c.meta.uid ≡ Some uid → NamesAtMost v.meta.name c → StillBound (world setup (e ∷ past)) v.meta.name r
-kept_binding setup e past inv m v r uid k c was bound refers there its most = elim (new_or setup e past m (Volume v) was) [
-  | inr new ↦ record { volume = v; there = ap (λ j. row_at j (world setup (e ∷ past)).store.rows) (sym (by_name v (kept_placed setup e past inv m v was))) ∙ new.stands; bound = bound; refers = refers.is }
-  | inl before ↦
-      let old = refers_old setup past inv v r uid before refers in
-      kept_bound setup e past inv m v.meta.name r uid k c refers.known old (elim (m.row k (Claim c) there) [
-        | inl same ↦ inv.binding v r uid k c before bound refers same its most
-        | inr new ↦ elim (claim_came setup past c new.write) [
-          | inl began ↦ fresh began.room (Some uid) old (sym its ∙ began.first.uid)
-          | inr came ↦ inv.binding v r uid (key_of (Claim c)) came.old before bound refers came.next.there (sym came.next.keeps.uid ∙ its) (at_most_before v.meta.name came.old c came.next.keeps most)
-        ]
-      ]) there its most
-]
-
--- ended volumes
-
--- what was ended with policy Delete before is so while it stands
-lasts_before : (setup : Setup) (e : Entry) (past : List Entry) → Invariant setup past → MovesAt setup e past → (v : VolumeData) (r : Ref) (uid : Uid) (k : Key) (x : VolumeData) → Was setup past (Volume v) → Refers v r uid → IsFinal r v
-    → row_at k (world setup (e ∷ past)).store.rows ≡ Some (Volume x) → x.meta.uid ≡ v.meta.uid → IsFinal r x
-lasts_before setup e past inv m v r uid k x was refers final is same = elim (m.row k (Volume x) is) [
-  | inl there ↦ inv.lasts v r uid k x was refers final there same
-  | inr new ↦ elim (volume_came setup past x new.write) [
-    | inl began ↦ fresh began.room v.meta.uid (inv.old (Volume v) was) (sym same ∙ began.first.uid)
-    | inr came ↦
-        let f = inv.lasts v r uid (key_of (Volume x)) came.old was refers final came.next.there (sym came.next.keeps.uid ∙ same) in
-        came.step.lasts r uid (record { is = f.refers; known = refers.known }) f.released f.policy
+  pub kept_binding : (v : VolumeData) (r : Ref) (uid : Uid) (k : Key) (c : ClaimData) → Was setup (e ∷ past) (Volume v) → is_bound v.phase ≡ true → Refers v r uid
+      → row_at k (world setup (e ∷ past)).store.rows ≡ Some (Claim c) → c.meta.uid ≡ Some uid → NamesAtMost v.meta.name c
+      → StillBound (world setup (e ∷ past)) v.meta.name r
+  kept_binding v r uid k c was bound refers there its most = elim (new_or setup e past m (Volume v) was) [
+    | inr new ↦ record { volume = v; there = ap (λ j. row_at j (world setup (e ∷ past)).store.rows) (sym (by_name v (kept_placed setup e past inv m v was))) ∙ new.stands; bound = bound; refers = refers.is }
+    | inl before ↦
+        let old = refers_old setup past inv v r uid before refers in
+        kept_bound v.meta.name r uid k c refers.known old (elim (m.row k (Claim c) there) [
+          | inl same ↦ inv.binding v r uid k c before bound refers same its most
+          | inr new ↦ elim (claim_came setup past c new.write) [
+            | inl began ↦ fresh began.room (Some uid) old (sym its ∙ began.first.uid)
+            | inr came ↦ inv.binding v r uid (key_of (Claim c)) came.old before bound refers came.next.there (sym came.next.keeps.uid ∙ its) (at_most_before v.meta.name came.old c came.next.keeps most)
+          ]
+        ]) there its most
   ]
-]
 
-pub kept_lasts : (setup : Setup) (e : Entry) (past : List Entry) → Invariant setup past → MovesAt setup e past → (v : VolumeData) (r : Ref) (uid : Uid) (k : Key) (x : VolumeData) → Was setup (e ∷ past) (Volume v) → Refers v r uid → IsFinal r v
-    → row_at k (world setup (e ∷ past)).store.rows ≡ Some (Volume x) → x.meta.uid ≡ v.meta.uid → IsFinal r x
-kept_lasts setup e past inv m v r uid k x was refers final is same = elim (new_or setup e past m (Volume v) was) [
-  | inl before ↦ lasts_before setup e past inv m v r uid k x before refers final is same
-  | inr new ↦
-      -- the new one and the one that stands are one object
-      let l = kept_later setup e past inv m (Volume v) k (Volume x) was is same in
-      let at : key_of (Volume v) ≡ k = sym l.key ∙ row_at_key k (Volume x) _ is in
-      let e : v ≡ x = some_volume v x (sym new.stands ∙ ap (λ j. row_at j (world setup (e ∷ past)).store.rows) at ∙ is) in
-      subst (IsFinal r) e final
-]
+  -- ended volumes
+
+  -- what was ended with policy Delete before is so while it stands
+  lasts_before : (v : VolumeData) (r : Ref) (uid : Uid) (k : Key) (x : VolumeData) → Was setup past (Volume v) → Refers v r uid → IsFinal r v
+      → row_at k (world setup (e ∷ past)).store.rows ≡ Some (Volume x) → x.meta.uid ≡ v.meta.uid → IsFinal r x
+  lasts_before v r uid k x was refers final is same = elim (m.row k (Volume x) is) [
+    | inl there ↦ inv.lasts v r uid k x was refers final there same
+    | inr new ↦ elim (volume_came setup past x new.write) [
+      | inl began ↦ fresh began.room v.meta.uid (inv.old (Volume v) was) (sym same ∙ began.first.uid)
+      | inr came ↦
+          let f = inv.lasts v r uid (key_of (Volume x)) came.old was refers final came.next.there (sym came.next.keeps.uid ∙ same) in
+          came.step.lasts r uid (record { is = f.refers; known = refers.known }) f.released f.policy
+    ]
+  ]
+
+  pub kept_lasts : (v : VolumeData) (r : Ref) (uid : Uid) (k : Key) (x : VolumeData) → Was setup (e ∷ past) (Volume v) → Refers v r uid → IsFinal r v
+      → row_at k (world setup (e ∷ past)).store.rows ≡ Some (Volume x) → x.meta.uid ≡ v.meta.uid → IsFinal r x
+  kept_lasts v r uid k x was refers final is same = elim (new_or setup e past m (Volume v) was) [
+    | inl before ↦ lasts_before v r uid k x before refers final is same
+    | inr new ↦
+        -- the new one and the one that stands are one object
+        let l = kept_later setup e past inv m (Volume v) k (Volume x) was is same in
+        let at : key_of (Volume v) ≡ k = sym l.key ∙ row_at_key k (Volume x) _ is in
+        let e : v ≡ x = some_volume v x (sym new.stands ∙ ap (λ j. row_at j (world setup (e ∷ past)).store.rows) at ∙ is) in
+        subst (IsFinal r) e final
+  ]

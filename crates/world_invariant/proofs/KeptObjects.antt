@@ -18,73 +18,79 @@ use Rattle.world_invariant.specs.Good.{MovesAt}
 use Rattle.world_invariant.proofs.Came.{row_was, IsNew, new_or, one_written, made_version, fresh, older, given_old, itself, then, volume_came}
 use Rattle.std.proofs.lemmas.Option.{same_Some}
 
-pub kept_version : (setup : Setup) (e : Entry) (past : List Entry) → Invariant setup past → MovesAt setup e past → (o : Object) → Was setup (e ∷ past) o → (meta_of o).version ≤ (world setup (e ∷ past)).store.version
-kept_version setup e past inv m o was = elim (new_or setup e past m o was) [
-  | inl before ↦ omega (arith, inv.version o before, m.rises)
-  | inr new ↦ omega (arith, made_version setup past o new.written.write, new.written.counted)
-]
+module _ (setup : Setup) (e : Entry) (past : List Entry) (inv : Invariant setup past) (m : MovesAt setup e past) where
+  pub kept_version : (o : Object) → Was setup (e ∷ past) o → (meta_of o).version ≤ (world setup (e ∷ past)).store.version
+  kept_version o was = elim (new_or setup e past m o was) [
+    | inl before ↦ omega (arith, inv.version o before, m.rises)
+    | inr new ↦ omega (arith, made_version setup past o new.written.write, new.written.counted)
+  ]
 
-pub kept_one : (setup : Setup) (e : Entry) (past : List Entry) → Invariant setup past → MovesAt setup e past → (a b : Object) → Was setup (e ∷ past) a → Was setup (e ∷ past) b → key_of a ≡ key_of b → (meta_of a).version ≡ (meta_of b).version → a ≡ b
-kept_one setup e past inv m a b wa wb keys versions = elim (new_or setup e past m a wa) [
-  | inl a_before ↦ elim (new_or setup e past m b wb) [
-    | inl b_before ↦ inv.one a b a_before b_before keys versions
-    | inr b_new ↦ absurd (omega (arith, inv.version a a_before, made_version setup past b b_new.written.write, versions))
+  pub kept_one : (a b : Object) → Was setup (e ∷ past) a → Was setup (e ∷ past) b → key_of a ≡ key_of b → (meta_of a).version ≡ (meta_of b).version → a ≡ b
+  kept_one a b wa wb keys versions = elim (new_or setup e past m a wa) [
+    | inl a_before ↦ elim (new_or setup e past m b wb) [
+      | inl b_before ↦ inv.one a b a_before b_before keys versions
+      | inr b_new ↦ absurd (omega (arith, inv.version a a_before, made_version setup past b b_new.written.write, versions))
+    ]
+    | inr a_new ↦ elim (new_or setup e past m b wb) [
+      | inl b_before ↦ absurd (omega (arith, inv.version b b_before, made_version setup past a a_new.written.write, versions))
+      | inr b_new ↦ one_written setup e past a b a_new.written b_new.written
+    ]
   ]
-  | inr a_new ↦ elim (new_or setup e past m b wb) [
-    | inl b_before ↦ absurd (omega (arith, inv.version b b_before, made_version setup past a a_new.written.write, versions))
-    | inr b_new ↦ one_written setup e past a b a_new.written b_new.written
-  ]
-]
 
-pub kept_old : (setup : Setup) (e : Entry) (past : List Entry) → Invariant setup past → MovesAt setup e past → (o : Object) → Was setup (e ∷ past) o → IsOld (world setup (e ∷ past)).store.version (meta_of o).uid
-kept_old setup e past inv m o was = elim (new_or setup e past m o was) [
-  | inl before ↦ older _ _ (meta_of o).uid m.rises (inv.old o before)
-  | inr new ↦ elim new.written.write [
-    | inl starts ↦ subst (λ n. IsOld n (meta_of o).uid) (sym new.written.counted) (given_old _ (meta_of o).uid starts.first.uid)
-    | inr from ↦ older _ _ (meta_of o).uid m.rises (subst (IsOld (world setup past).store.version) (sym from.next.keeps.uid) (inv.old from.old (row_was setup past _ from.old from.next.there)))
+  pub kept_old : (o : Object) → Was setup (e ∷ past) o → IsOld (world setup (e ∷ past)).store.version (meta_of o).uid
+  kept_old o was = elim (new_or setup e past m o was) [
+    | inl before ↦ older _ _ (meta_of o).uid m.rises (inv.old o before)
+    | inr new ↦ elim new.written.write [
+      | inl starts ↦ subst (λ n. IsOld n (meta_of o).uid) (sym new.written.counted) (given_old _ (meta_of o).uid starts.first.uid)
+      | inr from ↦ older _ _ (meta_of o).uid m.rises (subst (IsOld (world setup past).store.version) (sym from.next.keeps.uid) (inv.old from.old (row_was setup past _ from.old from.next.there)))
+    ]
   ]
-]
 
-pub kept_has : (setup : Setup) (e : Entry) (past : List Entry) → Invariant setup past → MovesAt setup e past → (o : Object) → Was setup (e ∷ past) o → is_some (meta_of o).uid ≡ true
-kept_has setup e past inv m o was = elim (new_or setup e past m o was) [
-  | inl before ↦ inv.has o before
-  | inr new ↦ elim new.written.write [
-    | inl starts ↦ ap is_some starts.first.uid
-    | inr from ↦ ap is_some from.next.keeps.uid ∙ inv.has from.old (row_was setup past _ from.old from.next.there)
+  pub kept_has : (o : Object) → Was setup (e ∷ past) o → is_some (meta_of o).uid ≡ true
+  kept_has o was = elim (new_or setup e past m o was) [
+    | inl before ↦ inv.has o before
+    | inr new ↦ elim new.written.write [
+      | inl starts ↦ ap is_some starts.first.uid
+      | inr from ↦ ap is_some from.next.keeps.uid ∙ inv.has from.old (row_was setup past _ from.old from.next.there)
+    ]
   ]
-]
 
 -- one UID, one key
-kept_keyed_new : (setup : Setup) (e : Entry) (past : List Entry) → Invariant setup past → (a b : Object) → IsNew setup e past a → Was setup past b → (meta_of a).uid ≡ (meta_of b).uid → key_of a ≡ key_of b
+kept_keyed_new : (setup : Setup) (e : Entry) (past : List Entry) → Invariant setup past → (a b : Object) → IsNew setup e past a → Was setup past b
+    → (meta_of a).uid ≡ (meta_of b).uid → key_of a ≡ key_of b
 kept_keyed_new setup e past inv a b new was same = elim new.written.write [
   | inl starts ↦ fresh starts.room (meta_of b).uid (inv.old b was) (sym same ∙ starts.first.uid)
   | inr from ↦ from.next.key ∙ inv.keyed from.old b (row_was setup past (key_of a) from.old from.next.there) was (sym from.next.keeps.uid ∙ same)
 ]
 
-pub kept_keyed : (setup : Setup) (e : Entry) (past : List Entry) → Invariant setup past → MovesAt setup e past → (a b : Object) → Was setup (e ∷ past) a → Was setup (e ∷ past) b → (meta_of a).uid ≡ (meta_of b).uid → key_of a ≡ key_of b
-kept_keyed setup e past inv m a b wa wb same = elim (new_or setup e past m a wa) [
-  | inl a_before ↦ elim (new_or setup e past m b wb) [
-    | inl b_before ↦ inv.keyed a b a_before b_before same
-    | inr b_new ↦ sym (kept_keyed_new setup e past inv b a b_new a_before (sym same))
+module _ (setup : Setup) (e : Entry) (past : List Entry) (inv : Invariant setup past) (m : MovesAt setup e past) where
+  pub kept_keyed : (a b : Object) → Was setup (e ∷ past) a → Was setup (e ∷ past) b → (meta_of a).uid ≡ (meta_of b).uid → key_of a ≡ key_of b
+  kept_keyed a b wa wb same = elim (new_or setup e past m a wa) [
+    | inl a_before ↦ elim (new_or setup e past m b wb) [
+      | inl b_before ↦ inv.keyed a b a_before b_before same
+      | inr b_new ↦ sym (kept_keyed_new setup e past inv b a b_new a_before (sym same))
+    ]
+    | inr a_new ↦ elim (new_or setup e past m b wb) [
+      | inl b_before ↦ kept_keyed_new setup e past inv a b a_new b_before same
+      | inr b_new ↦ ap key_of (one_written setup e past a b a_new.written b_new.written)
+    ]
   ]
-  | inr a_new ↦ elim (new_or setup e past m b wb) [
-    | inl b_before ↦ kept_keyed_new setup e past inv a b a_new b_before same
-    | inr b_new ↦ ap key_of (one_written setup e past a b a_new.written b_new.written)
-  ]
-]
 
--- one that was before, and one that stands now
-later_now : (setup : Setup) (e : Entry) (past : List Entry) → Invariant setup past → MovesAt setup e past → (a : Object) (k : Key) (b : Object) → Was setup past a → row_at k (world setup (e ∷ past)).store.rows ≡ Some b → (meta_of b).uid ≡ (meta_of a).uid → IsLater a b
-later_now setup e past inv m a k b was is same = elim (m.row k b is) [
-  | inl there ↦ inv.later a k b was there same
-  | inr new ↦ elim new.write [
-    | inl starts ↦ fresh starts.room (meta_of a).uid (inv.old a was) (sym same ∙ starts.first.uid)
-    | inr from ↦ then (inv.later a (key_of b) from.old was from.next.there (sym from.next.keeps.uid ∙ same)) (record { key = from.next.key; keeps = from.next.keeps })
+  -- one that was before, and one that stands now
+  later_now : (a : Object) (k : Key) (b : Object) → Was setup past a → row_at k (world setup (e ∷ past)).store.rows ≡ Some b
+      → (meta_of b).uid ≡ (meta_of a).uid → IsLater a b
+  later_now a k b was is same = elim (m.row k b is) [
+    | inl there ↦ inv.later a k b was there same
+    | inr new ↦ elim new.write [
+      | inl starts ↦ fresh starts.room (meta_of a).uid (inv.old a was) (sym same ∙ starts.first.uid)
+      | inr from ↦ then (inv.later a (key_of b) from.old was from.next.there (sym from.next.keeps.uid ∙ same)) (record { key = from.next.key; keeps = from.next.keeps })
+    ]
   ]
-]
 
 -- one that is new, and one that stood before and stands now
-later_new : (setup : Setup) (e : Entry) (past : List Entry) → Invariant setup past → (a : Object) (k : Key) (b : Object) → IsNew setup e past a → row_at k (world setup past).store.rows ≡ Some b → row_at k (world setup (e ∷ past)).store.rows ≡ Some b → (meta_of b).uid ≡ (meta_of a).uid → IsLater a b
+later_new : (setup : Setup) (e : Entry) (past : List Entry) → Invariant setup past → (a : Object) (k : Key) (b : Object) → IsNew setup e past a
+    → row_at k (world setup past).store.rows ≡ Some b → row_at k (world setup (e ∷ past)).store.rows ≡ Some b → (meta_of b).uid ≡ (meta_of a).uid
+    → IsLater a b
 later_new setup e past inv a k b new there is same = elim new.written.write [
   | inl starts ↦ fresh starts.room (meta_of b).uid (inv.old b (row_was setup past k b there)) (same ∙ starts.first.uid)
   | inr from ↦
@@ -94,26 +100,28 @@ later_new setup e past inv a k b new there is same = elim new.written.write [
       subst (IsLater a) e (itself a)
 ]
 
-pub kept_later : (setup : Setup) (e : Entry) (past : List Entry) → Invariant setup past → MovesAt setup e past → (a : Object) (k : Key) (b : Object) → Was setup (e ∷ past) a → row_at k (world setup (e ∷ past)).store.rows ≡ Some b → (meta_of b).uid ≡ (meta_of a).uid → IsLater a b
-kept_later setup e past inv m a k b was is same = elim (new_or setup e past m a was) [
-  | inl before ↦ later_now setup e past inv m a k b before is same
-  | inr new ↦ elim (m.row k b is) [
-    | inl there ↦ later_new setup e past inv a k b new there is same
-    | inr b_new ↦ subst (IsLater a) (one_written setup e past a b new.written b_new) (itself a)
+module _ (setup : Setup) (e : Entry) (past : List Entry) (inv : Invariant setup past) (m : MovesAt setup e past) where
+  pub kept_later : (a : Object) (k : Key) (b : Object) → Was setup (e ∷ past) a → row_at k (world setup (e ∷ past)).store.rows ≡ Some b
+      → (meta_of b).uid ≡ (meta_of a).uid → IsLater a b
+  kept_later a k b was is same = elim (new_or setup e past m a was) [
+    | inl before ↦ later_now setup e past inv m a k b before is same
+    | inr new ↦ elim (m.row k b is) [
+      | inl there ↦ later_new setup e past inv a k b new there is same
+      | inr b_new ↦ subst (IsLater a) (one_written setup e past a b new.written b_new) (itself a)
+    ]
   ]
-]
 
-pub kept_placed : (setup : Setup) (e : Entry) (past : List Entry) → Invariant setup past → MovesAt setup e past → (v : VolumeData) → Was setup (e ∷ past) (Volume v) → IsPlaced (key_of (Volume v))
-kept_placed setup e past inv m v was = elim (new_or setup e past m (Volume v) was) [
-  | inl before ↦ inv.placed v before
-  | inr new ↦ elim (volume_came setup past v new.written.write) [
-    | inl began ↦ began.start.placed
-    | inr came ↦ subst IsPlaced (sym came.next.key) (inv.placed came.old (row_was setup past (key_of (Volume v)) (Volume came.old) came.next.there))
+  pub kept_placed : (v : VolumeData) → Was setup (e ∷ past) (Volume v) → IsPlaced (key_of (Volume v))
+  kept_placed v was = elim (new_or setup e past m (Volume v) was) [
+    | inl before ↦ inv.placed v before
+    | inr new ↦ elim (volume_came setup past v new.written.write) [
+      | inl began ↦ began.start.placed
+      | inr came ↦ subst IsPlaced (sym came.next.key) (inv.placed came.old (row_was setup past (key_of (Volume v)) (Volume came.old) came.next.there))
+    ]
   ]
-]
 
-pub kept_logged : (setup : Setup) (e : Entry) (past : List Entry) → Invariant setup past → MovesAt setup e past → (o : Object) → IsIn o (objects_of_events (world setup (e ∷ past)).log) → Was setup (e ∷ past) o
-kept_logged setup e past inv m o h = elim (m.logged o h) [
-  | inl before ↦ inl (inv.logged o before)
-  | inr now ↦ inr now
-]
+  pub kept_logged : (o : Object) → IsIn o (objects_of_events (world setup (e ∷ past)).log) → Was setup (e ∷ past) o
+  kept_logged o h = elim (m.logged o h) [
+    | inl before ↦ inl (inv.logged o before)
+    | inr now ↦ inr now
+  ]

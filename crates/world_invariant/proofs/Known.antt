@@ -49,7 +49,8 @@ entry_tells setup e past g o h =
     ]
 
 -- each object that the seat was told stood in the store
-pub told_was : (setup : Setup) (past : List Entry) → Good setup past → (seat : ℕ) (P : Object → Type 0) → ToldObject P (own seat past) → (o : Object) × Was setup past o × P o
+pub told_was : (setup : Setup) (past : List Entry) → Good setup past → (seat : ℕ) (P : Object → Type 0) → ToldObject P (own seat past)
+    → (o : Object) × Was setup past o × P o
 told_was setup [] g seat P h = absurd h
 told_was setup (e ∷ past) g seat P h = by (told_was setup past g.0 seat P) (e.seat == seat) h
   where
@@ -59,14 +60,16 @@ told_was setup (e ∷ past) g seat P h = by (told_was setup past g.0 seat P) (e.
     here : TellsObject P e → (o : Object) × Was setup (e ∷ past) o × P o
     here t = let r = some_in P (objects_in e.reply) t.1 in (r.0, entry_tells setup e past g r.0 r.1, r.2)
 
-    by : (ToldObject P (own seat past) → (o : Object) × Was setup past o × P o) → (b : Bool) → ToldObject P (if b then e ∷ own seat past else own seat past) → (o : Object) × Was setup (e ∷ past) o × P o
+    by : (ToldObject P (own seat past) → (o : Object) × Was setup past o × P o) → (b : Bool)
+        → ToldObject P (if b then e ∷ own seat past else own seat past) → (o : Object) × Was setup (e ∷ past) o × P o
     by f true h = elim h [ inl now ↦ here now | inr more ↦ rest f more ]
     by f false h = rest f h
 
 pub tellings_are_true : TellingsAreTrue
 tellings_are_true setup past g seat o h = let t = told_was setup past g seat (λ x. x ≡ o) h in subst (Was setup past) t.2 t.1
 
-pub told_volume : (setup : Setup) (past mine : List Entry) → IsTrue setup past mine → (P : VolumeData → Type 0) → ToldVolume P mine → (v : VolumeData) × Was setup past (Volume v) × P v
+pub told_volume : (setup : Setup) (past mine : List Entry) → IsTrue setup past mine → (P : VolumeData → Type 0) → ToldVolume P mine
+    → (v : VolumeData) × Was setup past (Volume v) × P v
 told_volume setup past mine t P h = let r = t (IsVolumeWith P) h in by r.0 r.1 r.2
   where
     by : (o : Object) → Was setup past o → IsVolumeWith P o → (v : VolumeData) × Was setup past (Volume v) × P v
@@ -76,7 +79,8 @@ told_volume setup past mine t P h = let r = t (IsVolumeWith P) h in by r.0 r.1 r
     by (Claim x) was is = absurd is
     by (Pod x) was is = absurd is
 
-pub told_claim : (setup : Setup) (past mine : List Entry) → IsTrue setup past mine → (P : ClaimData → Type 0) → ToldClaim P mine → (c : ClaimData) × Was setup past (Claim c) × P c
+pub told_claim : (setup : Setup) (past mine : List Entry) → IsTrue setup past mine → (P : ClaimData → Type 0) → ToldClaim P mine
+    → (c : ClaimData) × Was setup past (Claim c) × P c
 told_claim setup past mine t P h = let r = t (IsClaimWith P) h in by r.0 r.1 r.2
   where
     by : (o : Object) → Was setup past o → IsClaimWith P o → (c : ClaimData) × Was setup past (Claim c) × P c
@@ -87,7 +91,8 @@ told_claim setup past mine t P h = let r = t (IsClaimWith P) h in by r.0 r.1 r.2
     by (Pod x) was is = absurd is
 
 -- a claim that was told elsewhere is gone or elsewhere
-pub elsewhere : (setup : Setup) (past mine : List Entry) → Invariant setup past → IsTrue setup past mine → (name : List ℕ) (uid : Uid) → ToldClaim (IsElsewhere name uid) mine → IsAway (world setup past) uid name
+pub elsewhere : (setup : Setup) (past mine : List Entry) → Invariant setup past → IsTrue setup past mine → (name : List ℕ) (uid : Uid)
+    → ToldClaim (IsElsewhere name uid) mine → IsAway (world setup past) uid name
 elsewhere setup past mine inv t name uid h k d there its =
     let r = told_claim setup past mine t (IsElsewhere name uid) h in
     let c : IsElsewhere name uid r.0 = r.2 in
@@ -100,25 +105,30 @@ live None P h = h
 live (Some o) P h = h
 
 -- no claim of the UID stood at its key, so none stands anywhere
-read_gone : (setup : Setup) (past : List Entry) → Invariant setup past → (r : Ref) (uid : Uid) → IsReferred setup past r uid → IsGone uid (row_at (claim_key r.namespace r.name) (world setup past).store.rows) → IsNotThere (world setup past) uid
+read_gone : (setup : Setup) (past : List Entry) → Invariant setup past → (r : Ref) (uid : Uid) → IsReferred setup past r uid
+    → IsGone uid (row_at (claim_key r.namespace r.name) (world setup past).store.rows) → IsNotThere (world setup past) uid
 read_gone setup past inv r uid n gone k c there its =
     let keyed : key_of (Claim c) ≡ claim_key r.namespace r.name = n.named c (row_was setup past k (Claim c) there) its in
     let at : row_at (claim_key r.namespace r.name) (world setup past).store.rows ≡ Some (Claim c) = ap (λ j. row_at j (world setup past).store.rows) (sym keyed ∙ row_at_key k (Claim c) _ there) ∙ there in
     let h : IsGone uid (Some (Claim c)) = subst (IsGone uid) at gone in
     h its
 
-pub gone_read : (setup : Setup) (past : List Entry) → Good setup past → (seat : ℕ) (o : VolumeData) (r : Ref) (uid : Uid) → r.uid ≡ Some uid → WasReadGone (own seat past) o r uid
+pub gone_read : (setup : Setup) (past : List Entry) → Good setup past → (seat : ℕ) (o : VolumeData) (r : Ref) (uid : Uid) → r.uid ≡ Some uid
+    → WasReadGone (own seat past) o r uid
     → IsNotThere (world setup past) uid × IsOld (world setup past).store.version (Some uid)
 gone_read setup [] g seat o r uid known h = absurd h
 gone_read setup (e ∷ past) g seat o r uid known h = by (gone_read setup past g.0 seat o r uid known) (e.seat == seat) h
   where
-    on : IsNotThere (world setup past) uid → IsOld (world setup past).store.version (Some uid) → IsNotThere (world setup (e ∷ past)) uid × IsOld (world setup (e ∷ past)).store.version (Some uid)
+    on : IsNotThere (world setup past) uid → IsOld (world setup past).store.version (Some uid)
+        → IsNotThere (world setup (e ∷ past)) uid × IsOld (world setup (e ∷ past)).store.version (Some uid)
     on gone old = (kept_not_there setup e past g.1 uid old gone, older _ _ (Some uid) g.1.rises old)
 
-    rest : (WasReadGone (own seat past) o r uid → IsNotThere (world setup past) uid × IsOld (world setup past).store.version (Some uid)) → WasReadGone (own seat past) o r uid → IsNotThere (world setup (e ∷ past)) uid × IsOld (world setup (e ∷ past)).store.version (Some uid)
+    rest : (WasReadGone (own seat past) o r uid → IsNotThere (world setup past) uid × IsOld (world setup past).store.version (Some uid))
+        → WasReadGone (own seat past) o r uid → IsNotThere (world setup (e ∷ past)) uid × IsOld (world setup (e ∷ past)).store.version (Some uid)
     rest f h = let x = f h in on x.0 x.1
 
-    here : TellsLive (claim_key r.namespace r.name) (IsGone uid) e → ToldVolume (IsReferring o r) (own seat past) → IsNotThere (world setup (e ∷ past)) uid × IsOld (world setup (e ∷ past)).store.version (Some uid)
+    here : TellsLive (claim_key r.namespace r.name) (IsGone uid) e → ToldVolume (IsReferring o r) (own seat past)
+        → IsNotThere (world setup (e ∷ past)) uid × IsOld (world setup (e ∷ past)).store.version (Some uid)
     here q p =
         let inv = invariant_of setup past g.0 in
         let t = told_volume setup past (own seat past) (told_was setup past g.0 seat) (IsReferring o r) p in
@@ -128,6 +138,8 @@ gone_read setup (e ∷ past) g seat o r uid known h = by (gone_read setup past g
         let gone = live (row_at key (world setup past).store.rows) (IsGone uid) (subst (λ (x : Reply). IsLiveAnswer x (IsGone uid)) reply q.2) in
         on (read_gone setup past inv r uid (inv.refers t.0 r uid t.1 refers) gone) (refers_old setup past inv t.0 r uid t.1 refers)
 
-    by : (WasReadGone (own seat past) o r uid → IsNotThere (world setup past) uid × IsOld (world setup past).store.version (Some uid)) → (b : Bool) → WasReadGone (if b then e ∷ own seat past else own seat past) o r uid → IsNotThere (world setup (e ∷ past)) uid × IsOld (world setup (e ∷ past)).store.version (Some uid)
+    by : (WasReadGone (own seat past) o r uid → IsNotThere (world setup past) uid × IsOld (world setup past).store.version (Some uid)) → (b : Bool)
+        → WasReadGone (if b then e ∷ own seat past else own seat past) o r uid
+        → IsNotThere (world setup (e ∷ past)) uid × IsOld (world setup (e ∷ past)).store.version (Some uid)
     by f true h = elim h [ inl now ↦ here now.0 now.1 | inr more ↦ rest f more ]
     by f false h = rest f h

@@ -48,7 +48,7 @@ pub record IsReferred (setup : Setup) (past : List Entry) (r : Ref) (uid : Uid) 
 -- what holds of all that stood in the store, and of what stands there
 pub record Invariant (setup : Setup) (past : List Entry) : Type 0 where
   pub order : AreRows (world setup past).store.rows
-  -- versions, UIDs and keys: (b)
+  -- versions, UIDs and keys
   pub version : (o : Object) → Was setup past o → (meta_of o).version ≤ (world setup past).store.version
   pub one : (a b : Object) → Was setup past a → Was setup past b → key_of a ≡ key_of b → (meta_of a).version ≡ (meta_of b).version → a ≡ b
   pub old : (o : Object) → Was setup past o → IsOld (world setup past).store.version (meta_of o).uid
@@ -58,16 +58,18 @@ pub record Invariant (setup : Setup) (past : List Entry) : Type 0 where
   pub placed : (v : VolumeData) → Was setup past (Volume v) → IsPlaced (key_of (Volume v))
   -- what the log tells stood in the store
   pub logged : (o : Object) → SomeOf (λ x. x ≡ o) (objects_of_events (world setup past).log) → Was setup past o
-  -- each UID in a reference is that of a claim of this namespace and name, or of none: (a)
+  -- each UID in a reference is that of a claim of this namespace and name, or of none
   pub refers : (v : VolumeData) (r : Ref) (uid : Uid) → Was setup past (Volume v) → Refers v r uid → IsReferred setup past r uid
-  -- what is Bound is protected: (d)
+  -- what is Bound is protected
   pub guarded : (k : Key) (v : VolumeData) → row_at k (world setup past).store.rows ≡ Some (Volume v) → is_bound v.phase ≡ true → is_protected_volume v ≡ true
-  -- what was Bound to a claim that is there and not elsewhere is so still: (c)
+  -- what was Bound to a claim that is there and not elsewhere is so still
   pub binding : (v : VolumeData) (r : Ref) (uid : Uid) (k : Key) (c : ClaimData) → Was setup past (Volume v) → is_bound v.phase ≡ true → Refers v r uid
       → row_at k (world setup past).store.rows ≡ Some (Claim c) → c.meta.uid ≡ Some uid → NamesAtMost v.meta.name c → StillBound (world setup past) v.meta.name r
   -- a completed claim was carried by a Bound volume, if it was not imported as Lost
-  pub completed : (k : Key) (c : ClaimData) → row_at k (world setup past).store.rows ≡ Some (Claim c) → is_completed c ≡ true → was_imported_as_lost setup c.meta.uid ≡ false → WasBound setup past c
-  -- the claim of an ended volume is gone or elsewhere, and with policy Delete it is so until it leaves: (e)
-  pub released : (k : Key) (v : VolumeData) (r : Ref) (uid : Uid) → row_at k (world setup past).store.rows ≡ Some (Volume v) → is_ended v.phase ≡ true → Refers v r uid → IsAway (world setup past) uid v.meta.name
+  pub completed : (k : Key) (c : ClaimData) → row_at k (world setup past).store.rows ≡ Some (Claim c) → is_completed c ≡ true
+      → was_imported_as_lost setup c.meta.uid ≡ false → WasBound setup past c
+  -- the claim of an ended volume is gone or elsewhere, and with policy Delete it is so until it leaves
+  pub released : (k : Key) (v : VolumeData) (r : Ref) (uid : Uid) → row_at k (world setup past).store.rows ≡ Some (Volume v) → is_ended v.phase ≡ true
+      → Refers v r uid → IsAway (world setup past) uid v.meta.name
   pub lasts : (v : VolumeData) (r : Ref) (uid : Uid) (k : Key) (x : VolumeData) → Was setup past (Volume v) → Refers v r uid → IsFinal r v
       → row_at k (world setup past).store.rows ≡ Some (Volume x) → x.meta.uid ≡ v.meta.uid → IsFinal r x

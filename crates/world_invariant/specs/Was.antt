@@ -82,12 +82,14 @@ pub record VolumeStep (setup : Setup) (past : List Entry) (old new : VolumeData)
   -- a reference with a UID is the old one, or names a claim that was
   pub refers : (r : Ref) (uid : Uid) → Refers new r uid → Refers old r uid ⊎ WasNamed setup past r uid
   -- a Bound volume stays so for its claim, or the claim is gone or elsewhere
-  pub keeps : (r : Ref) (uid : Uid) → is_bound old.phase ≡ true → Refers old r uid → ((is_bound new.phase ≡ true) × Refers new r uid) ⊎ IsAway (world setup past) uid old.meta.name
+  pub keeps : (r : Ref) (uid : Uid) → is_bound old.phase ≡ true → Refers old r uid
+      → ((is_bound new.phase ≡ true) × Refers new r uid) ⊎ IsAway (world setup past) uid old.meta.name
   -- what is Bound before or after is protected after
   pub guarded : is_bound new.phase ≡ true → is_protected_volume new ≡ true
   pub stays : is_bound old.phase ≡ true → is_protected_volume new ≡ true
   -- what is ended after was so for the claim, or the claim is gone or elsewhere
-  pub released : (r : Ref) (uid : Uid) → is_ended new.phase ≡ true → Refers new r uid → ((is_ended old.phase ≡ true) × Refers old r uid) ⊎ IsAway (world setup past) uid old.meta.name
+  pub released : (r : Ref) (uid : Uid) → is_ended new.phase ≡ true → Refers new r uid
+      → ((is_ended old.phase ≡ true) × Refers old r uid) ⊎ IsAway (world setup past) uid old.meta.name
   -- what is ended with policy Delete keeps its reference with a UID, and both
   pub lasts : (r : Ref) (uid : Uid) → Refers old r uid → is_ended old.phase ≡ true → is_delete old.policy ≡ true → IsFinal r new
 

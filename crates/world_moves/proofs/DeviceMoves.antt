@@ -38,11 +38,13 @@ abbrev IsMove : Devices → Request → Option DeviceAnswer → Type 0
 IsMove d request None = ⊤
 IsMove d request (Some a) = DeviceMove d a.devices request a.reply
 
-test_move : {d : Devices} {request : Request} (b : Bool) (x y : DeviceAnswer) → DeviceMove d x.devices request x.reply → DeviceMove d y.devices request y.reply → DeviceMove d (if b then x else y).devices request (if b then x else y).reply
+test_move : {d : Devices} {request : Request} (b : Bool) (x y : DeviceAnswer) → DeviceMove d x.devices request x.reply
+    → DeviceMove d y.devices request y.reply → DeviceMove d (if b then x else y).devices request (if b then x else y).reply
 test_move true x y kx ky = kx
 test_move false x y kx ky = ky
 
-planned_move : (setup : Setup) (d : Devices) (request : Request) (next : DeviceAnswer) → DeviceMove d next.devices request next.reply → DeviceMove d (unless_planned setup d next).devices request (unless_planned setup d next).reply
+planned_move : (setup : Setup) (d : Devices) (request : Request) (next : DeviceAnswer) → DeviceMove d next.devices request next.reply
+    → DeviceMove d (unless_planned setup d next).devices request (unless_planned setup d next).reply
 unfolding unless_planned
 planned_move setup d request next k = test_move (is_planned (d.calls + 1) setup.faults) (after_call d _) next (still d _ request _ refl refl) k
 
@@ -53,7 +55,8 @@ stale_none d node given e = by (given == epoch_of node d.epochs) refl e
     by true t e = grind (arith, nat_tests)
     by false t e = absurd (none-some _ (sym e))
 
-stale_move : (d : Devices) (request : Request) (s : Option ℕ) (next : DeviceAnswer) → (s ≡ None → DeviceMove d next.devices request next.reply) → DeviceMove d (unless_stale d s next).devices request (unless_stale d s next).reply
+stale_move : (d : Devices) (request : Request) (s : Option ℕ) (next : DeviceAnswer) → (s ≡ None → DeviceMove d next.devices request next.reply)
+    → DeviceMove d (unless_stale d s next).devices request (unless_stale d s next).reply
 unfolding unless_stale
 stale_move d request None next k = k refl
 stale_move d request (Some current) next k = still d d request _ refl refl
@@ -64,7 +67,8 @@ unfolding provision provision_new
 provision_move setup d request name provisioner bytes labels (Some x) = still d _ request _ refl refl
 provision_move setup d request name provisioner bytes labels None = new (first_fit provisioner bytes labels d.stored 0 setup.pools)
   where
-    new : (place : Option ℕ) → DeviceMove d (provision_new setup.pools d name provisioner bytes labels place).devices request (provision_new setup.pools d name provisioner bytes labels place).reply
+    new : (place : Option ℕ)
+        → DeviceMove d (provision_new setup.pools d name provisioner bytes labels place).devices request (provision_new setup.pools d name provisioner bytes labels place).reply
     new None = still d _ request _ refl refl
     new (Some place) = still d _ request _ refl refl
 
@@ -75,7 +79,8 @@ take_move d node = record {
   mount = λ m h. inl h;
 }
   where
-    by : (other : List ℕ) (b : Bool) → bytes_eq node other ≡ b → (epoch_of other (take_node d node).devices.epochs ≡ epoch_of other d.epochs) ⊎ IsTaking d (take_node d node).devices (requests.TakeNode node) (take_node d node).reply other
+    by : (other : List ℕ) (b : Bool) → bytes_eq node other ≡ b
+        → (epoch_of other (take_node d node).devices.epochs ≡ epoch_of other d.epochs) ⊎ IsTaking d (take_node d node).devices (requests.TakeNode node) (take_node d node).reply other
     by other true is =
         let same : node ≡ other = (bytes_eq-Decides node other).0 is in
         inr (subst (λ n. IsTaking d (take_node d node).devices (requests.TakeNode node) (take_node d node).reply n) same (record {
@@ -85,7 +90,8 @@ take_move d node = record {
         }))
     by other false is = inl (rw is refl)
 
-mount_move : (d : Devices) (node : List ℕ) (epoch : ℕ) (pod : Uid) (claims : List Uid) → epoch ≡ epoch_of node d.epochs → DeviceMove d (with_mounts d node (with_mount node pod claims d.mounts)).devices (requests.Mount node epoch pod claims) (with_mounts d node (with_mount node pod claims d.mounts)).reply
+mount_move : (d : Devices) (node : List ℕ) (epoch : ℕ) (pod : Uid) (claims : List Uid) → epoch ≡ epoch_of node d.epochs
+    → DeviceMove d (with_mounts d node (with_mount node pod claims d.mounts)).devices (requests.Mount node epoch pod claims) (with_mounts d node (with_mount node pod claims d.mounts)).reply
 unfolding with_mounts
 mount_move d node epoch pod claims current = record {
   epoch = λ other. inl refl;
@@ -99,7 +105,8 @@ mount_move d node epoch pod claims current = record {
       | inr is ↦ inr (subst (λ (x : MountAt). IsMounting d (requests.Mount node epoch pod claims) x) is (record { epoch = epoch; asked = refl; current = current }))
     ]
 
-unmount_move : (d : Devices) (node : List ℕ) (request : Request) (pod : Uid) → DeviceMove d (with_mounts d node (without_mount node pod d.mounts)).devices request (with_mounts d node (without_mount node pod d.mounts)).reply
+unmount_move : (d : Devices) (node : List ℕ) (request : Request) (pod : Uid)
+    → DeviceMove d (with_mounts d node (without_mount node pod d.mounts)).devices request (with_mounts d node (without_mount node pod d.mounts)).reply
 unfolding with_mounts
 unmount_move d node request pod = record { epoch = λ other. inl refl; mount = λ m h. inl (some_filter (λ x. x ≡ m) _ d.mounts h) }
 
@@ -116,7 +123,8 @@ devices_move setup d _ = tt
 none_moved : (w : World) (kind : SeatKind) (request : Request) (x : Effect) → (world_after w x).devices ≡ w.devices → EffectMove w kind request x
 none_moved w kind request x e = record { move = still w.devices _ request _ (ap (λ d. d.epochs) e) (ap (λ d. d.mounts) e); user = λ u. e }
 
-test : {w : World} {kind : SeatKind} {request : Request} (b : Bool) (x y : Effect) → EffectMove w kind request x → (b ≡ false → EffectMove w kind request y) → EffectMove w kind request (if b then x else y)
+test : {w : World} {kind : SeatKind} {request : Request} (b : Bool) (x y : Effect) → EffectMove w kind request x
+    → (b ≡ false → EffectMove w kind request y) → EffectMove w kind request (if b then x else y)
 test true x y kx ky = kx
 test false x y kx ky = ky refl
 
@@ -128,7 +136,8 @@ at_moment : (w : World) (kind : SeatKind) (request : Request) (at : List ℕ) �
 unfolding world_after
 at_moment w kind request at = none_moved w kind request (SetsMoment at) refl
 
-on_device : (w : World) (kind : SeatKind) (request : Request) (a : DeviceAnswer) → DeviceMove w.devices a.devices request a.reply → is_user kind ≡ false → EffectMove w kind request (OnDevices a)
+on_device : (w : World) (kind : SeatKind) (request : Request) (a : DeviceAnswer) → DeviceMove w.devices a.devices request a.reply
+    → is_user kind ≡ false → EffectMove w kind request (OnDevices a)
 unfolding world_after reply_to
 on_device w kind request a m c = record { move = m; user = λ u. absurd (true≢false (sym u ∙ c)) }
 
@@ -165,7 +174,8 @@ TellsMounts request None = ⊤
 TellsMounts request (Some a) = (node : List ℕ) (epoch : ℕ) (pod : Uid) → is_of_epoch node epoch request ≡ true → lacks_pod pod a.reply ≡ true → has_row pod (rows_on node a.devices.mounts) ≡ false
 
 told_rows : (d : Devices) (n : List ℕ) (e : ℕ) (s : Option ℕ) (mounts : List MountAt) (node : List ℕ) (epoch : ℕ) (pod : Uid) → (bytes_eq n node && e == epoch) ≡ true
-    → lacks_pod pod (unless_stale d s (with_mounts d n mounts)).reply ≡ true → has_row pod (rows_on node (unless_stale d s (with_mounts d n mounts)).devices.mounts) ≡ false
+    → lacks_pod pod (unless_stale d s (with_mounts d n mounts)).reply ≡ true
+    → has_row pod (rows_on node (unless_stale d s (with_mounts d n mounts)).devices.mounts) ≡ false
 unfolding unless_stale with_mounts
 told_rows d n e (Some k) mounts node epoch pod is lacks = absurd (true≢false (sym lacks))
 told_rows d n e None mounts node epoch pod is lacks =
@@ -183,9 +193,11 @@ tells_mounts setup d (requests.TakeNode name) = λ node epoch pod is lacks. absu
 tells_mounts setup d _ = tt
 
 pub record LacksNow (request : Request) (w : World) (x : Effect) : Type 0 where
-  pub lacks : (node : List ℕ) (epoch : ℕ) (pod : Uid) → is_of_epoch node epoch request ≡ true → lacks_pod pod (reply_to x) ≡ true → has_row pod (rows_on node (world_after w x).devices.mounts) ≡ false
+  pub lacks : (node : List ℕ) (epoch : ℕ) (pod : Uid) → is_of_epoch node epoch request ≡ true → lacks_pod pod (reply_to x) ≡ true
+      → has_row pod (rows_on node (world_after w x).devices.mounts) ≡ false
 
-lacks_of : (w : World) (kind : SeatKind) (request : Request) (a : Option DeviceAnswer) → TellsMounts request a → ((node : List ℕ) (epoch : ℕ) → a ≡ None → is_of_epoch node epoch request ≡ false) → LacksNow request w (on_devices w kind request a)
+lacks_of : (w : World) (kind : SeatKind) (request : Request) (a : Option DeviceAnswer) → TellsMounts request a
+    → ((node : List ℕ) (epoch : ℕ) → a ≡ None → is_of_epoch node epoch request ≡ false) → LacksNow request w (on_devices w kind request a)
 unfolding on_devices reply_to reply_of world_after
 lacks_of w kind request (Some a) t none = by (is_user kind)
   where

@@ -19,14 +19,16 @@ record IsEffect (setup : Setup) (w : World) (kind : SeatKind) (request : Request
   is : EffectOf setup w kind request x
 
 module _ {setup : Setup} {w : World} {kind : SeatKind} {request : Request} where
-  test : (b : Bool) (x y : Effect) → (b ≡ true → IsEffect setup w kind request x) → (b ≡ false → IsEffect setup w kind request y) → IsEffect setup w kind request (if b then x else y)
+  test : (b : Bool) (x y : Effect) → (b ≡ true → IsEffect setup w kind request x) → (b ≡ false → IsEffect setup w kind request y)
+      → IsEffect setup w kind request (if b then x else y)
   test true x y kx ky = kx refl
   test false x y kx ky = ky refl
 
   refused : (r : Refusal) → IsEffect setup w kind request (OnStore (Says (Refused r)))
   refused r = record { is = λ other o h. absurd h }
 
-asked : (setup : Setup) (w : World) (kind : SeatKind) (request : Request) (a : Option DeviceAnswer) → device_answer setup w.devices request ≡ a → AreRows w.store.rows → IsEffect setup w kind request (on_devices w kind request a)
+asked : (setup : Setup) (w : World) (kind : SeatKind) (request : Request) (a : Option DeviceAnswer) → device_answer setup w.devices request ≡ a
+    → AreRows w.store.rows → IsEffect setup w kind request (on_devices w kind request a)
 unfolding on_devices
 asked setup w kind request (Some a) e rows = test (is_user kind) (OnStore _) _ (λ u. refused _) (λ u. record { is = (u, e) })
 asked setup w kind request None e rows = record { is = outcome_form w.store kind request w.moment _ rows }

@@ -82,27 +82,32 @@ wrote {s = s} {W = W} {request = request} o w = by (leaves o) refl
 
 -- each verb
 
-create_form : (s : State) (kind : SeatKind) (new : Object) (moment : List ℕ) (x : Option Object) → row_at (key_of new) s.rows ≡ x → HasForm s (IsCreate s kind moment new) (requests.Create new) (create s kind new moment x)
+create_form : (s : State) (kind : SeatKind) (new : Object) (moment : List ℕ) (x : Option Object) → row_at (key_of new) s.rows ≡ x
+    → HasForm s (IsCreate s kind moment new) (requests.Create new) (create s kind new moment x)
 unfolding create
 create_form s kind new moment (Some old) is = refused _
 create_form s kind new moment None is = rule_or _ _ (λ g. field_or _ _ (λ f. record { form = record { free = is; guard = g; fault = f; is = refl } }))
 
-update_form : (s : State) (kind : SeatKind) (new : Object) (given : Option ℕ) (x : Option Object) → row_at (key_of new) s.rows ≡ x → HasForm s (IsUpdate s kind new given) (requests.Update new given) (update s kind new given x)
+update_form : (s : State) (kind : SeatKind) (new : Object) (given : Option ℕ) (x : Option Object) → row_at (key_of new) s.rows ≡ x
+    → HasForm s (IsUpdate s kind new given) (requests.Update new given) (update s kind new given x)
 unfolding update
 update_form s kind new given None is = refused _
 update_form s kind new given (Some old) is =
     refused_or _ _ _ (λ v. rule_or _ _ (λ g. field_or _ _ (λ f. wrote _ (record { old = old; there = is; version = v; guard = g; fault = f; is = refl }))))
 
-status_form : (s : State) (kind : SeatKind) (key : Key) (status : NewStatus) (given : Option ℕ) (x : Option Object) → row_at key s.rows ≡ x → HasForm s (IsStatus s kind key status given) (requests.UpdateStatus key status given) (update_status s kind status given x)
+status_form : (s : State) (kind : SeatKind) (key : Key) (status : NewStatus) (given : Option ℕ) (x : Option Object) → row_at key s.rows ≡ x
+    → HasForm s (IsStatus s kind key status given) (requests.UpdateStatus key status given) (update_status s kind status given x)
 unfolding update_status written_if_fits
 status_form s kind key status given None is = refused_or _ _ _ (λ c. refused _)
 status_form s kind key status given (Some old) is = refused_or _ _ _ (λ c. refused_or _ _ _ (λ v. if_fits c v (with_status status old) refl))
   where
-    if_fits : is_user kind ≡ false → is_other_version given (meta_of old).version ≡ false → (y : Option Object) → with_status status old ≡ y → HasForm s (IsStatus s kind key status given) (requests.UpdateStatus key status given) (written_if_fits s y)
+    if_fits : is_user kind ≡ false → is_other_version given (meta_of old).version ≡ false → (y : Option Object) → with_status status old ≡ y
+        → HasForm s (IsStatus s kind key status given) (requests.UpdateStatus key status given) (written_if_fits s y)
     if_fits c v None fits = refused _
     if_fits c v (Some new) fits = wrote _ (record { old = old; there = is; controller = c; version = v; new = new; fits = fits; is = refl })
 
-edit_form : (s : State) (kind : SeatKind) (key : Key) (change : Edit) (x : Option Object) → row_at key s.rows ≡ x → HasForm s (IsEdit s kind) (requests.Edit key change) (edit s kind change x)
+edit_form : (s : State) (kind : SeatKind) (key : Key) (change : Edit) (x : Option Object) → row_at key s.rows ≡ x
+    → HasForm s (IsEdit s kind) (requests.Edit key change) (edit s kind change x)
 unfolding edit edit_to
 edit_form s kind key change None is = refused _
 edit_form s kind key change (Some old) is = to (edited_object change old) (edit_kept change old)
@@ -114,7 +119,8 @@ edit_form s kind key change (Some old) is = to (edited_object change old) (edit_
       update = record { old = old; there = ap (λ k. row_at k s.rows) (kept ∙ row_at_key key old s.rows is) ∙ is; version = refl; guard = g; fault = f; is = refl };
     })))
 
-delete_form : (s : State) (moment : List ℕ) (key : Key) (given : Option Uid) (x : Option Object) → row_at key s.rows ≡ x → HasForm s (IsMark s moment key given) (requests.Delete key given) (delete s moment given x)
+delete_form : (s : State) (moment : List ℕ) (key : Key) (given : Option Uid) (x : Option Object) → row_at key s.rows ≡ x
+    → HasForm s (IsMark s moment key given) (requests.Delete key given) (delete s moment given x)
 unfolding delete delete_of leaves_at_once marked_object with_meta
 delete_form s moment key given None is = refused _
 delete_form s moment key given (Some old) is = refused_or _ _ _ (λ u. by u (leaves_at_once old) (is_deleting (meta_of old)) refl refl)
@@ -126,7 +132,8 @@ delete_form s moment key given (Some old) is = refused_or _ _ _ (λ u. by u (lea
     at_once (Volume p) n e = absurd (true≢false (sym e))
     at_once (Claim p) n e = absurd (true≢false (sym e))
 
-    by : is_other_uid given (meta_of old).uid ≡ false → (a d : Bool) → leaves_at_once old ≡ a → is_deleting (meta_of old) ≡ d → HasForm s (IsMark s moment key given) (requests.Delete key given) (delete_of s moment old a d)
+    by : is_other_uid given (meta_of old).uid ≡ false → (a d : Bool) → leaves_at_once old ≡ a → is_deleting (meta_of old) ≡ d
+        → HasForm s (IsMark s moment key given) (requests.Delete key given) (delete_of s moment old a d)
     by u true d ea ed = record { form = (record { old = old; there = is; uid = u; first = inl ea; is = refl }, at_once old _ ea) }
     by u false true ea ed = tells_row key old _ refl is
     by u false false ea ed = wrote _ (record { old = old; there = is; uid = u; first = inr ed; is = refl })
@@ -153,13 +160,17 @@ pod_found uid (Some (Pod q)) p e = by (is_uid q.meta.uid uid) refl
     by false is = let f : None ≡ Some p = rw is at e in absurd (true≢false (sym (ap is_some f)))
 pod_found uid x p e = absurd (true≢false (sym (ap is_some e)))
 
-bind_form : (s : State) (kind : SeatKind) (key : Key) (uid : Uid) (node : List ℕ) → is_user kind ≡ false → (x : Option PodData) → ((p : PodData) → x ≡ Some p → IsPodAt uid (row_at key s.rows) p) → HasForm s (IsBind s kind key uid node) (requests.BindPod key uid node) (bind s node x)
+bind_form : (s : State) (kind : SeatKind) (key : Key) (uid : Uid) (node : List ℕ) → is_user kind ≡ false → (x : Option PodData)
+    → ((p : PodData) → x ≡ Some p → IsPodAt uid (row_at key s.rows) p)
+    → HasForm s (IsBind s kind key uid node) (requests.BindPod key uid node) (bind s node x)
 unfolding bind
 bind_form s kind key uid node c None f = refused _
 bind_form s kind key uid node c (Some p) f =
     refused_or _ _ _ (λ u. refused_or _ _ _ (λ n. record { form = record { pod = p; there = (f p refl).there; controller = c; same = (f p refl).same; unscheduled = u; is = refl } }))
 
-finish_form : (s : State) (kind : SeatKind) (key : Key) (uid : Uid) (node : List ℕ) (epoch : ℕ) (stale : Option ℕ) → is_user kind ≡ false → (x : Option PodData) → ((p : PodData) → x ≡ Some p → IsPodAt uid (row_at key s.rows) p) → HasForm s (IsFinish s kind key uid node stale) (requests.FinishPod key uid node epoch) (finish s stale node x)
+finish_form : (s : State) (kind : SeatKind) (key : Key) (uid : Uid) (node : List ℕ) (epoch : ℕ) (stale : Option ℕ) → is_user kind ≡ false
+    → (x : Option PodData) → ((p : PodData) → x ≡ Some p → IsPodAt uid (row_at key s.rows) p)
+    → HasForm s (IsFinish s kind key uid node stale) (requests.FinishPod key uid node epoch) (finish s stale node x)
 unfolding finish at_version with_meta
 finish_form s kind key uid node epoch stale c None f = refused _
 finish_form s kind key uid node epoch stale c (Some p) f =
@@ -180,7 +191,8 @@ finish_form s kind key uid node epoch stale c (Some p) f =
     })))
 
 -- each outcome is what was asked, past the tests of its verb
-outcome_has_form : (s : State) (kind : SeatKind) (request : Request) (moment : List ℕ) (stale : Option ℕ) → AreRows s.rows → HasForm s (WriteOf s kind moment stale request) request (outcome s kind request moment stale)
+outcome_has_form : (s : State) (kind : SeatKind) (request : Request) (moment : List ℕ) (stale : Option ℕ) → AreRows s.rows
+    → HasForm s (WriteOf s kind moment stale request) request (outcome s kind request moment stale)
 unfolding outcome list
 outcome_has_form s kind (requests.Create o) moment stale rows = create_form s kind o moment _ refl
 outcome_has_form s kind (requests.Update o given) moment stale rows = update_form s kind o given _ refl
@@ -193,5 +205,6 @@ outcome_has_form s kind (requests.BindPod key uid node) moment stale rows = refu
 outcome_has_form s kind (requests.FinishPod key uid node epoch) moment stale rows = refused_or _ _ _ (λ c. finish_form s kind key uid node epoch stale c _ (λ p e. pod_found uid _ p e))
 outcome_has_form s kind _ moment stale rows = refused _
 
-pub outcome_form : (s : State) (kind : SeatKind) (request : Request) (moment : List ℕ) (stale : Option ℕ) → AreRows s.rows → FormOf s (WriteOf s kind moment stale request) request (outcome s kind request moment stale)
+pub outcome_form : (s : State) (kind : SeatKind) (request : Request) (moment : List ℕ) (stale : Option ℕ) → AreRows s.rows
+    → FormOf s (WriteOf s kind moment stale request) request (outcome s kind request moment stale)
 outcome_form s kind request moment stale rows = (outcome_has_form s kind request moment stale rows).form

@@ -20,7 +20,8 @@ use Rattle.world_moves.proofs.Effects.{effect_form}
 use Rattle.world_moves.specs.Moves.{IsWritten, Moves, CallsMoveTheStore}
 use Rattle.std.proofs.lemmas.Option.{same_Some, none-some}
 
-still : (w : World) (request : Request) (x : Effect) (W : Object → Type 0) → AreRows w.store.rows → (world_after w x).store ≡ w.store → (world_after w x).log ≡ w.log → Moves w request x W
+still : (w : World) (request : Request) (x : Effect) (W : Object → Type 0) → AreRows w.store.rows → (world_after w x).store ≡ w.store
+    → (world_after w x).log ≡ w.log → Moves w request x W
 still w request x W rows e l = record {
   logged = λ o h. inl (subst (λ (es : List Event). IsIn o (objects_of_events es)) l h);
   row = λ k o is. inl (ap (λ s. row_at k s.rows) (sym e) ∙ is);
@@ -74,7 +75,8 @@ store_moves w request W (Removes o) rows f = record {
   order = rows_after w.store (Removes o) rows;
 }
 
-effect_moves : (setup : Setup) (w : World) (kind : SeatKind) (request : Request) (x : Effect) → AreRows w.store.rows → EffectOf setup w kind request x → Moves w request x (Writes w kind request)
+effect_moves : (setup : Setup) (w : World) (kind : SeatKind) (request : Request) (x : Effect) → AreRows w.store.rows → EffectOf setup w kind request x
+    → Moves w request x (Writes w kind request)
 unfolding world_after
 effect_moves setup w kind request (OnStore o) rows f = store_moves w request _ o rows f
 effect_moves setup w kind request (OnDevices a) rows f = still w request (OnDevices a) _ rows refl refl

@@ -46,7 +46,8 @@ unfolding unless_stale
 stale_mute d None next e = e
 stale_mute d (Some current) next e = refl
 
-provision_mute : (setup : Setup) (d : Devices) (name provisioner : List ℕ) (bytes : ℕ) (labels : Option (List Pair)) (x : Option Data) → objects_in (provision setup.pools d name provisioner bytes labels x).reply ≡ []
+provision_mute : (setup : Setup) (d : Devices) (name provisioner : List ℕ) (bytes : ℕ) (labels : Option (List Pair)) (x : Option Data)
+    → objects_in (provision setup.pools d name provisioner bytes labels x).reply ≡ []
 unfolding provision provision_new
 provision_mute setup d name provisioner bytes labels (Some x) = refl
 provision_mute setup d name provisioner bytes labels None = new (first_fit provisioner bytes labels d.stored 0 setup.pools)
@@ -79,11 +80,13 @@ some_events o [] h = absurd h
 some_events o (e ∷ es) h = elim h [ inl is ↦ some_left (λ x. x ≡ o) (objects_of_event e.change e.object) (objects_of_events es) is | inr more ↦ some_right (λ x. x ≡ o) (objects_of_event e.change e.object) (objects_of_events es) (some_events o es more) ]
 
 -- what a watch tells, the log has
-watched : (k : Kind) (from : ℕ) (log : List Event) (o : Object) → IsIn o (objects_of_events (take most_events (reverse (filter (is_later k from) log)))) → IsIn o (objects_of_events log)
+watched : (k : Kind) (from : ℕ) (log : List Event) (o : Object)
+    → IsIn o (objects_of_events (take most_events (reverse (filter (is_later k from) log)))) → IsIn o (objects_of_events log)
 watched k from log o h = some_events o log (some_filter (TellsIt o) (is_later k from) log (some_reverse (TellsIt o) _ (some_take (TellsIt o) most_events _ (events_some o _ h))))
 
 -- what an effect tells that is no watch's stands before it or after it
-tells_of_effect : (setup : Setup) (w : World) (kind : SeatKind) (request : Request) (x : Effect) → EffectOf setup w kind request x → is_watch request ≡ false → TellsNow w x
+tells_of_effect : (setup : Setup) (w : World) (kind : SeatKind) (request : Request) (x : Effect) → EffectOf setup w kind request x
+    → is_watch request ≡ false → TellsNow w x
 unfolding reply_to reply_of world_after after
 tells_of_effect setup w kind request (OnStore (Says reply)) f other = record { now = λ o h. inl (f other o h) }
 tells_of_effect setup w kind request (OnStore (Stores change new)) f other = record {
@@ -106,7 +109,8 @@ watch_tells : (setup : Setup) (w : World) (k : Kind) (from : ℕ) → TellsTrue 
 unfolding watch reply_to reply_of
 watch_tells setup w k from = by (nat_lt w.store.version from) (nat_lt from (oldest (base setup) w.store.version))
   where
-    by : (a b : Bool) → TellsTrue w (if a then OnStore (Says (Refused (Invalid fields.From))) else if b then OnStore (Says (Refused (Gone (oldest (base setup) w.store.version)))) else OnStore (Says (Events (told_events k from w.store.version w.log))))
+    by : (a b : Bool)
+        → TellsTrue w (if a then OnStore (Says (Refused (Invalid fields.From))) else if b then OnStore (Says (Refused (Gone (oldest (base setup) w.store.version)))) else OnStore (Says (Events (told_events k from w.store.version w.log))))
     by true b = record { true_of = λ o h. absurd h }
     by false true = record { true_of = λ o h. absurd h }
     by false false = record { true_of = λ o h. inr (inr (watched k from w.log o h)) }

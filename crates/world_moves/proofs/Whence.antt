@@ -53,7 +53,8 @@ version-marked_object : (o : Object) (n : ℕ) (moment : List ℕ) → (meta_of 
 unfolding marked_object
 version-marked_object o n moment = ap (λ m. m.version) (meta-with_meta o _)
 
-pub status_next : (s : State) (kind : SeatKind) (key : Key) (status : NewStatus) (given : Option ℕ) (o : Object) → (u : IsStatus s kind key status given o) → IsNext s u.old o
+pub status_next : (s : State) (kind : SeatKind) (key : Key) (status : NewStatus) (given : Option ℕ) (o : Object)
+    → (u : IsStatus s kind key status given o) → IsNext s u.old o
 status_next s kind key status given o u =
     let v : IsVersionOf u.old (Some u.new) = subst (IsVersionOf u.old) u.fits (status_kept status u.old) in
     subst (IsNext s u.old) (sym u.is) (next s key u.old _ u.there (key-at_version u.new _ ∙ v.1 ∙ row_at_key key u.old s.rows u.there) (kept (at_version_keeps u.old u.new _ v.0 v.2)) (version-at u.new _))
@@ -84,7 +85,8 @@ bound_next s kind key uid node o u =
     let new = Pod (record u.pod { node = node }) in
     subst (IsNext s (Pod u.pod)) (sym u.is) (next s key (Pod u.pod) _ u.there (key-at_version new _ ∙ row_at_key key (Pod u.pod) s.rows u.there) (kept (at_version_keeps (Pod u.pod) new _ refl tt)) (version-at new _))
 
-pub finished_next : (s : State) (kind : SeatKind) (key : Key) (uid : Uid) (node : List ℕ) (stale : Option ℕ) (o : Object) → (u : IsFinish s kind key uid node stale o) → IsNext s (Pod u.pod) o
+pub finished_next : (s : State) (kind : SeatKind) (key : Key) (uid : Uid) (node : List ℕ) (stale : Option ℕ) (o : Object)
+    → (u : IsFinish s kind key uid node stale o) → IsNext s (Pod u.pod) o
 finished_next s kind key uid node stale o u =
     subst (IsNext s (Pod u.pod)) (sym u.is) (next s key (Pod u.pod) _ u.there (key-at_version (Pod u.pod) _ ∙ row_at_key key (Pod u.pod) s.rows u.there) (kept (at_version_keeps (Pod u.pod) (Pod u.pod) _ refl tt)) (version-at (Pod u.pod) _))
 

@@ -38,7 +38,8 @@ pub record Moves (w : World) (request : Request) (x : Effect) (W : Object → Ty
   pub row : (k : Key) (o : Object) → row_at k (world_after w x).store.rows ≡ Some o → (row_at k w.store.rows ≡ Some o) ⊎ IsWritten w x W o
   pub left : (k : Key) (o : Object) → row_at k w.store.rows ≡ Some o → row_at k (world_after w x).store.rows ≡ None → HasLeft w request x W k
   pub rises : w.store.version ≤ (world_after w x).store.version
-  pub logged : (o : Object) → IsIn o (objects_of_events (world_after w x).log) → IsIn o (objects_of_events w.log) ⊎ (row_at (key_of o) (world_after w x).store.rows ≡ Some o)
+  pub logged : (o : Object) → IsIn o (objects_of_events (world_after w x).log)
+      → IsIn o (objects_of_events w.log) ⊎ (row_at (key_of o) (world_after w x).store.rows ≡ Some o)
   pub order : AreRows (world_after w x).store.rows
 
 -- each call moves the store by one write that was asked and tested, or not at all

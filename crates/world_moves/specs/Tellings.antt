@@ -13,7 +13,8 @@ use Rattle.binder_model.specs.World.{effect}
 
 -- what is told at one entry: it stands before or after, or the log has it
 pub record TellsTrue (w : World) (x : Effect) : Type 0 where
-  pub true_of : (o : Object) → IsIn o (objects_in (reply_to x)) → (row_at (key_of o) w.store.rows ≡ Some o) ⊎ (row_at (key_of o) (world_after w x).store.rows ≡ Some o) ⊎ IsIn o (objects_of_events w.log)
+  pub true_of : (o : Object) → IsIn o (objects_in (reply_to x))
+      → (row_at (key_of o) w.store.rows ≡ Some o) ⊎ (row_at (key_of o) (world_after w x).store.rows ≡ Some o) ⊎ IsIn o (objects_of_events w.log)
 
 -- what is told at an entry that is no watch stands before or after
 pub record TellsNow (w : World) (x : Effect) : Type 0 where
