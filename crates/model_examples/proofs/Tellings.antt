@@ -359,7 +359,7 @@ abbrev claim_of : ClaimData → Option Object → ClaimData
 claim_of x None = x
 claim_of x (Some o) = claim_or x o
 
-abbrev volume_of : VolumeData → Option Object → VolumeData
+abbrev pub volume_of : VolumeData → Option Object → VolumeData
 volume_of x None = x
 volume_of x (Some o) = volume_or x o
 
