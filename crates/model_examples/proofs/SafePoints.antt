@@ -1,6 +1,6 @@
 -- The parts of what is safe, computed.
 use Rattle.std.proofs.Common.{sym, refl, ap, subst, inl, inr, true≢false, ◌∙◌}
-use Rattle.std.specs.Prelude.{ℕ, ◌≡◌, ◌⊎◌, Bool, true, false, not, List, [], ◌∷◌, Option, Some, None, is_none, is_some, codes, bytes_eq}
+use Rattle.std.specs.Prelude.{ℕ, ◌≡◌, ◌⊎◌, true, List, [], ◌∷◌, Some, is_none, is_some, codes, bytes_eq}
 use Rattle.kube_types.specs.declared.key.Key.{Key}
 use Rattle.kube_types.specs.declared.parts.VolumePhase.TheVariants as volumes
 use Rattle.kube_types.specs.declared.parts.ClaimPhase.TheVariants as claims
@@ -14,7 +14,6 @@ use Rattle.kube_types.specs.Bindings.{is_bound, is_completed, carries, is_uid}
 use Rattle.kube_types.proofs.KeyOrder.{row_at_key}
 use Rattle.call_types.specs.declared.entry.Entry.{Entry}
 use Rattle.call_types.specs.declared.setup.Setup.{Setup}
-use Rattle.call_types.specs.declared.request.SeatKind.TheVariants as seats
 use Rattle.binder_model.specs.Store.{with_meta, at_version, with_status_of, updated_object, leaves, lacks_node}
 use Rattle.binder_model.specs.Fields.{faulty, volume_fault, claim_fault, kind_fault, create_fault, changed_field, update_fault}
 use Rattle.binder_model.specs.Answers.{refuse, refuse_field, refuse_rule, guard_on, update, with_status, written_if_fits, update_status, outcome, reply_of, after}
@@ -23,12 +22,12 @@ use Rattle.binder_model.specs.ObjectKeys.{claim_key, volume_key}
 use Rattle.binder_model.specs.Imports.{imported_object}
 use Rattle.binder_model.specs.Told.{SomeOf}
 use Rattle.binder_model.specs.World.{world, effect, on_devices, reply_to, world_after, log_after}
-use Rattle.binder_model.specs.Safe.{AreBindings, CountedAreBound, CountedAreApart, Counts, IsBoundTo, KeepsBound, KeepsMounted, is_mounted, ErasesEnded, IsEndedForDelete, Safe}
+use Rattle.binder_model.specs.Safe.{AreBindings, CountedAreBound, Counts, IsBoundTo, is_mounted, IsEndedForDelete}
 use Rattle.model_laws.specs.Worked.{no_setup}
 use Rattle.model_examples.specs.Imported.{setup_of}
-use Rattle.model_examples.specs.Samples.{volume_at, a, c, d, seat_of, finds, in_phase, claim_at, key_a, key_c, uid_c, taken_a, bound_a, released_a, bound_c}
-use Rattle.model_examples.specs.SafePoints.{completing, completes, sets_phase, with_claim, lost_setup, two_claims, BindingExamples, mounting, unmounted, LeavingExamples, ended_a, failed_a, next_a, no_uid_a, id_a, ErasedExamples, SafeExamples}
-use Rattle.model_examples.proofs.Tellings.{IsIn, one, differ, neither, sole, found_in, claims_in, claim_in, volumes_in, volume_in, volume_of}
+use Rattle.model_examples.specs.Samples.{volume_at, a, c, d, in_phase, claim_at, key_a, key_c, taken_a, bound_a, released_a, bound_c}
+use Rattle.model_examples.specs.SafePoints.{completing, completes, with_claim, lost_setup, BindingExamples, mounting, unmounted, LeavingExamples, ended_a, failed_a, next_a, no_uid_a, ErasedExamples, SafeExamples}
+use Rattle.model_examples.proofs.Tellings.{one, differ, sole, found_in, claims_in, claim_in, volumes_in, volume_in, volume_of}
 
 -- the claims, and the volumes, that stand in literal rows
 claims_at : (key : Key) (x : ClaimData) (rows : List Object) → row_at key rows ≡ Some (Claim x) → SomeOf (λ y. y ≡ x) (claims_in rows)

@@ -1,6 +1,6 @@
 -- A history in which a volume stands in a namespace, is bound, and the completed claim names none: it is no run, since
 -- the volume is refused at its creation. Source: Kubernetes API, volumes, classes and nodes have no namespace.
-use Rattle.std.specs.Prelude.{ℕ, ◌≡◌, List, [], ◌∷◌, Option, Some, None, codes}
+use Rattle.std.specs.Prelude.{ℕ, ◌≡◌, List, [], ◌∷◌, Some, None, codes}
 use Rattle.kube_types.specs.declared.names.Field.TheVariants as fields
 use Rattle.kube_types.specs.declared.parts.Kind.TheVariants as kinds
 use Rattle.kube_types.specs.declared.parts.VolumePhase.{VolumePhase}

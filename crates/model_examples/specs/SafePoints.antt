@@ -1,11 +1,9 @@
 -- The parts of what is safe: a world or a step of a history that is, and one that is not, for each condition.
 -- Whether these steps would be licensed is not asked. A choice of this project.
-use Rattle.std.specs.Prelude.{ℕ, ◌≡◌, true, false, List, [], ◌∷◌, Option, Some, None, codes}
-use Rattle.kube_types.specs.declared.parts.ClaimPhase.TheVariants as claims
+use Rattle.std.specs.Prelude.{true, false, List, [], ◌∷◌, Some, None, codes}
 use Rattle.kube_types.specs.declared.parts.Policy.TheVariants as policies
 use Rattle.kube_types.specs.declared.parts.VolumePhase.{VolumePhase}
 use Rattle.kube_types.specs.declared.parts.VolumePhase.TheVariants as volumes
-use Rattle.kube_types.specs.declared.key.Key.{Key}
 use Rattle.kube_types.specs.declared.uid.Uid.{Uid}
 use Rattle.kube_types.specs.declared.objects.DataId.{DataId}
 use Rattle.kube_types.specs.declared.objects.Claim.{Claim as ClaimData}
@@ -27,7 +25,7 @@ use Rattle.binder_model.specs.World.{World, first_world}
 use Rattle.binder_model.specs.Safe.{AreBindings, CountedAreBound, CountedAreApart, Counts, KeepsBound, KeepsMounted, ErasesWell, Safe}
 use Rattle.model_laws.specs.Worked.{no_setup}
 use Rattle.model_examples.specs.Imported.{setup_of}
-use Rattle.model_examples.specs.Samples.{Exchange, seat_of, unheard, tells_volume, finds, a, c, d, in_phase, with_reference, with_uid, claim_at, key_a, key_c, uid_c, taken_a, bound_a, released_a, completed_c, bound_c, node_1, uid_p}
+use Rattle.model_examples.specs.Samples.{Exchange, seat_of, unheard, tells_volume, finds, a, c, d, in_phase, claim_at, key_a, uid_c, taken_a, bound_a, released_a, bound_c, node_1, uid_p}
 
 -- a step by a binder that asks no licence. The world does not look at its reply
 abbrev pub step : Request → Entry
