@@ -141,15 +141,15 @@ provision_examples = record {
     other_name : MayProvision (mine (tells_three c fast n1)) (data_name (uid_of_serial 9)) (codes "x/y") (amount 3).bytes None → ⊥
     other_name row =
         let r = asks_of (mine (tells_three c fast n1)) (data_name (uid_of_serial 9)) (codes "x/y") (amount 3).bytes None row c fast
-          (sole (claims_asked (tells_three c fast n1) (data_name (uid_of_serial 9)) (codes "x/y") (amount 3).bytes None row))
-          (sole (classes_asked (tells_three c fast n1) (data_name (uid_of_serial 9)) (codes "x/y") (amount 3).bytes None row)) in
+        (sole (claims_asked (tells_three c fast n1) (data_name (uid_of_serial 9)) (codes "x/y") (amount 3).bytes None row))
+        (sole (classes_asked (tells_three c fast n1) (data_name (uid_of_serial 9)) (codes "x/y") (amount 3).bytes None row)) in
         names_apart (r.named ∙ ap (λ u. data_name (unwrap_or u uid_c)) (sym r.known))
 
     other_bytes : MayProvision (mine (tells_three c fast n1)) (data_name uid_c) (codes "x/y") (amount 5).bytes None → ⊥
     other_bytes row =
         let r = asks_of (mine (tells_three c fast n1)) (data_name uid_c) (codes "x/y") (amount 5).bytes None row c fast
-          (sole (claims_asked (tells_three c fast n1) (data_name uid_c) (codes "x/y") (amount 5).bytes None row))
-          (sole (classes_asked (tells_three c fast n1) (data_name uid_c) (codes "x/y") (amount 5).bytes None row)) in
+        (sole (claims_asked (tells_three c fast n1) (data_name uid_c) (codes "x/y") (amount 5).bytes None row))
+        (sole (classes_asked (tells_three c fast n1) (data_name uid_c) (codes "x/y") (amount 5).bytes None row)) in
         differ (λ n. n == (amount 5).bytes) r.sized refl refl
 
     other_labels : AsksFor chosen_c late (codes "x/y") (Some []) → ⊥
@@ -160,15 +160,15 @@ provision_examples = record {
     node_never_told : MayProvision (mine (tells_claim chosen_c ∷ tells_class late ∷ [])) (data_name uid_c) (codes "x/y") (amount 3).bytes (Some zone) → ⊥
     node_never_told row =
         let r = asks_of (mine (tells_claim chosen_c ∷ tells_class late ∷ [])) (data_name uid_c) (codes "x/y") (amount 3).bytes (Some zone) row chosen_c late
-          (sole (claims_asked (tells_claim chosen_c ∷ tells_class late ∷ []) (data_name uid_c) (codes "x/y") (amount 3).bytes (Some zone) row))
-          (sole (classes_asked (tells_claim chosen_c ∷ tells_class late ∷ []) (data_name uid_c) (codes "x/y") (amount 3).bytes (Some zone) row)) in
+        (sole (claims_asked (tells_claim chosen_c ∷ tells_class late ∷ []) (data_name uid_c) (codes "x/y") (amount 3).bytes (Some zone) row))
+        (sole (classes_asked (tells_claim chosen_c ∷ tells_class late ∷ []) (data_name uid_c) (codes "x/y") (amount 3).bytes (Some zone) row)) in
         newest_node (mine (tells_claim chosen_c ∷ tells_class late ∷ [])) (node_key r.placed.0) r.placed.2.0 r.placed.2.1.0
 
     node_gone : MayProvision (mine (lists kinds.Node [] 9 ∷ tells_three chosen_c late n1)) (data_name uid_c) (codes "x/y") (amount 3).bytes (Some zone) → ⊥
     node_gone row =
         let r = asks_of (mine (lists kinds.Node [] 9 ∷ tells_three chosen_c late n1)) (data_name uid_c) (codes "x/y") (amount 3).bytes (Some zone) row chosen_c late
-          (sole (claims_asked (lists kinds.Node [] 9 ∷ tells_three chosen_c late n1) (data_name uid_c) (codes "x/y") (amount 3).bytes (Some zone) row))
-          (sole (classes_asked (lists kinds.Node [] 9 ∷ tells_three chosen_c late n1) (data_name uid_c) (codes "x/y") (amount 3).bytes (Some zone) row)) in
+        (sole (claims_asked (lists kinds.Node [] 9 ∷ tells_three chosen_c late n1) (data_name uid_c) (codes "x/y") (amount 3).bytes (Some zone) row))
+        (sole (classes_asked (lists kinds.Node [] 9 ∷ tells_three chosen_c late n1) (data_name uid_c) (codes "x/y") (amount 3).bytes (Some zone) row)) in
         differ is_none (subst (λ o. IsNewest (mine (lists kinds.Node [] 9 ∷ tells_three chosen_c late n1)) (node_key (unwrap_or o [])) (Node r.placed.2.0)) (sym r.placed.1) r.placed.2.1.0) refl refl
 
 -- CreateVolume
