@@ -1,8 +1,6 @@
 -- The agent's rows but for Mount, computed.
-use Rattle.std.proofs.Common.{sym, refl, ap, subst, inl, inr, true≢false, ◌∙◌}
-use Rattle.std.specs.Prelude.{ℕ, ◌≡◌, ◌⊎◌, ◌==◌, Bool, true, false, not, List, [], ◌∷◌, Option, Some, None, is_none, is_some, codes, bytes_eq, unwrap_or, ⊤}
-use Rattle.kube_types.specs.declared.uid.Uid.{Uid}
-use Rattle.kube_types.specs.declared.objects.Pod.{Pod as PodData}
+use Rattle.std.proofs.Common.{sym, refl, inl, inr, true≢false}
+use Rattle.std.specs.Prelude.{ℕ, ◌==◌, Bool, List, [], ◌∷◌, Option, is_none, bytes_eq, unwrap_or}
 use Rattle.kube_types.specs.Keys.{kind_index}
 use Rattle.kube_types.specs.Uids.{uid_of_serial}
 use Rattle.kube_types.specs.Bindings.{is_uid}
@@ -12,7 +10,7 @@ use Rattle.binder_model.specs.Told.{SomeOf, ToldPod}
 use Rattle.binder_model.specs.AgentLicence.{IsEndingPod}
 use Rattle.model_examples.specs.Samples.{Exchange, seat_of, unheard, tells_pod, takes, node_1, node_2, p, ending_p, uid_p}
 use Rattle.model_examples.specs.AgentRows.{MountsExamples, UnmountExamples, other_pod, elsewhere_pod, FinishPodExamples, row_of, mounted, unmounted, mounts_it, told_ending}
-use Rattle.model_examples.proofs.Tellings.{differ, neither, sole, own_kind, told_pods, pods_in, told_objects}
+use Rattle.model_examples.proofs.Tellings.{differ, sole, own_kind, told_pods, pods_in, told_objects}
 
 abbrev mine : List Exchange → List Entry
 mine xs = seat_of seats.Agent xs

@@ -1,6 +1,6 @@
 -- The binder's rows that take a binding back, computed.
-use Rattle.std.proofs.Common.{sym, refl, ap, subst, inl, inr, true≢false, ◌∙◌}
-use Rattle.std.specs.Prelude.{ℕ, ◌≡◌, ◌⊎◌, ◌==◌, Bool, true, false, not, List, [], ◌∷◌, Option, Some, None, is_none, is_some, codes, bytes_eq, unwrap_or, ⊤}
+use Rattle.std.proofs.Common.{sym, refl, ap, inl, inr, true≢false, ◌∙◌}
+use Rattle.std.specs.Prelude.{ℕ, ◌≡◌, ◌⊎◌, ◌==◌, Bool, true, false, not, List, [], ◌∷◌, Option, Some, None, is_none, codes, bytes_eq, unwrap_or}
 use Rattle.kube_types.specs.declared.parts.Kind.TheVariants as kinds
 use Rattle.kube_types.specs.declared.parts.Modes.{Modes}
 use Rattle.kube_types.specs.declared.key.Key.{Key}
@@ -9,7 +9,6 @@ use Rattle.kube_types.specs.declared.objects.Amount.{Amount}
 use Rattle.kube_types.specs.declared.objects.Ref.{Ref}
 use Rattle.kube_types.specs.declared.objects.Volume.{Volume as VolumeData}
 use Rattle.kube_types.specs.declared.objects.Claim.{Claim as ClaimData}
-use Rattle.kube_types.specs.declared.objects.Object.{Object}
 use Rattle.kube_types.specs.declared.objects.Object.TheVariants.{Volume, Claim}
 use Rattle.kube_types.specs.Uids.{uid_of_serial}
 use Rattle.kube_types.specs.Bindings.{is_empty, is_uid, ref_uid}
@@ -19,12 +18,12 @@ use Rattle.binder_model.specs.At.{IsWrittenAt, IsElsewhere, IsSameObject}
 use Rattle.binder_model.specs.ObjectKeys.{volume_key, claim_key}
 use Rattle.binder_model.specs.BindWrites.{unbound_volume}
 use Rattle.binder_model.specs.BinderDue.{is_reclaimed}
-use Rattle.binder_model.specs.Told.{SomeOf, ToldVolume, ToldClaim, After, TellsLive}
+use Rattle.binder_model.specs.Told.{SomeOf, ToldVolume, ToldClaim, TellsLive}
 use Rattle.binder_model.specs.BinderLicence.{MayRelease, WasReadGone, IsReferring, IsGone, MayUnbind, MayLose, WasReadLost, IsNotCarrying, IsCompletedVersion}
 use Rattle.binder_model.specs.Licence.{AtVolume, AtVolumeKey, AtClaimKey}
 use Rattle.model_examples.specs.Samples.{Exchange, entry_of, seat_of, unheard, lists, tells_volume, tells_claim, tells_both, finds, finds_none, once, amount, a, c, other_c, naming, with_reference, key_a, key_c, uid_c, name_c, ref_c, taken_a, bound_a, bound_c}
 use Rattle.model_examples.specs.BinderReleases.{ReleasedExamples, key_d, prebound_a, failed_a, earlier_a, provisioned_a, reclaimed_a, deleted_with_claim, elsewhere_c, UnbindExamples, taken_prebound, LostExamples, key_b, nameless_c, uncompleted_c, earlier_c, bound_for_other}
-use Rattle.model_examples.proofs.Tellings.{differ, neither, sole, own_kind, told_volumes, told_claims, volume_row, volume_status_row, claim_status_row, volumes_in, claims_in, told_objects, after_told, after_tells, never_read, has_get, is_get, key_read, not_get}
+use Rattle.model_examples.proofs.Tellings.{differ, neither, sole, own_kind, told_volumes, told_claims, volume_row, volume_status_row, claim_status_row, volumes_in, claims_in, told_objects, after_tells, never_read, has_get, key_read, not_get}
 
 abbrev mine : List Exchange → List Entry
 mine xs = seat_of seats.Binder xs

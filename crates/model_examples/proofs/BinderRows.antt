@@ -1,12 +1,8 @@
 -- The binder's rows, computed.
-use Rattle.std.proofs.Common.{sym, refl, ap, subst, inl, inr, true≢false, ◌∙◌}
-use Rattle.std.specs.Prelude.{ℕ, ◌≡◌, ◌⊎◌, ◌==◌, Bool, true, false, not, ◌&&◌, List, [], ◌∷◌, Option, Some, None, is_none, is_some, codes, bytes_eq, unwrap_or, ⊤}
-use Rattle.kube_types.specs.declared.parts.Kind.TheVariants as kinds
+use Rattle.std.proofs.Common.{sym, refl, inl, inr, true≢false, ◌∙◌}
+use Rattle.std.specs.Prelude.{ℕ, ◌==◌, Bool, true, false, not, List, [], ◌∷◌, Option, Some, None, is_none, is_some, codes, bytes_eq, unwrap_or}
 use Rattle.kube_types.specs.declared.parts.Modes.{Modes}
-use Rattle.kube_types.specs.declared.parts.VolumePhase.TheVariants as volumes
-use Rattle.kube_types.specs.declared.parts.ClaimPhase.TheVariants as claims
 use Rattle.kube_types.specs.declared.key.Key.{Key}
-use Rattle.kube_types.specs.declared.uid.Uid.{Uid}
 use Rattle.kube_types.specs.declared.objects.Amount.{Amount}
 use Rattle.kube_types.specs.declared.objects.Volume.{Volume as VolumeData}
 use Rattle.kube_types.specs.declared.objects.Claim.{Claim as ClaimData}
@@ -16,10 +12,10 @@ use Rattle.call_types.specs.declared.entry.Entry.{Entry}
 use Rattle.call_types.specs.declared.request.SeatKind.TheVariants as seats
 use Rattle.binder_model.specs.At.{IsWrittenAt}
 use Rattle.binder_model.specs.ObjectKeys.{volume_key, claim_key}
-use Rattle.binder_model.specs.BindWrites.{taken_for, completed_with, unbound_volume}
-use Rattle.binder_model.specs.Told.{SomeOf, ToldVolume, ToldClaim}
+use Rattle.binder_model.specs.BindWrites.{taken_for, completed_with}
+use Rattle.binder_model.specs.Told.{SomeOf}
 use Rattle.binder_model.specs.BinderLicence.{MayTake, IsTaken, MayBind, IsHere, MayComplete, IsBoundFor, MayShow, IsShown, MayFree}
-use Rattle.binder_model.specs.Licence.{Licensed, AtVolume, AtClaim, AtVolumeKey, AtClaimKey}
+use Rattle.binder_model.specs.Licence.{AtVolume, AtClaim, AtVolumeKey, AtClaimKey}
 use Rattle.model_examples.specs.Samples.{Exchange, seat_of, unheard, tells_volume, tells_claim, tells_both, once, amount, a, c, other_c, naming, key_a, key_c, uid_c, taken_a, bound_a, released_a, completed_c}
 use Rattle.model_examples.specs.BinderRows.{ClaimRefExamples, prebound_a, failed_a, prebound_to_d, taken_by_other, taken_and_changed, taken_unmarked, PhaseBoundExamples, unguarded_a, CompletionExamples, bound_for_other, bound_by_name, completed_elsewhere, ClaimStatusExamples, bound_b, AvailableExamples}
 use Rattle.model_examples.proofs.Tellings.{differ, neither, sole, own_kind, told_volumes, told_claims, volume_row, claim_row, volume_status_row, claim_status_row, volumes_in, claims_in, told_objects}

@@ -1,27 +1,26 @@
 -- What is due, computed.
 use Rattle.std.proofs.Common.{sym, refl, ap, subst, inl, inr, true≢false, ◌∙◌}
-use Rattle.std.specs.Prelude.{ℕ, zero, suc, ◌≡◌, ◌≢◌, ◌⊎◌, Bool, true, false, List, [], ◌∷◌, Option, Some, None, is_none, is_some, codes, bytes_eq, slice_get}
+use Rattle.std.specs.Prelude.{ℕ, zero, suc, ◌≡◌, ◌≢◌, Bool, true, false, List, [], ◌∷◌, Option, Some, None, is_none}
 use Rattle.std.specs.declared.cmp.Ordering.{Ordering}
 use Rattle.std.specs.declared.cmp.Ordering.TheVariants.{Less, Greater}
 use Rattle.kube_types.specs.declared.names.Due.{Due}
 use Rattle.kube_types.specs.declared.names.Due.TheVariants as dues
 use Rattle.kube_types.specs.declared.key.Key.{Key}
-use Rattle.kube_types.specs.declared.objects.Node.{Node as NodeData}
 use Rattle.kube_types.specs.declared.objects.Volume.{Volume as VolumeData}
 use Rattle.kube_types.specs.declared.objects.Object.{Object}
 use Rattle.kube_types.specs.declared.objects.Object.TheVariants.{Class, Node, Volume, Claim, Pod}
-use Rattle.kube_types.specs.Keys.{row_at, key_of, key_cmp}
+use Rattle.kube_types.specs.Keys.{key_of, key_cmp}
 use Rattle.kube_types.proofs.KeyOrder.{row_at_key}
 use Rattle.binder_model.specs.ObjectKeys.{node_key}
 use Rattle.binder_model.specs.BindWrites.{next_write, claim_write}
 use Rattle.binder_model.specs.BinderDue.{volume_due, reference_due, referred_due, claim_with, claim_due, named_due, completed_due}
 use Rattle.binder_model.specs.Matching.{IsCandidate, match_cmp}
 use Rattle.binder_model.specs.Choice.{Share, TakesVolume, IsProvisioned, AreShares}
-use Rattle.binder_model.specs.Due.{or_due, IsDue, IsSettled, CanPrepare, shares_are_served}
+use Rattle.binder_model.specs.Due.{or_due, IsDue, CanPrepare, shares_are_served}
 use Rattle.model_laws.specs.Worked.{no_setup}
-use Rattle.model_examples.specs.Samples.{late, a, c, n1, key_a, key_c, waiting_p, bound_a, bound_c}
-use Rattle.model_examples.specs.DueActions.{with_rows, pool_setup, small_setup, searched, pending_a, bare_c, done_rows, two_rows, VolumeDueExamples, ReclaimDueExamples, ClaimDueExamples, ProvisionDueExamples, PodDueExamples, PrepareDueExamples, SettledExamples}
-use Rattle.model_examples.proofs.Tellings.{IsIn, one, differ, neither, sole, found_in, node_in}
+use Rattle.model_examples.specs.Samples.{late, a, c, n1, key_a, waiting_p}
+use Rattle.model_examples.specs.DueActions.{with_rows, small_setup, searched, pending_a, done_rows, two_rows, VolumeDueExamples, ReclaimDueExamples, ClaimDueExamples, ProvisionDueExamples, PodDueExamples, PrepareDueExamples, SettledExamples}
+use Rattle.model_examples.proofs.Tellings.{IsIn, one, differ, sole, found_in, node_in}
 
 pub volume_due_examples : VolumeDueExamples
 unfolding or_due volume_due reference_due referred_due claim_with claim_due named_due completed_due next_write claim_write

@@ -1,11 +1,9 @@
 -- The history on the node without a name, computed.
-use Rattle.std.proofs.Common.{sym, refl, subst, inl, inr, true≢false}
-use Rattle.std.specs.Prelude.{ℕ, ◌≡◌, List, [], ◌∷◌, Option, Some, None, codes, ⊤}
+use Rattle.std.proofs.Common.{sym, refl, inl, inr, true≢false}
+use Rattle.std.specs.Prelude.{[], ◌∷◌, Some, codes}
 use mathlib.Core.Bool.{xor}
 use Rattle.kube_types.specs.Uids.{uid_of_serial}
 use Rattle.kube_types.specs.declared.parts.VolumePhase.TheVariants as volumes
-use Rattle.kube_types.specs.declared.objects.Object.{Object}
-use Rattle.call_types.specs.declared.entry.Entry.{Entry}
 use Rattle.call_types.specs.declared.request.SeatKind.TheVariants as seats
 use Rattle.binder_model.specs.Store.{with_meta, at_version, marked_object, admitted_object, without_status, created_object, with_status_of, updated_object, leaves, leaves_at_once, lacks_node}
 use Rattle.binder_model.specs.Fields.{faulty, volume_fault, claim_fault, pod_fault, kind_fault, create_fault, changed_field, update_fault}
@@ -17,13 +15,12 @@ use Rattle.binder_model.specs.ObjectKeys.{claim_key}
 use Rattle.binder_model.specs.BindWrites.{taken_for, completed_with}
 use Rattle.binder_model.specs.BinderLicence.{MayTake, MayBind, MayComplete, MayShow}
 use Rattle.binder_model.specs.AgentLicence.{WasShownReady, IsReadyPod}
-use Rattle.binder_model.specs.GuardLicence.{MayUnguardClaim}
-use Rattle.binder_model.specs.Licence.{AreOfKind, Licensed}
+use Rattle.binder_model.specs.Licence.{Licensed}
 use Rattle.binder_model.specs.Run.{Run}
 use Rattle.binder_model.specs.Safe.{Safe}
 use Rattle.model_laws.specs.Worked.{no_setup, a, c, completed_c, once, amount}
 use Rattle.model_examples.proofs.Tellings.{neither, sole}
-use Rattle.model_examples.specs.EmptyNode.{a_at, c_bound, c_deleted, c_loose, pod_stands, e1, e2, e3, e4, e5, e6, e7, e8, e9, e10, e11, e12, e13, e14, e15, e16, e17, e18, until_read, history, MountsOnNoNode}
+use Rattle.model_examples.specs.EmptyNode.{a_at, c_deleted, pod_stands, e3, e4, e5, e6, e7, e8, e10, e11, e12, e13, e14, until_read, history, MountsOnNoNode}
 
 may_take : MayTake (e4 ∷ e3 ∷ []) (a 1 volumes.Pending) (a_at 1 volumes.Pending)
 unfolding taken_for

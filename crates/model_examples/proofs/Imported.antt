@@ -1,6 +1,6 @@
 -- Imports, computed.
-use Rattle.std.proofs.Common.{sym, refl}
-use Rattle.std.specs.Prelude.{◌≡◌, Option, Some, None, is_some}
+use Rattle.std.proofs.Common.{refl}
+use Rattle.std.specs.Prelude.{is_some}
 use Rattle.binder_model.specs.Store.{leaves, with_meta}
 use Rattle.binder_model.specs.Answers.{reply_of}
 use Rattle.binder_model.specs.Fields.{create_fault, kind_fault, volume_fault, claim_fault, class_fault, pod_fault, faulty}

@@ -12,5 +12,6 @@ pub mod ProtectionRows
 pub mod ReadingRows
 pub mod Reclaiming
 pub mod Refusals
+pub mod SafePoints
 pub mod SchedulerRows
 pub mod Tellings

@@ -1,13 +1,13 @@
 -- The row Mount, computed.
 use Rattle.std.proofs.Common.{sym, refl, ap, subst, inl, inr, true≢false, ◌∙◌}
-use Rattle.std.specs.Prelude.{ℕ, ◌≡◌, ◌⊎◌, ◌==◌, Bool, true, false, not, List, [], ◌∷◌, ◌++◌, Option, Some, None, is_none, is_some, codes, bytes_eq, unwrap_or, ⊤}
+use Rattle.std.specs.Prelude.{ℕ, ◌≡◌, ◌==◌, Bool, true, false, List, [], ◌∷◌, Option, Some, None, is_none, codes, bytes_eq, unwrap_or}
 use Rattle.kube_types.specs.declared.uid.Uid.{Uid}
 use Rattle.kube_types.specs.declared.parts.Kind.TheVariants as kinds
 use Rattle.kube_types.specs.declared.objects.Claim.{Claim as ClaimData}
 use Rattle.kube_types.specs.declared.objects.Pod.{Pod as PodData}
 use Rattle.kube_types.specs.declared.objects.Volume.{Volume as VolumeData}
 use Rattle.kube_types.specs.declared.objects.Object.{Object}
-use Rattle.kube_types.specs.declared.objects.Object.TheVariants.{Volume, Claim, Pod}
+use Rattle.kube_types.specs.declared.objects.Object.TheVariants.{Volume, Claim}
 use Rattle.kube_types.specs.Keys.{meta_of}
 use Rattle.kube_types.specs.Uids.{uid_of_serial}
 use Rattle.kube_types.specs.Bindings.{is_uid, is_deleting, is_protected_claim, is_completed, carries}
@@ -15,11 +15,11 @@ use Rattle.call_types.specs.declared.entry.Entry.{Entry}
 use Rattle.call_types.specs.declared.request.SeatKind.TheVariants as seats
 use Rattle.call_types.specs.declared.reply.Reply.{Reply}
 use Rattle.call_types.specs.declared.reply.Reply.TheVariants as replies
-use Rattle.binder_model.specs.ObjectKeys.{claim_key, volume_key}
+use Rattle.binder_model.specs.ObjectKeys.{volume_key}
 use Rattle.binder_model.specs.BindWrites.{is_claim_bound}
-use Rattle.binder_model.specs.AgentLicence.{MayMount, IsReadyPod, WasShownReady, AreReadReady, IsReadReady, IsPodOn, last_get, since_get}
-use Rattle.model_examples.specs.Samples.{Exchange, seat_of, unheard, lists, tells_pod, finds, finds_none, takes, node_1, node_2, a, key_a, key_c, uid_c, bound_a, bound_c, p, waiting_p, ending_p, uid_p}
-use Rattle.model_examples.specs.Mounting.{reads, reads_claim, reads_volume, watches_p, watches_end, watches_gone, watches_next, next_p, asks_to_finish, MountOrderExamples, other_pod, elsewhere_pod, deleting_c, unguarded_c, uncompleted_c, pending_c, lost_c, next_c, bound_for_other, pod_of_two, MountExamples}
+use Rattle.binder_model.specs.AgentLicence.{MayMount, IsReadyPod, WasShownReady, IsReadReady, IsPodOn, last_get}
+use Rattle.model_examples.specs.Samples.{Exchange, seat_of, lists, tells_pod, finds, finds_none, takes, node_1, node_2, a, key_a, key_c, uid_c, bound_a, bound_c, p, waiting_p, ending_p, uid_p}
+use Rattle.model_examples.specs.Mounting.{reads, reads_claim, reads_volume, watches_p, watches_end, watches_next, MountOrderExamples, other_pod, elsewhere_pod, deleting_c, unguarded_c, uncompleted_c, pending_c, lost_c, next_c, bound_for_other, pod_of_two, MountExamples}
 use Rattle.model_examples.proofs.Tellings.{differ, neither, sole, own_kind}
 
 abbrev mine : List Exchange → List Entry

@@ -4,13 +4,12 @@ use Rattle.std.specs.Prelude.{Bool, true, false}
 use Rattle.call_types.specs.declared.reply.Reply.{Reply}
 use Rattle.call_types.specs.declared.reply.Reply.TheVariants as replies
 use mathlib.Core.Bool.{xor}
-use Rattle.binder_model.specs.Store.{with_meta, at_version, marked_object, admitted_object, without_status, created_object, with_status_of, updated_object, leaves, leaves_at_once, lacks_node}
-use Rattle.binder_model.specs.Fields.{faulty, volume_fault, claim_fault, class_fault, pod_fault, kind_fault, create_fault, changed_field, update_fault}
+use Rattle.binder_model.specs.Store.{with_meta, admitted_object, without_status, created_object, lacks_node}
+use Rattle.binder_model.specs.Fields.{faulty, volume_fault, class_fault, kind_fault, create_fault}
 use Rattle.binder_model.specs.Guard.{breaks, guard}
-use Rattle.binder_model.specs.Edits.{edited_object}
-use Rattle.binder_model.specs.Answers.{refuse, refuse_field, refuse_rule, guard_on, create, update, edit, edit_to, with_status, written_if_fits, update_status, delete, delete_of, get, list, outcome, reply_of, after}
-use Rattle.binder_model.specs.Devices.{device_answer, unless_stale, take_node, with_mounts}
-use Rattle.binder_model.specs.World.{IsHistory, effect, on_devices, reply_to, world_after, log_after}
+use Rattle.binder_model.specs.Answers.{refuse_field, refuse_rule, guard_on, create, outcome, reply_of, after}
+use Rattle.binder_model.specs.Devices.{device_answer}
+use Rattle.binder_model.specs.World.{effect, on_devices, reply_to, world_after, log_after}
 use Rattle.binder_model.specs.Run.{Run}
 use Rattle.model_laws.specs.Worked.{no_setup}
 use Rattle.model_examples.specs.NamespacedVolume.{history, NamespacedVolumeIsRefused}

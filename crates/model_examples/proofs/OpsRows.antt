@@ -1,21 +1,20 @@
 -- The provisioner's rows, computed.
 use Rattle.std.proofs.Common.{arith, sym, refl, ap, subst, inl, inr, true≢false, ◌∙◌}
-use Rattle.std.specs.Prelude.{ℕ, ◌^◌, ◌<◌, ◌≡◌, ◌⊎◌, ◌==◌, Bool, true, false, not, List, [], ◌∷◌, Option, Some, None, is_none, is_some, codes, bytes_eq, unwrap_or, ⊤}
+use Rattle.std.specs.Prelude.{ℕ, ◌^◌, ◌<◌, ◌≡◌, ◌==◌, Bool, true, false, not, List, [], ◌∷◌, Option, Some, None, is_none, is_some, codes, bytes_eq, unwrap_or}
 use Rattle.plain_data.specs.Pairs.{Pair, value_at}
 use Rattle.kube_types.specs.declared.parts.Kind.TheVariants as kinds
 use Rattle.kube_types.specs.declared.uid.Uid.{Uid}
 use Rattle.kube_types.specs.declared.objects.DataId.{DataId}
 use Rattle.kube_types.specs.declared.objects.Class.{Class as ClassData}
 use Rattle.kube_types.specs.declared.objects.Claim.{Claim as ClaimData}
-use Rattle.kube_types.specs.declared.objects.Node.{Node as NodeData}
 use Rattle.kube_types.specs.declared.objects.Volume.{Volume as VolumeData}
 use Rattle.kube_types.specs.declared.objects.Object.{Object}
 use Rattle.kube_types.specs.Keys.{meta_of}
 use Rattle.kube_types.specs.Uids.{uid_text, uid_of_text}
 use Rattle.kube_types.proofs.UidTexts.{reads_back}
-use Rattle.kube_types.specs.declared.objects.Object.TheVariants.{Class, Node, Volume, Claim}
+use Rattle.kube_types.specs.declared.objects.Object.TheVariants.{Class, Node, Claim}
 use Rattle.kube_types.specs.Uids.{uid_of_serial}
-use Rattle.kube_types.specs.Bindings.{selected_node, class_of_claim, is_uid, no_provisioner, is_delete, provisioned_by}
+use Rattle.kube_types.specs.Bindings.{class_of_claim, is_uid, no_provisioner, is_delete, provisioned_by}
 use Rattle.call_types.specs.declared.entry.Entry.{Entry}
 use Rattle.call_types.specs.declared.request.SeatKind.TheVariants as seats
 use Rattle.binder_model.specs.ObjectKeys.{node_key, class_key, claim_key}
@@ -23,9 +22,9 @@ use Rattle.binder_model.specs.At.{HasUid}
 use Rattle.binder_model.specs.Provisioning.{data_name, provisioned_volume, is_wanting, provisions, terms_for}
 use Rattle.binder_model.specs.Told.{SomeOf, ToldClaim, After, IsNewest}
 use Rattle.binder_model.specs.OpsLicence.{AreLabels, MayProvision, MayCreate, TellsData}
-use Rattle.model_examples.specs.Samples.{Exchange, entry_of, seat_of, unheard, lists, tells_claim, tells_class, tells_node, amount, c, naming, uid_c, fast, late, zone, n1, chosen_c}
+use Rattle.model_examples.specs.Samples.{Exchange, entry_of, seat_of, unheard, lists, tells_claim, tells_class, amount, c, naming, uid_c, fast, late, zone, n1, chosen_c}
 use Rattle.model_examples.specs.OpsRows.{tells_three, ProvisionExamples, no_uid_c, deleting_c, selecting_c, undone_c, other_class, moved_class, idle_class, CreateVolumeExamples, id_1, id_2, gives, pool_pair, kept_volume, exhausted}
-use Rattle.model_examples.proofs.Tellings.{differ, neither, sole, own_kind, newest_claim, newest_class, newest_node, after_told, after_tells, told_claims, claims_in, classes_in, told_objects}
+use Rattle.model_examples.proofs.Tellings.{differ, neither, sole, own_kind, newest_claim, newest_class, newest_node, told_claims, claims_in, classes_in, told_objects}
 
 abbrev mine : List Exchange → List Entry
 mine xs = seat_of seats.Ops xs
@@ -142,15 +141,15 @@ provision_examples = record {
     other_name : MayProvision (mine (tells_three c fast n1)) (data_name (uid_of_serial 9)) (codes "x/y") (amount 3).bytes None → ⊥
     other_name row =
         let r = asks_of (mine (tells_three c fast n1)) (data_name (uid_of_serial 9)) (codes "x/y") (amount 3).bytes None row c fast
-          (sole (claims_asked (tells_three c fast n1) (data_name (uid_of_serial 9)) (codes "x/y") (amount 3).bytes None row))
-          (sole (classes_asked (tells_three c fast n1) (data_name (uid_of_serial 9)) (codes "x/y") (amount 3).bytes None row)) in
+        (sole (claims_asked (tells_three c fast n1) (data_name (uid_of_serial 9)) (codes "x/y") (amount 3).bytes None row))
+        (sole (classes_asked (tells_three c fast n1) (data_name (uid_of_serial 9)) (codes "x/y") (amount 3).bytes None row)) in
         names_apart (r.named ∙ ap (λ u. data_name (unwrap_or u uid_c)) (sym r.known))
 
     other_bytes : MayProvision (mine (tells_three c fast n1)) (data_name uid_c) (codes "x/y") (amount 5).bytes None → ⊥
     other_bytes row =
         let r = asks_of (mine (tells_three c fast n1)) (data_name uid_c) (codes "x/y") (amount 5).bytes None row c fast
-          (sole (claims_asked (tells_three c fast n1) (data_name uid_c) (codes "x/y") (amount 5).bytes None row))
-          (sole (classes_asked (tells_three c fast n1) (data_name uid_c) (codes "x/y") (amount 5).bytes None row)) in
+        (sole (claims_asked (tells_three c fast n1) (data_name uid_c) (codes "x/y") (amount 5).bytes None row))
+        (sole (classes_asked (tells_three c fast n1) (data_name uid_c) (codes "x/y") (amount 5).bytes None row)) in
         differ (λ n. n == (amount 5).bytes) r.sized refl refl
 
     other_labels : AsksFor chosen_c late (codes "x/y") (Some []) → ⊥
@@ -161,15 +160,15 @@ provision_examples = record {
     node_never_told : MayProvision (mine (tells_claim chosen_c ∷ tells_class late ∷ [])) (data_name uid_c) (codes "x/y") (amount 3).bytes (Some zone) → ⊥
     node_never_told row =
         let r = asks_of (mine (tells_claim chosen_c ∷ tells_class late ∷ [])) (data_name uid_c) (codes "x/y") (amount 3).bytes (Some zone) row chosen_c late
-          (sole (claims_asked (tells_claim chosen_c ∷ tells_class late ∷ []) (data_name uid_c) (codes "x/y") (amount 3).bytes (Some zone) row))
-          (sole (classes_asked (tells_claim chosen_c ∷ tells_class late ∷ []) (data_name uid_c) (codes "x/y") (amount 3).bytes (Some zone) row)) in
+        (sole (claims_asked (tells_claim chosen_c ∷ tells_class late ∷ []) (data_name uid_c) (codes "x/y") (amount 3).bytes (Some zone) row))
+        (sole (classes_asked (tells_claim chosen_c ∷ tells_class late ∷ []) (data_name uid_c) (codes "x/y") (amount 3).bytes (Some zone) row)) in
         newest_node (mine (tells_claim chosen_c ∷ tells_class late ∷ [])) (node_key r.placed.0) r.placed.2.0 r.placed.2.1.0
 
     node_gone : MayProvision (mine (lists kinds.Node [] 9 ∷ tells_three chosen_c late n1)) (data_name uid_c) (codes "x/y") (amount 3).bytes (Some zone) → ⊥
     node_gone row =
         let r = asks_of (mine (lists kinds.Node [] 9 ∷ tells_three chosen_c late n1)) (data_name uid_c) (codes "x/y") (amount 3).bytes (Some zone) row chosen_c late
-          (sole (claims_asked (lists kinds.Node [] 9 ∷ tells_three chosen_c late n1) (data_name uid_c) (codes "x/y") (amount 3).bytes (Some zone) row))
-          (sole (classes_asked (lists kinds.Node [] 9 ∷ tells_three chosen_c late n1) (data_name uid_c) (codes "x/y") (amount 3).bytes (Some zone) row)) in
+        (sole (claims_asked (lists kinds.Node [] 9 ∷ tells_three chosen_c late n1) (data_name uid_c) (codes "x/y") (amount 3).bytes (Some zone) row))
+        (sole (classes_asked (lists kinds.Node [] 9 ∷ tells_three chosen_c late n1) (data_name uid_c) (codes "x/y") (amount 3).bytes (Some zone) row)) in
         differ is_none (subst (λ o. IsNewest (mine (lists kinds.Node [] 9 ∷ tells_three chosen_c late n1)) (node_key (unwrap_or o [])) (Node r.placed.2.0)) (sym r.placed.1) r.placed.2.1.0) refl refl
 
 -- CreateVolume

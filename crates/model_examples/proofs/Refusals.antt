@@ -1,16 +1,16 @@
 -- Refusals, computed.
-use Rattle.std.proofs.Common.{sym, refl, ap, subst, inl, inr, true≢false, ◌∙◌}
-use Rattle.std.specs.Prelude.{ℕ, ◌≡◌, ◌⊎◌, ◌==◌, Bool, true, false, not, List, [], ◌∷◌, Option, Some, None, is_none, is_some, codes, bytes_eq, unwrap_or, ⊤}
+use Rattle.std.proofs.Common.{sym, refl, inl}
+use Rattle.std.specs.Prelude.{Bool, true, false, [], ◌∷◌, Some, codes}
 use Rattle.kube_types.specs.declared.names.LicenceRule.{LicenceRule}
 use Rattle.kube_types.specs.declared.names.LicenceRule.TheVariants as rules
 use Rattle.call_types.specs.declared.request.SeatKind.{SeatKind}
 use Rattle.call_types.specs.declared.request.SeatKind.TheVariants as seats
 use Rattle.binder_model.specs.At.{IsWrittenAt}
 use Rattle.binder_model.specs.BindWrites.{write_available}
-use Rattle.binder_model.specs.Licence.{AreOfKind, Licensed, IsRefusedBy}
-use Rattle.model_examples.specs.Samples.{seat_of, tells_volume, a, c}
-use Rattle.model_examples.specs.Refusals.{TwoKindsExamples, told_classes, of_ops, of_both, NoRowExamples, told_a_c, RulesOfRows, RefusingRuleExamples}
-use Rattle.model_examples.proofs.Tellings.{differ, neither, sole, own_kind, told_volumes, told_claims}
+use Rattle.binder_model.specs.Licence.{AreOfKind, Licensed}
+use Rattle.model_examples.specs.Samples.{seat_of, tells_volume, a}
+use Rattle.model_examples.specs.Refusals.{TwoKindsExamples, told_classes, of_ops, NoRowExamples, told_a_c, RulesOfRows, RefusingRuleExamples}
+use Rattle.model_examples.proofs.Tellings.{differ, sole, own_kind, told_volumes, told_claims}
 
 abbrev is_binder : SeatKind → Bool
 is_binder seats.Binder = true

@@ -1,9 +1,8 @@
 -- What a literal list of entries tells, computed: so that a case can be refused by looking at each object told.
-use Rattle.std.proofs.Common.{sym, refl, ap, subst, inl, inr, true≢false, ◌∙◌}
-use Rattle.std.specs.Prelude.{ℕ, ◌≡◌, ◌⊎◌, Bool, true, false, List, [], ◌∷◌, ◌++◌, Option, Some, None, if◌then◌else◌, is_some, unwrap_or, nat_lt}
+use Rattle.std.proofs.Common.{sym, refl, ap, inl, inr, true≢false, ◌∙◌}
+use Rattle.std.specs.Prelude.{ℕ, ◌≡◌, ◌⊎◌, Bool, true, false, List, [], ◌∷◌, ◌++◌, Option, Some, None, if◌then◌else◌, is_some, unwrap_or}
 use Rattle.std.specs.Ordering.{is_eq}
 use Rattle.kube_types.specs.declared.key.Key.{Key}
-use Rattle.kube_types.specs.declared.parts.Kind.TheVariants as kinds
 use Rattle.kube_types.specs.declared.objects.Class.{Class as ClassData}
 use Rattle.kube_types.specs.declared.objects.Node.{Node as NodeData}
 use Rattle.kube_types.specs.declared.objects.Pod.{Pod as PodData}
@@ -12,19 +11,15 @@ use Rattle.kube_types.specs.declared.objects.Claim.{Claim as ClaimData}
 use Rattle.kube_types.specs.declared.objects.Object.{Object}
 use Rattle.kube_types.specs.declared.objects.Object.TheVariants.{Class, Node, Volume, Claim, Pod}
 use Rattle.call_types.specs.declared.entry.Entry.{Entry}
-use Rattle.kube_types.specs.Keys.{meta_of, key_of, key_cmp, row_at}
-use Rattle.call_types.specs.declared.reply.Change.{Change}
-use Rattle.call_types.specs.declared.reply.Change.TheVariants as changes
-use Rattle.call_types.specs.declared.reply.Event.{Event}
-use Rattle.call_types.specs.declared.reply.Reply.{Reply}
-use Rattle.call_types.specs.declared.reply.Reply.TheVariants.{Done, Left, Listed, Events}
+use Rattle.kube_types.specs.Keys.{key_of, key_cmp, row_at}
 use Rattle.call_types.specs.declared.request.SeatKind.{SeatKind}
 use Rattle.call_types.specs.declared.request.Request.{Request}
 use Rattle.call_types.specs.declared.request.Request.TheVariants as requests
-use Rattle.binder_model.specs.Told.{SomeOf, TellsObject, ToldObject, ToldVolume, ToldClaim, ToldPod, IsPodWith, IsVolumeWith, IsClaimWith, objects_in, objects_of_event, objects_of_events, After, TellsLive, Telling, presence, later, listing, of_event, told_by_events, tells_of, told_of, newest, object_of, IsNewest}
+use Rattle.binder_model.specs.Told.{SomeOf, TellsObject, ToldObject, ToldVolume, ToldClaim, ToldPod, IsPodWith, IsVolumeWith, IsClaimWith, objects_in, After, TellsLive, IsNewest}
 use Rattle.binder_model.specs.At.{IsWrittenAt}
 use Rattle.binder_model.specs.Licence.{AreOfKind, AtVolume, AtClaim, AtVolumeKey, AtClaimKey}
-use Rattle.model_examples.specs.Samples.{Exchange, seat_of, entry_of}
+use Rattle.model_laws.proofs.Newest.{newest_told}
+use Rattle.model_examples.specs.Samples.{Exchange, seat_of}
 
 -- two that a test tells apart
 pub differ : {X : Type 0} {a b : X} (test : X → Bool) → a ≡ b → test a ≡ true → test b ≡ false → ⊥
@@ -168,31 +163,6 @@ none_some e = true≢false (sym (ap is_some e))
 pub one : {X : Type 0} (a b : X) → Some a ≡ Some b → a ≡ b
 one a b e = ap (λ o. unwrap_or o a) e
 
-later_of : (a b : Option Telling) (o : Object) → object_of (later a b) ≡ Some o → (object_of a ≡ Some o) ⊎ (object_of b ≡ Some o)
-later_of None b o e = inr e
-later_of (Some a) None o e = inl e
-later_of (Some a) (Some b) o e = by (nat_lt a.version b.version) e
-  where
-    by : (t : Bool) → object_of (if t then Some b else Some a) ≡ Some o → (object_of (Some a) ≡ Some o) ⊎ (object_of (Some b) ≡ Some o)
-    by true e = inr e
-    by false e = inl e
-
-told_if : (b : Bool) (t : Telling) (o : Object) → object_of (if b then Some t else None) ≡ Some o → t.object ≡ Some o
-told_if true t o e = e
-told_if false t o e = absurd (none_some e)
-
-event_tells : (change : Change) (p o : Object) (version : ℕ) → (of_event change p version).object ≡ Some o → IsIn o (objects_of_event change p)
-event_tells changes.Added p o version e = inl (one p o e)
-event_tells changes.Modified p o version e = inl (one p o e)
-event_tells changes.Deleted p o version e = absurd (none_some e)
-
-events_tell : (es : List Event) (key : Key) (o : Object) → object_of (told_by_events es key) ≡ Some o → IsIn o (objects_of_events es)
-events_tell [] key o e = absurd (none_some e)
-events_tell (x ∷ es) key o e = elim (later_of _ (told_by_events es key) o e) [
-  | inl here ↦ some_left (λ y. y ≡ o) (objects_of_event x.change x.object) (objects_of_events es) (event_tells x.change x.object o x.version (told_if _ (of_event x.change x.object x.version) o here))
-  | inr more ↦ some_right (λ y. y ≡ o) (objects_of_event x.change x.object) (objects_of_events es) (events_tell es key o more)
-]
-
 pub found_in : (key : Key) (x : Object) (xs : List Object) → row_at key xs ≡ Some x → IsIn x xs
 found_in key x [] e = absurd (none_some e)
 found_in key x (y ∷ ys) e = by (is_eq (key_cmp (key_of y) key)) refl (found_in key x ys)
@@ -201,31 +171,9 @@ found_in key x (y ∷ ys) e = by (is_eq (key_cmp (key_of y) key)) refl (found_in
     by true is more = let f : Some y ≡ Some x = rw is at e in inl (one y x f)
     by false is more = let f : row_at key ys ≡ Some x = rw is at e in inr (more f)
 
-list_tells : (items : List Object) (key : Key) (version : ℕ) (x : Option Object) (o : Object) → row_at key items ≡ x → (listing version x).object ≡ Some o → IsIn o items
-list_tells items key version None o is e = absurd (none_some e)
-list_tells items key version (Some p) o is e = found_in key o items (is ∙ e)
-
-reply_tells : (request : Request) (reply : Reply) (key : Key) (o : Object) → object_of (tells_of request reply key) ≡ Some o → IsIn o (objects_in reply)
-reply_tells request (Done p) key o e = inl (one p o (told_if _ (presence p) o e))
-reply_tells request (Left p) key o e = absurd (none_some (told_if _ (record { version = (meta_of p).version; object = None }) o e))
-reply_tells request (Listed items version) key o e = list_tells items key version (row_at key items) o refl (told_if _ (listing version (row_at key items)) o e)
-reply_tells request (Events events) key o e = events_tell events.events key o e
-reply_tells request reply key o e = absurd (none_some e)
-
-entry_tells : (e : Entry) (key : Key) (o : Object) → object_of (told_of e key) ≡ Some o → IsIn o (heard_of e)
-entry_tells e key o is = by e.told is
-  where
-    by : (b : Bool) → object_of (if b then tells_of e.request e.reply key else None) ≡ Some o → IsIn o (if b then objects_in e.reply else [])
-    by true is = reply_tells e.request e.reply key o is
-    by false is = absurd (none_some is)
-
 -- the newest told object of a key is one that was told
 pub newest_in : (mine : List Entry) (key : Key) (o : Object) → IsNewest mine key o → IsIn o (told_objects mine)
-newest_in [] key o e = absurd (none_some e)
-newest_in (x ∷ mine) key o e = elim (later_of (told_of x key) (newest mine key) o e) [
-  | inl here ↦ some_left (λ y. y ≡ o) (heard_of x) (told_objects mine) (entry_tells x key o here)
-  | inr more ↦ some_right (λ y. y ≡ o) (heard_of x) (told_objects mine) (newest_in mine key o more)
-]
+newest_in mine key o e = told_some (λ x. x ≡ o) mine (newest_told mine key o e)
 
 -- of each kind
 
@@ -359,7 +307,7 @@ abbrev claim_of : ClaimData → Option Object → ClaimData
 claim_of x None = x
 claim_of x (Some o) = claim_or x o
 
-abbrev volume_of : VolumeData → Option Object → VolumeData
+abbrev pub volume_of : VolumeData → Option Object → VolumeData
 volume_of x None = x
 volume_of x (Some o) = volume_or x o
 

@@ -1,8 +1,7 @@
 -- Where a node agent may read the mounts of a node, unmount and finish a pod, and where it may not: for each row cases
 -- that hold, and for each of its conditions one that misses it alone. A choice of this project, as the rows are.
 -- The newest exchange stands first.
-use Rattle.std.specs.Prelude.{ℕ, List, [], ◌∷◌, Option, Some, None, codes}
-use Rattle.kube_types.specs.declared.parts.Kind.TheVariants as kinds
+use Rattle.std.specs.Prelude.{ℕ, List, [], ◌∷◌, Some, codes}
 use Rattle.kube_types.specs.declared.key.Key.{Key}
 use Rattle.kube_types.specs.declared.uid.Uid.{Uid}
 use Rattle.kube_types.specs.declared.objects.Pod.{Pod as PodData}

@@ -1,7 +1,7 @@
 -- Where the binder may release and unbind a volume, and lose a claim, and where it may not: for each row cases that
 -- hold, and for each of its conditions one that misses it alone. A choice of this project, as the rows are.
 -- The newest exchange stands first.
-use Rattle.std.specs.Prelude.{ℕ, true, List, [], ◌∷◌, Option, Some, None, codes}
+use Rattle.std.specs.Prelude.{ℕ, true, [], ◌∷◌, Option, Some, None, codes}
 use Rattle.kube_types.specs.declared.parts.Kind.TheVariants as kinds
 use Rattle.kube_types.specs.declared.parts.Policy.TheVariants as policies
 use Rattle.kube_types.specs.declared.parts.Modes.{Modes}
@@ -20,7 +20,7 @@ use Rattle.call_types.specs.declared.request.Request.{Request}
 use Rattle.call_types.specs.declared.request.Request.TheVariants as requests
 use Rattle.binder_model.specs.ObjectKeys.{claim_key, volume_key}
 use Rattle.binder_model.specs.BindWrites.{unbound_volume, write_unbound}
-use Rattle.model_examples.specs.Samples.{Allows, Refuses, Exchange, unheard, lists, tells_volume, tells_claim, tells_both, finds, finds_none, once, amount, a, c, other_c, in_phase, with_reference, with_uid, naming, key_a, key_c, name_c, ref_c, other_ref_c, taken_a, bound_a, completed_c, bound_c}
+use Rattle.model_examples.specs.Samples.{Allows, Refuses, unheard, lists, tells_volume, tells_claim, tells_both, finds, finds_none, once, amount, a, c, other_c, in_phase, with_reference, with_uid, naming, key_a, key_c, name_c, ref_c, other_ref_c, taken_a, bound_a, bound_c}
 
 -- Released
 

@@ -1,6 +1,6 @@
 -- Where the binder may write and where it may not: for each row cases that hold, and for each of its conditions one
 -- that misses it alone. A choice of this project, as the rows are. The newest exchange stands first.
-use Rattle.std.specs.Prelude.{ℕ, true, List, [], ◌∷◌, ◌++◌, Option, Some, None, codes}
+use Rattle.std.specs.Prelude.{ℕ, true, List, [], ◌∷◌, Option, Some, None, codes}
 use Rattle.plain_data.specs.Pairs.{Pair}
 use Rattle.kube_types.specs.declared.key.Key.{Key}
 use Rattle.kube_types.specs.declared.parts.Kind.TheVariants as kinds
@@ -12,16 +12,14 @@ use Rattle.kube_types.specs.declared.objects.Amount.{Amount}
 use Rattle.kube_types.specs.declared.objects.Volume.{Volume as VolumeData}
 use Rattle.kube_types.specs.declared.objects.Claim.{Claim as ClaimData}
 use Rattle.kube_types.specs.declared.objects.Object.TheVariants.{Volume, Claim}
-use Rattle.kube_types.specs.Uids.{uid_of_serial}
-use Rattle.kube_types.specs.Bindings.{bound_by_controller, bind_completed, provisioned_by, yes}
+use Rattle.kube_types.specs.Bindings.{bound_by_controller, bind_completed, yes}
 use Rattle.call_types.specs.declared.request.NewStatus.TheVariants as statuses
 use Rattle.call_types.specs.declared.request.SeatKind.TheVariants as seats
 use Rattle.call_types.specs.declared.request.Request.{Request}
 use Rattle.call_types.specs.declared.request.Request.TheVariants as requests
-use Rattle.binder_model.specs.Store.{no_modes}
 use Rattle.binder_model.specs.ObjectKeys.{claim_key, volume_key}
-use Rattle.binder_model.specs.BindWrites.{taken_for, completed_with, unbound_volume, write_reference, write_bound, write_completion, write_claim_status, write_available, write_unbound}
-use Rattle.model_examples.specs.Samples.{Allows, Refuses, Exchange, heard, unheard, lists, tells_volume, tells_claim, tells_both, finds, finds_none, once, amount, a, c, d, other_c, volume_at, in_phase, with_reference, claim_at, with_uid, naming, key_a, key_c, uid_c, name_c, ref_c, other_ref_c, taken_a, bound_a, released_a, completed_c, bound_c}
+use Rattle.binder_model.specs.BindWrites.{taken_for, completed_with, write_reference, write_bound, write_completion, write_claim_status, write_available}
+use Rattle.model_examples.specs.Samples.{Allows, Refuses, unheard, tells_volume, tells_claim, tells_both, once, amount, a, c, other_c, in_phase, with_reference, naming, key_a, key_c, name_c, ref_c, other_ref_c, taken_a, bound_a, released_a, completed_c}
 
 -- ClaimRef: the first write of a binding
 

@@ -1,6 +1,6 @@
 -- What is due for an object of a small world: each action once, and for each of its conditions a world that misses it.
 -- Source: as for the single actions; a choice of this project.
-use Rattle.std.specs.Prelude.{ℕ, ◌*◌, ◌^◌, true, List, [], ◌∷◌, Option, Some, None, codes}
+use Rattle.std.specs.Prelude.{◌*◌, ◌^◌, List, [], ◌∷◌, Option, Some, None, codes}
 use Rattle.kube_types.specs.declared.names.Due.{Due}
 use Rattle.kube_types.specs.declared.names.Due.TheVariants as dues
 use Rattle.kube_types.specs.declared.parts.ClaimPhase.TheVariants as claims
@@ -8,11 +8,9 @@ use Rattle.kube_types.specs.declared.parts.Policy.TheVariants as policies
 use Rattle.kube_types.specs.declared.parts.VolumePhase.TheVariants as volumes
 use Rattle.kube_types.specs.declared.objects.Claim.{Claim as ClaimData}
 use Rattle.kube_types.specs.declared.objects.Class.{Class as ClassData}
-use Rattle.kube_types.specs.declared.objects.Pod.{Pod as PodData}
 use Rattle.kube_types.specs.declared.objects.Volume.{Volume as VolumeData}
 use Rattle.kube_types.specs.declared.objects.Object.{Object}
 use Rattle.kube_types.specs.declared.objects.Object.TheVariants.{Class, Node, Volume, Claim, Pod}
-use Rattle.kube_types.specs.Uids.{uid_of_serial}
 use Rattle.kube_types.specs.Bindings.{bound_by_controller, no_provisioner, provisioned_by, yes}
 use Rattle.call_types.specs.declared.setup.Setup.{Setup}
 use Rattle.binder_model.specs.Devices.{MountAt, no_devices}
@@ -20,7 +18,7 @@ use Rattle.binder_model.specs.Provisioning.{terms_for}
 use Rattle.binder_model.specs.World.{World, first_world}
 use Rattle.binder_model.specs.Due.{IsDue, IsSettled, IsFirstDue}
 use Rattle.model_laws.specs.Worked.{no_setup}
-use Rattle.model_examples.specs.Samples.{amount, a, c, other_c, volume_at, in_phase, with_reference, with_uid, naming, deleting, key_a, key_c, uid_c, name_c, ref_c, other_ref_c, taken_a, bound_a, released_a, completed_c, bound_c, fast, late, zone, n1, chosen_c, p, waiting_p, ending_p, uid_p, node_1}
+use Rattle.model_examples.specs.Samples.{amount, a, c, other_c, in_phase, with_reference, naming, deleting, key_a, key_c, uid_c, name_c, other_ref_c, taken_a, bound_a, released_a, completed_c, bound_c, fast, late, zone, n1, chosen_c, p, waiting_p, ending_p, uid_p, node_1}
 
 -- a pool of 10 gibibytes, also one for a zone alone
 abbrev pub pool_setup : Setup

@@ -1,6 +1,6 @@
 -- A history in which a mounted claim leaves: an agent takes the node with the empty name, on which each pod that is not
 -- scheduled would stand, and mounts. It is no run, since that pod is on no node. A choice of this project.
-use Rattle.std.specs.Prelude.{ℕ, ◌≡◌, true, List, [], ◌∷◌, Option, Some, None, codes}
+use Rattle.std.specs.Prelude.{ℕ, true, List, [], ◌∷◌, Some, None, codes}
 use Rattle.kube_types.specs.declared.parts.Kind.TheVariants as kinds
 use Rattle.kube_types.specs.declared.parts.VolumePhase.TheVariants as volumes
 use Rattle.kube_types.specs.declared.parts.VolumePhase.{VolumePhase}
@@ -8,7 +8,6 @@ use Rattle.kube_types.specs.declared.parts.ClaimPhase.TheVariants as claims
 use Rattle.kube_types.specs.declared.objects.Volume.{Volume as VolumeData}
 use Rattle.kube_types.specs.declared.objects.Claim.{Claim as ClaimData}
 use Rattle.kube_types.specs.declared.objects.Pod.{Pod as PodData}
-use Rattle.kube_types.specs.declared.objects.Object.{Object}
 use Rattle.kube_types.specs.declared.objects.Object.TheVariants.{Volume, Claim, Pod}
 use Rattle.kube_types.specs.Uids.{uid_of_serial}
 use Rattle.call_types.specs.declared.entry.Entry.{Entry}
@@ -50,38 +49,55 @@ pod_stands = record pod { meta = record pod.meta { uid = Some (uid_of_serial 7);
 
 abbrev pub e1 : Entry
 e1 = entry 1 seats.User (requests.Create (Volume (volume (codes "a") 5))) (replies.Done (Volume (a 1 volumes.Pending)))
+
 abbrev pub e2 : Entry
 e2 = entry 1 seats.User (requests.Create (Claim (claim (codes "c") 3))) (replies.Done (Claim (c 2)))
+
 abbrev pub e3 : Entry
 e3 = entry 5 seats.Binder (requests.List kinds.PersistentVolume None) (replies.Listed (Volume (a 1 volumes.Pending) ∷ []) 2)
+
 abbrev pub e4 : Entry
 e4 = entry 5 seats.Binder (requests.List kinds.PersistentVolumeClaim None) (replies.Listed (Claim (c 2) ∷ []) 2)
+
 abbrev pub e5 : Entry
 e5 = entry 5 seats.Binder (requests.Update (Volume (a_at 1 volumes.Pending)) (Some 1)) (replies.Done (Volume (a_at 3 volumes.Pending)))
+
 abbrev pub e6 : Entry
 e6 = entry 5 seats.Binder (requests.UpdateStatus (volume_key (codes "a")) (statuses.Volume volumes.Bound) (Some 3)) (replies.Done (Volume (a_at 4 volumes.Bound)))
+
 abbrev pub e7 : Entry
 e7 = entry 5 seats.Binder (requests.Update (Claim (completed_c 2)) (Some 2)) (replies.Done (Claim (completed_c 5)))
+
 abbrev pub e8 : Entry
 e8 = entry 5 seats.Binder (requests.UpdateStatus (claim_key (codes "default") (codes "c")) (statuses.Claim claims.Bound once (Some (amount 5))) (Some 5)) (replies.Done (Claim c_bound))
+
 abbrev pub e9 : Entry
 e9 = entry 1 seats.User (requests.Create (Pod pod)) (replies.Done (Pod pod_stands))
+
 abbrev pub e10 : Entry
 e10 = entry 9 seats.Agent (requests.TakeNode []) (replies.Epoch 1)
+
 abbrev pub e11 : Entry
 e11 = entry 9 seats.Agent (requests.List kinds.Pod None) (replies.Listed (Pod pod_stands ∷ []) 7)
+
 abbrev pub e12 : Entry
 e12 = entry 9 seats.Agent (requests.Get (claim_key (codes "default") (codes "c"))) (replies.Found (Claim c_bound))
+
 abbrev pub e13 : Entry
 e13 = entry 9 seats.Agent (requests.Get (volume_key (codes "a"))) (replies.Found (Volume (a_at 4 volumes.Bound)))
+
 abbrev pub e14 : Entry
 e14 = entry 9 seats.Agent (requests.Mount [] 1 (uid_of_serial 7) (uid_of_serial 2 ∷ [])) (replies.Mounted (record { pod = uid_of_serial 7; claims = uid_of_serial 2 ∷ [] } ∷ []))
+
 abbrev pub e15 : Entry
 e15 = entry 1 seats.User (requests.Delete (claim_key (codes "default") (codes "c")) None) (replies.Done (Claim c_deleted))
+
 abbrev pub e16 : Entry
 e16 = entry 8 seats.ClaimProtect (requests.List kinds.PersistentVolumeClaim None) (replies.Listed (Claim c_deleted ∷ []) 8)
+
 abbrev pub e17 : Entry
 e17 = entry 8 seats.ClaimProtect (requests.List kinds.Pod (Some (codes "default"))) (replies.Listed (Pod pod_stands ∷ []) 8)
+
 abbrev pub e18 : Entry
 e18 = entry 8 seats.ClaimProtect (requests.Update (Claim (c_loose 8)) (Some 8)) (replies.Left (Claim (c_loose 9)))
 

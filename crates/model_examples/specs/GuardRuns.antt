@@ -1,18 +1,14 @@
 -- What users may do to a volume that was released. A choice of this project.
-use Rattle.std.specs.Prelude.{ℕ, ◌≡◌, List, [], ◌∷◌, Option, Some, None, codes}
+use Rattle.std.specs.Prelude.{◌≡◌, [], ◌∷◌, Some, None}
 use Rattle.kube_types.specs.declared.names.Rule.TheVariants as rules
 use Rattle.kube_types.specs.declared.parts.Policy.TheVariants as policies
 use Rattle.kube_types.specs.declared.parts.VolumePhase.TheVariants as volumes
 use Rattle.kube_types.specs.declared.objects.Volume.{Volume as VolumeData}
 use Rattle.kube_types.specs.declared.objects.Object.TheVariants.{Volume}
-use Rattle.kube_types.specs.Bindings.{bound_by_controller, yes}
 use Rattle.call_types.specs.declared.edit.Edit.TheVariants as edits
-use Rattle.call_types.specs.declared.request.SeatKind.{SeatKind}
 use Rattle.call_types.specs.declared.request.SeatKind.TheVariants as seats
-use Rattle.call_types.specs.declared.request.Request.{Request}
 use Rattle.call_types.specs.declared.request.Request.TheVariants as requests
 use Rattle.call_types.specs.declared.reply.Refusal.TheVariants as refusals
-use Rattle.call_types.specs.declared.reply.Reply.{Reply}
 use Rattle.call_types.specs.declared.reply.Reply.TheVariants as replies
 use Rattle.binder_model.specs.World.{World, first_world}
 use Rattle.model_laws.specs.Worked.{Call, by, answers, no_setup}

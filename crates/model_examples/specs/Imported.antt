@@ -9,13 +9,12 @@ use Rattle.kube_types.specs.declared.parts.VolumePhase.TheVariants as volumes
 use Rattle.kube_types.specs.declared.uid.Uid.{Uid}
 use Rattle.kube_types.specs.declared.objects.Class.{Class as ClassData}
 use Rattle.kube_types.specs.declared.objects.Claim.{Claim as ClaimData}
-use Rattle.kube_types.specs.declared.objects.Meta.{Meta}
 use Rattle.kube_types.specs.declared.objects.Pod.{Pod as PodData}
 use Rattle.kube_types.specs.declared.objects.Volume.{Volume as VolumeData}
 use Rattle.kube_types.specs.declared.objects.Object.{Object}
 use Rattle.kube_types.specs.declared.objects.Object.TheVariants.{Class, Node, Volume, Claim, Pod}
 use Rattle.kube_types.specs.Uids.{uid_of_serial}
-use Rattle.kube_types.specs.Bindings.{pv_protection, pvc_protection}
+use Rattle.kube_types.specs.Bindings.{pv_protection}
 use Rattle.call_types.specs.declared.setup.Setup.{Setup}
 use Rattle.call_types.specs.declared.request.SeatKind.TheVariants as seats
 use Rattle.call_types.specs.declared.request.Request.TheVariants as requests
@@ -24,8 +23,8 @@ use Rattle.call_types.specs.declared.reply.Reply.{Reply}
 use Rattle.call_types.specs.declared.reply.Reply.TheVariants as replies
 use Rattle.binder_model.specs.Store.{first_moment}
 use Rattle.binder_model.specs.Imports.{import_fault, ImportsPass}
-use Rattle.binder_model.specs.World.{World, first_world, base, effect, reply_to}
-use Rattle.model_examples.specs.Samples.{amount, a, c, d, other_c, in_phase, with_reference, with_uid, naming, deleting, name_c, ref_c, taken_a, bound_a, released_a, completed_c, bound_c, fast, n1, p, waiting_p}
+use Rattle.binder_model.specs.World.{first_world, base, effect, reply_to}
+use Rattle.model_examples.specs.Samples.{amount, a, c, d, in_phase, with_reference, with_uid, naming, deleting, name_c, ref_c, taken_a, bound_a, released_a, bound_c, fast, n1, p, waiting_p}
 
 -- the import of the object after those before it
 abbrev pub FaultOf : List Object → Object → Option ImportFault → Type 0

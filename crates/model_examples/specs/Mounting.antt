@@ -1,6 +1,6 @@
 -- Where a node agent may mount a pod, and where it may not: cases that hold, and for each condition one that misses it
 -- alone. A choice of this project, as the row is. The newest exchange stands first.
-use Rattle.std.specs.Prelude.{ℕ, List, [], ◌∷◌, Option, Some, None, codes}
+use Rattle.std.specs.Prelude.{ℕ, List, [], ◌∷◌, Some, codes}
 use Rattle.kube_types.specs.declared.parts.Kind.TheVariants as kinds
 use Rattle.kube_types.specs.declared.parts.ClaimPhase.TheVariants as claims
 use Rattle.kube_types.specs.declared.uid.Uid.{Uid}
@@ -14,7 +14,7 @@ use Rattle.call_types.specs.declared.request.Request.{Request}
 use Rattle.call_types.specs.declared.request.Request.TheVariants as requests
 use Rattle.call_types.specs.declared.reply.Change.TheVariants as changes
 use Rattle.call_types.specs.declared.reply.Reply.TheVariants as replies
-use Rattle.binder_model.specs.ObjectKeys.{pod_key, claim_key}
+use Rattle.binder_model.specs.ObjectKeys.{pod_key}
 use Rattle.model_examples.specs.Samples.{Allows, Refuses, Exchange, heard, unheard, lists, tells_pod, finds, finds_none, watches, takes, node_1, node_2, a, with_uid, with_reference, other_ref_c, deleting, key_a, key_c, uid_c, bound_a, bound_c, p, waiting_p, ending_p, uid_p}
 
 abbrev pub mount : ℕ → List Uid → Request

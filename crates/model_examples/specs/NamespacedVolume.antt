@@ -1,6 +1,6 @@
 -- A history in which a volume stands in a namespace, is bound, and the completed claim names none: it is no run, since
 -- the volume is refused at its creation. Source: Kubernetes API, volumes, classes and nodes have no namespace.
-use Rattle.std.specs.Prelude.{ℕ, ◌≡◌, List, [], ◌∷◌, Option, Some, None, codes}
+use Rattle.std.specs.Prelude.{ℕ, ◌≡◌, List, [], ◌∷◌, Some, None, codes}
 use Rattle.kube_types.specs.declared.names.Field.TheVariants as fields
 use Rattle.kube_types.specs.declared.parts.Kind.TheVariants as kinds
 use Rattle.kube_types.specs.declared.parts.VolumePhase.{VolumePhase}
@@ -44,16 +44,22 @@ x_key = record { kind = kinds.PersistentVolume; namespace = codes "x"; name = co
 
 abbrev pub e1 : Entry
 e1 = entry 1 seats.User (requests.Create (Volume x_a)) (replies.Done (Volume (x_at 1 volumes.Pending)))
+
 abbrev pub e2 : Entry
 e2 = entry 1 seats.User (requests.Create (Claim (claim (codes "c") 3))) (replies.Done (Claim c))
+
 abbrev pub e3 : Entry
 e3 = entry 5 seats.Binder (requests.List kinds.PersistentVolume None) (replies.Listed (Volume (x_at 1 volumes.Pending) ∷ []) 2)
+
 abbrev pub e4 : Entry
 e4 = entry 5 seats.Binder (requests.List kinds.PersistentVolumeClaim None) (replies.Listed (Claim c ∷ []) 2)
+
 abbrev pub e5 : Entry
 e5 = entry 5 seats.Binder (requests.Update (Volume (x_for 1 volumes.Pending)) (Some 1)) (replies.Done (Volume (x_for 3 volumes.Pending)))
+
 abbrev pub e6 : Entry
 e6 = entry 5 seats.Binder (requests.UpdateStatus x_key (statuses.Volume volumes.Bound) (Some 3)) (replies.Done (Volume (x_for 4 volumes.Bound)))
+
 abbrev pub e7 : Entry
 e7 = entry 5 seats.Binder (requests.Update (Claim (completed_c 2)) (Some 2)) (replies.Done (Claim (completed_c 5)))
 

@@ -1,7 +1,7 @@
 -- Where the provisioner may ask for data and make a volume over it, and where it may not: for each row cases that
 -- hold, and for each of its conditions one that misses it alone. A choice of this project, as the rows are.
 -- The newest exchange stands first.
-use Rattle.std.specs.Prelude.{ℕ, true, List, [], ◌∷◌, Option, Some, None, codes}
+use Rattle.std.specs.Prelude.{ℕ, List, [], ◌∷◌, Option, Some, None, codes}
 use Rattle.plain_data.specs.Pairs.{Pair}
 use Rattle.kube_types.specs.declared.parts.Kind.TheVariants as kinds
 use Rattle.kube_types.specs.declared.parts.Policy.TheVariants as policies
@@ -10,7 +10,6 @@ use Rattle.kube_types.specs.declared.objects.Class.{Class as ClassData}
 use Rattle.kube_types.specs.declared.objects.Claim.{Claim as ClaimData}
 use Rattle.kube_types.specs.declared.objects.Node.{Node as NodeData}
 use Rattle.kube_types.specs.declared.objects.DataId.{DataId}
-use Rattle.kube_types.specs.declared.objects.Selector.{Selector}
 use Rattle.kube_types.specs.declared.objects.Volume.{Volume as VolumeData}
 use Rattle.kube_types.specs.declared.objects.Object.TheVariants.{Volume}
 use Rattle.kube_types.specs.Uids.{uid_of_serial}
@@ -21,7 +20,7 @@ use Rattle.call_types.specs.declared.request.Request.TheVariants as requests
 use Rattle.call_types.specs.declared.reply.Refusal.TheVariants as refusals
 use Rattle.call_types.specs.declared.reply.Reply.TheVariants as replies
 use Rattle.binder_model.specs.Provisioning.{data_name, provisioned_volume}
-use Rattle.model_examples.specs.Samples.{Allows, Refuses, Exchange, heard, unheard, lists, tells_claim, tells_class, tells_node, amount, c, claim_at, with_uid, naming, uid_c, completed_c, fast, late, zone, n1, chosen_c, deleting}
+use Rattle.model_examples.specs.Samples.{Allows, Refuses, Exchange, heard, unheard, lists, tells_claim, tells_class, tells_node, amount, c, with_uid, naming, uid_c, completed_c, fast, late, zone, n1, chosen_c, deleting}
 
 -- Provision
 

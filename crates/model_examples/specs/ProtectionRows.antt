@@ -1,7 +1,7 @@
 -- Where the protection controllers may add and drop their finalizers, and where they may not: for each row cases that
 -- hold, and for each of its conditions one that misses it alone. A choice of this project, as the rows are.
 -- The newest exchange stands first.
-use Rattle.std.specs.Prelude.{ℕ, List, [], ◌∷◌, Option, Some, None, codes}
+use Rattle.std.specs.Prelude.{ℕ, List, [], ◌∷◌, Some, None, codes}
 use Rattle.kube_types.specs.declared.parts.Kind.TheVariants as kinds
 use Rattle.kube_types.specs.declared.parts.Policy.TheVariants as policies
 use Rattle.kube_types.specs.declared.objects.Claim.{Claim as ClaimData}
@@ -16,7 +16,7 @@ use Rattle.call_types.specs.declared.request.Request.{Request}
 use Rattle.call_types.specs.declared.request.Request.TheVariants as requests
 use Rattle.call_types.specs.declared.reply.Change.TheVariants as changes
 use Rattle.call_types.specs.declared.reply.Reply.TheVariants as replies
-use Rattle.model_examples.specs.Samples.{Allows, Refuses, Exchange, heard, unheard, lists, lists_in, tells_volume, tells_claim, tells_pod, a, c, bound_a, with_uid, claim_at, deleting, p, waiting_p}
+use Rattle.model_examples.specs.Samples.{Allows, Refuses, Exchange, heard, unheard, lists, lists_in, tells_volume, tells_claim, a, c, bound_a, with_uid, claim_at, deleting, p, waiting_p}
 
 abbrev pub own_mark : List ℕ
 own_mark = codes "x/y"

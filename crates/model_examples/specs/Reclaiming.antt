@@ -1,11 +1,10 @@
 -- Where the reclaimer may erase data, write Failed, delete a volume and clear a node, and where it may not: for each
 -- row cases that hold, and for each of its conditions one that misses it alone. A choice of this project, as the rows
 -- are. The newest exchange stands first.
-use Rattle.std.specs.Prelude.{ℕ, true, false, List, [], ◌∷◌, Option, Some, None, codes}
+use Rattle.std.specs.Prelude.{ℕ, true, false, List, [], ◌∷◌, Some, None, codes}
 use Rattle.kube_types.specs.declared.parts.Kind.TheVariants as kinds
 use Rattle.kube_types.specs.declared.parts.Policy.TheVariants as policies
 use Rattle.kube_types.specs.declared.parts.VolumePhase.TheVariants as volumes
-use Rattle.kube_types.specs.declared.key.Key.{Key}
 use Rattle.kube_types.specs.declared.uid.Uid.{Uid}
 use Rattle.kube_types.specs.declared.objects.DataId.{DataId}
 use Rattle.kube_types.specs.declared.objects.Claim.{Claim as ClaimData}
@@ -21,9 +20,9 @@ use Rattle.call_types.specs.declared.request.Request.TheVariants as requests
 use Rattle.call_types.specs.declared.reply.Refusal.TheVariants as refusals
 use Rattle.call_types.specs.declared.reply.Reply.{Reply}
 use Rattle.call_types.specs.declared.reply.Reply.TheVariants as replies
-use Rattle.binder_model.specs.ObjectKeys.{claim_key, volume_key}
+use Rattle.binder_model.specs.ObjectKeys.{volume_key}
 use Rattle.binder_model.specs.Provisioning.{data_name}
-use Rattle.model_examples.specs.Samples.{Allows, Refuses, Exchange, heard, unheard, lists, tells_volume, tells_claim, tells_node, finds, finds_none, amount, a, c, in_phase, volume_at, claim_at, with_reference, with_uid, key_a, key_c, uid_c, name_c, bound_a, released_a, n1, chosen_c, deleting}
+use Rattle.model_examples.specs.Samples.{Allows, Refuses, Exchange, heard, unheard, lists, tells_volume, tells_claim, tells_node, finds, amount, a, c, in_phase, volume_at, claim_at, with_reference, with_uid, key_a, key_c, uid_c, name_c, released_a, n1, chosen_c, deleting}
 
 -- Erase
 

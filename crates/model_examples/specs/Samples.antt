@@ -22,7 +22,6 @@ use Rattle.kube_types.specs.declared.objects.Volume.{Volume as VolumeData}
 use Rattle.kube_types.specs.declared.objects.Claim.{Claim as ClaimData}
 use Rattle.kube_types.specs.declared.objects.Object.{Object}
 use Rattle.kube_types.specs.declared.objects.Object.TheVariants.{Class, Node, Volume, Claim, Pod}
-use Rattle.kube_types.specs.Keys.{meta_of}
 use Rattle.kube_types.specs.Uids.{uid_of_serial}
 use Rattle.kube_types.specs.Bindings.{bind_completed, bound_by_controller, selected_node, pv_protection, pvc_protection, yes}
 use Rattle.call_types.specs.declared.entry.Entry.{Entry}
@@ -35,7 +34,6 @@ use Rattle.call_types.specs.declared.reply.Reply.{Reply}
 use Rattle.call_types.specs.declared.reply.Reply.TheVariants as replies
 use Rattle.binder_model.specs.Store.{no_modes, first_moment}
 use Rattle.binder_model.specs.ObjectKeys.{claim_key, volume_key}
-use Rattle.binder_model.specs.BindWrites.{ref_to}
 use Rattle.binder_model.specs.Licence.{Licensed}
 
 -- what a seat asked and was answered

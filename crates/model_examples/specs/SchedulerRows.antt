@@ -1,6 +1,6 @@
 -- Where the scheduler's volume binding may write, and where it may not: for each row cases that hold, and for each of
 -- its conditions one that misses it alone. A choice of this project, as the rows are. The newest exchange stands first.
-use Rattle.std.specs.Prelude.{ℕ, List, [], ◌∷◌, ◌++◌, Option, Some, None, codes}
+use Rattle.std.specs.Prelude.{List, [], ◌∷◌, ◌++◌, Some, None, codes}
 use Rattle.kube_types.specs.declared.parts.Kind.TheVariants as kinds
 use Rattle.kube_types.specs.declared.objects.Class.{Class as ClassData}
 use Rattle.kube_types.specs.declared.objects.Claim.{Claim as ClaimData}
@@ -17,7 +17,7 @@ use Rattle.kube_types.specs.declared.key.Key.{Key}
 use Rattle.kube_types.specs.declared.objects.Pod.{Pod as PodData}
 use Rattle.binder_model.specs.ObjectKeys.{pod_key}
 use Rattle.binder_model.specs.Provisioning.{terms_for}
-use Rattle.model_examples.specs.Samples.{tells_pod, key_c, uid_p, node_1, claim_at, volume_at, bound_a, bound_c, p, waiting_p, Allows, Refuses, Exchange, unheard, lists, tells_volume, tells_claim, tells_class, tells_node, tells_both, a, c, naming, with_reference, with_uid, name_c, taken_a, completed_c, fast, late, n1, chosen_c}
+use Rattle.model_examples.specs.Samples.{tells_pod, key_c, uid_p, node_1, volume_at, bound_a, bound_c, p, waiting_p, Allows, Refuses, Exchange, lists, tells_volume, tells_claim, tells_class, tells_node, tells_both, a, c, naming, with_uid, taken_a, fast, late, n1, chosen_c}
 
 -- ClaimRef
 

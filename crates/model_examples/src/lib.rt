@@ -17,6 +17,7 @@ ghost use Rattle.model_examples.specs.ProtectionRows.{AddClaimGuardExamples, Add
 ghost use Rattle.model_examples.specs.ReadingRows.{AgentGetExamples, BinderGetExamples, FollowsExamples, ListExamples, OpsGetExamples, OtherGetExamples, WatchExamples};
 ghost use Rattle.model_examples.specs.Reclaiming.{ClearNodeExamples, DeleteVolumeExamples, EraseExamples, FailedExamples};
 ghost use Rattle.model_examples.specs.Refusals.{NoRowExamples, RefusingRuleExamples, RulesOfRows, TwoKindsExamples};
+ghost use Rattle.model_examples.specs.SafePoints.{BindingExamples, ErasedExamples, LeavingExamples, SafeExamples};
 ghost use Rattle.model_examples.specs.SchedulerRows.{BindPodExamples, SchedulerClaimRefExamples, SelectNodeExamples};
 
 /// The first write of a binding.
@@ -311,4 +312,28 @@ pub fn import_fault_examples()
 #[tactic(auto, using(crate::proofs::Imported::first_world_examples))]
 pub fn first_world_examples()
     ensures { FirstWorldExamples }
+{}
+
+/// Claims that count, and Bound volumes of their own.
+#[tactic(auto, using(crate::proofs::SafePoints::binding_examples))]
+pub fn binding_examples()
+    ensures { BindingExamples }
+{}
+
+/// Volumes and claims that may leave, and that may not.
+#[tactic(auto, using(crate::proofs::SafePoints::leaving_examples))]
+pub fn leaving_examples()
+    ensures { LeavingExamples }
+{}
+
+/// Data that may be erased, and that may not.
+#[tactic(auto, using(crate::proofs::SafePoints::erased_examples))]
+pub fn erased_examples()
+    ensures { ErasedExamples }
+{}
+
+/// Each point of a history.
+#[tactic(auto, using(crate::proofs::SafePoints::safe_examples))]
+pub fn safe_examples()
+    ensures { SafeExamples }
 {}
