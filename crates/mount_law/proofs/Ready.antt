@@ -21,6 +21,7 @@ use Rattle.world_invariant.proofs.Came.{row_was}
 use Rattle.world_invariant.specs.Good.{Good}
 use Rattle.std.proofs.lemmas.Bool.{and_parts}
 use Rattle.kube_types.proofs.SameKeys.{same_key-Decides}
+use Rattle.world_invariant.proofs.Known.{get_reply}
 
 get_of : (key : Key) (request : Request) → is_get_of key request ≡ true → request ≡ requests.Get key
 get_of key (requests.Get asked) e = ap (λ (k : Key). requests.Get k) ((same_key-Decides asked key).0 e)
@@ -42,8 +43,7 @@ found_is (Some y) o e = ap (λ r. Some (of r)) e
 pub found_row : (setup : Setup) (e : Entry) (past : List Entry) → Good setup (e ∷ past) → (key : Key) (o : Object) → is_get_of key e.request ≡ true
     → e.reply ≡ Found o → row_at key (world setup past).store.rows ≡ Some o
 found_row setup e past g key o q r =
-    let asked = get_of key e.request q in
-    found_is (row_at key (world setup past).store.rows) o (sym (gets_tell_what_stands setup (world setup past) e.kind key) ∙ ap (λ x. reply_to (effect setup (world setup past) e.kind x)) (sym asked) ∙ sym g.2 ∙ r)
+    found_is (row_at key (world setup past).store.rows) o (sym (get_reply setup e past g key (get_of key e.request q)) ∙ r)
 
 -- the object was, under the key
 pub record WasAt (setup : Setup) (past : List Entry) (key : Key) (o : Object) : Type 0 where

@@ -26,6 +26,8 @@ use Rattle.world_invariant.specs.Invariant.{Invariant, IsReferred, IsOld}
 use Rattle.world_invariant.specs.Good.{TellingsAreTrue, Good, IsTrue}
 use Rattle.world_invariant.proofs.Came.{row_was, stood, older}
 use Rattle.world_invariant.proofs.KeptBindings.{kept_not_there, refers_old, other_stays}
+use Rattle.kube_types.specs.declared.key.Key.{Key}
+use Rattle.call_types.specs.declared.request.Request.TheVariants as requests
 
 pub invariant_of : (setup : Setup) (past : List Entry) → Good setup past → Invariant setup past
 invariant_of setup [] g = g
@@ -98,11 +100,21 @@ elsewhere setup past mine inv t name uid h k d there its =
     let c : IsElsewhere name uid r.0 = r.2 in
     other_stays name r.0 d (inv.later (Claim r.0) k (Claim d) r.1 there (its ∙ sym c.claim)).keeps (record { named = c.named; other = c.other })
 
--- a claim that was read gone after it was referred to is gone for good
--- what the answer of a Get tells is what stands there
-pub live : (x : Option Object) (P : Option Object → Type 0) → IsLiveAnswer (found x) P → P x
+-- a live telling is true of this very moment
+
+pub get_reply : (setup : Setup) (e : Entry) (past : List Entry) → Good setup (e ∷ past) → (key : Key) → e.request ≡ requests.Get key
+    → e.reply ≡ found (row_at key (world setup past).store.rows)
+get_reply setup e past g key asked = g.2 ∙ ap (λ x. reply_to (effect setup (world setup past) e.kind x)) asked ∙ gets_tell_what_stands setup (world setup past) e.kind key
+
+live : (x : Option Object) (P : Option Object → Type 0) → IsLiveAnswer (found x) P → P x
 live None P h = h
 live (Some o) P h = h
+
+pub live_told : (setup : Setup) (e : Entry) (past : List Entry) → Good setup (e ∷ past) → (key : Key) (P : Option Object → Type 0) → TellsLive key P e
+    → P (row_at key (world setup past).store.rows)
+live_told setup e past g key P q = live (row_at key (world setup past).store.rows) P (subst (λ (x : Reply). IsLiveAnswer x P) (get_reply setup e past g key q.1) q.2)
+
+-- a claim that was read gone after it was referred to is gone for good
 
 -- no claim of the UID stood at its key, so none stands anywhere
 read_gone : (setup : Setup) (past : List Entry) → Invariant setup past → (r : Ref) (uid : Uid) → IsReferred setup past r uid
@@ -113,33 +125,26 @@ read_gone setup past inv r uid n gone k c there its =
     let h : IsGone uid (Some (Claim c)) = subst (IsGone uid) at gone in
     h its
 
+-- no claim has the UID, and no later write gives it
+abbrev pub IsGoneForGood : Setup → List Entry → Uid → Type 0
+IsGoneForGood setup past uid = IsNotThere (world setup past) uid × IsOld (world setup past).store.version (Some uid)
+
 pub gone_read : (setup : Setup) (past : List Entry) → Good setup past → (seat : ℕ) (o : VolumeData) (r : Ref) (uid : Uid) → r.uid ≡ Some uid
-    → WasReadGone (own seat past) o r uid
-    → IsNotThere (world setup past) uid × IsOld (world setup past).store.version (Some uid)
+    → WasReadGone (own seat past) o r uid → IsGoneForGood setup past uid
 gone_read setup [] g seat o r uid known h = absurd h
 gone_read setup (e ∷ past) g seat o r uid known h = by (gone_read setup past g.0 seat o r uid known) (e.seat == seat) h
   where
-    on : IsNotThere (world setup past) uid → IsOld (world setup past).store.version (Some uid)
-        → IsNotThere (world setup (e ∷ past)) uid × IsOld (world setup (e ∷ past)).store.version (Some uid)
-    on gone old = (kept_not_there setup e past g.1 uid old gone, older _ _ (Some uid) g.1.rises old)
+    on : IsGoneForGood setup past uid → IsGoneForGood setup (e ∷ past) uid
+    on gone = (kept_not_there setup e past g.1 uid gone.1 gone.0, older _ _ (Some uid) g.1.rises gone.1)
 
-    rest : (WasReadGone (own seat past) o r uid → IsNotThere (world setup past) uid × IsOld (world setup past).store.version (Some uid))
-        → WasReadGone (own seat past) o r uid → IsNotThere (world setup (e ∷ past)) uid × IsOld (world setup (e ∷ past)).store.version (Some uid)
-    rest f h = let x = f h in on x.0 x.1
-
-    here : TellsLive (claim_key r.namespace r.name) (IsGone uid) e → ToldVolume (IsReferring o r) (own seat past)
-        → IsNotThere (world setup (e ∷ past)) uid × IsOld (world setup (e ∷ past)).store.version (Some uid)
+    here : TellsLive (claim_key r.namespace r.name) (IsGone uid) e → ToldVolume (IsReferring o r) (own seat past) → IsGoneForGood setup (e ∷ past) uid
     here q p =
         let inv = invariant_of setup past g.0 in
         let t = told_volume setup past (own seat past) (told_was setup past g.0 seat) (IsReferring o r) p in
-        let refers : Refers t.0 r uid = record { is = t.2.refers; known = known } in
-        let key = claim_key r.namespace r.name in
-        let reply : e.reply ≡ found (row_at key (world setup past).store.rows) = g.2 ∙ ap (λ x. reply_to (effect setup (world setup past) e.kind x)) q.1 ∙ gets_tell_what_stands setup (world setup past) e.kind key in
-        let gone = live (row_at key (world setup past).store.rows) (IsGone uid) (subst (λ (x : Reply). IsLiveAnswer x (IsGone uid)) reply q.2) in
-        on (read_gone setup past inv r uid (inv.refers t.0 r uid t.1 refers) gone) (refers_old setup past inv t.0 r uid t.1 refers)
+        let refers = inv.refers t.0 r uid t.1 (record { is = t.2.refers; known = known }) in
+        on (read_gone setup past inv r uid refers (live_told setup e past g (claim_key r.namespace r.name) (IsGone uid) q), refers.old)
 
-    by : (WasReadGone (own seat past) o r uid → IsNotThere (world setup past) uid × IsOld (world setup past).store.version (Some uid)) → (b : Bool)
-        → WasReadGone (if b then e ∷ own seat past else own seat past) o r uid
-        → IsNotThere (world setup (e ∷ past)) uid × IsOld (world setup (e ∷ past)).store.version (Some uid)
-    by f true h = elim h [ inl now ↦ here now.0 now.1 | inr more ↦ rest f more ]
-    by f false h = rest f h
+    by : (WasReadGone (own seat past) o r uid → IsGoneForGood setup past uid) → (b : Bool)
+        → WasReadGone (if b then e ∷ own seat past else own seat past) o r uid → IsGoneForGood setup (e ∷ past) uid
+    by f true h = elim h [ inl now ↦ here now.0 now.1 | inr more ↦ on (f more) ]
+    by f false h = on (f h)
