@@ -1,6 +1,7 @@
 -- What is due, computed.
 use Rattle.std.proofs.Common.{sym, refl, ap, subst, inl, inr, true≢false, ◌∙◌}
-use Rattle.std.specs.Prelude.{ℕ, zero, suc, ◌≡◌, ◌≢◌, Bool, true, false, List, [], ◌∷◌, Option, Some, None, is_none}
+use Rattle.std.specs.Prelude.{ℕ, zero, suc, ◌≡◌, ◌≢◌, Bool, true, false, List, [], ◌∷◌, Option, Some, None, is_none, bytes_eq, if◌then◌else◌}
+use Rattle.std.proofs.lemmas.Slice.Eq.{bytes_eq-Decides}
 use Rattle.std.specs.declared.cmp.Ordering.{Ordering}
 use Rattle.std.specs.declared.cmp.Ordering.TheVariants.{Less, Greater}
 use Rattle.kube_types.specs.declared.names.Due.{Due}
@@ -9,17 +10,19 @@ use Rattle.kube_types.specs.declared.key.Key.{Key}
 use Rattle.kube_types.specs.declared.objects.Volume.{Volume as VolumeData}
 use Rattle.kube_types.specs.declared.objects.Object.{Object}
 use Rattle.kube_types.specs.declared.objects.Object.TheVariants.{Class, Node, Volume, Claim, Pod}
-use Rattle.kube_types.specs.Keys.{key_of, key_cmp}
-use Rattle.kube_types.proofs.KeyOrder.{row_at_key}
-use Rattle.binder_model.specs.ObjectKeys.{node_key}
+use Rattle.kube_types.specs.Keys.{key_of, key_cmp, row_at}
+use Rattle.kube_types.proofs.KeyOrder.{row_at_key, row_at-put_row}
+use Rattle.kube_types.specs.Uids.{uid_text}
+use Rattle.binder_model.specs.ObjectKeys.{node_key, volume_key}
 use Rattle.binder_model.specs.BindWrites.{next_write, claim_write}
 use Rattle.binder_model.specs.BinderDue.{volume_due, reference_due, referred_due, claim_with, claim_due, named_due, completed_due}
+use Rattle.binder_model.specs.Provisioning.{data_name}
 use Rattle.binder_model.specs.Matching.{IsCandidate, match_cmp}
 use Rattle.binder_model.specs.Choice.{Share, TakesVolume, IsProvisioned, AreShares}
 use Rattle.binder_model.specs.Due.{or_due, IsDue, CanPrepare, shares_are_served}
 use Rattle.model_laws.specs.Worked.{no_setup}
-use Rattle.model_examples.specs.Samples.{late, a, c, n1, key_a, waiting_p}
-use Rattle.model_examples.specs.DueActions.{with_rows, small_setup, searched, pending_a, done_rows, two_rows, VolumeDueExamples, ReclaimDueExamples, ClaimDueExamples, ProvisionDueExamples, PodDueExamples, PrepareDueExamples, SettledExamples}
+use Rattle.model_examples.specs.Samples.{fast, uid_c, late, a, c, n1, key_a, waiting_p}
+use Rattle.model_examples.specs.DueActions.{pvc_volume, with_rows, small_setup, searched, pending_a, done_rows, two_rows, VolumeDueExamples, ReclaimDueExamples, ClaimDueExamples, ProvisionDueExamples, PodDueExamples, PrepareDueExamples, SettledExamples}
 use Rattle.model_examples.proofs.Tellings.{IsIn, one, differ, sole, found_in, node_in}
 
 pub volume_due_examples : VolumeDueExamples
@@ -83,6 +86,13 @@ claim_due_examples = record {
   lost_where_volume_is_of_other = refl;
 }
 
+-- the name of the data is itself
+itself : bytes_eq (uid_text uid_c) (uid_text uid_c) ≡ true
+itself = (bytes_eq-Decides (uid_text uid_c) (uid_text uid_c)).1 refl
+
+stands : row_at (volume_key (data_name uid_c)) (Class fast ∷ Volume pvc_volume ∷ Claim c ∷ []) ≡ Some (Volume pvc_volume)
+stands = row_at-put_row (Volume pvc_volume) (Class fast ∷ Claim c ∷ [])
+
 pub provision_due_examples : ProvisionDueExamples
 unfolding or_due volume_due reference_due referred_due claim_with claim_due named_due completed_due next_write claim_write
 provision_due_examples = record {
@@ -99,6 +109,10 @@ provision_due_examples = record {
   clear_where_node_is_absent = refl;
   clear_where_pool_is_small = refl;
   clear_where_pool_is_far = refl;
+  provision_where_data_stand = rw itself refl;
+  no_provision_where_data_were_erased = refl;
+  no_clear_where_data_stand = rw itself refl;
+  no_provision_where_volume_stands = sym (ap (λ o. if is_none o then Some dues.Provision else None) stands);
   no_clear_without_delay = refl;
 }
 

@@ -19,7 +19,7 @@ use Rattle.binder_model.specs.ObjectKeys.{volume_key}
 use Rattle.binder_model.specs.BindWrites.{is_claim_bound}
 use Rattle.binder_model.specs.AgentLicence.{MayMount, IsReadyPod, WasShownReady, IsReadReady, IsPodOn, last_get}
 use Rattle.model_examples.specs.Samples.{Exchange, seat_of, lists, tells_pod, finds, finds_none, takes, node_1, node_2, a, key_a, key_c, uid_c, bound_a, bound_c, p, waiting_p, ending_p, uid_p}
-use Rattle.model_examples.specs.Mounting.{reads, reads_claim, reads_volume, watches_p, watches_end, watches_next, MountOrderExamples, other_pod, elsewhere_pod, deleting_c, unguarded_c, uncompleted_c, pending_c, lost_c, next_c, bound_for_other, pod_of_two, MountExamples}
+use Rattle.model_examples.specs.Mounting.{stale_list, reads, reads_claim, reads_volume, watches_p, watches_end, watches_next, MountOrderExamples, other_pod, elsewhere_pod, deleting_c, unguarded_c, uncompleted_c, pending_c, lost_c, next_c, bound_for_other, pod_of_two, MountExamples}
 use Rattle.model_examples.proofs.Tellings.{differ, neither, sole, own_kind}
 
 abbrev mine : List Exchange → List Entry
@@ -89,11 +89,12 @@ is_refused r = false
 
 pub mount_examples : MountExamples
 mount_examples = record {
+  pod_of_other_uid_in_the_list_is_refused = λ l. neither (λ h. sole h.1.1) (neither (λ h. sole h.1.1) (neither (λ h. neither (λ r. differ (λ u. is_uid u (uid_of_serial 8)) r.on_node.same refl refl) (λ x. x) h.1.1) (neither (λ h. neither (λ t. true≢false (sym t.1)) (λ x. x) h.0) (λ h. h)))) l.1.shown;
   other_pod_is_refused = λ l. differ (λ u. is_uid u (uid_of_serial 8)) (shown bound_a bound_c other_pod (uid_c ∷ []) l.1).on_node.same refl refl;
   pod_on_other_node_is_refused = λ l. differ (λ n. bytes_eq n node_2) (shown bound_a bound_c elsewhere_pod (uid_c ∷ []) l.1).on_node.placed refl refl;
   waiting_pod_on_node_without_name_is_refused = λ l. neither (λ h. sole h.1.1) (neither (λ h. sole h.1.1) (neither (λ h. unscheduled (sole h.1.1)) (λ h. h))) l.1.shown;
   deleting_pod_is_refused = λ l. ends (shown bound_a bound_c ending_p (uid_c ∷ []) l.1);
-  claim_of_other_uid_is_refused = λ l. differ (λ u. is_uid u (uid_of_serial 9)) (ready bound_a next_c refl l.1).same refl refl;
+  claim_of_other_uid_is_refused = λ l. differ (λ u. is_uid u (uid_of_serial 9)) (ready bound_for_other next_c refl l.1).same refl refl;
   deleting_claim_is_refused = λ l. true≢false (ready bound_a deleting_c refl l.1).staying;
   unprotected_claim_is_refused = λ l. true≢false (sym (ready bound_a unguarded_c refl l.1).guarded);
   claim_before_completion_is_refused = λ l. true≢false (sym (ready bound_a uncompleted_c refl l.1).completed);

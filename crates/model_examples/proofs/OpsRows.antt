@@ -23,7 +23,7 @@ use Rattle.binder_model.specs.Provisioning.{data_name, provisioned_volume, is_wa
 use Rattle.binder_model.specs.Told.{SomeOf, ToldClaim, After, IsNewest}
 use Rattle.binder_model.specs.OpsLicence.{AreLabels, MayProvision, MayCreate, TellsData}
 use Rattle.model_examples.specs.Samples.{Exchange, entry_of, seat_of, unheard, lists, tells_claim, tells_class, amount, c, naming, uid_c, fast, late, zone, n1, chosen_c}
-use Rattle.model_examples.specs.OpsRows.{tells_three, ProvisionExamples, no_uid_c, deleting_c, selecting_c, undone_c, other_class, moved_class, idle_class, CreateVolumeExamples, id_1, id_2, gives, pool_pair, kept_volume, exhausted}
+use Rattle.model_examples.specs.OpsRows.{next_c, tells_three, ProvisionExamples, no_uid_c, deleting_c, selecting_c, undone_c, other_class, moved_class, idle_class, CreateVolumeExamples, id_1, id_2, gives, pool_pair, kept_volume, exhausted}
 use Rattle.model_examples.proofs.Tellings.{differ, neither, sole, own_kind, newest_claim, newest_class, newest_node, told_claims, claims_in, classes_in, told_objects}
 
 abbrev mine : List Exchange → List Entry
@@ -242,6 +242,7 @@ create_volume_examples = record {
   other_topology_is_refused = λ l. other_topology (given (gives uid_c id_1 None) (made_by id_1 pool_pair) l.1 refl refl);
   other_policy_is_refused = λ l. differ (λ v. not (is_delete v.policy)) (given (gives uid_c id_1 None) kept_volume l.1 refl refl).row.object refl refl;
   claim_without_uid_is_refused = λ l. differ is_none (makes_no_uid l.1).known refl refl;
+  claim_of_other_uid_now_is_refused = λ l. replaced l.1;
   claim_told_gone_is_refused = λ l. differ is_none (makes (gives uid_c id_1 None ∷ lists kinds.PersistentVolumeClaim [] 9 ∷ tells_three c fast n1) (made_by id_1 None) l.1 refl refl).newest refl refl;
   class_never_told_is_refused = λ l. classes_made (gives uid_c id_1 None ∷ tells_claim c ∷ []) (made_by id_1 None) l.1;
   older_telling_of_the_class_is_refused = λ l. older_class l.1;
@@ -266,6 +267,16 @@ create_volume_examples = record {
     makes_no_uid row = makes_of (mine (gives uid_c id_1 None ∷ tells_three no_uid_c fast n1)) (provisioned_volume no_uid_c uid_c fast id_1 None) row no_uid_c fast
         (sole (claims_made (gives uid_c id_1 None ∷ tells_three no_uid_c fast n1) (provisioned_volume no_uid_c uid_c fast id_1 None) row))
         (sole (classes_made (gives uid_c id_1 None ∷ tells_three no_uid_c fast n1) (provisioned_volume no_uid_c uid_c fast id_1 None) row))
+
+    replaced : MayCreate (mine (gives uid_c id_1 None ∷ tells_claim next_c ∷ tells_three c fast n1)) (provisioned_volume next_c uid_c fast id_1 None) → ⊥
+    replaced row =
+        let k = sole (classes_made (gives uid_c id_1 None ∷ tells_claim next_c ∷ tells_three c fast n1) (provisioned_volume next_c uid_c fast id_1 None) row) in
+        neither (λ e. other_uid (makes_of (mine (gives uid_c id_1 None ∷ tells_claim next_c ∷ tells_three c fast n1)) (provisioned_volume next_c uid_c fast id_1 None) row next_c fast e k))
+        (neither (λ e. differ (is_version 9) (makes_of (mine (gives uid_c id_1 None ∷ tells_claim next_c ∷ tells_three c fast n1)) (provisioned_volume next_c uid_c fast id_1 None) row c fast e k).newest refl refl) (λ h. h))
+        (claims_made (gives uid_c id_1 None ∷ tells_claim next_c ∷ tells_three c fast n1) (provisioned_volume next_c uid_c fast id_1 None) row)
+      where
+        other_uid : Makes (mine (gives uid_c id_1 None ∷ tells_claim next_c ∷ tells_three c fast n1)) (provisioned_volume next_c uid_c fast id_1 None) next_c fast → ⊥
+        other_uid r = neither (λ h. names_apart (sym (h.0.1.0 ∙ ap (λ u. data_name (unwrap_or u uid_c)) (sym r.known)))) (neither (λ h. h.0.1) (neither (λ h. h.0.1) (neither (λ h. h.0.1) (neither (λ h. h.0.1) (λ h. h))))) r.given
 
     older_class : MayCreate (mine (gives uid_c id_1 None ∷ tells_class moved_class ∷ tells_three c fast n1)) (made_by id_1 None) → ⊥
     older_class row =

@@ -1,6 +1,6 @@
 -- What is due for an object of a small world: each action once, and for each of its conditions a world that misses it.
 -- Source: as for the single actions; a choice of this project.
-use Rattle.std.specs.Prelude.{◌*◌, ◌^◌, List, [], ◌∷◌, Option, Some, None, codes}
+use Rattle.std.specs.Prelude.{◌*◌, ◌^◌, true, false, List, [], ◌∷◌, Option, Some, None, codes}
 use Rattle.kube_types.specs.declared.names.Due.{Due}
 use Rattle.kube_types.specs.declared.names.Due.TheVariants as dues
 use Rattle.kube_types.specs.declared.parts.ClaimPhase.TheVariants as claims
@@ -14,7 +14,7 @@ use Rattle.kube_types.specs.declared.objects.Object.TheVariants.{Class, Node, Vo
 use Rattle.kube_types.specs.Bindings.{bound_by_controller, no_provisioner, provisioned_by, yes}
 use Rattle.call_types.specs.declared.setup.Setup.{Setup}
 use Rattle.binder_model.specs.Devices.{MountAt, no_devices}
-use Rattle.binder_model.specs.Provisioning.{terms_for}
+use Rattle.binder_model.specs.Provisioning.{data_name, terms_for}
 use Rattle.binder_model.specs.World.{World, first_world}
 use Rattle.binder_model.specs.Due.{IsDue, IsSettled, IsFirstDue}
 use Rattle.model_laws.specs.Worked.{no_setup}
@@ -163,6 +163,16 @@ selecting_c = record c { selector = Some (record { labels = zone; exprs = [] }) 
 abbrev pub idle_class : ClassData
 idle_class = record fast { provisioner = no_provisioner }
 
+-- the volume that a provisioner would make, under another class; and the data, where they were given before
+abbrev pub pvc_volume : VolumeData
+pvc_volume = record pending_a { meta = record pending_a.meta { name = data_name uid_c }; class = codes "other" }
+
+abbrev pub with_data : List Object → World
+with_data rows = let w = with_rows rows in record w { devices = record no_devices { stored = record { id = record { driver = codes "x/y"; id = codes "data-1" }; name = data_name uid_c; pool = 0; bytes = 3 * 2 ^ 30; there = true } ∷ [] } }
+
+abbrev pub with_erased : List Object → World
+with_erased rows = let w = with_rows rows in record w { devices = record no_devices { stored = record { id = record { driver = codes "x/y"; id = codes "data-1" }; name = data_name uid_c; pool = 0; bytes = 3 * 2 ^ 30; there = false } ∷ [] } }
+
 pub record ProvisionDueExamples : Type 0 where
   pub provision_at_once : ProvisionOf pool_setup c (Class fast ∷ Claim c ∷ []) (Some dues.Provision)
   pub no_provision_where_pool_is_small : ProvisionOf small_setup c (Class fast ∷ Claim c ∷ []) None
@@ -177,6 +187,10 @@ pub record ProvisionDueExamples : Type 0 where
   pub clear_where_node_is_absent : ProvisionOf pool_setup chosen_c (Class late ∷ Claim chosen_c ∷ []) (Some dues.ClearNode)
   pub clear_where_pool_is_small : ProvisionOf small_setup chosen_c (Class late ∷ Node n1 ∷ Claim chosen_c ∷ []) (Some dues.ClearNode)
   pub clear_where_pool_is_far : ProvisionOf far_setup chosen_c (Class late ∷ Node n1 ∷ Claim chosen_c ∷ []) (Some dues.ClearNode)
+  pub provision_where_data_stand : IsDue small_setup (with_data (Class fast ∷ Claim c ∷ [])) (Claim c) (Some dues.Provision)
+  pub no_provision_where_data_were_erased : IsDue small_setup (with_erased (Class fast ∷ Claim c ∷ [])) (Claim c) None
+  pub no_clear_where_data_stand : IsDue small_setup (with_data (Class late ∷ Node n1 ∷ Claim chosen_c ∷ [])) (Claim chosen_c) (Some dues.Provision)
+  pub no_provision_where_volume_stands : ProvisionOf pool_setup c (Class fast ∷ Volume pvc_volume ∷ Claim c ∷ []) None
   pub no_clear_without_delay : ProvisionOf small_setup chosen_c (Class fast ∷ Node n1 ∷ Claim chosen_c ∷ []) None
 
 -- pods

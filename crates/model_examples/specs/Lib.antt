@@ -7,6 +7,7 @@ pub mod GuardRuns
 pub mod Imported
 pub mod Mounting
 pub mod NamespacedVolume
+pub mod NewestTold
 pub mod OpsRows
 pub mod ProtectionRows
 pub mod ReadingRows

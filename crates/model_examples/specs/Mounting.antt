@@ -77,6 +77,9 @@ pub record MountOrderExamples : Type 0 where
 abbrev pub other_pod : PodData
 other_pod = record p { meta = record p.meta { uid = Some (uid_of_serial 8) } }
 
+abbrev pub later_p : PodData
+later_p = record p { meta = record p.meta { version = 10 } }
+
 abbrev pub elsewhere_pod : PodData
 elsewhere_pod = record p { node = node_2 }
 
@@ -104,12 +107,17 @@ bound_for_other = with_reference (Some other_ref_c) bound_a
 abbrev pub pod_of_two : PodData
 pod_of_two = record p { claims = codes "c" ∷ codes "d" ∷ [] }
 
+-- the pod itself, told before the pods were listed, at a later version than another pod that the list tells
+abbrev pub stale_list : List Exchange
+stale_list = reads_volume ∷ reads_claim ∷ tells_pod other_pod ∷ watches kinds.Pod changes.Added (Pod later_p) 10 ∷ takes node_1 1 ∷ []
+
 pub record MountExamples : Type 0 where
+  pub pod_of_other_uid_in_the_list_is_refused : Refuses seats.Agent stale_list (mount 1 (uid_c ∷ []))
   pub other_pod_is_refused : Refuses seats.Agent (reads bound_a bound_c other_pod) (mount 1 (uid_c ∷ []))
   pub pod_on_other_node_is_refused : Refuses seats.Agent (reads bound_a bound_c elsewhere_pod) (mount 1 (uid_c ∷ []))
   pub waiting_pod_on_node_without_name_is_refused : Refuses seats.Agent (reads_volume ∷ reads_claim ∷ tells_pod waiting_p ∷ takes [] 1 ∷ []) (requests.Mount [] 1 uid_p (uid_c ∷ []))
   pub deleting_pod_is_refused : Refuses seats.Agent (reads bound_a bound_c ending_p) (mount 1 (uid_c ∷ []))
-  pub claim_of_other_uid_is_refused : Refuses seats.Agent (reads bound_a next_c p) (mount 1 (uid_c ∷ []))
+  pub claim_of_other_uid_is_refused : Refuses seats.Agent (reads bound_for_other next_c p) (mount 1 (uid_c ∷ []))
   pub deleting_claim_is_refused : Refuses seats.Agent (reads bound_a deleting_c p) (mount 1 (uid_c ∷ []))
   pub unprotected_claim_is_refused : Refuses seats.Agent (reads bound_a unguarded_c p) (mount 1 (uid_c ∷ []))
   pub claim_before_completion_is_refused : Refuses seats.Agent (reads bound_a uncompleted_c p) (mount 1 (uid_c ∷ []))

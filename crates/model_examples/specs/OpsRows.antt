@@ -20,7 +20,7 @@ use Rattle.call_types.specs.declared.request.Request.TheVariants as requests
 use Rattle.call_types.specs.declared.reply.Refusal.TheVariants as refusals
 use Rattle.call_types.specs.declared.reply.Reply.TheVariants as replies
 use Rattle.binder_model.specs.Provisioning.{data_name, provisioned_volume}
-use Rattle.model_examples.specs.Samples.{Allows, Refuses, Exchange, heard, unheard, lists, tells_claim, tells_class, tells_node, amount, c, with_uid, naming, uid_c, completed_c, fast, late, zone, n1, chosen_c, deleting}
+use Rattle.model_examples.specs.Samples.{Allows, Refuses, Exchange, heard, unheard, lists, tells_claim, tells_class, tells_node, amount, c, with_uid, naming, uid_c, completed_c, fast, late, zone, n1, chosen_c, deleting, claim_at, other_c}
 
 -- Provision
 
@@ -86,6 +86,10 @@ pub record ProvisionExamples : Type 0 where
 
 -- CreateVolume
 
+-- another claim under the name, told later
+abbrev pub next_c : ClaimData
+next_c = claim_at 9 other_c
+
 abbrev pub id_1 : DataId
 id_1 = record { driver = codes "x/y"; id = codes "data-1" }
 
@@ -120,6 +124,7 @@ pub record CreateVolumeExamples : Type 0 where
   pub other_topology_is_refused : Refuses seats.Ops (gives uid_c id_1 None ∷ tells_three c fast n1) (make id_1 pool_pair)
   pub other_policy_is_refused : Refuses seats.Ops (gives uid_c id_1 None ∷ tells_three c fast n1) (requests.Create (Volume kept_volume))
   pub claim_without_uid_is_refused : Refuses seats.Ops (gives uid_c id_1 None ∷ tells_three no_uid_c fast n1) (requests.Create (Volume (provisioned_volume no_uid_c uid_c fast id_1 None)))
+  pub claim_of_other_uid_now_is_refused : Refuses seats.Ops (gives uid_c id_1 None ∷ tells_claim next_c ∷ tells_three c fast n1) (requests.Create (Volume (provisioned_volume next_c uid_c fast id_1 None)))
   pub claim_told_gone_is_refused : Refuses seats.Ops (gives uid_c id_1 None ∷ lists kinds.PersistentVolumeClaim [] 9 ∷ tells_three c fast n1) (make id_1 None)
   pub class_never_told_is_refused : Refuses seats.Ops (gives uid_c id_1 None ∷ tells_claim c ∷ []) (make id_1 None)
   pub older_telling_of_the_class_is_refused : Refuses seats.Ops (gives uid_c id_1 None ∷ tells_class moved_class ∷ tells_three c fast n1) (make id_1 None)

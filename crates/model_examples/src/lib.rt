@@ -12,6 +12,7 @@ ghost use Rattle.model_examples.specs.GuardRuns.{GuardOfReleased};
 ghost use Rattle.model_examples.specs.Imported.{FirstWorldExamples, ImportFaultExamples};
 ghost use Rattle.model_examples.specs.NamespacedVolume.{NamespacedVolumeIsRefused};
 ghost use Rattle.model_examples.specs.Mounting.{MountExamples, MountOrderExamples};
+ghost use Rattle.model_examples.specs.NewestTold.{NewestExamples, ToldExamples};
 ghost use Rattle.model_examples.specs.OpsRows.{CreateVolumeExamples, ProvisionExamples};
 ghost use Rattle.model_examples.specs.ProtectionRows.{AddClaimGuardExamples, AddVolumeGuardExamples, DropClaimGuardExamples, DropVolumeGuardExamples};
 ghost use Rattle.model_examples.specs.ReadingRows.{AgentGetExamples, BinderGetExamples, FollowsExamples, ListExamples, OpsGetExamples, OtherGetExamples, WatchExamples};
@@ -336,4 +337,16 @@ pub fn erased_examples()
 #[tactic(auto, using(crate::proofs::SafePoints::safe_examples))]
 pub fn safe_examples()
     ensures { SafeExamples }
+{}
+
+/// Which answers tell an object.
+#[tactic(auto, using(crate::proofs::NewestTold::told_examples))]
+pub fn told_examples()
+    ensures { ToldExamples }
+{}
+
+/// Which telling of a key is the newest.
+#[tactic(auto, using(crate::proofs::NewestTold::newest_examples))]
+pub fn newest_examples()
+    ensures { NewestExamples }
 {}
