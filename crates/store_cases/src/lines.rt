@@ -8,6 +8,7 @@ use crate::words::{Named, number, seat, small, text, words_of};
 use call_types::request::Request;
 use plain_data::copies::OutOfMemory;
 use std::alloc::Global;
+use watch_log::log::WatchLog;
 
 fn time(alloc: Global, words: &[&str]) -> Result<Option<Request>, OutOfMemory> {
     match words {
@@ -60,6 +61,7 @@ fn sets_up(
 ) -> Result<bool, OutOfMemory> {
     match (verb, words) {
         ("new", _) => bench.clear()?,
+        ("base", [word]) => bench.log = WatchLog::from_base(alloc, small(word)),
         ("as", [word]) => bench.kind = seat(word),
         ("fault", [word]) => bench.faults.push(number(word))?,
         ("devices", _) => bench.equip()?,

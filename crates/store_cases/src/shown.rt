@@ -12,6 +12,7 @@ use kube_types::lookup::Lookup;
 use kube_types::objects::Object;
 use plain_data::copies::{OutOfMemory, Plain, copy_all};
 use plain_data::items::Items;
+use plain_data::text::Text;
 use std::alloc::Global;
 use watch_log::log::LogError;
 
@@ -84,6 +85,18 @@ fn of_devices(alloc: Global, bench: &Bench, verb: &str, word: &str) -> Result<St
     }
     let has = flag(bench.devices.has_data(&name));
     Ok(String::from_str(alloc, has)?)
+}
+
+// The ids of the pods that are mounted on a node.
+fn mounted(alloc: Global, bench: &Bench, node: &str) -> Result<String, OutOfMemory> {
+    let node = text(alloc, node)?;
+    let mut line = Text::new(alloc, "pods")?;
+    for row in bench.devices.mounts(&node) {
+        let pod = row.pod.text(alloc)?;
+        line.push_str(" ")?;
+        line.push_str(pod.as_str())?;
+    }
+    Ok(String::from_str(alloc, line.as_str())?)
 }
 
 fn watch(alloc: Global, bench: &Bench, one: &str, from: &str) -> Result<String, OutOfMemory> {
@@ -163,6 +176,7 @@ pub fn shown(
         ("fits", [provisioner, bytes, rest @ ..]) => {
             Ok(Some(has_pool(alloc, bench, provisioner, bytes, rest)?))
         }
+        ("mounted", [node]) => Ok(Some(mounted(alloc, bench, node)?)),
         ("epoch" | "has", [word]) => Ok(Some(of_devices(alloc, bench, verb, word)?)),
         _ => Ok(None),
     }
