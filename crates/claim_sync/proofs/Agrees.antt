@@ -12,9 +12,9 @@ use Rattle.kube_types.specs.Keys.{row_at}
 use Rattle.kube_types.specs.Bindings.{is_completed, is_deleting, is_empty, is_for}
 use Rattle.kube_types.specs.Lookups.{is_asked}
 use Rattle.binder_model.specs.Matching.{fits, has_match}
-use Rattle.binder_model.specs.BindWrites.{volume_key}
+use Rattle.binder_model.specs.ObjectKeys.{volume_key}
 use Rattle.binder_model.specs.BinderDue.{claim_due, completed_due, has_other_uid, named_due}
-use Rattle.volume_match.specs.Scan.{as_volume}
+use Rattle.volume_match.specs.Volumes.{as_volume}
 use Rattle.claim_sync.specs.declared.action.ClaimStep.{ClaimStep}
 use Rattle.claim_sync.specs.declared.action.ClaimStep.TheVariants as steps
 use Rattle.claim_sync.specs.ClaimDecision.{claim_decision, completed_step, has_write, is_blocked, named_step, other_step, read_step}

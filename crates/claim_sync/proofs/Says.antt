@@ -10,9 +10,9 @@ use Rattle.kube_types.specs.Keys.{row_at}
 use Rattle.kube_types.specs.Bindings.{is_completed, is_deleting, is_empty, is_for}
 use Rattle.kube_types.specs.Lookups.{is_asked, is_present}
 use Rattle.binder_model.specs.Matching.{fits, has_match}
-use Rattle.binder_model.specs.BindWrites.{volume_key}
+use Rattle.binder_model.specs.ObjectKeys.{volume_key}
 use Rattle.binder_model.specs.BinderDue.{has_other_uid}
-use Rattle.volume_match.specs.Scan.{as_volume}
+use Rattle.volume_match.specs.Volumes.{as_volume}
 use Rattle.case_table.specs.declared.rows.CaseRow.{CaseRow}
 use Rattle.case_table.specs.Cases.{action_of}
 use Rattle.claim_sync.specs.declared.action.ClaimStep.{ClaimStep}

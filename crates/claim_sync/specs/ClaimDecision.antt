@@ -13,9 +13,10 @@ use Rattle.kube_types.specs.declared.lookup.Live.TheVariants.{NotAsked, Absent, 
 use Rattle.kube_types.specs.Keys.{row_at, rows_of}
 use Rattle.kube_types.specs.Bindings.{carries, is_completed, is_deleting, is_empty, is_for, is_protected_volume, is_ended}
 use Rattle.binder_model.specs.Matching.{IsBest, fits, has_match, waits_for_pod}
-use Rattle.binder_model.specs.BindWrites.{next_write, volume_key}
+use Rattle.binder_model.specs.ObjectKeys.{volume_key}
+use Rattle.binder_model.specs.BindWrites.{next_write}
 use Rattle.binder_model.specs.BinderDue.{has_other_uid}
-use Rattle.volume_match.specs.Scan.{as_volume}
+use Rattle.volume_match.specs.Volumes.{as_volume}
 use Rattle.claim_sync.specs.declared.action.ClaimAction.{ClaimAction}
 use Rattle.claim_sync.specs.declared.action.ClaimAction.TheVariants as actions
 use Rattle.claim_sync.specs.declared.action.ClaimStep.{ClaimStep}

@@ -12,7 +12,7 @@ use Rattle.kube_types.specs.declared.lookup.Live.TheVariants.{NotAsked, Absent, 
 use Rattle.kube_types.specs.Keys.{row_at}
 use Rattle.kube_types.specs.Lookups.{is_asked}
 use Rattle.kube_types.specs.Bindings.{is_available, is_bound, is_empty, is_protected_volume, is_ended, ref_uid}
-use Rattle.binder_model.specs.BindWrites.{claim_key}
+use Rattle.binder_model.specs.ObjectKeys.{claim_key}
 use Rattle.binder_model.specs.BinderDue.{claim_with, is_reclaimed}
 use Rattle.volume_sync.specs.declared.action.VolumeAction.{VolumeAction}
 use Rattle.volume_sync.specs.declared.action.VolumeAction.TheVariants.{Nothing, ReadClaim, Available, Bound, Release, Unbind, QueueClaim}

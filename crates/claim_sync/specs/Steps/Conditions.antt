@@ -9,7 +9,7 @@ use Rattle.kube_types.specs.Lookups.{is_asked, is_present}
 use Rattle.kube_types.specs.Bindings.{is_completed, is_deleting, is_empty, is_for}
 use Rattle.binder_model.specs.Matching.{fits, has_match}
 use Rattle.binder_model.specs.BinderDue.{has_other_uid}
-use Rattle.volume_match.specs.Scan.{as_volume}
+use Rattle.volume_match.specs.Volumes.{as_volume}
 use Rattle.claim_sync.specs.ClaimDecision.{has_write, is_blocked, named_volume}
 
 -- the volume, as it was read by itself
