@@ -1,13 +1,13 @@
 //! The writes of a binding as requests. Each is made at the version of the object that it changes.
 
 ghost use Rattle.std.specs.Prelude.{◌≡◌, IfOk, OnOk};
-ghost use Rattle.binder_model.specs.BindWrites.{annotated_meta, annotated_meta_if, claim_key, completed_with, next_write, ref_to, taken_for, volume_key, write_bound, write_claim_status, write_completion, write_reference};
-ghost use Rattle.kube_types.specs.Bindings.{is_empty};
+ghost use Rattle.binder_model.specs.ObjectKeys.{claim_key, volume_key};
+ghost use Rattle.binder_model.specs.BindWrites.{annotated_meta, annotated_meta_if, completed_with, next_write, ref_to, taken_for, write_bound, write_claim_status, write_completion, write_reference};
 ghost use Rattle.bind_writes.specs.Writes.{write_of};
 
 use crate::step::{Write, next_step};
 use call_types::request::{NewStatus, Request};
-use kube_types::bindings::{BIND_COMPLETED, BOUND_BY_CONTROLLER, YES};
+use kube_types::bindings::{BIND_COMPLETED, BOUND_BY_CONTROLLER, YES, is_empty};
 use kube_types::copies::{OutOfMemory, Plain};
 use kube_types::key::Key;
 use kube_types::objects::{Claim, Meta, Object, Ref, Volume};
@@ -152,13 +152,6 @@ fn annotate_if(
         annotate(alloc, meta, name)?;
     }
     Ok(())
-}
-
-#[tactic(auto, using(crate::proofs::Freed::is_empty_by_length))]
-fn is_empty(text: &Text) -> bool
-    ensures { result ≡ is_empty text.now }
-{
-    text.as_str().is_empty()
 }
 
 fn ref_to(alloc: Global, claim: &Claim) -> Result<Ref, OutOfMemory>

@@ -6,7 +6,8 @@ use Rattle.std.proofs.lemmas.Option.{slice_get_within}
 use Rattle.case_table.specs.declared.rows.Need.{Need}
 use Rattle.case_table.specs.declared.rows.Need.TheVariants.{Yes, No, Any}
 use Rattle.case_table.specs.declared.rows.CaseRow.{CaseRow}
-use Rattle.case_table.specs.Cases.{Overlaps, fits, fits_at, fits_need, meets, row_fits, shared}
+use Rattle.case_table.specs.Cases.{Overlaps, fits, fits_at, fits_need, row_fits}
+use Rattle.case_table.specs.Steps.Sharing.{meets, shared}
 
 wish : Need → Need → Bool
 wish Yes m = true

@@ -49,18 +49,6 @@ pub record IsLeastGap {k : ℕ} (rows : List (CaseRow k)) (conditions : List Boo
   pub gap : some_row_fits rows conditions ≡ false
   pub least : (cs : List Bool) → length cs ≡ k → binary cs < binary conditions → some_row_fits rows cs ≡ true
 
--- one condition can be as both need
-abbrev pub meets : Need → Need → Bool
-meets Yes No = false
-meets No Yes = false
-meets _ _ = true
-
--- one list of conditions can be as both need
-abbrev pub shared : List Need → List Need → Bool
-shared [] ms = true
-shared (n ∷ ns) [] = true
-shared (n ∷ ns) (m ∷ ms) = meets n m && shared ns ms
-
 -- the row at this place fits the conditions
 abbrev pub fits_at : {k : ℕ} → List (CaseRow k) → List Bool → ℕ → Bool
 fits_at rows cs i = option_map_or (row_fits cs) (slice_get rows i) false

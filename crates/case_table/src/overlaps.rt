@@ -2,7 +2,8 @@
 
 ghost use Rattle.std.specs.Prelude.{ℕ, ◌≡◌, ◌<◌, IfSome, IfNone, length};
 ghost use Rattle.std.specs.Bool.{OnTrue, OnFalse};
-ghost use Rattle.case_table.specs.Cases.{IsLeastOverlap, Overlaps, meets, shared};
+ghost use Rattle.case_table.specs.Cases.{IsLeastOverlap, Overlaps};
+ghost use Rattle.case_table.specs.Steps.Sharing.{meets, shared};
 
 use crate::rows::{CaseRow, Need};
 

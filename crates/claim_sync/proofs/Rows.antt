@@ -4,10 +4,10 @@ use Rattle.case_table.specs.Cases.{IsExact, action_of, row_fits}
 use Rattle.case_table.proofs.Each.{each_list}
 use Rattle.claim_sync.specs.declared.action.ClaimStep.{ClaimStep}
 use Rattle.claim_sync.specs.declared.action.ClaimStep.TheVariants as steps
-use Rattle.claim_sync.specs.ClaimTable.{claim_rows, step_number}
+use Rattle.claim_sync.specs.ClaimTable.{claim_rows, completed_rows, step_number, unbound_rows}
 
 one_row : (completed deleting named matched seen asked blocked free fitting own other writing : Bool) → count_by (row_fits (completed ∷ deleting ∷ named ∷ matched ∷ seen ∷ asked ∷ blocked ∷ free ∷ fitting ∷ own ∷ other ∷ writing ∷ [])) claim_rows ≡ 1
-unfolding claim_rows
+unfolding claim_rows unbound_rows completed_rows
 one_row false true named matched seen asked blocked free fitting own other writing = refl
 one_row false false false true seen asked blocked free fitting own other writing = refl
 one_row false false false false seen asked blocked free fitting own other writing = refl
@@ -27,6 +27,7 @@ one_row true deleting true matched true asked blocked free fitting own false fal
 pub rows_exact : IsExact claim_rows
 rows_exact cs whole = each_list 12 (λ ds. count_by (row_fits ds) claim_rows ≡ 1) one_row cs whole
 
+-- what the rows say, by the conditions alone
 abbrev pub chosen : Bool → Bool → Bool → Bool → Bool → Bool → Bool → Bool → Bool → Bool → Bool → Bool → ClaimStep
 chosen completed deleting named matched seen asked blocked free fitting own other writing =
     if completed then
@@ -42,7 +43,7 @@ chosen completed deleting named matched seen asked blocked free fitting own othe
     else if own then steps.Bind else steps.Nothing
 
 pub rows_say : (completed deleting named matched seen asked blocked free fitting own other writing : Bool) → action_of claim_rows (completed ∷ deleting ∷ named ∷ matched ∷ seen ∷ asked ∷ blocked ∷ free ∷ fitting ∷ own ∷ other ∷ writing ∷ []) ≡ step_number (chosen completed deleting named matched seen asked blocked free fitting own other writing)
-unfolding claim_rows
+unfolding claim_rows unbound_rows completed_rows
 rows_say false true named matched seen asked blocked free fitting own other writing = refl
 rows_say false false false true seen asked blocked free fitting own other writing = refl
 rows_say false false false false seen asked blocked free fitting own other writing = refl

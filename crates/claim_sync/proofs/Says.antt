@@ -1,25 +1,27 @@
--- The table gives the step, and no step binds without a place.
-use Rattle.std.proofs.Common.{ℕ, ◌≡◌, ◌==◌, ◌∙◌, Bool, true, false, not, ◌&&◌, List, [], ◌∷◌, Option, Some, None, is_none, is_some, length, refl, sym, ap, arith, if◌then◌else◌}
+-- The table picks the decision, and what is bound is a volume that is seen.
+use Rattle.std.proofs.Common.{ℕ, ◌≡◌, ◌∙◌, Bool, true, false, not, ◌&&◌, List, Option, Some, None, is_none, is_some, refl, sym, ap, if◌then◌else◌}
 use Rattle.kube_types.specs.declared.objects.Volume.{Volume as VolumeData}
 use Rattle.kube_types.specs.declared.objects.Claim.{Claim as ClaimData}
 use Rattle.kube_types.specs.declared.objects.Object.{Object}
+use Rattle.kube_types.specs.declared.objects.Object.TheVariants.{Volume}
 use Rattle.kube_types.specs.declared.lookup.Live.{Live}
+use Rattle.kube_types.specs.declared.lookup.Live.TheVariants.{NotAsked, Absent, Present}
+use Rattle.kube_types.specs.Keys.{row_at}
 use Rattle.kube_types.specs.Bindings.{is_completed, is_deleting, is_empty, is_for}
+use Rattle.kube_types.specs.Lookups.{is_asked, is_present}
 use Rattle.binder_model.specs.Matching.{fits, has_match}
+use Rattle.binder_model.specs.ObjectKeys.{volume_key}
 use Rattle.binder_model.specs.BinderDue.{has_other_uid}
-use Rattle.volume_match.specs.Scan.{as_volume}
+use Rattle.volume_match.specs.Volumes.{as_volume}
 use Rattle.case_table.specs.declared.rows.CaseRow.{CaseRow}
 use Rattle.case_table.specs.Cases.{action_of}
 use Rattle.claim_sync.specs.declared.action.ClaimStep.{ClaimStep}
 use Rattle.claim_sync.specs.declared.action.ClaimStep.TheVariants as steps
 use Rattle.claim_sync.specs.ClaimTable.{claim_rows, step_number, step_numbered}
-use Rattle.claim_sync.specs.ClaimDecision.{IsChoice, claim_decision, completed_step, conditions_on, has_best, has_write, is_asked, is_blocked, live_volume, lost_alone, named_step, named_volume, on_volume, reads_live, table_step}
+use Rattle.claim_sync.specs.ClaimDecision.{IsChoice, IsVolumeAt, claim_decision, completed_step, has_write, is_blocked, named_step, named_volume, read_step}
+use Rattle.claim_sync.specs.Steps.Conditions.{claim_conditions, conditions_on, has_best, lacks_claim, live_volume, on_volume, reads_live}
 use Rattle.claim_sync.proofs.Matches.{best_matches}
 use Rattle.claim_sync.proofs.Rows.{chosen, rows_say}
-
-pub is_empty_by_length : (xs : List ℕ) → (length xs == 0) ≡ is_empty xs
-is_empty_by_length [] = refl
-is_empty_by_length (x ∷ xs) = grind arith
 
 numbered_back : (s : ClaimStep) → step_numbered (step_number s) ≡ s
 numbered_back steps.Nothing = refl
@@ -27,36 +29,87 @@ numbered_back steps.ReadVolume = refl
 numbered_back steps.Bind = refl
 numbered_back steps.Lost = refl
 
-abbrev chosen_on : ClaimData → Bool → Bool → Bool → Option VolumeData → ClaimStep
-chosen_on c empty matched asked v = chosen (is_completed c) (is_deleting c.meta) (not empty) matched (is_some v) asked (on_volume is_blocked v) (on_volume (λ u. is_none u.claim_ref) v) (on_volume (λ u. fits u c) v) (on_volume (λ u. is_for u c) v) (on_volume (λ u. has_other_uid u c) v) (on_volume (λ u. has_write u c) v)
+-- what is chosen on the conditions, with the texts of the claim laid open
+abbrev chosen_on : ClaimData → Bool → Bool → Bool → Bool → Bool → Bool → Option VolumeData → ClaimStep
+chosen_on c done deleting empty matched asked bindable v = chosen done deleting (not empty) matched (is_some v) asked (on_volume is_blocked v) (on_volume (λ u. is_none u.claim_ref) v) (on_volume (λ u. fits u c) v) (on_volume (λ u. is_for u c) v) (on_volume (λ u. has_other_uid u c) v) (on_volume (λ u. bindable && has_write u c) v)
 
-abbrev step_by : ClaimData → Bool → Bool → Bool → Option VolumeData → ClaimStep
-step_by c empty matched asked v =
-    if is_completed c then (if empty then steps.Lost else completed_step c asked v)
-    else if is_deleting c.meta then steps.Nothing
+-- the decision, with the texts of the claim laid open
+abbrev decided : ClaimData → Bool → Bool → Bool → Bool → Live → Option VolumeData → ClaimStep
+decided c done deleting empty matched live v =
+    if done then (if empty then steps.Lost else completed_step c live v)
+    else if deleting then steps.Nothing
     else if empty then (if matched then steps.Bind else steps.Nothing)
     else named_step c v
 
-chosen_step : (c : ClaimData) (empty matched asked : Bool) (v : Option VolumeData) → chosen_on c empty matched asked v ≡ step_by c empty matched asked v
-chosen_step c true matched asked None = refl
-chosen_step c true matched asked (Some v) = refl
-chosen_step c false matched asked None = refl
-chosen_step c false matched asked (Some v) = refl
+-- a volume that was read by itself
+chosen_read : (c : ClaimData) (deleting matched : Bool) (v : Option VolumeData) → chosen_on c true deleting false matched true false v ≡ read_step c v
+chosen_read c deleting matched None = refl
+chosen_read c deleting matched (Some v) = refl
 
-decided : (c : ClaimData) (matched asked : Bool) (v : Option VolumeData) → step_numbered (action_of claim_rows (conditions_on c matched asked v)) ≡ table_step c matched asked v
-unfolding conditions_on table_step
-decided c matched asked v =
-    ap step_numbered (rows_say (is_completed c) (is_deleting c.meta) (not (is_empty c.volume_name)) matched (is_some v) asked (on_volume is_blocked v) (on_volume (λ u. is_none u.claim_ref) v) (on_volume (λ u. fits u c) v) (on_volume (λ u. is_for u c) v) (on_volume (λ u. has_other_uid u c) v) (on_volume (λ u. has_write u c) v))
-    ∙ (numbered_back _ ∙ chosen_step c (is_empty c.volume_name) matched asked v)
+abbrev chosen_by : ClaimData → Bool → Bool → Bool → Bool → Live → Option VolumeData → ClaimStep
+chosen_by c done deleting empty matched live v =
+    if done && (is_present live && lacks_claim c v) then chosen_on c done deleting empty matched true false (live_volume live)
+    else chosen_on c done deleting empty matched (is_asked live) true v
 
--- what the code reads off the table is the step
-pub read_off : (c : ClaimData) (matched asked : Bool) (v : Option VolumeData) (table : List (CaseRow 12)) (conditions : List Bool) (number : ℕ) (answer : ClaimStep) → table ≡ claim_rows → conditions ≡ conditions_on c matched asked v → number ≡ action_of table conditions → answer ≡ step_numbered number → answer ≡ table_step c matched asked v
-read_off c matched asked v table conditions number answer rows_are conditions_are picked numbered =
+by_other : (c : ClaimData) (deleting matched : Bool) (live : Live) (v : VolumeData) (other : Bool) → has_other_uid v c ≡ other → chosen_by c true deleting false matched live (Some v) ≡ completed_step c live (Some v)
+by_other c deleting matched NotAsked v other e = refl
+by_other c deleting matched Absent v other e = refl
+by_other c deleting matched (Present o) v true e = rw e (chosen_read c deleting matched (as_volume (Some o.now)))
+by_other c deleting matched (Present o) v false e = rw e refl
+
+chosen_completed : (c : ClaimData) (deleting matched : Bool) (live : Live) (v : Option VolumeData) → chosen_by c true deleting false matched live v ≡ completed_step c live v
+chosen_completed c deleting matched NotAsked None = refl
+chosen_completed c deleting matched Absent None = refl
+chosen_completed c deleting matched (Present o) None = chosen_read c deleting matched (as_volume (Some o.now))
+chosen_completed c deleting matched live (Some v) = by_other c deleting matched live v (has_other_uid v c) refl
+
+nameless : (c : ClaimData) (deleting matched : Bool) (live : Live) (v : Option VolumeData) (b : Bool) → (if b then chosen_on c true deleting true matched true false (live_volume live) else chosen_on c true deleting true matched (is_asked live) true v) ≡ steps.Lost
+nameless c deleting matched live v true = refl
+nameless c deleting matched live v false = refl
+
+chosen_is : (c : ClaimData) (done deleting empty matched : Bool) (live : Live) (v : Option VolumeData) → chosen_by c done deleting empty (empty && matched) live v ≡ decided c done deleting empty matched live v
+chosen_is c true deleting true matched live v = nameless c deleting matched live v _
+chosen_is c true deleting false matched live v = chosen_completed c deleting false live v
+chosen_is c false true empty matched live v = refl
+chosen_is c false false true matched live v = refl
+chosen_is c false false false matched live None = refl
+chosen_is c false false false matched live (Some v) = refl
+
+said : (c : ClaimData) (matched asked bindable : Bool) (v : Option VolumeData) → action_of claim_rows (conditions_on c matched asked bindable v) ≡ step_number (chosen_on c (is_completed c) (is_deleting c.meta) (is_empty c.volume_name) matched asked bindable v)
+unfolding conditions_on
+said c matched asked bindable v = rows_say (is_completed c) (is_deleting c.meta) (not (is_empty c.volume_name)) matched (is_some v) asked (on_volume is_blocked v) (on_volume (λ u. is_none u.claim_ref) v) (on_volume (λ u. fits u c) v) (on_volume (λ u. is_for u c) v) (on_volume (λ u. has_other_uid u c) v) (on_volume (λ u. bindable && has_write u c) v)
+
+pub picks : (rows : List Object) (c : ClaimData) (live : Live) → action_of claim_rows (claim_conditions rows c live) ≡ step_number (claim_decision rows c live)
+unfolding claim_conditions claim_decision
+picks rows c live = by (reads_live c live (named_volume rows c)) ∙ ap step_number (chosen_is c (is_completed c) (is_deleting c.meta) (is_empty c.volume_name) (has_match rows c) live (named_volume rows c))
+  where
+    by : (b : Bool) → action_of claim_rows (if b then conditions_on c (has_best rows c) true false (live_volume live) else conditions_on c (has_best rows c) (is_asked live) true (named_volume rows c)) ≡ step_number (if b then chosen_on c (is_completed c) (is_deleting c.meta) (is_empty c.volume_name) (has_best rows c) true false (live_volume live) else chosen_on c (is_completed c) (is_deleting c.meta) (is_empty c.volume_name) (has_best rows c) (is_asked live) true (named_volume rows c))
+    by true = said c (has_best rows c) true false (live_volume live)
+    by false = said c (has_best rows c) (is_asked live) true (named_volume rows c)
+
+-- the conditions that the code finds, on the volume that was read by itself and on the look-up's
+module _ (rows : List Object) (c : ClaimData) (live : Live) (named volume : Option VolumeData) (read matched asked : Bool) (conditions : List Bool) (named_is : named ≡ named_volume rows c) (read_is : read ≡ reads_live c live named) (matched_is : matched ≡ has_best rows c) where
+  pub found_read : read ≡ true → volume ≡ live_volume live → conditions ≡ conditions_on c matched true false volume → conditions ≡ claim_conditions rows c live
+  unfolding claim_conditions
+  found_read reads volume_is found =
+      let e : reads_live c live (named_volume rows c) ≡ true = sym (ap (λ (v : Option VolumeData). reads_live c live v) named_is) ∙ (sym read_is ∙ reads) in
+      rw e (found ∙ (ap (λ (m : Bool). conditions_on c m true false volume) matched_is ∙ ap (λ (v : Option VolumeData). conditions_on c (has_best rows c) true false v) volume_is))
+
+  pub found_shown : read ≡ false → asked ≡ is_asked live → conditions ≡ conditions_on c matched asked true named → conditions ≡ claim_conditions rows c live
+  unfolding claim_conditions
+  found_shown reads asked_is found =
+      let e : reads_live c live (named_volume rows c) ≡ false = sym (ap (λ (v : Option VolumeData). reads_live c live v) named_is) ∙ (sym read_is ∙ reads) in
+      rw e (found ∙ (ap (λ (m : Bool). conditions_on c m asked true named) matched_is ∙ (ap (λ (a : Bool). conditions_on c (has_best rows c) a true named) asked_is ∙ ap (λ (v : Option VolumeData). conditions_on c (has_best rows c) (is_asked live) true v) named_is)))
+
+-- what the code reads off the table is the decision
+pub read_off : (rows : List Object) (c : ClaimData) (live : Live) (table : List (CaseRow 12)) (conditions : List Bool) (number : ℕ) (answer : ClaimStep) → table ≡ claim_rows → conditions ≡ claim_conditions rows c live → number ≡ action_of table conditions → answer ≡ step_numbered number → answer ≡ claim_decision rows c live
+read_off rows c live table conditions number answer rows_are conditions_are picked numbered =
     numbered
     ∙ (ap step_numbered picked
     ∙ (ap (λ (t : List (CaseRow 12)). step_numbered (action_of t conditions)) rows_are
     ∙ (ap (λ (cs : List Bool). step_numbered (action_of claim_rows cs)) conditions_are
-    ∙ decided c matched asked v)))
+    ∙ (ap step_numbered (picks rows c live)
+    ∙ numbered_back (claim_decision rows c live)))))
 
 -- a choice is there where a match exists
 pub choice_matches : (rows : List Object) (c : ClaimData) (answer : Option ℕ) → IsChoice (is_empty c.volume_name) rows c answer → (is_empty c.volume_name && is_some answer) ≡ has_best rows c
@@ -66,54 +119,55 @@ choice_matches rows c answer choice = by_name (is_empty c.volume_name) choice
     by_name true choice = best_matches rows c answer choice
     by_name false choice = refl
 
-lost_never_binds : (s : ClaimStep) → lost_alone s ≡ steps.Bind → ⊥
-lost_never_binds steps.Nothing e = cc
-lost_never_binds steps.ReadVolume e = cc
-lost_never_binds steps.Bind e = cc
-lost_never_binds steps.Lost e = cc
+-- what is to be bound: a match, or the volume that the claim names, which is seen
 
-no_match : (done deleting : Bool) → (if done then steps.Lost else if deleting then steps.Nothing else steps.Nothing) ≡ steps.Bind → ⊥
-no_match true deleting e = cc
-no_match false true e = cc
-no_match false false e = cc
+read_binds_none : (c : ClaimData) (v : Option VolumeData) → read_step c v ≡ steps.Bind → ⊥
+read_binds_none c None e = cc
+read_binds_none c (Some v) e = by (has_other_uid v c) e
+  where
+    by : (b : Bool) → (if b then steps.Lost else steps.Nothing) ≡ steps.Bind → ⊥
+    by true e = cc
+    by false e = cc
 
-no_volume : (done deleting asked : Bool) → (if done then (if asked then steps.Lost else steps.ReadVolume) else if deleting then steps.Nothing else steps.Nothing) ≡ steps.Bind → ⊥
-no_volume true deleting true e = cc
-no_volume true deleting false e = cc
-no_volume false true asked e = cc
-no_volume false false asked e = cc
+unseen_binds_none : (c : ClaimData) (done deleting matched : Bool) (live : Live) → decided c done deleting false matched live None ≡ steps.Bind → ⊥
+unseen_binds_none c true deleting matched NotAsked e = cc
+unseen_binds_none c true deleting matched Absent e = cc
+unseen_binds_none c true deleting matched (Present o) e = read_binds_none c (as_volume (Some o.now)) e
+unseen_binds_none c false true matched live e = cc
+unseen_binds_none c false false matched live e = cc
+
+matched_binds : (c : ClaimData) (done deleting matched : Bool) (live : Live) (v : Option VolumeData) → decided c done deleting true matched live v ≡ steps.Bind → matched ≡ true
+matched_binds c true deleting matched live v e = cc
+matched_binds c false true matched live v e = cc
+matched_binds c false false true live v e = refl
+matched_binds c false false false live v e = cc
+
+volume_seen : (row : Option Object) (v : VolumeData) → as_volume row ≡ Some v → row ≡ Some (Volume v)
+volume_seen None v e = cc
+volume_seen (Some (Volume u)) v e = cc
+volume_seen (Some _) v e = cc
+
+seen : (rows : List Object) (c : ClaimData) (live : Live) (row : Option Object) → decided c (is_completed c) (is_deleting c.meta) false (has_match rows c) live (as_volume row) ≡ steps.Bind → (v : VolumeData) × (row ≡ Some (Volume v))
+seen rows c live row e = by (as_volume row) refl e
+  where
+    by : (v : Option VolumeData) → as_volume row ≡ v → decided c (is_completed c) (is_deleting c.meta) false (has_match rows c) live v ≡ steps.Bind → (v : VolumeData) × (row ≡ Some (Volume v))
+    by None is e = absurd (unseen_binds_none c (is_completed c) (is_deleting c.meta) (has_match rows c) live e)
+    by (Some v) is e = (v, volume_seen row v is)
+
+-- a volume stands at the place of what is to be bound
+pub bound_there : (rows : List Object) (c : ClaimData) (live : Live) (place : ℕ) → IsChoice (is_empty c.volume_name) rows c (Some place) → claim_decision rows c live ≡ steps.Bind → IsVolumeAt rows place
+unfolding claim_decision
+bound_there rows c live place choice e = by (is_empty c.volume_name) choice e
+  where
+    by : (empty : Bool) → IsChoice empty rows c (Some place) → decided c (is_completed c) (is_deleting c.meta) empty (has_match rows c) live (named_volume rows c) ≡ steps.Bind → IsVolumeAt rows place
+    by true choice e = record { volume = choice.volume; there = choice.candidate.there }
+    by false choice e = let s = seen rows c live (row_at (volume_key c.volume_name) rows) e in record { volume = s.0; there = choice ∙ s.1 }
 
 -- without a choice nothing is bound
 pub no_choice : (rows : List Object) (c : ClaimData) (live : Live) → IsChoice (is_empty c.volume_name) rows c None → claim_decision rows c live ≡ steps.Bind → ⊥
-unfolding claim_decision table_step
-no_choice rows c live choice = by_live (reads_live c live (named_volume rows c))
+unfolding claim_decision
+no_choice rows c live choice e = by (is_empty c.volume_name) choice e
   where
-    by_name : (empty : Bool) → IsChoice empty rows c None → step_by c empty (empty && has_match rows c) (is_asked live) (named_volume rows c) ≡ steps.Bind → ⊥
-    by_name true choice e =
-        no_match (is_completed c) (is_deleting c.meta) (ap (λ (m : Bool). if is_completed c then steps.Lost else if is_deleting c.meta then steps.Nothing else if m then steps.Bind else steps.Nothing) (best_matches rows c None choice) ∙ e)
-    by_name false choice e =
-        no_volume (is_completed c) (is_deleting c.meta) (is_asked live) (ap (λ (o : Option Object). step_by c false false (is_asked live) (as_volume o)) (sym choice) ∙ e)
-
-    by_live : (read : Bool) → (if read then lost_alone (step_by c (is_empty c.volume_name) (has_best rows c) true (live_volume live)) else step_by c (is_empty c.volume_name) (has_best rows c) (is_asked live) (named_volume rows c)) ≡ steps.Bind → ⊥
-    by_live true e = lost_never_binds _ e
-    by_live false e = by_name (is_empty c.volume_name) choice e
-
--- the step where the volume that was read by itself is looked at
-pub step_read : (rows : List Object) (c : ClaimData) (live : Live) (named volume : Option VolumeData) (read matched : Bool) (step answer : ClaimStep) → named ≡ named_volume rows c → read ≡ reads_live c live named → read ≡ true → matched ≡ has_best rows c → volume ≡ live_volume live → step ≡ table_step c matched true volume → answer ≡ lost_alone step → answer ≡ claim_decision rows c live
-unfolding claim_decision
-step_read rows c live named volume read matched step answer named_is read_is is_read matched_is volume_is step_is answer_is =
-    let reads : reads_live c live (named_volume rows c) ≡ true = sym (ap (λ (v : Option VolumeData). reads_live c live v) named_is) ∙ (sym read_is ∙ is_read) in
-    answer_is
-    ∙ (ap lost_alone (step_is ∙ (ap (λ (m : Bool). table_step c m true volume) matched_is ∙ ap (λ (v : Option VolumeData). table_step c (has_best rows c) true v) volume_is))
-    ∙ sym (ap (λ (b : Bool). if b then lost_alone (table_step c (has_best rows c) true (live_volume live)) else table_step c (has_best rows c) (is_asked live) (named_volume rows c)) reads))
-
--- the step where the look-up's volume is looked at
-pub step_shown : (rows : List Object) (c : ClaimData) (live : Live) (named : Option VolumeData) (read matched asked : Bool) (answer : ClaimStep) → named ≡ named_volume rows c → read ≡ reads_live c live named → read ≡ false → matched ≡ has_best rows c → asked ≡ is_asked live → answer ≡ table_step c matched asked named → answer ≡ claim_decision rows c live
-unfolding claim_decision
-step_shown rows c live named read matched asked answer named_is read_is not_read matched_is asked_is answer_is =
-    let shows : reads_live c live (named_volume rows c) ≡ false = sym (ap (λ (v : Option VolumeData). reads_live c live v) named_is) ∙ (sym read_is ∙ not_read) in
-    answer_is
-    ∙ (ap (λ (m : Bool). table_step c m asked named) matched_is
-    ∙ (ap (λ (a : Bool). table_step c (has_best rows c) a named) asked_is
-    ∙ (ap (λ (v : Option VolumeData). table_step c (has_best rows c) (is_asked live) v) named_is
-    ∙ sym (ap (λ (b : Bool). if b then lost_alone (table_step c (has_best rows c) true (live_volume live)) else table_step c (has_best rows c) (is_asked live) (named_volume rows c)) shows))))
+    by : (empty : Bool) → IsChoice empty rows c None → decided c (is_completed c) (is_deleting c.meta) empty (has_match rows c) live (named_volume rows c) ≡ steps.Bind → ⊥
+    by true choice e = let match = matched_binds c (is_completed c) (is_deleting c.meta) (has_match rows c) live (named_volume rows c) e in let none = best_matches rows c None choice in cc
+    by false choice e = unseen_binds_none c (is_completed c) (is_deleting c.meta) (has_match rows c) live (ap (λ (o : Option Object). decided c (is_completed c) (is_deleting c.meta) false (has_match rows c) live (as_volume o)) (sym choice) ∙ e)

@@ -1,43 +1,30 @@
--- What to do about a claim, on what the look-up holds and what was read by itself.
--- Source: `syncUnboundClaim` and `syncBoundClaim` of `pv_controller.go`; that absence is confirmed by a read of the volume
--- by itself before phase Lost is written is this project's choice.
-use Rattle.std.specs.Prelude.{ℕ, ◌≡◌, ⊤, Bool, true, false, not, ◌&&◌, ◌||◌, List, [], ◌∷◌, Option, Some, None, is_none, is_some, slice_get, if◌then◌else◌}
+-- What the binder does about a claim, on what the look-up holds and what was read by itself.
+-- Source: `syncUnboundClaim` and `syncBoundClaim` of `pv_controller.go`. That absence is confirmed by a read of the volume by
+-- itself before phase Lost is written, and that a volume without its protection finalizer is not taken, are choices of this
+-- project.
+use Rattle.std.specs.Prelude.{ℕ, ◌≡◌, ⊤, Bool, true, false, not, ◌&&◌, ◌||◌, List, [], Option, Some, None, is_none, is_some, slice_get, if◌then◌else◌}
 use Rattle.kube_types.specs.declared.parts.Kind.TheVariants as kinds
 use Rattle.kube_types.specs.declared.objects.Volume.{Volume as VolumeData}
 use Rattle.kube_types.specs.declared.objects.Claim.{Claim as ClaimData}
 use Rattle.kube_types.specs.declared.objects.Object.{Object}
+use Rattle.kube_types.specs.declared.objects.Object.TheVariants.{Volume}
 use Rattle.kube_types.specs.declared.lookup.Live.{Live}
 use Rattle.kube_types.specs.declared.lookup.Live.TheVariants.{NotAsked, Absent, Present}
 use Rattle.kube_types.specs.Keys.{row_at, rows_of}
 use Rattle.kube_types.specs.Bindings.{carries, is_completed, is_deleting, is_empty, is_for, is_protected_volume, is_ended}
 use Rattle.binder_model.specs.Matching.{IsBest, fits, has_match, waits_for_pod}
-use Rattle.binder_model.specs.BindWrites.{next_write, volume_key}
+use Rattle.binder_model.specs.ObjectKeys.{volume_key}
+use Rattle.binder_model.specs.BindWrites.{next_write}
 use Rattle.binder_model.specs.BinderDue.{has_other_uid}
-use Rattle.volume_match.specs.Scan.{as_volume}
+use Rattle.volume_match.specs.Volumes.{as_volume}
 use Rattle.claim_sync.specs.declared.action.ClaimAction.{ClaimAction}
 use Rattle.claim_sync.specs.declared.action.ClaimAction.TheVariants as actions
 use Rattle.claim_sync.specs.declared.action.ClaimStep.{ClaimStep}
-use Rattle.claim_sync.specs.declared.action.ClaimStep.TheVariants as steps
+use Rattle.claim_sync.specs.declared.action.ClaimStep.TheVariants.{Nothing, ReadVolume, Bind, Lost}
 
 -- the volume that the claim names, in the look-up
 abbrev pub named_volume : List Object → ClaimData → Option VolumeData
 named_volume rows c = as_volume (row_at (volume_key c.volume_name) rows)
-
--- the volume, as it was read by itself
-abbrev pub live_volume : Live → Option VolumeData
-live_volume NotAsked = None
-live_volume Absent = None
-live_volume (Present o) = as_volume (Some o.now)
-
-abbrev pub is_asked : Live → Bool
-is_asked NotAsked = false
-is_asked Absent = true
-is_asked (Present o) = true
-
-abbrev pub is_present : Live → Bool
-is_present NotAsked = false
-is_present Absent = false
-is_present (Present o) = true
 
 -- the volume may not be taken anew
 abbrev pub is_blocked : VolumeData → Bool
@@ -47,58 +34,55 @@ is_blocked v = is_deleting v.meta || not (is_protected_volume v) || is_ended v.p
 abbrev pub has_write : VolumeData → ClaimData → Bool
 has_write v c = (is_none v.claim_ref || carries v c) && is_some (next_write v c)
 
--- the claim names this volume, or one that is not seen, and is not completed
+-- the claim is not completed, and names this volume, or one that the look-up lacks
 abbrev pub named_step : ClaimData → Option VolumeData → ClaimStep
-named_step c None = steps.Nothing
+named_step c None = Nothing
 named_step c (Some v) =
-    if is_blocked v then steps.Nothing
-    else if is_none v.claim_ref then (if fits v c then steps.Bind else steps.Nothing)
-    else if is_for v c then steps.Bind else steps.Nothing
+    if is_blocked v then Nothing
+    else if is_none v.claim_ref then (if fits v c then Bind else Nothing)
+    else if is_for v c then Bind
+    else Nothing
 
--- the claim is completed and names this volume, or one that is not seen
-abbrev pub completed_step : ClaimData → Bool → Option VolumeData → ClaimStep
-completed_step c asked None = if asked then steps.Lost else steps.ReadVolume
-completed_step c asked (Some v) =
-    if has_other_uid v c then steps.Lost
-    else if has_write v c then steps.Bind else steps.Nothing
+-- the claim is completed, and its volume was read by itself, as the look-up does not show it with the claim. It may be
+-- Lost; nothing is bound to a volume that the look-up lacks
+abbrev pub read_step : ClaimData → Option VolumeData → ClaimStep
+read_step c None = Lost
+read_step c (Some v) = if has_other_uid v c then Lost else Nothing
 
--- the step for the claim with this volume
-unfoldable pub table_step : ClaimData → Bool → Bool → Option VolumeData → ClaimStep
-table_step c matched asked v =
-    if is_completed c then (if is_empty c.volume_name then steps.Lost else completed_step c asked v)
-    else if is_deleting c.meta then steps.Nothing
-    else if is_empty c.volume_name then (if matched then steps.Bind else steps.Nothing)
-    else named_step c v
+-- the claim is completed, and the look-up lacks its volume: absence is confirmed by a read
+abbrev pub lacking_step : ClaimData → Live → ClaimStep
+lacking_step c NotAsked = ReadVolume
+lacking_step c Absent = Lost
+lacking_step c (Present o) = read_step c (as_volume (Some o.now))
 
--- the look-up lacks the volume, or shows it with another UID
-abbrev pub lacks_claim : ClaimData → Option VolumeData → Bool
-lacks_claim c None = true
-lacks_claim c (Some v) = has_other_uid v c
+-- the claim is completed, and the look-up shows its volume with a reference of another UID
+abbrev pub other_step : ClaimData → Live → ClaimStep
+other_step c NotAsked = Lost
+other_step c Absent = Lost
+other_step c (Present o) = read_step c (as_volume (Some o.now))
 
--- the volume of a completed claim is not seen with the claim, and was read by itself
-abbrev pub reads_live : ClaimData → Live → Option VolumeData → Bool
-reads_live c live v = is_completed c && (is_present live && lacks_claim c v)
+-- the claim is completed, and names this volume, or one that the look-up lacks
+abbrev pub completed_step : ClaimData → Live → Option VolumeData → ClaimStep
+completed_step c live None = lacking_step c live
+completed_step c live (Some v) =
+    if has_other_uid v c then other_step c live
+    else if has_write v c then Bind
+    else Nothing
 
--- on a volume that was read by itself no binding is made
-abbrev pub lost_alone : ClaimStep → ClaimStep
-lost_alone steps.Lost = steps.Lost
-lost_alone _ = steps.Nothing
-
--- the claim names no volume, and a match exists
-abbrev pub has_best : List Object → ClaimData → Bool
-has_best rows c = is_empty c.volume_name && has_match rows c
-
+-- the decision
 unfoldable pub claim_decision : List Object → ClaimData → Live → ClaimStep
 claim_decision rows c live =
-    if reads_live c live (named_volume rows c) then lost_alone (table_step c (has_best rows c) true (live_volume live))
-    else table_step c (has_best rows c) (is_asked live) (named_volume rows c)
+    if is_completed c then (if is_empty c.volume_name then Lost else completed_step c live (named_volume rows c))
+    else if is_deleting c.meta then Nothing
+    else if is_empty c.volume_name then (if has_match rows c then Bind else Nothing)
+    else named_step c (named_volume rows c)
 
 -- an action without its place
 abbrev pub step_of : ClaimAction → ClaimStep
-step_of actions.Nothing = steps.Nothing
-step_of actions.ReadVolume = steps.ReadVolume
-step_of (actions.Bind place) = steps.Bind
-step_of actions.Lost = steps.Lost
+step_of actions.Nothing = Nothing
+step_of actions.ReadVolume = ReadVolume
+step_of (actions.Bind place) = Bind
+step_of actions.Lost = Lost
 
 -- the best match where the claim names no volume, else the volume that it names
 abbrev pub IsChoice : Bool → List Object → ClaimData → Option ℕ → Type 0
@@ -111,13 +95,12 @@ abbrev pub BindsTo : List Object → ClaimData → ClaimAction → Type 0
 BindsTo rows c (actions.Bind place) = IsChoice (is_empty c.volume_name) rows c (Some place)
 BindsTo rows c _ = ⊤
 
--- the conditions of the table; those on a volume that is not seen are false
-abbrev pub on_volume : (VolumeData → Bool) → Option VolumeData → Bool
-on_volume test None = false
-on_volume test (Some v) = test v
+-- a volume stands at this place among the volumes
+pub record IsVolumeAt (rows : List Object) (place : ℕ) : Type 0 where
+  pub volume : VolumeData
+  pub there : slice_get (rows_of kinds.PersistentVolume rows) place ≡ Some (Volume volume)
 
-unfoldable pub conditions_on : ClaimData → Bool → Bool → Option VolumeData → List Bool
-conditions_on c matched asked v =
-    is_completed c ∷ is_deleting c.meta ∷ not (is_empty c.volume_name) ∷ matched ∷ is_some v ∷ asked
-    ∷ on_volume is_blocked v ∷ on_volume (λ u. is_none u.claim_ref) v ∷ on_volume (λ u. fits u c) v ∷ on_volume (λ u. is_for u c) v
-    ∷ on_volume (λ u. has_other_uid u c) v ∷ on_volume (λ u. has_write u c) v ∷ []
+-- what is to be bound is a volume
+abbrev pub BindsVolume : List Object → ClaimAction → Type 0
+BindsVolume rows (actions.Bind place) = IsVolumeAt rows place
+BindsVolume rows _ = ⊤

@@ -1,4 +1,4 @@
--- Where the look-up and each read see the store itself, the decision on a claim is what is due for it.
+-- Where the look-up and each read see the store itself, the decision on a claim is what is due for it. A choice of this project.
 use Rattle.std.specs.Prelude.{◌≡◌, true, List, Option, Some, None}
 use Rattle.kube_types.specs.declared.names.Due.{Due}
 use Rattle.kube_types.specs.declared.names.Due.TheVariants as dues
@@ -8,7 +8,9 @@ use Rattle.kube_types.specs.declared.lookup.Live.{Live}
 use Rattle.binder_model.specs.BinderDue.{claim_due}
 use Rattle.claim_sync.specs.declared.action.ClaimStep.{ClaimStep}
 use Rattle.claim_sync.specs.declared.action.ClaimStep.TheVariants as steps
-use Rattle.claim_sync.specs.ClaimDecision.{claim_decision, is_asked, live_volume, named_volume}
+use Rattle.kube_types.specs.Lookups.{is_asked}
+use Rattle.claim_sync.specs.ClaimDecision.{claim_decision, named_volume}
+use Rattle.claim_sync.specs.Steps.Conditions.{live_volume}
 
 -- to read the volume is never due
 abbrev pub due_of : ClaimStep → Option Due

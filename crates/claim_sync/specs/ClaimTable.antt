@@ -1,10 +1,16 @@
 -- The table of the decisions on a claim. Source: `syncUnboundClaim` and `syncBoundClaim` of `pv_controller.go`.
-use Rattle.std.specs.Prelude.{ℕ, ◌==◌, if◌then◌else◌, List, [], ◌∷◌}
+use Rattle.std.specs.Prelude.{ℕ, ◌≡◌, ◌==◌, if◌then◌else◌, List, [], ◌∷◌, ◌++◌}
+use Rattle.kube_types.specs.declared.objects.Claim.{Claim as ClaimData}
+use Rattle.kube_types.specs.declared.objects.Object.{Object}
+use Rattle.kube_types.specs.declared.lookup.Live.{Live}
 use Rattle.case_table.specs.declared.rows.Need.{Need}
 use Rattle.case_table.specs.declared.rows.Need.TheVariants.{Yes, No, Any}
 use Rattle.case_table.specs.declared.rows.CaseRow.{CaseRow}
+use Rattle.case_table.specs.Cases.{action_of}
 use Rattle.claim_sync.specs.declared.action.ClaimStep.{ClaimStep}
 use Rattle.claim_sync.specs.declared.action.ClaimStep.TheVariants as steps
+use Rattle.claim_sync.specs.ClaimDecision.{claim_decision}
+use Rattle.claim_sync.specs.Steps.Conditions.{claim_conditions}
 
 -- the number of a step in the table
 abbrev pub step_number : ClaimStep → ℕ
@@ -23,11 +29,13 @@ step_numbered n =
 abbrev pub row : List Need → ClaimStep → CaseRow 12
 row needs step = record { needs = needs; action = step_number step }
 
--- completed, deleting, names a volume, a match exists, the volume is seen, it was asked for, it is deleting or unprotected
--- or Released or Failed, it has no reference, it fits, it is for the claim, its reference has another UID, a write would
--- change something and may be made
-unfoldable pub claim_rows : List (CaseRow 12)
-claim_rows =
+-- the conditions, in order: completed, deleting, names a volume, a match exists, the volume is seen, it was asked for, it is
+-- deleting or unprotected or Released or Failed, it has no reference, it fits, it is for the claim, its reference has
+-- another UID, a write would change something and may be made
+
+-- claims that are not completed
+unfoldable pub unbound_rows : List (CaseRow 12)
+unbound_rows =
     row (No ∷ Yes ∷ Any ∷ Any ∷ Any ∷ Any ∷ Any ∷ Any ∷ Any ∷ Any ∷ Any ∷ Any ∷ []) steps.Nothing
     ∷ row (No ∷ No ∷ No ∷ Yes ∷ Any ∷ Any ∷ Any ∷ Any ∷ Any ∷ Any ∷ Any ∷ Any ∷ []) steps.Bind
     ∷ row (No ∷ No ∷ No ∷ No ∷ Any ∷ Any ∷ Any ∷ Any ∷ Any ∷ Any ∷ Any ∷ Any ∷ []) steps.Nothing
@@ -37,10 +45,22 @@ claim_rows =
     ∷ row (No ∷ No ∷ Yes ∷ Any ∷ Yes ∷ Any ∷ No ∷ Yes ∷ No ∷ Any ∷ Any ∷ Any ∷ []) steps.Nothing
     ∷ row (No ∷ No ∷ Yes ∷ Any ∷ Yes ∷ Any ∷ No ∷ No ∷ Any ∷ Yes ∷ Any ∷ Any ∷ []) steps.Bind
     ∷ row (No ∷ No ∷ Yes ∷ Any ∷ Yes ∷ Any ∷ No ∷ No ∷ Any ∷ No ∷ Any ∷ Any ∷ []) steps.Nothing
-    ∷ row (Yes ∷ Any ∷ No ∷ Any ∷ Any ∷ Any ∷ Any ∷ Any ∷ Any ∷ Any ∷ Any ∷ Any ∷ []) steps.Lost
+    ∷ []
+
+-- completed claims
+unfoldable pub completed_rows : List (CaseRow 12)
+completed_rows =
+    row (Yes ∷ Any ∷ No ∷ Any ∷ Any ∷ Any ∷ Any ∷ Any ∷ Any ∷ Any ∷ Any ∷ Any ∷ []) steps.Lost
     ∷ row (Yes ∷ Any ∷ Yes ∷ Any ∷ No ∷ No ∷ Any ∷ Any ∷ Any ∷ Any ∷ Any ∷ Any ∷ []) steps.ReadVolume
     ∷ row (Yes ∷ Any ∷ Yes ∷ Any ∷ No ∷ Yes ∷ Any ∷ Any ∷ Any ∷ Any ∷ Any ∷ Any ∷ []) steps.Lost
     ∷ row (Yes ∷ Any ∷ Yes ∷ Any ∷ Yes ∷ Any ∷ Any ∷ Any ∷ Any ∷ Any ∷ Yes ∷ Any ∷ []) steps.Lost
     ∷ row (Yes ∷ Any ∷ Yes ∷ Any ∷ Yes ∷ Any ∷ Any ∷ Any ∷ Any ∷ Any ∷ No ∷ Yes ∷ []) steps.Bind
     ∷ row (Yes ∷ Any ∷ Yes ∷ Any ∷ Yes ∷ Any ∷ Any ∷ Any ∷ Any ∷ Any ∷ No ∷ No ∷ []) steps.Nothing
     ∷ []
+
+unfoldable pub claim_rows : List (CaseRow 12)
+claim_rows = unbound_rows ++ completed_rows
+
+-- the row of the claim's conditions has the step that is decided
+abbrev pub TablePicks : Type 0
+TablePicks = (rows : List Object) (c : ClaimData) (live : Live) → action_of claim_rows (claim_conditions rows c live) ≡ step_number (claim_decision rows c live)

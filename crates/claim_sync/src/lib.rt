@@ -2,6 +2,7 @@
 #![tactic(auto)]
 
 mod action;
+mod conditions;
 mod decision;
 pub mod laws;
 mod place;

@@ -3,13 +3,12 @@
 ghost use Rattle.std.specs.Prelude.{◌≡◌};
 ghost use Rattle.kube_types.specs.Bindings.{is_empty};
 ghost use Rattle.binder_model.specs.Matching.{waits_for_pod};
-ghost use Rattle.claim_sync.specs.ClaimDecision.{IsChoice, has_best};
+ghost use Rattle.claim_sync.specs.ClaimDecision.{IsChoice};
 
-use kube_types::bindings::class_of_claim;
+use kube_types::bindings::{class_of_claim, is_empty};
 use kube_types::lookup::Lookup;
 use kube_types::objects::{Claim, Object};
 use kube_types::parts::Kind;
-use kube_types::text::Text;
 use volume_match::{best, place_named, row_named};
 
 /// The place of the best match where the claim names no volume, else of the volume that it names.
@@ -36,11 +35,4 @@ fn waits_for_pod<L: Lookup>(lookup: &L, claim: &Claim) -> bool
         Some(Object::Class(class)) => class.delayed,
         _ => false,
     }
-}
-
-#[tactic(auto, using(crate::proofs::Says::is_empty_by_length))]
-pub(crate) fn is_empty(text: &Text) -> bool
-    ensures { result ≡ is_empty text.now }
-{
-    text.as_str().is_empty()
 }

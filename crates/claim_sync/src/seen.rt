@@ -2,9 +2,10 @@
 
 ghost use Rattle.std.specs.Prelude.{◌≡◌};
 ghost use Rattle.std.specs.Option.{option_copied};
-ghost use Rattle.volume_match.specs.Scan.{as_volume};
+ghost use Rattle.volume_match.specs.Volumes.{as_volume};
 ghost use Rattle.binder_model.specs.BinderDue.{has_other_uid};
-ghost use Rattle.claim_sync.specs.ClaimDecision.{is_asked, is_present, lacks_claim, live_volume, named_volume, reads_live};
+ghost use Rattle.claim_sync.specs.ClaimDecision.{named_volume};
+ghost use Rattle.claim_sync.specs.Steps.Conditions.{lacks_claim, live_volume, reads_live};
 
 use kube_types::bindings::{is_completed, is_uid};
 use kube_types::lookup::{Live, Lookup};
@@ -44,30 +45,11 @@ fn as_volume<'a>(object: Option<&'a Object>) -> Option<&'a Volume>
     }
 }
 
-/// Whether the volume was read by itself.
-pub(crate) fn is_asked(live: Live) -> bool
-    ensures { result ≡ is_asked live.entry }
-{
-    match live {
-        Live::NotAsked => false,
-        Live::Absent | Live::Present(_) => true,
-    }
-}
-
-fn is_present(live: Live) -> bool
-    ensures { result ≡ is_present live.entry }
-{
-    match live {
-        Live::NotAsked | Live::Absent => false,
-        Live::Present(_) => true,
-    }
-}
-
 /// Whether the volume that was read by itself is to be looked at, where the look-up shows this one.
 pub(crate) fn reads_live(claim: &Claim, live: Live, volume: Option<&Volume>) -> bool
     ensures { result ≡ reads_live claim.now live.entry (option_copied volume.entry) }
 {
-    is_completed(claim) && is_present(live) && lacks_claim(claim, volume)
+    is_completed(claim) && live.is_present() && lacks_claim(claim, volume)
 }
 
 fn lacks_claim(claim: &Claim, volume: Option<&Volume>) -> bool

@@ -2,7 +2,7 @@
 
 ghost use Rattle.std.specs.Prelude.{◌≡◌};
 ghost use Rattle.case_table.specs.Cases.{IsExact};
-ghost use Rattle.claim_sync.specs.ClaimTable.{claim_rows, row};
+ghost use Rattle.claim_sync.specs.ClaimTable.{claim_rows, completed_rows, row, unbound_rows};
 
 use crate::action::ClaimStep;
 use case_table::Need::{Any, No, Yes};
@@ -17,15 +17,10 @@ fn row(needs: [Need; 12], step: ClaimStep) -> CaseRow<12>
     }
 }
 
-/// The rows. The conditions, in order: the claim is completed; it is deleting; it names a volume;
-/// a match exists; the volume is seen; it was asked for by itself; the volume is deleting, or lacks
-/// its protection finalizer, or is Released or Failed; it has no reference; it fits; it is for the
-/// claim; its reference has another UID; a write of the binding would change something and may be
-/// made.
-#[tactic(auto, using(crate::proofs::Rows::rows_exact), unfolding(crate::specs::ClaimTable::claim_rows))]
-pub fn claim_rows() -> [CaseRow<12>; 15]
-    ensures rows { result ≡ claim_rows }
-    ensures exact { IsExact result }
+/// The rows of claims that are not completed.
+#[tactic(auto, unfolding(crate::specs::ClaimTable::unbound_rows))]
+fn unbound_rows() -> [CaseRow<12>; 9]
+    ensures { result ≡ unbound_rows }
 {
     [
         row(
@@ -64,6 +59,15 @@ pub fn claim_rows() -> [CaseRow<12>; 15]
             [No, No, Yes, Any, Yes, Any, No, No, Any, No, Any, Any],
             ClaimStep::Nothing,
         ),
+    ]
+}
+
+/// The rows of completed claims.
+#[tactic(auto, unfolding(crate::specs::ClaimTable::completed_rows))]
+fn completed_rows() -> [CaseRow<12>; 6]
+    ensures { result ≡ completed_rows }
+{
+    [
         row(
             [Yes, Any, No, Any, Any, Any, Any, Any, Any, Any, Any, Any],
             ClaimStep::Lost,
@@ -88,6 +92,36 @@ pub fn claim_rows() -> [CaseRow<12>; 15]
             [Yes, Any, Yes, Any, Yes, Any, Any, Any, Any, Any, No, No],
             ClaimStep::Nothing,
         ),
+    ]
+}
+
+/// The rows: those of claims that are not completed, then those of completed claims. The conditions,
+/// in order: the claim is completed; it is deleting; it names a volume; a match exists; the volume is
+/// seen; it was asked for by itself; the volume is deleting, or lacks its protection finalizer, or is
+/// Released or Failed; it has no reference; it fits; it is for the claim; its reference has another
+/// UID; a write of the binding would change something and may be made.
+pub fn claim_rows() -> [CaseRow<12>; 15]
+    ensures rows { result ≡ claim_rows }
+    ensures exact { IsExact result }
+{
+    let unbound = unbound_rows();
+    let completed = completed_rows();
+    [
+        unbound[0],
+        unbound[1],
+        unbound[2],
+        unbound[3],
+        unbound[4],
+        unbound[5],
+        unbound[6],
+        unbound[7],
+        unbound[8],
+        completed[0],
+        completed[1],
+        completed[2],
+        completed[3],
+        completed[4],
+        completed[5],
     ]
 }
 

@@ -18,77 +18,33 @@ use Rattle.kube_types.specs.declared.parts.Kind.{Kind}
 use Rattle.kube_types.specs.declared.parts.Kind.TheVariants as kinds
 use Rattle.kube_types.specs.declared.key.Key.{Key}
 use Rattle.kube_types.specs.declared.objects.Object.{Object}
-use Rattle.kube_types.specs.Keys.{AreRows, key_cmp, key_of, kind_of, kind_index, row_at, put_row, without_row}
-use Rattle.kube_types.proofs.KeyOrder.{key_cmp_total, row_at-put_row, row_at-put_row_other, row_at-without_row, row_at-without_row_other}
-use Rattle.kube_types.proofs.KeyOrder.{same_key as equal_keys}
-use Rattle.binder_model.specs.Told.{first_some, same_key}
+use Rattle.kube_types.specs.Keys.{AreRows, key_cmp, key_of, kind_of, kind_index, row_at, put_row, without_row, same_key}
+use Rattle.kube_types.proofs.KeyOrder.{key_cmp_total, other_key, row_at-put_row, row_at-put_row_other, row_at-without_row, row_at-without_row_other}
+use Rattle.kube_types.proofs.SameKeys.{KeyCases, One, Two, key_cases, same_key_ordered}
+use Rattle.binder_model.specs.Told.{first_some}
 use Rattle.informer_cache.specs.declared.marks.Mark.{Mark}
 use Rattle.informer_cache.specs.declared.lists.Space.{Space}
 use Rattle.informer_cache.specs.Marks.{mark_key, mark_at, put_mark, space_name, space_at, put_space, space_version, greater}
 use Rattle.informer_cache.specs.Knowledge.{AreOfKind}
 
-abbrev kind_at : ℕ → Kind
-kind_at zero = kinds.StorageClass
-kind_at (suc zero) = kinds.Node
-kind_at (suc (suc zero)) = kinds.PersistentVolume
-kind_at (suc (suc (suc zero))) = kinds.PersistentVolumeClaim
-kind_at n = kinds.Pod
-
-kind_back : (k : Kind) → kind_at (kind_index k) ≡ k
-kind_back kinds.StorageClass = refl
-kind_back kinds.Node = refl
-kind_back kinds.PersistentVolume = refl
-kind_back kinds.PersistentVolumeClaim = refl
-kind_back kinds.Pod = refl
-
-pub kinds_alike : (a b : Kind) → kind_index a ≡ kind_index b → a ≡ b
-kinds_alike a b e = sym (kind_back a) ∙ ap kind_at e ∙ kind_back b
-
--- the test of keys decides their equality
-pub same_key-Decides : (a b : Key) → Decides (same_key a b) (a ≡ b)
-same_key-Decides a b =
-    Decides-like _ (λ e i. record { kind = kinds_alike a.kind b.kind e.0.0 i; namespace = e.0.1 i; name = e.1 i })
-    (λ e. ((ap (λ (k : Key). kind_index k.kind) e, ap (λ (k : Key). k.namespace) e), ap (λ (k : Key). k.name) e))
-    (Decides-and _ _ (Decides-and _ _ (Decides-eqb (kind_index a.kind) (kind_index b.kind)) (bytes_eq-Decides a.namespace b.namespace)) (bytes_eq-Decides a.name b.name))
-
--- two keys are one, or they are not
-pub data Tells (a b : Key) : Type 0 where
-  One : same_key a b ≡ true → a ≡ b → Tells a b
-  Two : same_key a b ≡ false → a ≢ b → Tells a b
-
-pub key_tells : (a b : Key) → Tells a b
-key_tells a b = by (same_key a b) refl
-  where
-    by : (t : Bool) → same_key a b ≡ t → Tells a b
-    by true e = One e ((same_key-Decides a b).0 e)
-    by false e = Two e (λ is. true≢false (sym ((same_key-Decides a b).1 is) ∙ e))
-
-other_key : (a b : Key) → a ≢ b → is_eq (key_cmp a b) ≡ false
-other_key a b differs = by (key_cmp a b) (equal_keys a b)
-  where
-    by : (r : Ordering) → (r ≡ Equal → a ≡ b) → is_eq r ≡ false
-    by Less h = refl
-    by Equal h = absurd (differs (h refl))
-    by Greater h = refl
-
 pub mark_at-put : (m : Mark) (ms : List Mark) (k : Key) → mark_at k (put_mark m ms) ≡ (if same_key m.key k then Some m else mark_at k ms)
-mark_at-put m ms k = by (key_tells m.key k)
+mark_at-put m ms k = by (key_cases m.key k)
   where
-    by : Tells m.key k → mark_at k (put_mark m ms) ≡ (if same_key m.key k then Some m else mark_at k ms)
+    by : KeyCases m.key k → mark_at k (put_mark m ms) ≡ (if same_key m.key k then Some m else mark_at k ms)
     by (One e is) = rw e (subst (λ j. mark_at j (put_mark m ms) ≡ Some m) is (find-put key_cmp_total mark_key m ms))
     by (Two e differs) = rw e (find-put_other key_cmp_total mark_key k m ms (other_key m.key k differs))
 
 pub row_at-put : (o : Object) (os : List Object) (k : Key) → row_at k (put_row o os) ≡ (if same_key (key_of o) k then Some o else row_at k os)
-row_at-put o os k = by (key_tells (key_of o) k)
+row_at-put o os k = by (key_cases (key_of o) k)
   where
-    by : Tells (key_of o) k → row_at k (put_row o os) ≡ (if same_key (key_of o) k then Some o else row_at k os)
+    by : KeyCases (key_of o) k → row_at k (put_row o os) ≡ (if same_key (key_of o) k then Some o else row_at k os)
     by (One e is) = rw e (subst (λ j. row_at j (put_row o os) ≡ Some o) is (row_at-put_row o os))
     by (Two e differs) = rw e (row_at-put_row_other k o os differs)
 
 pub row_at-without : (j : Key) (os : List Object) (k : Key) → AreRows os → row_at k (without_row j os) ≡ (if same_key j k then None else row_at k os)
-row_at-without j os k rows = by (key_tells j k)
+row_at-without j os k rows = by (key_cases j k)
   where
-    by : Tells j k → row_at k (without_row j os) ≡ (if same_key j k then None else row_at k os)
+    by : KeyCases j k → row_at k (without_row j os) ≡ (if same_key j k then None else row_at k os)
     by (One e is) = rw e (subst (λ i. row_at i (without_row j os) ≡ None) is (row_at-without_row j os rows))
     by (Two e differs) = rw e (row_at-without_row_other j k os differs)
 
@@ -110,18 +66,10 @@ of_kind-without kind k (x ∷ xs) h = by (key_cmp (key_of x) k) (of_kind-without
     by Equal rest = h.1
     by Greater rest = (h.0, rest)
 
--- the test of keys is that of their order
-pub tests_alike : (a b : Key) → is_eq (key_cmp a b) ≡ same_key a b
-tests_alike a b = by (key_tells a b)
-  where
-    by : Tells a b → is_eq (key_cmp a b) ≡ same_key a b
-    by (One e is) = rw e (ap is_eq (subst (λ k. key_cmp a k ≡ Equal) is (tied_itself key_cmp_total a)))
-    by (Two e differs) = rw e (other_key a b differs)
-
 -- what is found once a row was put at the end
 module _ {X : Type 0} (key : X → Key) where
   find-last : (xs : List X) (x : X) (k : Key) → find key_cmp key k (xs ++ x ∷ []) ≡ first_some (find key_cmp key k xs) (if same_key (key x) k then Some x else None)
-  find-last [] x k = ap (λ b. if b then Some x else None) (tests_alike (key x) k)
+  find-last [] x k = ap (λ b. if b then Some x else None) (same_key_ordered (key x) k)
   find-last (y ∷ ys) x k = by (is_eq (key_cmp (key y) k)) (find-last ys x k)
     where
       by : (b : Bool) → find key_cmp key k (ys ++ x ∷ []) ≡ first_some (find key_cmp key k ys) (if same_key (key x) k then Some x else None) → (if b then Some y else find key_cmp key k (ys ++ x ∷ [])) ≡ first_some (if b then Some y else find key_cmp key k ys) (if same_key (key x) k then Some x else None)
@@ -133,9 +81,9 @@ module _ {X : Type 0} (key : X → Key) where
 
   -- what is found then was found before, or is the row at the end
   pub found-take : (xs : List X) (i : ℕ) (x : X) (k : Key) → i < length xs → x ≡ get_or xs i x → is_some (find key_cmp key k (take (i + 1) xs)) ≡ true → (is_some (find key_cmp key k (take i xs)) ≡ true) ⊎ (key x ≡ k)
-  found-take xs i x k lt is found = by (find key_cmp key k (take i xs)) (key_tells (key x) k) (ap is_some (sym (find-take xs i x k lt is)) ∙ found)
+  found-take xs i x k lt is found = by (find key_cmp key k (take i xs)) (key_cases (key x) k) (ap is_some (sym (find-take xs i x k lt is)) ∙ found)
     where
-      by : (f : Option X) → Tells (key x) k → is_some (first_some f (if same_key (key x) k then Some x else None)) ≡ true → (is_some f ≡ true) ⊎ (key x ≡ k)
+      by : (f : Option X) → KeyCases (key x) k → is_some (first_some f (if same_key (key x) k then Some x else None)) ≡ true → (is_some f ≡ true) ⊎ (key x ≡ k)
       by (Some y) t h = inl refl
       by None (One e same) h = inr same
       by None (Two e differs) h = absurd (true≢false (sym h ∙ rw e refl))
@@ -199,17 +147,17 @@ greater_inside a b c = greater_assoc a b c ∙ ap (λ x. greater x c) (greater_s
 
 -- an object that stands is the first of its key; another is put in
 pub first_there : (os : List Object) (o x : Object) (key : Key) → key ≡ key_of o → Some x ≡ row_at key os → (k : Key) → row_at k os ≡ first_some (row_at k os) (if same_key (key_of o) k then Some o else None)
-first_there os o x key own found k = by (row_at k os) (key_tells (key_of o) k) (λ same. subst (λ j. Some x ≡ row_at j os) (own ∙ same) found)
+first_there os o x key own found k = by (row_at k os) (key_cases (key_of o) k) (λ same. subst (λ j. Some x ≡ row_at j os) (own ∙ same) found)
   where
-    by : (f : Option Object) → Tells (key_of o) k → (key_of o ≡ k → Some x ≡ f) → f ≡ first_some f (if same_key (key_of o) k then Some o else None)
+    by : (f : Option Object) → KeyCases (key_of o) k → (key_of o ≡ k → Some x ≡ f) → f ≡ first_some f (if same_key (key_of o) k then Some o else None)
     by (Some y) t h = refl
     by None (One e same) h = absurd (true≢false (ap is_some (h same)))
     by None (Two e differs) h = rw e refl
 
 pub first_new : (os next : List Object) (o copy : Object) (key : Key) → key ≡ key_of o → copy ≡ o → None ≡ row_at key os → next ≡ put_row copy os → (k : Key) → row_at k next ≡ first_some (row_at k os) (if same_key (key_of o) k then Some o else None)
-first_new os next o copy key own same none put k = ap (row_at k) put ∙ ap (λ x. row_at k (put_row x os)) same ∙ row_at-put o os k ∙ by (row_at k os) (key_tells (key_of o) k) (λ is. subst (λ j. None ≡ row_at j os) (own ∙ is) none)
+first_new os next o copy key own same none put k = ap (row_at k) put ∙ ap (λ x. row_at k (put_row x os)) same ∙ row_at-put o os k ∙ by (row_at k os) (key_cases (key_of o) k) (λ is. subst (λ j. None ≡ row_at j os) (own ∙ is) none)
   where
-    by : (f : Option Object) → Tells (key_of o) k → (key_of o ≡ k → None ≡ f) → (if same_key (key_of o) k then Some o else f) ≡ first_some f (if same_key (key_of o) k then Some o else None)
+    by : (f : Option Object) → KeyCases (key_of o) k → (key_of o ≡ k → None ≡ f) → (if same_key (key_of o) k then Some o else f) ≡ first_some f (if same_key (key_of o) k then Some o else None)
     by (Some y) (One e is) h = absurd (true≢false (sym (ap is_some (h is))))
     by (Some y) (Two e differs) h = rw e refl
     by None t h = refl

@@ -5,9 +5,8 @@ use Rattle.plain_data.proofs.RowFacts.{rising_put, rising_without}
 use Rattle.kube_types.specs.declared.parts.Kind.{Kind}
 use Rattle.kube_types.specs.declared.key.Key.{Key}
 use Rattle.kube_types.specs.declared.objects.Object.{Object}
-use Rattle.kube_types.specs.Keys.{key_of, kind_of, row_at, put_row, without_row}
+use Rattle.kube_types.specs.Keys.{key_of, kind_of, row_at, put_row, without_row, same_key}
 use Rattle.kube_types.proofs.KeyOrder.{key_cmp_total}
-use Rattle.binder_model.specs.Told.{same_key}
 use Rattle.informer_cache.specs.declared.marks.Mark.{Mark}
 use Rattle.informer_cache.specs.Marks.{mark_key, mark_at, put_mark}
 use Rattle.informer_cache.specs.Knowledge.{AreKept, row_told, told_at}

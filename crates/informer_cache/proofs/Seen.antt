@@ -4,13 +4,14 @@ use Rattle.std.specs.Prelude.{nat_lt, option_map, is_some, IfSome, ⊤}
 use Rattle.std.proofs.lemmas.Bool.Decides.{nat_tests}
 use Rattle.kube_types.specs.declared.key.Key.{Key}
 use Rattle.kube_types.specs.declared.objects.Object.{Object}
-use Rattle.kube_types.specs.Keys.{key_of, row_at}
+use Rattle.kube_types.specs.Keys.{key_of, row_at, same_key}
 use Rattle.kube_types.proofs.KeyOrder.{row_at_key}
-use Rattle.binder_model.specs.Told.{Telling, later, first_some, listing, same_key}
+use Rattle.binder_model.specs.Told.{Telling, later, first_some, listing}
 use Rattle.informer_cache.specs.declared.marks.Mark.{Mark}
 use Rattle.informer_cache.specs.Marks.{mark_at, greater}
-use Rattle.informer_cache.specs.Knowledge.{RowState, ListState, Sight, Fits, AreRight, GoesOn, absence, covers, lacked, lacked_after, is_older, list_tells, row_told, seen, telling_in, tells_key, told_at}
-use Rattle.informer_cache.proofs.Found.{Tells, One, Two, key_tells}
+use Rattle.informer_cache.specs.Knowledge.{RowState, ListState, absence, covers, lacked, row_told, telling_in, tells_key, told_at}
+use Rattle.informer_cache.specs.Steps.Sights.{Sight, Fits, AreRight, GoesOn, lacked_after, is_older, list_tells, seen}
+use Rattle.kube_types.proofs.SameKeys.{KeyCases, One, Two, key_cases}
 
 pub later_none : (a : Option Telling) → later a None ≡ a
 later_none None = refl
@@ -131,21 +132,21 @@ module _ (s : Sight) (before next : RowState) (key : Key) (t : Telling) (kind : 
   there k e = told k ∙ ap (λ b. if b then Some t else row_told before.marks before.objects k) e
 
   pub put_on : AreRight s before → GoesOn s before next
-  put_on right = ((kind, λ k of. at k (key_tells key k) (right k of)), λ k fits. kept k (key_tells key k) fits)
+  put_on right = ((kind, λ k of. at k (key_cases key k) (right k of)), λ k fits. kept k (key_cases key k) fits)
     where
-      at : (k : Key) → Tells key k → ((row_told before.marks before.objects k ≡ None) ⊎ Fits s before k) → (row_told next.marks next.objects k ≡ None) ⊎ Fits s next k
+      at : (k : Key) → KeyCases key k → ((row_told before.marks before.objects k ≡ None) ⊎ Fits s before k) → (row_told next.marks next.objects k ≡ None) ⊎ Fits s next k
       at k (One e same) h = inr (here k same e)
       at k (Two e differs) (inl none) = inl (there k e ∙ none)
       at k (Two e differs) (inr fits) = inr (ap (λ r. first_some r (lists_tell k)) (there k e) ∙ fits)
 
-      kept : (k : Key) → Tells key k → Fits s before k → Fits s next k
+      kept : (k : Key) → KeyCases key k → Fits s before k → Fits s next k
       kept k (One e same) fits = here k same e
       kept k (Two e differs) fits = ap (λ r. first_some r (lists_tell k)) (there k e) ∙ fits
 
   pub put_fits : Fits s next key
-  put_fits = at (key_tells key key)
+  put_fits = at (key_cases key key)
     where
-      at : Tells key key → Fits s next key
+      at : KeyCases key key → Fits s next key
       at (One e same) = here key same e
       at (Two e differs) = absurd (differs refl)
 
@@ -158,7 +159,7 @@ goes_further s first second third a b = ((b.0.0 ∙ a.0.0, b.0.1), λ k fits. b.
 
 -- rows into which the key was put with what it was told, which is not older than what was known
 pub told_put : (lists : ListState) (before next : RowState) (key : Key) (t : Telling) → is_older t.version (option_map (λ (u : Telling). u.version) (telling_in before lists key)) ≡ false → ((k : Key) → row_told next.marks next.objects k ≡ (if same_key key k then Some t else row_told before.marks before.objects k)) → (k : Key) → telling_in next lists k ≡ later (tells_key key t k) (telling_in before lists k)
-told_put lists before next key t newer told k = by (key_tells key k)
+told_put lists before next key t newer told k = by (key_cases key k)
   where
     newest : (known : Option Telling) → is_older t.version (option_map (λ (u : Telling). u.version) known) ≡ false → Some t ≡ later (Some t) known
     newest None h = refl
@@ -167,6 +168,6 @@ told_put lists before next key t newer told k = by (key_tells key k)
     row : (b : Bool) → same_key key k ≡ b → row_told next.marks next.objects k ≡ (if b then Some t else row_told before.marks before.objects k)
     row b e = told k ∙ ap (λ x. if x then Some t else row_told before.marks before.objects k) e
 
-    by : Tells key k → telling_in next lists k ≡ later (tells_key key t k) (telling_in before lists k)
+    by : KeyCases key k → telling_in next lists k ≡ later (tells_key key t k) (telling_in before lists k)
     by (One e same) = ap (λ r. first_some r (absence (lacked lists k))) (row true e) ∙ newest (telling_in before lists k) (subst (λ j. is_older t.version (option_map (λ (u : Telling). u.version) (telling_in before lists j)) ≡ false) same newer) ∙ ap (λ x. later (if x then Some t else None) (telling_in before lists k)) (sym e)
     by (Two e differs) = ap (λ r. first_some r (absence (lacked lists k))) (row false e) ∙ ap (λ x. later (if x then Some t else None) (telling_in before lists k)) (sym e)

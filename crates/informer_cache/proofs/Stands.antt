@@ -16,8 +16,8 @@ use Rattle.informer_cache.specs.declared.marks.Mark.{Mark}
 use Rattle.informer_cache.specs.Marks.{mark_at}
 use Rattle.informer_cache.specs.Knowledge.{RowState, ListState, AreKept, absence, lacked, telling_in, told_at, tells_key}
 use Rattle.kube_types.specs.declared.parts.Kind.TheVariants as kinds
-use Rattle.informer_cache.specs.All.{AllStandFor}
-use Rattle.informer_cache.specs.Cache.{Known, IsDone, IsLeft, IsQuiet, IsTold, Learns, StandsFor, kind_known, known_of, tells_done, tells_left, watch_from}
+use Rattle.informer_cache.specs.All.{AllKnown, AllStandFor, AreCaches, EachStandsFor, all_objects, cache_of}
+use Rattle.informer_cache.specs.Cache.{Known, IsDone, IsLeft, IsQuiet, IsTold, Learns, StandsFor, kind_known, known_of, objects_of, tells_done, tells_left, watch_from}
 
 -- the rows have the objects that are known
 row_known : (rows : RowState) (lists : ListState) (key : Key) → AreKept rows.kind rows.marks rows.objects → row_at key rows.objects ≡ object_of (telling_in rows lists key)
@@ -95,9 +95,17 @@ untold_quiet kind e lost = record {
 }
 
 -- the caches of all kinds, each of which stands for the entries
-pub all_stand : (a b c d e : Known) (mine : List Entry) → StandsFor a mine → StandsFor b mine → StandsFor c mine → StandsFor d mine → StandsFor e mine → AllStandFor (record { classes = a; nodes = b; volumes = c; claims = d; pods = e }) mine
-all_stand a b c d e mine sa sb sc sd se kinds.StorageClass = sa
-all_stand a b c d e mine sa sb sc sd se kinds.Node = sb
-all_stand a b c d e mine sa sb sc sd se kinds.PersistentVolume = sc
-all_stand a b c d e mine sa sb sc sd se kinds.PersistentVolumeClaim = sd
-all_stand a b c d e mine sa sb sc sd se kinds.Pod = se
+pub each_stands : (a b c d e : Known) (mine : List Entry) → StandsFor a mine → StandsFor b mine → StandsFor c mine → StandsFor d mine → StandsFor e mine → EachStandsFor (record { classes = a; nodes = b; volumes = c; claims = d; pods = e }) mine
+each_stands a b c d e mine sa sb sc sd se kinds.StorageClass = sa
+each_stands a b c d e mine sa sb sc sd se kinds.Node = sb
+each_stands a b c d e mine sa sb sc sd se kinds.PersistentVolume = sc
+each_stands a b c d e mine sa sb sc sd se kinds.PersistentVolumeClaim = sd
+each_stands a b c d e mine sa sb sc sd se kinds.Pod = se
+
+-- and all together, where the row of a key among all objects is that of its kind's cache
+pub all_stand : (c : AllKnown) → AreCaches c → ((key : Key) → row_at key (all_objects c) ≡ row_at key (objects_of (cache_of key.kind c))) → (mine : List Entry) → EachStandsFor c mine → AllStandFor c mine
+all_stand c kinds joined mine each = record {
+  kinds = kinds;
+  each = each;
+  rows = λ key. joined key ∙ (each key.kind).rows key (sym (kinds key.kind));
+}

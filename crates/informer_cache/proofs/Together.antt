@@ -12,10 +12,10 @@ use Rattle.kube_types.specs.declared.parts.Kind.{Kind}
 use Rattle.kube_types.specs.declared.parts.Kind.TheVariants as kinds
 use Rattle.kube_types.specs.declared.key.Key.{Key}
 use Rattle.kube_types.specs.declared.objects.Object.{Object}
-use Rattle.kube_types.specs.Keys.{AreRows, key_cmp, key_of, kind_index, kind_of, is_of_kind, row_at, rows_of}
-use Rattle.binder_model.specs.Told.{first_some, same_key}
+use Rattle.kube_types.specs.Keys.{AreRows, key_cmp, key_of, kind_index, kind_of, is_of_kind, row_at, rows_of, same_key}
+use Rattle.binder_model.specs.Told.{first_some}
 use Rattle.informer_cache.specs.Knowledge.{AreOfKind}
-use Rattle.informer_cache.proofs.Found.{tests_alike}
+use Rattle.kube_types.proofs.SameKeys.{same_key_ordered}
 
 append_nil : (xs : List Object) → xs ++ [] ≡ xs
 append_nil [] = refl
@@ -86,7 +86,7 @@ find_append key (x ∷ xs) ys = by (is_eq (key_cmp (key_of x) key)) (find_append
 
 row_other : (k : Kind) (key : Key) (os : List Object) → AreOfKind k os → (kind_index k == kind_index key.kind) ≡ false → row_at key os ≡ None
 row_other k key [] h e = refl
-row_other k key (o ∷ os) h e = by (is_eq (key_cmp (key_of o) key)) (tests_alike (key_of o) key ∙ differs) (row_other k key os h.1 e)
+row_other k key (o ∷ os) h e = by (is_eq (key_cmp (key_of o) key)) (same_key_ordered (key_of o) key ∙ differs) (row_other k key os h.1 e)
   where
     differs : same_key (key_of o) key ≡ false
     differs = rw (subst (λ j. (kind_index j == kind_index key.kind) ≡ false) (sym h.0) e) refl

@@ -2,8 +2,11 @@
 use Rattle.std.specs.Prelude.{◌≡◌, List, ◌++◌}
 use Rattle.kube_types.specs.declared.parts.Kind.{Kind}
 use Rattle.kube_types.specs.declared.parts.Kind.TheVariants as kinds
+use Rattle.kube_types.specs.declared.key.Key.{Key}
 use Rattle.kube_types.specs.declared.objects.Object.{Object}
+use Rattle.kube_types.specs.Keys.{row_at}
 use Rattle.call_types.specs.declared.entry.Entry.{Entry}
+use Rattle.binder_model.specs.Told.{newest, object_of}
 use Rattle.informer_cache.specs.Cache.{Known, StandsFor, kind_known, objects_of}
 
 pub record AllKnown : Type 0 where
@@ -29,5 +32,12 @@ abbrev pub all_objects : AllKnown → List Object
 all_objects c = objects_of c.classes ++ (objects_of c.nodes ++ (objects_of c.volumes ++ (objects_of c.claims ++ objects_of c.pods)))
 
 -- each cache stands for what the seat with these entries was told of its kind
-abbrev pub AllStandFor : AllKnown → List Entry → Type 0
-AllStandFor c mine = (kind : Kind) → StandsFor (cache_of kind c) mine
+abbrev pub EachStandsFor : AllKnown → List Entry → Type 0
+EachStandsFor c mine = (kind : Kind) → StandsFor (cache_of kind c) mine
+
+-- the caches stand for what the seat with these entries was told: each is one of its kind and stands for what was told of
+-- it, and among all objects the one of a key is that of the newest told
+pub record AllStandFor (c : AllKnown) (mine : List Entry) : Type 0 where
+  pub kinds : AreCaches c
+  pub each : EachStandsFor c mine
+  pub rows : (key : Key) → row_at key (all_objects c) ≡ object_of (newest mine key)

@@ -5,9 +5,9 @@ use Rattle.std.specs.Option.{option_copied}
 use Rattle.kube_types.specs.declared.parts.Kind.{Kind}
 use Rattle.kube_types.specs.declared.key.Key.{Key}
 use Rattle.kube_types.specs.declared.objects.Object.{Object}
-use Rattle.kube_types.specs.Keys.{AreRows, kind_of, key_of, row_at}
+use Rattle.kube_types.specs.Keys.{AreRows, kind_of, key_of, row_at, same_key}
 use Rattle.call_types.specs.declared.reply.Event.{Event}
-use Rattle.binder_model.specs.Told.{Telling, first_some, later, listing, of_event, same_key}
+use Rattle.binder_model.specs.Told.{Telling, first_some, later, listing, of_event}
 use Rattle.informer_cache.specs.declared.told.Told.{Told}
 use Rattle.informer_cache.specs.declared.marks.Mark.{Mark}
 use Rattle.informer_cache.specs.declared.lists.Space.{Space}
@@ -56,49 +56,12 @@ abbrev pub covers : Option (List ℕ) → Key → Bool
 covers None key = true
 covers (Some namespace) key = bytes_eq namespace key.namespace
 
--- the same after a list of a namespace, or of all
-abbrev pub lacked_after : ListState → Option (List ℕ) → ℕ → Key → Option ℕ
-lacked_after l namespace version key = if covers namespace key then greater (Some version) (lacked l key) else lacked l key
-
 abbrev pub absence : Option ℕ → Option Telling
 absence version = option_map (λ v. told_at v None) version
 
 -- what was told of a key by itself, or else that the lists lacked it
 abbrev pub telling_in : RowState → ListState → Key → Option Telling
 telling_in rows lists key = first_some (row_told rows.marks rows.objects key) (absence (lacked lists key))
-
--- what a list tells of a key, where it has it in its scope
-abbrev pub list_tells : Option (List ℕ) → ℕ → List Object → Key → Option Telling
-list_tells namespace version items key = if covers namespace key then Some (listing version (row_at key items)) else None
-
--- what is known before a list, and the list
-pub record Sight : Type 0 where
-  pub rows : RowState
-  pub lists : ListState
-  pub namespace : Option (List ℕ)
-  pub version : ℕ
-  pub items : List Object
-
--- what is known of a key after the list
-abbrev pub seen : Sight → Key → Option Telling
-seen s key = later (list_tells s.namespace s.version s.items key) (telling_in s.rows s.lists key)
-
--- these rows, after the list, tell of the key what is known
-abbrev pub Fits : Sight → RowState → Key → Type 0
-Fits s next key = first_some (row_told next.marks next.objects key) (absence (lacked_after s.lists s.namespace s.version key)) ≡ seen s key
-
--- they tell so of each key of the kind, or nothing
-abbrev pub AreRight : Sight → RowState → Type 0
-AreRight s next = (key : Key) → key.kind ≡ s.rows.kind → (row_told next.marks next.objects key ≡ None) ⊎ Fits s next key
-
--- and what they told so they tell still
-abbrev pub GoesOn : Sight → RowState → RowState → Type 0
-GoesOn s before next = ((next.kind ≡ before.kind) × AreRight s next) × ((key : Key) → Fits s before key → Fits s next key)
-
--- an older version than the one that is known
-abbrev pub is_older : ℕ → Option ℕ → Bool
-is_older version None = false
-is_older version (Some known) = nat_lt version known
 
 -- what is told of one key
 abbrev pub tells_key : Key → Telling → Key → Option Telling

@@ -2,4 +2,4 @@ pub mod All
 pub mod Cache
 pub mod Knowledge
 pub mod Marks
-pub mod Sights
+pub mod Steps

@@ -7,7 +7,7 @@ ghost use Rattle.kube_types.specs.Keys.{AreRows, row_at, rows_of};
 ghost use Rattle.call_types.specs.declared.entry.Entry.{Entry};
 ghost use Rattle.informer_cache.specs.Cache.{IsDone, IsLeft, IsTold, ask_of, keys_in, kind_known, objects_of};
 ghost use Rattle.informer_cache.specs.Knowledge.{AreOfKind};
-ghost use Rattle.informer_cache.specs.All.{AllStandFor, all_objects, cache_of};
+ghost use Rattle.informer_cache.specs.All.{AllStandFor, AreCaches, EachStandsFor, all_objects, cache_of};
 
 use crate::cache::{Ask, Cache};
 use crate::learn::keys_in;
@@ -54,6 +54,14 @@ impl Caches {
     pub fn new(alloc: Global) -> Caches
         ensures { AllStandFor result [] }
     {
+        let caches = Caches::empty(alloc);
+        caches.stand_together();
+        caches
+    }
+
+    fn empty(alloc: Global) -> Caches
+        ensures { EachStandsFor result [] }
+    {
         Caches {
             alloc,
             classes: Cache::new(alloc, Kind::StorageClass),
@@ -92,17 +100,59 @@ impl Caches {
         ensures stands { OnOk result ((mine : List Entry) (e : Entry) → IsTold e request.now reply.now → AllStandFor self.old mine → AllStandFor self.new (e ∷ mine)) }
     {
         let keys = keys_in(self.alloc, reply)?;
-        self.classes.take(request, reply)?;
-        self.nodes.take(request, reply)?;
-        self.volumes.take(request, reply)?;
-        self.claims.take(request, reply)?;
-        self.pods.take(request, reply)?;
+        self.take_each(request, reply)?;
+        self.stand_together();
         Ok(keys)
     }
 
     /// Takes the answer to an own write: the object as it was written.
     pub fn note(&mut self, object: &Object) -> Result<(), OutOfMemory>
         ensures { OnOk result ((mine : List Entry) (e : Entry) → IsDone e object.now → AllStandFor self.old mine → AllStandFor self.new (e ∷ mine)) }
+    {
+        self.note_each(object)?;
+        self.stand_together();
+        Ok(())
+    }
+
+    /// Takes the answer to an own write with which the object of the key left.
+    pub fn forget(&mut self, key: &Key, version: Version) -> Result<(), OutOfMemory>
+        ensures { OnOk result ((mine : List Entry) (e : Entry) → IsLeft e key.now version → AllStandFor self.old mine → AllStandFor self.new (e ∷ mine)) }
+    {
+        self.forget_each(key, version)?;
+        self.stand_together();
+        Ok(())
+    }
+
+    /// The objects of all kinds stand in order, those of each kind as its cache has them. It does
+    /// nothing: its contract is what callers know of the caches.
+    pub fn stand_together(&self)
+        ensures kinds { AreCaches self.now }
+        ensures order { AreRows (all_objects self.now) }
+        ensures rows { (kind : Kind) → rows_of kind (all_objects self.now) ≡ objects_of (cache_of kind self.now) }
+        ensures row { (key : Key) → row_at key (all_objects self.now) ≡ row_at key (objects_of (cache_of key.kind self.now)) }
+    {
+        let _ = &self.alloc;
+        let _ = self.objects(Kind::StorageClass);
+        let _ = self.objects(Kind::Node);
+        let _ = self.objects(Kind::PersistentVolume);
+        let _ = self.objects(Kind::PersistentVolumeClaim);
+        let _ = self.objects(Kind::Pod);
+    }
+}
+
+impl Caches {
+    fn take_each(&mut self, request: &Request, reply: &Reply) -> Result<(), OutOfMemory>
+        ensures { OnOk result ((mine : List Entry) (e : Entry) → IsTold e request.now reply.now → EachStandsFor self.old mine → EachStandsFor self.new (e ∷ mine)) }
+    {
+        self.classes.take(request, reply)?;
+        self.nodes.take(request, reply)?;
+        self.volumes.take(request, reply)?;
+        self.claims.take(request, reply)?;
+        self.pods.take(request, reply)
+    }
+
+    fn note_each(&mut self, object: &Object) -> Result<(), OutOfMemory>
+        ensures { OnOk result ((mine : List Entry) (e : Entry) → IsDone e object.now → EachStandsFor self.old mine → EachStandsFor self.new (e ∷ mine)) }
     {
         self.classes.note(object)?;
         self.nodes.note(object)?;
@@ -111,9 +161,8 @@ impl Caches {
         self.pods.note(object)
     }
 
-    /// Takes the answer to an own write with which the object of the key left.
-    pub fn forget(&mut self, key: &Key, version: Version) -> Result<(), OutOfMemory>
-        ensures { OnOk result ((mine : List Entry) (e : Entry) → IsLeft e key.now version → AllStandFor self.old mine → AllStandFor self.new (e ∷ mine)) }
+    fn forget_each(&mut self, key: &Key, version: Version) -> Result<(), OutOfMemory>
+        ensures { OnOk result ((mine : List Entry) (e : Entry) → IsLeft e key.now version → EachStandsFor self.old mine → EachStandsFor self.new (e ∷ mine)) }
     {
         self.classes.forget(key, version)?;
         self.nodes.forget(key, version)?;
@@ -121,9 +170,7 @@ impl Caches {
         self.claims.forget(key, version)?;
         self.pods.forget(key, version)
     }
-}
 
-impl Caches {
     /// The objects of a kind, in the order of namespace and name.
     fn objects(&self, kind: Kind) -> &[Object]
         ensures objects { result.now ≡ objects_of (cache_of kind self.now) }
@@ -131,19 +178,6 @@ impl Caches {
         ensures kind { AreOfKind kind (objects_of (cache_of kind self.now)) }
     {
         self.cache(kind).objects()
-    }
-
-    /// The objects of all kinds stand in order, those of each kind as its cache has them.
-    fn stand_together(&self)
-        ensures order { AreRows (all_objects self.now) }
-        ensures rows { (kind : Kind) → rows_of kind (all_objects self.now) ≡ objects_of (cache_of kind self.now) }
-        ensures row { (key : Key) → row_at key (all_objects self.now) ≡ row_at key (objects_of (cache_of key.kind self.now)) }
-    {
-        let _ = self.objects(Kind::StorageClass);
-        let _ = self.objects(Kind::Node);
-        let _ = self.objects(Kind::PersistentVolume);
-        let _ = self.objects(Kind::PersistentVolumeClaim);
-        let _ = self.objects(Kind::Pod);
     }
 }
 

@@ -4,7 +4,8 @@ ghost use Rattle.std.specs.Prelude.{◌≡◌, ℕ, List, [], Some, None, IfOk, 
 ghost use Rattle.std.specs.List.Sorted.{IsSearchInRange};
 ghost use Rattle.kube_types.specs.declared.key.Key.{Key};
 ghost use Rattle.informer_cache.specs.Marks.{AreSpaces, IsSpaceAt, IsSpaceGap, greater, put_space, space_version};
-ghost use Rattle.informer_cache.specs.Knowledge.{covers, lacked, lacked_after};
+ghost use Rattle.informer_cache.specs.Knowledge.{covers, lacked};
+ghost use Rattle.informer_cache.specs.Steps.Sights.{lacked_after};
 
 use kube_types::copies::{OutOfMemory, Plain};
 use kube_types::key::Key;

@@ -2,11 +2,12 @@
 
 ghost use Rattle.std.specs.Prelude.{◌≡◌, Some, None, true, IfOk, IsTrue, OnOk, is_some, option_map, if◌then◌else◌};
 ghost use Rattle.kube_types.specs.declared.key.Key.{Key};
-ghost use Rattle.kube_types.specs.Keys.{AreRows, key_of, row_at};
-ghost use Rattle.binder_model.specs.Told.{first_some, later, same_key};
+ghost use Rattle.kube_types.specs.Keys.{AreRows, key_of, row_at, same_key};
+ghost use Rattle.binder_model.specs.Told.{first_some, later};
 ghost use Rattle.informer_cache.specs.Marks.{mark_at};
-ghost use Rattle.informer_cache.specs.Sights.{sight_of};
-ghost use Rattle.informer_cache.specs.Knowledge.{AreRight, Fits, GoesOn, absence, lacked_after, list_tells, seen, telling_in, telling_of};
+ghost use Rattle.informer_cache.specs.Steps.Views.{sight_of};
+ghost use Rattle.informer_cache.specs.Knowledge.{absence, telling_in, telling_of};
+ghost use Rattle.informer_cache.specs.Steps.Sights.{AreRight, Fits, GoesOn, lacked_after, list_tells, seen};
 
 use crate::lists::{Lists, covers, greater};
 use crate::rows::{Rows, put_object};

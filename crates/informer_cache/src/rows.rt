@@ -3,8 +3,7 @@
 ghost use Rattle.std.specs.Prelude.{◌≡◌, [], Some, None, IfOk, IfSome, OnOk, OnErr, option_map, if◌then◌else◌};
 ghost use Rattle.std.specs.Option.{option_copied};
 ghost use Rattle.kube_types.specs.declared.key.Key.{Key};
-ghost use Rattle.kube_types.specs.Keys.{AreRows, key_of, put_row};
-ghost use Rattle.binder_model.specs.Told.{same_key};
+ghost use Rattle.kube_types.specs.Keys.{AreRows, key_of, put_row, same_key};
 ghost use Rattle.informer_cache.specs.Marks.{AreMarks};
 ghost use Rattle.informer_cache.specs.Knowledge.{AreKept, row_told, telling_of, told_at};
 

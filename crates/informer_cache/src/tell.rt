@@ -5,7 +5,8 @@ ghost use Rattle.std.specs.Option.{option_copied};
 ghost use Rattle.kube_types.specs.declared.key.Key.{Key};
 ghost use Rattle.kube_types.specs.Keys.{key_of};
 ghost use Rattle.binder_model.specs.Told.{later, told_by_events};
-ghost use Rattle.informer_cache.specs.Knowledge.{event_tells, is_older, telling_in, telling_of, tells_key, told_at};
+ghost use Rattle.informer_cache.specs.Knowledge.{event_tells, telling_in, telling_of, tells_key, told_at};
+ghost use Rattle.informer_cache.specs.Steps.Sights.{is_older};
 
 use crate::lists::Lists;
 use crate::merge::telling;

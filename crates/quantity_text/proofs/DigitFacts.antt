@@ -9,7 +9,7 @@ use Rattle.std.specs.List.{list_all, prefix_len}
 use Rattle.std.specs.Int.{IsInRange}
 use Rattle.std.specs.Char.{is_ascii_digit, digit_value}
 use Rattle.std.specs.Str.Parse.{AllDigits, digits_value_after, digits_value}
-use Rattle.quantity_text.specs.Capped.{capped}
+use Rattle.quantity_text.specs.Steps.Capped.{capped}
 use Rattle.quantity_text.specs.Quantity.{digits_at, fraction_at, is_zero_digit, without_zeros}
 
 pub both : (a b : Bool) → (a && b) ≡ true → (a ≡ true) × (b ≡ true)

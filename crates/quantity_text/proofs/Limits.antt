@@ -5,7 +5,7 @@ use Rattle.std.proofs.lemmas.Bool.Decides.{nat_tests}
 use Rattle.std.specs.List.{list_all}
 use Rattle.std.specs.Char.{is_ascii_digit}
 use Rattle.std.specs.Str.Parse.{digits_value_after, digits_value}
-use Rattle.quantity_text.specs.Capped.{capped, capped_scale}
+use Rattle.quantity_text.specs.Steps.Capped.{capped, capped_scale}
 use Rattle.quantity_text.specs.Quantity.{has_too_many_digits, refuse, scaled}
 use Rattle.quantity_text.specs.declared.scales.Scale.{Scale}
 use Rattle.quantity_text.specs.declared.scales.Scale.TheVariants.{Binary, Decimal, Fraction}

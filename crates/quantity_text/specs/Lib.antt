@@ -1,3 +1,3 @@
-pub mod Capped
 pub mod Grammar
 pub mod Quantity
+pub mod Steps

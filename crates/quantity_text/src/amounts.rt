@@ -5,7 +5,7 @@ ghost use Rattle.std.specs.Result.{IsOk};
 ghost use Rattle.std.specs.Int.{div_ceil};
 ghost use Rattle.std.specs.List.{list_all};
 ghost use Rattle.std.specs.Char.{is_ascii_digit};
-ghost use Rattle.quantity_text.specs.Capped.{IsNamed, IsNear};
+ghost use Rattle.quantity_text.specs.Steps.Capped.{IsNamed, IsNear};
 ghost use Rattle.quantity_text.specs.Quantity.{Gives, after_fraction, amount_of, denominator, fraction_at, has_bad_exponent, numerator, scaled, unsigned_amount, with_text};
 
 use crate::digits::{LIMIT, digit_count, number_behind};

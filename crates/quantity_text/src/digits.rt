@@ -4,7 +4,7 @@ ghost use Rattle.std.specs.Prelude.{◌≡◌, ◌≤◌, true, length};
 ghost use Rattle.std.specs.List.{list_all, prefix_len};
 ghost use Rattle.std.specs.Char.{is_ascii_digit};
 ghost use Rattle.std.specs.Str.Parse.{digits_value_after};
-ghost use Rattle.quantity_text.specs.Capped.{capped};
+ghost use Rattle.quantity_text.specs.Steps.Capped.{capped};
 
 /// The least number with 19 digits.
 pub const LIMIT: u64 = 1_000_000_000_000_000_000;

@@ -1,7 +1,7 @@
 //! What suffixes multiply by.
 
 ghost use Rattle.std.specs.Prelude.{◌≡◌, option_map, IfSome};
-ghost use Rattle.quantity_text.specs.Capped.{IsNamed, capped, capped_scale};
+ghost use Rattle.quantity_text.specs.Steps.Capped.{IsNamed, capped, capped_scale};
 ghost use Rattle.quantity_text.specs.Quantity.{exponent_of, exponent_scale, named_scales, scale_named, scale_of, signed_exponent};
 
 use crate::digits::{are_digits, number_behind};

@@ -3,10 +3,11 @@ use Rattle.std.proofs.Common.{◌≡◌, Bool, true, false, ◌||◌, cond, List
 use Rattle.std.specs.List.{list_any}
 use Rattle.kube_types.specs.declared.key.Key.{Key}
 use Rattle.sync_queue.specs.declared.lanes.Stage.{Stage}
-use Rattle.sync_queue.specs.Keys.{same_key}
+use Rattle.kube_types.specs.Keys.{same_key}
 use Rattle.sync_queue.specs.Work.{Taken, AreOnce, without, is_of, mark, mark_of}
-use Rattle.sync_queue.specs.Lanes.{IsLane, IsSet, marks, is_again}
-use Rattle.sync_queue.proofs.KeyFacts.{key_is, key_self, keys_equiv}
+use Rattle.sync_queue.specs.Steps.Lanes.{IsLane, IsSet, marks, is_again}
+use Rattle.kube_types.proofs.SameKeys.{same_key_itself, same_key_equivalence}
+use Rattle.sync_queue.proofs.KeyFacts.{key_is}
 use Rattle.sync_queue.proofs.Places.{or_false}
 
 or_none : (b : Bool) → (b || false) ≡ b
@@ -46,7 +47,7 @@ once-push : (ks : List Key) (k : Key) → AreOnce ks → list_any (same_key k) k
 once-push [] k h a = (refl, tt)
 once-push (j ∷ js) k h a =
     let f = or_false (same_key k j) (list_any (same_key k) js) a in
-    (any-push (same_key j) js k ∙ ap (λ b. b || same_key j k) h.0 ∙ (keys_equiv.symm j k ∙ f.0), once-push js k h.1 f.1)
+    (any-push (same_key j) js k ∙ ap (λ b. b || same_key j k) h.0 ∙ (same_key_equivalence.symm j k ∙ f.0), once-push js k h.1 f.1)
 
 once-without : (k : Key) (ks : List Key) → AreOnce ks → AreOnce (without (same_key k) ks)
 once-without k [] h = tt
@@ -66,14 +67,14 @@ any-without k q (j ∷ js) h = by (same_key k j) (same_key k q) refl refl (any-w
   where
     by : (b c : Bool) → same_key k j ≡ b → same_key k q ≡ c → list_any (same_key q) (without (same_key k) js) ≡ cond (same_key k q) false (list_any (same_key q) js) → list_any (same_key q) (cond b js (j ∷ without (same_key k) js)) ≡ cond c false (same_key q j || list_any (same_key q) js)
     by true true e f rest = subst (λ (x : Key). list_any (same_key x) js ≡ false) (sym (key_is k j e) ∙ key_is k q f) h.0
-    by true false e f rest = sym (ap (λ b. b || list_any (same_key q) js) (subst (λ (x : Key). same_key q x ≡ false) (key_is k j e) (keys_equiv.symm q k ∙ f)))
+    by true false e f rest = sym (ap (λ b. b || list_any (same_key q) js) (subst (λ (x : Key). same_key q x ≡ false) (key_is k j e) (same_key_equivalence.symm q k ∙ f)))
     by false true e f rest = ap (λ b. b || list_any (same_key q) (without (same_key k) js)) (subst (λ (x : Key). same_key x j ≡ false) (key_is k q f) e) ∙ (rest ∙ ap (λ b. cond b false (list_any (same_key q) js)) f)
     by false false e f rest = ap (λ b. same_key q j || b) (rest ∙ ap (λ b. cond b false (list_any (same_key q) js)) f)
 
 pub once-append : (xs ys : List Key) → AreOnce xs → AreOnce ys → ((q : Key) → list_any (same_key q) xs ≡ true → list_any (same_key q) ys ≡ false) → AreOnce (xs ++ ys)
 once-append [] ys h o apart = o
 once-append (x ∷ xs) ys h o apart =
-    (any-append (same_key x) xs ys ∙ ap (λ b. b || list_any (same_key x) ys) h.0 ∙ apart x (ap (λ b. b || list_any (same_key x) xs) (key_self x)), once-append xs ys h.1 o (λ q e. apart q (ap (λ b. same_key q x || b) e ∙ or_true (same_key q x))))
+    (any-append (same_key x) xs ys ∙ ap (λ b. b || list_any (same_key x) ys) h.0 ∙ apart x (ap (λ b. b || list_any (same_key x) xs) (same_key_itself x)), once-append xs ys h.1 o (λ q e. apart q (ap (λ b. same_key q x || b) e ∙ or_true (same_key q x))))
 
 pub any-marks : (stage : Key → Option Stage) (k : Key) (ks : List Key) → list_any (is_of k) (marks stage ks) ≡ list_any (same_key k) ks
 any-marks stage k [] = refl
@@ -106,7 +107,7 @@ mark_of-marks stage k (j ∷ js) = by (same_key k j) refl (mark_of-marks stage k
 -- the key k has the stage s after, and each other key what it had
 module _ (stage after : Key → Option Stage) (k : Key) (s : Option Stage) (set : IsSet stage k s after) where
   pub after_self : after k ≡ s
-  after_self = set k ∙ ap (λ b. cond b s (stage k)) (key_self k)
+  after_self = set k ∙ ap (λ b. cond b s (stage k)) (same_key_itself k)
 
   after_other : (q : Key) → same_key k q ≡ false → after q ≡ stage q
   after_other q e = set q ∙ ap (λ b. cond b s (stage q)) e
@@ -124,8 +125,8 @@ module _ (stage after : Key → Option Stage) (k : Key) (s : Option Stage) (set 
   lane-push test ks off on l = record { says = λ q. any-push (same_key q) ks k ∙ (ap (λ b. b || same_key q k) (l.says q) ∙ by q (same_key k q) refl); once = once-push ks k l.once (l.says k ∙ off) }
     where
       by : (q : Key) (b : Bool) → same_key k q ≡ b → (test (stage q) || same_key q k) ≡ test (after q)
-      by q true e = ap (λ b. test (stage q) || b) (keys_equiv.symm q k ∙ e) ∙ (or_true (test (stage q)) ∙ sym (ap test (set q) ∙ (ap (λ b. test (cond b s (stage q))) e ∙ on)))
-      by q false e = ap (λ b. test (stage q) || b) (keys_equiv.symm q k ∙ e) ∙ (or_none (test (stage q)) ∙ sym (ap test (after_other q e)))
+      by q true e = ap (λ b. test (stage q) || b) (same_key_equivalence.symm q k ∙ e) ∙ (or_true (test (stage q)) ∙ sym (ap test (set q) ∙ (ap (λ b. test (cond b s (stage q))) e ∙ on)))
+      by q false e = ap (λ b. test (stage q) || b) (same_key_equivalence.symm q k ∙ e) ∙ (or_none (test (stage q)) ∙ sym (ap test (after_other q e)))
 
   -- the list from which k goes
   pub lane-drop : (test : Option Stage → Bool) (ks : List Key) → test s ≡ false → IsLane test stage ks → IsLane test after (without (same_key k) ks)
@@ -137,7 +138,7 @@ module _ (stage after : Key → Option Stage) (k : Key) (s : Option Stage) (set 
 
   -- the same, where k is the first
   pub lane-pop : (test : Option Stage → Bool) (ks : List Key) → test s ≡ false → IsLane test stage (k ∷ ks) → IsLane test after ks
-  lane-pop test ks off l = subst (IsLane test after) (ap (λ b. cond b ks (k ∷ without (same_key k) ks)) (key_self k)) (lane-drop test (k ∷ ks) off l)
+  lane-pop test ks off l = subst (IsLane test after) (ap (λ b. cond b ks (k ∷ without (same_key k) ks)) (same_key_itself k)) (lane-drop test (k ∷ ks) off l)
 
   pub marks-other : (ks : List Key) → list_any (same_key k) ks ≡ false → marks after ks ≡ marks stage ks
   marks-other [] h = refl
@@ -150,7 +151,7 @@ module _ (stage after : Key → Option Stage) (k : Key) (s : Option Stage) (set 
   -- k leaves the taken keys
   pub marks-drop : (ks : List Key) → AreOnce ks → marks after (without (same_key k) ks) ≡ without (is_of k) (marks stage ks)
   marks-drop ks once =
-      marks-other (without (same_key k) ks) (any-without k k ks once ∙ ap (λ b. cond b false (list_any (same_key k) ks)) (key_self k)) ∙ marks-without stage k ks
+      marks-other (without (same_key k) ks) (any-without k k ks once ∙ ap (λ b. cond b false (list_any (same_key k) ks)) (same_key_itself k)) ∙ marks-without stage k ks
 
   -- k comes to the taken keys
   pub marks-come : (ks : List Key) → is_again s ≡ false → list_any (same_key k) ks ≡ false → marks after (ks ++ k ∷ []) ≡ marks stage ks ++ (record { key = k; again = false }) ∷ []

@@ -5,10 +5,10 @@ use Rattle.kube_types.specs.declared.key.Key.{Key}
 use Rattle.sync_queue.specs.declared.lanes.Stage.{Stage}
 use Rattle.sync_queue.specs.declared.lanes.Stage.TheVariants.{Waiting, Again, Parked}
 use Rattle.sync_queue.specs.declared.lanes.Stage.TheVariants.{Taken as Begun}
-use Rattle.sync_queue.specs.Keys.{same_key}
+use Rattle.kube_types.specs.Keys.{same_key}
 use Rattle.sync_queue.specs.Work.{Work, AreOnce, StandsOnce, without, queued, set_aside, marked, unparked, released, begun}
-use Rattle.sync_queue.specs.Lanes.{woken_first, AreLanes, IsSet, work_of, is_taken, is_waiting, is_parked}
-use Rattle.sync_queue.proofs.KeyFacts.{key_self}
+use Rattle.sync_queue.specs.Steps.Lanes.{woken_first, AreLanes, IsSet, work_of, is_taken, is_waiting, is_parked}
+use Rattle.kube_types.proofs.SameKeys.{same_key_itself}
 use Rattle.sync_queue.proofs.LaneFacts.{lane-kept, lane-push, lane-drop, lane-pop, marks-other, marks-drop, marks-come, marks-mark, once-append, any-append, keys-marks}
 
 -- a taken key neither waits nor is parked
@@ -131,7 +131,7 @@ module _ (stage : Key → Option Stage) (ws ts ps : List Key) (sound : AreLanes 
 -- the oldest waiting key is taken
 module _ (stage after : Key → Option Stage) (k : Key) (ws ts ps : List Key) where
   head_any : (ks : List Key) → list_any (same_key k) (k ∷ ks) ≡ true
-  head_any ks = ap (λ b. b || list_any (same_key k) ks) (key_self k)
+  head_any ks = ap (λ b. b || list_any (same_key k) ks) (same_key_itself k)
 
   pub begin-moved : (vs : List Key) → vs ≡ k ∷ ws → AreLanes stage vs ts ps → IsSet stage k (Some Begun) after → (ts' : List Key) → ts' ≡ ts ++ k ∷ [] → Moved after ws ts' ps (begun (work_of stage vs ts ps))
   begin-moved vs e sound set ts' f = subst (λ us. AreLanes stage us ts ps → Moved after ws ts' ps (begun (work_of stage us ts ps))) (sym e) (λ l. move l) sound

@@ -3,9 +3,9 @@ use Rattle.std.proofs.Common.{◌≡◌, ◌<◌, true, false, true≢false, con
 use Rattle.std.specs.Prelude.{if◌then◌else◌}
 use Rattle.kube_types.specs.declared.key.Key.{Key}
 use Rattle.sync_queue.specs.declared.lanes.Stage.{Stage}
-use Rattle.sync_queue.specs.Keys.{same_key}
+use Rattle.kube_types.specs.Keys.{same_key}
 use Rattle.sync_queue.specs.Work.{Work, Taken, oldest_of, added, queued, unparked, marked, done_by, finished, retry_by, put_off, woken}
-use Rattle.sync_queue.specs.Lanes.{woken_first, AreLanes, marks, work_of, is_taken, is_again, is_waiting, is_parked}
+use Rattle.sync_queue.specs.Steps.Lanes.{woken_first, AreLanes, marks, work_of, is_taken, is_again, is_waiting, is_parked}
 use Rattle.sync_queue.proofs.LaneFacts.{any-marks, mark_of-marks, without-absent}
 
 module _ (stage : Key → Option Stage) (k : Key) (ws ts ps : List Key) (sound : AreLanes stage ws ts ps) (s : Option Stage) (at : stage k ≡ s) where

@@ -1,5 +1,3 @@
 pub mod After
-pub mod Keys
-pub mod Lanes
-pub mod Slots
+pub mod Steps
 pub mod Work

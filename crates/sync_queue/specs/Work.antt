@@ -2,7 +2,7 @@
 use Rattle.std.specs.Prelude.{◌≡◌, Bool, true, false, List, [], ◌∷◌, ◌++◌, Option, None, Some, if◌then◌else◌, map}
 use Rattle.std.specs.List.{list_any}
 use Rattle.kube_types.specs.declared.key.Key.{Key}
-use Rattle.sync_queue.specs.Keys.{same_key}
+use Rattle.kube_types.specs.Keys.{same_key}
 
 -- client-go util/workqueue: a key in processing, and whether it is dirty, that is, was added again since it was taken
 pub record Taken : Type 0 where

@@ -5,13 +5,13 @@ ghost use Rattle.kube_types.specs.declared.key.Key.{Key};
 ghost use Rattle.std.specs.List.{list_any};
 ghost use Rattle.std.specs.VecDeque.{deque_len, deque_capacity};
 ghost use Rattle.indexmap.specs.IndexMap.{get, ContainsKey};
-ghost use Rattle.sync_queue.specs.Keys.{same_key};
-ghost use Rattle.sync_queue.specs.Lanes.{woken_first, IsSet, IsSound, HasRoomForOne, is_taken, is_parked, stage_in, work_in};
+ghost use Rattle.kube_types.specs.Keys.{same_key};
+ghost use Rattle.sync_queue.specs.Steps.Lanes.{woken_first, IsSet, IsSound, HasRoomForOne, is_taken, is_parked, stage_in, work_in};
 ghost use Rattle.sync_queue.specs.Work.{without, no_work, queued, set_aside, marked, unparked, released, oldest_of, begun};
 
 use crate::slot::Slot;
 use indexmap::IndexMap;
-use kube_types::key::{Key, kind_index};
+use kube_types::key::{Key, same_key};
 use plain_data::copies::{OutOfMemory, Plain};
 use std::alloc::Global;
 use std::collections::VecDeque;
@@ -235,7 +235,7 @@ fn place_in(list: &VecDeque<Key>, key: &Key) -> usize
     ensures at { (d : Key) → same_key key.now (slice_index_or list.now.items result d) ≡ true }
 {
     for i in 0..list.len() {
-        if same(&list[i], key) {
+        if same_key(key, &list[i]) {
             return i;
         }
     }
@@ -252,13 +252,4 @@ pub(crate) fn take_out(list: &mut VecDeque<Key>, key: &Key) -> Key
 {
     let place = place_in(list, key);
     list.remove(place).unwrap()
-}
-
-/// Whether two keys are the same.
-pub(crate) fn same(left: &Key, right: &Key) -> bool
-    ensures { result ≡ same_key right.now left.now }
-{
-    kind_index(right.kind) == kind_index(left.kind)
-        && (right.namespace.as_str() == left.namespace.as_str()
-            && right.name.as_str() == left.name.as_str())
 }

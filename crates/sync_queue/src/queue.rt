@@ -23,7 +23,7 @@ pub struct Queue {
 
 impl Model for Queue {
     ghost use Rattle.sync_queue.specs.Work.{Work};
-    ghost use Rattle.sync_queue.specs.Lanes.{IsSound, work_in};
+    ghost use Rattle.sync_queue.specs.Steps.Lanes.{IsSound, work_in};
 
     ghost Value = { Work };
 

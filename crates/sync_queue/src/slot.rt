@@ -1,13 +1,14 @@
 //! Keys as the map of the queue holds them and is asked for them.
 
 ghost use Rattle.std.specs.Prelude.{◌≡◌, ◌++◌};
-ghost use Rattle.std.proofs.Common.{rules};
+ghost use Rattle.std.proofs.Common.{ap};
 ghost use Rattle.std.specs.Hash as fed;
-ghost use Rattle.std.specs.Cmp.Rules.{comparing, hashing};
-ghost use Rattle.kube_types.specs.Keys.{kind_index};
-ghost use Rattle.sync_queue.specs.Keys.{same_key};
+ghost use Rattle.kube_types.specs.declared.key.Key.{Key};
+ghost use Rattle.kube_types.specs.Keys.{kind_index, same_key};
+ghost use Rattle.std.specs.Cmp.{partial_equiv_from_equiv};
+ghost use Rattle.kube_types.proofs.SameKeys.{same_key-Decides, same_key_equivalence};
 
-use kube_types::key::{Key, kind_index};
+use kube_types::key::{Key, kind_index, same_key};
 use plain_data::copies::Plain;
 use std::hash::{Hash, Hasher};
 use std::marker::Model;
@@ -27,7 +28,7 @@ pub(crate) struct Slot<'q> {
 
 impl<'q> Model for Slot<'q> {
     ghost use Rattle.kube_types.specs.declared.key.Key.{Key};
-    ghost use Rattle.sync_queue.specs.Slots.{held_key};
+    ghost use Rattle.sync_queue.specs.Steps.Slots.{held_key};
 
     ghost Value = { Key };
 
@@ -64,24 +65,21 @@ impl<'q> Slot<'q> {
 impl<'q> PartialEq for Slot<'q> {
     ghost eq = { same_key };
 
-    ghost laws = { Prim.search (comparing, rules) };
+    ghost laws = { partial_equiv_from_equiv same_key_equivalence };
 
     fn eq(&self, other: &Slot<'q>) -> bool {
-        let (left, right) = (self.key(), other.key());
-        kind_index(left.kind) == kind_index(right.kind)
-            && (left.namespace.as_str() == right.namespace.as_str()
-                && left.name.as_str() == right.name.as_str())
+        same_key(self.key(), other.key())
     }
 }
 
 impl<'q> Eq for Slot<'q> {
-    ghost laws = { Prim.search (comparing, rules) };
+    ghost laws = { same_key_equivalence };
 }
 
 impl<'q> Hash for Slot<'q> {
     ghost hash_input = { λ k. fed.u8 (kind_index k.kind) ++ fed.str k.namespace ++ fed.str k.name };
 
-    ghost respects_eq = { Prim.search (hashing, rules) };
+    ghost respects_eq = { λ k q e. ap (λ (x : Key). fed.u8 (kind_index x.kind) ++ fed.str x.namespace ++ fed.str x.name) ((same_key-Decides k q).0 e) };
 
     fn hash<H: Hasher>(&self, state: &mut H) {
         let key = self.key();

@@ -15,7 +15,8 @@ use Rattle.kube_types.specs.declared.objects.Object.{Object}
 use Rattle.kube_types.specs.declared.objects.Object.TheVariants.{Class, Node, Volume, Claim, Pod}
 use Rattle.kube_types.specs.Keys.{rows_of}
 use Rattle.binder_model.specs.Matching.{IsBest, IsCandidate, eligible, for_last, is_excluded, match_cmp, mode_count, only_own_passes}
-use Rattle.volume_match.specs.Scan.{IsBestBelow, as_volume, comes_before, is_open, is_preferred, volume_at}
+use Rattle.volume_match.specs.Steps.Scan.{IsBestBelow, comes_before, is_open, is_preferred}
+use Rattle.volume_match.specs.Volumes.{as_volume, volume_at}
 
 pub match_total : (c : ClaimData) → IsTotalOrder (match_cmp c)
 match_total c =

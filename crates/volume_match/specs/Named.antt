@@ -1,4 +1,4 @@
--- Keys by their parts.
+-- Keys by their parts. Source: Kubernetes documentation, "Object Names and IDs".
 use Rattle.std.specs.Prelude.{ℕ, Bool, false, List, Option, Some, None}
 use Rattle.std.specs.Ordering.{is_eq}
 use Rattle.kube_types.specs.declared.parts.Kind.{Kind}

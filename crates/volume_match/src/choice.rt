@@ -4,7 +4,8 @@ ghost use Rattle.std.specs.Prelude.{◌≡◌, ◌+◌, ◌≤◌, ◌<◌, leng
 ghost use Rattle.std.specs.List.{list_any};
 ghost use Rattle.std.specs.Option.{option_copied};
 ghost use Rattle.binder_model.specs.Matching.{IsBest, count_one, for_last, is_excluded, match_cmp, mode_count};
-ghost use Rattle.volume_match.specs.Scan.{IsBestBelow, is_open, is_preferred, volume_at};
+ghost use Rattle.volume_match.specs.Steps.Scan.{IsBestBelow, is_open, is_preferred};
+ghost use Rattle.volume_match.specs.Volumes.{volume_at};
 
 use crate::eligible::satisfies;
 use kube_types::bindings::is_for;

@@ -10,11 +10,12 @@ use Rattle.kube_types.specs.declared.objects.Object.{Object}
 use Rattle.kube_types.specs.declared.lookup.Live.{Live}
 use Rattle.kube_types.specs.Keys.{row_at}
 use Rattle.kube_types.specs.Bindings.{is_available, is_empty, is_ended}
-use Rattle.binder_model.specs.BindWrites.{claim_key}
+use Rattle.binder_model.specs.ObjectKeys.{claim_key}
 use Rattle.binder_model.specs.BinderDue.{claim_with, is_reclaimed, reference_due, referred_due, volume_due}
 use Rattle.volume_sync.specs.declared.action.VolumeAction.{VolumeAction}
 use Rattle.volume_sync.specs.declared.action.VolumeAction.TheVariants as actions
-use Rattle.volume_sync.specs.VolumeDecision.{is_settled, live_claim, or_else, referred_action, volume_decision}
+use Rattle.volume_sync.specs.VolumeDecision.{live_claim, or_else, referred_action, volume_decision}
+use Rattle.volume_sync.specs.Steps.Conditions.{is_settled}
 use Rattle.volume_sync.specs.VolumeLaw.{ReadsRows, due_of}
 
 unreferred : (b : Bool) → due_of (if b then actions.Nothing else actions.Available) ≡ (if b then None else Some dues.Available)

@@ -1,3 +1,4 @@
+pub mod Steps
 pub mod VolumeDecision
 pub mod VolumeLaw
 pub mod VolumeTable

@@ -1,4 +1,4 @@
--- Where the look-up and each read see the store itself, the decision on a volume is what is due for it.
+-- Where the look-up and each read see the store itself, the decision on a volume is what is due for it. A choice of this project.
 use Rattle.std.specs.Prelude.{◌≡◌, true, List, Option, Some, None}
 use Rattle.kube_types.specs.declared.uid.Uid.{Uid}
 use Rattle.kube_types.specs.declared.names.Due.{Due}
@@ -8,11 +8,12 @@ use Rattle.kube_types.specs.declared.objects.Volume.{Volume as VolumeData}
 use Rattle.kube_types.specs.declared.objects.Object.{Object}
 use Rattle.kube_types.specs.declared.lookup.Live.{Live}
 use Rattle.kube_types.specs.Keys.{row_at}
-use Rattle.binder_model.specs.BindWrites.{claim_key}
+use Rattle.binder_model.specs.ObjectKeys.{claim_key}
 use Rattle.binder_model.specs.BinderDue.{claim_with, volume_due}
 use Rattle.volume_sync.specs.declared.action.VolumeAction.{VolumeAction}
 use Rattle.volume_sync.specs.declared.action.VolumeAction.TheVariants as actions
-use Rattle.volume_sync.specs.VolumeDecision.{is_asked, live_claim, volume_decision}
+use Rattle.kube_types.specs.Lookups.{is_asked}
+use Rattle.volume_sync.specs.VolumeDecision.{live_claim, volume_decision}
 
 -- to read or to queue the claim is never due
 abbrev pub due_of : VolumeAction → Option Due

@@ -2,26 +2,26 @@
 
 ghost use Rattle.std.specs.Prelude.{◌≡◌, is_some};
 ghost use Rattle.std.specs.Option.{option_copied};
-ghost use Rattle.kube_types.specs.Bindings.{is_available, is_empty, is_ended};
+ghost use Rattle.kube_types.specs.Bindings.{is_available, is_ended};
 ghost use Rattle.binder_model.specs.BinderDue.{is_reclaimed};
-ghost use Rattle.volume_sync.specs.VolumeDecision.{has_uid, is_settled, names, names_none, conditions_on, volume_decision};
+ghost use Rattle.volume_sync.specs.VolumeDecision.{has_uid, volume_decision};
+ghost use Rattle.volume_sync.specs.Steps.Conditions.{is_settled, names, names_none, conditions_on};
 
 use crate::action::VolumeAction;
-use crate::seen::{is_asked, seen_claim};
+use crate::seen::seen_claim;
 use crate::table::volume_table;
-use kube_types::bindings::{PROVISIONED_BY, is_protected_volume};
+use kube_types::bindings::{PROVISIONED_BY, is_empty, is_protected_volume};
 use kube_types::lookup::{Live, Lookup};
 use kube_types::objects::{Claim, Volume};
 use kube_types::parts::{Policy, VolumePhase};
-use kube_types::text::Text;
 
-/// What to do about the volume, as the table says. Where the look-up lacks a claim of the UID that
+/// What to do about the volume. Where the look-up lacks a claim of the UID that
 /// is in the volume's reference, it is `live` that tells of the claim.
 pub fn decide_volume<L: Lookup>(lookup: &L, volume: &Volume, live: Live) -> VolumeAction
     ensures { result ≡ volume_decision (L.rows lookup.now) volume.now live.entry }
 {
     let claim = seen_claim(lookup, volume, live);
-    let conditions = conditions_on(volume, is_asked(live), claim);
+    let conditions = conditions_on(volume, live.is_asked(), claim);
     VolumeAction::numbered(volume_table().pick(conditions))
 }
 
@@ -32,7 +32,7 @@ fn conditions_on(volume: &Volume, asked: bool, claim: Option<&Claim>) -> [bool; 
     [
         has_uid(volume),
         is_available(volume.phase),
-        is_released(volume.phase),
+        is_ended(volume.phase),
         is_seen(claim),
         asked,
         names_none(claim),
@@ -60,7 +60,7 @@ fn has_uid(volume: &Volume) -> bool
     }
 }
 
-fn is_released(phase: VolumePhase) -> bool
+fn is_ended(phase: VolumePhase) -> bool
     ensures { result ≡ is_ended phase }
 {
     match phase {
@@ -85,13 +85,6 @@ fn names_none(claim: Option<&Claim>) -> bool
         None => false,
         Some(claim) => is_empty(&claim.volume_name),
     }
-}
-
-#[tactic(auto, using(crate::proofs::Says::is_empty_by_length))]
-fn is_empty(text: &Text) -> bool
-    ensures { result ≡ is_empty text.now }
-{
-    text.as_str().is_empty()
 }
 
 fn names(claim: Option<&Claim>, volume: &Volume) -> bool

@@ -3,7 +3,7 @@
 ghost use Rattle.std.specs.Prelude.{◌≡◌};
 ghost use Rattle.std.specs.Option.{option_copied};
 ghost use Rattle.binder_model.specs.BinderDue.{claim_with};
-ghost use Rattle.volume_sync.specs.VolumeDecision.{claim_of, is_asked, live_claim, seen_claim};
+ghost use Rattle.volume_sync.specs.VolumeDecision.{claim_of, live_claim, seen_claim};
 
 use kube_types::bindings::is_uid;
 use kube_types::lookup::{Live, Lookup};
@@ -72,15 +72,5 @@ fn claim_with<'a>(uid: Uid, object: Option<&'a Object>) -> Option<&'a Claim>
             }
         }
         _ => None,
-    }
-}
-
-/// Whether the object was read by itself.
-pub(crate) fn is_asked(live: Live) -> bool
-    ensures { result ≡ is_asked live.entry }
-{
-    match live {
-        Live::NotAsked => false,
-        Live::Absent | Live::Present(_) => true,
     }
 }

@@ -2,7 +2,7 @@
 
 ghost use Rattle.std.specs.Prelude.{◌≡◌};
 ghost use Rattle.case_table.specs.Cases.{IsExact};
-ghost use Rattle.volume_sync.specs.VolumeTable.{row, volume_rows};
+ghost use Rattle.volume_sync.specs.VolumeTable.{free_rows, referred_rows, row, volume_rows};
 
 use crate::action::VolumeAction;
 use case_table::Need::{Any, No, Yes};
@@ -17,14 +17,10 @@ fn row(needs: [Need; 9], action: VolumeAction) -> CaseRow<9>
     }
 }
 
-/// The rows. The conditions, in order: the reference has a UID; the phase is Available; the phase is
-/// Released or Failed; a claim of that UID is seen; it was asked for by itself; it names no volume;
-/// it names this one; this one is Bound, or lacks its protection finalizer; this one was
-/// provisioned, and has policy Delete.
-#[tactic(auto, using(crate::proofs::Rows::rows_exact), unfolding(crate::specs::VolumeTable::volume_rows))]
-pub fn volume_rows() -> [CaseRow<9>; 10]
-    ensures rows { result ≡ volume_rows }
-    ensures exact { IsExact result }
+/// The rows of volumes without the UID of a claim.
+#[tactic(auto, unfolding(crate::specs::VolumeTable::free_rows))]
+fn free_rows() -> [CaseRow<9>; 2]
+    ensures { result ≡ free_rows }
 {
     [
         row(
@@ -35,6 +31,15 @@ pub fn volume_rows() -> [CaseRow<9>; 10]
             [No, No, Any, Any, Any, Any, Any, Any, Any],
             VolumeAction::Available,
         ),
+    ]
+}
+
+/// The rows of volumes with the UID of a claim.
+#[tactic(auto, unfolding(crate::specs::VolumeTable::referred_rows))]
+fn referred_rows() -> [CaseRow<9>; 8]
+    ensures { result ≡ referred_rows }
+{
+    [
         row(
             [Yes, Any, No, No, No, Any, Any, Any, Any],
             VolumeAction::ReadClaim,
@@ -67,6 +72,31 @@ pub fn volume_rows() -> [CaseRow<9>; 10]
             [Yes, Any, No, Yes, Any, No, No, Any, No],
             VolumeAction::Unbind,
         ),
+    ]
+}
+
+/// The rows: those of volumes without the UID of a claim, then those of volumes with one. The
+/// conditions, in order: the reference has a UID; the phase is Available; the phase is Released or
+/// Failed; a claim of that UID is seen; it was asked for by itself; it names no volume; it names this
+/// one; this one is Bound, or lacks its protection finalizer; this one was provisioned, and has policy
+/// Delete.
+pub fn volume_rows() -> [CaseRow<9>; 10]
+    ensures rows { result ≡ volume_rows }
+    ensures exact { IsExact result }
+{
+    let free = free_rows();
+    let referred = referred_rows();
+    [
+        free[0],
+        free[1],
+        referred[0],
+        referred[1],
+        referred[2],
+        referred[3],
+        referred[4],
+        referred[5],
+        referred[6],
+        referred[7],
     ]
 }
 

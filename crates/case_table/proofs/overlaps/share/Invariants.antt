@@ -1,5 +1,5 @@
 use Rattle.std.proofs.Common.{◌≡◌, drop}
-use Rattle.case_table.specs.Cases.{shared}
+use Rattle.case_table.specs.Steps.Sharing.{shared}
 use Rattle.case_table.proofs.overlaps.share.Given as goal
 
 -- the needs so far can all be met

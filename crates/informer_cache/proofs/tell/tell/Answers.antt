@@ -1,6 +1,7 @@
 use Rattle.std.proofs.Common.{◌∙◌, ap, sym}
 use Rattle.std.proofs.lemmas.Result.{on_ok_weaker}
-use Rattle.informer_cache.specs.Knowledge.{is_older, telling_of}
+use Rattle.informer_cache.specs.Knowledge.{telling_of}
+use Rattle.informer_cache.specs.Steps.Sights.{is_older}
 use Rattle.informer_cache.proofs.Seen.{told_put}
 use Rattle.informer_cache.proofs.tell.tell.Goals as goal
 

@@ -2,7 +2,7 @@ use Rattle.std.proofs.Common.{◌≡◌, true, drop}
 use Rattle.std.specs.List.{list_all}
 use Rattle.std.specs.Char.{is_ascii_digit}
 use Rattle.std.specs.Str.Parse.{digits_value_after}
-use Rattle.quantity_text.specs.Capped.{capped}
+use Rattle.quantity_text.specs.Steps.Capped.{capped}
 use Rattle.quantity_text.proofs.digits.number_behind.Given as goal
 
 abbrev pub invariant-loop-digit : goal.invariant-loop-digit

@@ -1,6 +1,6 @@
 use Rattle.std.proofs.Common.{◌≡◌, None, sym, subst, ◌∙◌, cond}
 use Rattle.std.specs.Prelude.{IfSome}
-use Rattle.sync_queue.specs.Keys.{same_key}
+use Rattle.kube_types.specs.Keys.{same_key}
 use Rattle.indexmap.specs.IndexMap.{get, Updates}
 use Rattle.sync_queue.proofs.KeyFacts.{key_is}
 use Rattle.sync_queue.proofs.Places.{stands_at}

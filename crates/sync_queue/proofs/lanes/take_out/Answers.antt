@@ -1,6 +1,6 @@
 use Rattle.std.proofs.Common.{◌≡◌, ◌<◌, ◌+◌, sym, subst, ◌∙◌}
 use Rattle.std.specs.Prelude.{IfSome, OnSome, remove, slice_index_or}
-use Rattle.sync_queue.specs.Keys.{same_key}
+use Rattle.kube_types.specs.Keys.{same_key}
 use Rattle.sync_queue.proofs.KeyFacts.{key_is}
 use Rattle.sync_queue.proofs.Places.{remove-first}
 use Rattle.sync_queue.proofs.lanes.take_out.Goals as goal

@@ -1,5 +1,5 @@
 use Rattle.std.specs.Option.{option_copied}
-use Rattle.volume_match.specs.Scan.{IsBestBelow}
+use Rattle.volume_match.specs.Steps.Scan.{IsBestBelow}
 use Rattle.volume_match.proofs.choice.best.Given as goal
 
 -- the best so far

@@ -1,7 +1,8 @@
-use Rattle.std.proofs.Common.{Bool, ◌∙◌, Option, sym, ap}
+use Rattle.std.proofs.Common.{◌∙◌, Option, sym, ap}
 use Rattle.kube_types.specs.declared.objects.Object.{Object}
 use Rattle.volume_match.specs.Named.{has_key_at, key_at}
-use Rattle.volume_match.proofs.KindFind.{found_at, passed_at, row_of_kind}
+use Rattle.kube_types.proofs.RowPlaces.{row_of_kind}
+use Rattle.volume_match.proofs.KindFind.{found_at, passed_at}
 use Rattle.volume_match.proofs.named.place_named.Goals as goal
 
 pub loop-place-init : goal.loop-place-init

@@ -1,13 +1,7 @@
 use Rattle.std.proofs.Common.{◌∷◌, subst, sym}
-use Rattle.std.proofs.lemmas.Result.{on_ok_weaker}
-use Rattle.kube_types.specs.declared.parts.Kind.TheVariants as kinds
 use Rattle.informer_cache.specs.All.{AllKnown, AllStandFor}
 use Rattle.informer_cache.proofs.Stands.{all_stand}
 use Rattle.informer_cache.proofs.caches.Caches.forget.Goals as goal
 
 pub returns : goal.returns
-returns c =
-    on_ok_weaker c.forget-5.result (λ stands mine e is all.
-    let own = subst (λ (v : AllKnown). AllStandFor v mine) (sym c.self.view_is) all in
-    all_stand _ _ _ _ _ (e ∷ mine) (c.in_ok-forget.ensures.stands mine e is (own kinds.StorageClass)) (c.in_ok-forget-2.ensures.stands mine e is (own kinds.Node)) (c.in_ok-forget-3.ensures.stands mine e is (own kinds.PersistentVolume)) (c.in_ok-forget-4.ensures.stands mine e is (own kinds.PersistentVolumeClaim)) (stands mine e is (own kinds.Pod)))
-    c.forget-5.ensures.stands
+returns c = λ mine e is all. all_stand _ c.stand_together.ensures.kinds c.stand_together.ensures.row (e ∷ mine) (c.in_ok-forget_each.ensures mine e is all.each)

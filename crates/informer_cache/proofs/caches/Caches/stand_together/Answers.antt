@@ -1,9 +1,9 @@
-use Rattle.std.proofs.Common.{◌≡◌, refl, ◌∙◌, ap}
+use Rattle.std.proofs.Common.{◌≡◌, refl, ◌∙◌, ap, subst}
 use Rattle.kube_types.specs.declared.parts.Kind.{Kind}
 use Rattle.kube_types.specs.declared.parts.Kind.TheVariants as kinds
 use Rattle.kube_types.specs.Keys.{row_at}
 use Rattle.informer_cache.specs.Cache.{objects_of}
-use Rattle.informer_cache.specs.All.{AllKnown, cache_of}
+use Rattle.informer_cache.specs.All.{AllKnown, AreCaches, cache_of}
 use Rattle.informer_cache.proofs.Together.{list_of, own_row, own_rows, together}
 use Rattle.informer_cache.proofs.caches.Caches.stand_together.Goals as goal
 
@@ -13,6 +13,9 @@ lists_are all kinds.Node = refl
 lists_are all kinds.PersistentVolume = refl
 lists_are all kinds.PersistentVolumeClaim = refl
 lists_are all kinds.Pod = refl
+
+pub returns-clause-kinds : goal.returns-clause-kinds
+returns-clause-kinds c = subst (λ (all : AllKnown). AreCaches all) c.self.view_is c.self.invariant
 
 pub returns-clause-order : goal.returns-clause-order
 returns-clause-order c = together _ _ _ _ _ c.objects.ensures.order c.objects-2.ensures.order c.objects-3.ensures.order c.objects-4.ensures.order c.objects-5.ensures.order c.objects.ensures.kind c.objects-2.ensures.kind c.objects-3.ensures.kind c.objects-4.ensures.kind c.objects-5.ensures.kind

@@ -1,6 +1,6 @@
 use Rattle.std.proofs.Common.{subst, sym}
 use Rattle.std.proofs.lemmas.Result.{on_ok_weaker}
-use Rattle.informer_cache.specs.Sights.{sight_of}
+use Rattle.informer_cache.specs.Steps.Views.{sight_of}
 use Rattle.informer_cache.specs.Knowledge.{telling_of}
 use Rattle.informer_cache.proofs.Seen.{HasKey, put_on, seen_has}
 use Rattle.informer_cache.proofs.merge.View.visit.Goals as goal

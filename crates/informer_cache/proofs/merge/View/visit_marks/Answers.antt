@@ -1,8 +1,8 @@
 use Rattle.std.proofs.Common.{◌≡◌, inl, inr, subst, arith}
 use Rattle.kube_types.specs.declared.key.Key.{Key}
 use Rattle.informer_cache.specs.Marks.{mark_key}
-use Rattle.informer_cache.specs.Sights.{sight_of}
-use Rattle.informer_cache.specs.Knowledge.{Fits}
+use Rattle.informer_cache.specs.Steps.Views.{sight_of}
+use Rattle.informer_cache.specs.Steps.Sights.{Fits}
 use Rattle.informer_cache.proofs.Found.{found-take}
 use Rattle.informer_cache.proofs.Seen.{goes_further}
 use Rattle.informer_cache.proofs.merge.View.visit_marks.Goals as goal

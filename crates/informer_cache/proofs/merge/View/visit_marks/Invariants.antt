@@ -1,8 +1,8 @@
 use Rattle.std.proofs.Common.{◌≡◌, true, is_some, take}
 use Rattle.kube_types.specs.declared.key.Key.{Key}
 use Rattle.informer_cache.specs.Marks.{mark_at}
-use Rattle.informer_cache.specs.Sights.{sight_of}
-use Rattle.informer_cache.specs.Knowledge.{Fits, GoesOn}
+use Rattle.informer_cache.specs.Steps.Views.{sight_of}
+use Rattle.informer_cache.specs.Steps.Sights.{Fits, GoesOn}
 use Rattle.informer_cache.proofs.merge.View.visit_marks.Given as goal
 
 -- the new rows tell of each key so far what is known of it

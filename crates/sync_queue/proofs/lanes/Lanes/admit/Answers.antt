@@ -1,12 +1,12 @@
 use Rattle.std.proofs.Common.{◌≡◌, [], ◌∷◌, ◌++◌, ap, ◌∙◌, arith}
 use Rattle.indexmap.specs.IndexMap.{get}
-use Rattle.sync_queue.specs.Keys.{same_key}
-use Rattle.sync_queue.specs.Lanes.{stage_in}
+use Rattle.kube_types.specs.Keys.{same_key}
+use Rattle.sync_queue.specs.Steps.Lanes.{stage_in}
 use Rattle.sync_queue.proofs.Moves.{admit-moved}
 use Rattle.sync_queue.proofs.lanes.Lanes.admit.Goals as goal
 use Rattle.std.proofs.Common.{Some, None, subst, cond}
 use Rattle.sync_queue.specs.declared.lanes.Stage.TheVariants.{Waiting}
-use Rattle.sync_queue.specs.Lanes.{IsSet}
+use Rattle.sync_queue.specs.Steps.Lanes.{IsSet}
 use Rattle.sync_queue.specs.Work.{queued}
 
 pub returns : goal.returns

@@ -1,6 +1,6 @@
 use Rattle.indexmap.specs.IndexMap.{get}
-use Rattle.sync_queue.specs.Keys.{same_key}
-use Rattle.sync_queue.specs.Lanes.{stage_in}
+use Rattle.kube_types.specs.Keys.{same_key}
+use Rattle.sync_queue.specs.Steps.Lanes.{stage_in}
 use Rattle.sync_queue.proofs.Moves.{mark-moved}
 use Rattle.sync_queue.proofs.lanes.Lanes.mark.Goals as goal
 

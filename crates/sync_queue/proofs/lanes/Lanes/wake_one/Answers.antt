@@ -1,7 +1,7 @@
 use Rattle.std.proofs.Common.{sym, ap, arith}
 use Rattle.indexmap.specs.IndexMap.{get}
-use Rattle.sync_queue.specs.Keys.{same_key}
-use Rattle.sync_queue.specs.Lanes.{stage_in}
+use Rattle.kube_types.specs.Keys.{same_key}
+use Rattle.sync_queue.specs.Steps.Lanes.{stage_in}
 use Rattle.sync_queue.proofs.Moves.{wake-moved}
 use Rattle.sync_queue.proofs.lanes.Lanes.wake_one.Goals as goal
 use Rattle.std.specs.Prelude.{is_some}

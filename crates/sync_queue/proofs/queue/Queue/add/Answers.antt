@@ -1,6 +1,6 @@
 use Rattle.std.proofs.Common.{◌≡◌, Some, None, refl, sym, ap, ◌∙◌}
 use Rattle.sync_queue.specs.declared.lanes.Stage.TheVariants.{Waiting, Taken, Again, Parked}
-use Rattle.sync_queue.specs.Lanes.{stage_in}
+use Rattle.sync_queue.specs.Steps.Lanes.{stage_in}
 use Rattle.sync_queue.specs.Work.{added, queued}
 use Rattle.sync_queue.proofs.Steps.{added-at, unparked-none}
 use Rattle.sync_queue.proofs.queue.Queue.add.Goals as goal

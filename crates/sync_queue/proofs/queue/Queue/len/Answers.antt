@@ -1,6 +1,6 @@
 use Rattle.std.proofs.Common.{subst}
 use Rattle.sync_queue.specs.Work.{StandsOnce}
-use Rattle.sync_queue.specs.Lanes.{stage_in}
+use Rattle.sync_queue.specs.Steps.Lanes.{stage_in}
 use Rattle.sync_queue.proofs.Moves.{stands_once}
 use Rattle.sync_queue.proofs.queue.Queue.len.Goals as goal
 

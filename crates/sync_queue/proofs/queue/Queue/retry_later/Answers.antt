@@ -1,6 +1,6 @@
 use Rattle.std.proofs.Common.{Some, None, sym, ap, ◌∙◌}
 use Rattle.sync_queue.specs.declared.lanes.Stage.TheVariants.{Waiting, Taken, Again, Parked}
-use Rattle.sync_queue.specs.Lanes.{stage_in}
+use Rattle.sync_queue.specs.Steps.Lanes.{stage_in}
 use Rattle.sync_queue.specs.Work.{put_off}
 use Rattle.sync_queue.proofs.Steps.{put_off-at}
 use Rattle.sync_queue.proofs.queue.Queue.retry_later.Goals as goal

@@ -1,5 +1,5 @@
 use Rattle.std.proofs.Common.{◌≡◌, length}
-use Rattle.sync_queue.specs.Lanes.{IsSound, work_in}
+use Rattle.sync_queue.specs.Steps.Lanes.{IsSound, work_in}
 use Rattle.sync_queue.specs.Work.{woken}
 use Rattle.sync_queue.proofs.queue.Queue.wake.Given as goal
 

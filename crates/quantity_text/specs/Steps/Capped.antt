@@ -1,4 +1,4 @@
--- Numbers up to 10^18, and 10^18 in place of each number above.
+-- Numbers up to 10^18, and 10^18 in place of each number above. A choice of this project.
 use Rattle.std.specs.Prelude.{ℕ, ◌≤◌, min, ⊤}
 use Rattle.quantity_text.specs.declared.scales.Scale.{Scale}
 use Rattle.quantity_text.specs.declared.scales.Scale.TheVariants.{Binary, Decimal, Fraction}

@@ -7,7 +7,7 @@ use Rattle.indexmap.specs.IndexMap.{get}
 use Rattle.sync_queue.specs.declared.lanes.Lanes.{Lanes}
 use Rattle.sync_queue.specs.declared.lanes.Stage.{Stage}
 use Rattle.sync_queue.specs.declared.lanes.Stage.TheVariants.{Waiting, Taken, Again, Parked}
-use Rattle.sync_queue.specs.Keys.{same_key}
+use Rattle.kube_types.specs.Keys.{same_key}
 use Rattle.sync_queue.specs.Work.{Work, AreOnce}
 use Rattle.sync_queue.specs.Work.{Taken as TakenKey}
 

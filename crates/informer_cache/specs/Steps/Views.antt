@@ -1,6 +1,6 @@
--- What is known before a list, and the list, as the code has them.
+-- What is known before a list, and the list, as the code has them. A choice of this project.
 use Rattle.informer_cache.specs.declared.merge.View.{View}
-use Rattle.informer_cache.specs.Knowledge.{Sight}
+use Rattle.informer_cache.specs.Steps.Sights.{Sight}
 
 abbrev pub sight_of : View → Sight
 sight_of v = record { rows = v.rows.now; lists = v.lists.now; namespace = v.namespace.now; version = v.version; items = v.items.now }

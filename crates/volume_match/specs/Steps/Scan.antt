@@ -1,23 +1,13 @@
 -- The best volume among those before a place. A choice of this project.
-use Rattle.std.specs.Prelude.{ℕ, ◌≢◌, ◌<◌, Bool, true, not, ◌&&◌, List, Option, Some, None, slice_get}
+use Rattle.std.specs.Prelude.{ℕ, ◌≢◌, ◌<◌, Bool, true, not, ◌&&◌, List, Option, Some, None}
 use Rattle.std.specs.declared.cmp.Ordering.TheVariants.{Greater}
 use Rattle.std.specs.Ordering.{is_lt}
-use Rattle.kube_types.specs.declared.parts.Kind.TheVariants as kinds
 use Rattle.kube_types.specs.declared.objects.Node.{Node as NodeData}
 use Rattle.kube_types.specs.declared.objects.Volume.{Volume as VolumeData}
 use Rattle.kube_types.specs.declared.objects.Claim.{Claim as ClaimData}
 use Rattle.kube_types.specs.declared.objects.Object.{Object}
-use Rattle.kube_types.specs.declared.objects.Object.TheVariants.{Volume}
-use Rattle.kube_types.specs.Keys.{rows_of}
 use Rattle.binder_model.specs.Matching.{IsCandidate, eligible, is_excluded, match_cmp, only_own_passes}
-
-abbrev pub as_volume : Option Object → Option VolumeData
-as_volume (Some (Volume v)) = Some v
-as_volume _ = None
-
--- the volume at a place among the volumes
-abbrev pub volume_at : List Object → ℕ → Option VolumeData
-volume_at rows place = as_volume (slice_get (rows_of kinds.PersistentVolume rows) place)
+use Rattle.volume_match.specs.Volumes.{volume_at}
 
 -- the volume may be taken
 abbrev pub is_open : ClaimData → Option NodeData → Bool → List ℕ → ℕ → VolumeData → Bool

@@ -1,0 +1,8 @@
+use Rattle.std.proofs.Common.{◌∷◌, ap₂, refl}
+use Rattle.claim_sync.specs.ClaimTable.{completed_rows}
+use Rattle.claim_sync.proofs.table.completed_rows.Goals as goal
+
+pub returns : goal.returns
+unfolding completed_rows
+returns c =
+    ap₂ ◌∷◌ c.row.ensures (ap₂ ◌∷◌ c.row-2.ensures (ap₂ ◌∷◌ c.row-3.ensures (ap₂ ◌∷◌ c.row-4.ensures (ap₂ ◌∷◌ c.row-5.ensures (ap₂ ◌∷◌ c.row-6.ensures refl)))))
