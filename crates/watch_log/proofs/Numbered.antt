@@ -40,52 +40,59 @@ last-take zero version es l = tt
 last-take (suc n) version [] l = tt
 last-take (suc n) version (e ∷ es) l = (l.0, last-take n (version - 1) es l.1)
 
-last_of_all : (version : ℕ) (es : List Event) → AreAll version es → AreLast version es
-last_of_all version [] a = tt
-last_of_all version (e ∷ es) a = (a.1, last_of_all (version - 1) es a.2)
+last_of_all : (base version : ℕ) (es : List Event) → AreAll base version es → AreLast version es
+last_of_all base version [] a = tt
+last_of_all base version (e ∷ es) a = (a.1, last_of_all base (version - 1) es a.2)
 
 -- what came after a version is in the window
-within : (kind : Kind) (from version : ℕ) (es : List Event) → AreAll version es → oldest version ≤ from → from ≤ version → filter (is_later kind from) (take window es) ≡ filter (is_later kind from) es
-within kind from version es a old new =
-    let l = last_of_all version es a in
+within : (kind : Kind) (from base version : ℕ) (es : List Event) → AreAll base version es → oldest base version ≤ from → from ≤ version → filter (is_later kind from) (take window es) ≡ filter (is_later kind from) es
+within kind from base version es a old new =
+    let l = last_of_all base version es a in
     let split : version ≡ from + (version - from) = omega (arith, new) in
     let whole = after_among kind from version (version - from) es l split in
     let part = after_among kind from version (version - from) (take window es) (last-take window version es l) split in
     part ∙ ap (filter (is_event_of kind)) (take-take (version - from) window es (omega (arith, old))) ∙ sym whole
 
-told_of_window : (kind : Kind) (from : ℕ) (log : Log) (es : List Event) → StandsFor log es → oldest log.version ≤ from → from ≤ log.version → told_events kind from log.version log.events ≡ told_events kind from log.version es
+told_of_window : (kind : Kind) (from : ℕ) (log : Log) (es : List Event) → StandsFor log es → oldest log.base log.version ≤ from → from ≤ log.version → told_events kind from log.version log.events ≡ told_events kind from log.version es
 told_of_window kind from log es s old new =
-    rw s.kept (ap (λ xs. record { events = take most_events (reverse xs); upto = reached_version log.version (take most_events (reverse xs)) }) (within kind from log.version es s.all old new))
+    rw s.kept (ap (λ xs. record { events = take most_events (reverse xs); upto = reached_version log.version (take most_events (reverse xs)) }) (within kind from log.base log.version es s.all old new))
 
-pub told_of_window_answers : (kind : Kind) (from : ℕ) (log : Log) (told : Events) → told ≡ told_events kind from log.version log.events → oldest log.version ≤ from → from ≤ log.version → (es : List Event) → StandsFor log es → told ≡ told_events kind from log.version es
+pub told_of_window_answers : (kind : Kind) (from : ℕ) (log : Log) (told : Events) → told ≡ told_events kind from log.version log.events → oldest log.base log.version ≤ from → from ≤ log.version → (es : List Event) → StandsFor log es → told ≡ told_events kind from log.version es
 told_of_window_answers kind from log told is old new es s = is ∙ told_of_window kind from log es s old new
 
 -- the answer by the newest events
-told_among : (kind : Kind) (from version : ℕ) (es : List Event) → IsWindow version es → from ≤ version → told_events kind from version es ≡ record { events = take most_events (events_among kind (version - from) es); upto = reached_version version (take most_events (events_among kind (version - from) es)) }
-told_among kind from version es w new =
+told_among : (kind : Kind) (from base version : ℕ) (es : List Event) → IsWindow base version es → from ≤ version → told_events kind from version es ≡ record { events = take most_events (events_among kind (version - from) es); upto = reached_version version (take most_events (events_among kind (version - from) es)) }
+told_among kind from base version es w new =
     ap (λ xs. record { events = take most_events (reverse xs); upto = reached_version version (take most_events (reverse xs)) }) (after_among kind from version (version - from) es w.last (omega (arith, new)))
 
 -- the answer, as the code makes it
-pub told_answer : (kind : Kind) (from version : ℕ) (es told seen : List Event) (upto : ℕ) → IsWindow version es → from ≤ version → told ≡ take most_events (events_among kind (version - from) es) → seen ≡ told → upto ≡ reached_version version seen → (◌≡◌ {A = Events} (record { events = told; upto = upto }) (told_events kind from version es))
-told_answer kind from version es told seen upto w new is same to = rw (to, same, is) (sym (told_among kind from version es w new))
+pub told_answer : (kind : Kind) (from base version : ℕ) (es told seen : List Event) (upto : ℕ) → IsWindow base version es → from ≤ version → told ≡ take most_events (events_among kind (version - from) es) → seen ≡ told → upto ≡ reached_version version seen → (◌≡◌ {A = Events} (record { events = told; upto = upto }) (told_events kind from version es))
+told_answer kind from base version es told seen upto w new is same to = rw (to, same, is) (sym (told_among kind from base version es w new))
 
 -- one event more
 
-pub window_of_next : (version : ℕ) (e : Event) (es : List Event) → IsWindow version es → e.version ≡ version + 1 → IsWindow e.version (take window (e ∷ es))
-window_of_next version e es w is =
+pub window_of_next : (base version : ℕ) (e : Event) (es : List Event) → IsWindow base version es → e.version ≡ version + 1 → IsWindow base e.version (take window (e ∷ es))
+window_of_next base version e es w is =
     let before : e.version - 1 ≡ version = omega (arith, is) in
     let count = w.count in
+    let begun = w.begun in
     let more = length-take 512 (e ∷ es) in
     record {
+      begun = omega (arith, begun, is);
       last = (refl, rw before (last-take 511 version es w.last));
-      count = more ∙ omega (arith, count, is);
+      count = more ∙ omega (arith, count, is, begun);
     }
 
-pub all_of_next : (old : Log) (e : Event) (items : List Event) (room : ℕ) → items ≡ take window (e ∷ old.events) → e.version ≡ old.version + 1 → (es : List Event) → StandsFor old es → StandsFor (record { version = e.version; events = items; room = room }) (e ∷ es)
-all_of_next old e items room are is es s =
+base_below : (base version : ℕ) (es : List Event) → AreAll base version es → base ≤ version
+base_below base version [] a = omega (arith, a)
+base_below base version (e ∷ es) a = let below = a.0 in omega (arith, below)
+
+pub all_of_next : (old : Log) (e : Event) (items : List Event) (base room : ℕ) → base ≡ old.base → items ≡ take window (e ∷ old.events) → e.version ≡ old.version + 1 → (es : List Event) → StandsFor old es → StandsFor (record { base = base; version = e.version; events = items; room = room }) (e ∷ es)
+all_of_next old e items base room same are is es s =
+    let begun = base_below old.base old.version es s.all in
     let before : e.version - 1 ≡ old.version = omega (arith, is) in
     record {
-      all = (omega (arith, is), refl, rw before s.all);
+      all = (omega (arith, is, begun, same), refl, subst (λ b. AreAll b (e.version - 1) es) (sym same) (rw before s.all));
       kept = are ∙ rw s.kept (ap (λ xs. e ∷ xs) (take-take 511 512 es (omega arith)));
     }
 

@@ -44,13 +44,14 @@ impl From<OutOfMemory> for LogError {
     }
 }
 
-/// The events of the last 512 writes. Contracts see it as those events, the newest first, the version of the
-/// last one, and how many further ones there is room for.
+/// The events of the last 512 writes since the log began. Contracts see it as those events, the newest first, the
+/// version of the last one, that with which the log began, and how many further events there is room for.
 #[derive(Debug, Drop)]
 pub struct WatchLog {
     alloc: Global,
-    events: VecDeque<Event>,
+    base: Version,
     version: Version,
+    events: VecDeque<Event>,
 }
 
 impl Model for WatchLog {
@@ -60,9 +61,9 @@ impl Model for WatchLog {
 
     ghost Value = { Log };
 
-    ghost view = { λ l. record { version = l.version; events = l.events.items; room = deque_capacity l.events - min (deque_len l.events) 511 } };
+    ghost view = { λ l. record { base = l.base; version = l.version; events = l.events.items; room = deque_capacity l.events - min (deque_len l.events) 511 } };
 
-    ghost invariant = { λ l. IsWindow l.version l.events.items };
+    ghost invariant = { λ l. IsWindow l.base l.version l.events.items };
 }
 
 /// Puts the event first. Where the window is full, its last event leaves.
@@ -118,20 +119,32 @@ fn reached_version(version: Version, told: &[Event]) -> Version
 }
 
 impl WatchLog {
-    /// A log without events. It takes no memory.
+    /// A log without events, of a store without writes. It takes no memory.
     pub fn new(alloc: Global) -> WatchLog
+        ensures base { result.base ≡ 0 }
         ensures version { result.version ≡ 0 }
+        ensures events { result.events ≡ [] }
+        ensures all { StandsFor result [] }
+    {
+        WatchLog::from_base(alloc, 0)
+    }
+
+    /// A log without events, of a store that begins with this version. It takes no memory.
+    pub fn from_base(alloc: Global, base: Version) -> WatchLog
+        ensures base { result.base ≡ base }
+        ensures version { result.version ≡ base }
         ensures events { result.events ≡ [] }
         ensures all { StandsFor result [] }
     {
         WatchLog {
             alloc,
+            base,
+            version: base,
             events: VecDeque::new(alloc),
-            version: 0,
         }
     }
 
-    /// The version of the last event, 0 before the first.
+    /// The version of the last event, the base before the first.
     pub fn version(&self) -> Version
         ensures { result ≡ self.now.version }
     {
@@ -140,9 +153,11 @@ impl WatchLog {
 
     /// The least version from which a watch is served.
     pub fn oldest(&self) -> Version
-        ensures { result ≡ oldest self.now.version }
+        ensures value { result ≡ oldest self.now.base self.now.version }
+        ensures within { result ≤ self.now.version }
     {
-        self.version.saturating_sub(WINDOW as Version)
+        let left = self.version.saturating_sub(WINDOW as Version);
+        left.max(self.base)
     }
 
     /// For how many events there is room.
@@ -154,6 +169,7 @@ impl WatchLog {
 
     /// Makes room for one event more.
     pub fn reserve(&mut self) -> Result<(), OutOfMemory>
+        ensures base { self.new.base ≡ self.old.base }
         ensures version { self.new.version ≡ self.old.version }
         ensures events { self.new.events ≡ self.old.events }
         ensures room { self.old.room ≤ self.new.room }
@@ -169,6 +185,7 @@ impl WatchLog {
     pub fn push(&mut self, event: Event)
         requires room { 0 < self.old.room }
         requires next { event.version ≡ self.old.version + 1 }
+        ensures base { self.new.base ≡ self.old.base }
         ensures version { self.new.version ≡ event.version }
         ensures events { self.new.events ≡ take window (event ∷ self.old.events) }
         ensures room { self.old.room ≤ self.new.room + 1 }
@@ -180,11 +197,11 @@ impl WatchLog {
 
     /// The events of the kind after the version, the oldest first, at most 64.
     pub fn since(&self, kind: Kind, from: Version) -> Result<Events, LogError>
-        ensures gone { from < oldest self.now.version → result ≡ Err (Gone (oldest self.now.version)) }
+        ensures gone { from < oldest self.now.base self.now.version → result ≡ Err (Gone (oldest self.now.base self.now.version)) }
         ensures ahead { self.now.version < from → result ≡ Err (Ahead self.now.version) }
         ensures told { IfOk result (λ told. told ≡ told_events kind from self.now.version self.now.events) }
         ensures all { (all : List Event) → StandsFor self.now all → IfOk result (λ told. told ≡ told_events kind from self.now.version all) }
-        ensures memory { oldest self.now.version ≤ from → from ≤ self.now.version → IfErr result (λ e. e ≡ NoMemory) }
+        ensures memory { oldest self.now.base self.now.version ≤ from → from ≤ self.now.version → IfErr result (λ e. e ≡ NoMemory) }
     {
         let oldest = self.oldest();
         if from < oldest {
