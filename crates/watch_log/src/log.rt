@@ -156,8 +156,8 @@ impl WatchLog {
         ensures value { result ≡ oldest self.now.base self.now.version }
         ensures within { result ≤ self.now.version }
     {
-        self.base
-            .max(self.version.saturating_sub(WINDOW as Version))
+        let left = self.version.saturating_sub(WINDOW as Version);
+        left.max(self.base)
     }
 
     /// For how many events there is room.
