@@ -1,6 +1,6 @@
 -- The agent's rows but for Mount, computed.
 use Rattle.std.proofs.Common.{sym, refl, inl, inr, true≢false}
-use Rattle.std.specs.Prelude.{ℕ, ◌==◌, Bool, List, [], ◌∷◌, Option, is_none, bytes_eq, unwrap_or}
+use Rattle.std.specs.Prelude.{◌==◌, List, [], ◌∷◌, is_none, bytes_eq}
 use Rattle.kube_types.specs.Keys.{kind_index}
 use Rattle.kube_types.specs.Uids.{uid_of_serial}
 use Rattle.kube_types.specs.Bindings.{is_uid}
@@ -10,19 +10,16 @@ use Rattle.binder_model.specs.Told.{SomeOf, ToldPod}
 use Rattle.binder_model.specs.AgentLicence.{IsEndingPod}
 use Rattle.model_examples.specs.Samples.{Exchange, seat_of, unheard, tells_pod, takes, node_1, node_2, p, ending_p, uid_p}
 use Rattle.model_examples.specs.AgentRows.{MountsExamples, UnmountExamples, other_pod, elsewhere_pod, FinishPodExamples, row_of, mounted, unmounted, mounts_it, told_ending}
-use Rattle.model_examples.proofs.Tellings.{differ, sole, own_kind, told_pods, pods_in, told_objects}
+use Rattle.model_examples.proofs.Tellings.{differ, sole, own_kind, told_pods, pods_in, told_objects, is_version}
 
 abbrev mine : List Exchange → List Entry
 mine xs = seat_of seats.Agent xs
-
-abbrev is_epoch : ℕ → Option ℕ → Bool
-is_epoch n given = unwrap_or given 0 == n
 
 pub mounts_examples : MountsExamples
 mounts_examples = record {
   reads_mounts = (own_kind seats.Agent (takes node_1 1 ∷ []), refl);
   reads_mounts_by_last_epoch = (own_kind seats.Agent (takes node_1 3 ∷ takes node_1 1 ∷ []), refl);
-  older_epoch_is_refused = λ l. differ (is_epoch 3) l.1 refl refl;
+  older_epoch_is_refused = λ l. differ (is_version 3) l.1 refl refl;
   node_never_taken_is_refused = λ l. differ is_none l.1 refl refl;
   other_node_is_refused = λ l. differ is_none l.1 refl refl;
   answer_lost_is_refused = λ l. differ is_none l.1 refl refl;
@@ -34,7 +31,7 @@ ending xs h = told_pods (IsEndingPod uid_p node_1) (mine xs) h
 pub unmount_examples : UnmountExamples
 unmount_examples = record {
   unmounts = (own_kind seats.Agent told_ending, record { current = refl; told = inl (refl, inl (record { same = refl; placed = refl; deleting = refl })) });
-  other_epoch_is_refused = λ l. differ (is_epoch 3) l.1.current refl refl;
+  other_epoch_is_refused = λ l. differ (is_version 3) l.1.current refl refl;
   pod_never_told_is_refused = λ l. ending (takes node_1 1 ∷ []) l.1.told;
   answer_lost_is_refused = λ l. ending (unheard (tells_pod ending_p) ∷ takes node_1 1 ∷ []) l.1.told;
   other_pod_is_refused = λ l. differ (λ u. is_uid u (uid_of_serial 8)) (sole (ending (tells_pod other_pod ∷ takes node_1 1 ∷ []) l.1.told)).same refl refl;
@@ -52,7 +49,7 @@ finish_pod_examples = record {
   finishes_beside_other_pod = (own_kind seats.Agent (mounted node_1 1 (row_of (uid_of_serial 8) ∷ []) ∷ told_ending), record { current = refl; kind = refl; told = inr (inl (refl, inl told)); unmounted = refl });
   finishes_after_a_mount_before = (own_kind seats.Agent (unmounted ∷ mounts_it ∷ told_ending), record { current = refl; kind = refl; told = inr (inr (inl (refl, inl told))); unmounted = refl });
   finishes_by_uid_whatever_the_name = (own_kind seats.Agent (unmounted ∷ told_ending), record { current = refl; kind = refl; told = inr (inl (refl, inl told)); unmounted = refl });
-  older_epoch_is_refused = λ l. differ (is_epoch 3) l.1.current refl refl;
+  older_epoch_is_refused = λ l. differ (is_version 3) l.1.current refl refl;
   key_of_other_kind_is_refused = λ l. differ (λ k. kind_index k == 3) l.1.kind refl refl;
   pod_never_told_is_refused = λ l. ending (unmounted ∷ takes node_1 1 ∷ []) l.1.told;
   other_pod_is_refused = λ l. differ (λ u. is_uid u (uid_of_serial 8)) (sole (ending (unmounted ∷ tells_pod other_pod ∷ takes node_1 1 ∷ []) l.1.told)).same refl refl;

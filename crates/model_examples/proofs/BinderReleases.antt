@@ -1,6 +1,6 @@
 -- The binder's rows that take a binding back, computed.
 use Rattle.std.proofs.Common.{sym, refl, ap, inl, inr, true≢false, ◌∙◌}
-use Rattle.std.specs.Prelude.{ℕ, ◌≡◌, ◌⊎◌, ◌==◌, Bool, true, false, not, List, [], ◌∷◌, Option, Some, None, is_none, codes, bytes_eq, unwrap_or}
+use Rattle.std.specs.Prelude.{ℕ, ◌≡◌, ◌⊎◌, Bool, true, false, not, List, [], ◌∷◌, Option, Some, None, is_none, codes, bytes_eq}
 use Rattle.kube_types.specs.declared.parts.Kind.TheVariants as kinds
 use Rattle.kube_types.specs.declared.parts.Modes.{Modes}
 use Rattle.kube_types.specs.declared.key.Key.{Key}
@@ -21,19 +21,12 @@ use Rattle.binder_model.specs.BinderDue.{is_reclaimed}
 use Rattle.binder_model.specs.Told.{SomeOf, ToldVolume, ToldClaim, TellsLive}
 use Rattle.binder_model.specs.BinderLicence.{MayRelease, WasReadGone, IsReferring, IsGone, MayUnbind, MayLose, WasReadLost, IsNotCarrying, IsCompletedVersion}
 use Rattle.binder_model.specs.Licence.{AtVolume, AtVolumeKey, AtClaimKey}
-use Rattle.model_examples.specs.Samples.{Exchange, entry_of, seat_of, unheard, lists, tells_volume, tells_claim, tells_both, finds, finds_none, once, amount, a, c, other_c, naming, with_reference, key_a, key_c, uid_c, name_c, ref_c, taken_a, bound_a, bound_c}
-use Rattle.model_examples.specs.BinderReleases.{ReleasedExamples, key_d, prebound_a, failed_a, earlier_a, provisioned_a, reclaimed_a, deleted_with_claim, elsewhere_c, UnbindExamples, taken_prebound, LostExamples, key_b, nameless_c, uncompleted_c, earlier_c, bound_for_other}
-use Rattle.model_examples.proofs.Tellings.{differ, neither, sole, own_kind, told_volumes, told_claims, volume_row, volume_status_row, claim_status_row, volumes_in, claims_in, told_objects, after_tells, never_read, has_get, key_read, not_get}
+use Rattle.model_examples.specs.Samples.{Exchange, entry_of, seat_of, unheard, lists, tells_volume, tells_claim, tells_both, finds, finds_none, once, amount, a, c, other_c, naming, with_reference, key_a, key_c, uid_c, name_c, ref_c, taken_a, bound_a, bound_c, key_d, elsewhere_c, key_b, nameless_c, bound_for_other}
+use Rattle.model_examples.specs.BinderReleases.{ReleasedExamples, prebound_a, failed_a, earlier_a, provisioned_a, reclaimed_a, deleted_with_claim, UnbindExamples, taken_prebound, LostExamples, uncompleted_c, earlier_c}
+use Rattle.model_examples.proofs.Tellings.{differ, neither, sole, own_kind, told_volumes, told_claims, volume_row, volume_status_row, claim_status_row, volumes_in, claims_in, told_objects, after_tells, never_read, has_get, key_read, not_get, is_version, name_of}
 
 abbrev mine : List Exchange → List Entry
 mine xs = seat_of seats.Binder xs
-
-abbrev is_version : ℕ → Option ℕ → Bool
-is_version n given = unwrap_or given 0 == n
-
-abbrev name_of : Option Ref → List ℕ
-name_of None = []
-name_of (Some r) = r.name
 
 abbrev name_read : Option Key → List ℕ
 name_read None = []

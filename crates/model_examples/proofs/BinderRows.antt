@@ -1,6 +1,6 @@
 -- The binder's rows, computed.
 use Rattle.std.proofs.Common.{sym, refl, inl, inr, true≢false, ◌∙◌}
-use Rattle.std.specs.Prelude.{ℕ, ◌==◌, Bool, true, false, not, List, [], ◌∷◌, Option, Some, None, is_none, is_some, codes, bytes_eq, unwrap_or}
+use Rattle.std.specs.Prelude.{ℕ, ◌==◌, Bool, true, false, not, List, [], ◌∷◌, Option, Some, None, is_none, is_some, codes, bytes_eq}
 use Rattle.kube_types.specs.declared.parts.Modes.{Modes}
 use Rattle.kube_types.specs.declared.key.Key.{Key}
 use Rattle.kube_types.specs.declared.objects.Amount.{Amount}
@@ -16,15 +16,12 @@ use Rattle.binder_model.specs.BindWrites.{taken_for, completed_with}
 use Rattle.binder_model.specs.Told.{SomeOf}
 use Rattle.binder_model.specs.BinderLicence.{MayTake, IsTaken, MayBind, IsHere, MayComplete, IsBoundFor, MayShow, IsShown, MayFree}
 use Rattle.binder_model.specs.Licence.{AtVolume, AtClaim, AtVolumeKey, AtClaimKey}
-use Rattle.model_examples.specs.Samples.{Exchange, seat_of, unheard, tells_volume, tells_claim, tells_both, once, amount, a, c, other_c, naming, key_a, key_c, uid_c, taken_a, bound_a, released_a, completed_c}
-use Rattle.model_examples.specs.BinderRows.{ClaimRefExamples, prebound_a, failed_a, prebound_to_d, taken_by_other, taken_and_changed, taken_unmarked, PhaseBoundExamples, unguarded_a, CompletionExamples, bound_for_other, bound_by_name, completed_elsewhere, ClaimStatusExamples, bound_b, AvailableExamples}
-use Rattle.model_examples.proofs.Tellings.{differ, neither, sole, own_kind, told_volumes, told_claims, volume_row, claim_row, volume_status_row, claim_status_row, volumes_in, claims_in, told_objects}
+use Rattle.model_examples.specs.Samples.{Exchange, seat_of, unheard, tells_volume, tells_claim, tells_both, once, amount, a, c, other_c, naming, key_a, key_c, uid_c, taken_a, bound_a, released_a, completed_c, prebound_a, unguarded_a, bound_for_other}
+use Rattle.model_examples.specs.BinderRows.{ClaimRefExamples, failed_a, prebound_to_d, taken_by_other, taken_and_changed, taken_unmarked, PhaseBoundExamples, CompletionExamples, bound_by_name, completed_elsewhere, ClaimStatusExamples, bound_b, AvailableExamples}
+use Rattle.model_examples.proofs.Tellings.{differ, neither, sole, own_kind, told_volumes, told_claims, volume_row, claim_row, volume_status_row, claim_status_row, volumes_in, claims_in, told_objects, is_version}
 
 abbrev mine : List Exchange → List Entry
 mine xs = seat_of seats.Binder xs
-
-abbrev is_version : ℕ → Option ℕ → Bool
-is_version n given = unwrap_or given 0 == n
 
 abbrev unmarked : VolumeData → Bool
 unmarked v = not (has_key bound_by_controller v.meta.annotations)

@@ -1,6 +1,6 @@
 -- The row Mount, computed.
 use Rattle.std.proofs.Common.{sym, refl, ap, subst, inl, inr, true≢false, ◌∙◌}
-use Rattle.std.specs.Prelude.{ℕ, ◌≡◌, ◌==◌, Bool, true, false, List, [], ◌∷◌, Option, Some, None, is_none, codes, bytes_eq, unwrap_or}
+use Rattle.std.specs.Prelude.{ℕ, ◌≡◌, Bool, true, false, List, [], ◌∷◌, Option, Some, None, is_none, codes, bytes_eq}
 use Rattle.kube_types.specs.declared.uid.Uid.{Uid}
 use Rattle.kube_types.specs.declared.parts.Kind.TheVariants as kinds
 use Rattle.kube_types.specs.declared.objects.Claim.{Claim as ClaimData}
@@ -18,15 +18,12 @@ use Rattle.call_types.specs.declared.reply.Reply.TheVariants as replies
 use Rattle.binder_model.specs.ObjectKeys.{volume_key}
 use Rattle.binder_model.specs.BindWrites.{is_claim_bound}
 use Rattle.binder_model.specs.AgentLicence.{MayMount, IsReadyPod, WasShownReady, IsReadReady, IsPodOn, last_get}
-use Rattle.model_examples.specs.Samples.{Exchange, seat_of, lists, tells_pod, finds, finds_none, takes, node_1, node_2, a, key_a, key_c, uid_c, bound_a, bound_c, p, waiting_p, ending_p, uid_p}
-use Rattle.model_examples.specs.Mounting.{stale_list, reads, reads_claim, reads_volume, watches_p, watches_end, watches_next, MountOrderExamples, other_pod, elsewhere_pod, deleting_c, unguarded_c, uncompleted_c, pending_c, lost_c, next_c, bound_for_other, pod_of_two, MountExamples}
-use Rattle.model_examples.proofs.Tellings.{differ, neither, sole, own_kind}
+use Rattle.model_examples.specs.Samples.{Exchange, seat_of, lists, tells_pod, finds, finds_none, takes, node_1, node_2, a, key_a, key_c, uid_c, bound_a, bound_c, p, waiting_p, ending_p, uid_p, unguarded_c, uncompleted_c, lost_c, bound_for_other}
+use Rattle.model_examples.specs.Mounting.{reads, reads_claim, reads_volume, watches_p, watches_end, watches_next, MountOrderExamples, other_pod, elsewhere_pod, deleting_c, pending_c, next_c, pod_of_two, MountExamples}
+use Rattle.model_examples.proofs.Tellings.{differ, neither, sole, own_kind, is_version}
 
 abbrev mine : List Exchange → List Entry
 mine xs = seat_of seats.Agent xs
-
-abbrev is_epoch : ℕ → Option ℕ → Bool
-is_epoch n given = unwrap_or given 0 == n
 
 abbrev two : Exchange → Exchange → List Entry
 two x y = mine (x ∷ y ∷ [])
@@ -117,7 +114,7 @@ pub mount_order_examples : MountOrderExamples
 mount_order_examples = record {
   mounts = (own_kind seats.Agent (reads bound_a bound_c p), record { current = refl; shown = inr (inr (inl (inl (refl, refl), (refl, inl by_list)))); unfinished = refl });
   mounts_pod_told_by_watch = (own_kind seats.Agent (reads_volume ∷ reads_claim ∷ watches_p ∷ lists kinds.Pod [] 8 ∷ takes node_1 1 ∷ []), record { current = refl; shown = inr (inr (inl (inr (inl (refl, refl)), (refl, inl by_watch)))); unfinished = refl });
-  older_epoch_is_refused = λ l. differ (is_epoch 3) l.1.current refl refl;
+  older_epoch_is_refused = λ l. differ (is_version 3) l.1.current refl refl;
   pods_never_listed_is_refused = λ l. neither (λ h. sole h.1.1) (neither (λ h. sole h.1.1) (neither (λ h. neither (λ t. true≢false (sym t.1)) (λ x. x) h.0) (λ h. h))) l.1.shown;
   pods_listed_before_taken_is_refused = λ l. neither (λ h. sole h.1.1) (neither (λ h. sole h.1.1) (neither (λ h. neither (λ t. true≢false (sym t.1)) (λ x. x) h.0) (λ h. h))) l.1.shown;
   pods_listed_after_told_is_refused = λ l. neither (λ h. sole h.1.1) (neither (λ h. sole h.1.1) (neither (λ h. h.1.1) (neither (λ h. neither (λ t. true≢false (sym t.1)) (λ x. x) h.0) (λ h. h)))) l.1.shown;

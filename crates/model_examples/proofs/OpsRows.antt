@@ -8,8 +8,6 @@ use Rattle.kube_types.specs.declared.objects.DataId.{DataId}
 use Rattle.kube_types.specs.declared.objects.Class.{Class as ClassData}
 use Rattle.kube_types.specs.declared.objects.Claim.{Claim as ClaimData}
 use Rattle.kube_types.specs.declared.objects.Volume.{Volume as VolumeData}
-use Rattle.kube_types.specs.declared.objects.Object.{Object}
-use Rattle.kube_types.specs.Keys.{meta_of}
 use Rattle.kube_types.specs.Uids.{uid_text, uid_of_text}
 use Rattle.kube_types.proofs.UidTexts.{reads_back}
 use Rattle.kube_types.specs.declared.objects.Object.TheVariants.{Class, Node, Claim}
@@ -22,16 +20,12 @@ use Rattle.binder_model.specs.At.{HasUid}
 use Rattle.binder_model.specs.Provisioning.{data_name, provisioned_volume, is_wanting, provisions, terms_for}
 use Rattle.binder_model.specs.Told.{SomeOf, ToldClaim, After, IsNewest}
 use Rattle.binder_model.specs.OpsLicence.{AreLabels, MayProvision, MayCreate, TellsData}
-use Rattle.model_examples.specs.Samples.{Exchange, entry_of, seat_of, unheard, lists, tells_claim, tells_class, amount, c, naming, uid_c, fast, late, zone, n1, chosen_c}
-use Rattle.model_examples.specs.OpsRows.{next_c, tells_three, ProvisionExamples, no_uid_c, deleting_c, selecting_c, undone_c, other_class, moved_class, idle_class, CreateVolumeExamples, id_1, id_2, gives, pool_pair, kept_volume, exhausted}
-use Rattle.model_examples.proofs.Tellings.{differ, neither, sole, own_kind, newest_claim, newest_class, newest_node, told_claims, claims_in, classes_in, told_objects}
+use Rattle.model_examples.specs.Samples.{Exchange, entry_of, seat_of, unheard, lists, tells_claim, tells_class, amount, c, naming, uid_c, fast, late, zone, n1, chosen_c, tells_three, no_uid_c, selecting_c, idle_class}
+use Rattle.model_examples.specs.OpsRows.{next_c, ProvisionExamples, deleting_c, undone_c, other_class, moved_class, CreateVolumeExamples, id_1, id_2, gives, pool_pair, kept_volume, exhausted}
+use Rattle.model_examples.proofs.Tellings.{differ, neither, sole, own_kind, newest_claim, newest_class, newest_node, told_claims, claims_in, classes_in, told_objects, has_version}
 
 abbrev mine : List Exchange → List Entry
 mine xs = seat_of seats.Ops xs
-
-abbrev is_version : ℕ → Option Object → Bool
-is_version n None = false
-is_version n (Some o) = (meta_of o).version == n
 
 abbrev has_zone : Option (List Pair) → Bool
 has_zone None = false
@@ -123,7 +117,7 @@ provision_examples = record {
     older_claim row =
         let k = sole (classes_asked (tells_claim undone_c ∷ tells_three c fast n1) (data_name uid_c) (codes "x/y") (amount 3).bytes None row) in
         neither (λ e. true≢false (sym (asks_of (mine (tells_claim undone_c ∷ tells_three c fast n1)) (data_name uid_c) (codes "x/y") (amount 3).bytes None row undone_c fast e k).wanting))
-        (neither (λ e. differ (is_version 6) (asks_of (mine (tells_claim undone_c ∷ tells_three c fast n1)) (data_name uid_c) (codes "x/y") (amount 3).bytes None row c fast e k).newest refl refl) (λ h. h))
+        (neither (λ e. differ (has_version 6) (asks_of (mine (tells_claim undone_c ∷ tells_three c fast n1)) (data_name uid_c) (codes "x/y") (amount 3).bytes None row c fast e k).newest refl refl) (λ h. h))
         (claims_asked (tells_claim undone_c ∷ tells_three c fast n1) (data_name uid_c) (codes "x/y") (amount 3).bytes None row)
 
     gone_claim : MayProvision (mine (lists kinds.PersistentVolumeClaim [] 9 ∷ tells_three c fast n1)) (data_name uid_c) (codes "x/y") (amount 3).bytes None → ⊥
@@ -135,7 +129,7 @@ provision_examples = record {
     older_class row =
         let x = sole (claims_asked (tells_class moved_class ∷ tells_three c fast n1) (data_name uid_c) (codes "x/y") (amount 3).bytes None row) in
         neither (λ e. differ (λ p. bytes_eq p (codes "x/y")) (asks_of (mine (tells_class moved_class ∷ tells_three c fast n1)) (data_name uid_c) (codes "x/y") (amount 3).bytes None row c moved_class x e).by_class refl refl)
-        (neither (λ e. differ (is_version 9) (asks_of (mine (tells_class moved_class ∷ tells_three c fast n1)) (data_name uid_c) (codes "x/y") (amount 3).bytes None row c fast x e).class_newest refl refl) (λ h. h))
+        (neither (λ e. differ (has_version 9) (asks_of (mine (tells_class moved_class ∷ tells_three c fast n1)) (data_name uid_c) (codes "x/y") (amount 3).bytes None row c fast x e).class_newest refl refl) (λ h. h))
         (classes_asked (tells_class moved_class ∷ tells_three c fast n1) (data_name uid_c) (codes "x/y") (amount 3).bytes None row)
 
     other_name : MayProvision (mine (tells_three c fast n1)) (data_name (uid_of_serial 9)) (codes "x/y") (amount 3).bytes None → ⊥
@@ -272,7 +266,7 @@ create_volume_examples = record {
     replaced row =
         let k = sole (classes_made (gives uid_c id_1 None ∷ tells_claim next_c ∷ tells_three c fast n1) (provisioned_volume next_c uid_c fast id_1 None) row) in
         neither (λ e. other_uid (makes_of (mine (gives uid_c id_1 None ∷ tells_claim next_c ∷ tells_three c fast n1)) (provisioned_volume next_c uid_c fast id_1 None) row next_c fast e k))
-        (neither (λ e. differ (is_version 9) (makes_of (mine (gives uid_c id_1 None ∷ tells_claim next_c ∷ tells_three c fast n1)) (provisioned_volume next_c uid_c fast id_1 None) row c fast e k).newest refl refl) (λ h. h))
+        (neither (λ e. differ (has_version 9) (makes_of (mine (gives uid_c id_1 None ∷ tells_claim next_c ∷ tells_three c fast n1)) (provisioned_volume next_c uid_c fast id_1 None) row c fast e k).newest refl refl) (λ h. h))
         (claims_made (gives uid_c id_1 None ∷ tells_claim next_c ∷ tells_three c fast n1) (provisioned_volume next_c uid_c fast id_1 None) row)
       where
         other_uid : Makes (mine (gives uid_c id_1 None ∷ tells_claim next_c ∷ tells_three c fast n1)) (provisioned_volume next_c uid_c fast id_1 None) next_c fast → ⊥
@@ -282,5 +276,5 @@ create_volume_examples = record {
     older_class row =
         let x = sole (claims_made (gives uid_c id_1 None ∷ tells_class moved_class ∷ tells_three c fast n1) (made_by id_1 None) row) in
         neither (λ e. differ (λ v. is_by (codes "x/y") v) (makes_of (mine (gives uid_c id_1 None ∷ tells_class moved_class ∷ tells_three c fast n1)) (made_by id_1 None) row c moved_class x e).object refl refl)
-        (neither (λ e. differ (is_version 9) (makes_of (mine (gives uid_c id_1 None ∷ tells_class moved_class ∷ tells_three c fast n1)) (made_by id_1 None) row c fast x e).class_newest refl refl) (λ h. h))
+        (neither (λ e. differ (has_version 9) (makes_of (mine (gives uid_c id_1 None ∷ tells_class moved_class ∷ tells_three c fast n1)) (made_by id_1 None) row c fast x e).class_newest refl refl) (λ h. h))
         (classes_made (gives uid_c id_1 None ∷ tells_class moved_class ∷ tells_three c fast n1) (made_by id_1 None) row)

@@ -1,6 +1,6 @@
 -- The protection controllers' rows, computed.
 use Rattle.std.proofs.Common.{sym, refl, subst, inl, inr, true≢false, ◌∙◌}
-use Rattle.std.specs.Prelude.{ℕ, ◌≡◌, ◌==◌, Bool, not, List, [], ◌∷◌, Option, Some, None, is_none, codes, bytes_eq, unwrap_or}
+use Rattle.std.specs.Prelude.{ℕ, ◌≡◌, Bool, not, List, [], ◌∷◌, Option, Some, None, is_none, codes, bytes_eq}
 use Rattle.kube_types.specs.declared.parts.Kind.TheVariants as kinds
 use Rattle.kube_types.specs.declared.objects.Meta.{Meta}
 use Rattle.kube_types.specs.declared.objects.Claim.{Claim as ClaimData}
@@ -12,12 +12,9 @@ use Rattle.binder_model.specs.At.{IsWrittenAt, IsSameObject}
 use Rattle.binder_model.specs.Told.{SomeOf, ToldClaim, After}
 use Rattle.binder_model.specs.GuardLicence.{MayUnguardVolume, MayUnguardClaim, IsDeletingVersion, TellsUnused}
 use Rattle.binder_model.specs.Licence.{AtVolume, AtClaim, GuardsVolume, GuardsClaim}
-use Rattle.model_examples.specs.Samples.{Exchange, entry_of, seat_of, unheard, lists, lists_in, tells_volume, tells_claim, a, c, uid_c, p, waiting_p}
-use Rattle.model_examples.specs.ProtectionRows.{own_mark, volume_with, claim_with, AddVolumeGuardExamples, bare_a, guarded_a, leaving_bare_a, leaving_guarded_a, guarded_and_changed, AddClaimGuardExamples, bare_c, guarded_c, leaving_bare_c, leaving_guarded_c, guarded_and_named, DropVolumeGuardExamples, leaving_a, loose_a, leaving_bound_a, DropClaimGuardExamples, leaving_c, loose_c, pods, other_p, foreign_p, earlier_leaving_c, staying_c, watches_it_go}
-use Rattle.model_examples.proofs.Tellings.{differ, neither, sole, own_kind, volume_row, claim_row, volumes_in, claims_in, told_claims, told_objects}
-
-abbrev is_version : ℕ → Option ℕ → Bool
-is_version n given = unwrap_or given 0 == n
+use Rattle.model_examples.specs.Samples.{Exchange, entry_of, seat_of, unheard, lists, lists_in, tells_volume, tells_claim, a, c, uid_c, p, waiting_p, leaving_bound_a}
+use Rattle.model_examples.specs.ProtectionRows.{own_mark, volume_with, claim_with, AddVolumeGuardExamples, bare_a, guarded_a, leaving_bare_a, leaving_guarded_a, guarded_and_changed, AddClaimGuardExamples, bare_c, guarded_c, leaving_bare_c, leaving_guarded_c, guarded_and_named, DropVolumeGuardExamples, leaving_a, loose_a, DropClaimGuardExamples, leaving_c, loose_c, pods, other_p, foreign_p, earlier_leaving_c, staying_c, watches_it_go}
+use Rattle.model_examples.proofs.Tellings.{differ, neither, sole, own_kind, volume_row, claim_row, volumes_in, claims_in, told_claims, told_objects, is_version}
 
 abbrev marked : Meta → Bool
 marked m = has_name own_mark m.finalizers

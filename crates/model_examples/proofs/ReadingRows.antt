@@ -1,14 +1,13 @@
 -- Reads, computed.
 use Rattle.std.proofs.Common.{sym, refl, ap, subst, inl, inr, true≢false, ◌∙◌}
-use Rattle.std.specs.Prelude.{ℕ, ◌≡◌, ◌==◌, Bool, true, false, List, [], ◌∷◌, Option, Some, None, is_none, codes, bytes_eq, unwrap_or}
+use Rattle.std.specs.Prelude.{ℕ, ◌≡◌, ◌==◌, Bool, true, List, [], ◌∷◌, Option, Some, is_none, codes, bytes_eq, unwrap_or}
 use Rattle.kube_types.specs.declared.key.Key.{Key}
 use Rattle.kube_types.specs.declared.parts.Kind.TheVariants as kinds
 use Rattle.kube_types.specs.declared.uid.Uid.{Uid}
 use Rattle.kube_types.specs.declared.objects.Ref.{Ref}
 use Rattle.kube_types.specs.declared.objects.Volume.{Volume as VolumeData}
-use Rattle.kube_types.specs.declared.objects.Object.{Object}
 use Rattle.kube_types.specs.declared.objects.Object.TheVariants.{Volume, Claim}
-use Rattle.kube_types.specs.Keys.{kind_index, meta_of}
+use Rattle.kube_types.specs.Keys.{kind_index}
 use Rattle.kube_types.specs.Bindings.{is_uid, ref_uid, is_completed}
 use Rattle.call_types.specs.declared.entry.Entry.{Entry}
 use Rattle.call_types.specs.declared.request.SeatKind.TheVariants as seats
@@ -16,9 +15,9 @@ use Rattle.binder_model.specs.ObjectKeys.{volume_key, claim_key, pod_key}
 use Rattle.binder_model.specs.OpsLicence.{IsToErase}
 use Rattle.binder_model.specs.Told.{SomeOf, ToldPod, IsNewest, newest, object_of}
 use Rattle.binder_model.specs.Reading.{AsksForClaim, AsksForVolume, AsksForEnded, NamesClaim, IsDeletingIn, LacksUid}
-use Rattle.model_examples.specs.Samples.{Exchange, seat_of, unheard, lists, lists_in, tells_volume, tells_claim, tells_pod, tells_both, finds, takes, node_1, a, c, other_c, naming, key_a, key_c, uid_c, ref_c, taken_a, released_a, completed_c, bound_c, p}
-use Rattle.model_examples.specs.ReadingRows.{FollowsExamples, ListExamples, listed, watched, gone_from, leaving_c, WatchExamples, BinderGetExamples, key_b, key_d, prebound_a, released_later, OpsGetExamples, ended_a, still_bound_a, never_bound_a, deleting_a, AgentGetExamples, elsewhere_p, OtherGetExamples}
-use Rattle.model_examples.proofs.Tellings.{differ, neither, sole, own_kind, told_claims, told_pods, newest_volume, newest_claim, same_volume, volumes_in, claims_in, pods_in, told_objects}
+use Rattle.model_examples.specs.Samples.{Exchange, seat_of, unheard, lists, lists_in, tells_volume, tells_claim, tells_pod, tells_both, finds, takes, node_1, a, c, other_c, naming, key_a, key_c, uid_c, ref_c, taken_a, released_a, completed_c, bound_c, p, key_b, key_d, prebound_a, ended_a, still_bound_a, never_bound_a, deleting_a}
+use Rattle.model_examples.specs.ReadingRows.{FollowsExamples, ListExamples, listed, watched, gone_from, leaving_c, WatchExamples, BinderGetExamples, released_later, OpsGetExamples, AgentGetExamples, elsewhere_p, OtherGetExamples}
+use Rattle.model_examples.proofs.Tellings.{differ, neither, sole, own_kind, told_claims, told_pods, newest_volume, newest_claim, same_volume, volumes_in, claims_in, pods_in, told_objects, has_version, name_of}
 
 pub follows_examples : FollowsExamples
 follows_examples = record {
@@ -91,18 +90,10 @@ watch_examples = record {
   kind_not_followed_is_refused = λ l. true≢false (sym l.1.0);
 }
 
-abbrev has_version : ℕ → Option Object → Bool
-has_version n None = false
-has_version n (Some o) = (meta_of o).version == n
-
 -- the binder
 
 abbrev mine : List Exchange → List Entry
 mine xs = seat_of seats.Binder xs
-
-abbrev name_of : Option Ref → List ℕ
-name_of None = []
-name_of (Some r) = r.name
 
 volumes_asked : (xs : List Exchange) (key : Key) (r : AsksForClaim (mine xs) key) → SomeOf (λ v. v ≡ r.volume) (volumes_in (told_objects (mine xs)))
 volumes_asked xs key r = newest_volume (mine xs) (volume_key r.volume.meta.name) r.volume r.newest_volume

@@ -1,6 +1,6 @@
 -- The reclaimer's rows, computed.
 use Rattle.std.proofs.Common.{sym, refl, ap, subst, inl, inr, true≢false, ◌∙◌}
-use Rattle.std.specs.Prelude.{ℕ, ◌≡◌, ◌==◌, Bool, true, false, List, [], ◌∷◌, Option, Some, None, is_none, codes, bytes_eq, unwrap_or}
+use Rattle.std.specs.Prelude.{ℕ, ◌≡◌, ◌==◌, true, false, List, [], ◌∷◌, Option, Some, None, is_none, codes, bytes_eq, unwrap_or}
 use Rattle.kube_types.specs.declared.parts.Kind.TheVariants as kinds
 use Rattle.kube_types.specs.declared.uid.Uid.{Uid}
 use Rattle.kube_types.specs.declared.objects.DataId.{DataId}
@@ -22,16 +22,13 @@ use Rattle.binder_model.specs.Provisioning.{data_name}
 use Rattle.binder_model.specs.Told.{SomeOf, ToldVolume, ToldClaim, After, IsNewestAbsent, last_found}
 use Rattle.binder_model.specs.OpsLicence.{MayErase, IsToErase, MayFail, IsThisVolume, TellsEraseFailed, MayDelete, IsEndedOver, TellsErased, MayClearNode, IsThisClaim, TellsExhausted, IsUnserved}
 use Rattle.binder_model.specs.Licence.{AtVolumeKey, AtClaim}
-use Rattle.model_examples.specs.Samples.{Exchange, heard, amount, entry_of, seat_of, unheard, lists, tells_volume, tells_claim, tells_node, finds, c, key_a, uid_c, n1, chosen_c, volume_at, claim_at, with_uid}
-use Rattle.model_examples.specs.Reclaiming.{EraseExamples, ended_a, id_a, id_b, kept_a, still_bound_a, never_bound_a, deleting_a, failed_a, FailedExamples, erases, faults, DeleteVolumeExamples, done, uid_a, elsewhere_a, ClearNodeExamples, exhausts, exhausted, cleared_c, completed_on_node, completed_cleared, chosen_without_uid, later_chosen_c}
+use Rattle.model_examples.specs.Samples.{Exchange, heard, amount, entry_of, seat_of, unheard, lists, tells_volume, tells_claim, tells_node, finds, c, key_a, uid_c, n1, chosen_c, volume_at, claim_at, with_uid, ended_a, id_a, still_bound_a, never_bound_a, deleting_a, failed_a}
+use Rattle.model_examples.specs.Reclaiming.{EraseExamples, id_b, kept_a, FailedExamples, erases, faults, DeleteVolumeExamples, done, uid_a, elsewhere_a, ClearNodeExamples, exhausts, exhausted, cleared_c, completed_on_node, completed_cleared, chosen_without_uid, later_chosen_c}
 use Rattle.model_examples.proofs.OpsRows.{names_apart}
-use Rattle.model_examples.proofs.Tellings.{differ, neither, sole, own_kind, volume_status_row, claim_row, volumes_in, claims_in, told_volumes, told_claims, told_objects}
+use Rattle.model_examples.proofs.Tellings.{differ, neither, sole, own_kind, volume_status_row, claim_row, volumes_in, claims_in, told_volumes, told_claims, told_objects, is_version}
 
 abbrev mine : List Exchange → List Entry
 mine xs = seat_of seats.Ops xs
-
-abbrev is_version : ℕ → Option ℕ → Bool
-is_version n given = unwrap_or given 0 == n
 
 -- Erase
 

@@ -25,8 +25,8 @@ use Rattle.binder_model.specs.World.{world, effect, on_devices, reply_to, world_
 use Rattle.binder_model.specs.Safe.{AreBindings, CountedAreBound, Counts, IsBoundTo, is_mounted, IsEndedForDelete}
 use Rattle.model_laws.specs.Worked.{no_setup}
 use Rattle.model_examples.specs.Imported.{setup_of}
-use Rattle.model_examples.specs.Samples.{volume_at, a, c, d, in_phase, claim_at, key_a, key_c, taken_a, bound_a, released_a, bound_c}
-use Rattle.model_examples.specs.SafePoints.{completing, completes, with_claim, lost_setup, BindingExamples, mounting, unmounted, LeavingExamples, ended_a, failed_a, next_a, no_uid_a, ErasedExamples, SafeExamples}
+use Rattle.model_examples.specs.Samples.{volume_at, a, c, d, in_phase, claim_at, key_a, key_c, taken_a, bound_a, released_a, bound_c, ended_a, failed_a}
+use Rattle.model_examples.specs.SafePoints.{completing, completes, with_claim, lost_setup, BindingExamples, mounting, unmounted, LeavingExamples, next_a, no_uid_a, ErasedExamples, SafeExamples}
 use Rattle.model_examples.proofs.Tellings.{one, differ, sole, found_in, claims_in, claim_in, volumes_in, volume_in, volume_of}
 
 -- the claims, and the volumes, that stand in literal rows

@@ -1,6 +1,6 @@
 -- The scheduler's rows, computed.
 use Rattle.std.proofs.Common.{sym, refl, ap, subst, inl, inr, true≢false, ◌∙◌}
-use Rattle.std.specs.Prelude.{ℕ, ◌≡◌, ◌==◌, Bool, true, false, not, List, [], ◌∷◌, Option, Some, None, is_none, codes, bytes_eq, unwrap_or}
+use Rattle.std.specs.Prelude.{ℕ, ◌≡◌, Bool, true, false, not, List, [], ◌∷◌, Option, Some, None, is_none, codes, bytes_eq, unwrap_or}
 use Rattle.plain_data.specs.Pairs.{value_at}
 use Rattle.kube_types.specs.declared.parts.Kind.TheVariants as kinds
 use Rattle.kube_types.specs.declared.objects.Claim.{Claim as ClaimData}
@@ -8,7 +8,6 @@ use Rattle.kube_types.specs.declared.objects.Node.{Node as NodeData}
 use Rattle.kube_types.specs.declared.objects.Volume.{Volume as VolumeData}
 use Rattle.kube_types.specs.declared.objects.Object.{Object}
 use Rattle.kube_types.specs.declared.objects.Object.TheVariants.{Class, Node, Volume, Claim, Pod}
-use Rattle.kube_types.specs.Keys.{meta_of}
 use Rattle.kube_types.specs.Bindings.{selected_node, class_of_claim, is_empty, is_uid, is_completed}
 use Rattle.label_rules.specs.Selectors.{admits}
 use Rattle.kube_types.specs.Uids.{uid_of_serial}
@@ -23,19 +22,12 @@ use Rattle.binder_model.specs.Told.{SomeOf, IsNewest, newest, object_of}
 use Rattle.binder_model.specs.BinderLicence.{MayTake, IsTaken}
 use Rattle.binder_model.specs.SchedulerLicence.{MaySelectNode, MayAssign, IsReadyOn, AreReadyOn}
 use Rattle.binder_model.specs.Licence.{AtVolume, AtClaim}
-use Rattle.model_examples.specs.Samples.{key_a, key_c, uid_p, node_1, bound_a, bound_c, p, waiting_p, tells_pod, volume_at, Exchange, seat_of, lists, tells_volume, tells_claim, tells_class, tells_node, tells_both, a, c, naming, taken_a, fast, late, n1, chosen_c}
-use Rattle.model_examples.specs.SchedulerRows.{BindPodExamples, tells_four, told_ready, key_p, here_a, far_a, plain_pod, other_pod, pod_of_two, scheduled_pod, uncompleted_c, SchedulerClaimRefExamples, no_uid_c, SelectNodeExamples, tells_three, completed_plain, completed_on_node, later_fast, on_other_node}
-use Rattle.model_examples.proofs.Tellings.{differ, neither, sole, own_kind, volume_row, claim_row, volumes_in, claims_in, classes_in, nodes_in, told_claims, told_objects, newest_class, newest_node, same_pod, same_node, same_claim, same_volume}
+use Rattle.model_examples.specs.Samples.{key_a, key_c, uid_p, node_1, bound_a, bound_c, p, waiting_p, tells_pod, volume_at, Exchange, seat_of, lists, tells_volume, tells_claim, tells_class, tells_node, tells_both, a, c, naming, taken_a, fast, late, n1, chosen_c, key_p, far_a, no_uid_c, tells_three}
+use Rattle.model_examples.specs.SchedulerRows.{BindPodExamples, tells_four, told_ready, here_a, plain_pod, other_pod, pod_of_two, scheduled_pod, uncompleted_c, SchedulerClaimRefExamples, SelectNodeExamples, completed_plain, completed_on_node, later_fast, on_other_node}
+use Rattle.model_examples.proofs.Tellings.{differ, neither, sole, own_kind, volume_row, claim_row, volumes_in, claims_in, classes_in, nodes_in, told_claims, told_objects, newest_class, newest_node, same_pod, same_node, same_claim, same_volume, is_version, has_version}
 
 abbrev mine : List Exchange → List Entry
 mine xs = seat_of seats.Scheduler xs
-
-abbrev is_version : ℕ → Option ℕ → Bool
-is_version n given = unwrap_or given 0 == n
-
-abbrev has_version : ℕ → Option Object → Bool
-has_version n None = false
-has_version n (Some o) = (meta_of o).version == n
 
 -- ClaimRef
 

@@ -1,7 +1,8 @@
 -- What a literal list of entries tells, computed: so that a case can be refused by looking at each object told.
 use Rattle.std.proofs.Common.{sym, refl, ap, inl, inr, true≢false, ◌∙◌}
-use Rattle.std.specs.Prelude.{ℕ, ◌≡◌, ◌⊎◌, Bool, true, false, List, [], ◌∷◌, ◌++◌, Option, Some, None, if◌then◌else◌, is_some, unwrap_or}
+use Rattle.std.specs.Prelude.{ℕ, ◌≡◌, ◌⊎◌, Bool, true, false, List, [], ◌∷◌, ◌++◌, Option, Some, None, if◌then◌else◌, is_some, unwrap_or, ◌==◌}
 use Rattle.std.specs.Ordering.{is_eq}
+use Rattle.kube_types.specs.declared.objects.Ref.{Ref}
 use Rattle.kube_types.specs.declared.key.Key.{Key}
 use Rattle.kube_types.specs.declared.objects.Class.{Class as ClassData}
 use Rattle.kube_types.specs.declared.objects.Node.{Node as NodeData}
@@ -11,7 +12,7 @@ use Rattle.kube_types.specs.declared.objects.Claim.{Claim as ClaimData}
 use Rattle.kube_types.specs.declared.objects.Object.{Object}
 use Rattle.kube_types.specs.declared.objects.Object.TheVariants.{Class, Node, Volume, Claim, Pod}
 use Rattle.call_types.specs.declared.entry.Entry.{Entry}
-use Rattle.kube_types.specs.Keys.{key_of, key_cmp, row_at}
+use Rattle.kube_types.specs.Keys.{meta_of, key_of, key_cmp, row_at}
 use Rattle.call_types.specs.declared.request.SeatKind.{SeatKind}
 use Rattle.call_types.specs.declared.request.Request.{Request}
 use Rattle.call_types.specs.declared.request.Request.TheVariants as requests
@@ -24,6 +25,21 @@ use Rattle.model_examples.specs.Samples.{Exchange, seat_of}
 -- two that a test tells apart
 pub differ : {X : Type 0} {a b : X} (test : X → Bool) → a ≡ b → test a ≡ true → test b ≡ false → ⊥
 differ test e at_a at_b = true≢false (sym at_a ∙ ap test e ∙ at_b)
+
+-- tests that tell two values apart
+
+abbrev pub is_version : ℕ → Option ℕ → Bool
+is_version n given = unwrap_or given 0 == n
+
+abbrev pub has_version : ℕ → Option Object → Bool
+has_version n None = false
+has_version n (Some o) = (meta_of o).version == n
+
+abbrev pub name_of : Option Ref → List ℕ
+name_of None = []
+name_of (Some r) = r.name
+
+-- sums of cases
 
 pub neither : {A B : Type 0} → (A → ⊥) → (B → ⊥) → A ⊎ B → ⊥
 neither f g (inl a) = f a

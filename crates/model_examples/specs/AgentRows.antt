@@ -13,7 +13,7 @@ use Rattle.call_types.specs.declared.reply.MountRow.{MountRow}
 use Rattle.call_types.specs.declared.reply.Refusal.TheVariants as refusals
 use Rattle.call_types.specs.declared.reply.Reply.TheVariants as replies
 use Rattle.binder_model.specs.ObjectKeys.{pod_key}
-use Rattle.model_examples.specs.Samples.{Allows, Refuses, Exchange, heard, unheard, tells_pod, takes, node_1, node_2, key_c, uid_c, p, ending_p, uid_p}
+use Rattle.model_examples.specs.Samples.{Allows, Refuses, Exchange, heard, unheard, tells_pod, takes, node_1, node_2, key_c, uid_c, p, ending_p, uid_p, key_p}
 
 -- Mounts
 
@@ -46,9 +46,6 @@ pub record UnmountExamples : Type 0 where
   pub staying_pod_is_refused : Refuses seats.Agent (tells_pod p ∷ takes node_1 1 ∷ []) (unmount 1)
 
 -- FinishPod
-
-abbrev pub key_p : Key
-key_p = pod_key (codes "default") (codes "p")
 
 abbrev pub finish : Key → ℕ → Request
 finish key epoch = requests.FinishPod key uid_p node_1 epoch

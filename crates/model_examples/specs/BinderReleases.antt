@@ -18,9 +18,8 @@ use Rattle.call_types.specs.declared.request.NewStatus.TheVariants as statuses
 use Rattle.call_types.specs.declared.request.SeatKind.TheVariants as seats
 use Rattle.call_types.specs.declared.request.Request.{Request}
 use Rattle.call_types.specs.declared.request.Request.TheVariants as requests
-use Rattle.binder_model.specs.ObjectKeys.{claim_key, volume_key}
 use Rattle.binder_model.specs.BindWrites.{unbound_volume, write_unbound}
-use Rattle.model_examples.specs.Samples.{Allows, Refuses, unheard, lists, tells_volume, tells_claim, tells_both, finds, finds_none, once, amount, a, c, other_c, in_phase, with_reference, with_uid, naming, key_a, key_c, name_c, ref_c, other_ref_c, taken_a, bound_a, bound_c}
+use Rattle.model_examples.specs.Samples.{Allows, Refuses, unheard, lists, tells_volume, tells_claim, tells_both, finds, finds_none, once, amount, a, c, other_c, in_phase, with_reference, with_uid, naming, key_a, key_c, name_c, ref_c, taken_a, bound_a, bound_c, bound_for_other, elsewhere_c, key_b, key_d, nameless_c}
 
 -- Released
 
@@ -29,9 +28,6 @@ release_at key given = requests.UpdateStatus key (statuses.Volume volumes.Releas
 
 abbrev pub release : Request
 release = release_at key_a (Some 4)
-
-abbrev pub key_d : Key
-key_d = claim_key (codes "default") (codes "d")
 
 abbrev pub prebound_a : VolumeData
 prebound_a = with_reference (Some name_c) taken_a
@@ -52,9 +48,6 @@ reclaimed_a = let old = provisioned_a in record old { policy = policies.Delete }
 
 abbrev pub deleted_with_claim : VolumeData
 deleted_with_claim = let old = taken_a in record old { policy = policies.Delete }
-
-abbrev pub elsewhere_c : ClaimData
-elsewhere_c = naming (codes "b") c
 
 pub record ReleasedExamples : Type 0 where
   pub releases_after_reading_none : Allows seats.Binder (finds_none key_c ∷ tells_volume taken_a ∷ []) release
@@ -109,22 +102,12 @@ lose_at modes got version = requests.UpdateStatus key_c (statuses.Claim claims.L
 abbrev pub lose : Request
 lose = lose_at once (Some (amount 5)) 7
 
-abbrev pub key_b : Key
-key_b = volume_key (codes "b")
-
--- completed, with no name of a volume
-abbrev pub nameless_c : ClaimData
-nameless_c = naming [] bound_c
-
 -- the claim shows a status and is not completed
 abbrev pub uncompleted_c : ClaimData
 uncompleted_c = let old = bound_c in record old { meta = record old.meta { annotations = [] } }
 
 abbrev pub earlier_c : ClaimData
 earlier_c = let old = with_uid (Some (uid_of_serial 9)) bound_c in record old { meta = record old.meta { version = 5 } }
-
-abbrev pub bound_for_other : VolumeData
-bound_for_other = with_reference (Some other_ref_c) bound_a
 
 pub record LostExamples : Type 0 where
   pub loses_claim_without_volume : Allows seats.Binder (tells_claim nameless_c ∷ []) lose

@@ -19,12 +19,9 @@ use Rattle.call_types.specs.declared.request.Request.{Request}
 use Rattle.call_types.specs.declared.request.Request.TheVariants as requests
 use Rattle.binder_model.specs.ObjectKeys.{claim_key, volume_key}
 use Rattle.binder_model.specs.BindWrites.{taken_for, completed_with, write_reference, write_bound, write_completion, write_claim_status, write_available}
-use Rattle.model_examples.specs.Samples.{Allows, Refuses, unheard, tells_volume, tells_claim, tells_both, once, amount, a, c, other_c, in_phase, with_reference, naming, key_a, key_c, name_c, ref_c, other_ref_c, taken_a, bound_a, released_a, completed_c}
+use Rattle.model_examples.specs.Samples.{Allows, Refuses, unheard, tells_volume, tells_claim, tells_both, once, amount, a, c, other_c, in_phase, with_reference, naming, key_a, key_c, name_c, ref_c, other_ref_c, taken_a, bound_a, released_a, completed_c, bound_for_other, prebound_a, unguarded_a}
 
 -- ClaimRef: the first write of a binding
-
-abbrev pub prebound_a : VolumeData
-prebound_a = with_reference (Some name_c) a
 
 abbrev pub failed_a : VolumeData
 failed_a = in_phase volumes.Failed a
@@ -59,9 +56,6 @@ pub record ClaimRefExamples : Type 0 where
 
 -- PhaseBound: the second write
 
-abbrev pub unguarded_a : VolumeData
-unguarded_a = let old = taken_a in record old { meta = record old.meta { finalizers = [] } }
-
 abbrev pub bind_at : Key → Option ℕ → Request
 bind_at key given = requests.UpdateStatus key (statuses.Volume volumes.Bound) given
 
@@ -82,10 +76,7 @@ pub record PhaseBoundExamples : Type 0 where
 
 -- Completion: the third write
 
--- Bound for a claim of the name: with another UID, and with none
-abbrev pub bound_for_other : VolumeData
-bound_for_other = with_reference (Some other_ref_c) bound_a
-
+-- Bound for a claim of the name without a UID
 abbrev pub bound_by_name : VolumeData
 bound_by_name = with_reference (Some name_c) bound_a
 

@@ -7,18 +7,17 @@ use Rattle.kube_types.specs.declared.parts.ClaimPhase.TheVariants as claims
 use Rattle.kube_types.specs.declared.parts.Policy.TheVariants as policies
 use Rattle.kube_types.specs.declared.parts.VolumePhase.TheVariants as volumes
 use Rattle.kube_types.specs.declared.objects.Claim.{Claim as ClaimData}
-use Rattle.kube_types.specs.declared.objects.Class.{Class as ClassData}
 use Rattle.kube_types.specs.declared.objects.Volume.{Volume as VolumeData}
 use Rattle.kube_types.specs.declared.objects.Object.{Object}
 use Rattle.kube_types.specs.declared.objects.Object.TheVariants.{Class, Node, Volume, Claim, Pod}
-use Rattle.kube_types.specs.Bindings.{bound_by_controller, no_provisioner, provisioned_by, yes}
+use Rattle.kube_types.specs.Bindings.{bound_by_controller, provisioned_by, yes}
 use Rattle.call_types.specs.declared.setup.Setup.{Setup}
 use Rattle.binder_model.specs.Devices.{MountAt, no_devices}
-use Rattle.binder_model.specs.Provisioning.{data_name, terms_for}
+use Rattle.binder_model.specs.Provisioning.{data_name}
 use Rattle.binder_model.specs.World.{World, first_world}
 use Rattle.binder_model.specs.Due.{IsDue, IsSettled, IsFirstDue}
 use Rattle.model_laws.specs.Worked.{no_setup}
-use Rattle.model_examples.specs.Samples.{amount, a, c, other_c, in_phase, with_reference, naming, deleting, key_a, key_c, uid_c, name_c, other_ref_c, taken_a, bound_a, released_a, completed_c, bound_c, fast, late, zone, n1, chosen_c, p, waiting_p, ending_p, uid_p, node_1}
+use Rattle.model_examples.specs.Samples.{amount, a, c, other_c, in_phase, with_reference, naming, deleting, key_a, key_c, uid_c, name_c, other_ref_c, taken_a, bound_a, released_a, completed_c, bound_c, fast, late, n1, chosen_c, p, waiting_p, ending_p, uid_p, node_1, ended_a, elsewhere_c, failed_a, far_a, here_c, idle_class, leaving_bound_a, nameless_c, selecting_c, uncompleted_c, unguarded_a, unguarded_c}
 
 -- a pool of 10 gibibytes, also one for a zone alone
 abbrev pub pool_setup : Setup
@@ -45,15 +44,6 @@ pending_a = in_phase volumes.Pending a
 abbrev pub prebound_a : VolumeData
 prebound_a = with_reference (Some name_c) pending_a
 
-abbrev pub here_c : ClaimData
-here_c = naming (codes "a") c
-
-abbrev pub elsewhere_c : ClaimData
-elsewhere_c = naming (codes "b") c
-
-abbrev pub unguarded_a : VolumeData
-unguarded_a = let old = taken_a in record old { meta = record old.meta { finalizers = [] } }
-
 abbrev pub reclaimed_a : VolumeData
 reclaimed_a = let old = bound_a in record old { meta = record old.meta { annotations = (bound_by_controller, yes) ∷ (provisioned_by, codes "x/y") ∷ [] }; policy = policies.Delete }
 
@@ -74,12 +64,6 @@ pub record VolumeDueExamples : Type 0 where
 
 -- volumes, for ops and their protection
 
-abbrev pub ended_a : VolumeData
-ended_a = let old = released_a in record old { policy = policies.Delete }
-
-abbrev pub failed_a : VolumeData
-failed_a = in_phase volumes.Failed ended_a
-
 abbrev pub leaving_ended_a : VolumeData
 leaving_ended_a = let old = ended_a in record old { meta = deleting old.meta }
 
@@ -91,9 +75,6 @@ leaving_a = record a { meta = deleting a.meta }
 
 abbrev pub leaving_bare_a : VolumeData
 leaving_bare_a = record bare_a { meta = deleting bare_a.meta }
-
-abbrev pub leaving_bound_a : VolumeData
-leaving_bound_a = let old = bound_a in record old { meta = deleting old.meta }
 
 pub record ReclaimDueExamples : Type 0 where
   pub reclaim_of_released : DueOf (Volume ended_a) (Volume ended_a ∷ []) (Some dues.Reclaim)
@@ -124,9 +105,6 @@ prebound_to_other = with_reference (Some (record name_c { name = codes "d" })) a
 abbrev pub unshown_c : ClaimData
 unshown_c = record completed_c { phase = claims.Pending }
 
-abbrev pub nameless_c : ClaimData
-nameless_c = naming [] bound_c
-
 pub record ClaimDueExamples : Type 0 where
   pub guard_of_unprotected : DueOf (Claim bare_c) (Claim bare_c ∷ []) (Some dues.Guard)
   pub unguard_of_deleting : DueOf (Claim leaving_c) (Claim leaving_c ∷ Pod waiting_p ∷ []) (Some dues.Unguard)
@@ -156,12 +134,6 @@ pub record ClaimDueExamples : Type 0 where
 
 abbrev pub ProvisionOf : Setup → ClaimData → List Object → Option Due → Type 0
 ProvisionOf setup x rows action = IsDue setup (with_rows rows) (Claim x) action
-
-abbrev pub selecting_c : ClaimData
-selecting_c = record c { selector = Some (record { labels = zone; exprs = [] }) }
-
-abbrev pub idle_class : ClassData
-idle_class = record fast { provisioner = no_provisioner }
 
 -- the volume that a provisioner would make, under another class; and the data, where they were given before
 abbrev pub pvc_volume : VolumeData
@@ -201,17 +173,8 @@ mount_of_p = record { node = node_1; row = record { pod = uid_p; claims = uid_c 
 abbrev pub mounted : List Object → World
 mounted rows = let w = with_rows rows in record w { devices = record no_devices { mounts = mount_of_p ∷ [] } }
 
-abbrev pub unguarded_c : ClaimData
-unguarded_c = record bound_c { meta = record bound_c.meta { finalizers = [] } }
-
 abbrev pub leaving_bound_c : ClaimData
 leaving_bound_c = record bound_c { meta = deleting bound_c.meta }
-
-abbrev pub uncompleted_c : ClaimData
-uncompleted_c = record bound_c { meta = record bound_c.meta { annotations = [] } }
-
-abbrev pub far_a : VolumeData
-far_a = record bound_a { terms = terms_for (Some (codes "zone", codes "z2")) }
 
 pub record PodDueExamples : Type 0 where
   pub finish_of_deleting : DueOf (Pod ending_p) (Pod ending_p ∷ []) (Some dues.Finish)

@@ -24,7 +24,7 @@ use Rattle.call_types.specs.declared.reply.Reply.TheVariants as replies
 use Rattle.binder_model.specs.Store.{first_moment}
 use Rattle.binder_model.specs.Imports.{import_fault, ImportsPass}
 use Rattle.binder_model.specs.World.{first_world, base, effect, reply_to}
-use Rattle.model_examples.specs.Samples.{amount, a, c, d, in_phase, with_reference, with_uid, naming, deleting, name_c, ref_c, taken_a, bound_a, released_a, bound_c, fast, n1, p, waiting_p}
+use Rattle.model_examples.specs.Samples.{amount, a, c, d, in_phase, with_reference, with_uid, deleting, name_c, ref_c, taken_a, bound_a, released_a, bound_c, fast, n1, p, waiting_p, elsewhere_c, here_c, lost_c}
 
 -- the import of the object after those before it
 abbrev pub FaultOf : List Object → Object → Option ImportFault → Type 0
@@ -60,12 +60,6 @@ b = volume_uid (Some (uid_of_serial 12)) (volume_named (codes "b") a)
 -- a volume whose reference has the UID of the claim and another name
 abbrev pub misnamed_a : VolumeData
 misnamed_a = with_reference (Some (record ref_c { name = codes "d" })) a
-
-abbrev pub here_c : ClaimData
-here_c = naming (codes "a") c
-
-abbrev pub elsewhere_c : ClaimData
-elsewhere_c = naming (codes "b") c
 
 pub record ImportFaultExamples : Type 0 where
   pub volume_passes : FaultOf [] (Volume taken_a) None
@@ -123,9 +117,6 @@ kept_a = record bound_a { meta = record bound_a.meta { finalizers = codes "x/y" 
 
 abbrev pub bare_c : ClaimData
 bare_c = record c { meta = record c.meta { finalizers = [] }; phase = claims.Bound }
-
-abbrev pub lost_c : ClaimData
-lost_c = record bound_c { phase = claims.Lost }
 
 abbrev pub leaving_class : ClassData
 leaving_class = record fast { meta = deleting fast.meta }

@@ -15,7 +15,7 @@ use Rattle.call_types.specs.declared.request.Request.TheVariants as requests
 use Rattle.call_types.specs.declared.reply.Change.TheVariants as changes
 use Rattle.call_types.specs.declared.reply.Reply.TheVariants as replies
 use Rattle.binder_model.specs.ObjectKeys.{pod_key}
-use Rattle.model_examples.specs.Samples.{Allows, Refuses, Exchange, heard, unheard, lists, tells_pod, finds, finds_none, watches, takes, node_1, node_2, a, with_uid, with_reference, other_ref_c, deleting, key_a, key_c, uid_c, bound_a, bound_c, p, waiting_p, ending_p, uid_p}
+use Rattle.model_examples.specs.Samples.{Allows, Refuses, Exchange, heard, unheard, lists, tells_pod, finds, finds_none, watches, takes, node_1, node_2, a, with_uid, deleting, key_a, key_c, uid_c, bound_a, bound_c, p, waiting_p, ending_p, uid_p, bound_for_other, lost_c, uncompleted_c, unguarded_c}
 
 abbrev pub mount : ℕ → List Uid → Request
 mount epoch uids = requests.Mount node_1 epoch uid_p uids
@@ -86,23 +86,11 @@ elsewhere_pod = record p { node = node_2 }
 abbrev pub deleting_c : ClaimData
 deleting_c = record bound_c { meta = deleting bound_c.meta }
 
-abbrev pub unguarded_c : ClaimData
-unguarded_c = record bound_c { meta = record bound_c.meta { finalizers = [] } }
-
-abbrev pub uncompleted_c : ClaimData
-uncompleted_c = record bound_c { meta = record bound_c.meta { annotations = [] } }
-
 abbrev pub pending_c : ClaimData
 pending_c = record bound_c { phase = claims.Pending }
 
-abbrev pub lost_c : ClaimData
-lost_c = record bound_c { phase = claims.Lost }
-
 abbrev pub next_c : ClaimData
 next_c = with_uid (Some (uid_of_serial 9)) bound_c
-
-abbrev pub bound_for_other : VolumeData
-bound_for_other = with_reference (Some other_ref_c) bound_a
 
 abbrev pub pod_of_two : PodData
 pod_of_two = record p { claims = codes "c" ∷ codes "d" ∷ [] }

@@ -1,18 +1,17 @@
 -- What a seat was told: which answers tell an object, and which telling of a key is the newest.
 -- A choice of this project. The newest exchange stands first.
-use Rattle.std.specs.Prelude.{ℕ, ◌≡◌, List, [], ◌∷◌, Option, Some, None, codes}
+use Rattle.std.specs.Prelude.{◌≡◌, List, [], ◌∷◌, Option, Some, None, codes}
 use Rattle.kube_types.specs.declared.parts.Kind.TheVariants as kinds
-use Rattle.kube_types.specs.declared.key.Key.{Key}
 use Rattle.kube_types.specs.declared.objects.Claim.{Claim as ClaimData}
 use Rattle.kube_types.specs.declared.objects.Object.{Object}
-use Rattle.kube_types.specs.declared.objects.Object.TheVariants.{Volume, Claim, Pod}
+use Rattle.kube_types.specs.declared.objects.Object.TheVariants.{Claim}
 use Rattle.call_types.specs.declared.request.SeatKind.TheVariants as seats
 use Rattle.call_types.specs.declared.request.Request.TheVariants as requests
 use Rattle.call_types.specs.declared.reply.Change.TheVariants as changes
 use Rattle.call_types.specs.declared.reply.Refusal.TheVariants as refusals
 use Rattle.call_types.specs.declared.reply.Reply.TheVariants as replies
-use Rattle.binder_model.specs.Told.{ToldObject, IsNewest, IsNewestAbsent, newest, object_of}
-use Rattle.model_examples.specs.Samples.{Exchange, seat_of, heard, unheard, lists, lists_in, tells_claim, finds, finds_none, watches, c, d, claim_at, key_a, key_c, p}
+use Rattle.binder_model.specs.Told.{ToldObject, IsNewestAbsent, newest, object_of}
+use Rattle.model_examples.specs.Samples.{Exchange, seat_of, heard, unheard, lists, lists_in, tells_claim, finds, finds_none, watches, c, d, claim_at, key_c}
 
 -- the claim stands in what was told
 abbrev pub Tells : List Exchange → Type 0

@@ -8,7 +8,6 @@ use Rattle.kube_types.specs.declared.parts.Policy.TheVariants as policies
 use Rattle.kube_types.specs.declared.uid.Uid.{Uid}
 use Rattle.kube_types.specs.declared.objects.Class.{Class as ClassData}
 use Rattle.kube_types.specs.declared.objects.Claim.{Claim as ClaimData}
-use Rattle.kube_types.specs.declared.objects.Node.{Node as NodeData}
 use Rattle.kube_types.specs.declared.objects.DataId.{DataId}
 use Rattle.kube_types.specs.declared.objects.Volume.{Volume as VolumeData}
 use Rattle.kube_types.specs.declared.objects.Object.TheVariants.{Volume}
@@ -20,13 +19,9 @@ use Rattle.call_types.specs.declared.request.Request.TheVariants as requests
 use Rattle.call_types.specs.declared.reply.Refusal.TheVariants as refusals
 use Rattle.call_types.specs.declared.reply.Reply.TheVariants as replies
 use Rattle.binder_model.specs.Provisioning.{data_name, provisioned_volume}
-use Rattle.model_examples.specs.Samples.{Allows, Refuses, Exchange, heard, unheard, lists, tells_claim, tells_class, tells_node, amount, c, with_uid, naming, uid_c, completed_c, fast, late, zone, n1, chosen_c, deleting, claim_at, other_c}
+use Rattle.model_examples.specs.Samples.{Allows, Refuses, Exchange, heard, unheard, lists, tells_claim, tells_class, amount, c, naming, uid_c, completed_c, fast, late, zone, n1, chosen_c, deleting, claim_at, other_c, idle_class, no_uid_c, selecting_c, tells_three}
 
 -- Provision
-
--- first the node was told, then the class and the claim
-abbrev pub tells_three : ClaimData → ClassData → NodeData → List Exchange
-tells_three x k n = tells_claim x ∷ tells_class k ∷ tells_node n ∷ []
 
 abbrev pub ask : Uid → List ℕ → ℕ → Option (List Pair) → Request
 ask uid provisioner size labels = requests.Provision (data_name uid) provisioner (amount size).bytes labels
@@ -37,27 +32,18 @@ ask_at_once = ask uid_c (codes "x/y") 3 None
 abbrev pub ask_on_node : Request
 ask_on_node = ask uid_c (codes "x/y") 3 (Some zone)
 
-abbrev pub no_uid_c : ClaimData
-no_uid_c = with_uid None c
-
 abbrev pub deleting_c : ClaimData
 deleting_c = record c { meta = deleting c.meta }
-
-abbrev pub selecting_c : ClaimData
-selecting_c = record c { selector = Some (record { labels = zone; exprs = [] }) }
 
 abbrev pub undone_c : ClaimData
 undone_c = naming [] completed_c
 
--- a class of another name; of another provisioner, told later; and one that provisions nothing
+-- a class of another name; and one of another provisioner, told later
 abbrev pub other_class : ClassData
 other_class = record fast { meta = record fast.meta { name = codes "quick" } }
 
 abbrev pub moved_class : ClassData
 moved_class = record fast { meta = record fast.meta { version = 9 }; provisioner = codes "y/z" }
-
-abbrev pub idle_class : ClassData
-idle_class = record fast { provisioner = no_provisioner }
 
 pub record ProvisionExamples : Type 0 where
   pub asks_at_once : Allows seats.Ops (tells_three c fast n1) ask_at_once

@@ -16,7 +16,7 @@ use Rattle.call_types.specs.declared.request.Request.{Request}
 use Rattle.call_types.specs.declared.request.Request.TheVariants as requests
 use Rattle.call_types.specs.declared.reply.Change.TheVariants as changes
 use Rattle.call_types.specs.declared.reply.Reply.TheVariants as replies
-use Rattle.model_examples.specs.Samples.{Allows, Refuses, Exchange, heard, unheard, lists, lists_in, tells_volume, tells_claim, a, c, bound_a, with_uid, claim_at, deleting, p, waiting_p}
+use Rattle.model_examples.specs.Samples.{Allows, Refuses, Exchange, heard, unheard, lists, lists_in, tells_volume, tells_claim, a, c, with_uid, claim_at, deleting, p, waiting_p, leaving_bound_a}
 
 abbrev pub own_mark : List ℕ
 own_mark = codes "x/y"
@@ -92,9 +92,6 @@ leaving_a = let old = volume_with (own_mark ∷ pv_protection ∷ []) a in recor
 
 abbrev pub loose_a : VolumeData
 loose_a = volume_with (own_mark ∷ []) leaving_a
-
-abbrev pub leaving_bound_a : VolumeData
-leaving_bound_a = let old = bound_a in record old { meta = deleting old.meta }
 
 pub record DropVolumeGuardExamples : Type 0 where
   pub drops_guard : Allows seats.VolumeProtect (tells_volume leaving_a ∷ []) (put_volume loose_a 3)

@@ -4,9 +4,6 @@
 use Rattle.std.specs.Prelude.{ℕ, List, [], ◌∷◌, Some, None, codes}
 use Rattle.kube_types.specs.declared.parts.Kind.{Kind}
 use Rattle.kube_types.specs.declared.parts.Kind.TheVariants as kinds
-use Rattle.kube_types.specs.declared.parts.Policy.TheVariants as policies
-use Rattle.kube_types.specs.declared.parts.VolumePhase.TheVariants as volumes
-use Rattle.kube_types.specs.declared.key.Key.{Key}
 use Rattle.kube_types.specs.declared.objects.Claim.{Claim as ClaimData}
 use Rattle.kube_types.specs.declared.objects.Pod.{Pod as PodData}
 use Rattle.kube_types.specs.declared.objects.Volume.{Volume as VolumeData}
@@ -16,8 +13,8 @@ use Rattle.call_types.specs.declared.request.Request.{Request}
 use Rattle.call_types.specs.declared.request.Request.TheVariants as requests
 use Rattle.call_types.specs.declared.reply.Refusal.TheVariants as refusals
 use Rattle.call_types.specs.declared.reply.Reply.TheVariants as replies
-use Rattle.binder_model.specs.ObjectKeys.{claim_key, volume_key, pod_key}
-use Rattle.model_examples.specs.Samples.{Allows, Refuses, Exchange, heard, unheard, lists, lists_in, tells_volume, tells_claim, tells_pod, tells_both, finds, takes, node_1, node_2, a, c, other_c, naming, volume_at, in_phase, with_reference, deleting, name_c, key_a, key_c, taken_a, released_a, completed_c, bound_c, p}
+use Rattle.binder_model.specs.ObjectKeys.{claim_key, pod_key}
+use Rattle.model_examples.specs.Samples.{Allows, Refuses, Exchange, heard, unheard, lists, lists_in, tells_volume, tells_claim, tells_pod, tells_both, finds, takes, node_1, node_2, a, c, other_c, naming, volume_at, with_reference, deleting, key_a, key_c, taken_a, released_a, completed_c, bound_c, p, ended_a, deleting_a, key_b, key_d, list_volumes, never_bound_a, prebound_a, still_bound_a}
 
 -- the kinds that each controller follows
 
@@ -54,9 +51,6 @@ pub record FollowsExamples : Type 0 where
   pub agent_lists_pods : Allows seats.Agent [] (requests.List kinds.Pod None)
 
 -- lists: one of a kind, until the answer to a watch is that its version is gone
-
-abbrev pub list_volumes : Request
-list_volumes = requests.List kinds.PersistentVolume None
 
 abbrev pub listed : ℕ → Exchange
 listed version = lists kinds.PersistentVolume [] version
@@ -111,15 +105,6 @@ pub record WatchExamples : Type 0 where
 
 -- the binder's reads
 
-abbrev pub key_b : Key
-key_b = volume_key (codes "b")
-
-abbrev pub key_d : Key
-key_d = claim_key (codes "default") (codes "d")
-
-abbrev pub prebound_a : VolumeData
-prebound_a = with_reference (Some name_c) a
-
 abbrev pub released_later : VolumeData
 released_later = with_reference None (volume_at 9 a)
 
@@ -137,18 +122,6 @@ pub record BinderGetExamples : Type 0 where
   pub older_telling_of_the_claim_is_refused : Refuses seats.Binder (lists kinds.PersistentVolumeClaim [] 9 ∷ tells_claim completed_c ∷ []) (requests.Get key_a)
 
 -- the reads of ops
-
-abbrev pub ended_a : VolumeData
-ended_a = let old = released_a in record old { policy = policies.Delete }
-
-abbrev pub still_bound_a : VolumeData
-still_bound_a = in_phase volumes.Bound ended_a
-
-abbrev pub never_bound_a : VolumeData
-never_bound_a = with_reference (Some name_c) ended_a
-
-abbrev pub deleting_a : VolumeData
-deleting_a = let old = ended_a in record old { meta = deleting old.meta }
 
 pub record OpsGetExamples : Type 0 where
   pub reads_ended_volume : Allows seats.Ops (tells_volume ended_a ∷ []) (requests.Get key_a)

@@ -3,7 +3,6 @@
 -- are. The newest exchange stands first.
 use Rattle.std.specs.Prelude.{ℕ, true, false, List, [], ◌∷◌, Some, None, codes}
 use Rattle.kube_types.specs.declared.parts.Kind.TheVariants as kinds
-use Rattle.kube_types.specs.declared.parts.Policy.TheVariants as policies
 use Rattle.kube_types.specs.declared.parts.VolumePhase.TheVariants as volumes
 use Rattle.kube_types.specs.declared.uid.Uid.{Uid}
 use Rattle.kube_types.specs.declared.objects.DataId.{DataId}
@@ -11,7 +10,6 @@ use Rattle.kube_types.specs.declared.objects.Claim.{Claim as ClaimData}
 use Rattle.kube_types.specs.declared.objects.Volume.{Volume as VolumeData}
 use Rattle.kube_types.specs.declared.objects.Object.TheVariants.{Volume, Claim}
 use Rattle.kube_types.specs.Uids.{uid_of_serial}
-use Rattle.kube_types.specs.Sources.{data_id_of}
 use Rattle.kube_types.specs.Bindings.{bind_completed, selected_node, yes}
 use Rattle.call_types.specs.declared.request.NewStatus.TheVariants as statuses
 use Rattle.call_types.specs.declared.request.SeatKind.TheVariants as seats
@@ -22,34 +20,15 @@ use Rattle.call_types.specs.declared.reply.Reply.{Reply}
 use Rattle.call_types.specs.declared.reply.Reply.TheVariants as replies
 use Rattle.binder_model.specs.ObjectKeys.{volume_key}
 use Rattle.binder_model.specs.Provisioning.{data_name}
-use Rattle.model_examples.specs.Samples.{Allows, Refuses, Exchange, heard, unheard, lists, tells_volume, tells_claim, tells_node, finds, amount, a, c, in_phase, volume_at, claim_at, with_reference, with_uid, key_a, key_c, uid_c, name_c, released_a, n1, chosen_c, deleting}
+use Rattle.model_examples.specs.Samples.{Allows, Refuses, Exchange, heard, unheard, lists, tells_volume, tells_claim, tells_node, finds, amount, c, volume_at, claim_at, with_uid, key_a, key_c, uid_c, released_a, n1, chosen_c, ended_a, deleting_a, failed_a, id_a, never_bound_a, still_bound_a}
 
 -- Erase
-
--- Released, with policy Delete, of a claim that had it
-abbrev pub ended_a : VolumeData
-ended_a = let old = released_a in record old { policy = policies.Delete }
-
-abbrev pub id_a : DataId
-id_a = data_id_of a.source
 
 abbrev pub id_b : DataId
 id_b = record { driver = codes "nfs"; id = codes "other" }
 
 abbrev pub kept_a : VolumeData
 kept_a = released_a
-
-abbrev pub still_bound_a : VolumeData
-still_bound_a = in_phase volumes.Bound ended_a
-
-abbrev pub never_bound_a : VolumeData
-never_bound_a = with_reference (Some name_c) ended_a
-
-abbrev pub deleting_a : VolumeData
-deleting_a = let old = ended_a in record old { meta = deleting old.meta }
-
-abbrev pub failed_a : VolumeData
-failed_a = in_phase volumes.Failed ended_a
 
 pub record EraseExamples : Type 0 where
   pub erases_released : Allows seats.Ops (finds key_a (Volume ended_a) ∷ []) (requests.Erase id_a)

@@ -23,12 +23,9 @@ use Rattle.binder_model.specs.ObjectKeys.{pod_key}
 use Rattle.binder_model.specs.BindWrites.{write_reference, write_completion, write_available}
 use Rattle.binder_model.specs.Provisioning.{data_name}
 use Rattle.binder_model.specs.Licence.{Licensed, IsRefusedBy, row_rule}
-use Rattle.model_examples.specs.Samples.{Allows, Refuses, Exchange, seat_of, lists, tells_volume, tells_both, a, c, key_a, key_c, uid_c, amount, once, node_1, taken_a, bound_a, n1, p, uid_p}
+use Rattle.model_examples.specs.Samples.{Allows, Refuses, Exchange, seat_of, lists, tells_volume, tells_both, a, c, key_a, key_c, uid_c, amount, once, node_1, taken_a, bound_a, n1, p, uid_p, list_volumes}
 
 -- two kinds
-
-abbrev pub list_volumes : Request
-list_volumes = requests.List kinds.PersistentVolume None
 
 abbrev pub told_classes : List Exchange
 told_classes = lists kinds.StorageClass [] 3 ∷ []

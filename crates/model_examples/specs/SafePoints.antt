@@ -1,17 +1,14 @@
 -- The parts of what is safe: a world or a step of a history that is, and one that is not, for each condition.
 -- Whether these steps would be licensed is not asked. A choice of this project.
 use Rattle.std.specs.Prelude.{true, false, List, [], ◌∷◌, Some, None, codes}
-use Rattle.kube_types.specs.declared.parts.Policy.TheVariants as policies
 use Rattle.kube_types.specs.declared.parts.VolumePhase.{VolumePhase}
 use Rattle.kube_types.specs.declared.parts.VolumePhase.TheVariants as volumes
 use Rattle.kube_types.specs.declared.uid.Uid.{Uid}
-use Rattle.kube_types.specs.declared.objects.DataId.{DataId}
 use Rattle.kube_types.specs.declared.objects.Claim.{Claim as ClaimData}
 use Rattle.kube_types.specs.declared.objects.Volume.{Volume as VolumeData}
 use Rattle.kube_types.specs.declared.objects.Object.{Object}
 use Rattle.kube_types.specs.declared.objects.Object.TheVariants.{Volume, Claim}
 use Rattle.kube_types.specs.Uids.{uid_of_serial}
-use Rattle.kube_types.specs.Sources.{data_id_of}
 use Rattle.kube_types.specs.Bindings.{bind_completed, yes}
 use Rattle.call_types.specs.declared.entry.Entry.{Entry}
 use Rattle.call_types.specs.declared.setup.Setup.{Setup}
@@ -25,7 +22,7 @@ use Rattle.binder_model.specs.World.{World, first_world}
 use Rattle.binder_model.specs.Safe.{AreBindings, CountedAreBound, CountedAreApart, Counts, KeepsBound, KeepsMounted, ErasesWell, Safe}
 use Rattle.model_laws.specs.Worked.{no_setup}
 use Rattle.model_examples.specs.Imported.{setup_of}
-use Rattle.model_examples.specs.Samples.{Exchange, seat_of, unheard, tells_volume, finds, a, c, d, in_phase, claim_at, key_a, uid_c, taken_a, bound_a, released_a, bound_c, node_1, uid_p}
+use Rattle.model_examples.specs.Samples.{Exchange, seat_of, unheard, tells_volume, finds, a, c, d, in_phase, claim_at, key_a, uid_c, taken_a, bound_a, released_a, bound_c, node_1, uid_p, ended_a, failed_a, id_a}
 
 -- a step by a binder that asks no licence. The world does not look at its reply
 abbrev pub step : Request → Entry
@@ -99,20 +96,11 @@ pub record LeavingExamples : Type 0 where
 
 -- erased data
 
-abbrev pub ended_a : VolumeData
-ended_a = let old = released_a in record old { policy = policies.Delete }
-
-abbrev pub failed_a : VolumeData
-failed_a = in_phase volumes.Failed ended_a
-
 abbrev pub next_a : VolumeData
 next_a = record bound_a { meta = record bound_a.meta { uid = Some (uid_of_serial 12) } }
 
 abbrev pub no_uid_a : VolumeData
 no_uid_a = let old = ended_a in record old { meta = record old.meta { uid = None } }
-
-abbrev pub id_a : DataId
-id_a = data_id_of a.source
 
 -- data of the volume were erased after these exchanges, while these rows stood
 abbrev pub ErasedAfter : List Object → List Exchange → Type 0

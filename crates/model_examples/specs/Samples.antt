@@ -23,7 +23,7 @@ use Rattle.kube_types.specs.declared.objects.Claim.{Claim as ClaimData}
 use Rattle.kube_types.specs.declared.objects.Object.{Object}
 use Rattle.kube_types.specs.declared.objects.Object.TheVariants.{Class, Node, Volume, Claim, Pod}
 use Rattle.kube_types.specs.Uids.{uid_of_serial}
-use Rattle.kube_types.specs.Bindings.{bind_completed, bound_by_controller, selected_node, pv_protection, pvc_protection, yes}
+use Rattle.kube_types.specs.Bindings.{bind_completed, bound_by_controller, selected_node, pv_protection, pvc_protection, yes, no_provisioner}
 use Rattle.call_types.specs.declared.entry.Entry.{Entry}
 use Rattle.call_types.specs.declared.request.SeatKind.{SeatKind}
 use Rattle.call_types.specs.declared.request.Request.{Request}
@@ -33,7 +33,10 @@ use Rattle.call_types.specs.declared.reply.Refusal.TheVariants as refusals
 use Rattle.call_types.specs.declared.reply.Reply.{Reply}
 use Rattle.call_types.specs.declared.reply.Reply.TheVariants as replies
 use Rattle.binder_model.specs.Store.{no_modes, first_moment}
-use Rattle.binder_model.specs.ObjectKeys.{claim_key, volume_key}
+use Rattle.binder_model.specs.ObjectKeys.{claim_key, volume_key, pod_key}
+use Rattle.binder_model.specs.Provisioning.{terms_for}
+use Rattle.kube_types.specs.Sources.{data_id_of}
+use Rattle.kube_types.specs.declared.objects.DataId.{DataId}
 use Rattle.binder_model.specs.Licence.{Licensed}
 
 -- what a seat asked and was answered
@@ -261,3 +264,84 @@ node_2 = codes "n2"
 -- a watch that tells a change of one object
 abbrev pub watches : Kind → Change → Object → ℕ → Exchange
 watches kind change o version = heard (requests.Watch kind (version - 1)) (replies.Events (record { events = record { change = change; object = o; version = version } ∷ []; upto = version }))
+
+-- values that several files of examples share
+
+-- Bound for a claim of the name with another UID
+abbrev pub bound_for_other : VolumeData
+bound_for_other = with_reference (Some other_ref_c) bound_a
+
+-- Released, with policy Delete, of a claim that had it
+abbrev pub ended_a : VolumeData
+ended_a = let old = released_a in record old { policy = policies.Delete }
+
+abbrev pub deleting_a : VolumeData
+deleting_a = let old = ended_a in record old { meta = deleting old.meta }
+
+abbrev pub elsewhere_c : ClaimData
+elsewhere_c = naming (codes "b") c
+
+abbrev pub failed_a : VolumeData
+failed_a = in_phase volumes.Failed ended_a
+
+abbrev pub far_a : VolumeData
+far_a = record bound_a { terms = terms_for (Some (codes "zone", codes "z2")) }
+
+abbrev pub here_c : ClaimData
+here_c = naming (codes "a") c
+
+abbrev pub id_a : DataId
+id_a = data_id_of a.source
+
+abbrev pub idle_class : ClassData
+idle_class = record fast { provisioner = no_provisioner }
+
+abbrev pub key_b : Key
+key_b = volume_key (codes "b")
+
+abbrev pub key_d : Key
+key_d = claim_key (codes "default") (codes "d")
+
+abbrev pub key_p : Key
+key_p = pod_key (codes "default") (codes "p")
+
+abbrev pub leaving_bound_a : VolumeData
+leaving_bound_a = let old = bound_a in record old { meta = deleting old.meta }
+
+abbrev pub list_volumes : Request
+list_volumes = requests.List kinds.PersistentVolume None
+
+abbrev pub lost_c : ClaimData
+lost_c = record bound_c { phase = claims.Lost }
+
+-- completed, with no name of a volume
+abbrev pub nameless_c : ClaimData
+nameless_c = naming [] bound_c
+
+abbrev pub never_bound_a : VolumeData
+never_bound_a = with_reference (Some name_c) ended_a
+
+abbrev pub no_uid_c : ClaimData
+no_uid_c = with_uid None c
+
+abbrev pub prebound_a : VolumeData
+prebound_a = with_reference (Some name_c) a
+
+abbrev pub selecting_c : ClaimData
+selecting_c = record c { selector = Some (record { labels = zone; exprs = [] }) }
+
+abbrev pub still_bound_a : VolumeData
+still_bound_a = in_phase volumes.Bound ended_a
+
+-- first the node was told, then the class and the claim
+abbrev pub tells_three : ClaimData → ClassData → NodeData → List Exchange
+tells_three x k n = tells_claim x ∷ tells_class k ∷ tells_node n ∷ []
+
+abbrev pub uncompleted_c : ClaimData
+uncompleted_c = record bound_c { meta = record bound_c.meta { annotations = [] } }
+
+abbrev pub unguarded_a : VolumeData
+unguarded_a = let old = taken_a in record old { meta = record old.meta { finalizers = [] } }
+
+abbrev pub unguarded_c : ClaimData
+unguarded_c = record bound_c { meta = record bound_c.meta { finalizers = [] } }

@@ -1,6 +1,6 @@
 -- Where the scheduler's volume binding may write, and where it may not: for each row cases that hold, and for each of
 -- its conditions one that misses it alone. A choice of this project, as the rows are. The newest exchange stands first.
-use Rattle.std.specs.Prelude.{List, [], ◌∷◌, ◌++◌, Some, None, codes}
+use Rattle.std.specs.Prelude.{List, [], ◌∷◌, ◌++◌, Some, codes}
 use Rattle.kube_types.specs.declared.parts.Kind.TheVariants as kinds
 use Rattle.kube_types.specs.declared.objects.Class.{Class as ClassData}
 use Rattle.kube_types.specs.declared.objects.Claim.{Claim as ClaimData}
@@ -13,16 +13,11 @@ use Rattle.call_types.specs.declared.request.SeatKind.TheVariants as seats
 use Rattle.call_types.specs.declared.request.Request.{Request}
 use Rattle.call_types.specs.declared.request.Request.TheVariants as requests
 use Rattle.binder_model.specs.BindWrites.{taken_for, unbound_volume, write_reference}
-use Rattle.kube_types.specs.declared.key.Key.{Key}
 use Rattle.kube_types.specs.declared.objects.Pod.{Pod as PodData}
-use Rattle.binder_model.specs.ObjectKeys.{pod_key}
 use Rattle.binder_model.specs.Provisioning.{terms_for}
-use Rattle.model_examples.specs.Samples.{tells_pod, key_c, uid_p, node_1, volume_at, bound_a, bound_c, p, waiting_p, Allows, Refuses, Exchange, lists, tells_volume, tells_claim, tells_class, tells_node, tells_both, a, c, naming, with_uid, taken_a, fast, late, n1, chosen_c}
+use Rattle.model_examples.specs.Samples.{tells_pod, key_c, uid_p, node_1, volume_at, bound_a, bound_c, p, waiting_p, Allows, Refuses, Exchange, lists, tells_volume, tells_claim, tells_class, tells_node, tells_both, a, c, naming, taken_a, fast, late, n1, chosen_c, far_a, key_p, no_uid_c, tells_three}
 
 -- ClaimRef
-
-abbrev pub no_uid_c : ClaimData
-no_uid_c = with_uid None c
 
 pub record SchedulerClaimRefExamples : Type 0 where
   pub takes_free_volume : Allows seats.Scheduler (tells_both c a) (write_reference a c)
@@ -32,9 +27,6 @@ pub record SchedulerClaimRefExamples : Type 0 where
   pub unbinds_is_refused : Refuses seats.Scheduler (tells_both (naming (codes "b") c) taken_a) (requests.Update (Volume (unbound_volume taken_a)) (Some 4))
 
 -- SelectedNode, as it is set
-
-abbrev pub tells_three : ClaimData → ClassData → NodeData → List Exchange
-tells_three x k n = tells_claim x ∷ tells_class k ∷ tells_node n ∷ []
 
 abbrev pub choose : Request
 choose = requests.Update (Claim chosen_c) (Some 2)
@@ -74,17 +66,11 @@ tells_four v x n q = tells_volume v ∷ tells_claim x ∷ tells_node n ∷ tells
 abbrev pub told_ready : List Exchange
 told_ready = tells_four bound_a bound_c n1 waiting_p
 
-abbrev pub key_p : Key
-key_p = pod_key (codes "default") (codes "p")
-
 abbrev pub assign : Request
 assign = requests.BindPod key_p uid_p node_1
 
 abbrev pub here_a : VolumeData
 here_a = record bound_a { terms = terms_for (Some (codes "zone", codes "z1")) }
-
-abbrev pub far_a : VolumeData
-far_a = record bound_a { terms = terms_for (Some (codes "zone", codes "z2")) }
 
 abbrev pub plain_pod : PodData
 plain_pod = record waiting_p { claims = [] }
