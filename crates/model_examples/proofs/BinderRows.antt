@@ -17,7 +17,7 @@ use Rattle.binder_model.specs.Told.{SomeOf}
 use Rattle.binder_model.specs.BinderLicence.{MayTake, IsTaken, MayBind, IsHere, MayComplete, IsBoundFor, MayShow, IsShown, MayFree}
 use Rattle.binder_model.specs.Licence.{AtVolume, AtClaim, AtVolumeKey, AtClaimKey}
 use Rattle.model_examples.specs.Samples.{Exchange, seat_of, unheard, tells_volume, tells_claim, tells_both, once, amount, a, c, other_c, naming, key_a, key_c, uid_c, taken_a, bound_a, released_a, completed_c, prebound_a, unguarded_a, bound_for_other}
-use Rattle.model_examples.specs.BinderRows.{ClaimRefExamples, failed_a, prebound_to_d, taken_by_other, taken_and_changed, taken_unmarked, PhaseBoundExamples, CompletionExamples, bound_by_name, completed_elsewhere, ClaimStatusExamples, bound_b, AvailableExamples}
+use Rattle.model_examples.specs.BinderRows.{prebound_in_x, bound_for_d, bound_in_x, ClaimRefExamples, failed_a, prebound_to_d, taken_by_other, taken_and_changed, taken_unmarked, PhaseBoundExamples, CompletionExamples, bound_by_name, completed_elsewhere, ClaimStatusExamples, bound_b, AvailableExamples}
 use Rattle.model_examples.proofs.Tellings.{differ, neither, sole, own_kind, told_volumes, told_claims, volume_row, claim_row, volume_status_row, claim_status_row, volumes_in, claims_in, told_objects, is_version}
 
 abbrev mine : List Exchange → List Entry
@@ -45,6 +45,7 @@ claim_ref_examples = record {
   takes_prebound_volume = (own_kind seats.Binder (tells_both c prebound_a), inr (inl (refl, inl (record { version = refl; placed = refl; named = refl }, prebound))));
   takes_ended_volume_is_refused = λ l. true≢false (take c failed_a (taken_for failed_a c) (Some 3) l.1).1.live;
   takes_volume_prebound_to_other_is_refused = λ l. true≢false (sym (take c prebound_to_d (taken_for prebound_to_d c) (Some 3) l.1).2.free.0);
+  takes_volume_prebound_in_other_namespace_is_refused = λ l. true≢false (sym (take c prebound_in_x (taken_for prebound_in_x c) (Some 3) l.1).2.free.0);
   takes_over_another_uid_is_refused = λ l. differ is_some (take c taken_by_other (taken_for taken_by_other c) (Some 4) l.1).2.free.1 refl refl;
   takes_for_claim_never_told_is_refused = λ l. taken (tells_volume a ∷ []) a (taken_for a c) (sole (take_at (tells_volume a ∷ []) (taken_for a c) (Some 3) l.1)).1;
   takes_for_claim_in_lost_answer_is_refused = λ l. taken (unheard (tells_claim c) ∷ tells_volume a ∷ []) a (taken_for a c) (sole (take_at (unheard (tells_claim c) ∷ tells_volume a ∷ []) (taken_for a c) (Some 3) l.1)).1;
@@ -123,6 +124,8 @@ completion_examples = record {
   completes_by_older_telling = (own_kind seats.Binder (tells_volume released_a ∷ tells_both c bound_a), inr (inl (refl, inl (record { version = refl; placed = refl; named = refl }, older))));
   completes_before_told_bound_is_refused = λ l. true≢false (sym (complete c taken_a (completed_with c taken_a) (Some 2) l.1).1.bound);
   completes_with_volume_of_other_uid_is_refused = λ l. true≢false (sym (complete c bound_for_other (completed_with c bound_for_other) (Some 2) l.1).1.carries);
+  completes_with_volume_of_other_name_is_refused = λ l. true≢false (sym (complete c bound_for_d (completed_with c bound_for_d) (Some 2) l.1).1.carries);
+  completes_with_volume_of_other_namespace_is_refused = λ l. true≢false (sym (complete c bound_in_x (completed_with c bound_in_x) (Some 2) l.1).1.carries);
   completes_with_volume_without_uid_is_refused = λ l. true≢false (sym (complete c bound_by_name (completed_with c bound_by_name) (Some 2) l.1).1.carries);
   completes_claim_that_names_other_is_refused = λ l. neither (λ e. differ (λ n. not (is_empty n)) e refl refl) (λ e. differ (λ n. bytes_eq n (codes "b")) e refl refl) (complete (naming (codes "b") c) bound_a (completed_with (naming (codes "b") c) bound_a) (Some 2) l.1).1.names;
   completes_with_volume_never_told_is_refused = λ l. told_volumes (IsBoundFor c (completed_with c bound_a)) (mine (tells_claim c ∷ [])) (sole (complete_at (tells_claim c ∷ []) (completed_with c bound_a) (Some 2) l.1)).1;

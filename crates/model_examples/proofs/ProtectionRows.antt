@@ -13,7 +13,7 @@ use Rattle.binder_model.specs.Told.{SomeOf, ToldClaim, After}
 use Rattle.binder_model.specs.GuardLicence.{MayUnguardVolume, MayUnguardClaim, IsDeletingVersion, TellsUnused}
 use Rattle.binder_model.specs.Licence.{AtVolume, AtClaim, GuardsVolume, GuardsClaim}
 use Rattle.model_examples.specs.Samples.{Exchange, entry_of, seat_of, unheard, lists, lists_in, tells_volume, tells_claim, a, c, uid_c, p, waiting_p, leaving_bound_a}
-use Rattle.model_examples.specs.ProtectionRows.{own_mark, volume_with, claim_with, AddVolumeGuardExamples, bare_a, guarded_a, leaving_bare_a, leaving_guarded_a, guarded_and_changed, AddClaimGuardExamples, bare_c, guarded_c, leaving_bare_c, leaving_guarded_c, guarded_and_named, DropVolumeGuardExamples, leaving_a, loose_a, DropClaimGuardExamples, leaving_c, loose_c, pods, other_p, foreign_p, earlier_leaving_c, staying_c, watches_it_go}
+use Rattle.model_examples.specs.ProtectionRows.{lists_claims, own_mark, volume_with, claim_with, AddVolumeGuardExamples, bare_a, guarded_a, leaving_bare_a, leaving_guarded_a, guarded_and_changed, AddClaimGuardExamples, bare_c, guarded_c, leaving_bare_c, leaving_guarded_c, guarded_and_named, DropVolumeGuardExamples, leaving_a, loose_a, DropClaimGuardExamples, leaving_c, loose_c, pods, other_p, foreign_p, earlier_leaving_c, staying_c, watches_it_go}
 use Rattle.model_examples.proofs.Tellings.{differ, neither, sole, own_kind, volume_row, claim_row, volumes_in, claims_in, told_claims, told_objects, is_version}
 
 abbrev marked : Meta → Bool
@@ -100,6 +100,7 @@ drop_claim_guard_examples = record {
   no_list_is_refused = λ l. neither (λ h. h.0.1) (λ h. h) (sole (drop_claim (tells_claim leaving_c ∷ []) loose_c (Some 6) l.1)).1.unused;
   list_of_all_pods_is_refused = λ l. (drops (lists kinds.Pod [] 9) l.1 refl).1;
   list_of_other_namespace_is_refused = λ l. differ (λ n. bytes_eq n (codes "x")) (drops (lists_in (codes "x") [] 9) l.1 refl).1.0 refl refl;
+  list_of_claims_is_refused = λ l. (drops lists_claims l.1 refl).1;
   watched_pods_alone_is_refused = λ l. (drops watches_it_go l.1 refl).1;
   answer_lost_is_refused = λ l. true≢false (sym (drops (unheard (pods [])) l.1 refl).0);
   list_before_told_is_refused = λ l. neither (λ h. h.0.1) (neither (λ h. h.1) (λ h. h)) (sole (drop_claim (tells_claim leaving_c ∷ pods [] ∷ []) loose_c (Some 6) l.1)).1.unused;

@@ -63,6 +63,9 @@ unmounted = heard (unmount 1) (replies.Mounted [])
 abbrev pub mounts_it : Exchange
 mounts_it = heard (requests.Mount node_1 1 uid_p (uid_c ∷ [])) (replies.Mounted (row_of uid_p ∷ []))
 
+abbrev pub mounts_other : Exchange
+mounts_other = heard (requests.Mount node_1 1 (uid_of_serial 8) (uid_c ∷ [])) (replies.Mounted (row_of (uid_of_serial 8) ∷ []))
+
 -- the pod was told, after the node was taken
 abbrev pub told_ending : List Exchange
 told_ending = tells_pod ending_p ∷ takes node_1 1 ∷ []
@@ -73,6 +76,8 @@ pub record FinishPodExamples : Type 0 where
   pub finishes_beside_other_pod : Allows seats.Agent (mounted node_1 1 (row_of (uid_of_serial 8) ∷ []) ∷ told_ending) (finish key_p 1)
   pub finishes_after_a_mount_before : Allows seats.Agent (unmounted ∷ mounts_it ∷ told_ending) (finish key_p 1)
   pub finishes_by_uid_whatever_the_name : Allows seats.Agent (unmounted ∷ told_ending) (finish (pod_key (codes "default") (codes "q")) 1)
+  pub finishes_after_mount_of_other_pod : Allows seats.Agent (mounts_other ∷ told_ending) (finish key_p 1)
+  pub finishes_before_mount_of_other_pod : Allows seats.Agent (unheard mounts_other ∷ unmounted ∷ told_ending) (finish key_p 1)
   pub older_epoch_is_refused : Refuses seats.Agent (mounted node_1 1 [] ∷ tells_pod ending_p ∷ takes node_1 3 ∷ takes node_1 1 ∷ []) (finish key_p 1)
   pub key_of_other_kind_is_refused : Refuses seats.Agent (unmounted ∷ told_ending) (finish key_c 1)
   pub pod_never_told_is_refused : Refuses seats.Agent (unmounted ∷ takes node_1 1 ∷ []) (finish key_p 1)

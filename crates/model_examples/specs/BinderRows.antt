@@ -33,6 +33,9 @@ prebound_to_d = with_reference (Some (record name_c { name = codes "d" })) a
 abbrev pub taken_by_other : VolumeData
 taken_by_other = with_reference (Some other_ref_c) taken_a
 
+abbrev pub prebound_in_x : VolumeData
+prebound_in_x = with_reference (Some (record name_c { namespace = codes "x" })) a
+
 -- the first write that changes the policy too; and that does not mark the reference as the controller's
 abbrev pub taken_and_changed : VolumeData
 taken_and_changed = record taken_a { meta = record taken_a.meta { version = 3 }; policy = policies.Delete }
@@ -45,6 +48,7 @@ pub record ClaimRefExamples : Type 0 where
   pub takes_prebound_volume : Allows seats.Binder (tells_both c prebound_a) (write_reference prebound_a c)
   pub takes_ended_volume_is_refused : Refuses seats.Binder (tells_both c failed_a) (write_reference failed_a c)
   pub takes_volume_prebound_to_other_is_refused : Refuses seats.Binder (tells_both c prebound_to_d) (write_reference prebound_to_d c)
+  pub takes_volume_prebound_in_other_namespace_is_refused : Refuses seats.Binder (tells_both c prebound_in_x) (write_reference prebound_in_x c)
   pub takes_over_another_uid_is_refused : Refuses seats.Binder (tells_both c taken_by_other) (write_reference taken_by_other c)
   pub takes_for_claim_never_told_is_refused : Refuses seats.Binder (tells_volume a ∷ []) (write_reference a c)
   pub takes_for_claim_in_lost_answer_is_refused : Refuses seats.Binder (unheard (tells_claim c) ∷ tells_volume a ∷ []) (write_reference a c)
@@ -76,6 +80,13 @@ pub record PhaseBoundExamples : Type 0 where
 
 -- Completion: the third write
 
+-- Bound for a claim with the UID, of another name and of another namespace
+abbrev pub bound_for_d : VolumeData
+bound_for_d = with_reference (Some (record ref_c { name = codes "d" })) bound_a
+
+abbrev pub bound_in_x : VolumeData
+bound_in_x = with_reference (Some (record ref_c { namespace = codes "x" })) bound_a
+
 -- Bound for a claim of the name without a UID
 abbrev pub bound_by_name : VolumeData
 bound_by_name = with_reference (Some name_c) bound_a
@@ -92,6 +103,8 @@ pub record CompletionExamples : Type 0 where
   pub completes_by_older_telling : Allows seats.Binder (tells_volume released_a ∷ tells_both c bound_a) (write_completion bound_a c)
   pub completes_before_told_bound_is_refused : Refuses seats.Binder (tells_both c taken_a) (write_completion taken_a c)
   pub completes_with_volume_of_other_uid_is_refused : Refuses seats.Binder (tells_both c bound_for_other) (write_completion bound_for_other c)
+  pub completes_with_volume_of_other_name_is_refused : Refuses seats.Binder (tells_both c bound_for_d) (write_completion bound_for_d c)
+  pub completes_with_volume_of_other_namespace_is_refused : Refuses seats.Binder (tells_both c bound_in_x) (write_completion bound_in_x c)
   pub completes_with_volume_without_uid_is_refused : Refuses seats.Binder (tells_both c bound_by_name) (write_completion bound_by_name c)
   pub completes_claim_that_names_other_is_refused : Refuses seats.Binder (tells_both (naming (codes "b") c) bound_a) (write_completion bound_a (naming (codes "b") c))
   pub completes_with_volume_never_told_is_refused : Refuses seats.Binder (tells_claim c ∷ []) (write_completion bound_a c)

@@ -15,7 +15,7 @@ use Rattle.call_types.specs.declared.request.Request.TheVariants as requests
 use Rattle.call_types.specs.declared.reply.Change.TheVariants as changes
 use Rattle.call_types.specs.declared.reply.Reply.TheVariants as replies
 use Rattle.binder_model.specs.ObjectKeys.{pod_key}
-use Rattle.model_examples.specs.Samples.{Allows, Refuses, Exchange, heard, unheard, lists, tells_pod, finds, finds_none, watches, takes, node_1, node_2, a, with_uid, deleting, key_a, key_c, uid_c, bound_a, bound_c, p, waiting_p, ending_p, uid_p, bound_for_other, lost_c, uncompleted_c, unguarded_c}
+use Rattle.model_examples.specs.Samples.{Allows, Refuses, Exchange, heard, unheard, lists, tells_pod, finds, finds_none, watches, takes, node_1, node_2, a, with_uid, deleting, key_a, key_c, uid_c, bound_a, bound_c, p, waiting_p, ending_p, uid_p, bound_for_other, lost_c, uncompleted_c, unguarded_c, lists_in}
 
 abbrev pub mount : ℕ → List Uid → Request
 mount epoch uids = requests.Mount node_1 epoch uid_p uids
@@ -51,11 +51,20 @@ watches_next = watches kinds.Pod changes.Added (Pod next_p) 10
 abbrev pub asks_to_finish : Exchange
 asks_to_finish = heard (requests.FinishPod (pod_key (codes "default") (codes "p")) uid_p node_1 1) (replies.Left (Pod ending_p))
 
+abbrev pub other_pod : PodData
+other_pod = record p { meta = record p.meta { uid = Some (uid_of_serial 8) } }
+
+abbrev pub finished_other : List Exchange
+finished_other = reads_volume ∷ reads_claim ∷ tells_pod p ∷ takes node_1 1 ∷ heard (requests.FinishPod (pod_key (codes "default") (codes "q")) (uid_of_serial 8) node_1 1) (replies.Left (Pod other_pod)) ∷ []
+
 pub record MountOrderExamples : Type 0 where
   pub mounts : Allows seats.Agent (reads bound_a bound_c p) (mount 1 (uid_c ∷ []))
   pub mounts_pod_told_by_watch : Allows seats.Agent (reads_volume ∷ reads_claim ∷ watches_p ∷ lists kinds.Pod [] 8 ∷ takes node_1 1 ∷ []) (mount 1 (uid_c ∷ []))
+  pub mounts_after_finish_of_other_pod : Allows seats.Agent finished_other (mount 1 (uid_c ∷ []))
   pub older_epoch_is_refused : Refuses seats.Agent (reads_volume ∷ reads_claim ∷ tells_pod p ∷ takes node_1 3 ∷ takes node_1 1 ∷ []) (mount 1 (uid_c ∷ []))
   pub pods_never_listed_is_refused : Refuses seats.Agent (reads_volume ∷ reads_claim ∷ watches_p ∷ takes node_1 1 ∷ []) (mount 1 (uid_c ∷ []))
+  pub pods_listed_in_a_namespace_is_refused : Refuses seats.Agent (reads_volume ∷ reads_claim ∷ watches_p ∷ lists_in (codes "default") [] 8 ∷ takes node_1 1 ∷ []) (mount 1 (uid_c ∷ []))
+  pub pods_listed_without_answer_is_refused : Refuses seats.Agent (reads_volume ∷ reads_claim ∷ watches_p ∷ unheard (lists kinds.Pod [] 8) ∷ takes node_1 1 ∷ []) (mount 1 (uid_c ∷ []))
   pub pods_listed_before_taken_is_refused : Refuses seats.Agent (reads_volume ∷ reads_claim ∷ watches_p ∷ takes node_1 1 ∷ lists kinds.Pod [] 8 ∷ []) (mount 1 (uid_c ∷ []))
   pub pods_listed_after_told_is_refused : Refuses seats.Agent (reads_volume ∷ reads_claim ∷ lists kinds.Pod [] 8 ∷ watches_p ∷ takes node_1 1 ∷ []) (mount 1 (uid_c ∷ []))
   pub pod_told_before_taken_is_refused : Refuses seats.Agent (reads_volume ∷ reads_claim ∷ takes node_1 1 ∷ tells_pod p ∷ []) (mount 1 (uid_c ∷ []))
@@ -73,9 +82,6 @@ pub record MountOrderExamples : Type 0 where
   pub claim_read_again_since_is_refused : Refuses seats.Agent (reads_claim ∷ reads bound_a bound_c p) (mount 1 (uid_c ∷ []))
 
 -- what was read
-
-abbrev pub other_pod : PodData
-other_pod = record p { meta = record p.meta { uid = Some (uid_of_serial 8) } }
 
 abbrev pub later_p : PodData
 later_p = record p { meta = record p.meta { version = 10 } }

@@ -135,6 +135,9 @@ earlier_leaving_c = claim_at 5 (with_uid (Some (uid_of_serial 9)) leaving_c)
 abbrev pub staying_c : ClaimData
 staying_c = claim_with (own_mark ∷ pvc_protection ∷ []) c
 
+abbrev pub lists_claims : Exchange
+lists_claims = heard (requests.List kinds.PersistentVolumeClaim (Some (codes "default"))) (replies.Listed [] 9)
+
 -- a watch that tells that the pod is gone
 abbrev pub watches_it_go : Exchange
 watches_it_go = heard (requests.Watch kinds.Pod 6) (replies.Events (record { events = record { change = changes.Deleted; object = Pod p; version = 9 } ∷ []; upto = 9 }))
@@ -149,6 +152,7 @@ pub record DropClaimGuardExamples : Type 0 where
   pub no_list_is_refused : Refuses seats.ClaimProtect (tells_claim leaving_c ∷ []) drop_guard
   pub list_of_all_pods_is_refused : Refuses seats.ClaimProtect (lists kinds.Pod [] 9 ∷ tells_claim leaving_c ∷ []) drop_guard
   pub list_of_other_namespace_is_refused : Refuses seats.ClaimProtect (lists_in (codes "x") [] 9 ∷ tells_claim leaving_c ∷ []) drop_guard
+  pub list_of_claims_is_refused : Refuses seats.ClaimProtect (lists_claims ∷ tells_claim leaving_c ∷ []) drop_guard
   pub watched_pods_alone_is_refused : Refuses seats.ClaimProtect (watches_it_go ∷ tells_claim leaving_c ∷ []) drop_guard
   pub answer_lost_is_refused : Refuses seats.ClaimProtect (unheard (pods []) ∷ tells_claim leaving_c ∷ []) drop_guard
   pub list_before_told_is_refused : Refuses seats.ClaimProtect (tells_claim leaving_c ∷ pods [] ∷ []) drop_guard
