@@ -1,7 +1,6 @@
 -- Each telling of an object was true: it stood in the store.
 use Rattle.std.proofs.Common.{refl, subst, inl, inr}
-use Rattle.std.specs.Prelude.{if◌then◌else◌, ℕ, ◌≡◌, ◌+◌, Bool, true, false, List, [], ◌∷◌, Option, Some, None, reverse, filter, take, nat_lt, ⊤}
-use Rattle.plain_data.specs.Pairs.{Pair}
+use Rattle.std.specs.Prelude.{if◌then◌else◌, ℕ, ◌≡◌, Bool, true, false, List, [], ◌∷◌, Some, reverse, filter, take, nat_lt}
 use Rattle.kube_types.specs.declared.parts.Kind.{Kind}
 use Rattle.kube_types.specs.declared.objects.Object.{Object}
 use Rattle.kube_types.specs.Keys.{key_of, row_at, put_row}
@@ -13,7 +12,6 @@ use Rattle.call_types.specs.declared.request.Request.TheVariants as requests
 use Rattle.call_types.specs.declared.reply.Event.{Event}
 use Rattle.call_types.specs.declared.reply.Reply.TheVariants.{Refused}
 use Rattle.binder_model.specs.Answers.{Says, Stores, Removes, reply_of, after}
-use Rattle.binder_model.specs.Devices.{Devices, Data, data_named, first_fit, epoch_if_stale, DeviceAnswer, provision_new, provision, erase, unless_planned, unless_stale, take_node, with_mounts, device_answer, is_planned}
 use Rattle.binder_model.specs.Told.{SomeOf, objects_in, objects_of_event, objects_of_events}
 use Rattle.binder_model.specs.Watching.{oldest, is_later, most_events}
 use Rattle.binder_model.specs.World.{base, World, Effect, OnStore, OnDevices, SetsMoment, effect, watch, reply_to, world_after}
