@@ -211,7 +211,6 @@ module _ (setup : Setup) (past mine : List Entry) (inv : Invariant setup past) (
     next = updated_next (world setup past).store kind new given o u;
     step = subst (KindStep setup past u.old) (sym u.is) (update_step kind u.old new given _ l u.guard u.version u.there u.fault);
   })
-
   -- edits
 
 edit_step : (setup : Setup) (past : List Entry) → Invariant setup past → (old new : Object) (n : ℕ) → guard_on seats.User (Some old) new ≡ None
@@ -281,7 +280,6 @@ module _ (setup : Setup) (past mine : List Entry) (inv : Invariant setup past) (
     next = status_next (world setup past).store kind key status given o u;
     step = subst (KindStep setup past u.old) (sym u.is) (status_step kind key status u.old u.new given _ l u.controller u.version u.there u.fits);
   })
-
   -- deletes, by anyone
 
 mark_step : (setup : Setup) (past : List Entry) → Invariant setup past → (key : Key) (old : Object) (n : ℕ) (moment : List ℕ)

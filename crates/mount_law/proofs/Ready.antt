@@ -13,9 +13,8 @@ use Rattle.call_types.specs.declared.reply.Reply.{Reply}
 use Rattle.call_types.specs.declared.reply.Reply.TheVariants.{Found}
 use Rattle.binder_model.specs.Told.{SomeOf, own}
 use Rattle.binder_model.specs.AgentLicence.{is_get_of, last_get, since_epoch, epoch_in}
-use Rattle.binder_model.specs.World.{world, effect, reply_to}
+use Rattle.binder_model.specs.World.{world}
 use Rattle.model_laws.specs.Reads.{found}
-use Rattle.model_laws.proofs.Readings.{gets_tell_what_stands}
 use Rattle.world_invariant.specs.Was.{Was}
 use Rattle.world_invariant.proofs.Came.{row_was}
 use Rattle.world_invariant.specs.Good.{Good}

@@ -16,7 +16,7 @@ use Rattle.binder_model.specs.World.{world, effect, reply_to}
 use Rattle.binder_model.specs.Told.{own}
 use Rattle.binder_model.specs.Run.{Run}
 use Rattle.world_moves.specs.DeviceMoves.{MountIn, IsMounting}
-use Rattle.world_moves.proofs.DeviceMoves.{device_moves, mounts_told, has_row_of}
+use Rattle.world_moves.proofs.DeviceMoves.{device_moves, has_row_of}
 use Rattle.world_invariant.specs.Good.{Good}
 use Rattle.world_invariant.specs.Holders.{Holds}
 use Rattle.world_invariant.proofs.Holders.{HolderStep, Took, Mine, Other, holder_step, one_holder}
@@ -65,7 +65,7 @@ unmounted_now setup e past g node epoch pod t m h n p =
     let outer = and_parts (e.told && is_of_epoch node epoch e.request) (lacks_pod pod e.reply) t in
     let inner = and_parts e.told (is_of_epoch node epoch e.request) outer.0 in
     let lacks : lacks_pod pod (reply_to (effect setup (world setup past) e.kind e.request)) ≡ true = ap (lacks_pod pod) (sym g.2) ∙ outer.1 in
-    let none = (mounts_told setup (world setup past) e.kind e.request).lacks node epoch pod inner.1 lacks in
+    let none = (device_moves setup (world setup past) e.kind e.request).move.listed node epoch pod inner.1 lacks in
     true≢false (sym (has_row_of m (world setup (e ∷ past)).devices.mounts node pod h n p) ∙ none)
 
 pub unmounted : (setup : Setup) (past : List Entry) → Good setup past → Run setup past → (node : List ℕ) (seat : ℕ) (epoch : ℕ) (pod : Uid) → Holds setup past node seat

@@ -142,7 +142,6 @@ module _ (setup : Setup) (e : Entry) (past : List Entry) (inv : Invariant setup 
           ]
     ]
   ]
-
   -- completed claims
 
 pub later_bound : (setup : Setup) (e : Entry) (past : List Entry) (c : ClaimData) → WasBound setup past c → WasBound setup (e ∷ past) c
@@ -187,7 +186,6 @@ module _ (setup : Setup) (e : Entry) (past : List Entry) (inv : Invariant setup 
       ]
     ]
   ])
-
   -- bindings
 
 -- a volume's key is that of its name

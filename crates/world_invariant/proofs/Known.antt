@@ -21,11 +21,11 @@ use Rattle.model_laws.specs.Reads.{found}
 use Rattle.model_laws.proofs.Readings.{gets_tell_what_stands}
 use Rattle.world_moves.specs.Writes.{IsIn}
 use Rattle.world_moves.proofs.Tells.{tells}
-use Rattle.world_invariant.specs.Was.{Was, Refers, IsNotThere, IsAway}
+use Rattle.world_invariant.specs.Was.{Was, IsNotThere, IsAway}
 use Rattle.world_invariant.specs.Invariant.{Invariant, IsReferred, IsOld}
 use Rattle.world_invariant.specs.Good.{TellingsAreTrue, Good, IsTrue}
 use Rattle.world_invariant.proofs.Came.{row_was, stood, older}
-use Rattle.world_invariant.proofs.KeptBindings.{kept_not_there, refers_old, other_stays}
+use Rattle.world_invariant.proofs.KeptBindings.{kept_not_there, other_stays}
 use Rattle.kube_types.specs.declared.key.Key.{Key}
 use Rattle.call_types.specs.declared.request.Request.TheVariants as requests
 

@@ -1,7 +1,6 @@
 -- Each telling of an object was true: it stood in the store.
 use Rattle.std.proofs.Common.{refl, subst, inl, inr}
-use Rattle.std.specs.Prelude.{if◌then◌else◌, ℕ, ◌≡◌, ◌+◌, Bool, true, false, List, [], ◌∷◌, Option, Some, None, reverse, filter, take, nat_lt, ⊤}
-use Rattle.plain_data.specs.Pairs.{Pair}
+use Rattle.std.specs.Prelude.{if◌then◌else◌, ℕ, ◌≡◌, Bool, true, false, List, [], ◌∷◌, Some, reverse, filter, take, nat_lt}
 use Rattle.kube_types.specs.declared.parts.Kind.{Kind}
 use Rattle.kube_types.specs.declared.objects.Object.{Object}
 use Rattle.kube_types.specs.Keys.{key_of, row_at, put_row}
@@ -13,7 +12,6 @@ use Rattle.call_types.specs.declared.request.Request.TheVariants as requests
 use Rattle.call_types.specs.declared.reply.Event.{Event}
 use Rattle.call_types.specs.declared.reply.Reply.TheVariants.{Refused}
 use Rattle.binder_model.specs.Answers.{Says, Stores, Removes, reply_of, after}
-use Rattle.binder_model.specs.Devices.{Devices, Data, data_named, first_fit, epoch_if_stale, DeviceAnswer, provision_new, provision, erase, unless_planned, unless_stale, take_node, with_mounts, device_answer, is_planned}
 use Rattle.binder_model.specs.Told.{SomeOf, objects_in, objects_of_event, objects_of_events}
 use Rattle.binder_model.specs.Watching.{oldest, is_later, most_events}
 use Rattle.binder_model.specs.World.{base, World, Effect, OnStore, OnDevices, SetsMoment, effect, watch, reply_to, world_after}
@@ -27,44 +25,7 @@ use Rattle.binder_model.specs.Watching.{told_events}
 use Rattle.world_moves.proofs.Effects.{effect_form}
 use Rattle.model_laws.proofs.Lists.{some_left, some_right}
 use Rattle.world_moves.proofs.Lists.{some_or, some_take, some_reverse, some_filter}
-
--- the devices tell of no object
-abbrev IsMute : Option DeviceAnswer → Type 0
-IsMute None = ⊤
-IsMute (Some a) = objects_in a.reply ≡ []
-
-test_mute : (b : Bool) (x y : DeviceAnswer) → objects_in x.reply ≡ [] → objects_in y.reply ≡ [] → objects_in (if b then x else y).reply ≡ []
-test_mute true x y ex ey = ex
-test_mute false x y ex ey = ey
-
-planned_mute : (setup : Setup) (d : Devices) (next : DeviceAnswer) → objects_in next.reply ≡ [] → objects_in (unless_planned setup d next).reply ≡ []
-unfolding unless_planned
-planned_mute setup d next e = test_mute (is_planned (d.calls + 1) setup.faults) _ next refl e
-
-stale_mute : (d : Devices) (s : Option ℕ) (next : DeviceAnswer) → objects_in next.reply ≡ [] → objects_in (unless_stale d s next).reply ≡ []
-unfolding unless_stale
-stale_mute d None next e = e
-stale_mute d (Some current) next e = refl
-
-provision_mute : (setup : Setup) (d : Devices) (name provisioner : List ℕ) (bytes : ℕ) (labels : Option (List Pair)) (x : Option Data)
-    → objects_in (provision setup.pools d name provisioner bytes labels x).reply ≡ []
-unfolding provision provision_new
-provision_mute setup d name provisioner bytes labels (Some x) = refl
-provision_mute setup d name provisioner bytes labels None = new (first_fit provisioner bytes labels d.stored 0 setup.pools)
-  where
-    new : (place : Option ℕ) → objects_in (provision_new setup.pools d name provisioner bytes labels place).reply ≡ []
-    new None = refl
-    new (Some place) = refl
-
-devices_mute : (setup : Setup) (d : Devices) (request : Request) → IsMute (device_answer setup d request)
-unfolding device_answer erase take_node with_mounts
-devices_mute setup d (requests.Provision name provisioner bytes labels) = planned_mute setup d _ (provision_mute setup d name provisioner bytes labels (data_named name d.stored))
-devices_mute setup d (requests.Erase id) = planned_mute setup d _ refl
-devices_mute setup d (requests.TakeNode node) = refl
-devices_mute setup d (requests.Mounts node epoch) = stale_mute d (epoch_if_stale d node epoch) _ refl
-devices_mute setup d (requests.Mount node epoch pod claims) = stale_mute d (epoch_if_stale d node epoch) _ refl
-devices_mute setup d (requests.Unmount node epoch pod) = stale_mute d (epoch_if_stale d node epoch) _ refl
-devices_mute setup d _ = tt
+use Rattle.world_moves.proofs.DeviceMoves.{devices_mute}
 
 -- events of the log
 
@@ -97,7 +58,7 @@ tells_of_effect setup w kind request (OnStore (Stores change new)) f other = rec
 }
 tells_of_effect setup w kind request (OnStore (Removes old)) f other = record { now = λ o h. absurd h }
 tells_of_effect setup w kind request (OnDevices a) f other =
-    let none : objects_in a.reply ≡ [] = subst IsMute f.1 (devices_mute setup w.devices request) in
+    let none : objects_in a.reply ≡ [] = devices_mute setup w.devices request a f.1 in
     record { now = λ o h. absurd (subst (IsIn o) none h) }
 tells_of_effect setup w kind request (SetsMoment at) f other = record { now = λ o h. absurd h }
 
