@@ -1,13 +1,13 @@
 -- What a cache knows of one kind. A list tells of the keys that it lacks too, so beside the keys that were told one by
 -- one the versions of the lists are kept. A choice of this project, after the store of an informer in client-go.
-use Rattle.std.specs.Prelude.{ℕ, ◌≡◌, ◌⊎◌, nat_lt, Bool, true, false, List, [], ◌∷◌, Option, Some, None, option_map, bytes_eq, ⊤, if◌then◌else◌}
+use Rattle.std.specs.Prelude.{ℕ, ◌≡◌, Bool, true, List, [], ◌∷◌, Option, Some, None, option_map, bytes_eq, ⊤, if◌then◌else◌}
 use Rattle.std.specs.Option.{option_copied}
 use Rattle.kube_types.specs.declared.parts.Kind.{Kind}
 use Rattle.kube_types.specs.declared.key.Key.{Key}
 use Rattle.kube_types.specs.declared.objects.Object.{Object}
 use Rattle.kube_types.specs.Keys.{AreRows, kind_of, key_of, row_at, same_key}
 use Rattle.call_types.specs.declared.reply.Event.{Event}
-use Rattle.binder_model.specs.Told.{Telling, first_some, later, listing, of_event}
+use Rattle.binder_model.specs.Told.{Telling, first_some, of_event}
 use Rattle.informer_cache.specs.declared.told.Told.{Told}
 use Rattle.informer_cache.specs.declared.marks.Mark.{Mark}
 use Rattle.informer_cache.specs.declared.lists.Space.{Space}

@@ -14,10 +14,10 @@ use Rattle.kube_types.proofs.KeyOrder.{row_at-put_row, row_at-put_row_other}
 use Rattle.call_types.specs.declared.request.SeatKind.TheVariants.{Binder}
 use Rattle.call_types.specs.declared.request.Request.{Request}
 use Rattle.call_types.specs.declared.reply.Change.TheVariants.{Modified}
-use Rattle.binder_model.specs.Store.{State}
+use Rattle.binder_model.specs.Store.{State, first_moment}
 use Rattle.binder_model.specs.Answers.{Stores, outcome, after}
-use Rattle.binder_model.specs.World.{first_moment}
-use Rattle.binder_model.specs.BindWrites.{ref_to, volume_key, next_write, claim_write, write_reference, write_bound, write_completion, write_claim_status, shows_bound}
+use Rattle.binder_model.specs.ObjectKeys.{volume_key}
+use Rattle.binder_model.specs.BindWrites.{ref_to, next_write, claim_write, write_reference, write_bound, write_completion, write_claim_status, shows_bound}
 use Rattle.plain_binder.specs.Calls.{is_asked}
 use Rattle.plain_binder.specs.Stages.{IsSoundVolume, IsSoundClaim, IsStage, IsBinding}
 use Rattle.plain_binder.proofs.Same.{bytes_own, number_own, modes_own, amount_own}

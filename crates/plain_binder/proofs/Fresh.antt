@@ -19,7 +19,7 @@ use Rattle.std.specs.Prelude.{◌&&◌}
 use Rattle.binder_model.specs.Answers.{Outcome, Says, Stores, Removes, after}
 use Rattle.binder_model.specs.Store.{State}
 use Rattle.binder_model.specs.Safe.{IsBoundTo, CompletedAreBound, AreBindings}
-use Rattle.binder_model.specs.BindWrites.{volume_key, claim_key}
+use Rattle.binder_model.specs.ObjectKeys.{volume_key, claim_key}
 use Rattle.plain_binder.specs.Stages.{keys_of, IsSoundVolume, IsFree, IsOpen, IsFresh, AreFresh, AvailableUpTo, AreServed, Free, Open}
 use Rattle.plain_binder.proofs.Valid.{volume_parts, volume_whole}
 use Rattle.plain_binder.proofs.Standing.{row_put, keys_of-put, row_at_place, key_at_place, place_of_row}

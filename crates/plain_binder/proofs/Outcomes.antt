@@ -20,12 +20,12 @@ use Rattle.call_types.specs.declared.request.NewStatus.{NewStatus}
 use Rattle.call_types.specs.declared.request.NewStatus.TheVariants as statuses
 use Rattle.call_types.specs.declared.request.Request.TheVariants as requests
 use Rattle.call_types.specs.declared.reply.Change.TheVariants.{Added, Modified}
-use Rattle.binder_model.specs.Store.{State, at_version, updated_object, with_status_of, with_meta, leaves, created_object, admitted_object, without_status, lacks_node}
+use Rattle.binder_model.specs.Store.{State, at_version, updated_object, with_status_of, with_meta, leaves, created_object, admitted_object, without_status, lacks_node, first_moment}
 use Rattle.binder_model.specs.Fields.{create_fault, update_fault, changed_field, faulty, adds_finalizer, is_nameless, has_twice, same_claim_spec}
 use Rattle.binder_model.specs.Answers.{Outcome, Says, Stores, Removes, outcome, create, update, update_status, with_status, written_if_fits, guard_on, refuse, refuse_rule, refuse_field}
-use Rattle.binder_model.specs.BindWrites.{ref_to, taken_for, completed_with, write_reference, write_completion, write_claim_status, volume_key, claim_key}
+use Rattle.binder_model.specs.ObjectKeys.{volume_key, claim_key}
+use Rattle.binder_model.specs.BindWrites.{ref_to, taken_for, completed_with, write_reference, write_completion, write_claim_status}
 use Rattle.binder_model.specs.Same.{same_selector, same_terms}
-use Rattle.binder_model.specs.World.{first_moment}
 use Rattle.plain_binder.specs.Calls.{IsPlain, IsPlainVolume, IsPlainClaim}
 use Rattle.plain_binder.specs.Stages.{IsSoundVolume, IsSoundClaim, IsFresh}
 use Rattle.plain_binder.proofs.Same.{number_own, bytes_own, beq_own, option_own, modes_own, amount_own, selector_own, terms_own, source_own}

@@ -15,11 +15,11 @@ use Rattle.call_types.specs.declared.entry.Entry.{Entry}
 use Rattle.call_types.specs.declared.request.SeatKind.TheVariants.{User, Binder}
 use Rattle.call_types.specs.declared.request.Request.{Request}
 use Rattle.call_types.specs.declared.request.Request.TheVariants as requests
-use Rattle.binder_model.specs.Store.{State}
+use Rattle.binder_model.specs.Store.{State, first_moment}
 use Rattle.binder_model.specs.Answers.{outcome, after, list}
-use Rattle.binder_model.specs.World.{first_moment}
 use Rattle.binder_model.specs.Matching.{has_match}
-use Rattle.binder_model.specs.BindWrites.{next_write, write_available, volume_key}
+use Rattle.binder_model.specs.ObjectKeys.{volume_key}
+use Rattle.binder_model.specs.BindWrites.{next_write, write_available}
 use Rattle.binder_model.specs.Safe.{CompletedAreBound}
 use Rattle.plain_binder.specs.Calls.{IsPlain, AreCreates, AreCalls, store_after, rows_after, asked, store_with, is_asked}
 use Rattle.plain_binder.specs.Stages.{as_volume, as_claim, volume_at, claim_at, keys_of, AreFresh, AvailableUpTo, AreServed, SettledUpTo, IsBinding}

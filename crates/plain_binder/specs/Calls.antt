@@ -13,10 +13,10 @@ use Rattle.call_types.specs.declared.request.SeatKind.{SeatKind}
 use Rattle.call_types.specs.declared.request.SeatKind.TheVariants as seats
 use Rattle.call_types.specs.declared.request.Request.{Request}
 use Rattle.call_types.specs.declared.request.Request.TheVariants as requests
-use Rattle.binder_model.specs.Store.{State}
+use Rattle.binder_model.specs.Store.{State, first_moment}
 use Rattle.binder_model.specs.Answers.{outcome, reply_of, after}
 use Rattle.binder_model.specs.Devices.{no_devices}
-use Rattle.binder_model.specs.World.{world, first_moment, IsHistory}
+use Rattle.binder_model.specs.World.{world, IsHistory}
 use Rattle.binder_model.specs.Safe.{AreBindingsThroughout}
 use Rattle.binder_model.specs.BinderDue.{binder_due}
 

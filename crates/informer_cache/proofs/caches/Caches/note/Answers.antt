@@ -1,5 +1,4 @@
-use Rattle.std.proofs.Common.{◌∷◌, subst, sym}
-use Rattle.informer_cache.specs.All.{AllKnown, AllStandFor}
+use Rattle.std.proofs.Common.{◌∷◌}
 use Rattle.informer_cache.proofs.Stands.{all_stand}
 use Rattle.informer_cache.proofs.caches.Caches.note.Goals as goal
 
