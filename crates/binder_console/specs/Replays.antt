@@ -5,10 +5,10 @@ use Rattle.kube_types.specs.declared.objects.Object.{Object}
 use Rattle.call_types.specs.declared.entry.Entry.{Entry}
 use Rattle.binder_model.specs.World.{World, world}
 use Rattle.plain_binder.specs.Calls.{IsReplay, no_setup}
-use Rattle.text_model.specs.declared.summary.Summary.{Summary}
-use Rattle.text_model.specs.declared.summary.Ending.TheVariants.{Settled}
-use Rattle.text_model.specs.Summaries.{summary_of}
-use Rattle.text_model.specs.Output.{final_lines, history_text, with_lines}
+use Rattle.history_text.specs.declared.summary.Summary.{Summary}
+use Rattle.history_text.specs.declared.summary.Ending.TheVariants.{Settled}
+use Rattle.history_text.specs.Summaries.{summary_of}
+use Rattle.history_text.specs.Output.{final_lines, history_text, with_lines}
 
 -- the numbers of a settled world
 unfoldable pub settled_summary : World → Summary

@@ -17,7 +17,7 @@ fn print_objects(alloc: Global, objects: &[Object]) -> Result<Bytes, OutOfMemory
     ensures { IfOk result (λ text. text ≡ check_text objects.now) }
 {
     let mut lines = Lines::new(alloc);
-    push_objects(&mut lines, alloc, objects)?;
+    push_objects(&mut lines, objects)?;
     Ok(lines.into_bytes())
 }
 

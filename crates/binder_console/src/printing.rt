@@ -14,7 +14,7 @@ use plain_data::copies::OutOfMemory;
 use plain_data::items::Items;
 use plain_data::text::Bytes;
 use std::alloc::Global;
-use text_model::summary::Ending;
+use history_text::summary::Ending;
 
 /// The history, the objects and the numbers of a run that asked no device.
 #[tactic(auto, unfolding(crate::specs::Replays::replay_text, crate::specs::Replays::settled_summary))]

@@ -1,1 +1,4 @@
 pub mod LineLists
+pub mod Closings
+pub mod EntryFloats
+pub mod LineLaws

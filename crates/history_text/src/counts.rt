@@ -1,11 +1,11 @@
 //! The summary of objects.
 
 ghost use Rattle.std.specs.Prelude.{◌≡◌};
-ghost use Rattle.text_model.specs.Summaries.{volume_place, claim_place, is_volume_in, is_claim_in, is_pod, count_volumes, count_claims, count_pods, volume_counts, claim_counts, summary_of};
+ghost use Rattle.history_text.specs.Summaries.{volume_place, claim_place, is_volume_in, is_claim_in, is_pod, count_volumes, count_claims, count_pods, volume_counts, claim_counts, summary_of};
 
+use crate::summary::{ClaimCounts, Ending, Summary, VolumeCounts};
 use kube_types::objects::Object;
 use kube_types::parts::{ClaimPhase, VolumePhase};
-use text_model::summary::{ClaimCounts, Ending, Summary, VolumeCounts};
 
 fn volume_place(phase: VolumePhase) -> u8
     ensures { result ≡ volume_place phase }

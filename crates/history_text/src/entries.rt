@@ -1,19 +1,21 @@
-//! The lines of a setup and of an entry.
+//! The lines of entries.
 
-ghost use Rattle.std.specs.Prelude.{◌≡◌, OnOk, IfOk};
-ghost use Rattle.json_text.specs.Trees.{tree_data, fields};
-ghost use Rattle.text_model.specs.Entries.{seat_word, entry_data, entry_line, setup_data, setup_line};
+ghost use Rattle.std.specs.Prelude.{◌≡◌, Some, OnOk, IfOk, codes};
+ghost use Rattle.json_text.specs.Writing.{written, with_some, with_value};
+ghost use Rattle.history_text.specs.Requests.{request_data};
+ghost use Rattle.history_text.specs.Replies.{reply_data};
+ghost use Rattle.history_text.specs.Entries.{seat_word, entry_data, entry_line};
 
-use crate::asks::request_tree;
-use crate::replies::reply_tree;
+use crate::asks::write_request;
+use crate::memo::Memo;
+use crate::replies::write_reply;
 use call_types::entry::Entry;
-use call_types::request::SeatKind;
-use call_types::setup::Setup;
-use json_text::build::Fields;
-use json_text::tree::Tree;
+use call_types::reply::Reply;
+use call_types::request::{Request, SeatKind};
+use json_text::writing::JsonText;
 use kube_types::copies::OutOfMemory;
 use kube_types::text::Bytes;
-use object_text::build::{put_list, wrapped};
+use object_text::printing::members::MemberSink;
 use std::alloc::Global;
 
 /// The word for the kind of a seat.
@@ -31,43 +33,51 @@ pub fn seat_word(kind: SeatKind) -> &'static str
     }
 }
 
-#[tactic(auto, unfolding(text_model::specs::Entries::entry_data))]
-fn entry_tree(alloc: Global, entry: &Entry) -> Result<Tree, OutOfMemory>
-    ensures { IfOk result (λ t. tree_data t ≡ entry_data entry.now) }
+#[tactic(auto, unfolding(json_text::specs::Members::with_option))]
+fn put_ask(out: &mut JsonText, request: &Request) -> Result<(), OutOfMemory>
+    ensures ok { OnOk result (written out.new ≡ with_some (codes "ask") (Some (request_data request.now)) (written out.old)) }
 {
-    let mut out = Fields::new(alloc);
-    out.put_tree(alloc, "ask", request_tree(alloc, &entry.request)?)?;
-    out.put_text(alloc, "kind", seat_word(entry.kind))?;
-    out.put_tree(alloc, "reply", reply_tree(alloc, &entry.reply)?)?;
-    out.put_number(alloc, "seat", entry.seat)?;
-    out.put_boolean(alloc, "told", entry.told)?;
-    Ok(out.into_tree())
+    out.key("ask")?;
+    write_request(out, request)
+}
+
+#[tactic(auto, unfolding(json_text::specs::Members::with_option))]
+fn put_reply<'a>(
+    out: &mut JsonText,
+    memo: &mut Memo<'a>,
+    reply: &'a Reply,
+) -> Result<(), OutOfMemory>
+    ensures ok { OnOk result (written out.new ≡ with_some (codes "reply") (Some (reply_data reply.now)) (written out.old)) }
+{
+    out.key("reply")?;
+    write_reply(out, memo, reply)
+}
+
+/// Puts an entry at the end.
+#[tactic(auto, using(crate::proofs::Closings::closes_entry))]
+pub fn write_entry<'a>(
+    out: &mut JsonText,
+    memo: &mut Memo<'a>,
+    entry: &'a Entry,
+) -> Result<(), OutOfMemory>
+    ensures ok { OnOk result (written out.new ≡ with_value (entry_data entry.now) (written out.old)) }
+{
+    out.begin_object()?;
+    put_ask(out, &entry.request)?;
+    out.put_text("kind", seat_word(entry.kind))?;
+    put_reply(out, memo, &entry.reply)?;
+    out.put("seat", &entry.seat)?;
+    out.put("told", &entry.told)?;
+    out.end_object()
 }
 
 /// The line of an entry, without a line feed.
-#[tactic(auto, using(text_model::proofs::EntryFloats::entry_free), unfolding(text_model::specs::Entries::entry_line))]
+#[tactic(auto, using(json_text::proofs::Closing::alone), unfolding(crate::specs::Entries::entry_line))]
 pub fn print_entry(alloc: Global, entry: &Entry) -> Result<Bytes, OutOfMemory>
     ensures { IfOk result (λ b. b ≡ entry_line entry.now) }
 {
-    let tree = entry_tree(alloc, entry)?;
-    tree.print(alloc)
-}
-
-#[tactic(auto, unfolding(text_model::specs::Entries::setup_data))]
-fn setup_tree(alloc: Global, setup: &Setup) -> Result<Tree, OutOfMemory>
-    ensures { IfOk result (λ t. tree_data t ≡ setup_data setup.now) }
-{
-    let mut out = Fields::new(alloc);
-    put_list(&mut out, alloc, "faults", setup.faults.as_slice())?;
-    put_list(&mut out, alloc, "pools", setup.pools.as_slice())?;
-    wrapped(alloc, "setup", out.into_tree())
-}
-
-/// The first line of a history, without a line feed.
-#[tactic(auto, using(text_model::proofs::EntryFloats::setup_free), unfolding(text_model::specs::Entries::setup_line))]
-pub fn print_setup(alloc: Global, setup: &Setup) -> Result<Bytes, OutOfMemory>
-    ensures { IfOk result (λ b. b ≡ setup_line setup.now) }
-{
-    let tree = setup_tree(alloc, setup)?;
-    tree.print(alloc)
+    let mut memo = Memo::new(alloc, 0)?;
+    let mut out = JsonText::new(alloc);
+    write_entry(&mut out, &mut memo, entry)?;
+    Ok(out.into_bytes())
 }

@@ -4,6 +4,10 @@
 pub mod asks;
 pub mod counts;
 pub mod entries;
+pub mod laws;
 pub mod lines;
+pub mod memo;
 pub mod replies;
+pub mod setups;
 pub mod summaries;
+pub mod summary;

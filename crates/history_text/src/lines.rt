@@ -1,34 +1,41 @@
 //! Lines, one after another.
 
 ghost use Rattle.std.specs.Prelude.{◌≡◌, [], OnOk, IfOk, map};
-ghost use Rattle.text_model.specs.Objects.{object_line};
-ghost use Rattle.text_model.specs.Entries.{entry_line};
-ghost use Rattle.text_model.specs.Output.{with_line, with_lines, history_lines, history_text, final_lines, final_text};
+ghost use Rattle.object_text.specs.Printing.Objects.{object_line};
+ghost use Rattle.history_text.specs.Entries.{entry_line, setup_line};
+ghost use Rattle.history_text.specs.Output.{with_line, with_lines, history_lines, history_text, final_lines, final_text};
 
-use crate::entries::{print_entry, print_setup};
+use crate::entries::write_entry;
+use crate::memo::Memo;
+use crate::setups::write_setup;
 use crate::summaries::push_summary;
+use crate::summary::Summary;
 use call_types::entry::Entry;
 use call_types::setup::Setup;
+use json_text::writing::JsonText;
 use kube_types::copies::OutOfMemory;
 use kube_types::objects::Object;
 use kube_types::text::Bytes;
-use object_text::print::print_object;
+use object_text::printing::members::AsJson;
 use std::alloc::Global;
 use std::marker::Model;
-use text_model::summary::Summary;
 
-/// Text that grows by lines.
-#[derive(Debug, Drop)]
+/// How many texts of objects the lines of entries keep.
+const PLACES: usize = 1024;
+
+/// Text that grows by lines. After want of memory a part of a line may stand there.
+#[derive(Drop)]
 pub struct Lines {
-    bytes: Vec<u8>,
+    out: JsonText,
 }
 
 impl Model for Lines {
     ghost use Rattle.std.specs.Prelude.{List, ℕ};
+    ghost use Rattle.json_text.specs.Writing.{text_of};
 
     ghost Value = { List ℕ };
 
-    ghost view = { λ l. l.bytes.items };
+    ghost view = { λ l. text_of l.out };
 }
 
 impl Lines {
@@ -36,57 +43,86 @@ impl Lines {
         ensures { result ≡ [] }
     {
         Lines {
-            bytes: Vec::new(alloc),
+            out: JsonText::new(alloc),
         }
     }
 
-    /// Puts a line at the end, and a line feed. After want of memory a part of the line may stand
-    /// there.
+    /// Puts a line at the end, and a line feed.
+    #[tactic(auto, using(crate::proofs::LineLists::ends_text))]
     pub fn push(&mut self, line: &[u8]) -> Result<(), OutOfMemory>
         ensures ok { OnOk result (self.new ≡ with_line self.old line.now) }
     {
-        self.bytes.extend_from_slice(line)?;
-        self.bytes.push(b'\n')?;
-        Ok(())
+        self.out.begin_line();
+        self.out.raw(line)?;
+        self.out.end_line()
+    }
+
+    #[tactic(auto, using(crate::proofs::LineLists::ends_value), unfolding(crate::specs::Entries::setup_line))]
+    fn push_setup(&mut self, setup: &Setup) -> Result<(), OutOfMemory>
+        ensures ok { OnOk result (self.new ≡ with_line self.old (setup_line setup.now)) }
+    {
+        self.out.begin_line();
+        write_setup(&mut self.out, setup)?;
+        self.out.end_line()
+    }
+
+    #[tactic(auto, using(crate::proofs::LineLists::ends_value), unfolding(crate::specs::Entries::entry_line))]
+    fn push_entry<'a>(&mut self, memo: &mut Memo<'a>, entry: &'a Entry) -> Result<(), OutOfMemory>
+        ensures ok { OnOk result (self.new ≡ with_line self.old (entry_line entry.now)) }
+    {
+        self.out.begin_line();
+        write_entry(&mut self.out, memo, entry)?;
+        self.out.end_line()
+    }
+
+    #[tactic(auto, using(crate::proofs::LineLists::ends_value), unfolding(object_text::specs::Printing::Objects::object_line))]
+    fn push_object(&mut self, object: &Object) -> Result<(), OutOfMemory>
+        ensures ok { OnOk result (self.new ≡ with_line self.old (object_line object.now)) }
+    {
+        self.out.begin_line();
+        object.write(&mut self.out)?;
+        self.out.end_line()
     }
 
     pub fn as_slice(&self) -> &[u8]
         ensures { result.now ≡ self.now }
     {
-        &self.bytes
+        self.out.as_slice()
     }
 
     /// The text. It takes no memory.
     pub fn into_bytes(self) -> Bytes
         ensures { result ≡ self }
     {
-        let Lines { bytes } = self;
-        Bytes::from_vec(bytes)
+        let Lines { out } = self;
+        out.into_bytes()
     }
 }
 
-/// Puts the lines of the entries at the end, the oldest first.
+/// Puts the lines of the entries at the end, the oldest first. Each version of an object is printed once
+/// where the texts of 1,024 versions suffice for that.
 pub fn push_entries(lines: &mut Lines, alloc: Global, entries: &[Entry]) -> Result<(), OutOfMemory>
     ensures ok { OnOk result (lines.new ≡ with_lines lines.old (map entry_line entries.now)) }
 {
+    let mut memo = Memo::new(alloc, PLACES)?;
     for entry in entries {
-        lines.push(print_entry(alloc, entry)?.as_slice())?;
+        lines.push_entry(&mut memo, entry)?;
     }
     Ok(())
 }
 
 /// Puts the lines of the objects at the end, in their order.
-pub fn push_objects(lines: &mut Lines, alloc: Global, objects: &[Object]) -> Result<(), OutOfMemory>
+pub fn push_objects(lines: &mut Lines, objects: &[Object]) -> Result<(), OutOfMemory>
     ensures ok { OnOk result (lines.new ≡ with_lines lines.old (map object_line objects.now)) }
 {
     for object in objects {
-        lines.push(print_object(alloc, object)?.as_slice())?;
+        lines.push_object(object)?;
     }
     Ok(())
 }
 
 /// Puts the text of a history at the end.
-#[tactic(auto, using(crate::proofs::LineLists::with_lines_append), unfolding(text_model::specs::Output::history_lines))]
+#[tactic(auto, using(crate::proofs::LineLists::with_lines_append), unfolding(crate::specs::Output::history_lines))]
 pub fn push_history(
     lines: &mut Lines,
     alloc: Global,
@@ -95,13 +131,13 @@ pub fn push_history(
 ) -> Result<(), OutOfMemory>
     ensures ok { OnOk result (lines.new ≡ with_lines lines.old (history_lines setup.now entries.now)) }
 {
-    lines.push(print_setup(alloc, setup)?.as_slice())?;
+    lines.push_setup(setup)?;
     push_entries(lines, alloc, entries)?;
     lines.push(b"end")
 }
 
 /// Puts the final objects and the summary at the end.
-#[tactic(auto, using(crate::proofs::LineLists::with_lines_append), unfolding(text_model::specs::Output::final_lines))]
+#[tactic(auto, using(crate::proofs::LineLists::with_lines_append), unfolding(crate::specs::Output::final_lines))]
 pub fn push_final(
     lines: &mut Lines,
     alloc: Global,
@@ -111,7 +147,7 @@ pub fn push_final(
     ensures ok { OnOk result (lines.new ≡ with_lines lines.old (final_lines objects.now summary.now)) }
 {
     lines.push(b"objects")?;
-    push_objects(lines, alloc, objects)?;
+    push_objects(lines, objects)?;
     lines.push(b"summary")?;
     push_summary(lines, alloc, summary)
 }

@@ -1,138 +1,316 @@
-//! Replies as JSON.
+//! Replies as JSON, each object by the memo.
 
-ghost use Rattle.std.specs.Prelude.{◌≡◌, OnOk, IfOk};
-ghost use Rattle.json_text.specs.Trees.{tree_data, fields};
-ghost use Rattle.json_text.specs.Build.{put_all};
-ghost use Rattle.text_model.specs.Replies.{refused, refused_number, refused_text, refusal_pairs, listed_pairs, events_pairs, provisioned_pairs, reply_pairs, reply_data};
+ghost use Rattle.std.specs.Prelude.{◌≡◌, Some, OnOk, codes};
+ghost use Rattle.json_text.specs.Members.{items_data, array_data, object_of, within, with_options, with_member_text};
+ghost use Rattle.json_text.specs.Writing.{written, with_some, with_value, items_after};
+ghost use Rattle.object_text.specs.Printing.Objects.{object_data};
+ghost use Rattle.history_text.specs.Replies.{change_word, event_data, mount_data, topology_pairs, refused, refused_number, refused_text, refusal_pairs, listed_pairs, events_pairs, provisioned_pairs, reply_data};
 
 use crate::asks::put_data_id;
-use call_types::reply::{Events, Refusal, Reply};
-use json_text::build::Fields;
-use json_text::tree::Tree;
+use crate::memo::Memo;
+use call_types::reply::{Change, Event, Events, MountRow, Refusal, Reply};
+use json_text::member_texts::MemberTexts;
+use json_text::writing::JsonText;
 use kube_types::copies::OutOfMemory;
-use kube_types::items::Items;
 use kube_types::objects::{DataId, Object, Version};
 use kube_types::text::Text;
-use object_text::build::{AsTree, put_list};
-use object_text::rows::put_topology;
-use std::alloc::Global;
+use object_text::printing::members::{AsJson, MemberSink};
 
-fn put_refused(out: &mut Fields, alloc: Global, word: &str) -> Result<(), OutOfMemory>
-    ensures ok { OnOk result (fields out.new ≡ put_all (refused word.now) (fields out.old)) }
+/// The word for a change.
+pub fn change_word(change: Change) -> &'static str
+    ensures { result.now ≡ change_word change }
 {
-    out.put_text(alloc, "refused", word)
+    match change {
+        Change::Added => "ADDED",
+        Change::Modified => "MODIFIED",
+        Change::Deleted => "DELETED",
+    }
+}
+
+#[tactic(auto, unfolding(json_text::specs::Members::with_option))]
+fn put_object<'a>(
+    out: &mut JsonText,
+    memo: &mut Memo<'a>,
+    key: &str,
+    object: &'a Object,
+) -> Result<(), OutOfMemory>
+    ensures ok { OnOk result (written out.new ≡ with_some key.now (Some (object_data object.now)) (written out.old)) }
+{
+    out.key(key)?;
+    memo.write(out, object)
+}
+
+/// An object as the only member.
+#[tactic(auto, using(json_text::proofs::Closing::closes_within))]
+fn write_told<'a>(
+    out: &mut JsonText,
+    memo: &mut Memo<'a>,
+    key: &str,
+    object: &'a Object,
+) -> Result<(), OutOfMemory>
+    ensures ok { OnOk result (written out.new ≡ with_value (within key.now (object_data object.now)) (written out.old)) }
+{
+    out.begin_object()?;
+    put_object(out, memo, key, object)?;
+    out.end_object()
+}
+
+/// A value as the only member.
+#[tactic(auto, using(json_text::proofs::Closing::closes_within))]
+fn write_only<T: AsJson>(out: &mut JsonText, key: &str, value: &T) -> Result<(), OutOfMemory>
+    ensures ok { OnOk result (written out.new ≡ with_value (within key.now (T.json value.now)) (written out.old)) }
+{
+    out.begin_object()?;
+    out.put(key, value)?;
+    out.end_object()
+}
+
+fn write_objects<'a>(
+    out: &mut JsonText,
+    memo: &mut Memo<'a>,
+    objects: &'a [Object],
+) -> Result<(), OutOfMemory>
+    ensures ok { OnOk result (written out.new ≡ items_after (items_data object_data objects.now) (written out.old)) }
+{
+    for object in objects {
+        memo.write(out, object)?;
+    }
+    Ok(())
+}
+
+#[tactic(auto, using(crate::proofs::Closings::closes_objects))]
+fn put_objects<'a>(
+    out: &mut JsonText,
+    memo: &mut Memo<'a>,
+    objects: &'a [Object],
+) -> Result<(), OutOfMemory>
+    ensures ok { OnOk result (written out.new ≡ with_some (codes "items") (Some (array_data object_data objects.now)) (written out.old)) }
+{
+    out.key("items")?;
+    out.begin_array()?;
+    write_objects(out, memo, objects)?;
+    out.end_array()
+}
+
+#[tactic(auto, using(crate::proofs::Closings::closes_listed))]
+fn write_listed<'a>(
+    out: &mut JsonText,
+    memo: &mut Memo<'a>,
+    objects: &'a [Object],
+    version: Version,
+) -> Result<(), OutOfMemory>
+    ensures ok { OnOk result (written out.new ≡ with_value (object_of (listed_pairs objects.now version)) (written out.old)) }
+{
+    out.begin_object()?;
+    put_objects(out, memo, objects)?;
+    out.put("listed", &version)?;
+    out.end_object()
+}
+
+#[tactic(auto, using(crate::proofs::Closings::closes_event))]
+fn write_event<'a>(
+    out: &mut JsonText,
+    memo: &mut Memo<'a>,
+    event: &'a Event,
+) -> Result<(), OutOfMemory>
+    ensures ok { OnOk result (written out.new ≡ with_value (event_data event.now) (written out.old)) }
+{
+    out.begin_object()?;
+    out.put_text("change", change_word(event.change))?;
+    put_object(out, memo, "object", &event.object)?;
+    out.put("version", &event.version)?;
+    out.end_object()
+}
+
+fn write_event_items<'a>(
+    out: &mut JsonText,
+    memo: &mut Memo<'a>,
+    events: &'a [Event],
+) -> Result<(), OutOfMemory>
+    ensures ok { OnOk result (written out.new ≡ items_after (items_data event_data events.now) (written out.old)) }
+{
+    for event in events {
+        write_event(out, memo, event)?;
+    }
+    Ok(())
+}
+
+#[tactic(auto, using(crate::proofs::Closings::closes_event_items))]
+fn put_events<'a>(
+    out: &mut JsonText,
+    memo: &mut Memo<'a>,
+    events: &'a [Event],
+) -> Result<(), OutOfMemory>
+    ensures ok { OnOk result (written out.new ≡ with_some (codes "events") (Some (array_data event_data events.now)) (written out.old)) }
+{
+    out.key("events")?;
+    out.begin_array()?;
+    write_event_items(out, memo, events)?;
+    out.end_array()
+}
+
+#[tactic(auto, using(crate::proofs::Closings::closes_events))]
+fn write_events<'a>(
+    out: &mut JsonText,
+    memo: &mut Memo<'a>,
+    events: &'a Events,
+) -> Result<(), OutOfMemory>
+    ensures ok { OnOk result (written out.new ≡ with_value (object_of (events_pairs events.now)) (written out.old)) }
+{
+    out.begin_object()?;
+    put_events(out, memo, events.events.as_slice())?;
+    out.put("upto", &events.upto)?;
+    out.end_object()
+}
+
+#[tactic(auto, using(crate::proofs::Closings::closes_mount))]
+fn write_mount(out: &mut JsonText, row: &MountRow) -> Result<(), OutOfMemory>
+    ensures ok { OnOk result (written out.new ≡ with_value (mount_data row.now) (written out.old)) }
+{
+    out.begin_object()?;
+    out.put_list("claims", row.claims.as_slice())?;
+    out.put("pod", &row.pod)?;
+    out.end_object()
+}
+
+fn write_mount_items(out: &mut JsonText, rows: &[MountRow]) -> Result<(), OutOfMemory>
+    ensures ok { OnOk result (written out.new ≡ items_after (items_data mount_data rows.now) (written out.old)) }
+{
+    for row in rows {
+        write_mount(out, row)?;
+    }
+    Ok(())
+}
+
+#[tactic(auto, using(crate::proofs::Closings::closes_mount_items))]
+fn put_mounts(out: &mut JsonText, rows: &[MountRow]) -> Result<(), OutOfMemory>
+    ensures ok { OnOk result (written out.new ≡ with_some (codes "mounted") (Some (array_data mount_data rows.now)) (written out.old)) }
+{
+    out.key("mounted")?;
+    out.begin_array()?;
+    write_mount_items(out, rows)?;
+    out.end_array()
+}
+
+#[tactic(auto, using(json_text::proofs::Closing::closes_within))]
+fn write_mounted(out: &mut JsonText, rows: &[MountRow]) -> Result<(), OutOfMemory>
+    ensures ok { OnOk result (written out.new ≡ with_value (within (codes "mounted") (array_data mount_data rows.now)) (written out.old)) }
+{
+    out.begin_object()?;
+    put_mounts(out, rows)?;
+    out.end_object()
+}
+
+/// The label and the value of a topology, if there is one.
+pub(crate) fn put_topology(
+    out: &mut MemberTexts,
+    topology: &Option<(Text, Text)>,
+) -> Result<(), OutOfMemory>
+    ensures ok { OnOk result (out.new ≡ with_options with_member_text (topology_pairs topology.now) out.old) }
+{
+    match topology {
+        None => Ok(()),
+        Some(pair) => {
+            out.put_text("label", pair.0.as_str())?;
+            out.put_text("value", pair.1.as_str())
+        }
+    }
+}
+
+#[tactic(auto, using(crate::proofs::Closings::closes_provisioned))]
+fn write_provisioned(
+    out: &mut JsonText,
+    id: &DataId,
+    topology: &Option<(Text, Text)>,
+) -> Result<(), OutOfMemory>
+    ensures ok { OnOk result (written out.new ≡ with_value (object_of (provisioned_pairs id.now topology.now)) (written out.old)) }
+{
+    let mut members = MemberTexts::new(out.allocator());
+    put_data_id(&mut members, id)?;
+    put_topology(&mut members, topology)?;
+    members.write(out)
+}
+
+fn put_refused(out: &mut MemberTexts, word: &str) -> Result<(), OutOfMemory>
+    ensures ok { OnOk result (out.new ≡ with_options with_member_text (refused word.now) out.old) }
+{
+    out.put_text("refused", word)
 }
 
 fn put_refused_number(
-    out: &mut Fields,
-    alloc: Global,
+    out: &mut MemberTexts,
     word: &str,
     name: &str,
     n: u64,
 ) -> Result<(), OutOfMemory>
-    ensures ok { OnOk result (fields out.new
-        ≡ put_all (refused_number word.now name.now n) (fields out.old)) }
+    ensures ok { OnOk result (out.new ≡ with_options with_member_text (refused_number word.now name.now n) out.old) }
 {
-    put_refused(out, alloc, word)?;
-    out.put_number(alloc, name, n)
+    put_refused(out, word)?;
+    out.put(name, &n)
 }
 
 fn put_refused_text(
-    out: &mut Fields,
-    alloc: Global,
+    out: &mut MemberTexts,
     word: &str,
     name: &str,
     text: &str,
 ) -> Result<(), OutOfMemory>
-    ensures ok { OnOk result (fields out.new
-        ≡ put_all (refused_text word.now name.now text.now) (fields out.old)) }
+    ensures ok { OnOk result (out.new ≡ with_options with_member_text (refused_text word.now name.now text.now) out.old) }
 {
-    put_refused(out, alloc, word)?;
-    out.put_text(alloc, name, text)
+    put_refused(out, word)?;
+    out.put_text(name, text)
 }
 
-fn put_refusal(out: &mut Fields, alloc: Global, refusal: &Refusal) -> Result<(), OutOfMemory>
-    ensures ok { OnOk result (fields out.new ≡ put_all (refusal_pairs refusal.now) (fields out.old)) }
+fn put_refusal(out: &mut MemberTexts, refusal: &Refusal) -> Result<(), OutOfMemory>
+    ensures ok { OnOk result (out.new ≡ with_options with_member_text (refusal_pairs refusal.now) out.old) }
 {
     match refusal {
-        Refusal::NotFound => put_refused(out, alloc, "NotFound"),
-        Refusal::AlreadyExists => put_refused(out, alloc, "AlreadyExists"),
-        Refusal::Conflict { current } => {
-            put_refused_number(out, alloc, "Conflict", "current", *current)
-        }
-        Refusal::Invalid(field) => put_refused_text(out, alloc, "Invalid", "field", field.name()),
-        Refusal::Forbidden(rule) => put_refused_text(out, alloc, "Forbidden", "rule", rule.name()),
-        Refusal::Gone { oldest } => put_refused_number(out, alloc, "Gone", "oldest", *oldest),
-        Refusal::Exhausted { free } => put_refused_number(out, alloc, "Exhausted", "free", *free),
+        Refusal::NotFound => put_refused(out, "NotFound"),
+        Refusal::AlreadyExists => put_refused(out, "AlreadyExists"),
+        Refusal::Conflict { current } => put_refused_number(out, "Conflict", "current", *current),
+        Refusal::Invalid(field) => put_refused_text(out, "Invalid", "field", field.name()),
+        Refusal::Forbidden(rule) => put_refused_text(out, "Forbidden", "rule", rule.name()),
+        Refusal::Gone { oldest } => put_refused_number(out, "Gone", "oldest", *oldest),
+        Refusal::Exhausted { free } => put_refused_number(out, "Exhausted", "free", *free),
         Refusal::BackFault { planned } => {
-            put_refused_number(out, alloc, "BackFault", "planned", *planned)
+            put_refused_number(out, "BackFault", "planned", *planned)
         }
         Refusal::StaleEpoch { current } => {
-            put_refused_number(out, alloc, "StaleEpoch", "current", *current)
+            put_refused_number(out, "StaleEpoch", "current", *current)
         }
-        Refusal::Assigned { node } => {
-            put_refused_text(out, alloc, "Assigned", "node", node.as_str())
-        }
+        Refusal::Assigned { node } => put_refused_text(out, "Assigned", "node", node.as_str()),
     }
 }
 
-fn put_listed(
-    out: &mut Fields,
-    alloc: Global,
-    items: &Items<Object>,
-    version: Version,
+#[tactic(auto, using(crate::proofs::Closings::closes_refusal))]
+fn write_refusal(out: &mut JsonText, refusal: &Refusal) -> Result<(), OutOfMemory>
+    ensures ok { OnOk result (written out.new ≡ with_value (object_of (refusal_pairs refusal.now)) (written out.old)) }
+{
+    let mut members = MemberTexts::new(out.allocator());
+    put_refusal(&mut members, refusal)?;
+    members.write(out)
+}
+
+/// Puts a reply at the end.
+#[tactic(auto, unfolding(crate::specs::Replies::reply_data))]
+pub fn write_reply<'a>(
+    out: &mut JsonText,
+    memo: &mut Memo<'a>,
+    reply: &'a Reply,
 ) -> Result<(), OutOfMemory>
-    ensures ok { OnOk result (fields out.new
-        ≡ put_all (listed_pairs items.now version) (fields out.old)) }
-{
-    put_list(out, alloc, "items", items.as_slice())?;
-    out.put_number(alloc, "listed", version)
-}
-
-fn put_events(out: &mut Fields, alloc: Global, events: &Events) -> Result<(), OutOfMemory>
-    ensures ok { OnOk result (fields out.new ≡ put_all (events_pairs events.now) (fields out.old)) }
-{
-    put_list(out, alloc, "events", events.events.as_slice())?;
-    out.put_number(alloc, "upto", events.upto)
-}
-
-fn put_provisioned(
-    out: &mut Fields,
-    alloc: Global,
-    id: &DataId,
-    topology: &Option<(Text, Text)>,
-) -> Result<(), OutOfMemory>
-    ensures ok { OnOk result (fields out.new
-        ≡ put_all (provisioned_pairs id.now topology.now) (fields out.old)) }
-{
-    put_data_id(out, alloc, id)?;
-    put_topology(out, alloc, topology)
-}
-
-fn put_reply(out: &mut Fields, alloc: Global, reply: &Reply) -> Result<(), OutOfMemory>
-    ensures ok { OnOk result (fields out.new ≡ put_all (reply_pairs reply.now) (fields out.old)) }
+    ensures ok { OnOk result (written out.new ≡ with_value (reply_data reply.now) (written out.old)) }
 {
     match reply {
-        Reply::Done(object) => out.put_tree(alloc, "done", object.tree(alloc)?),
-        Reply::Left(object) => out.put_tree(alloc, "left", object.tree(alloc)?),
-        Reply::Found(object) => out.put_tree(alloc, "found", object.tree(alloc)?),
-        Reply::Listed { items, version } => put_listed(out, alloc, items, *version),
-        Reply::Events(events) => put_events(out, alloc, events),
-        Reply::Provisioned { id, topology } => put_provisioned(out, alloc, id, topology),
-        Reply::Erased { removed } => out.put_boolean(alloc, "erased", *removed),
-        Reply::Epoch(epoch) => out.put_number(alloc, "epoch", *epoch),
-        Reply::Mounted(rows) => put_list(out, alloc, "mounted", rows.as_slice()),
-        Reply::Timed => out.put_boolean(alloc, "timed", true),
-        Reply::Refused(refusal) => put_refusal(out, alloc, refusal),
+        Reply::Done(object) => write_told(out, memo, "done", object),
+        Reply::Left(object) => write_told(out, memo, "left", object),
+        Reply::Found(object) => write_told(out, memo, "found", object),
+        Reply::Listed { items, version } => write_listed(out, memo, items.as_slice(), *version),
+        Reply::Events(events) => write_events(out, memo, events),
+        Reply::Provisioned { id, topology } => write_provisioned(out, id, topology),
+        Reply::Erased { removed } => write_only(out, "erased", removed),
+        Reply::Epoch(epoch) => write_only(out, "epoch", epoch),
+        Reply::Mounted(rows) => write_mounted(out, rows.as_slice()),
+        Reply::Timed => write_only(out, "timed", &true),
+        Reply::Refused(refusal) => write_refusal(out, refusal),
     }
-}
-
-/// The tree of a reply.
-#[tactic(auto, unfolding(text_model::specs::Replies::reply_data))]
-pub fn reply_tree(alloc: Global, reply: &Reply) -> Result<Tree, OutOfMemory>
-    ensures { IfOk result (λ t. tree_data t ≡ reply_data reply.now) }
-{
-    let mut out = Fields::new(alloc);
-    put_reply(&mut out, alloc, reply)?;
-    Ok(out.into_tree())
 }

@@ -1,32 +1,32 @@
 //! The lines of a summary.
 
 ghost use Rattle.std.specs.Prelude.{◌≡◌, OnOk, IfOk, string_bytes};
-ghost use Rattle.text_model.specs.Output.{with_lines};
-ghost use Rattle.text_model.specs.Summaries.{full_name, writes_line, objects_line, volumes_line, claims_line, pods_line, data_line, unsettled_line, ending_line, count_lines, end_lines, summary_lines};
+ghost use Rattle.history_text.specs.Output.{with_lines};
+ghost use Rattle.history_text.specs.Summaries.{full_name, writes_line, objects_line, volumes_line, claims_line, pods_line, data_line, unsettled_line, ending_line, count_lines, end_lines, summary_lines};
 
 use crate::lines::Lines;
+use crate::summary::{ClaimCounts, Ending, Summary, VolumeCounts};
 use kube_types::copies::OutOfMemory;
 use kube_types::key::Key;
 use kube_types::names::Due;
 use kube_types::parts::Kind;
 use std::alloc::Global;
-use text_model::summary::{ClaimCounts, Ending, Summary, VolumeCounts};
 
-#[tactic(auto, unfolding(text_model::specs::Summaries::writes_line))]
+#[tactic(auto, unfolding(crate::specs::Summaries::writes_line))]
 fn writes_line(alloc: Global, n: u64) -> Result<String, OutOfMemory>
     ensures { IfOk result (λ s. string_bytes s ≡ writes_line n) }
 {
     Ok(format!(in alloc; "writes {n}")?)
 }
 
-#[tactic(auto, unfolding(text_model::specs::Summaries::objects_line))]
+#[tactic(auto, unfolding(crate::specs::Summaries::objects_line))]
 fn objects_line(alloc: Global, n: u64) -> Result<String, OutOfMemory>
     ensures { IfOk result (λ s. string_bytes s ≡ objects_line n) }
 {
     Ok(format!(in alloc; "objects {n}")?)
 }
 
-#[tactic(auto, unfolding(text_model::specs::Summaries::volumes_line))]
+#[tactic(auto, unfolding(crate::specs::Summaries::volumes_line))]
 fn volumes_line(alloc: Global, counts: &VolumeCounts) -> Result<String, OutOfMemory>
     ensures { IfOk result (λ s. string_bytes s ≡ volumes_line counts.now) }
 {
@@ -36,7 +36,7 @@ fn volumes_line(alloc: Global, counts: &VolumeCounts) -> Result<String, OutOfMem
     )?)
 }
 
-#[tactic(auto, unfolding(text_model::specs::Summaries::claims_line))]
+#[tactic(auto, unfolding(crate::specs::Summaries::claims_line))]
 fn claims_line(alloc: Global, counts: &ClaimCounts) -> Result<String, OutOfMemory>
     ensures { IfOk result (λ s. string_bytes s ≡ claims_line counts.now) }
 {
@@ -46,14 +46,14 @@ fn claims_line(alloc: Global, counts: &ClaimCounts) -> Result<String, OutOfMemor
     )?)
 }
 
-#[tactic(auto, unfolding(text_model::specs::Summaries::pods_line))]
+#[tactic(auto, unfolding(crate::specs::Summaries::pods_line))]
 fn pods_line(alloc: Global, pods: u64, mounted: u64) -> Result<String, OutOfMemory>
     ensures { IfOk result (λ s. string_bytes s ≡ pods_line pods mounted) }
 {
     Ok(format!(in alloc; "pods {pods} mounted {mounted}")?)
 }
 
-#[tactic(auto, unfolding(text_model::specs::Summaries::data_line))]
+#[tactic(auto, unfolding(crate::specs::Summaries::data_line))]
 fn data_line(alloc: Global, stored: u64, calls: u64) -> Result<String, OutOfMemory>
     ensures { IfOk result (λ s. string_bytes s ≡ data_line stored calls) }
 {
@@ -73,7 +73,7 @@ pub fn full_name(alloc: Global, key: &Key) -> Result<String, OutOfMemory>
     }
 }
 
-#[tactic(auto, unfolding(text_model::specs::Summaries::unsettled_line))]
+#[tactic(auto, unfolding(crate::specs::Summaries::unsettled_line))]
 fn unsettled_line(alloc: Global, calls: u64, key: &Key, due: Due) -> Result<String, OutOfMemory>
     ensures { IfOk result (λ s. string_bytes s ≡ unsettled_line calls key.now due) }
 {

@@ -1,24 +1,15 @@
 -- What the owned values stand for.
 use Rattle.std.specs.Prelude.{ℕ, List, Bool, true, false, if◌then◌else◌}
-use Rattle.serde_json.specs.Data.{Data, null, boolean, number, string, array, object, Items, no_items, item, Members, no_members, member, put}
-use Rattle.serde_json.specs.View.{view, members_view, items_view}
+use Rattle.serde_json.specs.Data.{Data, null, boolean, number, string, array, object, Members, no_members, member, put}
+use Rattle.serde_json.specs.View.{view, members_view}
 use Rattle.json_text.specs.declared.tree.Tree.{Tree}
 use Rattle.json_text.specs.declared.build.Fields.{Fields}
-use Rattle.json_text.specs.declared.build.Elements.{Elements}
 
 abbrev pub tree_data : Tree → Data
 tree_data t = view t.value
 
 abbrev pub fields : Fields → Members
 fields f = members_view f.map.entries
-
-abbrev pub elements : Elements → Items
-elements e = items_view e.list.items
-
--- with an item at the end
-abbrev pub with_item : Items → Data → Items
-with_item no_items d = item d no_items
-with_item (item e ds) d = item e (with_item ds d)
 
 -- the members of an object
 abbrev pub members_in : Data → Members

@@ -2,7 +2,7 @@
 
 ghost use Rattle.std.specs.Prelude.{◌≡◌, ◌≤◌, Some, None, IfOk, false};
 ghost use Rattle.std.specs.declared.result.Result.TheVariants.{Err};
-ghost use Rattle.serde_json.specs.Data.{number, unsigned, string, boolean, depth};
+ghost use Rattle.serde_json.specs.Data.{depth};
 ghost use Rattle.serde_json.specs.Read.{read, max_depth};
 ghost use Rattle.serde_json.specs.Written.{compact_text, has_float};
 ghost use Rattle.serde_json.specs.View.{view};
@@ -20,6 +20,14 @@ pub enum NoTree {
     OutOfMemory,
     /// It is no JSON text of at most 127 levels.
     NotJson,
+}
+
+/// The compact text of a value.
+pub(crate) fn value_text(alloc: Global, value: &Value) -> Result<Bytes, OutOfMemory>
+    ensures text { IfOk result (λ b. has_float (view value.now) ≡ false
+        → b ≡ compact_text (view value.now)) }
+{
+    Ok(Bytes::from_vec(value.to_vec(alloc)?))
 }
 
 /// A JSON value that is owned. Contracts see the data that it stands for, by `tree_data`.
@@ -73,33 +81,6 @@ impl Tree {
         &self.value
     }
 
-    /// A text as a value.
-    pub fn text(alloc: Global, text: &str) -> Result<Tree, OutOfMemory>
-        ensures { IfOk result (λ t. tree_data t ≡ string text.now) }
-    {
-        Ok(Tree {
-            value: Value::try_from_str(alloc, text)?,
-        })
-    }
-
-    /// A number as a value.
-    pub fn number(n: u64) -> Tree
-        ensures { tree_data result ≡ number (unsigned n) }
-    {
-        Tree {
-            value: Value::from(n),
-        }
-    }
-
-    /// A boolean as a value.
-    pub fn boolean(b: bool) -> Tree
-        ensures { tree_data result ≡ boolean b }
-    {
-        Tree {
-            value: Value::Bool(b),
-        }
-    }
-
     /// A copy of a value.
     pub fn copy(value: &Value) -> Result<Tree, OutOfMemory>
         ensures { IfOk result (λ t. tree_data t ≡ view value.now) }
@@ -114,7 +95,7 @@ impl Tree {
         ensures text { IfOk result (λ b. has_float (tree_data self.now) ≡ false
             → b ≡ compact_text (tree_data self.now)) }
     {
-        Ok(Bytes::from_vec(self.value.to_vec(alloc)?))
+        value_text(alloc, &self.value)
     }
 
     /// The same, as a text.

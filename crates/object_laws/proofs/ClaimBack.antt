@@ -11,9 +11,9 @@ use Rattle.kube_types.specs.declared.parts.ClaimPhase.TheVariants.{Pending, Boun
 use Rattle.kube_types.specs.declared.objects.Amount.{Amount}
 use Rattle.kube_types.specs.declared.objects.Selector.{Selector}
 use Rattle.kube_types.specs.declared.objects.Claim.{Claim}
-use Rattle.text_model.specs.Members.{MemberList, items_data, filled_array}
-use Rattle.text_model.specs.Parts.{modes_data, storage_data, requests_data, selector_pairs, selector_data}
-use Rattle.text_model.specs.Claims.{claim_front, claim_back as back_pairs, claim_spec, got_modes, claim_status_pairs, claim_status, claim_pairs, claim_data}
+use Rattle.json_text.specs.Members.{MemberList, items_data, filled_array}
+use Rattle.object_text.specs.Printing.Parts.{modes_data, storage_data, requests_data, selector_pairs, selector_data}
+use Rattle.object_text.specs.Printing.Claims.{claim_front, claim_back as back_pairs, claim_spec, got_modes, claim_status_pairs, claim_status, claim_pairs, claim_data}
 use Rattle.object_text.specs.declared.errors.Member.TheVariants as members
 use Rattle.object_text.specs.declared.extra.Listed.TheVariants as listed
 use Rattle.object_text.specs.Answers.{◌>>=◌}

@@ -7,9 +7,9 @@ use Rattle.kube_types.specs.Words.{policy_word}
 use Rattle.kube_types.specs.declared.parts.Policy.{Policy}
 use Rattle.kube_types.specs.declared.parts.Policy.TheVariants.{Retain, Delete, Recycle}
 use Rattle.kube_types.specs.declared.objects.Class.{Class}
-use Rattle.text_model.specs.Members.{MemberList}
-use Rattle.text_model.specs.Metadata.{head_pairs}
-use Rattle.text_model.specs.Objects.{binding_mode, class_back as back_pairs, class_data}
+use Rattle.json_text.specs.Members.{MemberList}
+use Rattle.object_text.specs.Printing.Metadata.{head_pairs}
+use Rattle.object_text.specs.Printing.Objects.{binding_mode, class_back as back_pairs, class_data}
 use Rattle.object_text.specs.declared.errors.Member.TheVariants as members
 use Rattle.object_text.specs.declared.extra.Listed.TheVariants as listed
 use Rattle.object_text.specs.MemberReaders.{at}

@@ -7,7 +7,7 @@ use Rattle.json_text.specs.Build.{put_all, pick, Good, GoodMembers, AreOthers, a
 use Rattle.json_text.proofs.Good.{good_object, no_float_good}
 use Rattle.json_text.proofs.ReadBack.{read-compact_text}
 use Rattle.json_text.proofs.PutAll.{get-put_all, others-put_all, others_all, not_other}
-use Rattle.text_model.specs.Members.{MemberList, members_unless, extra_from, extra_members}
+use Rattle.json_text.specs.Members.{MemberList, members_unless, extra_from, extra_members}
 use Rattle.object_text.specs.declared.extra.Listed.{Listed}
 use Rattle.object_text.specs.ExtraMembers.{is_listed, extra_text, extra_at}
 use Rattle.object_laws.specs.Given.{AreExtra}

@@ -1,20 +1,14 @@
 -- What the readers of the five kinds give meets what is asked of objects that a manifest can give.
-use Rattle.std.proofs.Common.{◌≡◌, ℕ, suc, List, [], Bool, true, false, true≢false, Option, Some, None, Ok, IfOk, IfSome, Ordering, Less, Equal, Greater, nat_cmp, is_eq, if◌then◌else◌, refl, sym, ap, ◌∙◌}
-use Rattle.std.specs.Option.{option_or}
-use Rattle.std.specs.Ordering.{match_ordering}
-use Rattle.std.specs.Cmp.Lexicographic.{slice_cmp}
-use Rattle.std.proofs.lemmas.Cmp.{nat_list_cmp_total, tied_itself}
-use Rattle.std.proofs.lemmas.Map.Text.{is_eq-slice_cmp}
-use Rattle.std.proofs.lemmas.Slice.Eq.{bytes_eq-Decides}
-use Rattle.serde_json.specs.Data.{Data, null, boolean, number, string, array, object, Members, no_members, member, put}
+use Rattle.std.proofs.Common.{◌≡◌, ℕ, suc, List, [], true, false, Option, Some, None, Ok, IfOk, IfSome, refl, sym, ap, ◌∙◌}
+use Rattle.serde_json.specs.Data.{Data, null, boolean, number, string, array, object, Members}
 use Rattle.serde_json.specs.Find.{get_member}
-use Rattle.serde_json.proofs.Views.{get_member-put, get_member-put_other}
 use Rattle.json_text.specs.Look.{unless_null}
-use Rattle.json_text.specs.Trees.{others, others_from}
-use Rattle.json_text.specs.Canonical.{IsBefore, AreMembers}
+use Rattle.json_text.specs.Trees.{others}
+use Rattle.json_text.specs.Canonical.{AreMembers}
 use Rattle.json_text.specs.Build.{Good, GoodMembers, GoodOption}
 use Rattle.json_text.proofs.Good.{good_none, good_member, good_members, good_others}
 use Rattle.json_text.proofs.PutAll.{others_are}
+use Rattle.json_text.proofs.MembersKept.{member_kept}
 use Rattle.plain_data.specs.Pairs.{ArePairs}
 use Rattle.kube_types.specs.declared.parts.SourceKind.{SourceKind}
 use Rattle.kube_types.specs.declared.parts.SourceKind.TheVariants.{Csi, Nfs, Local, HostPath}
@@ -37,48 +31,6 @@ use Rattle.object_text.specs.ExtraMembers.{is_listed, place_members, extra_at}
 use Rattle.object_text.specs.KindReaders.{volume_shape, volume_ties, volume_spec_of, volume_status_of, volume_of, claim_shape, claim_ties, claim_status_of, claim_of, class_of, node_of, pod_of}
 use Rattle.object_laws.specs.Given.{IsMeta, IsAmount, IsRef, IsSource, IsSelector, IsClassPolicy, AreExtra, IsFree, NoneBefore, AreVolumeExtra, IsVolume, IsClaim, IsClass, IsNode, IsPod}
 use Rattle.object_laws.proofs.GivesParts.{step, past, itself, pairs_given, meta_given, quantity_given, optional_quantity_given, class_policy_given, claim_ref_given, NoneThere, IsFirst, source_given, selector_given}
-
--- ---- a member whose name is not known stays
-
-equal_is : (k l : List ℕ) → slice_cmp nat_cmp k l ≡ Equal → k ≡ l
-equal_is k l is = (bytes_eq-Decides k l).0 (sym (is_eq-slice_cmp k l) ∙ ap is_eq is)
-
-apart : (k l : List ℕ) (o : Ordering) → slice_cmp nat_cmp k l ≡ o → is_eq o ≡ false → k ≡ l → ⊥
-apart k l o is other same =
-    let tied : Equal ≡ o = sym (tied_itself nat_list_cmp_total k) ∙ ap (slice_cmp nat_cmp k) same ∙ is in
-    true≢false (ap is_eq tied ∙ other)
-
--- a name that comes before all names stands nowhere
-none_before : (k : List ℕ) (ms : Members) → IsBefore k ms → get_member k ms ≡ None
-none_before k no_members h = refl
-none_before k (member l d ms) h = rw h.0 (none_before k ms h.1)
-
--- at a name that is not known stands the member of ms, or else that of acc
-found_from : (known : List ℕ → Bool) (q : List ℕ) (ms acc : Members) → known q ≡ false → AreMembers ms → get_member q (others_from known ms acc) ≡ option_or (get_member q ms) (get_member q acc)
-found_from known q no_members acc free h = refl
-found_from known q (member k d ms) acc free h = by (slice_cmp nat_cmp q k) refl (known k) refl (found_from known q ms acc free h.2) (found_from known q ms (put k d acc) free h.2)
-  where
-    by : (o : Ordering) → slice_cmp nat_cmp q k ≡ o → (b : Bool) → known k ≡ b
-        → get_member q (others_from known ms acc) ≡ option_or (get_member q ms) (get_member q acc)
-        → get_member q (others_from known ms (put k d acc)) ≡ option_or (get_member q ms) (get_member q (put k d acc))
-        → get_member q (if b then others_from known ms acc else others_from known ms (put k d acc)) ≡ option_or (match_ordering o (get_member q ms) (Some d) (get_member q ms)) (get_member q acc)
-    by Less is true e skipped kept = skipped
-    by Greater is true e skipped kept = skipped
-    by Equal is true e skipped kept = absurd (true≢false (sym e ∙ sym (ap known (equal_is q k is)) ∙ free))
-    by Less is false e skipped kept = kept ∙ ap (option_or (get_member q ms)) (get_member-put_other q k d acc (apart q k Less is refl))
-    by Greater is false e skipped kept = kept ∙ ap (option_or (get_member q ms)) (get_member-put_other q k d acc (apart q k Greater is refl))
-    by Equal is false e skipped kept =
-        let same : q ≡ k = equal_is q k is in
-        let none : get_member q ms ≡ None = ap (λ j. get_member j ms) same ∙ none_before k ms h.1 in
-        let found : get_member q (put k d acc) ≡ Some d = ap (λ j. get_member j (put k d acc)) same ∙ get_member-put k d acc in
-        kept ∙ rw (none, found) refl
-
-or_none : (o : Option Data) → option_or o None ≡ o
-or_none None = refl
-or_none (Some d) = refl
-
-pub member_kept : (known : List ℕ → Bool) (q : List ℕ) (ms : Members) → known q ≡ false → AreMembers ms → get_member q (others known ms) ≡ get_member q ms
-member_kept known q ms free h = found_from known q ms no_members free h ∙ or_none (get_member q ms)
 
 -- ---- places: a member's value nests less deep than the object
 

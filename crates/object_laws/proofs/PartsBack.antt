@@ -18,9 +18,9 @@ use Rattle.kube_types.specs.declared.objects.Amount.{Amount}
 use Rattle.kube_types.specs.declared.objects.Expr.{Expr}
 use Rattle.kube_types.specs.Words.{op_word, mode_words}
 use Rattle.kube_types.proofs.UidTexts.{reads_back}
-use Rattle.text_model.specs.Members.{MemberList, filled, filled_array, items_data, put_pairs, filled_pairs, object_of}
-use Rattle.text_model.specs.Metadata.{uid_data}
-use Rattle.text_model.specs.Parts.{modes_data, volume_mode, expr_pairs, expr_data}
+use Rattle.json_text.specs.Members.{MemberList, filled, filled_array, items_data, put_pairs, filled_pairs, object_of}
+use Rattle.object_text.specs.Printing.Metadata.{uid_data}
+use Rattle.object_text.specs.Printing.Parts.{modes_data, volume_mode, expr_pairs, expr_data}
 use Rattle.object_text.specs.declared.errors.Member.{Member}
 use Rattle.object_text.specs.declared.errors.Member.TheVariants as members
 use Rattle.object_text.specs.declared.errors.ObjectError.{ObjectError}

@@ -18,9 +18,9 @@ use Rattle.kube_types.specs.declared.objects.Expr.{Expr}
 use Rattle.kube_types.specs.declared.objects.NodeTerms.{NodeTerms}
 use Rattle.kube_types.specs.declared.objects.Volume.{Volume}
 use Rattle.kube_types.specs.Words.{policy_word, source_word, volume_phase_word}
-use Rattle.text_model.specs.Members.{MemberList, text, items_data, object_of}
-use Rattle.text_model.specs.Parts.{modes_data, storage_pairs, storage_data, ref_pairs, ref_data, source_pairs, source_data, term_pairs, term_data, node_terms_data}
-use Rattle.text_model.specs.Volumes.{volume_front, volume_back as printed_back, volume_spec, volume_status_pairs, volume_status, volume_pairs, volume_data}
+use Rattle.json_text.specs.Members.{MemberList, text, items_data, object_of}
+use Rattle.object_text.specs.Printing.Parts.{modes_data, storage_pairs, storage_data, ref_pairs, ref_data, source_pairs, source_data, term_pairs, term_data, node_terms_data}
+use Rattle.object_text.specs.Printing.Volumes.{volume_front, volume_back as printed_back, volume_spec, volume_status_pairs, volume_status, volume_pairs, volume_data}
 use Rattle.object_text.specs.declared.errors.Member.{Member}
 use Rattle.object_text.specs.declared.errors.Member.TheVariants as members
 use Rattle.object_text.specs.declared.extra.Listed.TheVariants as listed

@@ -8,3 +8,5 @@ pub mod ExtraMembers
 pub mod KindReaders
 pub mod Reading
 pub mod Listing
+pub mod Printing
+pub mod Laws

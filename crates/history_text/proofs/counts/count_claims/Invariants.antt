@@ -1,6 +1,6 @@
 use Rattle.std.proofs.Common.{◌≡◌, ◌+◌, ◌≤◌, drop}
 use Rattle.std.specs.List.{count_by}
-use Rattle.text_model.specs.Summaries.{is_claim_in}
+use Rattle.history_text.specs.Summaries.{is_claim_in}
 use Rattle.history_text.proofs.counts.count_claims.Given as goal
 
 -- those counted, and those that still stand ahead

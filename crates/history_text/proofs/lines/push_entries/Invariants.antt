@@ -1,6 +1,6 @@
 use Rattle.std.proofs.Common.{◌≡◌, drop, map}
-use Rattle.text_model.specs.Entries.{entry_line}
-use Rattle.text_model.specs.Output.{with_lines}
+use Rattle.history_text.specs.Entries.{entry_line}
+use Rattle.history_text.specs.Output.{with_lines}
 use Rattle.history_text.proofs.lines.push_entries.Given as goal
 
 abbrev pub invariant-loop-entry : goal.invariant-loop-entry

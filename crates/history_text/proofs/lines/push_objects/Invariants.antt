@@ -1,6 +1,6 @@
 use Rattle.std.proofs.Common.{◌≡◌, drop, map}
-use Rattle.text_model.specs.Objects.{object_line}
-use Rattle.text_model.specs.Output.{with_lines}
+use Rattle.object_text.specs.Printing.Objects.{object_line}
+use Rattle.history_text.specs.Output.{with_lines}
 use Rattle.history_text.proofs.lines.push_objects.Given as goal
 
 abbrev pub invariant-loop-object : goal.invariant-loop-object

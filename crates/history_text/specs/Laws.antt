@@ -1,0 +1,20 @@
+-- What holds of the texts of entries and setups.
+use Rattle.std.specs.Prelude.{◌≡◌, false}
+use Rattle.serde_json.specs.Written.{has_float}
+use Rattle.json_text.specs.Canonical.{IsCanonical, IsLine}
+use Rattle.call_types.specs.declared.entry.Entry.{Entry}
+use Rattle.call_types.specs.declared.setup.Setup.{Setup}
+use Rattle.history_text.specs.Entries.{entry_data, entry_line, setup_data, setup_line}
+
+abbrev pub EntriesHoldNoFloat : Type 0
+EntriesHoldNoFloat = (e : Entry) → has_float (entry_data e) ≡ false
+
+abbrev pub SetupsHoldNoFloat : Type 0
+SetupsHoldNoFloat = (s : Setup) → has_float (setup_data s) ≡ false
+
+-- no byte 10 stands in the line
+abbrev pub EntriesAreLines : Type 0
+EntriesAreLines = (e : Entry) → IsCanonical (entry_data e) → IsLine (entry_line e)
+
+abbrev pub SetupsAreLines : Type 0
+SetupsAreLines = (s : Setup) → IsCanonical (setup_data s) → IsLine (setup_line s)

@@ -1,4 +1,0 @@
-pub mod NoFloats
-pub mod ObjectFloats
-pub mod EntryFloats
-pub mod LineLaws
