@@ -57,7 +57,7 @@ fn is_delete(policy: Policy) -> bool
     }
 }
 
-fn is_ended(phase: VolumePhase) -> bool
+pub fn is_ended(phase: VolumePhase) -> bool
     ensures { result ≡ is_ended phase }
 {
     match phase {
