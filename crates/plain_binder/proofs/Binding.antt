@@ -14,10 +14,10 @@ use Rattle.kube_types.proofs.KeyOrder.{row_at-put_row, row_at-put_row_other}
 use Rattle.call_types.specs.declared.request.SeatKind.TheVariants.{Binder}
 use Rattle.call_types.specs.declared.request.Request.{Request}
 use Rattle.call_types.specs.declared.reply.Change.TheVariants.{Modified}
-use Rattle.binder_model.specs.Store.{State}
+use Rattle.binder_model.specs.Store.{State, first_moment}
 use Rattle.binder_model.specs.Answers.{Stores, outcome, after}
-use Rattle.binder_model.specs.World.{first_moment}
-use Rattle.binder_model.specs.BindWrites.{ref_to, volume_key, next_write, claim_write, write_reference, write_bound, write_completion, write_claim_status, shows_bound}
+use Rattle.binder_model.specs.ObjectKeys.{volume_key}
+use Rattle.binder_model.specs.BindWrites.{ref_to, next_write, claim_write, write_reference, write_bound, write_completion, write_claim_status, shows_bound}
 use Rattle.plain_binder.specs.Calls.{is_asked}
 use Rattle.plain_binder.specs.Stages.{IsSoundVolume, IsSoundClaim, IsStage, IsBinding}
 use Rattle.plain_binder.proofs.Same.{bytes_own, number_own, modes_own, amount_own}
@@ -114,7 +114,7 @@ sound_referenced v c n s s_claim =
     let parts = volume_parts v s.valid in
     record {
       global = s.global;
-      valid = volume_whole (referenced c n v) (record { name = parts.name; amount = parts.amount; modes = parts.modes; reference = reference_stands c (claim_parts c s_claim.valid); finalizers = parts.finalizers });
+      valid = volume_whole (referenced c n v) (record { name = parts.name; placed = parts.placed; amount = parts.amount; modes = parts.modes; reference = reference_stands c (claim_parts c s_claim.valid); finalizers = parts.finalizers });
       protected = s.protected;
       kept = s.kept;
     }

@@ -8,7 +8,8 @@ use Rattle.kube_types.specs.declared.objects.Object.TheVariants.{Class, Node, Vo
 use Rattle.kube_types.specs.Keys.{AreRows, row_at}
 use Rattle.kube_types.specs.Bindings.{is_completed, is_empty, is_bound, is_deleting, carries, is_uid}
 use Rattle.binder_model.specs.Matching.{has_match}
-use Rattle.binder_model.specs.BindWrites.{volume_key, next_write, claim_write}
+use Rattle.binder_model.specs.ObjectKeys.{volume_key}
+use Rattle.binder_model.specs.BindWrites.{next_write, claim_write}
 use Rattle.binder_model.specs.BinderDue.{binder_due, volume_due, claim_due, reference_due, referred_due, claim_with, completed_due, has_other_uid}
 use Rattle.plain_binder.specs.Calls.{IsNothingDue}
 use Rattle.plain_binder.specs.Stages.{keys_of, IsServedVolume, IsServedClaim, Free, Taken, Open, Done, AreServed, SettledUpTo}

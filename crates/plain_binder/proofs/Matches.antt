@@ -10,7 +10,8 @@ use Rattle.kube_types.specs.declared.objects.Object.TheVariants.{Class, Node, Vo
 use Rattle.kube_types.specs.Keys.{key_of, put_row, rows_of, is_of_kind}
 use Rattle.kube_types.specs.Bindings.{names_claim, is_deleting, is_protected_volume, class_of_claim}
 use Rattle.kube_types.proofs.KeyOrder.{row_at-put_row_other}
-use Rattle.binder_model.specs.Matching.{IsBest, eligible, may_serve, fits, is_selected, only_own_passes, binder_takes, has_match, waits_for_pod, is_delayed, class_key}
+use Rattle.binder_model.specs.ObjectKeys.{class_key}
+use Rattle.binder_model.specs.Matching.{IsBest, eligible, may_serve, fits, is_selected, only_own_passes, binder_takes, has_match, waits_for_pod, is_delayed}
 use Rattle.binder_model.specs.BindWrites.{ref_to}
 use Rattle.plain_binder.proofs.Places.{any_alike, any_place}
 use Rattle.plain_binder.proofs.Standing.{any_put_row}

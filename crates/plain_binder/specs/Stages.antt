@@ -14,7 +14,8 @@ use Rattle.kube_types.specs.Keys.{key_of, row_at, rows_of}
 use Rattle.kube_types.specs.Bindings.{is_completed, is_protected_volume}
 use Rattle.binder_model.specs.Fields.{create_fault}
 use Rattle.binder_model.specs.Matching.{has_match}
-use Rattle.binder_model.specs.BindWrites.{volume_key, claim_key, ref_to, shows_bound}
+use Rattle.binder_model.specs.ObjectKeys.{volume_key, claim_key}
+use Rattle.binder_model.specs.BindWrites.{ref_to, shows_bound}
 
 -- the keys of the objects of a kind, in order
 abbrev pub keys_of : Kind → List Object → List Key
