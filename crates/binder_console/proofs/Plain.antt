@@ -65,7 +65,7 @@ volume_plain d =
     after_any IsPlainVolume (modes_at spec) _ (λ modes.
     after_any IsPlainVolume (text_at (codes "storageClassName") spec) _ (λ class.
     after_any IsPlainVolume (source_at spec) _ (λ source.
-    record { global = new.place; unreferred = refl; unguarded = new.unguarded }))))))
+    record { unreferred = refl; unguarded = new.unguarded }))))))
 
 claim_plain : (d : Data) → Holds IsPlainClaim (claim_at d)
 unfolding Holds claim_at

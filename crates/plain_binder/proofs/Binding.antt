@@ -114,7 +114,7 @@ sound_referenced v c n s s_claim =
     let parts = volume_parts v s.valid in
     record {
       global = s.global;
-      valid = volume_whole (referenced c n v) (record { name = parts.name; amount = parts.amount; modes = parts.modes; reference = reference_stands c (claim_parts c s_claim.valid); finalizers = parts.finalizers });
+      valid = volume_whole (referenced c n v) (record { name = parts.name; placed = parts.placed; amount = parts.amount; modes = parts.modes; reference = reference_stands c (claim_parts c s_claim.valid); finalizers = parts.finalizers });
       protected = s.protected;
       kept = s.kept;
     }

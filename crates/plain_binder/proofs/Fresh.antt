@@ -18,11 +18,14 @@ use Rattle.std.proofs.lemmas.Slice.Eq.{bytes_eq-Decides}
 use Rattle.std.specs.Prelude.{◌&&◌}
 use Rattle.binder_model.specs.Answers.{Outcome, Says, Stores, Removes, after}
 use Rattle.binder_model.specs.Store.{State}
-use Rattle.binder_model.specs.Safe.{IsBoundTo, CompletedAreBound, AreBindings}
+use Rattle.binder_model.specs.Safe.{IsBoundTo, AreBindings}
+use Rattle.call_types.specs.declared.entry.Entry.{Entry}
+use Rattle.plain_binder.specs.Calls.{CompletedAreBound, no_setup, rows_after}
 use Rattle.binder_model.specs.ObjectKeys.{volume_key, claim_key}
 use Rattle.plain_binder.specs.Stages.{keys_of, IsSoundVolume, IsFree, IsOpen, IsFresh, AreFresh, AvailableUpTo, AreServed, Free, Open}
 use Rattle.plain_binder.proofs.Valid.{volume_parts, volume_whole}
-use Rattle.plain_binder.proofs.Standing.{row_put, keys_of-put, row_at_place, key_at_place, place_of_row}
+use Rattle.kube_types.proofs.RowPlaces.{place_of_row, row_at_place}
+use Rattle.plain_binder.proofs.Standing.{row_put, keys_of-put, key_at_place}
 use Rattle.plain_binder.proofs.Outcomes.{in_phase, FreshOutcome}
 
 pub both : (a b : Bool) → (a && b) ≡ true → (a ≡ true) × (b ≡ true)
@@ -46,11 +49,14 @@ carried_key None c h = absurd (true≢false (sym h))
 carried_key (Some r) c h = named_key r c (both _ _ h).0
 
 -- the key of the claim that a volume carries is told by the volume
-pub bound_apart : (rows : List Object) → CompletedAreBound rows → AreBindings rows
-bound_apart rows bound = record { bound = bound; apart = λ j k c d at_c at_d done_c done_d same. apart j k c d at_c at_d (bound j c at_c done_c) (bound k d at_d done_d) same }
+pub bound_apart : (past : List Entry) → CompletedAreBound (rows_after past) → AreBindings no_setup past
+bound_apart past bound = record {
+  bound = λ key c at counts. bound key c at counts.completed;
+  apart = λ j k c d at_c at_d counts_c counts_d same. apart (rows_after past) j k c d at_c at_d (bound j c at_c counts_c.completed) (bound k d at_d counts_d.completed) same;
+}
   where
-    apart : (j k : Key) (c d : ClaimData) → row_at j rows ≡ Some (Claim c) → row_at k rows ≡ Some (Claim d) → IsBoundTo rows c → IsBoundTo rows d → c.volume_name ≡ d.volume_name → j ≡ k
-    apart j k c d at_c at_d b e same =
+    apart : (rows : List Object) (j k : Key) (c d : ClaimData) → row_at j rows ≡ Some (Claim c) → row_at k rows ≡ Some (Claim d) → IsBoundTo rows c → IsBoundTo rows d → c.volume_name ≡ d.volume_name → j ≡ k
+    apart rows j k c d at_c at_d b e same =
         let other : row_at (volume_key c.volume_name) rows ≡ Some (Volume e.volume) = ap (λ n. row_at (volume_key n) rows) same ∙ e.there in
         let there : row_at (volume_key c.volume_name) rows ≡ Some (Volume b.volume) = b.there in
         let volume : b.volume ≡ e.volume = cc in
@@ -84,7 +90,7 @@ sound_in_phase phase n v s =
     let parts = volume_parts v s.valid in
     record {
       global = s.global;
-      valid = volume_whole (in_phase phase n v) (record { name = parts.name; amount = parts.amount; modes = parts.modes; reference = parts.reference; finalizers = parts.finalizers });
+      valid = volume_whole (in_phase phase n v) (record { name = parts.name; placed = parts.placed; amount = parts.amount; modes = parts.modes; reference = parts.reference; finalizers = parts.finalizers });
       protected = s.protected;
       kept = s.kept;
     }

@@ -29,7 +29,7 @@ use Rattle.binder_model.specs.Same.{same_selector, same_terms}
 use Rattle.plain_binder.specs.Calls.{IsPlain, IsPlainVolume, IsPlainClaim}
 use Rattle.plain_binder.specs.Stages.{IsSoundVolume, IsSoundClaim, IsFresh}
 use Rattle.plain_binder.proofs.Same.{number_own, bytes_own, beq_own, option_own, modes_own, amount_own, selector_own, terms_own, source_own}
-use Rattle.plain_binder.proofs.Valid.{ValidClaim, volume_parts, volume_whole, claim_parts, claim_whole, name_stands, namespace_stands}
+use Rattle.plain_binder.proofs.Valid.{ValidClaim, volume_parts, volume_whole, claim_parts, claim_whole, name_stands, namespace_stands, no_namespace}
 
 -- a controller's update of an object that stands, at its version
 update_stores : (s : State) (old new : Object) → row_at (key_of new) s.rows ≡ Some old → update_fault old new ≡ None → leaves (updated_object old new (s.version + 1)) ≡ false
@@ -69,7 +69,7 @@ unfolding update_fault changed_field faulty
 referenced_fault v c n v_sound c_sound =
     let parts = volume_parts v v_sound.valid in
     let valid : create_fault false (Volume (referenced c n v)) ≡ None =
-    volume_whole (referenced c n v) (record { name = parts.name; amount = parts.amount; modes = parts.modes; reference = reference_stands c (claim_parts c c_sound.valid); finalizers = parts.finalizers }) in
+    volume_whole (referenced c n v) (record { name = parts.name; placed = parts.placed; amount = parts.amount; modes = parts.modes; reference = reference_stands c (claim_parts c c_sound.valid); finalizers = parts.finalizers }) in
     let quiet : ((is_deleting v.meta && adds_finalizer v.meta.finalizers v.meta.finalizers) || has_twice v.meta.finalizers) ≡ false = rw (v_sound.kept, parts.finalizers) refl in
     rw (source_own v.source, beq_own v.block, amount_own v.amount, option_own same_terms terms_own v.terms, quiet) valid
 
@@ -144,8 +144,8 @@ fresh_volume default v version moment rows plain new fault =
     let parts = volume_parts v fault in (
       record {
         sound = record {
-          global = plain.global;
-          valid = volume_whole _ (record { name = parts.name; amount = parts.amount; modes = parts.modes; reference = parts.reference; finalizers = rw plain.unguarded refl });
+          global = no_namespace v.meta.namespace parts.placed;
+          valid = volume_whole _ (record { name = parts.name; placed = parts.placed; amount = parts.amount; modes = parts.modes; reference = parts.reference; finalizers = rw plain.unguarded refl });
           protected = rw plain.unguarded refl;
           kept = refl;
         };

@@ -20,12 +20,13 @@ use Rattle.binder_model.specs.Answers.{outcome, after, list}
 use Rattle.binder_model.specs.Matching.{has_match}
 use Rattle.binder_model.specs.ObjectKeys.{volume_key}
 use Rattle.binder_model.specs.BindWrites.{next_write, write_available}
-use Rattle.binder_model.specs.Safe.{CompletedAreBound}
+use Rattle.plain_binder.specs.Calls.{CompletedAreBound}
 use Rattle.plain_binder.specs.Calls.{IsPlain, AreCreates, AreCalls, store_after, rows_after, asked, store_with, is_asked}
 use Rattle.plain_binder.specs.Stages.{as_volume, as_claim, volume_at, claim_at, keys_of, AreFresh, AvailableUpTo, AreServed, SettledUpTo, IsBinding}
 use Rattle.plain_binder.specs.Progress.{Adds, MakesAvailable, Settles, IsUnderWay, Writes, Binds, Lists, MakesAllAvailable, Serves}
 use Rattle.plain_binder.proofs.Places.{passes}
-use Rattle.plain_binder.proofs.Standing.{keys_of-put, row_at_place}
+use Rattle.kube_types.proofs.RowPlaces.{row_at_place}
+use Rattle.plain_binder.proofs.Standing.{keys_of-put}
 use Rattle.plain_binder.proofs.Outcomes.{in_phase, phase_stores, create_fresh}
 use Rattle.plain_binder.proofs.Fresh.{fresh_bound, fresh_put, fresh_after, free_in_phase, available_step, fresh_served, in_order}
 use Rattle.plain_binder.proofs.Binding.{stored, global_key, advances}

@@ -1,13 +1,12 @@
 -- Where a row stands among those that pass a test, and what a test finds in rows after an edit.
-use Rattle.std.proofs.Common.{◌≡◌, ℕ, zero, suc, List, [], ◌∷◌, map, filter, Bool, true, false, true≢false, cond, ◌||◌, Some, None, refl, sym, ◌∙◌, ap, subst, if◌then◌else◌}
+use Rattle.std.proofs.Common.{◌≡◌, ℕ, zero, suc, List, [], ◌∷◌, map, filter, Bool, true, false, true≢false, cond, ◌||◌, Some, None, refl, sym, ◌∙◌, ap, if◌then◌else◌}
 use Rattle.std.specs.Prelude.{slice_get}
 use Rattle.std.specs.List.{list_any}
 use Rattle.std.specs.declared.cmp.Ordering.{Ordering}
 use Rattle.std.specs.declared.cmp.Ordering.TheVariants.{Less, Equal, Greater}
 use Rattle.std.specs.Ordering.{is_eq, match_ordering}
 use Rattle.std.specs.Cmp.{IsTotalOrder}
-use Rattle.std.proofs.lemmas.Cmp.{tied_itself}
-use Rattle.plain_data.specs.Rows.{IsAfter, IsRising, put, find}
+use Rattle.plain_data.specs.Rows.{IsRising, put, find}
 use Rattle.plain_data.proofs.RowFacts.{find_gap}
 
 pub slice_get-map : {X Y : Type 0} (f : X → Y) (xs : List X) (place : ℕ) (x : X) → slice_get xs place ≡ Some x → slice_get (map f xs) place ≡ Some (f x)
@@ -50,48 +49,6 @@ passes {X = X} p (y ∷ ys) place x h = by (p y) refl place h (passes p ys)
     by false e place h rest = rest place x h
 
 module _ {K X : Type 0} {cmp : K → K → Ordering} (o : IsTotalOrder cmp) (key : X → K) where
-  some_is : (a b : X) → Some a ≡ Some b → a ≡ b
-  some_is a b e = cc
-
-  -- a row that is found has a place
-  pub place_of_found : (p : X → Bool) (k : K) (x : X) (xs : List X) → p x ≡ true → find cmp key k xs ≡ Some x → (place : ℕ) × (slice_get (filter p xs) place ≡ Some x)
-  place_of_found p k x [] t h = absurd cc
-  place_of_found p k x (y ∷ ys) t h = by (is_eq (cmp (key y) k)) h (p y) refl (place_of_found p k x ys t)
-    where
-      by : (b : Bool) → (if b then Some y else find cmp key k ys) ≡ Some x → (c : Bool) → p y ≡ c
-          → (find cmp key k ys ≡ Some x → (place : ℕ) × (slice_get (filter p ys) place ≡ Some x))
-          → (place : ℕ) × (slice_get (cond c (y ∷ filter p ys) (filter p ys)) place ≡ Some x)
-      by true h true e rest = (zero, h)
-      by true h false e rest = let is = some_is y x h in absurd (true≢false (sym t ∙ ap p (sym is) ∙ e))
-      by false h true e rest = let r = rest h in (suc r.0, r.1)
-      by false h false e rest = rest h
-
-  after_filter : (p : X → Bool) (y : X) (xs : List X) → IsAfter cmp key y xs → IsAfter cmp key y (filter p xs)
-  after_filter p y [] a = tt
-  after_filter p y (z ∷ zs) a = by (p z) (after_filter p y zs a.1)
-    where
-      by : (b : Bool) → IsAfter cmp key y (filter p zs) → IsAfter cmp key y (cond b (z ∷ filter p zs) (filter p zs))
-      by true rest = (a.0, rest)
-      by false rest = rest
-
-  later : (y x : X) (ys : List X) (place : ℕ) → IsAfter cmp key y ys → slice_get ys place ≡ Some x → cmp (key y) (key x) ≡ Less
-  later y x [] place a h = absurd cc
-  later y x (z ∷ zs) zero a h = subst (λ w. cmp (key y) (key w) ≡ Less) (some_is z x h) a.0
-  later y x (z ∷ zs) (suc place) a h = later y x zs place a.1 h
-
-  -- what stands at a place is found under its key
-  pub found_at_place : (p : X → Bool) (x : X) (xs : List X) (place : ℕ) → IsRising cmp key xs → slice_get (filter p xs) place ≡ Some x → find cmp key (key x) xs ≡ Some x
-  found_at_place p x [] place r h = absurd cc
-  found_at_place p x (y ∷ ys) place r h = by (p y) place h (λ n. found_at_place p x ys n r.1) (λ n. later y x (filter p ys) n (after_filter p y ys r.0))
-    where
-      by : (b : Bool) (place : ℕ) → slice_get (cond b (y ∷ filter p ys) (filter p ys)) place ≡ Some x
-          → ((n : ℕ) → slice_get (filter p ys) n ≡ Some x → find cmp key (key x) ys ≡ Some x)
-          → ((n : ℕ) → slice_get (filter p ys) n ≡ Some x → cmp (key y) (key x) ≡ Less)
-          → (if is_eq (cmp (key y) (key x)) then Some y else find cmp key (key x) ys) ≡ Some x
-      by true zero h rest less = let is = some_is y x h in subst (λ w. (if is_eq (cmp (key y) (key w)) then Some y else find cmp key (key w) ys) ≡ Some w) is (rw (tied_itself o (key y)) refl)
-      by true (suc n) h rest less = rw (less n h) (rest n h)
-      by false n h rest less = rw (less n h) (rest n h)
-
   keep : (b : Bool) (y : X) (xs zs : List X) → map key xs ≡ map key zs → map key (cond b (y ∷ xs) xs) ≡ map key (cond b (y ∷ zs) zs)
   keep true y xs zs e = ap (λ ks. key y ∷ ks) e
   keep false y xs zs e = e

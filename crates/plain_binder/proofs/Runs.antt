@@ -22,7 +22,7 @@ use Rattle.binder_model.specs.Store.{State, no_store, first_moment}
 use Rattle.binder_model.specs.Answers.{Outcome, Says, Stores, Removes, outcome, after, reply_of, is_for_store}
 use Rattle.binder_model.specs.Devices.{device_answer, no_devices}
 use Rattle.binder_model.specs.World.{World, Effect, OnStore, OnDevices, SetsMoment, world, effect, on_devices, world_after, reply_to}
-use Rattle.binder_model.specs.Safe.{AreBindings, CompletedAreBound}
+use Rattle.plain_binder.specs.Calls.{CompletedAreBound}
 use Rattle.plain_binder.specs.Calls.{no_setup, store_after, rows_after, asked, store_with, is_asked, IsRun, AreCreates, AreCalls, IsCreateOf, IsBinderCall}
 use Rattle.plain_binder.proofs.Fresh.{bound_apart, fresh_bound, no_rows}
 
@@ -68,7 +68,7 @@ module _ (past : List Entry) (seat : ℕ) (kind : SeatKind) (request : Request) 
     at_first = moment_asked;
     first = run.first;
     state = made ∙ sym store_asked;
-    bindings = (subst (λ (s : State). AreBindings s.rows) (sym store_asked) (bound_apart (store_with past kind request).rows bound), run.bindings);
+    bindings = (bound_apart (asked past seat kind request ∷ past) (subst (λ (s : State). CompletedAreBound s.rows) (sym store_asked) bound), run.bindings);
     unasked = devices_asked;
   }
 

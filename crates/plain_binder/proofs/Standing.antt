@@ -1,5 +1,5 @@
 -- What stands in rows of objects after a put, and at which place.
-use Rattle.std.proofs.Common.{◌≡◌, ◌≢◌, ◌⊎◌, ℕ, List, Bool, true, false, true≢false, Some, inl, inr, refl, sym, ◌∙◌, ap, subst, ◌==◌}
+use Rattle.std.proofs.Common.{◌≡◌, ◌≢◌, ◌⊎◌, ℕ, List, Bool, false, true≢false, Some, inl, inr, refl, sym, ◌∙◌, ap, subst, ◌==◌}
 use Rattle.std.specs.Prelude.{slice_get}
 use Rattle.std.specs.List.{list_any}
 use Rattle.std.specs.declared.cmp.Ordering.{Ordering}
@@ -9,10 +9,10 @@ use Rattle.std.proofs.lemmas.Cmp.{tied_itself}
 use Rattle.kube_types.specs.declared.parts.Kind.{Kind}
 use Rattle.kube_types.specs.declared.key.Key.{Key}
 use Rattle.kube_types.specs.declared.objects.Object.{Object}
-use Rattle.kube_types.specs.Keys.{AreRows, key_cmp, key_of, kind_index, row_at, put_row, rows_of, is_of_kind}
-use Rattle.kube_types.proofs.KeyOrder.{key_cmp_total, same_key, row_at-put_row, row_at-put_row_other}
+use Rattle.kube_types.specs.Keys.{AreRows, key_cmp, key_of, kind_index, row_at, put_row, rows_of}
+use Rattle.kube_types.proofs.KeyOrder.{key_cmp_total, equal_keys, row_at-put_row, row_at-put_row_other}
 use Rattle.plain_binder.specs.Stages.{keys_of}
-use Rattle.plain_binder.proofs.Places.{slice_get-map, place_of_found, found_at_place, keys_put, any_put}
+use Rattle.plain_binder.proofs.Places.{slice_get-map, keys_put, any_put}
 
 -- two keys are one, or they are not
 pub key_tells : (a b : Key) → (a ≡ b) ⊎ (a ≢ b)
@@ -23,7 +23,7 @@ key_tells a b = by (key_cmp a b) refl
 
     by : (r : Ordering) → key_cmp a b ≡ r → (a ≡ b) ⊎ (a ≢ b)
     by Less e = inr (apart Less e refl)
-    by Equal e = inl (same_key a b e)
+    by Equal e = inl (equal_keys a b e)
     by Greater e = inr (apart Greater e refl)
 
 -- what stands after a put is what was put, or stood before
@@ -36,18 +36,11 @@ row_put k x o rows h = by (key_tells (key_of x) k)
 
 -- an object that takes the place of one moves no key
 pub keys_of-put : (x old : Object) (rows : List Object) → AreRows rows → row_at (key_of x) rows ≡ Some old → (kind : Kind) → keys_of kind (put_row x rows) ≡ keys_of kind rows
-keys_of-put x old rows order found kind = keys_put key_cmp_total key_of same_key (λ (k : Key). kind_index k.kind == kind_index kind) x old rows order found
+keys_of-put x old rows order found kind = keys_put key_cmp_total key_of equal_keys (λ (k : Key). kind_index k.kind == kind_index kind) x old rows order found
 
--- what stands at a place stands under its key, and has the kind
-pub row_at_place : (kind : Kind) (place : ℕ) (o : Object) (rows : List Object) → AreRows rows → slice_get (rows_of kind rows) place ≡ Some o → row_at (key_of o) rows ≡ Some o
-row_at_place kind place o rows order at = found_at_place key_cmp_total key_of (is_of_kind kind) o rows place order at
-
+-- the key of what stands at a place
 pub key_at_place : (kind : Kind) (place : ℕ) (o : Object) (rows : List Object) → slice_get (rows_of kind rows) place ≡ Some o → slice_get (keys_of kind rows) place ≡ Some (key_of o)
 key_at_place kind place o rows at = slice_get-map key_of (rows_of kind rows) place o at
-
--- what stands under a key has a place among those of its kind
-pub place_of_row : (kind : Kind) (k : Key) (o : Object) (rows : List Object) → is_of_kind kind o ≡ true → row_at k rows ≡ Some o → (place : ℕ) × (slice_get (rows_of kind rows) place ≡ Some o)
-place_of_row kind k o rows of at = place_of_found key_cmp_total key_of (is_of_kind kind) k o rows of at
 
 pub any_put_row : (t : Object → Bool) (x : Object) (rows : List Object) → t x ≡ false → list_any t rows ≡ false → list_any t (put_row x rows) ≡ false
 any_put_row t x rows out h = any_put key_cmp_total key_of t x rows out h

@@ -14,6 +14,7 @@ passed false f next h = (refl, h)
 
 pub record ValidVolume (v : VolumeData) : Type 0 where
   pub name : not (is_subdomain v.meta.name) ≡ false
+  pub placed : not (is_empty v.meta.namespace) ≡ false
   pub amount : (v.amount.bytes == 0) ≡ false
   pub modes : has_no_mode v.modes ≡ false
   pub reference : is_nameless v.claim_ref ≡ false
@@ -30,15 +31,16 @@ pub volume_parts : (v : VolumeData) → create_fault false (Volume v) ≡ None �
 unfolding create_fault kind_fault volume_fault
 volume_parts v h =
     let name = passed _ _ _ h in
-    let amount = passed _ _ _ name.1 in
+    let placed = passed _ _ _ name.1 in
+    let amount = passed _ _ _ placed.1 in
     let modes = passed _ _ _ amount.1 in
     let reference = passed _ _ _ modes.1 in
     let finalizers = passed _ _ _ reference.1 in
-    record { name = name.0; amount = amount.0; modes = modes.0; reference = reference.0; finalizers = finalizers.0 }
+    record { name = name.0; placed = placed.0; amount = amount.0; modes = modes.0; reference = reference.0; finalizers = finalizers.0 }
 
 pub volume_whole : (v : VolumeData) → ValidVolume v → create_fault false (Volume v) ≡ None
 unfolding create_fault kind_fault volume_fault faulty
-volume_whole v p = rw (p.name, p.amount, p.modes, p.reference, p.finalizers) refl
+volume_whole v p = rw (p.name, p.placed, p.amount, p.modes, p.reference, p.finalizers) refl
 
 pub claim_parts : (c : ClaimData) → create_fault false (Claim c) ≡ None → ValidClaim c
 unfolding create_fault kind_fault claim_fault
@@ -61,3 +63,8 @@ name_stands (x ∷ xs) h = refl
 pub namespace_stands : (name : List ℕ) → not (is_namespace name) ≡ false → is_empty name ≡ false
 namespace_stands [] h = absurd (true≢false h)
 namespace_stands (x ∷ xs) h = refl
+
+-- what is admitted as a volume has no namespace
+pub no_namespace : (namespace : List ℕ) → not (is_empty namespace) ≡ false → namespace ≡ []
+no_namespace [] h = refl
+no_namespace (x ∷ xs) h = absurd (true≢false h)

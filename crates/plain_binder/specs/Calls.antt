@@ -7,6 +7,7 @@ use Rattle.kube_types.specs.declared.objects.Object.{Object}
 use Rattle.kube_types.specs.declared.objects.Object.TheVariants.{Volume, Claim}
 use Rattle.kube_types.specs.declared.key.Key.{Key}
 use Rattle.kube_types.specs.Keys.{row_at}
+use Rattle.kube_types.specs.Bindings.{is_completed}
 use Rattle.call_types.specs.declared.entry.Entry.{Entry}
 use Rattle.call_types.specs.declared.setup.Setup.{Setup}
 use Rattle.call_types.specs.declared.request.SeatKind.{SeatKind}
@@ -17,16 +18,15 @@ use Rattle.binder_model.specs.Store.{State, first_moment}
 use Rattle.binder_model.specs.Answers.{outcome, reply_of, after}
 use Rattle.binder_model.specs.Devices.{no_devices}
 use Rattle.binder_model.specs.World.{world, IsHistory}
-use Rattle.binder_model.specs.Safe.{AreBindingsThroughout}
+use Rattle.binder_model.specs.Safe.{AreBindingsThroughout, IsBoundTo}
 use Rattle.binder_model.specs.BinderDue.{binder_due}
 
 -- nothing but the store: no pools, no faults
 abbrev pub no_setup : Setup
 no_setup = record { pools = []; faults = []; imports = [] }
 
--- a volume that no user has bound, in no namespace, that carries no annotation and no finalizer
+-- a volume that no user has bound, and that carries no finalizer
 pub record IsPlainVolume (v : VolumeData) : Type 0 where
-  pub global : v.meta.namespace ≡ []
   pub unreferred : v.claim_ref ≡ None
   pub unguarded : v.meta.finalizers ≡ []
 
@@ -80,6 +80,10 @@ rows_after past = (store_after past).rows
 abbrev pub asked : List Entry → ℕ → SeatKind → Request → Entry
 asked past seat kind request =
     record { seat = seat; kind = kind; request = request; reply = reply_of (outcome (store_after past) kind request first_moment None); told = true }
+
+-- each completed claim names a Bound volume that carries it
+abbrev pub CompletedAreBound : List Object → Type 0
+CompletedAreBound rows = (key : Key) (claim : ClaimData) → row_at key rows ≡ Some (Claim claim) → is_completed claim ≡ true → IsBoundTo rows claim
 
 -- the requests of a plain run
 abbrev pub is_asked : Request → Bool

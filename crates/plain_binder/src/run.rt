@@ -1,7 +1,7 @@
 //! A run: a store, and each call that was made of it.
 
 ghost use Rattle.std.specs.Prelude.{◌≡◌, ◌<◌, ◌-◌, ◌^◌, ◌∷◌, [], IfOk, length, reverse, true};
-ghost use Rattle.binder_model.specs.Safe.{CompletedAreBound};
+ghost use Rattle.plain_binder.specs.Calls.{CompletedAreBound};
 ghost use Rattle.plain_binder.specs.Calls.{asked, is_asked, rows_after, store_after, store_with};
 
 use call_types::entry::Entry;

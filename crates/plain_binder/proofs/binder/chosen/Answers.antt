@@ -7,7 +7,8 @@ use Rattle.kube_types.specs.Keys.{key_of, rows_of}
 use Rattle.kube_types.specs.Bindings.{is_completed}
 use Rattle.binder_model.specs.Matching.{eligible}
 use Rattle.plain_binder.specs.Stages.{IsBinding}
-use Rattle.plain_binder.proofs.Standing.{row_at_place, key_at_place}
+use Rattle.kube_types.proofs.RowPlaces.{row_at_place}
+use Rattle.plain_binder.proofs.Standing.{key_at_place}
 use Rattle.plain_binder.specs.Calls.{rows_after}
 use Rattle.plain_binder.proofs.Matches.{no_best}
 use Rattle.plain_binder.proofs.Served.{binding_begins, same_volume, settled_step}

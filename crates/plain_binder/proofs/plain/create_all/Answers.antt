@@ -2,7 +2,7 @@
 use Rattle.std.proofs.Common.{◌≡◌, ◌∷◌, sym, ap, ◌∙◌, subst, arith}
 use Rattle.call_types.specs.declared.request.SeatKind.TheVariants.{User}
 use Rattle.call_types.specs.declared.request.Request.TheVariants as requests
-use Rattle.binder_model.specs.Safe.{CompletedAreBound}
+use Rattle.plain_binder.specs.Calls.{CompletedAreBound}
 use Rattle.plain_binder.specs.Calls.{IsPlain, asked, store_with}
 use Rattle.plain_binder.proofs.Parts.{create_bound, create_made, create_next}
 use Rattle.plain_binder.proofs.plain.create_all.Goals as goal
