@@ -3,6 +3,7 @@ pub mod Computed
 pub mod Defaults
 pub mod Effects
 pub mod Epochs
+pub mod Evidence
 pub mod Givings
 pub mod Goings
 pub mod Growing
