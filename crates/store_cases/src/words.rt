@@ -1,5 +1,7 @@
 //! What the words of a line stand for.
 
+ghost use Rattle.std.specs.Prelude.{◌<◌};
+
 use call_types::request::SeatKind;
 use kube_types::key::Key;
 use kube_types::objects::Version;
@@ -15,7 +17,9 @@ pub fn number(word: &str) -> u64 {
 }
 
 /// The number of a word, below a million.
-pub fn small(word: &str) -> u64 {
+pub fn small(word: &str) -> u64
+    ensures { result < 1000000 }
+{
     number(word) % 1_000_000
 }
 

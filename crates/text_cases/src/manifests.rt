@@ -56,7 +56,8 @@ fn bytes_of(alloc: Global, text: &str) -> Result<Bytes, OutOfMemory> {
     for word in text.split(' ') {
         bytes.push(word.parse::<u8>().unwrap_or(0))?;
     }
-    Bytes::new(alloc, &bytes)
+    let found = Bytes::new(alloc, &bytes)?;
+    found.copy(alloc)
 }
 
 /// The manifest whose bytes are given as numbers.

@@ -35,8 +35,8 @@ fn flag(holds: bool) -> &'static str {
 fn of_one(alloc: Global, error: TableError<1>) -> Result<String, OutOfMemory> {
     match error {
         TableError::Overlap(first, second) => Ok(format!(in alloc; "Overlap {first} {second}")?),
-        TableError::Gap([condition]) => {
-            let letter = flag(condition);
+        TableError::Gap(conditions) => {
+            let letter = flag(conditions[0]);
             Ok(format!(in alloc; "Gap {letter}")?)
         }
     }
@@ -45,9 +45,9 @@ fn of_one(alloc: Global, error: TableError<1>) -> Result<String, OutOfMemory> {
 fn of_two(alloc: Global, error: TableError<2>) -> Result<String, OutOfMemory> {
     match error {
         TableError::Overlap(first, second) => Ok(format!(in alloc; "Overlap {first} {second}")?),
-        TableError::Gap([first, second]) => {
-            let first = flag(first);
-            let second = flag(second);
+        TableError::Gap(conditions) => {
+            let first = flag(conditions[0]);
+            let second = flag(conditions[1]);
             Ok(format!(in alloc; "Gap {first}{second}")?)
         }
     }
