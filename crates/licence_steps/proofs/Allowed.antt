@@ -45,7 +45,7 @@ use Rattle.world_moves.specs.Writes.{IsCreate, IsUpdate, IsEdit, IsStatus, IsMar
 use Rattle.world_moves.proofs.Whence.{created_first, updated_next, status_next, marked_next, bound_next, finished_next}
 use Rattle.model_laws.proofs.Newest.{newest_told}
 use Rattle.world_moves.proofs.Tests.{same_text}
-use Rattle.world_invariant.specs.Was.{Was, IsPlaced, WasNamed, KindStep, KindStart, Made, IsNotThere, Refers, VolumeStep, ClaimStep}
+use Rattle.world_invariant.specs.Was.{IsPlaced, WasNamed, KindStep, KindStart, Made, IsNotThere, Refers, VolumeStep, ClaimStep}
 use Rattle.world_invariant.specs.Invariant.{Invariant}
 use Rattle.world_invariant.proofs.Came.{row_was}
 use Rattle.world_invariant.specs.Good.{IsTrue}
@@ -59,6 +59,8 @@ use Rattle.world_moves.proofs.Objects.{same_volume}
 use Rattle.world_moves.proofs.Objects.{same_claim as same_claim_object}
 use Rattle.std.specs.Prelude.{◌<◌, ◌+◌}
 use Rattle.binder_model.specs.Imports.{most_serials}
+use Rattle.model_laws.specs.Stood.{Stood}
+use Rattle.model_laws.proofs.Stood.{one_version_one_object}
 
 -- what is known by what the seat was told
 pub record Known (setup : Setup) (past mine : List Entry) : Type 1 where
@@ -76,11 +78,11 @@ same_version (Some g) told now e v =
     let n : g ≡ now = grind (arith, nat_tests) in
     sym same ∙ n
 
-at_one : (setup : Setup) (past : List Entry) → Invariant setup past → (o a : Object) (key : Key) (given : Option ℕ) → Was setup past o
+at_one : (setup : Setup) (past : List Entry) → Invariant setup past → (o a : Object) (key : Key) (given : Option ℕ) → Stood setup past o
     → given ≡ Some (meta_of o).version → key_of o ≡ key → row_at key (world setup past).store.rows ≡ Some a
     → is_other_version given (meta_of a).version ≡ false → o ≡ a
 at_one setup past inv o a key given was version keyed is v =
-    inv.one o a was (row_was setup past key a is) (keyed ∙ sym (row_at_key key a _ is)) (same_version given (meta_of o).version (meta_of a).version version v)
+    one_version_one_object setup past o a was (row_was setup past key a is) (same_version given (meta_of o).version (meta_of a).version version v) (inl (keyed ∙ sym (row_at_key key a _ is)))
 
 volume_at : (o : VolumeData) (key : Key) (given : Option ℕ) → key.kind ≡ kinds.PersistentVolume → IsWrittenAt given key.namespace key.name o.meta
     → key_of (Volume o) ≡ key
@@ -364,7 +366,7 @@ provisioned : (setup : Setup) (past mine : List Entry) → Known setup past mine
 unfolding provisioned_volume
 provisioned setup past mine known v row r uid h =
     let t = known.told (λ x. x ≡ Claim row.claim) (newest_told mine _ (Claim row.claim) row.newest) in
-    let was : Was setup past (Claim row.claim) = subst (Was setup past) t.2 t.1 in
+    let was : Stood setup past (Claim row.claim) = subst (Stood setup past) t.2 t.1 in
     let e : ref_to row.claim ≡ r = same_Some _ _ (sym (ap (λ (x : VolumeData). x.claim_ref) row.object) ∙ h.is) in
     record { claim = row.claim; was = was; placed = ap (λ (z : Ref). z.namespace) e; named = ap (λ (z : Ref). z.name) e; its = ap (λ (z : Ref). z.uid) e ∙ h.known }
 

@@ -17,6 +17,7 @@ use Rattle.binder_model.specs.Imports.{most_serials}
 use Rattle.binder_model.specs.World.{base}
 use Rattle.model_laws.proofs.Versions.{versions_count_writes}
 use Rattle.licence_steps.specs.Runs.{RunsAreGood}
+use Rattle.model_laws.proofs.Stood.{few_writes}
 
 -- what a seat knows after a good history
 pub known : (setup : Setup) (past : List Entry) → Good setup past → (seat : ℕ) → Known setup past (own seat past)
@@ -27,22 +28,12 @@ known setup past g seat = record {
   gone = λ o r uid is h. (gone_read setup past g seat o r uid is h).0;
 }
 
--- a call gives one version at most
-version_low : (setup : Setup) (past : List Entry) → (world setup past).store.version ≤ base setup + length past
-version_low setup [] = omega arith
-version_low setup (e ∷ past) =
-    let low = version_low setup past in
-    elim (versions_count_writes setup (world setup past) e.kind e.request) [
-      | inl kept ↦ let same = ap (λ s. s.version) kept.store in omega (arith, low, same)
-      | inr wrote ↦ let next = wrote.version in omega (arith, low, next)
-    ]
-
 -- how the store moves at the newest entry of a run
 pub run_moves : (setup : Setup) (e : Entry) (past : List Entry) → base setup + length (e ∷ past) < most_serials → Good setup past
     → Run setup (e ∷ past) → MovesAt setup e past
 run_moves setup e past short g run =
     let inv = invariant_of setup past g in
-    let low = version_low setup past in
+    let low = few_writes setup past in
     let room : (world setup past).store.version + 1 < most_serials = omega (arith, low, short) in
     as_made (world setup past) e.request (effect setup (world setup past) e.kind e.request) (made setup past (own e.seat past) room inv (known setup past g e.seat) e.kind e.request run.2) (moves setup (world setup past) e.kind e.request inv.order)
 

@@ -20,7 +20,7 @@ use Rattle.binder_model.specs.Told.{SomeOf, TellsObject, own, objects_in, object
 use Rattle.binder_model.specs.Watching.{is_later, most_events, events_after}
 use Rattle.binder_model.specs.World.{World, Effect, OnStore, OnDevices, SetsMoment, world, effect, reply_to, world_after, log_after}
 use Rattle.model_laws.specs.Stood.{Stands, Stood, ToldIsTrue, ToldLiveIsTrueNow}
-use Rattle.model_laws.proofs.Lists.{IsIn, some_left, some_right}
+use Rattle.model_laws.proofs.Lists.{IsIn, some_left, some_right, some_or, some_take, some_reverse, some_filter}
 use Rattle.model_laws.proofs.Histories.{rows_stand_in_order}
 use Rattle.model_laws.proofs.Readings.{member_stands, filter_stands, listed_stands, gets_tell_what_stands}
 use Rattle.model_laws.proofs.Said.{IsOfDevices, Sayings, EffectSays, effect_said}
@@ -28,14 +28,10 @@ use Rattle.model_laws.proofs.Stood.{stood}
 
 -- events
 
-abbrev TellsIt : Object → Event → Type 0
+abbrev pub TellsIt : Object → Event → Type 0
 TellsIt o e = IsIn o (objects_of_event e.change e.object)
 
-some_or : {X : Type 0} (P : X → Type 0) (xs ys : List X) → SomeOf P (xs ++ ys) → SomeOf P xs ⊎ SomeOf P ys
-some_or P [] ys h = inr h
-some_or P (x ∷ xs) ys h = elim h [ inl is ↦ inl (inl is) | inr more ↦ elim (some_or P xs ys more) [ inl a ↦ inl (inr a) | inr b ↦ inr b ] ]
-
-events_some : (o : Object) (es : List Event) → IsIn o (objects_of_events es) → SomeOf (TellsIt o) es
+pub events_some : (o : Object) (es : List Event) → IsIn o (objects_of_events es) → SomeOf (TellsIt o) es
 events_some o [] h = absurd h
 events_some o (e ∷ es) h = elim (some_or (λ x. x ≡ o) (objects_of_event e.change e.object) (objects_of_events es) h) [ inl is ↦ inl is | inr more ↦ inr (events_some o es more) ]
 
@@ -45,26 +41,6 @@ some_events o (e ∷ es) h = elim h [
   | inl is ↦ some_left (λ x. x ≡ o) (objects_of_event e.change e.object) (objects_of_events es) is
   | inr more ↦ some_right (λ x. x ≡ o) (objects_of_event e.change e.object) (objects_of_events es) (some_events o es more)
 ]
-
-some_take : {X : Type 0} (P : X → Type 0) (n : ℕ) (xs : List X) → SomeOf P (take n xs) → SomeOf P xs
-some_take P zero xs h = absurd h
-some_take P (suc n) [] h = absurd h
-some_take P (suc n) (x ∷ xs) h = elim h [ inl is ↦ inl is | inr more ↦ inr (some_take P n xs more) ]
-
-some_reverse : {X : Type 0} (P : X → Type 0) (xs : List X) → SomeOf P (reverse xs) → SomeOf P xs
-some_reverse P [] h = absurd h
-some_reverse P (x ∷ xs) h = elim (some_or P (reverse xs) (x ∷ []) (subst (SomeOf P) (reverse_onto xs x []) h)) [
-  | inl rest ↦ inr (some_reverse P xs rest)
-  | inr last ↦ elim last [ inl is ↦ inl is | inr none ↦ absurd none ]
-]
-
-some_filter : {X : Type 0} (P : X → Type 0) (p : X → Bool) (xs : List X) → SomeOf P (filter p xs) → SomeOf P xs
-some_filter P p [] h = absurd h
-some_filter P p (x ∷ xs) h = by (p x) h (some_filter P p xs)
-  where
-    by : (b : Bool) → SomeOf P (cond b (x ∷ filter p xs) (filter p xs)) → (SomeOf P (filter p xs) → SomeOf P xs) → SomeOf P (x ∷ xs)
-    by true h f = elim h [ inl is ↦ inl is | inr more ↦ inr (f more) ]
-    by false h f = inr (f h)
 
 -- what a watch tells, the log has
 watched : (k : Kind) (from : ℕ) (log : List Event) (o : Object) → IsIn o (objects_of_events (take most_events (events_after k from log))) → IsIn o (objects_of_events log)

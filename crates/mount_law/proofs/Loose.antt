@@ -25,7 +25,7 @@ use Rattle.binder_model.specs.World.{world, effect, reply_to}
 use Rattle.binder_model.specs.Run.{Run}
 use Rattle.model_laws.proofs.Readings.{lists_tell_what_stands}
 use Rattle.world_moves.specs.Writes.{IsIn}
-use Rattle.world_invariant.specs.Was.{Was, Unguards}
+use Rattle.world_invariant.specs.Was.{Unguards}
 use Rattle.world_invariant.specs.Invariant.{IsOld}
 use Rattle.world_invariant.proofs.Came.{row_was, older, claim_came}
 use Rattle.world_invariant.proofs.KeptBindings.{kept_of}
@@ -43,6 +43,8 @@ use Rattle.std.proofs.lemmas.Option.{none-some}
 use Rattle.world_moves.proofs.Tests.{text_same}
 use Rattle.binder_model.specs.Licence.{AreOfKind}
 use Rattle.call_types.specs.declared.request.SeatKind.TheVariants as seats
+use Rattle.model_laws.specs.Stood.{Stood}
+use Rattle.world_invariant.proofs.Came.{old_stood}
 
 pub kept_deleting : (setup : Setup) (e : Entry) (past : List Entry) → Good setup (e ∷ past) → (u : Uid)
     → IsOld (world setup past).store.version (Some u) → AreDeleting setup past u → AreDeleting setup (e ∷ past) u
@@ -191,7 +193,7 @@ going_on setup e past g run u i = record { go = go_on setup e past g run u i.del
 
 -- a seat's evidence holds of the world
 pub unguards : (setup : Setup) (past : List Entry) → Good setup past → Run setup past → Mountless setup → (seat : ℕ) (o : ClaimData) (u : Uid)
-    → o.meta.uid ≡ Some u → ((c : ClaimData) → Was setup past (Claim c) → c.meta.uid ≡ Some u → key_of (Claim c) ≡ key_of (Claim o))
+    → o.meta.uid ≡ Some u → ((c : ClaimData) → Stood setup past (Claim c) → c.meta.uid ≡ Some u → key_of (Claim c) ≡ key_of (Claim o))
     → After (ToldClaim (IsDeletingVersion o)) (TellsUnused o) (own seat past) → IsGoing setup past u
 unguards setup [] g run start seat o u known keyed h = absurd h
 unguards setup (e ∷ past) g run start seat o u known keyed h = by (unguards setup past g.0 run.0 start seat o u known (λ c was its. keyed c (inl was) its)) (own_step seat e past)
@@ -215,7 +217,7 @@ unguards setup (e ∷ past) g run start seat o u known keyed h = by (unguards se
                 pod_listed setup e past g o l r.pod stands r.scheduled r.name r.named (sym (keyed r.claim (inl w.was) r.its) ∙ w.keyed);
           };
           deleting = λ k c there same. (inv.later (Claim t.0) k (Claim c) t.1 there (same ∙ sym its)).keeps.deleting t.2.deleting;
-          old = subst (IsOld (world setup past).store.version) its (inv.old (Claim t.0) t.1);
+          old = subst (IsOld (world setup past).store.version) its (old_stood setup past (Claim t.0) t.1);
         }
 
     by : (After (ToldClaim (IsDeletingVersion o)) (TellsUnused o) (own seat past) → IsGoing setup past u) → OwnStep seat e past → IsGoing setup (e ∷ past) u
@@ -224,7 +226,7 @@ unguards setup (e ∷ past) g run start seat o u known keyed h = by (unguards se
 
 -- the evidence of a step
 pub step_going : (setup : Setup) (past : List Entry) → Good setup past → Run setup past → Mountless setup → (o : ClaimData) (u : Uid)
-    → Was setup past (Claim o) → o.meta.uid ≡ Some u → Unguards past o → IsGoing setup past u
+    → Stood setup past (Claim o) → o.meta.uid ≡ Some u → Unguards past o → IsGoing setup past u
 step_going setup past g run start o u was known un =
     unguards setup past g run start un.seat o u known (λ c w its. (invariant_of setup past g).keyed (Claim c) (Claim o) w was (its ∙ sym known)) un.unused
 

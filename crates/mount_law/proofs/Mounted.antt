@@ -20,7 +20,7 @@ use Rattle.binder_model.specs.World.{world}
 use Rattle.binder_model.specs.Run.{Run}
 use Rattle.world_moves.specs.Writes.{IsLeaving}
 use Rattle.world_moves.specs.DeviceMoves.{MountIn}
-use Rattle.world_invariant.specs.Was.{Was, Made}
+use Rattle.world_invariant.specs.Was.{Made}
 use Rattle.world_invariant.proofs.Came.{claim_came, row_was}
 use Rattle.world_invariant.specs.Good.{Good}
 use Rattle.world_invariant.proofs.Known.{invariant_of}
@@ -29,6 +29,7 @@ use Rattle.mount_law.proofs.Loose.{loose, step_going}
 use Rattle.std.proofs.lemmas.Option.{none-some}
 use Rattle.world_moves.proofs.Objects.{claim_keyed, some_claim}
 use Rattle.world_moves.proofs.Tests.{known_uid}
+use Rattle.model_laws.specs.Stood.{Stood}
 
 -- what leaves has no finalizers
 unguarded_claim : (c : ClaimData) → leaves (Claim c) ≡ true → is_protected_claim c ≡ false
@@ -86,7 +87,7 @@ mounts_kept setup e past g run start first key c is mounted = by (row_at key (wo
       | inr came ↦
           let there : row_at key (world setup past).store.rows ≡ Some (Claim came.old) = ap (λ j. row_at j (world setup past).store.rows) (sym at) ∙ came.next.there in
           let old : came.old ≡ c = some_claim came.old c (sym there ∙ is) in
-          let was : Was setup past (Claim came.old) = row_was setup past key (Claim came.old) there in
+          let was : Stood setup past (Claim came.old) = row_was setup past key (Claim came.old) there in
           let u = known_uid came.old.meta.uid ((invariant_of setup past g.0).has (Claim came.old) was) in
           let known : c.meta.uid ≡ Some u.0 = ap (λ (x : ClaimData). x.meta.uid) (sym old) ∙ u.1 in
           gone u.0 known (elim (came.step.loose (unguarded_claim l leaving)) [

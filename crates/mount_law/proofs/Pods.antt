@@ -31,7 +31,7 @@ use Rattle.world_moves.specs.Whence.{IsNext}
 use Rattle.world_moves.proofs.Moves.{moves}
 use Rattle.world_moves.proofs.DeviceMoves.{stale_none}
 use Rattle.world_moves.proofs.Tests.{same_text, uid_is}
-use Rattle.world_invariant.specs.Was.{Stands, KindStep, PodStep, Made}
+use Rattle.world_invariant.specs.Was.{KindStep, PodStep, Made}
 use Rattle.world_invariant.specs.Good.{Good}
 use Rattle.world_invariant.proofs.Known.{invariant_of}
 use Rattle.world_invariant.specs.Holders.{Holds}
@@ -41,6 +41,7 @@ use Rattle.mount_law.specs.Mounts.{StandsOn}
 use Rattle.std.proofs.lemmas.Option.{same_Some, none-some}
 use Rattle.world_moves.proofs.Objects.{pod_keyed, some_pod}
 use Rattle.world_moves.proofs.Tests.{uid_same}
+use Rattle.model_laws.specs.Stood.{Stands}
 
 pub itself_on : (w : World) (p : PodData) → Stands w (Pod p) → StandsOn w p
 itself_on w p is = record { pod = p; there = is; uid = refl; node = refl; claims = refl }

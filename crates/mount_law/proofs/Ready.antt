@@ -15,12 +15,12 @@ use Rattle.binder_model.specs.Told.{SomeOf, own}
 use Rattle.binder_model.specs.AgentLicence.{is_get_of, last_get, since_epoch, epoch_in}
 use Rattle.binder_model.specs.World.{world}
 use Rattle.model_laws.specs.Reads.{found}
-use Rattle.world_invariant.specs.Was.{Was}
 use Rattle.world_invariant.proofs.Came.{row_was}
 use Rattle.world_invariant.specs.Good.{Good}
 use Rattle.std.proofs.lemmas.Bool.{and_parts}
 use Rattle.kube_types.proofs.SameKeys.{same_key-Decides}
 use Rattle.world_invariant.proofs.Known.{get_reply}
+use Rattle.model_laws.specs.Stood.{Stood}
 
 get_of : (key : Key) (request : Request) → is_get_of key request ≡ true → request ≡ requests.Get key
 get_of key (requests.Get asked) e = ap (λ (k : Key). requests.Get k) ((same_key-Decides asked key).0 e)
@@ -46,7 +46,7 @@ found_row setup e past g key o q r =
 
 -- the object was, under the key
 pub record WasAt (setup : Setup) (past : List Entry) (key : Key) (o : Object) : Type 0 where
-  pub was : Was setup past o
+  pub was : Stood setup past o
   pub keyed : key_of o ≡ key
 
 -- the entries of a seat are in its list

@@ -34,15 +34,17 @@ use Rattle.model_laws.proofs.Versions.{versions_count_writes}
 use Rattle.model_laws.proofs.Readings.{lists_tell_what_stands}
 use Rattle.world_moves.specs.Writes.{IsIn}
 use Rattle.world_moves.specs.Writes.{is_watch}
-use Rattle.world_moves.proofs.Lists.{some_take, some_reverse, some_filter}
-use Rattle.world_moves.proofs.Tells.{tells_now, events_some, TellsIt}
-use Rattle.world_invariant.specs.Was.{Was, Stands}
+use Rattle.model_laws.proofs.Lists.{some_take, some_reverse, some_filter}
+use Rattle.world_moves.proofs.Tells.{tells_now}
+use Rattle.model_laws.proofs.Truths.{TellsIt, events_some}
+use Rattle.model_laws.proofs.Stood.{version_stood}
 use Rattle.world_invariant.specs.Good.{Good}
 use Rattle.world_invariant.proofs.Known.{invariant_of, entry_tells}
 use Rattle.world_invariant.proofs.Holders.{OwnStep, Own, Others, own_step}
 use Rattle.mount_law.specs.Mounts.{IsSplit}
 use Rattle.std.proofs.lemmas.Bool.{and_parts}
 use Rattle.std.proofs.lemmas.Option.{same_Some, none-some}
+use Rattle.model_laws.specs.Stood.{Stands, Stood}
 
 -- the entry tells the seat an epoch of the node
 abbrev pub takes_node : ℕ → List ℕ → Entry → Bool
@@ -88,15 +90,15 @@ taken_low setup (e ∷ past) g seat node v is = by (taken_low setup past g.0 sea
 
 -- what was, above that version, was since
 pub above_since : (setup : Setup) (past : List Entry) → Good setup past → (seat : ℕ) (node : List ℕ) (v : ℕ)
-    → taken_version setup seat node past ≡ Some v → (o : Object) → v < (meta_of o).version → Was setup past o → WasSince setup seat node past o
+    → taken_version setup seat node past ≡ Some v → (o : Object) → v < (meta_of o).version → Stood setup past o → WasSince setup seat node past o
 above_since setup [] g seat node v is o above was = was
 above_since setup (e ∷ past) g seat node v is o above was = by (above_since setup past g.0 seat node v) (takes_node seat node e) is
   where
-    by : (taken_version setup seat node past ≡ Some v → (o : Object) → v < (meta_of o).version → Was setup past o → WasSince setup seat node past o)
+    by : (taken_version setup seat node past ≡ Some v → (o : Object) → v < (meta_of o).version → Stood setup past o → WasSince setup seat node past o)
         → (b : Bool) → (if b then Some (world setup (e ∷ past)).store.version else taken_version setup seat node past) ≡ Some v
         → Stands (world setup (e ∷ past)) o ⊎ Unless b (WasSince setup seat node past o)
     by f true t =
-        let low = (invariant_of setup (e ∷ past) g).version o was in
+        let low = version_stood setup (e ∷ past) o was in
         let s = same_Some (world setup (e ∷ past)).store.version v t in
         absurd (omega (arith, low, s, above))
     by f false t = elim was [ inl before ↦ inr (f t o above before) | inr now ↦ inl now ]

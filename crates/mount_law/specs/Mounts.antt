@@ -17,13 +17,14 @@ use Rattle.binder_model.specs.World.{World, world}
 use Rattle.binder_model.specs.Devices.{MountAt}
 use Rattle.binder_model.specs.ObjectKeys.{claim_key}
 use Rattle.world_moves.specs.DeviceMoves.{MountIn}
-use Rattle.world_invariant.specs.Was.{Was, OfThoseWith}
+use Rattle.world_invariant.specs.Was.{OfThoseWith}
 use Rattle.world_invariant.specs.Holders.{Holds}
 use Rattle.world_invariant.specs.Invariant.{IsOld}
 use Rattle.binder_model.specs.Run.{Run}
 use Rattle.binder_model.specs.Safe.{KeepsMounted}
 use Rattle.world_invariant.specs.Good.{Good}
 use Rattle.binder_model.specs.Licence.{AreOfKind}
+use Rattle.model_laws.specs.Stood.{Stood}
 
 -- the split of the entries since the epoch was told
 pub record IsSplit (node : List ℕ) (mine recent : List Entry) (teller : Entry) (earlier : List Entry) : Type 0 where
@@ -46,7 +47,7 @@ pub record NamesUid (setup : Setup) (past : List Entry) (p : PodData) (u : Uid) 
   pub name : List ℕ
   pub named : has_name name p.claims ≡ true
   pub claim : ClaimData
-  pub was : Was setup past (Claim claim)
+  pub was : Stood setup past (Claim claim)
   pub placed : claim.meta.namespace ≡ p.meta.namespace
   pub called : claim.meta.name ≡ name
   pub its : claim.meta.uid ≡ Some u

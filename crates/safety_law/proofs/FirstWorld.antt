@@ -27,13 +27,15 @@ use Rattle.model_laws.proofs.Histories.{import_rows_rise}
 use Rattle.world_moves.specs.Writes.{IsIn}
 use Rattle.world_moves.proofs.Objects.{same_volume, same_claim}
 use Rattle.world_moves.proofs.Tests.{same_text}
-use Rattle.world_invariant.specs.Was.{Stands, IsPlaced, Refers, WasBound, IsFinal, IsAway}
+use Rattle.world_invariant.specs.Was.{IsPlaced, Refers, WasBound, IsFinal, IsAway}
 use Rattle.world_invariant.specs.Invariant.{Invariant, IsOld, IsLater, IsReferred}
 use Rattle.world_invariant.proofs.Came.{itself, row_stands}
 use Rattle.world_invariant.proofs.KeptBindings.{by_name, carries_on}
 use Rattle.licence_steps.proofs.Allowed.{volume_placed, has_given}
 use Rattle.safety_law.specs.Law.{IsGoodStart}
 use Rattle.safety_law.proofs.Passing.{none_of, IsSound, each_sound, two_sound, shares_same}
+use Rattle.model_laws.specs.Stood.{Stands}
+use Rattle.model_laws.proofs.Imported.{ComesFrom, import_row, from_uid, below_base, pass_base}
 
 -- what is made of an import
 
@@ -45,22 +47,6 @@ imported_key imports (Volume x) = refl
 imported_key imports (Claim x) = refl
 imported_key imports (Pod x) = refl
 
-imported_uid : (imports : List Object) (o : Object) → (meta_of (imported_object imports o)).uid ≡ (meta_of o).uid
-unfolding imported_object
-imported_uid imports (Class x) = refl
-imported_uid imports (Node x) = refl
-imported_uid imports (Volume x) = refl
-imported_uid imports (Claim x) = refl
-imported_uid imports (Pod x) = refl
-
-imported_version : (imports : List Object) (o : Object) → (meta_of (imported_object imports o)).version ≡ (meta_of o).version
-unfolding imported_object
-imported_version imports (Class x) = refl
-imported_version imports (Node x) = refl
-imported_version imports (Volume x) = refl
-imported_version imports (Claim x) = refl
-imported_version imports (Pod x) = refl
-
 abbrev imported_volume : VolumeData → VolumeData
 imported_volume v = record v { meta = record (imported_meta v.meta) { finalizers = with_finalizer pv_protection v.meta.finalizers } }
 
@@ -68,31 +54,6 @@ abbrev imported_claim : List Object → ClaimData → ClaimData
 imported_claim imports c = record c { meta = record (imported_meta c.meta) { finalizers = with_finalizer pvc_protection c.meta.finalizers }; phase = imported_phase imports c }
 
 -- what stands was imported
-
-record IsImport (imports os : List Object) (x : Object) : Type 0 where
-  origin : Object
-  among : IsIn origin os
-  is : x ≡ imported_object imports origin
-
-row_made : (imports os : List Object) (k : Key) (x : Object) → row_at k (rows_of_imports imports os) ≡ Some x → IsImport imports os x
-row_made imports [] k x is = absurd (none-some _ is)
-row_made imports (o ∷ os) k x is = by (is_dropped o) (row_made imports os k x) is
-  where
-    more : IsImport imports os x → IsImport imports (o ∷ os) x
-    more i = record { origin = i.origin; among = inr i.among; is = i.is }
-
-    by : (b : Bool) → (row_at k (rows_of_imports imports os) ≡ Some x → IsImport imports os x)
-        → row_at k (if b then rows_of_imports imports os else put_row (imported_object imports o) (rows_of_imports imports os)) ≡ Some x
-        → IsImport imports (o ∷ os) x
-    by true f e = more (f e)
-    by false f e = elim (key_tells (key_of (imported_object imports o)) k) [
-      | inl same ↦ record {
-        origin = o;
-        among = inl refl;
-        is = same_Some _ _ (sym e ∙ ap (λ j. row_at j (put_row (imported_object imports o) (rows_of_imports imports os))) (sym same) ∙ row_at-put_row (imported_object imports o) (rows_of_imports imports os));
-      }
-      | inr other ↦ more (f (sym (row_at-put_row_other k (imported_object imports o) (rows_of_imports imports os) other) ∙ e))
-    ]
 
 record IsVolumeImport (imports : List Object) (v : VolumeData) : Type 0 where
   origin : VolumeData
@@ -107,9 +68,9 @@ record IsClaimImport (imports : List Object) (c : ClaimData) : Type 0 where
 other_kind : {G : Type 0} (a b : Object) → a ≡ b → (kind_index (key_of a).kind ≡ kind_index (key_of b).kind → ⊥) → G
 other_kind a b e no_kind = absurd (no_kind (ap (λ o. kind_index (key_of o).kind) e))
 
-volume_import : (imports : List Object) (v : VolumeData) → IsImport imports imports (Volume v) → IsVolumeImport imports v
+volume_import : (imports : List Object) (v : VolumeData) → ComesFrom imports imports (Volume v) → IsVolumeImport imports v
 unfolding imported_object
-volume_import imports v i = by i.origin i.among i.is
+volume_import imports v i = by i.import i.given i.is
   where
     by : (o : Object) → IsIn o imports → Volume v ≡ imported_object imports o → IsVolumeImport imports v
     by (Volume a) h e = record { origin = a; among = h; is = same_volume v (imported_volume a) e }
@@ -118,9 +79,9 @@ volume_import imports v i = by i.origin i.among i.is
     by (Claim a) h e = other_kind (Volume v) (imported_object imports (Claim a)) e (λ k. omega (arith, k))
     by (Pod a) h e = other_kind (Volume v) (imported_object imports (Pod a)) e (λ k. omega (arith, k))
 
-claim_import : (imports : List Object) (c : ClaimData) → IsImport imports imports (Claim c) → IsClaimImport imports c
+claim_import : (imports : List Object) (c : ClaimData) → ComesFrom imports imports (Claim c) → IsClaimImport imports c
 unfolding imported_object
-claim_import imports c i = by i.origin i.among i.is
+claim_import imports c i = by i.import i.given i.is
   where
     by : (o : Object) → IsIn o imports → Claim c ≡ imported_object imports o → IsClaimImport imports c
     by (Claim a) h e = record { origin = a; among = h; is = same_claim c (imported_claim imports a) e }
@@ -152,18 +113,6 @@ rows_stand imports (x ∷ os) apart o h stays = by (is_dropped x) refl (λ m. ro
 
 -- numbers: no version and no serial that was imported is above the base
 
-below_base : (os : List Object) (o : Object) → IsIn o os → greatest_number o ≤ base_of os
-below_base [] o h = absurd h
-below_base (x ∷ os) o (inl is) = let same : greatest_number x ≡ greatest_number o = ap greatest_number is in omega (arith, same)
-below_base (x ∷ os) o (inr more) = let low = below_base os o more in omega (arith, low)
-
-base_low : (os : List Object) → ((o : Object) → IsIn o os → IsSound o) → base_of os ≤ most_imported
-base_low [] each = omega arith
-base_low (o ∷ os) each =
-    let low = base_low os (λ x h. each x (inr h)) in
-    let s = each o (inl refl) in
-    omega (arith, low, s.version, s.serial, s.reference)
-
 serial_back : (n : ℕ) → n < most_serials → serial_or_zero (Some (uid_of_serial n)) ≡ n
 serial_back n below =
     let from : nat_le (uid_of_serial 0).0 (uid_of_serial n).0 ≡ true = le-leb _ _ (omega arith) in
@@ -192,36 +141,23 @@ and_false true b e t = e
 and_false false b e t = absurd (true≢false (sym t))
 
 module _ (setup : Setup) (pass : ImportsPass setup.imports) where
-  stands_import : (o : Object) → Stands (world setup []) o → IsImport setup.imports setup.imports o
-  stands_import o is = row_made setup.imports setup.imports (key_of o) o is
+  stands_import : (o : Object) → Stands (world setup []) o → ComesFrom setup.imports setup.imports o
+  stands_import o is = import_row setup.imports setup.imports (key_of o) o is
 
-  row_import : (k : Key) (o : Object) → row_at k (world setup []).store.rows ≡ Some o → IsImport setup.imports setup.imports o
-  row_import k o is = row_made setup.imports setup.imports k o is
+  row_import : (k : Key) (o : Object) → row_at k (world setup []).store.rows ≡ Some o → ComesFrom setup.imports setup.imports o
+  row_import k o is = import_row setup.imports setup.imports k o is
 
-  origin_sound : {o : Object} → (i : IsImport setup.imports setup.imports o) → IsSound i.origin
-  origin_sound i = each_sound setup.imports pass i.origin i.among
+  origin_sound : {o : Object} → (i : ComesFrom setup.imports setup.imports o) → IsSound i.import
+  origin_sound i = each_sound setup.imports pass i.import i.given
 
-  uid_from : {o : Object} → (i : IsImport setup.imports setup.imports o) → (meta_of o).uid ≡ (meta_of i.origin).uid
-  uid_from i = ap (λ x. (meta_of x).uid) i.is ∙ imported_uid setup.imports i.origin
+  uid_from : {o : Object} → (i : ComesFrom setup.imports setup.imports o) → (meta_of o).uid ≡ (meta_of i.import).uid
+  uid_from {o = o} i = from_uid setup.imports setup.imports o i
 
   -- two that stand and have one UID are one
-  one_stands : (a b : Object) → IsImport setup.imports setup.imports a → IsImport setup.imports setup.imports b → (meta_of a).uid ≡ (meta_of b).uid → a ≡ b
+  one_stands : (a b : Object) → ComesFrom setup.imports setup.imports a → ComesFrom setup.imports setup.imports b → (meta_of a).uid ≡ (meta_of b).uid → a ≡ b
   one_stands a b i j same =
-      let one : i.origin ≡ j.origin = (two_sound setup.imports pass i.origin j.origin i.among j.among).uid (sym (uid_from i) ∙ same ∙ uid_from j) in
+      let one : i.import ≡ j.import = (two_sound setup.imports pass i.import j.import i.given j.given).uid (sym (uid_from i) ∙ same ∙ uid_from j) in
       i.is ∙ ap (imported_object setup.imports) one ∙ sym j.is
-
-  first_version : (o : Object) → Stands (world setup []) o → (meta_of o).version ≤ base setup
-  first_version o was =
-      let i = stands_import o was in
-      let same : (meta_of o).version ≡ (meta_of i.origin).version = ap (λ x. (meta_of x).version) i.is ∙ imported_version setup.imports i.origin in
-      let low = below_base setup.imports i.origin i.among in
-      omega (arith, same, low)
-
-  first_old : (o : Object) → Stands (world setup []) o → IsOld (base setup) (meta_of o).uid
-  first_old o was =
-      let i = stands_import o was in
-      let low = below_base setup.imports i.origin i.among in
-      subst (IsOld (base setup)) (sym (uid_from i)) (serial_old (base setup) (meta_of i.origin).uid (omega (arith, low)))
 
   first_placed : (v : VolumeData) → Stands (world setup []) (Volume v) → IsPlaced (key_of (Volume v))
   first_placed v was =
@@ -320,14 +256,10 @@ module _ (setup : Setup) (pass : ImportsPass setup.imports) where
   first_invariant : Invariant setup []
   first_invariant = record {
     order = import_rows_rise setup.imports setup.imports;
-    version = first_version;
-    one = λ a b was_a was_b keys versions. same_Some a b (sym was_a ∙ ap (λ k. row_at k (world setup []).store.rows) keys ∙ was_b);
-    old = first_old;
     has = λ o was. let i = stands_import o was in ap is_some (uid_from i) ∙ (origin_sound i).uid;
     keyed = λ a b was_a was_b same. ap key_of (one_stands a b (stands_import a was_a) (stands_import b was_b) same);
     later = λ a k b was there same. subst (IsLater a) (one_stands a b (stands_import a was) (row_import k b there) (sym same)) (itself a);
     placed = first_placed;
-    logged = λ o h. absurd h;
     refers = first_refers;
     guarded = λ k v there bound. first_guarded v (row_stands (world setup []) k (Volume v) there);
     binding = λ v r uid k c was bound h there its most. record {
@@ -345,7 +277,7 @@ module _ (setup : Setup) (pass : ImportsPass setup.imports) where
 -- imports that pass make a good start
 pub first_world_is_good : (setup : Setup) → ImportsPass setup.imports → IsGoodStart setup
 first_world_is_good setup pass = record {
-  low = base_low setup.imports (each_sound setup.imports pass);
+  low = pass_base [] setup.imports pass;
   invariant = first_invariant setup pass;
   mountless = λ m h. absurd h;
   loose = λ k c u there none known. absurd (true≢false (sym (claim_guarded setup pass c (row_stands (world setup []) k (Claim c) there)) ∙ none));

@@ -15,13 +15,12 @@ use Rattle.binder_model.specs.Fields.{create_fault}
 use Rattle.binder_model.specs.Imports.{most_imported, serial_or_zero, reference_of, shares_uid, refers_to_another, is_ended_for, holds_of_pair, fault_if, fault_of_field, import_fault, PassAfter, ImportsPass}
 use Rattle.std.proofs.lemmas.List.{append_assoc, append-nil}
 use Rattle.world_moves.specs.Writes.{IsIn}
-use Rattle.world_moves.proofs.Lists.{some_or}
+use Rattle.model_laws.proofs.Lists.{some_or}
+use Rattle.model_laws.proofs.Imported.{Passes, passed}
 
 -- what is known of one import
 pub record IsSound (o : Object) : Type 0 where
   pub uid : is_some (meta_of o).uid ≡ true
-  pub version : (meta_of o).version ≤ most_imported
-  pub serial : serial_or_zero (meta_of o).uid ≤ most_imported
   pub reference : serial_or_zero (ref_uid (reference_of o)) ≤ most_imported
   pub fields : create_fault false o ≡ None
 
@@ -33,53 +32,12 @@ pub record AreSound (a b : Object) : Type 0 where
   pub refers : refers_to_another a b ≡ false
   pub ended : is_ended_for a b ≡ false
 
--- the tests, one by one
-
-record IsPassed (before : List Object) (o : Object) : Type 0 where
-  uid : is_none (meta_of o).uid ≡ false
-  version : nat_lt most_imported (meta_of o).version ≡ false
-  serials : (nat_lt most_imported (serial_or_zero (meta_of o).uid) || nat_lt most_imported (serial_or_zero (ref_uid (reference_of o)))) ≡ false
-  fields : create_fault false o ≡ None
-  name : list_any (λ other. same_key (key_of other) (key_of o)) before ≡ false
-  apart : list_any (λ other. shares_uid (meta_of o).uid (meta_of other).uid) before ≡ false
-  refers : holds_of_pair refers_to_another before o ≡ false
-  ended : holds_of_pair is_ended_for before o ≡ false
-
-fault_none : (b : Bool) (fault : ImportFault) (next : Option ImportFault) → fault_if b fault next ≡ None → (b ≡ false) × (next ≡ None)
-unfolding fault_if
-fault_none true fault next e = absurd (true≢false (ap is_some e))
-fault_none false fault next e = (refl, e)
-
-field_none : (f : Option Field) (next : Option ImportFault) → fault_of_field f next ≡ None → (f ≡ None) × (next ≡ None)
-unfolding fault_of_field
-field_none (Some f) next e = absurd (true≢false (ap is_some e))
-field_none None next e = (refl, e)
-
-passed : (before : List Object) (o : Object) → import_fault before o ≡ None → IsPassed before o
-unfolding import_fault
-passed before o e =
-    let uid = fault_none _ _ _ e in
-    let version = fault_none _ _ _ uid.1 in
-    let serials = fault_none _ _ _ version.1 in
-    let fields = field_none _ _ serials.1 in
-    let name = fault_none _ _ _ fields.1 in
-    let apart = fault_none _ _ _ name.1 in
-    let refers = fault_none _ _ _ apart.1 in
-    let ended = fault_none _ _ _ refers.1 in
-    record { uid = uid.0; version = version.0; serials = serials.0; fields = fields.0; name = name.0; apart = apart.0; refers = refers.0; ended = ended.0 }
-
 not_none : (x : Option Uid) → is_none x ≡ false → is_some x ≡ true
 not_none None e = absurd (true≢false e)
 not_none (Some u) e = refl
 
-not_above : (a b : ℕ) → nat_lt a b ≡ false → b ≤ a
-not_above a b e = grind (arith, nat_tests)
-
 sound : (before : List Object) (o : Object) → import_fault before o ≡ None → IsSound o
-sound before o e =
-    let p = passed before o e in
-    let s = or_parts (nat_lt most_imported (serial_or_zero (meta_of o).uid)) (nat_lt most_imported (serial_or_zero (ref_uid (reference_of o)))) p.serials in
-    record { uid = not_none _ p.uid; version = not_above _ _ p.version; serial = not_above _ _ s.0; reference = not_above _ _ s.1; fields = p.fields }
+sound before o e = let p = passed before o e in record { uid = not_none _ p.known; reference = p.reference; fields = p.valid }
 
 sound_after : (before os : List Object) → PassAfter before os → (o : Object) → IsIn o os → IsSound o
 sound_after before [] p o h = absurd h
@@ -108,10 +66,10 @@ record AreApart (a b : Object) : Type 0 where
   key : key_of a ≡ key_of b → ⊥
   uid : (meta_of a).uid ≡ (meta_of b).uid → ⊥
 
-apart_from : (before : List Object) (x : Object) → IsPassed before x → (a : Object) → IsIn a before → AreApart a x
+apart_from : (before : List Object) (x : Object) → Passes before x → (a : Object) → IsIn a before → AreApart a x
 apart_from before x p a h = record {
-  key = λ e. true≢false (sym ((same_key-Decides (key_of a) (key_of x)).1 e) ∙ none_of (λ other. same_key (key_of other) (key_of x)) before a h p.name);
-  uid = λ e. true≢false (sym (shares_same (meta_of x).uid (meta_of a).uid (not_none _ p.uid) e) ∙ none_of (λ other. shares_uid (meta_of x).uid (meta_of other).uid) before a h p.apart);
+  key = λ e. true≢false (sym ((same_key-Decides (key_of a) (key_of x)).1 e) ∙ none_of (λ other. same_key (key_of other) (key_of x)) before a h p.new_key);
+  uid = λ e. true≢false (sym (shares_same (meta_of x).uid (meta_of a).uid (not_none _ p.known) e) ∙ none_of (λ other. shares_uid (meta_of x).uid (meta_of other).uid) before a h p.new_uid);
 }
 
 -- a test of pairs does not hold of the import and it or one before it, either way round
@@ -119,19 +77,19 @@ no_pair : (test : Object → Object → Bool) (before : List Object) (x a : Obje
     → (test x a ≡ false) × (test a x ≡ false)
 no_pair test before x a e h = or_parts (test x a) (test a x) (none_of (λ other. test x other || test other x) (x ∷ before) a h e)
 
-sound_with : (before : List Object) (x : Object) → IsPassed before x → (a : Object) → IsIn a (before ++ x ∷ []) → AreSound x a × AreSound a x
+sound_with : (before : List Object) (x : Object) → Passes before x → (a : Object) → IsIn a (before ++ x ∷ []) → AreSound x a × AreSound a x
 sound_with before x p a h = elim (some_or (λ y. y ≡ a) before (x ∷ []) h) [
   | inl old ↦
       let apart = apart_from before x p a old in
-      let refers = no_pair refers_to_another before x a p.refers (inr old) in
-      let ended = no_pair is_ended_for before x a p.ended (inr old) in (
+      let refers = no_pair refers_to_another before x a p.right (inr old) in
+      let ended = no_pair is_ended_for before x a p.wanted (inr old) in (
         record { key = λ e. absurd (apart.key (sym e)); uid = λ e. absurd (apart.uid (sym e)); refers = refers.0; ended = ended.0 },
         record { key = λ e. absurd (apart.key e); uid = λ e. absurd (apart.uid e); refers = refers.1; ended = ended.1 },
       )
   | inr new ↦ elim new [
     | inl is ↦
-        let refers = no_pair refers_to_another before x a p.refers (inl is) in
-        let ended = no_pair is_ended_for before x a p.ended (inl is) in (
+        let refers = no_pair refers_to_another before x a p.right (inl is) in
+        let ended = no_pair is_ended_for before x a p.wanted (inl is) in (
           record { key = λ e. is; uid = λ e. is; refers = refers.0; ended = ended.0 },
           record { key = λ e. sym is; uid = λ e. sym is; refers = refers.1; ended = ended.1 },
         )

@@ -17,26 +17,23 @@ use Rattle.binder_model.specs.World.{World, world, effect}
 use Rattle.model_laws.specs.Histories.{NamesOnce}
 use Rattle.world_moves.specs.Whence.{IsFirst, IsNext}
 use Rattle.world_moves.specs.Moves.{IsWritten}
-use Rattle.world_invariant.specs.Was.{Stands, Was, KindStep, Made, VolumeStep, VolumeStart, ClaimStep, ClaimStart}
+use Rattle.world_invariant.specs.Was.{KindStep, Made, VolumeStep, VolumeStart, ClaimStep, ClaimStart}
 use Rattle.world_invariant.specs.Invariant.{IsOld, IsLater}
 use Rattle.world_invariant.specs.Good.{MovesAt}
 use Rattle.std.proofs.lemmas.Option.{same_Some}
 use Rattle.world_moves.proofs.Objects.{volume_keyed, claim_keyed}
 use Rattle.std.specs.Prelude.{◌<◌}
 use Rattle.binder_model.specs.Imports.{most_serials}
+use Rattle.model_laws.specs.Stood.{Stands, Stood}
+use Rattle.model_laws.proofs.Stood.{stood, stood_uid}
 
 abbrev pub WrittenAt : Setup → Entry → List Entry → Object → Type 0
 WrittenAt setup e past o = IsWritten (world setup past) (effect setup (world setup past) e.kind e.request) (Made setup past) o
 
--- what stands now was there
-pub stood : (setup : Setup) (past : List Entry) (o : Object) → Stands (world setup past) o → Was setup past o
-stood setup [] o is = is
-stood setup (e ∷ past) o is = inr is
-
 pub row_stands : (w : World) (k : Key) (o : Object) → row_at k w.store.rows ≡ Some o → Stands w o
 row_stands w k o is = ap (λ j. row_at j w.store.rows) (row_at_key k o w.store.rows is) ∙ is
 
-pub row_was : (setup : Setup) (past : List Entry) (k : Key) (o : Object) → row_at k (world setup past).store.rows ≡ Some o → Was setup past o
+pub row_was : (setup : Setup) (past : List Entry) (k : Key) (o : Object) → row_at k (world setup past).store.rows ≡ Some o → Stood setup past o
 row_was setup past k o is = stood setup past o (row_stands (world setup past) k o is)
 
 -- the newest entry wrote it, and it stands
@@ -44,7 +41,7 @@ pub record IsNew (setup : Setup) (e : Entry) (past : List Entry) (o : Object) : 
   pub written : WrittenAt setup e past o
   pub stands : Stands (world setup (e ∷ past)) o
 
-pub new_or : (setup : Setup) (e : Entry) (past : List Entry) → MovesAt setup e past → (o : Object) → Was setup (e ∷ past) o → Was setup past o ⊎ IsNew setup e past o
+pub new_or : (setup : Setup) (e : Entry) (past : List Entry) → MovesAt setup e past → (o : Object) → Stood setup (e ∷ past) o → Stood setup past o ⊎ IsNew setup e past o
 new_or setup e past m o was = elim was [
   | inl before ↦ inl before
   | inr now ↦ elim (m.row (key_of o) o now) [
@@ -56,10 +53,6 @@ new_or setup e past m o was = elim was [
 -- two that were written are one
 pub one_written : (setup : Setup) (e : Entry) (past : List Entry) (a b : Object) → WrittenAt setup e past a → WrittenAt setup e past b → a ≡ b
 one_written setup e past a b x y = same_Some a b (sym x.is ∙ y.is)
-
-pub made_version : (setup : Setup) (past : List Entry) (o : Object) → Made setup past o → (meta_of o).version ≡ (world setup past).store.version + 1
-made_version setup past o (inl s) = s.first.version
-made_version setup past o (inr f) = f.next.version
 
 -- a volume that was made of a volume
 
@@ -113,14 +106,12 @@ claim_came setup past c (inr f) = by f.old f.next f.step (claim_keyed f.old c f.
 pub fresh : {G : Type 0} {version : ℕ} → version + 1 < most_serials → (uid : Option Uid) → IsOld version uid → uid ≡ Some (uid_of_serial (version + 1)) → G
 fresh {version = version} room uid old is = absurd (old (version + 1) (omega arith) room is)
 
+-- what stood has an old UID
+pub old_stood : (setup : Setup) (past : List Entry) (o : Object) → Stood setup past o → IsOld (world setup past).store.version (meta_of o).uid
+old_stood setup past o was n above below is = stood_uid setup past o (uid_of_serial n) was is n above below refl
+
 pub older : (n m : ℕ) (uid : Option Uid) → n ≤ m → IsOld n uid → IsOld m uid
 older n m uid low old k above below = old k (omega (arith, low, above)) below
-
--- the UID that a write gives is not that of a later one
-pub given_old : (version : ℕ) (uid : Option Uid) → uid ≡ Some (uid_of_serial (version + 1)) → IsOld (version + 1) uid
-given_old version uid is k above below same =
-    let e : version + 1 ≡ k = serials_apart (version + 1) k (same_Some _ _ (sym is ∙ same)) in
-    omega (arith, e, above)
 
 -- one object, in time
 

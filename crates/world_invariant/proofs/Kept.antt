@@ -4,20 +4,16 @@ use Rattle.call_types.specs.declared.entry.Entry.{Entry}
 use Rattle.call_types.specs.declared.setup.Setup.{Setup}
 use Rattle.world_invariant.specs.Invariant.{Invariant}
 use Rattle.world_invariant.specs.Good.{MovesAt}
-use Rattle.world_invariant.proofs.KeptObjects.{kept_keyed, kept_version, kept_one, kept_old, kept_has, kept_later, kept_placed, kept_logged}
+use Rattle.world_invariant.proofs.KeptObjects.{kept_keyed, kept_has, kept_later, kept_placed}
 use Rattle.world_invariant.proofs.KeptBindings.{kept_refers, kept_guarded, kept_binding, kept_completed, kept_released, kept_lasts}
 
 pub kept : (setup : Setup) (e : Entry) (past : List Entry) → Invariant setup past → MovesAt setup e past → Invariant setup (e ∷ past)
 kept setup e past inv m = record {
   order = m.order;
-  version = kept_version setup e past inv m;
-  one = kept_one setup e past inv m;
-  old = kept_old setup e past inv m;
   has = kept_has setup e past inv m;
   keyed = kept_keyed setup e past inv m;
   later = kept_later setup e past inv m;
   placed = kept_placed setup e past inv m;
-  logged = kept_logged setup e past inv m;
   refers = kept_refers setup e past inv m;
   guarded = kept_guarded setup e past inv m;
   binding = kept_binding setup e past inv m;

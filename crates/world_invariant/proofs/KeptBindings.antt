@@ -22,7 +22,7 @@ use Rattle.binder_model.specs.Store.{leaves}
 use Rattle.world_moves.specs.Writes.{IsLeaving}
 use Rattle.world_moves.specs.Whence.{Keeps}
 use Rattle.world_invariant.proofs.KeptObjects.{kept_placed, kept_later}
-use Rattle.world_invariant.specs.Was.{Was, IsPlaced, Made, NamesOther, OfThoseWith, IsAway, IsNotThere, Refers, WasNamed, WasBound, IsFinal, VolumeStep}
+use Rattle.world_invariant.specs.Was.{IsPlaced, Made, NamesOther, OfThoseWith, IsAway, IsNotThere, Refers, WasNamed, WasBound, IsFinal, VolumeStep}
 use Rattle.world_invariant.specs.Invariant.{Invariant, IsReferred, IsOld, NamesAtMost, StillBound}
 use Rattle.world_invariant.specs.Good.{MovesAt}
 use Rattle.world_invariant.proofs.Came.{older, row_was, new_or, fresh, VolumeCame, volume_came, ClaimCame, claim_came}
@@ -30,6 +30,8 @@ use Rattle.call_types.specs.declared.request.Request.{Request}
 use Rattle.std.proofs.lemmas.Option.{none-some}
 use Rattle.world_moves.proofs.Objects.{volume_keyed, some_volume}
 use Rattle.binder_model.specs.Safe.{was_imported_as_lost}
+use Rattle.model_laws.specs.Stood.{Stood}
+use Rattle.world_invariant.proofs.Came.{old_stood}
 
 -- the claims of an old UID
 
@@ -63,7 +65,7 @@ kept_not_there setup e past m uid old gone = kept_of setup e past m (λ c. ⊥) 
 
 named_referred : (setup : Setup) (past : List Entry) → Invariant setup past → (r : Ref) (uid : Uid) → WasNamed setup past r uid → IsReferred setup past r uid
 named_referred setup past inv r uid n = record {
-  old = subst (IsOld (world setup past).store.version) n.its (inv.old (Claim n.claim) n.was);
+  old = subst (IsOld (world setup past).store.version) n.its (old_stood setup past (Claim n.claim) n.was);
   named = λ c was its. inv.keyed (Claim c) (Claim n.claim) was n.was (its ∙ sym n.its) ∙ (λ i. record { kind = kinds.PersistentVolumeClaim; namespace = n.placed i; name = n.named i });
 }
 
@@ -81,7 +83,7 @@ later_referred setup e past m r uid x = record {
 }
 
 module _ (setup : Setup) (e : Entry) (past : List Entry) (inv : Invariant setup past) (m : MovesAt setup e past) where
-  pub kept_refers : (v : VolumeData) (r : Ref) (uid : Uid) → Was setup (e ∷ past) (Volume v) → Refers v r uid → IsReferred setup (e ∷ past) r uid
+  pub kept_refers : (v : VolumeData) (r : Ref) (uid : Uid) → Stood setup (e ∷ past) (Volume v) → Refers v r uid → IsReferred setup (e ∷ past) r uid
   kept_refers v r uid was is = later_referred setup e past m r uid (elim (new_or setup e past m (Volume v) was) [
     | inl before ↦ inv.refers v r uid before is
     | inr new ↦ elim (volume_came setup past v new.written.write) [
@@ -93,11 +95,11 @@ module _ (setup : Setup) (e : Entry) (past : List Entry) (inv : Invariant setup 
     ]
   ])
 
-pub refers_old : (setup : Setup) (past : List Entry) → Invariant setup past → (v : VolumeData) (r : Ref) (uid : Uid) → Was setup past (Volume v)
+pub refers_old : (setup : Setup) (past : List Entry) → Invariant setup past → (v : VolumeData) (r : Ref) (uid : Uid) → Stood setup past (Volume v)
     → Refers v r uid → IsOld (world setup past).store.version (Some uid)
 refers_old setup past inv v r uid was is = (inv.refers v r uid was is).old
 
-came_was : (setup : Setup) (past : List Entry) (v : VolumeData) → (came : VolumeCame setup past v) → Was setup past (Volume came.old)
+came_was : (setup : Setup) (past : List Entry) (v : VolumeData) → (came : VolumeCame setup past v) → Stood setup past (Volume came.old)
 came_was setup past v came = row_was setup past (key_of (Volume v)) (Volume came.old) came.next.there
 
 step_old : (setup : Setup) (past : List Entry) → Invariant setup past → (v : VolumeData) → VolumeCame setup past v → (r : Ref) (uid : Uid)
@@ -274,7 +276,7 @@ module _ (setup : Setup) (e : Entry) (past : List Entry) (inv : Invariant setup 
           let l = volume_keyed o s.volume (row_at_key (volume_key name) (Volume s.volume) (world setup past).store.rows s.there ∙ sym (row_at_key (volume_key name) o (world setup (e ∷ past)).store.rows is)) in
           volume l.0 (is ∙ ap (λ z. Some z) l.1)
 
-  pub kept_binding : (v : VolumeData) (r : Ref) (uid : Uid) (k : Key) (c : ClaimData) → Was setup (e ∷ past) (Volume v) → is_bound v.phase ≡ true → Refers v r uid
+  pub kept_binding : (v : VolumeData) (r : Ref) (uid : Uid) (k : Key) (c : ClaimData) → Stood setup (e ∷ past) (Volume v) → is_bound v.phase ≡ true → Refers v r uid
       → row_at k (world setup (e ∷ past)).store.rows ≡ Some (Claim c) → c.meta.uid ≡ Some uid → NamesAtMost v.meta.name c
       → StillBound (world setup (e ∷ past)) v.meta.name r
   kept_binding v r uid k c was bound refers there its most = elim (new_or setup e past m (Volume v) was) [
@@ -293,19 +295,19 @@ module _ (setup : Setup) (e : Entry) (past : List Entry) (inv : Invariant setup 
   -- ended volumes
 
   -- what was ended with policy Delete before is so while it stands
-  lasts_before : (v : VolumeData) (r : Ref) (uid : Uid) (k : Key) (x : VolumeData) → Was setup past (Volume v) → Refers v r uid → IsFinal r v
+  lasts_before : (v : VolumeData) (r : Ref) (uid : Uid) (k : Key) (x : VolumeData) → Stood setup past (Volume v) → Refers v r uid → IsFinal r v
       → row_at k (world setup (e ∷ past)).store.rows ≡ Some (Volume x) → x.meta.uid ≡ v.meta.uid → IsFinal r x
   lasts_before v r uid k x was refers final is same = elim (m.row k (Volume x) is) [
     | inl there ↦ inv.lasts v r uid k x was refers final there same
     | inr new ↦ elim (volume_came setup past x new.write) [
-      | inl began ↦ fresh began.room v.meta.uid (inv.old (Volume v) was) (sym same ∙ began.first.uid)
+      | inl began ↦ fresh began.room v.meta.uid (old_stood setup past (Volume v) was) (sym same ∙ began.first.uid)
       | inr came ↦
           let f = inv.lasts v r uid (key_of (Volume x)) came.old was refers final came.next.there (sym came.next.keeps.uid ∙ same) in
           came.step.lasts r uid (record { is = f.refers; known = refers.known }) f.released f.policy
     ]
   ]
 
-  pub kept_lasts : (v : VolumeData) (r : Ref) (uid : Uid) (k : Key) (x : VolumeData) → Was setup (e ∷ past) (Volume v) → Refers v r uid → IsFinal r v
+  pub kept_lasts : (v : VolumeData) (r : Ref) (uid : Uid) (k : Key) (x : VolumeData) → Stood setup (e ∷ past) (Volume v) → Refers v r uid → IsFinal r v
       → row_at k (world setup (e ∷ past)).store.rows ≡ Some (Volume x) → x.meta.uid ≡ v.meta.uid → IsFinal r x
   kept_lasts v r uid k x was refers final is same = elim (new_or setup e past m (Volume v) was) [
     | inl before ↦ lasts_before v r uid k x before refers final is same

@@ -1,4 +1,4 @@
--- Versions, UIDs, keys and the log: each part is kept where the store moves.
+-- UIDs and keys: each part is kept where the store moves.
 use Rattle.std.proofs.Common.{sym, subst, inl, inr, ap, ◌∙◌, arith}
 use Rattle.std.specs.Prelude.{◌≡◌, ◌≤◌, true, List, ◌∷◌, Some, is_some}
 use Rattle.kube_types.specs.declared.key.Key.{Key}
@@ -12,41 +12,16 @@ use Rattle.call_types.specs.declared.setup.Setup.{Setup}
 use Rattle.binder_model.specs.Told.{objects_of_events}
 use Rattle.binder_model.specs.World.{world}
 use Rattle.world_moves.specs.Writes.{IsIn}
-use Rattle.world_invariant.specs.Was.{Was, IsPlaced}
+use Rattle.world_invariant.specs.Was.{IsPlaced}
 use Rattle.world_invariant.specs.Invariant.{Invariant, IsOld, IsLater}
 use Rattle.world_invariant.specs.Good.{MovesAt}
-use Rattle.world_invariant.proofs.Came.{row_was, IsNew, new_or, one_written, made_version, fresh, older, given_old, itself, then, volume_came}
+use Rattle.world_invariant.proofs.Came.{row_was, IsNew, new_or, one_written, fresh, older, itself, then, volume_came}
 use Rattle.std.proofs.lemmas.Option.{same_Some}
+use Rattle.model_laws.specs.Stood.{Stood}
+use Rattle.world_invariant.proofs.Came.{old_stood}
 
 module _ (setup : Setup) (e : Entry) (past : List Entry) (inv : Invariant setup past) (m : MovesAt setup e past) where
-  pub kept_version : (o : Object) → Was setup (e ∷ past) o → (meta_of o).version ≤ (world setup (e ∷ past)).store.version
-  kept_version o was = elim (new_or setup e past m o was) [
-    | inl before ↦ omega (arith, inv.version o before, m.rises)
-    | inr new ↦ omega (arith, made_version setup past o new.written.write, new.written.counted)
-  ]
-
-  pub kept_one : (a b : Object) → Was setup (e ∷ past) a → Was setup (e ∷ past) b → key_of a ≡ key_of b → (meta_of a).version ≡ (meta_of b).version → a ≡ b
-  kept_one a b wa wb keys versions = elim (new_or setup e past m a wa) [
-    | inl a_before ↦ elim (new_or setup e past m b wb) [
-      | inl b_before ↦ inv.one a b a_before b_before keys versions
-      | inr b_new ↦ absurd (omega (arith, inv.version a a_before, made_version setup past b b_new.written.write, versions))
-    ]
-    | inr a_new ↦ elim (new_or setup e past m b wb) [
-      | inl b_before ↦ absurd (omega (arith, inv.version b b_before, made_version setup past a a_new.written.write, versions))
-      | inr b_new ↦ one_written setup e past a b a_new.written b_new.written
-    ]
-  ]
-
-  pub kept_old : (o : Object) → Was setup (e ∷ past) o → IsOld (world setup (e ∷ past)).store.version (meta_of o).uid
-  kept_old o was = elim (new_or setup e past m o was) [
-    | inl before ↦ older _ _ (meta_of o).uid m.rises (inv.old o before)
-    | inr new ↦ elim new.written.write [
-      | inl starts ↦ subst (λ n. IsOld n (meta_of o).uid) (sym new.written.counted) (given_old _ (meta_of o).uid starts.first.uid)
-      | inr from ↦ older _ _ (meta_of o).uid m.rises (subst (IsOld (world setup past).store.version) (sym from.next.keeps.uid) (inv.old from.old (row_was setup past _ from.old from.next.there)))
-    ]
-  ]
-
-  pub kept_has : (o : Object) → Was setup (e ∷ past) o → is_some (meta_of o).uid ≡ true
+  pub kept_has : (o : Object) → Stood setup (e ∷ past) o → is_some (meta_of o).uid ≡ true
   kept_has o was = elim (new_or setup e past m o was) [
     | inl before ↦ inv.has o before
     | inr new ↦ elim new.written.write [
@@ -56,15 +31,15 @@ module _ (setup : Setup) (e : Entry) (past : List Entry) (inv : Invariant setup 
   ]
 
 -- one UID, one key
-kept_keyed_new : (setup : Setup) (e : Entry) (past : List Entry) → Invariant setup past → (a b : Object) → IsNew setup e past a → Was setup past b
+kept_keyed_new : (setup : Setup) (e : Entry) (past : List Entry) → Invariant setup past → (a b : Object) → IsNew setup e past a → Stood setup past b
     → (meta_of a).uid ≡ (meta_of b).uid → key_of a ≡ key_of b
 kept_keyed_new setup e past inv a b new was same = elim new.written.write [
-  | inl starts ↦ fresh starts.room (meta_of b).uid (inv.old b was) (sym same ∙ starts.first.uid)
+  | inl starts ↦ fresh starts.room (meta_of b).uid (old_stood setup past b was) (sym same ∙ starts.first.uid)
   | inr from ↦ from.next.key ∙ inv.keyed from.old b (row_was setup past (key_of a) from.old from.next.there) was (sym from.next.keeps.uid ∙ same)
 ]
 
 module _ (setup : Setup) (e : Entry) (past : List Entry) (inv : Invariant setup past) (m : MovesAt setup e past) where
-  pub kept_keyed : (a b : Object) → Was setup (e ∷ past) a → Was setup (e ∷ past) b → (meta_of a).uid ≡ (meta_of b).uid → key_of a ≡ key_of b
+  pub kept_keyed : (a b : Object) → Stood setup (e ∷ past) a → Stood setup (e ∷ past) b → (meta_of a).uid ≡ (meta_of b).uid → key_of a ≡ key_of b
   kept_keyed a b wa wb same = elim (new_or setup e past m a wa) [
     | inl a_before ↦ elim (new_or setup e past m b wb) [
       | inl b_before ↦ inv.keyed a b a_before b_before same
@@ -77,12 +52,12 @@ module _ (setup : Setup) (e : Entry) (past : List Entry) (inv : Invariant setup 
   ]
 
   -- one that was before, and one that stands now
-  later_now : (a : Object) (k : Key) (b : Object) → Was setup past a → row_at k (world setup (e ∷ past)).store.rows ≡ Some b
+  later_now : (a : Object) (k : Key) (b : Object) → Stood setup past a → row_at k (world setup (e ∷ past)).store.rows ≡ Some b
       → (meta_of b).uid ≡ (meta_of a).uid → IsLater a b
   later_now a k b was is same = elim (m.row k b is) [
     | inl there ↦ inv.later a k b was there same
     | inr new ↦ elim new.write [
-      | inl starts ↦ fresh starts.room (meta_of a).uid (inv.old a was) (sym same ∙ starts.first.uid)
+      | inl starts ↦ fresh starts.room (meta_of a).uid (old_stood setup past a was) (sym same ∙ starts.first.uid)
       | inr from ↦ then (inv.later a (key_of b) from.old was from.next.there (sym from.next.keeps.uid ∙ same)) (record { key = from.next.key; keeps = from.next.keeps })
     ]
   ]
@@ -92,7 +67,7 @@ later_new : (setup : Setup) (e : Entry) (past : List Entry) → Invariant setup 
     → row_at k (world setup past).store.rows ≡ Some b → row_at k (world setup (e ∷ past)).store.rows ≡ Some b → (meta_of b).uid ≡ (meta_of a).uid
     → IsLater a b
 later_new setup e past inv a k b new there is same = elim new.written.write [
-  | inl starts ↦ fresh starts.room (meta_of b).uid (inv.old b (row_was setup past k b there)) (same ∙ starts.first.uid)
+  | inl starts ↦ fresh starts.room (meta_of b).uid (old_stood setup past b (row_was setup past k b there)) (same ∙ starts.first.uid)
   | inr from ↦
       let l = inv.later b (key_of a) from.old (row_was setup past k b there) from.next.there (sym (same ∙ from.next.keeps.uid)) in
       let at : key_of a ≡ k = from.next.key ∙ l.key ∙ row_at_key k b (world setup past).store.rows there in
@@ -101,7 +76,7 @@ later_new setup e past inv a k b new there is same = elim new.written.write [
 ]
 
 module _ (setup : Setup) (e : Entry) (past : List Entry) (inv : Invariant setup past) (m : MovesAt setup e past) where
-  pub kept_later : (a : Object) (k : Key) (b : Object) → Was setup (e ∷ past) a → row_at k (world setup (e ∷ past)).store.rows ≡ Some b
+  pub kept_later : (a : Object) (k : Key) (b : Object) → Stood setup (e ∷ past) a → row_at k (world setup (e ∷ past)).store.rows ≡ Some b
       → (meta_of b).uid ≡ (meta_of a).uid → IsLater a b
   kept_later a k b was is same = elim (new_or setup e past m a was) [
     | inl before ↦ later_now setup e past inv m a k b before is same
@@ -111,7 +86,7 @@ module _ (setup : Setup) (e : Entry) (past : List Entry) (inv : Invariant setup 
     ]
   ]
 
-  pub kept_placed : (v : VolumeData) → Was setup (e ∷ past) (Volume v) → IsPlaced (key_of (Volume v))
+  pub kept_placed : (v : VolumeData) → Stood setup (e ∷ past) (Volume v) → IsPlaced (key_of (Volume v))
   kept_placed v was = elim (new_or setup e past m (Volume v) was) [
     | inl before ↦ inv.placed v before
     | inr new ↦ elim (volume_came setup past v new.written.write) [
@@ -120,8 +95,3 @@ module _ (setup : Setup) (e : Entry) (past : List Entry) (inv : Invariant setup 
     ]
   ]
 
-  pub kept_logged : (o : Object) → IsIn o (objects_of_events (world setup (e ∷ past)).log) → Was setup (e ∷ past) o
-  kept_logged o h = elim (m.logged o h) [
-    | inl before ↦ inl (inv.logged o before)
-    | inr now ↦ inr now
-  ]

@@ -20,14 +20,17 @@ use Rattle.binder_model.specs.World.{world, effect, reply_to}
 use Rattle.model_laws.specs.Reads.{found}
 use Rattle.model_laws.proofs.Readings.{gets_tell_what_stands}
 use Rattle.world_moves.specs.Writes.{IsIn}
-use Rattle.world_moves.proofs.Tells.{tells}
-use Rattle.world_invariant.specs.Was.{Was, IsNotThere, IsAway}
+use Rattle.world_invariant.specs.Was.{IsNotThere, IsAway}
 use Rattle.world_invariant.specs.Invariant.{Invariant, IsReferred, IsOld}
-use Rattle.world_invariant.specs.Good.{TellingsAreTrue, Good, IsTrue}
-use Rattle.world_invariant.proofs.Came.{row_was, stood, older}
+use Rattle.world_invariant.specs.Good.{Good, IsTrue}
+use Rattle.world_invariant.proofs.Came.{row_was, older}
+use Rattle.model_laws.proofs.Stood.{stood}
 use Rattle.world_invariant.proofs.KeptBindings.{kept_not_there, other_stays}
 use Rattle.kube_types.specs.declared.key.Key.{Key}
 use Rattle.call_types.specs.declared.request.Request.TheVariants as requests
+use Rattle.model_laws.specs.Stood.{Stood}
+use Rattle.binder_model.specs.World.{IsHistory}
+use Rattle.model_laws.proofs.Truths.{entry_stood, told_is_true, told_live_is_true_now}
 
 pub invariant_of : (setup : Setup) (past : List Entry) → Good setup past → Invariant setup past
 invariant_of setup [] g = g
@@ -41,40 +44,32 @@ some_in P (o ∷ os) h = elim h [
   | inr more ↦ let r = some_in P os more in (r.0, inr r.1, r.2)
 ]
 
+-- a good history is a history
+history_of : (setup : Setup) (past : List Entry) → Good setup past → IsHistory setup past
+history_of setup [] g = tt
+history_of setup (e ∷ past) g = (history_of setup past g.0, g.2)
+
 -- what an entry tells stood in the store
-pub entry_tells : (setup : Setup) (e : Entry) (past : List Entry) → Good setup (e ∷ past) → (o : Object) → IsIn o (objects_in e.reply) → Was setup (e ∷ past) o
-entry_tells setup e past g o h =
-    let inv = invariant_of setup past g.0 in
-    elim ((tells setup (world setup past) e.kind e.request inv.order).true_of o (subst (λ (r : Reply). IsIn o (objects_in r)) g.2 h)) [
-      | inl before ↦ inl (stood setup past o before)
-      | inr after ↦ elim after [ inl now ↦ inr now | inr logged ↦ inl (inv.logged o logged) ]
-    ]
+pub entry_tells : (setup : Setup) (e : Entry) (past : List Entry) → Good setup (e ∷ past) → (o : Object) → IsIn o (objects_in e.reply) → Stood setup (e ∷ past) o
+entry_tells setup e past g o h = entry_stood setup e past o (subst (λ (r : Reply). IsIn o (objects_in r)) g.2 h)
+
+-- an object that was told, of which P holds
+told_one : (P : Object → Type 0) (mine : List Entry) → ToldObject P mine → (o : Object) × ToldObject (λ x. x ≡ o) mine × P o
+told_one P [] h = absurd h
+told_one P (e ∷ mine) h = elim h [
+  | inl now ↦ let r = some_in P (objects_in e.reply) now.1 in (r.0, inl (now.0, r.1), r.2)
+  | inr more ↦ let r = told_one P mine more in (r.0, inr r.1, r.2)
+]
 
 -- each object that the seat was told stood in the store
-pub told_was : (setup : Setup) (past : List Entry) → Good setup past → (seat : ℕ) (P : Object → Type 0) → ToldObject P (own seat past)
-    → (o : Object) × Was setup past o × P o
-told_was setup [] g seat P h = absurd h
-told_was setup (e ∷ past) g seat P h = by (told_was setup past g.0 seat P) (e.seat == seat) h
-  where
-    rest : (ToldObject P (own seat past) → (o : Object) × Was setup past o × P o) → ToldObject P (own seat past) → (o : Object) × Was setup (e ∷ past) o × P o
-    rest f h = let r = f h in (r.0, inl r.1, r.2)
-
-    here : TellsObject P e → (o : Object) × Was setup (e ∷ past) o × P o
-    here t = let r = some_in P (objects_in e.reply) t.1 in (r.0, entry_tells setup e past g r.0 r.1, r.2)
-
-    by : (ToldObject P (own seat past) → (o : Object) × Was setup past o × P o) → (b : Bool)
-        → ToldObject P (if b then e ∷ own seat past else own seat past) → (o : Object) × Was setup (e ∷ past) o × P o
-    by f true h = elim h [ inl now ↦ here now | inr more ↦ rest f more ]
-    by f false h = rest f h
-
-pub tellings_are_true : TellingsAreTrue
-tellings_are_true setup past g seat o h = let t = told_was setup past g seat (λ x. x ≡ o) h in subst (Was setup past) t.2 t.1
+pub told_was : (setup : Setup) (past : List Entry) → Good setup past → (seat : ℕ) → IsTrue setup past (own seat past)
+told_was setup past g seat P h = let r = told_one P (own seat past) h in (r.0, told_is_true setup past seat r.0 (history_of setup past g) r.1, r.2)
 
 pub told_volume : (setup : Setup) (past mine : List Entry) → IsTrue setup past mine → (P : VolumeData → Type 0) → ToldVolume P mine
-    → (v : VolumeData) × Was setup past (Volume v) × P v
+    → (v : VolumeData) × Stood setup past (Volume v) × P v
 told_volume setup past mine t P h = let r = t (IsVolumeWith P) h in by r.0 r.1 r.2
   where
-    by : (o : Object) → Was setup past o → IsVolumeWith P o → (v : VolumeData) × Was setup past (Volume v) × P v
+    by : (o : Object) → Stood setup past o → IsVolumeWith P o → (v : VolumeData) × Stood setup past (Volume v) × P v
     by (Volume v) was is = (v, was, is)
     by (Class x) was is = absurd is
     by (Node x) was is = absurd is
@@ -82,10 +77,10 @@ told_volume setup past mine t P h = let r = t (IsVolumeWith P) h in by r.0 r.1 r
     by (Pod x) was is = absurd is
 
 pub told_claim : (setup : Setup) (past mine : List Entry) → IsTrue setup past mine → (P : ClaimData → Type 0) → ToldClaim P mine
-    → (c : ClaimData) × Was setup past (Claim c) × P c
+    → (c : ClaimData) × Stood setup past (Claim c) × P c
 told_claim setup past mine t P h = let r = t (IsClaimWith P) h in by r.0 r.1 r.2
   where
-    by : (o : Object) → Was setup past o → IsClaimWith P o → (c : ClaimData) × Was setup past (Claim c) × P c
+    by : (o : Object) → Stood setup past o → IsClaimWith P o → (c : ClaimData) × Stood setup past (Claim c) × P c
     by (Claim c) was is = (c, was, is)
     by (Class x) was is = absurd is
     by (Node x) was is = absurd is
@@ -104,7 +99,7 @@ elsewhere setup past mine inv t name uid h k d there its =
 
 pub get_reply : (setup : Setup) (e : Entry) (past : List Entry) → Good setup (e ∷ past) → (key : Key) → e.request ≡ requests.Get key
     → e.reply ≡ found (row_at key (world setup past).store.rows)
-get_reply setup e past g key asked = g.2 ∙ ap (λ x. reply_to (effect setup (world setup past) e.kind x)) asked ∙ gets_tell_what_stands setup (world setup past) e.kind key
+get_reply setup e past g key asked = told_live_is_true_now setup e past key (history_of setup (e ∷ past) g) asked
 
 live : (x : Option Object) (P : Option Object → Type 0) → IsLiveAnswer (found x) P → P x
 live None P h = h

@@ -6,8 +6,9 @@ use Rattle.call_types.specs.declared.setup.Setup.{Setup}
 use Rattle.binder_model.specs.World.{world, effect, reply_to}
 use Rattle.binder_model.specs.Told.{ToldObject, own}
 use Rattle.world_moves.specs.Moves.{Moves}
-use Rattle.world_invariant.specs.Was.{Was, Made}
+use Rattle.world_invariant.specs.Was.{Made}
 use Rattle.world_invariant.specs.Invariant.{Invariant}
+use Rattle.model_laws.specs.Stood.{Stood}
 
 -- how the store moves at this entry
 abbrev pub MovesAt : Setup → Entry → List Entry → Type 0
@@ -20,12 +21,8 @@ Good setup (e ∷ past) = Good setup past × MovesAt setup e past × (e.reply �
 
 -- what was told stood there, as a fact of one list of own entries
 abbrev pub IsTrue : Setup → List Entry → List Entry → Type 1
-IsTrue setup past mine = (P : Object → Type 0) → ToldObject P mine → (o : Object) × Was setup past o × P o
+IsTrue setup past mine = (P : Object → Type 0) → ToldObject P mine → (o : Object) × Stood setup past o × P o
 
 -- the invariant is kept where the store moves as it may
 abbrev pub MovesKeepTheInvariant : Type 0
 MovesKeepTheInvariant = (setup : Setup) (e : Entry) (past : List Entry) → Invariant setup past → MovesAt setup e past → Invariant setup (e ∷ past)
-
--- each object that a seat was told stood in the store
-abbrev pub TellingsAreTrue : Type 0
-TellingsAreTrue = (setup : Setup) (past : List Entry) → Good setup past → (seat : ℕ) (o : Object) → ToldObject (λ x. x ≡ o) (own seat past) → Was setup past o

@@ -16,9 +16,10 @@ use Rattle.binder_model.specs.Told.{SomeOf, objects_of_events}
 use Rattle.binder_model.specs.ObjectKeys.{volume_key, claim_key}
 use Rattle.binder_model.specs.World.{World, world}
 use Rattle.world_moves.specs.Whence.{Keeps}
-use Rattle.world_invariant.specs.Was.{Was, IsPlaced, IsAway, Refers, WasBound, IsFinal}
+use Rattle.world_invariant.specs.Was.{IsPlaced, IsAway, Refers, WasBound, IsFinal}
 use Rattle.binder_model.specs.Imports.{most_serials}
 use Rattle.binder_model.specs.Safe.{was_imported_as_lost}
+use Rattle.model_laws.specs.Stood.{Stood}
 
 -- no later write gives this UID
 abbrev pub IsOld : ℕ → Option Uid → Type 0
@@ -43,27 +44,23 @@ pub record StillBound (w : World) (name : List ℕ) (r : Ref) : Type 0 where
 -- no claim under another key ever had the UID of the reference, and no later write gives it
 pub record IsReferred (setup : Setup) (past : List Entry) (r : Ref) (uid : Uid) : Type 0 where
   pub old : IsOld (world setup past).store.version (Some uid)
-  pub named : (c : ClaimData) → Was setup past (Claim c) → c.meta.uid ≡ Some uid → key_of (Claim c) ≡ claim_key r.namespace r.name
+  pub named : (c : ClaimData) → Stood setup past (Claim c) → c.meta.uid ≡ Some uid → key_of (Claim c) ≡ claim_key r.namespace r.name
 
--- what holds of all that stood in the store, and of what stands there
+-- what holds of all that stood in the store, and of what stands there, beside what holds of every history: one version, one
+-- object; no UID is given again
 pub record Invariant (setup : Setup) (past : List Entry) : Type 0 where
   pub order : AreRows (world setup past).store.rows
-  -- versions, UIDs and keys
-  pub version : (o : Object) → Was setup past o → (meta_of o).version ≤ (world setup past).store.version
-  pub one : (a b : Object) → Was setup past a → Was setup past b → key_of a ≡ key_of b → (meta_of a).version ≡ (meta_of b).version → a ≡ b
-  pub old : (o : Object) → Was setup past o → IsOld (world setup past).store.version (meta_of o).uid
-  pub has : (o : Object) → Was setup past o → is_some (meta_of o).uid ≡ true
-  pub keyed : (a b : Object) → Was setup past a → Was setup past b → (meta_of a).uid ≡ (meta_of b).uid → key_of a ≡ key_of b
-  pub later : (a : Object) (k : Key) (b : Object) → Was setup past a → row_at k (world setup past).store.rows ≡ Some b → (meta_of b).uid ≡ (meta_of a).uid → IsLater a b
-  pub placed : (v : VolumeData) → Was setup past (Volume v) → IsPlaced (key_of (Volume v))
-  -- what the log tells stood in the store
-  pub logged : (o : Object) → SomeOf (λ x. x ≡ o) (objects_of_events (world setup past).log) → Was setup past o
+  -- UIDs and keys
+  pub has : (o : Object) → Stood setup past o → is_some (meta_of o).uid ≡ true
+  pub keyed : (a b : Object) → Stood setup past a → Stood setup past b → (meta_of a).uid ≡ (meta_of b).uid → key_of a ≡ key_of b
+  pub later : (a : Object) (k : Key) (b : Object) → Stood setup past a → row_at k (world setup past).store.rows ≡ Some b → (meta_of b).uid ≡ (meta_of a).uid → IsLater a b
+  pub placed : (v : VolumeData) → Stood setup past (Volume v) → IsPlaced (key_of (Volume v))
   -- each UID in a reference is that of a claim of this namespace and name, or of none
-  pub refers : (v : VolumeData) (r : Ref) (uid : Uid) → Was setup past (Volume v) → Refers v r uid → IsReferred setup past r uid
+  pub refers : (v : VolumeData) (r : Ref) (uid : Uid) → Stood setup past (Volume v) → Refers v r uid → IsReferred setup past r uid
   -- what is Bound is protected
   pub guarded : (k : Key) (v : VolumeData) → row_at k (world setup past).store.rows ≡ Some (Volume v) → is_bound v.phase ≡ true → is_protected_volume v ≡ true
   -- what was Bound to a claim that is there and not elsewhere is so still
-  pub binding : (v : VolumeData) (r : Ref) (uid : Uid) (k : Key) (c : ClaimData) → Was setup past (Volume v) → is_bound v.phase ≡ true → Refers v r uid
+  pub binding : (v : VolumeData) (r : Ref) (uid : Uid) (k : Key) (c : ClaimData) → Stood setup past (Volume v) → is_bound v.phase ≡ true → Refers v r uid
       → row_at k (world setup past).store.rows ≡ Some (Claim c) → c.meta.uid ≡ Some uid → NamesAtMost v.meta.name c → StillBound (world setup past) v.meta.name r
   -- a completed claim was carried by a Bound volume, if it was not imported as Lost
   pub completed : (k : Key) (c : ClaimData) → row_at k (world setup past).store.rows ≡ Some (Claim c) → is_completed c ≡ true
@@ -71,5 +68,5 @@ pub record Invariant (setup : Setup) (past : List Entry) : Type 0 where
   -- the claim of an ended volume is gone or elsewhere, and with policy Delete it is so until it leaves
   pub released : (k : Key) (v : VolumeData) (r : Ref) (uid : Uid) → row_at k (world setup past).store.rows ≡ Some (Volume v) → is_ended v.phase ≡ true
       → Refers v r uid → IsAway (world setup past) uid v.meta.name
-  pub lasts : (v : VolumeData) (r : Ref) (uid : Uid) (k : Key) (x : VolumeData) → Was setup past (Volume v) → Refers v r uid → IsFinal r v
+  pub lasts : (v : VolumeData) (r : Ref) (uid : Uid) (k : Key) (x : VolumeData) → Stood setup past (Volume v) → Refers v r uid → IsFinal r v
       → row_at k (world setup past).store.rows ≡ Some (Volume x) → x.meta.uid ≡ v.meta.uid → IsFinal r x

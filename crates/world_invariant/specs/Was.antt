@@ -18,15 +18,7 @@ use Rattle.binder_model.specs.GuardLicence.{IsDeletingVersion, TellsUnused}
 use Rattle.binder_model.specs.World.{World, world}
 use Rattle.world_moves.specs.Whence.{IsFirst, IsNext}
 use Rattle.binder_model.specs.Imports.{most_serials}
-
--- the object stands in the store, under its key
-abbrev pub Stands : World → Object → Type 0
-Stands w o = row_at (key_of o) w.store.rows ≡ Some o
-
--- the object stood in the store at first or after some of the entries
-abbrev pub Was : Setup → List Entry → Object → Type 0
-Was setup [] o = Stands (world setup []) o
-Was setup (e ∷ past) o = Was setup past o ⊎ Stands (world setup (e ∷ past)) o
+use Rattle.model_laws.specs.Stood.{Stood}
 
 -- the key of a volume: without a namespace, and with a name
 pub record IsPlaced (k : Key) : Type 0 where
@@ -58,7 +50,7 @@ pub record Refers (v : VolumeData) (r : Ref) (uid : Uid) : Type 0 where
 -- a claim of this namespace, name and UID stood in the store
 pub record WasNamed (setup : Setup) (past : List Entry) (r : Ref) (uid : Uid) : Type 0 where
   pub claim : ClaimData
-  pub was : Was setup past (Claim claim)
+  pub was : Stood setup past (Claim claim)
   pub placed : claim.meta.namespace ≡ r.namespace
   pub named : claim.meta.name ≡ r.name
   pub its : claim.meta.uid ≡ Some uid
@@ -66,7 +58,7 @@ pub record WasNamed (setup : Setup) (past : List Entry) (r : Ref) (uid : Uid) : 
 -- a Bound volume that carries the claim, and that it names, stood in the store
 pub record WasBound (setup : Setup) (past : List Entry) (c : ClaimData) : Type 0 where
   pub volume : VolumeData
-  pub was : Was setup past (Volume volume)
+  pub was : Stood setup past (Volume volume)
   pub bound : is_bound volume.phase ≡ true
   pub carries : carries volume c ≡ true
   pub names : c.volume_name ≡ volume.meta.name

@@ -23,7 +23,7 @@ use Rattle.std.proofs.lemmas.Option.{none-some}
 use Rattle.world_moves.proofs.Tests.{uid_same}
 use Rattle.binder_model.specs.Devices.{put_mount}
 use Rattle.binder_model.proofs.Mounts.{put_was}
-use Rattle.world_moves.proofs.Lists.{some_filter}
+use Rattle.model_laws.proofs.Lists.{some_filter}
 use Rattle.kube_types.specs.declared.names.Field.TheVariants as fields
 use Rattle.call_types.specs.declared.reply.Refusal.TheVariants.{Invalid, Gone}
 use Rattle.call_types.specs.declared.reply.Reply.TheVariants.{Refused, Events}

@@ -1,6 +1,5 @@
 pub mod Tests
 pub mod Objects
-pub mod Lists
 pub mod Forms
 pub mod Effects
 pub mod Whence

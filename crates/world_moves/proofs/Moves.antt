@@ -23,25 +23,11 @@ use Rattle.std.proofs.lemmas.Option.{same_Some, none-some}
 still : (w : World) (request : Request) (x : Effect) (W : Object → Type 0) → AreRows w.store.rows → (world_after w x).store ≡ w.store
     → (world_after w x).log ≡ w.log → Moves w request x W
 still w request x W rows e l = record {
-  logged = λ o h. inl (subst (λ (es : List Event). IsIn o (objects_of_events es)) l h);
   row = λ k o is. inl (ap (λ s. row_at k s.rows) (sym e) ∙ is);
   left = λ k o is none. absurd (none-some _ (sym none ∙ ap (λ s. row_at k s.rows) e ∙ is));
   rises = let v = ap (λ s. s.version) e in omega (arith, v);
   order = subst (λ s. AreRows s.rows) (sym e) rows;
 }
-
--- an event of a stored object tells what stands now
-stored_event : (rows : List Object) (change : Change) (o new : Object) (log : List Event) → IsIn new (objects_of_events ((record { change = change; object = o; version = (meta_of o).version }) ∷ log))
-    → IsIn new (objects_of_events log) ⊎ (row_at (key_of new) (put_row o rows) ≡ Some new)
-stored_event rows change o new log h = by change h
-  where
-    here : o ≡ new → row_at (key_of new) (put_row o rows) ≡ Some new
-    here e = subst (λ (x : Object). row_at (key_of x) (put_row o rows) ≡ Some x) e (row_at-put_row o rows)
-
-    by : (c : Change) → IsIn new (objects_of_event c o ++ objects_of_events log) → IsIn new (objects_of_events log) ⊎ (row_at (key_of new) (put_row o rows) ≡ Some new)
-    by changes.Added h = elim h [ inl e ↦ inr (here e) | inr more ↦ inl more ]
-    by changes.Modified h = elim h [ inl e ↦ inr (here e) | inr more ↦ inl more ]
-    by changes.Deleted h = inl h
 
 store_moves : (w : World) (request : Request) (W : Object → Type 0) (x : Outcome) → AreRows w.store.rows → FormOf w.store W request x → Moves w request (OnStore x) W
 unfolding world_after after log_after
@@ -58,7 +44,6 @@ store_moves w request W (Stores change o) rows f = record {
     | inr other ↦ absurd (none-some _ (sym none ∙ row_at-put_row_other k o w.store.rows other ∙ is))
   ];
   rises = omega arith;
-  logged = λ new h. stored_event w.store.rows change o new w.log h;
   order = rows_after w.store (Stores change o) rows;
 }
 store_moves w request W (Removes o) rows f = record {
@@ -71,7 +56,6 @@ store_moves w request W (Removes o) rows f = record {
     | inr other ↦ absurd (none-some _ (sym none ∙ row_at-without_row_other (key_of o) k w.store.rows other ∙ is))
   ];
   rises = omega arith;
-  logged = λ new h. inl h;
   order = rows_after w.store (Removes o) rows;
 }
 
@@ -91,7 +75,6 @@ as_made {W = W} {V = V} w request x f m = record {
   row = λ k o is. elim (m.row k o is) [ inl same ↦ inl same | inr new ↦ inr (to o new) ];
   left = λ k o is none. let h = m.left k o is none in record { last = h.last; written = to h.last h.written; key = h.key; leaving = h.leaving; removes = h.removes };
   rises = m.rises;
-  logged = m.logged;
   order = m.order;
 }
   where

@@ -1,4 +1,4 @@
--- How one call moves the store, whatever the call: what it does at each key, to the version and to the log.
+-- How one call moves the store, whatever the call: what it does at each key, and to the version.
 use Rattle.std.specs.Prelude.{◌≡◌, ◌⊎◌, ◌+◌, ◌≤◌, Option, Some, None}
 use Rattle.kube_types.specs.declared.key.Key.{Key}
 use Rattle.kube_types.specs.declared.objects.Object.{Object}
@@ -32,14 +32,11 @@ pub record HasLeft (w : World) (request : Request) (x : Effect) (W : Object → 
   pub leaving : IsLeaving request last
   pub removes : x ≡ OnStore (Removes last)
 
--- what stands at a key stood there before or was written; what stands there no more has left; the version does not fall;
--- the log tells what it told before, and what stands now
+-- what stands at a key stood there before or was written; what stands there no more has left; the version does not fall
 pub record Moves (w : World) (request : Request) (x : Effect) (W : Object → Type 0) : Type 0 where
   pub row : (k : Key) (o : Object) → row_at k (world_after w x).store.rows ≡ Some o → (row_at k w.store.rows ≡ Some o) ⊎ IsWritten w x W o
   pub left : (k : Key) (o : Object) → row_at k w.store.rows ≡ Some o → row_at k (world_after w x).store.rows ≡ None → HasLeft w request x W k
   pub rises : w.store.version ≤ (world_after w x).store.version
-  pub logged : (o : Object) → IsIn o (objects_of_events (world_after w x).log)
-      → IsIn o (objects_of_events w.log) ⊎ (row_at (key_of o) (world_after w x).store.rows ≡ Some o)
   pub order : AreRows (world_after w x).store.rows
 
 -- each call moves the store by one write that was asked and tested, or not at all

@@ -1,4 +1,4 @@
--- What a true answer is: each object that it tells stands in the store, or stood there and is in the log.
+-- What an answer tells of the moment: each object in it stands in the store before the call or after it.
 use Rattle.std.specs.Prelude.{◌≡◌, ◌⊎◌, false, Some}
 use Rattle.kube_types.specs.declared.objects.Object.{Object}
 use Rattle.kube_types.specs.Keys.{key_of, row_at}
@@ -11,19 +11,11 @@ use Rattle.call_types.specs.declared.request.SeatKind.{SeatKind}
 use Rattle.kube_types.specs.Keys.{AreRows}
 use Rattle.binder_model.specs.World.{effect}
 
--- what is told at one entry: it stands before or after, or the log has it
-pub record TellsTrue (w : World) (x : Effect) : Type 0 where
-  pub true_of : (o : Object) → IsIn o (objects_in (reply_to x))
-      → (row_at (key_of o) w.store.rows ≡ Some o) ⊎ (row_at (key_of o) (world_after w x).store.rows ≡ Some o) ⊎ IsIn o (objects_of_events w.log)
-
 -- what is told at an entry that is no watch stands before or after
 pub record TellsNow (w : World) (x : Effect) : Type 0 where
   pub now : (o : Object) → IsIn o (objects_in (reply_to x)) → (row_at (key_of o) w.store.rows ≡ Some o) ⊎ (row_at (key_of o) (world_after w x).store.rows ≡ Some o)
 
--- each answer is true, and only a watch tells of the past
-abbrev pub AnswersAreTrue : Type 0
-AnswersAreTrue = (setup : Setup) (w : World) (kind : SeatKind) (request : Request) → AreRows w.store.rows → TellsTrue w (effect setup w kind request)
-
+-- only a watch tells of the past
 abbrev pub AnswersTellTheMoment : Type 0
 AnswersTellTheMoment =
     (setup : Setup) (w : World) (kind : SeatKind) (request : Request)

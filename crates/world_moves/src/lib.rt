@@ -3,15 +3,15 @@
 //! The verbs are walked here and nowhere above: each call comes to what was asked, past the tests of its verb
 //! (`calls_come_to_what_was_asked`). So the store moves by one write or not at all (`calls_move_the_store`), a written
 //! object is a first version or the next one of what stands (`writes_follow`), epochs and mounts move by the calls of
-//! agents alone (`calls_move_the_devices`), and each answer is true (`answers_are_true`): of this very moment where it is
-//! no watch (`answers_tell_the_moment`).
+//! agents alone (`calls_move_the_devices`), and what an answer tells that is no watch's stands at that moment
+//! (`answers_tell_the_moment`).
 #![tactic(auto)]
 
 ghost use Rattle.world_moves.specs.Writes.{CallsComeToWhatWasAsked};
 ghost use Rattle.world_moves.specs.Whence.{WritesFollow};
 ghost use Rattle.world_moves.specs.Moves.{CallsMoveTheStore};
 ghost use Rattle.world_moves.specs.DeviceMoves.{CallsMoveTheDevices};
-ghost use Rattle.world_moves.specs.Tellings.{AnswersAreTrue, AnswersTellTheMoment};
+ghost use Rattle.world_moves.specs.Tellings.{AnswersTellTheMoment};
 
 /// Each call comes to what was asked, past the tests of its verb; a pod leaves by FinishPod, or by Delete where no node
 /// runs it.
@@ -35,12 +35,6 @@ pub fn calls_move_the_store()
 /// Each call leaves epochs and mounts as they are, takes a node, or mounts at the current epoch.
 pub fn calls_move_the_devices()
     ensures { CallsMoveTheDevices }
-{}
-
-/// Each object that an answer tells stands in the store, or stood there and is in the log.
-#[tactic(auto, using(crate::proofs::Tells::tells))]
-pub fn answers_are_true()
-    ensures { AnswersAreTrue }
 {}
 
 /// Each object that an answer to anything but a watch tells stands in the store before or after the call.
