@@ -11,11 +11,10 @@ use Rattle.world_invariant.specs.Good.{MovesAt, Good}
 use Rattle.world_invariant.proofs.Kept.{kept}
 use Rattle.world_invariant.proofs.Known.{invariant_of, told_was, gone_read}
 use Rattle.licence_steps.proofs.Allowed.{Known, made}
-use Rattle.std.proofs.Common.{arith, ap, inl, inr}
-use Rattle.std.specs.Prelude.{ℕ, ◌+◌, ◌<◌, ◌≤◌, length}
+use Rattle.std.proofs.Common.{arith}
+use Rattle.std.specs.Prelude.{ℕ, ◌+◌, ◌<◌, length}
 use Rattle.binder_model.specs.Imports.{most_serials}
 use Rattle.binder_model.specs.World.{base}
-use Rattle.model_laws.proofs.Versions.{versions_count_writes}
 use Rattle.licence_steps.specs.Runs.{RunsAreGood}
 use Rattle.model_laws.proofs.Stood.{few_writes}
 

@@ -1,7 +1,6 @@
 -- The first world: imports that pass make a world in which the invariant holds, nothing is mounted and each claim is guarded.
 use Rattle.std.proofs.Common.{sym, refl, subst, inl, inr, ap, ◌∙◌, true≢false, arith}
 use Rattle.std.proofs.lemmas.Bool.{and_parts, or_parts, not-false, le-leb, lt-ltb}
-use Rattle.std.proofs.lemmas.Option.{same_Some, none-some}
 use Rattle.std.proofs.lemmas.Slice.Eq.{bytes_eq-Decides}
 use Rattle.std.specs.Prelude.{if◌then◌else◌, ℕ, ◌≡◌, ◌<◌, ◌≤◌, nat_lt, nat_le, Bool, true, false, not, ◌&&◌, ◌||◌, List, [], ◌∷◌, Option, Some, bytes_eq, is_some}
 use Rattle.std.specs.List.{list_any}
@@ -18,7 +17,7 @@ use Rattle.kube_types.specs.Uids.{uid_of_serial}
 use Rattle.kube_types.specs.Bindings.{pv_protection, pvc_protection, is_empty, is_bound, is_ended, is_completed, is_protected_volume, is_protected_claim, carries, names_claim, ref_uid}
 use Rattle.kube_types.proofs.KeyOrder.{row_at-put_row, row_at-put_row_other}
 use Rattle.call_types.specs.declared.setup.Setup.{Setup}
-use Rattle.binder_model.specs.Imports.{most_imported, most_serials, serial_or_zero, greatest_number, base_of, binds_claim, is_imported_as_lost, imported_phase, imported_meta, imported_object, is_dropped, rows_of_imports, shares_uid, names_another, refers_to_another, is_ended_for, ImportsPass}
+use Rattle.binder_model.specs.Imports.{most_serials, serial_or_zero, binds_claim, is_imported_as_lost, imported_phase, imported_meta, imported_object, is_dropped, rows_of_imports, shares_uid, names_another, refers_to_another, is_ended_for, ImportsPass}
 use Rattle.binder_model.specs.Store.{with_finalizer}
 use Rattle.binder_model.specs.World.{world, base}
 use Rattle.binder_model.specs.Safe.{is_lost_import, was_imported_as_lost}

@@ -1,6 +1,6 @@
 -- UIDs and keys: each part is kept where the store moves.
-use Rattle.std.proofs.Common.{sym, subst, inl, inr, ap, ◌∙◌, arith}
-use Rattle.std.specs.Prelude.{◌≡◌, ◌≤◌, true, List, ◌∷◌, Some, is_some}
+use Rattle.std.proofs.Common.{sym, subst, inl, inr, ap, ◌∙◌}
+use Rattle.std.specs.Prelude.{◌≡◌, true, List, ◌∷◌, Some, is_some}
 use Rattle.kube_types.specs.declared.key.Key.{Key}
 use Rattle.kube_types.specs.declared.objects.Volume.{Volume as VolumeData}
 use Rattle.kube_types.specs.declared.objects.Object.{Object}
@@ -9,13 +9,11 @@ use Rattle.kube_types.specs.Keys.{meta_of, key_of, row_at}
 use Rattle.kube_types.proofs.KeyOrder.{row_at_key}
 use Rattle.call_types.specs.declared.entry.Entry.{Entry}
 use Rattle.call_types.specs.declared.setup.Setup.{Setup}
-use Rattle.binder_model.specs.Told.{objects_of_events}
 use Rattle.binder_model.specs.World.{world}
-use Rattle.world_moves.specs.Writes.{IsIn}
 use Rattle.world_invariant.specs.Was.{IsPlaced}
-use Rattle.world_invariant.specs.Invariant.{Invariant, IsOld, IsLater}
+use Rattle.world_invariant.specs.Invariant.{Invariant, IsLater}
 use Rattle.world_invariant.specs.Good.{MovesAt}
-use Rattle.world_invariant.proofs.Came.{row_was, IsNew, new_or, one_written, fresh, older, itself, then, volume_came}
+use Rattle.world_invariant.proofs.Came.{row_was, IsNew, new_or, one_written, fresh, itself, then, volume_came}
 use Rattle.std.proofs.lemmas.Option.{same_Some}
 use Rattle.model_laws.specs.Stood.{Stood}
 use Rattle.world_invariant.proofs.Came.{old_stood}
@@ -94,4 +92,3 @@ module _ (setup : Setup) (e : Entry) (past : List Entry) (inv : Invariant setup 
       | inr came ↦ subst IsPlaced (sym came.next.key) (inv.placed came.old (row_was setup past (key_of (Volume v)) (Volume came.old) came.next.there))
     ]
   ]
-

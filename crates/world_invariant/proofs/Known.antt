@@ -12,19 +12,17 @@ use Rattle.kube_types.proofs.KeyOrder.{row_at_key}
 use Rattle.call_types.specs.declared.entry.Entry.{Entry}
 use Rattle.call_types.specs.declared.setup.Setup.{Setup}
 use Rattle.call_types.specs.declared.reply.Reply.{Reply}
-use Rattle.binder_model.specs.Told.{SomeOf, TellsObject, ToldObject, ToldVolume, ToldClaim, IsVolumeWith, IsClaimWith, objects_in, TellsLive, IsLiveAnswer, own}
+use Rattle.binder_model.specs.Told.{SomeOf, ToldObject, ToldVolume, ToldClaim, IsVolumeWith, IsClaimWith, objects_in, TellsLive, IsLiveAnswer, own}
 use Rattle.binder_model.specs.ObjectKeys.{claim_key}
 use Rattle.binder_model.specs.At.{IsElsewhere}
 use Rattle.binder_model.specs.BinderLicence.{IsReferring, IsGone, WasReadGone}
-use Rattle.binder_model.specs.World.{world, effect, reply_to}
+use Rattle.binder_model.specs.World.{world}
 use Rattle.model_laws.specs.Reads.{found}
-use Rattle.model_laws.proofs.Readings.{gets_tell_what_stands}
 use Rattle.world_moves.specs.Writes.{IsIn}
 use Rattle.world_invariant.specs.Was.{IsNotThere, IsAway}
 use Rattle.world_invariant.specs.Invariant.{Invariant, IsReferred, IsOld}
 use Rattle.world_invariant.specs.Good.{Good, IsTrue}
 use Rattle.world_invariant.proofs.Came.{row_was, older}
-use Rattle.model_laws.proofs.Stood.{stood}
 use Rattle.world_invariant.proofs.KeptBindings.{kept_not_there, other_stays}
 use Rattle.kube_types.specs.declared.key.Key.{Key}
 use Rattle.call_types.specs.declared.request.Request.TheVariants as requests

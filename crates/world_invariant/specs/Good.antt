@@ -1,10 +1,10 @@
 -- A history along which the invariant held and the store moved as it may; and what it is that a seat was told the truth.
-use Rattle.std.specs.Prelude.{ℕ, ◌≡◌, List, [], ◌∷◌}
+use Rattle.std.specs.Prelude.{◌≡◌, List, [], ◌∷◌}
 use Rattle.kube_types.specs.declared.objects.Object.{Object}
 use Rattle.call_types.specs.declared.entry.Entry.{Entry}
 use Rattle.call_types.specs.declared.setup.Setup.{Setup}
 use Rattle.binder_model.specs.World.{world, effect, reply_to}
-use Rattle.binder_model.specs.Told.{ToldObject, own}
+use Rattle.binder_model.specs.Told.{ToldObject}
 use Rattle.world_moves.specs.Moves.{Moves}
 use Rattle.world_invariant.specs.Was.{Made}
 use Rattle.world_invariant.specs.Invariant.{Invariant}

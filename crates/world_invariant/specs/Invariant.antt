@@ -1,5 +1,5 @@
 -- What holds in every world of a run.
-use Rattle.std.specs.Prelude.{false, ℕ, ◌≡◌, ◌≢◌, ◌⊎◌, ◌<◌, ◌≤◌, true, List, [], Option, Some, is_some}
+use Rattle.std.specs.Prelude.{false, ℕ, ◌≡◌, ◌≢◌, ◌⊎◌, ◌<◌, true, List, [], Option, Some, is_some}
 use Rattle.kube_types.specs.declared.uid.Uid.{Uid}
 use Rattle.kube_types.specs.declared.key.Key.{Key}
 use Rattle.kube_types.specs.declared.objects.Ref.{Ref}
@@ -12,7 +12,6 @@ use Rattle.kube_types.specs.Uids.{uid_of_serial}
 use Rattle.kube_types.specs.Bindings.{is_ended, is_bound, is_completed, is_protected_volume}
 use Rattle.call_types.specs.declared.entry.Entry.{Entry}
 use Rattle.call_types.specs.declared.setup.Setup.{Setup}
-use Rattle.binder_model.specs.Told.{SomeOf, objects_of_events}
 use Rattle.binder_model.specs.ObjectKeys.{volume_key, claim_key}
 use Rattle.binder_model.specs.World.{World, world}
 use Rattle.world_moves.specs.Whence.{Keeps}

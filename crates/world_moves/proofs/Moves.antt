@@ -1,21 +1,17 @@
 -- How the store moves at one entry, whatever the entry: what it does at each key.
 use Rattle.std.proofs.Common.{sym, refl, subst, inl, inr, ap, ◌∙◌, arith}
-use Rattle.std.specs.Prelude.{◌≡◌, ◌⊎◌, List, ◌∷◌, ◌++◌, Some}
+use Rattle.std.specs.Prelude.{◌≡◌}
 use Rattle.kube_types.specs.declared.objects.Object.{Object}
-use Rattle.kube_types.specs.Keys.{AreRows, meta_of, key_of, row_at, put_row, without_row}
+use Rattle.kube_types.specs.Keys.{AreRows, key_of, row_at, put_row, without_row}
 use Rattle.kube_types.proofs.KeyOrder.{row_at-put_row, row_at-put_row_other, row_at-without_row, row_at-without_row_other}
 use Rattle.call_types.specs.declared.setup.Setup.{Setup}
 use Rattle.call_types.specs.declared.request.SeatKind.{SeatKind}
 use Rattle.call_types.specs.declared.request.Request.{Request}
-use Rattle.call_types.specs.declared.reply.Change.{Change}
-use Rattle.call_types.specs.declared.reply.Change.TheVariants as changes
-use Rattle.call_types.specs.declared.reply.Event.{Event}
-use Rattle.binder_model.specs.Told.{objects_of_event, objects_of_events}
 use Rattle.binder_model.specs.Answers.{Outcome, Says, Stores, Removes, after}
 use Rattle.binder_model.specs.World.{World, Effect, OnStore, OnDevices, SetsMoment, world_after, log_after}
 use Rattle.model_laws.proofs.Kept.{key_tells}
 use Rattle.model_laws.proofs.Histories.{rows_after}
-use Rattle.world_moves.specs.Writes.{Writes, IsIn, FormOf, EffectOf}
+use Rattle.world_moves.specs.Writes.{Writes, FormOf, EffectOf}
 use Rattle.world_moves.proofs.Effects.{effect_form}
 use Rattle.world_moves.specs.Moves.{IsWritten, Moves, CallsMoveTheStore}
 use Rattle.std.proofs.lemmas.Option.{same_Some, none-some}

@@ -1,30 +1,19 @@
 -- What an answer tells that is no watch's stands in the store at that moment.
-use Rattle.std.proofs.Common.{refl, subst, inl, inr}
-use Rattle.std.specs.Prelude.{if◌then◌else◌, ℕ, ◌≡◌, Bool, true, false, List, [], ◌∷◌, Some, reverse, filter, take, nat_lt}
-use Rattle.kube_types.specs.declared.parts.Kind.{Kind}
+use Rattle.std.proofs.Common.{subst, inl, inr}
+use Rattle.std.specs.Prelude.{◌≡◌, false, [], Some}
 use Rattle.kube_types.specs.declared.objects.Object.{Object}
 use Rattle.kube_types.specs.Keys.{key_of, row_at, put_row}
 use Rattle.kube_types.proofs.KeyOrder.{row_at-put_row}
 use Rattle.call_types.specs.declared.setup.Setup.{Setup}
 use Rattle.call_types.specs.declared.request.SeatKind.{SeatKind}
 use Rattle.call_types.specs.declared.request.Request.{Request}
-use Rattle.call_types.specs.declared.request.Request.TheVariants as requests
-use Rattle.call_types.specs.declared.reply.Event.{Event}
-use Rattle.call_types.specs.declared.reply.Reply.TheVariants.{Refused}
 use Rattle.binder_model.specs.Answers.{Says, Stores, Removes, reply_of, after}
-use Rattle.binder_model.specs.Told.{SomeOf, objects_in, objects_of_event, objects_of_events}
-use Rattle.binder_model.specs.Watching.{oldest, is_later, most_events}
-use Rattle.binder_model.specs.World.{base, World, Effect, OnStore, OnDevices, SetsMoment, effect, watch, reply_to, world_after}
+use Rattle.binder_model.specs.Told.{objects_in}
+use Rattle.binder_model.specs.World.{World, Effect, OnStore, OnDevices, SetsMoment, reply_to, world_after}
 use Rattle.world_moves.specs.Writes.{IsIn}
 use Rattle.world_moves.specs.Tellings.{TellsNow, AnswersTellTheMoment}
 use Rattle.world_moves.specs.Writes.{is_watch, EffectOf}
-use Rattle.kube_types.specs.declared.names.Field.TheVariants as fields
-use Rattle.call_types.specs.declared.reply.Refusal.TheVariants.{Invalid, Gone}
-use Rattle.call_types.specs.declared.reply.Reply.TheVariants.{Events}
-use Rattle.binder_model.specs.Watching.{told_events}
 use Rattle.world_moves.proofs.Effects.{effect_form}
-use Rattle.model_laws.proofs.Lists.{some_left, some_right}
-use Rattle.model_laws.proofs.Lists.{some_or, some_take, some_reverse, some_filter}
 use Rattle.world_moves.proofs.DeviceMoves.{devices_mute}
 
 -- what an effect tells that is no watch's stands before it or after it

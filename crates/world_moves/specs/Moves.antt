@@ -3,10 +3,9 @@ use Rattle.std.specs.Prelude.{◌≡◌, ◌⊎◌, ◌+◌, ◌≤◌, Option, 
 use Rattle.kube_types.specs.declared.key.Key.{Key}
 use Rattle.kube_types.specs.declared.objects.Object.{Object}
 use Rattle.kube_types.specs.Keys.{AreRows, key_of, row_at}
-use Rattle.binder_model.specs.Told.{objects_of_events}
 use Rattle.binder_model.specs.Answers.{Stores, Removes}
 use Rattle.binder_model.specs.World.{World, Effect, OnStore, effect, world_after}
-use Rattle.world_moves.specs.Writes.{IsLeaving, IsIn}
+use Rattle.world_moves.specs.Writes.{IsLeaving}
 use Rattle.call_types.specs.declared.setup.Setup.{Setup}
 use Rattle.call_types.specs.declared.request.SeatKind.{SeatKind}
 use Rattle.call_types.specs.declared.request.Request.{Request}

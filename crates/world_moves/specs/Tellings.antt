@@ -3,7 +3,7 @@ use Rattle.std.specs.Prelude.{◌≡◌, ◌⊎◌, false, Some}
 use Rattle.kube_types.specs.declared.objects.Object.{Object}
 use Rattle.kube_types.specs.Keys.{key_of, row_at}
 use Rattle.call_types.specs.declared.request.Request.{Request}
-use Rattle.binder_model.specs.Told.{objects_in, objects_of_events}
+use Rattle.binder_model.specs.Told.{objects_in}
 use Rattle.binder_model.specs.World.{World, Effect, reply_to, world_after}
 use Rattle.world_moves.specs.Writes.{IsIn, is_watch}
 use Rattle.call_types.specs.declared.setup.Setup.{Setup}
