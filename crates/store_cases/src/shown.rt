@@ -6,7 +6,7 @@ use crate::words::{Named, key, kind, number, text};
 use call_types::reply::{Refusal, Reply};
 use call_types::request::Request;
 use call_types::setup::Setup;
-use history_text::entries::print_setup;
+use history_text::setups::print_setup;
 use kube_types::key::meta_of;
 use kube_types::lookup::Lookup;
 use kube_types::objects::Object;
