@@ -9,12 +9,12 @@ ghost use Rattle.binder_console.specs.Replays.{replay_text};
 use call_types::setup::Setup;
 use history_text::counts::summary_of;
 use history_text::lines::{Lines, push_final, push_history};
+use history_text::summary::Ending;
 use plain_binder::Run;
 use plain_data::copies::OutOfMemory;
 use plain_data::items::Items;
 use plain_data::text::Bytes;
 use std::alloc::Global;
-use history_text::summary::Ending;
 
 /// The history, the objects and the numbers of a run that asked no device.
 #[tactic(auto, unfolding(crate::specs::Replays::replay_text, crate::specs::Replays::settled_summary))]
