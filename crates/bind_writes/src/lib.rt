@@ -1,4 +1,8 @@
 //! The four writes of a binding, and unbinding.
+//!
+//! Promises: `next_write` is the first of the four writes that would change anything and may be made, at
+//! the version of the object on which it was decided; `unbind` takes back what the controller had set. Not
+//! said: that the write is answered Done.
 #![tactic(auto)]
 
 mod request;

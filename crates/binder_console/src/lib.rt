@@ -1,4 +1,8 @@
 //! The program: it reads its words and its input, replays or checks, and prints.
+//!
+//! `console::pvbind` is the one call that `main` makes, and its clauses are the product's promises: which
+//! bytes are written with each status, and what holds of the history that they tell. Not said: that memory
+//! is there, and what standard input and output really do.
 #![tactic(auto)]
 
 pub mod answers;

@@ -1,2 +1,6 @@
-//! The definitions of the store, of runs and of safety, and laws over them alone.
+//! The definitions of the store, of the devices, of worlds and histories, of what a seat was told and
+//! may write, of safety, and of what is due. `docs/MODEL.md` leads through them.
+//!
+//! No code stands here. What is proved of the definitions stands in `model_laws`, `model_examples` and
+//! `safety_law`.
 #![tactic(auto)]

@@ -1,5 +1,9 @@
 //! Which fields of objects are invalid, what users may write, which objects of an older store are refused, and
 //! what admission adds.
+//!
+//! Promises: `check_create`, `check_update`, `guard` and `check_import` answer the first fault of the
+//! definition's order, and Ok exactly where there is none; `admit` gives what admission makes of an object.
+//! Not said: whether a pod's node is there, which only the store can know.
 #![tactic(auto)]
 
 mod admission;

@@ -1,4 +1,7 @@
 //! Which objects leave the store, and when a finalizer may be added.
+//!
+//! Promises: `on_delete` and `on_update` give the fate that the definition gives, and take no memory.
+//! Not said: how a pod leaves that a node runs; that is the verb `FinishPod` of the store.
 #![tactic(auto)]
 
 ghost use Rattle.std.specs.Prelude.{◌≡◌, ◌&&◌, ℕ, List};

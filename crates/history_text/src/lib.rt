@@ -1,4 +1,7 @@
 //! The text of a history and of a run's final state.
+//!
+//! Promises: setup, entries, final objects and summary are written exactly as their canonical lines; an
+//! object that many entries tell is printed once and copied. Not said: that the entries are a history.
 #![tactic(auto)]
 
 pub mod asks;

@@ -1,4 +1,7 @@
 //! Label selectors and node selector terms.
+//!
+//! Promises: `selects` and `admits` answer exactly what the definition says of a selector and of node
+//! terms; both take no memory. Not said: that a selector was valid where it was made.
 #![tactic(auto)]
 
 ghost use Rattle.std.specs.Prelude.{◌≡◌};

@@ -1,4 +1,8 @@
 //! Quantities: amounts of bytes, written as Kubernetes writes them.
+//!
+//! Promises: `amount_bytes` and `read_amount` give the least whole number not below the written one,
+//! exactly where the grammar has the text, and else the first refusal with its place; `laws` says what
+//! places rest on. Not said: anything of a number above 2^63 - 1, which is refused.
 #![tactic(auto)]
 
 mod amounts;

@@ -1,4 +1,8 @@
 //! A store of objects, with a number for each write.
+//!
+//! Promises: `Store::call` answers each verb by the definition `outcome`, refusals in their order, and
+//! leaves exactly the store that it says; `answer` gives the same reply and changes nothing; after want of
+//! memory nothing has changed. Not said: that a controller may make the call; that is the licence's.
 #![tactic(auto)]
 
 /// Sets fields of the metadata of an object to the values of these names.

@@ -1,4 +1,8 @@
 //! Which volume serves a claim: the eligible ones, and the best of them.
+//!
+//! Promises: `satisfies` is eligible by the definition; `best` is a candidate before which no candidate
+//! stands, or none where there is none; both take no memory. Not said: that nobody else takes the volume;
+//! that is for the writes to find out.
 #![tactic(auto)]
 
 mod choice;
