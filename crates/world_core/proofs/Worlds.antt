@@ -8,7 +8,7 @@ use Rattle.call_types.specs.declared.request.SeatKind.{SeatKind}
 use Rattle.call_types.specs.declared.request.Request.{Request}
 use Rattle.call_types.specs.declared.reply.Event.{Event}
 use Rattle.call_types.specs.declared.reply.Reply.{Reply}
-use Rattle.binder_model.specs.Store.{first_moment, no_store}
+use Rattle.binder_model.specs.Store.{first_moment}
 use Rattle.binder_model.specs.Imports.{ImportsPass, base_of, rows_of_imports}
 use Rattle.binder_model.specs.Devices.{epoch_of, no_devices}
 use Rattle.binder_model.specs.World.{World, base, first_world, world}
@@ -64,20 +64,21 @@ kept_as_before setup past old new b k = record {
 
 -- the beginning
 
-pub first_parts : (setup : Setup) (parts : Parts) → setup.imports ≡ [] → parts.store ≡ no_store → parts.log.base ≡ 0 → parts.log.version ≡ 0
-    → StandsFor parts.log [] → parts.devices ≡ record { setup = record { pools = setup.pools; faults = setup.faults; imports = [] }; devices = no_devices }
+pub first_parts : (setup : Setup) (parts : Parts) → parts.store ≡ record { rows = rows_of_imports setup.imports setup.imports; version = base_of setup.imports }
+    → parts.log.base ≡ parts.store.version → parts.log.version ≡ parts.store.version → StandsFor parts.log []
+    → parts.devices ≡ record { setup = record { pools = setup.pools; faults = setup.faults; imports = [] }; devices = no_devices }
     → parts.moment ≡ first_moment → AreOf setup parts (first_world setup)
-first_parts setup parts none store base version log devices moment = record {
-  store = store ∙ λ i. record { rows = rows_of_imports (sym none i) (sym none i); version = base_of (sym none i) };
+first_parts setup parts store base version log devices moment = record {
+  store = store;
   moment = moment;
   devices = devices;
-  base = base ∙ ap base_of (sym none);
-  version = version ∙ ap base_of (sym none);
+  base = base ∙ ap (λ s. s.version) store;
+  version = version ∙ ap (λ s. s.version) store;
   log = log;
 }
 
-pub kept_first : (setup : Setup) (parts : Parts) → setup.imports ≡ [] → AreOf setup parts (first_world setup) → IsKept setup [] parts
-kept_first setup parts none a = record { imports = subst (λ os. ImportsPass os) (sym none) tt; short = omega arith; history = tt; stand = a }
+pub kept_first : (setup : Setup) (parts : Parts) → ImportsPass setup.imports → AreOf setup parts (first_world setup) → IsKept setup [] parts
+kept_first setup parts pass a = record { imports = pass; short = omega arith; history = tt; stand = a }
 
 -- one entry more
 

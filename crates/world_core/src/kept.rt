@@ -1,6 +1,7 @@
 //! A world whose history is a run.
 
 ghost use Rattle.std.specs.Prelude.{◌≡◌, ◌<◌, ◌≤◌, ◌∷◌, [], IfOk, OnErr, length};
+ghost use Rattle.binder_model.specs.Imports.{ImportsPass};
 ghost use Rattle.binder_model.specs.Licence.{Licensed};
 ghost use Rattle.binder_model.specs.Promises.{IsRunOf};
 ghost use Rattle.binder_model.specs.Run.{Run};
@@ -40,15 +41,24 @@ impl Model for KeptWorld {
 }
 
 impl KeptWorld {
-    /// The world with which a history begins, with room for so many entries.
+    /// The world with which a history begins: the imports of the setup, and room for so many entries.
     pub fn new(alloc: Global, setup: &Setup, entries: usize) -> Result<KeptWorld, OutOfMemory>
-        requires { setup.now.imports ≡ [] }
+        requires { ImportsPass setup.now.imports }
         ensures setup { IfOk result (λ k. k.setup ≡ setup.now) }
         ensures past { IfOk result (λ k. k.past ≡ []) }
         ensures room { IfOk result (λ k. k.room ≡ entries) }
     {
         let world = World::new(alloc, setup, entries)?;
         Ok(KeptWorld { world })
+    }
+
+    /// A world whose history is a run.
+    pub fn of(world: World) -> KeptWorld
+        requires { Run world.setup world.past }
+        ensures { result ≡ world }
+    {
+        let _ = world.history();
+        KeptWorld { world }
     }
 
     /// Makes one whole call. A controller's request must be licensed after its seat's own earlier entries; of a user's

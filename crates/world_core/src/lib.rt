@@ -6,5 +6,6 @@
 
 pub mod kept;
 pub mod laws;
-pub mod parts;
+mod moments;
+mod parts;
 pub mod world;

@@ -2,16 +2,16 @@
 
 ghost use Rattle.std.specs.Prelude.{◌≡◌, ◌+◌, ◌-◌, ◌^◌, ◌<◌, true, [], Some, None, IfOk, IfSome, OnOk, OnErr, List};
 ghost use Rattle.call_types.specs.declared.reply.Event.{Event};
-ghost use Rattle.std.specs.Cmp.Lexicographic.{pointwise};
 ghost use Rattle.call_types.specs.declared.reply.Reply.TheVariants.{Refused};
 ghost use Rattle.call_types.specs.declared.request.Request.TheVariants.{SetTime, Watch};
 ghost use Rattle.binder_model.specs.Answers.{after, is_for_store, is_user, reply_of};
 ghost use Rattle.device_model.specs.Kept.{is_for_devices};
-ghost use Rattle.binder_model.specs.World.{first_world, fits_shape, is_time, stale_epoch};
+ghost use Rattle.binder_model.specs.World.{first_world, stale_epoch};
 ghost use Rattle.version_store.specs.Made.{outcome_of};
 ghost use Rattle.watch_log.specs.Kept.{Log, StandsFor};
 ghost use Rattle.world_core.specs.Moves.{AreAsBefore, AreOf, IsAnswered, Logs, MayMove, event_of, made_of, version_after, with_event};
 
+use crate::moments::{FIRST_MOMENT, is_time};
 use call_types::reply::{Change, Event, Refusal, Reply};
 use call_types::request::{Request, SeatKind};
 use call_types::setup::Setup;
@@ -112,38 +112,6 @@ fn stale_epoch(devices: &Devices, request: &Request) -> Option<u64>
     }
 }
 
-fn fits_shape(shape: u8, byte: u8) -> bool
-    ensures { result ≡ fits_shape shape byte }
-{
-    if shape == 100 {
-        48 <= byte && byte <= 57
-    } else {
-        shape == byte
-    }
-}
-
-/// Whether each byte fits that of the shape.
-fn fits(shape: &[u8], bytes: &[u8]) -> bool
-    ensures { result ≡ pointwise fits_shape shape.now bytes.now }
-{
-    if shape.len() != bytes.len() {
-        return false;
-    }
-    for i in 0..shape.len() {
-        if !fits_shape(shape[i], bytes[i]) {
-            return false;
-        }
-    }
-    true
-}
-
-/// Whether the text has the shape of a moment.
-fn is_time(text: &Text) -> bool
-    ensures { result ≡ is_time text.now }
-{
-    fits(b"dddd-dd-ddTdd:dd:ddZ", text.as_str().as_bytes())
-}
-
 /// A refusal and its copy.
 fn refuse(alloc: Global, refusal: Refusal) -> Result<(Reply, Reply), OutOfMemory>
     ensures told { IfOk result (λ r. r.0 ≡ Refused refusal) }
@@ -166,14 +134,15 @@ impl Parts {
     /// The parts with which a world begins.
     #[tactic(auto, using(crate::proofs::Worlds::first_parts))]
     pub fn new(alloc: Global, setup: &Setup) -> Result<Parts, OutOfMemory>
-        requires { setup.now.imports ≡ [] }
         ensures { IfOk result (λ parts. AreOf setup.now parts (first_world setup.now)) }
     {
+        let store = Store::from_imports(alloc, setup.imports.as_slice())?;
+        let log = WatchLog::from_base(alloc, store.version());
         Ok(Parts {
-            store: Store::new(alloc),
-            log: WatchLog::new(alloc),
+            store,
+            log,
             devices: Devices::new(alloc, setup.pools.as_slice(), setup.faults.as_slice())?,
-            moment: Text::new(alloc, "2000-01-01T00:00:00Z")?,
+            moment: Text::new(alloc, FIRST_MOMENT)?,
         })
     }
 

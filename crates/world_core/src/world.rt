@@ -75,9 +75,9 @@ fn make_room(entries: &mut Vec<Entry>) -> Result<(), OutOfMemory>
 }
 
 impl World {
-    /// The world with which a history begins, with room for so many entries.
+    /// The world with which a history begins: the imports of the setup, and room for so many entries.
     pub fn new(alloc: Global, setup: &Setup, entries: usize) -> Result<World, OutOfMemory>
-        requires { setup.now.imports ≡ [] }
+        requires { ImportsPass setup.now.imports }
         ensures setup { IfOk result (λ w. w.setup ≡ setup.now) }
         ensures past { IfOk result (λ w. w.past ≡ []) }
         ensures room { IfOk result (λ w. w.room ≡ entries) }
