@@ -4,7 +4,8 @@ use Rattle.kube_types.specs.declared.parts.Kind.{Kind}
 use Rattle.kube_types.specs.declared.objects.Class.{Class as ClassData}
 use Rattle.kube_types.specs.declared.objects.Object.{Object}
 use Rattle.kube_types.specs.declared.objects.Object.TheVariants.{Class}
-use Rattle.kube_types.specs.Keys.{is_of_kind}
+use Rattle.kube_types.specs.Keys.{is_of_kind, put_row}
+use Rattle.binder_model.specs.Imports.{is_dropped, imported_object}
 use Rattle.binder_model.specs.Store.{State, is_default, newer_class}
 use Rattle.binder_model.specs.Answers.{Outcome, Says, Stores, Removes, is_in_namespace}
 use Rattle.version_store.specs.declared.outcome.Made.{Made}
@@ -17,6 +18,10 @@ outcome_of (made.Removes o) = Removes o
 
 abbrev pub state_of : List Object → ℕ → State
 state_of rows version = record { rows = rows; version = version }
+
+-- the rows with one import more, unless it would have left
+abbrev pub with_import : List Object → Object → List Object → List Object
+with_import imports o rows = if is_dropped o then rows else put_row (imported_object imports o) rows
 
 -- the default class of an object and of those after it
 abbrev pub default_from : Object → Option ClassData → Option ClassData

@@ -30,6 +30,7 @@ macro_rules! set_meta {
 
 mod classes;
 mod edits;
+mod imports;
 pub mod outcome;
 pub mod store;
 mod verbs;

@@ -5,9 +5,11 @@ ghost use Rattle.std.specs.Option.{option_copied};
 ghost use Rattle.kube_types.specs.Keys.{AreRows, key_of, put_row, row_at, rows_of, without_row};
 ghost use Rattle.call_types.specs.declared.reply.Reply.TheVariants as replies;
 ghost use Rattle.binder_model.specs.Store.{no_store};
+ghost use Rattle.binder_model.specs.Imports.{base_of, rows_of_imports};
 ghost use Rattle.binder_model.specs.Answers.{after, is_for_store, outcome, reply_of};
 ghost use Rattle.version_store.specs.Made.{outcome_of};
 
+use crate::imports::{base_of, rows_of_imports};
 use crate::outcome::Made;
 use crate::verbs::outcome;
 use call_types::reply::Reply;
@@ -96,7 +98,19 @@ impl Store {
         }
     }
 
-    /// The number of writes that were made.
+    /// The store with which a world of these imports begins.
+    pub fn from_imports(alloc: Global, imports: &[Object]) -> Result<Store, OutOfMemory>
+        ensures { IfOk result (λ s. s ≡ record { rows = rows_of_imports imports.now imports.now; version = base_of imports.now }) }
+    {
+        let rows = rows_of_imports(alloc, imports)?;
+        Ok(Store {
+            alloc,
+            rows,
+            version: base_of(imports),
+        })
+    }
+
+    /// The number of the last write: at first that with which the imports begin, and one more for each write.
     pub fn version(&self) -> Version
         ensures { result ≡ self.now.version }
     {

@@ -1,0 +1,247 @@
+//! The store with which a world of imports begins.
+
+ghost use Rattle.std.specs.Prelude.{◌≡◌, ◌∷◌, IfOk, OnOk};
+ghost use Rattle.std.specs.List.{list_any};
+ghost use Rattle.kube_types.specs.Bindings.{is_bound, pv_protection, pvc_protection, ref_uid};
+ghost use Rattle.kube_types.specs.Keys.{AreRows};
+ghost use Rattle.binder_model.specs.Store.{with_finalizer};
+ghost use Rattle.binder_model.specs.Imports.{base_of, binds_claim, greatest_number, imported_meta, imported_object, imported_phase, is_dropped, is_imported_as_lost, reference_of, rows_of_imports, serial_of, serial_or_zero};
+ghost use Rattle.version_store.specs.Made.{with_import};
+
+use field_rules::add_finalizer;
+use finalizer_rules::leaves;
+use kube_types::bindings::{
+    PV_PROTECTION, PVC_PROTECTION, carries, is_completed, is_deleting, is_empty, is_scheduled,
+};
+use kube_types::copies::{OutOfMemory, Plain};
+use kube_types::key::{key_of, meta_of};
+use kube_types::objects::{Claim, Meta, Object, Version, Volume};
+use kube_types::parts::{ClaimPhase, VolumePhase};
+use kube_types::table::put_in;
+use kube_types::text::Text;
+use kube_types::uid::Uid;
+use std::alloc::Global;
+
+/// The creation of an object that names none.
+const FIRST_MOMENT: &str = "2000-01-01T00:00:00Z";
+
+/// The UID of serial 0, and how many serials there are.
+const FIRST_UID: u128 = 0x0000_0000_0000_8000_8000_0000_0000_0000;
+
+const SERIALS: u128 = 0x4000_0000_0000_0000;
+
+fn serial_of(uid: Uid) -> Option<u64>
+    ensures { result ≡ serial_of uid }
+{
+    if FIRST_UID <= uid.0 && uid.0 < FIRST_UID + SERIALS {
+        Some((uid.0 - FIRST_UID) as u64)
+    } else {
+        None
+    }
+}
+
+fn serial_or_zero(uid: Option<Uid>) -> u64
+    ensures { result ≡ serial_or_zero uid }
+{
+    match uid {
+        None => 0,
+        Some(uid) => serial_of(uid).unwrap_or(0),
+    }
+}
+
+fn reference_uid(object: &Object) -> Option<Uid>
+    ensures { result ≡ ref_uid (reference_of object.now) }
+{
+    match object {
+        Object::Volume(volume) => match &volume.claim_ref {
+            None => None,
+            Some(reference) => reference.uid,
+        },
+        _ => None,
+    }
+}
+
+/// The greatest of the object's version and of the serials that stand in it.
+fn greatest_number(object: &Object) -> Version
+    ensures { result ≡ greatest_number object.now }
+{
+    let meta = meta_of(object);
+    let serial = serial_or_zero(meta.uid);
+    let reference = serial_or_zero(reference_uid(object));
+    meta.version.max(serial.max(reference))
+}
+
+/// The version with which a world of these imports begins.
+pub fn base_of(imports: &[Object]) -> Version
+    ensures { result ≡ base_of imports.now }
+{
+    let mut base = 0;
+    let mut left = imports.len();
+    while left > 0 {
+        left -= 1;
+        base = greatest_number(&imports[left]).max(base);
+    }
+    base
+}
+
+fn is_bound(phase: VolumePhase) -> bool
+    ensures { result ≡ is_bound phase }
+{
+    match phase {
+        VolumePhase::Bound => true,
+        _ => false,
+    }
+}
+
+fn binds_claim(object: &Object, claim: &Claim) -> bool
+    ensures { result ≡ binds_claim claim.now object.now }
+{
+    match object {
+        Object::Volume(volume) => {
+            volume.meta.name.is(claim.volume_name.as_str())
+                && carries(volume, claim)
+                && is_bound(volume.phase)
+        }
+        _ => false,
+    }
+}
+
+fn is_bound_among(imports: &[Object], claim: &Claim) -> bool
+    ensures { result ≡ list_any (binds_claim claim.now) imports.now }
+{
+    for object in imports {
+        if binds_claim(object, claim) {
+            return true;
+        }
+    }
+    false
+}
+
+fn imported_phase(imports: &[Object], claim: &Claim) -> ClaimPhase
+    ensures { result ≡ imported_phase imports.now claim.now }
+{
+    if !is_completed(claim) {
+        return ClaimPhase::Pending;
+    }
+    if is_bound_among(imports, claim) {
+        claim.phase
+    } else {
+        ClaimPhase::Lost
+    }
+}
+
+fn imported_meta(alloc: Global, meta: &Meta) -> Result<Meta, OutOfMemory>
+    ensures { IfOk result (λ m. m ≡ imported_meta meta.now) }
+{
+    let mut imported = meta.copy(alloc)?;
+    if is_empty(&meta.created) {
+        imported.created = Text::new(alloc, FIRST_MOMENT)?;
+    }
+    Ok(imported)
+}
+
+fn protected_meta(alloc: Global, meta: &Meta, finalizer: &str) -> Result<Meta, OutOfMemory>
+    ensures { IfOk result (λ m. m ≡ record (imported_meta meta.now) { finalizers = with_finalizer finalizer.now meta.now.finalizers }) }
+{
+    let mut imported = imported_meta(alloc, meta)?;
+    add_finalizer(alloc, &mut imported.finalizers, finalizer)?;
+    Ok(imported)
+}
+
+fn imported_volume(alloc: Global, volume: &Volume) -> Result<Volume, OutOfMemory>
+    ensures { IfOk result (λ v. v ≡ record volume.now { meta = record (imported_meta volume.now.meta) { finalizers = with_finalizer pv_protection volume.now.meta.finalizers } }) }
+{
+    let meta = protected_meta(alloc, &volume.meta, PV_PROTECTION)?;
+    let mut imported = volume.copy(alloc)?;
+    imported.meta = meta;
+    Ok(imported)
+}
+
+fn imported_claim(alloc: Global, imports: &[Object], claim: &Claim) -> Result<Claim, OutOfMemory>
+    ensures { IfOk result (λ c. c ≡ record claim.now { meta = record (imported_meta claim.now.meta) { finalizers = with_finalizer pvc_protection claim.now.meta.finalizers }; phase = imported_phase imports.now claim.now }) }
+{
+    let meta = protected_meta(alloc, &claim.meta, PVC_PROTECTION)?;
+    let phase = imported_phase(imports, claim);
+    let mut imported = claim.copy(alloc)?;
+    imported.meta = meta;
+    imported.phase = phase;
+    Ok(imported)
+}
+
+/// What is made of an imported object.
+#[tactic(auto, unfolding(binder_model::specs::Imports::imported_object))]
+fn imported_object(
+    alloc: Global,
+    imports: &[Object],
+    object: &Object,
+) -> Result<Object, OutOfMemory>
+    ensures { IfOk result (λ o. o ≡ imported_object imports.now object.now) }
+{
+    match object {
+        Object::Class(class) => {
+            let meta = imported_meta(alloc, &class.meta)?;
+            let mut imported = class.copy(alloc)?;
+            imported.meta = meta;
+            Ok(Object::Class(imported))
+        }
+        Object::Node(node) => {
+            let meta = imported_meta(alloc, &node.meta)?;
+            let mut imported = node.copy(alloc)?;
+            imported.meta = meta;
+            Ok(Object::Node(imported))
+        }
+        Object::Volume(volume) => Ok(Object::Volume(imported_volume(alloc, volume)?)),
+        Object::Claim(claim) => Ok(Object::Claim(imported_claim(alloc, imports, claim)?)),
+        Object::Pod(pod) => {
+            let meta = imported_meta(alloc, &pod.meta)?;
+            let mut imported = pod.copy(alloc)?;
+            imported.meta = meta;
+            Ok(Object::Pod(imported))
+        }
+    }
+}
+
+/// Whether the object would have left.
+fn is_dropped(object: &Object) -> bool
+    ensures { result ≡ is_dropped object.now }
+{
+    match object {
+        Object::Class(_) | Object::Node(_) => leaves(object),
+        Object::Pod(pod) => is_deleting(&pod.meta) && !is_scheduled(pod),
+        _ => false,
+    }
+}
+
+/// Puts one of the imports in, unless it would have left.
+fn put_import(
+    alloc: Global,
+    rows: &mut Vec<Object>,
+    imports: &[Object],
+    object: &Object,
+) -> Result<(), OutOfMemory>
+    requires { AreRows rows.old.items }
+    ensures ok { OnOk result (rows.new.items ≡ with_import imports.now object.now rows.old.items) }
+    ensures rising { AreRows rows.new.items }
+{
+    if is_dropped(object) {
+        return Ok(());
+    }
+    let imported = imported_object(alloc, imports, object)?;
+    let key = key_of(alloc, &imported)?;
+    let _ = put_in(alloc, rows, &key, imported)?;
+    Ok(())
+}
+
+/// The rows that the imports make.
+pub fn rows_of_imports(alloc: Global, imports: &[Object]) -> Result<Vec<Object>, OutOfMemory>
+    ensures rows { IfOk result (λ rows. rows.items ≡ rows_of_imports imports.now imports.now) }
+    ensures rising { IfOk result (λ rows. AreRows rows.items) }
+{
+    let mut rows = Vec::new(alloc);
+    let mut left = imports.len();
+    while left > 0 {
+        left -= 1;
+        put_import(alloc, &mut rows, imports, &imports[left])?;
+    }
+    Ok(rows)
+}
