@@ -1,0 +1,7 @@
+//! What a seat was told, asked of its own entries: the conditions that the rows of the licence share.
+//! Nothing here takes memory.
+#![tactic(auto)]
+
+pub mod following;
+pub mod puts;
+pub mod told;
