@@ -2,6 +2,8 @@
 //! Nothing here takes memory.
 #![tactic(auto)]
 
+pub mod entries;
 pub mod following;
+pub mod newest;
 pub mod puts;
 pub mod told;
