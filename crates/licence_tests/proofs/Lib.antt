@@ -1,2 +1,3 @@
 pub mod Afters
 pub mod Fronts
+pub mod Twice

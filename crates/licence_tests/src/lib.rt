@@ -7,3 +7,4 @@ pub mod following;
 pub mod newest;
 pub mod puts;
 pub mod told;
+pub mod walks;

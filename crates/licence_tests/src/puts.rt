@@ -7,7 +7,7 @@ use plain_data::copies::{Plain, same_all};
 use plain_data::text::Text;
 use std::cmp::Ordering;
 
-fn is_pair(pair: &(Text, Text), key: &str, value: &str) -> bool
+pub(crate) fn is_pair(pair: &(Text, Text), key: &str, value: &str) -> bool
     ensures { IsTrue result ↔ (pair.now ≡ (key.now, value.now)) }
 {
     if pair.0.as_str() != key {
