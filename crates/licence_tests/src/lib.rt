@@ -7,5 +7,6 @@ pub mod entries;
 pub mod following;
 pub mod newest;
 pub mod puts;
+pub mod rows;
 pub mod told;
 pub mod walks;
