@@ -2,21 +2,16 @@
 
 ghost use Rattle.std.specs.Prelude.{◌≡◌, ◌↔◌, IsTrue, reverse, true, None};
 ghost use Rattle.call_types.specs.declared.request.SeatKind.TheVariants as seats;
-ghost use Rattle.binder_model.specs.Reading.{IsFrom, IsUnlisted, follow_on, following_of, follows, same_kind};
+ghost use Rattle.kube_types.specs.Keys.{same_kind};
+ghost use Rattle.binder_model.specs.Reading.{IsFrom, IsUnlisted, follow_on, following_of, follows};
 ghost use Rattle.licence_tests.specs.Following.{as_following};
 
 use call_types::entry::Entry;
 use call_types::reply::{Refusal, Reply};
 use call_types::request::{Request, SeatKind};
-use kube_types::key::kind_index;
+use kube_types::key::same_kind;
 use kube_types::objects::Version;
 use kube_types::parts::Kind;
-
-fn same_kind(left: Kind, right: Kind) -> bool
-    ensures { result ≡ same_kind left right }
-{
-    kind_index(left) == kind_index(right)
-}
 
 /// Where the seat stands after an answer.
 fn follow_on(

@@ -3,14 +3,14 @@
 ghost use Rattle.std.specs.Prelude.{◌≡◌, List, ℕ, None, reverse, if◌then◌else◌};
 ghost use Rattle.std.specs.Option.{option_copied};
 ghost use Rattle.std.specs.Ordering.{is_eq};
-ghost use Rattle.kube_types.specs.Keys.{key_cmp, key_of, row_at};
-ghost use Rattle.binder_model.specs.Told.{later, listing, lists_key, newest, object_of, of_event, presence, same_key, tells_of, told_by_events, told_of};
+ghost use Rattle.kube_types.specs.Keys.{key_cmp, key_of, row_at, same_key};
+ghost use Rattle.binder_model.specs.Told.{later, listing, lists_key, newest, object_of, of_event, presence, tells_of, told_by_events, told_of};
 ghost use Rattle.licence_tests.specs.Keyed.{as_telling, key_at};
 
 use call_types::entry::Entry;
 use call_types::reply::{Change, Event, Reply};
 use call_types::request::Request;
-use kube_types::key::{kind_index, kind_of, meta_of};
+use kube_types::key::{kind_index, kind_of, meta_of, same_kind};
 use kube_types::objects::{Object, Version};
 use kube_types::parts::Kind;
 use std::cmp::Ordering;
@@ -20,9 +20,7 @@ pub fn is_keyed(object: &Object, kind: Kind, namespace: &str, name: &str) -> boo
     ensures { result ≡ same_key (key_of object.now) (key_at kind namespace.now name.now) }
 {
     let meta = meta_of(object);
-    kind_index(kind_of(object)) == kind_index(kind)
-        && meta.namespace.is(namespace)
-        && meta.name.is(name)
+    same_kind(kind_of(object), kind) && meta.namespace.is(namespace) && meta.name.is(name)
 }
 
 fn is_row(object: &Object, kind: Kind, namespace: &str, name: &str) -> bool

@@ -10,7 +10,9 @@ ghost use Rattle.binder_model.specs.Told.{IsClaimWith, IsPodWith, IsVolumeWith, 
 
 use crate::told::{ObjectTest, told_object};
 use call_types::entry::Entry;
-use kube_types::objects::{Claim, Meta, Object, Pod, Version, Volume};
+use kube_types::objects::{Claim, Meta, Object, Version, Volume};
+use plain_data::copies::Plain;
+use plain_data::text::Text;
 
 /// A condition on a volume.
 pub trait VolumeTest {
@@ -79,7 +81,7 @@ pub fn told_claim<T: ClaimTest>(test: &T, mine: &[Entry]) -> bool
 }
 
 /// Whether a write with this version and name is at the object.
-fn is_written_at(given: Option<Version>, namespace: &str, name: &str, meta: &Meta) -> bool
+fn is_written_at(given: Option<Version>, namespace: &Text, name: &Text, meta: &Meta) -> bool
     ensures { IsTrue result ↔ IsWrittenAt given namespace.now name.now meta.now }
 {
     match given {
@@ -88,10 +90,10 @@ fn is_written_at(given: Option<Version>, namespace: &str, name: &str, meta: &Met
             if given != meta.version {
                 return false;
             }
-            if meta.namespace.as_str() != namespace {
+            if !meta.namespace.same(namespace) {
                 return false;
             }
-            meta.name.as_str() == name
+            meta.name.same(name)
         }
     }
 }
@@ -100,8 +102,8 @@ fn is_written_at(given: Option<Version>, namespace: &str, name: &str, meta: &Met
 #[derive(Drop)]
 struct VolumeAt<'a, T> {
     given: Option<Version>,
-    namespace: &'a str,
-    name: &'a str,
+    namespace: &'a Text,
+    name: &'a Text,
     row: &'a T,
 }
 
@@ -121,8 +123,8 @@ pub fn told_volume_at<T: VolumeTest>(
     row: &T,
     mine: &[Entry],
     given: Option<Version>,
-    namespace: &str,
-    name: &str,
+    namespace: &Text,
+    name: &Text,
 ) -> bool
     ensures { IsTrue result ↔ ToldVolume (λ v. IsWrittenAt given namespace.now name.now v.meta × T.allows row.now v) (reverse mine.now) }
 {
@@ -139,8 +141,8 @@ pub fn told_volume_at<T: VolumeTest>(
 #[derive(Drop)]
 struct ClaimAt<'a, T> {
     given: Option<Version>,
-    namespace: &'a str,
-    name: &'a str,
+    namespace: &'a Text,
+    name: &'a Text,
     row: &'a T,
 }
 
@@ -160,8 +162,8 @@ pub fn told_claim_at<T: ClaimTest>(
     row: &T,
     mine: &[Entry],
     given: Option<Version>,
-    namespace: &str,
-    name: &str,
+    namespace: &Text,
+    name: &Text,
 ) -> bool
     ensures { IsTrue result ↔ ToldClaim (λ c. IsWrittenAt given namespace.now name.now c.meta × T.allows row.now c) (reverse mine.now) }
 {
