@@ -2,4 +2,5 @@
 #![tactic(auto)]
 
 mod binder;
+mod guards;
 mod parts;

@@ -10,7 +10,7 @@ ghost use Rattle.binder_model.specs.Told.{IsClaimWith, IsPodWith, IsVolumeWith, 
 
 use crate::told::{ObjectTest, told_object};
 use call_types::entry::Entry;
-use kube_types::objects::{Claim, Meta, Object, Version, Volume};
+use kube_types::objects::{Claim, Meta, Object, Pod, Version, Volume};
 use plain_data::copies::Plain;
 use plain_data::text::Text;
 
@@ -62,6 +62,39 @@ impl<'a, T: ClaimTest> ObjectTest for OfClaims<'a, T> {
             _ => false,
         }
     }
+}
+
+/// A condition on a pod.
+pub trait PodTest {
+    ghost allows: { Self → PodData → Type 0 };
+
+    fn test(&self, pod: &Pod) -> bool
+        ensures { IsTrue result ↔ allows self.now pod.now };
+}
+
+/// The object is a pod of which the condition holds.
+#[derive(Drop)]
+pub struct OfPods<'a, T> {
+    pub test: &'a T,
+}
+
+impl<'a, T: PodTest> ObjectTest for OfPods<'a, T> {
+    ghost allows = { λ t o. IsPodWith (T.allows t.test.now) o };
+
+    fn test(&self, object: &Object) -> bool {
+        match object {
+            Object::Pod(pod) => self.test.test(pod),
+            _ => false,
+        }
+    }
+}
+
+/// Whether a pod was told of which the condition holds.
+pub fn told_pod<T: PodTest>(test: &T, mine: &[Entry]) -> bool
+    ensures { IsTrue result ↔ ToldPod (T.allows test.now) (reverse mine.now) }
+{
+    let test = OfPods { test };
+    told_object(&test, mine)
 }
 
 /// Whether a volume was told of which the condition holds.

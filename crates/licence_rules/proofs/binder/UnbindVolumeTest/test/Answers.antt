@@ -1,4 +1,4 @@
-use Rattle.std.proofs.Common.{sym, ◌∙◌, rules, reverse}
+use Rattle.std.proofs.Common.{rules, reverse}
 use Rattle.licence_rules.proofs.Rows.{unbind_row}
 use Rattle.licence_rules.proofs.binder.UnbindVolumeTest.test.Goals as goal
 
