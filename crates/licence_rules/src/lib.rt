@@ -6,3 +6,4 @@ mod binder;
 mod guards;
 mod newest;
 mod parts;
+mod scheduler;
