@@ -1,2 +1,3 @@
 pub mod Asking
+pub mod Mounting
 pub mod Scheduling

@@ -7,7 +7,7 @@ ghost use Rattle.kube_types.specs.declared.objects.Node.{Node as NodeData};
 ghost use Rattle.kube_types.specs.declared.objects.Pod.{Pod as PodData};
 ghost use Rattle.kube_types.specs.declared.objects.Volume.{Volume as VolumeData};
 ghost use Rattle.kube_types.specs.declared.objects.Object.TheVariants as objects;
-ghost use Rattle.binder_model.specs.ObjectKeys.{claim_key, class_key, node_key, volume_key};
+ghost use Rattle.binder_model.specs.ObjectKeys.{claim_key, class_key, node_key, pod_key, volume_key};
 ghost use Rattle.binder_model.specs.Told.{IsNewest};
 
 use call_types::entry::Entry;
@@ -66,6 +66,21 @@ pub(crate) fn newest_pod<'a>(mine: &'a [Entry], key: &Key) -> Option<&'a Pod>
     ensures none { IfNone result ((pod : PodData) → IsNewest (reverse mine.now) key.now (objects.Pod pod) → ⊥) }
 {
     match newest_object(mine, key.kind, key.namespace.as_str(), key.name.as_str()) {
+        Some(Object::Pod(pod)) => Some(pod),
+        _ => None,
+    }
+}
+
+/// The newest told pod of the namespace and name.
+pub(crate) fn newest_pod_named<'a>(
+    mine: &'a [Entry],
+    namespace: &str,
+    name: &str,
+) -> Option<&'a Pod>
+    ensures some { IfSome result (λ pod. IsNewest (reverse mine.now) (pod_key namespace.now name.now) (objects.Pod pod.now)) }
+    ensures none { IfNone result ((pod : PodData) → IsNewest (reverse mine.now) (pod_key namespace.now name.now) (objects.Pod pod) → ⊥) }
+{
+    match newest_object(mine, Kind::Pod, namespace, name) {
         Some(Object::Pod(pod)) => Some(pod),
         _ => None,
     }

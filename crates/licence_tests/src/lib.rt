@@ -5,6 +5,7 @@
 pub mod changes;
 pub mod entries;
 pub mod following;
+pub mod lasts;
 pub mod newest;
 pub mod puts;
 pub mod rows;

@@ -1,4 +1,4 @@
-use Rattle.std.proofs.Common.{rules, reverse, ap, ◌∙◌}
+use Rattle.std.proofs.Common.{reverse, ◌∙◌}
 use Rattle.std.specs.Option.{option_copied}
 use Rattle.licence_rules.proofs.Asks.{asks_claim, newest_at}
 use Rattle.licence_rules.proofs.asking.asks_for_claim.Goals as goal

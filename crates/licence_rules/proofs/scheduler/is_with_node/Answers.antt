@@ -1,4 +1,4 @@
-use Rattle.std.proofs.Common.{refl, rules}
+use Rattle.std.proofs.Common.{rules}
 use Rattle.licence_rules.proofs.Picks.{meta_is}
 use Rattle.licence_rules.proofs.scheduler.is_with_node.Goals as goal
 
