@@ -1,0 +1,4 @@
+pub mod Asks
+pub mod Picks
+pub mod Rows
+pub mod Shown

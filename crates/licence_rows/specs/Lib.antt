@@ -1,0 +1,3 @@
+pub mod Asking
+pub mod Mounting
+pub mod Scheduling

@@ -1,0 +1,215 @@
+//! Where the protection controllers may write.
+
+ghost use Rattle.std.specs.Prelude.{◌≡◌, ◌↔◌, IsTrue, Some, reverse};
+ghost use Rattle.std.specs.List.{list_any};
+ghost use Rattle.kube_types.specs.Bindings.{is_protected_claim, is_protected_volume};
+ghost use Rattle.binder_model.specs.GuardLicence.{IsDeletingVersion, IsPodList, MayGuard, MayUnguardClaim, MayUnguardVolume, TellsUnused, uses};
+ghost use Rattle.kube_types.specs.declared.parts.Kind.TheVariants as kinds;
+ghost use Rattle.call_types.specs.declared.request.Request.TheVariants as requests;
+ghost use Rattle.binder_model.specs.Told.{After, ToldClaim};
+ghost use Rattle.binder_model.specs.Licence.{ClaimGuard, GuardsClaim, GuardsVolume, VolumeGuard};
+
+use crate::parts::{is_bound, is_same_object};
+use call_types::entry::Entry;
+use call_types::reply::Reply;
+use call_types::request::Request;
+use kube_types::bindings::{
+    PV_PROTECTION, PVC_PROTECTION, is_deleting, is_protected_claim, is_protected_volume,
+    is_scheduled,
+};
+use kube_types::objects::{Claim, Meta, Object, Volume};
+use kube_types::parts::Kind;
+use licence_tests::changes::{is_claim_meta, is_guarded, is_unguarded, is_volume_meta};
+use licence_tests::entries::{EntryTest, after};
+use licence_tests::rows::{ClaimTest, OfClaims, VolumeTest};
+use plain_data::copies::Plain;
+use plain_data::text::Text;
+
+/// Whether the finalizer may be added.
+fn may_guard(name: &str, old: &Meta, new: &Meta) -> bool
+    ensures { IsTrue result ↔ MayGuard name.now old.now new.now }
+{
+    if is_deleting(old) {
+        return false;
+    }
+    if old.finalizers.contains(name) {
+        return false;
+    }
+    is_guarded(name, old, new)
+}
+
+fn guards_volume(old: &Volume, new: &Volume) -> bool
+    ensures { IsTrue result ↔ GuardsVolume old.now new.now }
+{
+    if !is_volume_meta(old, new) {
+        return false;
+    }
+    may_guard(PV_PROTECTION, &old.meta, &new.meta)
+}
+
+fn guards_claim(old: &Claim, new: &Claim) -> bool
+    ensures { IsTrue result ↔ GuardsClaim old.now new.now }
+{
+    if !is_claim_meta(old, new) {
+        return false;
+    }
+    may_guard(PVC_PROTECTION, &old.meta, &new.meta)
+}
+
+/// Whether the finalizer of a volume may be dropped.
+fn unguards_volume(old: &Volume, new: &Volume) -> bool
+    ensures { IsTrue result ↔ MayUnguardVolume old.now new.now }
+{
+    if !is_deleting(&old.meta) {
+        return false;
+    }
+    if is_bound(old.phase) {
+        return false;
+    }
+    if !is_volume_meta(old, new) {
+        return false;
+    }
+    is_unguarded(PV_PROTECTION, &old.meta, &new.meta)
+}
+
+/// The volume's finalizer may be added, where the new volume has it, else dropped.
+#[derive(Drop)]
+pub struct GuardedVolume<'a> {
+    pub new: &'a Volume,
+}
+
+impl<'a> VolumeTest for GuardedVolume<'a> {
+    ghost allows = { λ t v. VolumeGuard (is_protected_volume t.new.now) t.new.now v };
+
+    fn test(&self, volume: &Volume) -> bool {
+        if is_protected_volume(self.new) {
+            guards_volume(volume, self.new)
+        } else {
+            unguards_volume(volume, self.new)
+        }
+    }
+}
+
+/// This claim, told deleting.
+#[derive(Drop)]
+struct DeletingVersion<'a> {
+    old: &'a Claim,
+}
+
+impl<'a> ClaimTest for DeletingVersion<'a> {
+    ghost allows = { λ t c. IsDeletingVersion t.old.now c };
+
+    fn test(&self, claim: &Claim) -> bool {
+        if !is_same_object(&self.old.meta, &claim.meta) {
+            return false;
+        }
+        is_deleting(&claim.meta)
+    }
+}
+
+/// Whether the object is a scheduled pod of the claim's namespace that names the claim.
+fn uses(claim: &Claim, object: &Object) -> bool
+    ensures { result ≡ uses claim.now object.now }
+{
+    match object {
+        Object::Pod(pod) => {
+            is_scheduled(pod)
+                && pod.meta.namespace.is(claim.meta.namespace.as_str())
+                && pod.claims.contains(claim.meta.name.as_str())
+        }
+        _ => false,
+    }
+}
+
+fn some_uses(claim: &Claim, objects: &[Object]) -> bool
+    ensures { result ≡ list_any (uses claim.now) objects.now }
+{
+    for object in objects {
+        if uses(claim, object) {
+            return true;
+        }
+    }
+    false
+}
+
+/// Whether the answer is a list that told no pod which uses the claim.
+fn lists_unused(claim: &Claim, namespace: &Text, reply: &Reply) -> bool
+    ensures { IsTrue result ↔ IsPodList claim.now (requests.List kinds.Pod (Some namespace.now)) reply.now }
+{
+    match reply {
+        Reply::Listed { items, version: _ } => {
+            if !namespace.same(&claim.meta.namespace) {
+                return false;
+            }
+            !some_uses(claim, items.as_slice())
+        }
+        _ => false,
+    }
+}
+
+/// A list of the pods of the claim's namespace told none that uses it.
+#[derive(Drop)]
+struct Unused<'a> {
+    claim: &'a Claim,
+}
+
+impl<'a> EntryTest for Unused<'a> {
+    ghost allows = { λ t e. TellsUnused t.claim.now e };
+
+    fn test(&self, entry: &Entry) -> bool {
+        if !entry.told {
+            return false;
+        }
+        match &entry.request {
+            Request::List {
+                kind: Kind::Pod,
+                namespace: Some(namespace),
+            } => lists_unused(self.claim, namespace, &entry.reply),
+            _ => false,
+        }
+    }
+}
+
+/// Whether the finalizer of a claim may be dropped.
+fn unguards_claim(mine: &[Entry], old: &Claim, new: &Claim) -> bool
+    ensures { IsTrue result ↔ MayUnguardClaim (reverse mine.now) old.now new.now }
+{
+    if !is_deleting(&old.meta) {
+        return false;
+    }
+    if !is_claim_meta(old, new) {
+        return false;
+    }
+    if !is_unguarded(PVC_PROTECTION, &old.meta, &new.meta) {
+        return false;
+    }
+    was_unused(mine, old)
+}
+
+fn was_unused(mine: &[Entry], claim: &Claim) -> bool
+    ensures { IsTrue result ↔ After (ToldClaim (IsDeletingVersion claim.now)) (TellsUnused claim.now) (reverse mine.now) }
+{
+    let test = DeletingVersion { old: claim };
+    let told = OfClaims { test: &test };
+    let list = Unused { claim };
+    after(&told, &list, mine)
+}
+
+/// The claim's finalizer may be added, where the new claim has it, else dropped.
+#[derive(Drop)]
+pub struct GuardedClaim<'a> {
+    pub mine: &'a [Entry],
+    pub new: &'a Claim,
+}
+
+impl<'a> ClaimTest for GuardedClaim<'a> {
+    ghost allows = { λ t c. ClaimGuard (is_protected_claim t.new.now) (reverse t.mine.now) t.new.now c };
+
+    fn test(&self, claim: &Claim) -> bool {
+        if is_protected_claim(self.new) {
+            guards_claim(claim, self.new)
+        } else {
+            unguards_claim(self.mine, claim, self.new)
+        }
+    }
+}

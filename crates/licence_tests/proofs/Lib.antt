@@ -1,0 +1,4 @@
+pub mod Afters
+pub mod Fronts
+pub mod Since
+pub mod Twice

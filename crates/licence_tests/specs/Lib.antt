@@ -1,0 +1,3 @@
+pub mod Following
+pub mod Keyed
+pub mod Last

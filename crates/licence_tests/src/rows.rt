@@ -1,0 +1,210 @@
+//! Told volumes, claims and pods, and writes at a told object.
+
+ghost use Rattle.std.specs.Prelude.{◌↔◌, IsTrue, reverse};
+ghost use Rattle.kube_types.specs.declared.objects.Claim.{Claim as ClaimData};
+ghost use Rattle.kube_types.specs.declared.objects.Object.{Object};
+ghost use Rattle.kube_types.specs.declared.objects.Pod.{Pod as PodData};
+ghost use Rattle.kube_types.specs.declared.objects.Volume.{Volume as VolumeData};
+ghost use Rattle.binder_model.specs.At.{IsWrittenAt};
+ghost use Rattle.binder_model.specs.Told.{IsClaimWith, IsPodWith, IsVolumeWith, ToldClaim, ToldPod, ToldVolume};
+
+use crate::told::{ObjectTest, told_object};
+use call_types::entry::Entry;
+use kube_types::objects::{Claim, Meta, Object, Pod, Version, Volume};
+use plain_data::copies::Plain;
+use plain_data::text::Text;
+
+/// A condition on a volume.
+pub trait VolumeTest {
+    ghost allows: { Self → VolumeData → Type 0 };
+
+    fn test(&self, volume: &Volume) -> bool
+        ensures { IsTrue result ↔ allows self.now volume.now };
+}
+
+/// A condition on a claim.
+pub trait ClaimTest {
+    ghost allows: { Self → ClaimData → Type 0 };
+
+    fn test(&self, claim: &Claim) -> bool
+        ensures { IsTrue result ↔ allows self.now claim.now };
+}
+
+/// The object is a volume of which the condition holds.
+#[derive(Drop)]
+pub struct OfVolumes<'a, T> {
+    pub test: &'a T,
+}
+
+impl<'a, T: VolumeTest> ObjectTest for OfVolumes<'a, T> {
+    ghost allows = { λ t o. IsVolumeWith (T.allows t.test.now) o };
+
+    fn test(&self, object: &Object) -> bool {
+        match object {
+            Object::Volume(volume) => self.test.test(volume),
+            _ => false,
+        }
+    }
+}
+
+/// The object is a claim of which the condition holds.
+#[derive(Drop)]
+pub struct OfClaims<'a, T> {
+    pub test: &'a T,
+}
+
+impl<'a, T: ClaimTest> ObjectTest for OfClaims<'a, T> {
+    ghost allows = { λ t o. IsClaimWith (T.allows t.test.now) o };
+
+    fn test(&self, object: &Object) -> bool {
+        match object {
+            Object::Claim(claim) => self.test.test(claim),
+            _ => false,
+        }
+    }
+}
+
+/// A condition on a pod.
+pub trait PodTest {
+    ghost allows: { Self → PodData → Type 0 };
+
+    fn test(&self, pod: &Pod) -> bool
+        ensures { IsTrue result ↔ allows self.now pod.now };
+}
+
+/// The object is a pod of which the condition holds.
+#[derive(Drop)]
+pub struct OfPods<'a, T> {
+    pub test: &'a T,
+}
+
+impl<'a, T: PodTest> ObjectTest for OfPods<'a, T> {
+    ghost allows = { λ t o. IsPodWith (T.allows t.test.now) o };
+
+    fn test(&self, object: &Object) -> bool {
+        match object {
+            Object::Pod(pod) => self.test.test(pod),
+            _ => false,
+        }
+    }
+}
+
+/// Whether a pod was told of which the condition holds.
+pub fn told_pod<T: PodTest>(test: &T, mine: &[Entry]) -> bool
+    ensures { IsTrue result ↔ ToldPod (T.allows test.now) (reverse mine.now) }
+{
+    let test = OfPods { test };
+    told_object(&test, mine)
+}
+
+/// Whether a volume was told of which the condition holds.
+pub fn told_volume<T: VolumeTest>(test: &T, mine: &[Entry]) -> bool
+    ensures { IsTrue result ↔ ToldVolume (T.allows test.now) (reverse mine.now) }
+{
+    let test = OfVolumes { test };
+    told_object(&test, mine)
+}
+
+/// Whether a claim was told of which the condition holds.
+pub fn told_claim<T: ClaimTest>(test: &T, mine: &[Entry]) -> bool
+    ensures { IsTrue result ↔ ToldClaim (T.allows test.now) (reverse mine.now) }
+{
+    let test = OfClaims { test };
+    told_object(&test, mine)
+}
+
+/// Whether a write with this version and name is at the object.
+fn is_written_at(given: Option<Version>, namespace: &Text, name: &Text, meta: &Meta) -> bool
+    ensures { IsTrue result ↔ IsWrittenAt given namespace.now name.now meta.now }
+{
+    match given {
+        None => false,
+        Some(given) => {
+            if given != meta.version {
+                return false;
+            }
+            if !meta.namespace.same(namespace) {
+                return false;
+            }
+            meta.name.same(name)
+        }
+    }
+}
+
+/// The write is at the volume, and the condition holds of it.
+#[derive(Drop)]
+struct VolumeAt<'a, T> {
+    given: Option<Version>,
+    namespace: &'a Text,
+    name: &'a Text,
+    row: &'a T,
+}
+
+impl<'a, T: VolumeTest> VolumeTest for VolumeAt<'a, T> {
+    ghost allows = { λ t v. IsWrittenAt t.given t.namespace.now t.name.now v.meta × T.allows t.row.now v };
+
+    fn test(&self, volume: &Volume) -> bool {
+        if !is_written_at(self.given, self.namespace, self.name, &volume.meta) {
+            return false;
+        }
+        self.row.test(volume)
+    }
+}
+
+/// Whether the write is at a told volume of which the condition holds.
+pub fn told_volume_at<T: VolumeTest>(
+    row: &T,
+    mine: &[Entry],
+    given: Option<Version>,
+    namespace: &Text,
+    name: &Text,
+) -> bool
+    ensures { IsTrue result ↔ ToldVolume (λ v. IsWrittenAt given namespace.now name.now v.meta × T.allows row.now v) (reverse mine.now) }
+{
+    let at = VolumeAt {
+        given,
+        namespace,
+        name,
+        row,
+    };
+    told_volume(&at, mine)
+}
+
+/// The write is at the claim, and the condition holds of it.
+#[derive(Drop)]
+struct ClaimAt<'a, T> {
+    given: Option<Version>,
+    namespace: &'a Text,
+    name: &'a Text,
+    row: &'a T,
+}
+
+impl<'a, T: ClaimTest> ClaimTest for ClaimAt<'a, T> {
+    ghost allows = { λ t c. IsWrittenAt t.given t.namespace.now t.name.now c.meta × T.allows t.row.now c };
+
+    fn test(&self, claim: &Claim) -> bool {
+        if !is_written_at(self.given, self.namespace, self.name, &claim.meta) {
+            return false;
+        }
+        self.row.test(claim)
+    }
+}
+
+/// Whether the write is at a told claim of which the condition holds.
+pub fn told_claim_at<T: ClaimTest>(
+    row: &T,
+    mine: &[Entry],
+    given: Option<Version>,
+    namespace: &Text,
+    name: &Text,
+) -> bool
+    ensures { IsTrue result ↔ ToldClaim (λ c. IsWrittenAt given namespace.now name.now c.meta × T.allows row.now c) (reverse mine.now) }
+{
+    let at = ClaimAt {
+        given,
+        namespace,
+        name,
+        row,
+    };
+    told_claim(&at, mine)
+}
