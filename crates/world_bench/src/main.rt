@@ -152,14 +152,15 @@ fn kind_of(number: u64) -> SeatKind {
     }
 }
 
-/// The entries of a world after so many calls, and its version.
+/// The entries of a world after so many calls, and its version. There is room for all of them from the start.
 fn run(alloc: Global, calls: u64) -> Result<(usize, u64), OutOfMemory> {
     let setup = Setup {
         pools: Items::new(alloc),
         faults: Items::new(alloc),
         imports: Items::new(alloc),
     };
-    let mut world = World::new(alloc, &setup, 0)?;
+    let room = NODES.saturating_add(calls) as usize;
+    let mut world = World::new(alloc, &setup, room)?;
     for number in 0..NODES {
         let _ = world.call(1, SeatKind::User, &create_node(alloc, number)?, true)?;
     }
