@@ -92,8 +92,9 @@ impl World {
         })
     }
 
-    /// Makes one whole call: answers the request, and appends its entry. A world of 2^60 entries, which no memory holds,
-    /// would answer want of memory.
+    /// Makes one whole call: answers the request, and appends its entry. The change of the store or of the devices is the
+    /// last step that may take memory, so that after want of memory only the room may be greater than before. The call
+    /// that would make 2^60 entries, more than any memory holds, answers want of memory too.
     pub fn call(
         &mut self,
         seat: u64,
