@@ -10,10 +10,11 @@ ghost use Rattle.binder_model.specs.At.{IsWrittenAt};
 ghost use Rattle.licence_tests.specs.Found.{IsOtherAt};
 ghost use Rattle.binder_model.specs.Told.{IsClaimWith, IsPodWith, IsVolumeWith, ToldClaim, ToldObject, ToldPod, ToldVolume};
 
+use crate::at::is_written_at;
 use crate::told::{ObjectTest, find_told, told_object};
 use call_types::entry::Entry;
 use kube_types::key::meta_of;
-use kube_types::objects::{Claim, Meta, Object, Pod, Version, Volume};
+use kube_types::objects::{Claim, Object, Pod, Version, Volume};
 use plain_data::copies::Plain;
 use plain_data::text::Text;
 
@@ -114,24 +115,6 @@ pub fn told_claim<T: ClaimTest>(test: &T, mine: &[Entry]) -> bool
 {
     let test = OfClaims { test };
     told_object(&test, mine)
-}
-
-/// Whether a write with this version and name is at the object.
-fn is_written_at(given: Option<Version>, namespace: &Text, name: &Text, meta: &Meta) -> bool
-    ensures { IsTrue result ↔ IsWrittenAt given namespace.now name.now meta.now }
-{
-    match given {
-        None => false,
-        Some(given) => {
-            if given != meta.version {
-                return false;
-            }
-            if !meta.namespace.same(namespace) {
-                return false;
-            }
-            meta.name.same(name)
-        }
-    }
 }
 
 /// The write is at the object.
