@@ -1,5 +1,5 @@
 -- What was erased after it was told ended, as the code looks for it.
-use Rattle.std.proofs.Common.{◌≡◌, ◌↔◌, ◌+◌, IsTrue, ℕ, Bool, List, Some, reverse, sym, ◌∙◌, ap, subst}
+use Rattle.std.proofs.Common.{◌↔◌, IsTrue, Bool, List, sym, subst}
 use Rattle.kube_types.specs.declared.uid.Uid.{Uid}
 use Rattle.kube_types.specs.declared.objects.DataId.{DataId}
 use Rattle.kube_types.specs.declared.objects.Volume.{Volume as VolumeData}

@@ -1,15 +1,13 @@
 -- The provisioner's rows, as the code tests them.
-use Rattle.std.proofs.Common.{◌≡◌, ◌↔◌, IsTrue, ℕ, Bool, true, false, true≢false, List, Option, Some, None, refl, sym, ◌∙◌, ap, subst}
-use Rattle.std.specs.Prelude.{is_some}
+use Rattle.std.proofs.Common.{◌≡◌, ◌↔◌, IsTrue, ℕ, Bool, true, false, List, Option, Some, sym, ◌∙◌, ap, subst}
 use Rattle.plain_data.specs.Pairs.{Pair, value_at, without_key}
 use Rattle.kube_types.specs.declared.uid.Uid.{Uid}
 use Rattle.kube_types.specs.declared.objects.Claim.{Claim as ClaimData}
 use Rattle.kube_types.specs.declared.objects.Class.{Class as ClassData}
 use Rattle.kube_types.specs.declared.objects.Node.{Node as NodeData}
-use Rattle.kube_types.specs.declared.objects.Object.TheVariants.{Class, Node, Claim}
+use Rattle.kube_types.specs.declared.objects.Object.TheVariants.{Class, Node}
 use Rattle.kube_types.specs.Bindings.{class_of_claim, is_completed, selected_node}
 use Rattle.call_types.specs.declared.entry.Entry.{Entry}
-use Rattle.binder_model.specs.At.{HasUid}
 use Rattle.binder_model.specs.ObjectKeys.{claim_key, class_key, node_key}
 use Rattle.binder_model.specs.OpsLicence.{AreLabels, IsUnserved, MayClearNode, MayProvision}
 use Rattle.binder_model.specs.Told.{IsNewest, ToldClaim}

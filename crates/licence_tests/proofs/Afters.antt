@@ -2,7 +2,7 @@
 use Rattle.std.proofs.Common.{◌≡◌, ℕ, ◌+◌, List, [], ◌∷◌, ◌++◌, ◌↔◌, IsTrue, Bool, take, drop, reverse, sym, ◌∙◌, ap, subst, inl, inr}
 use Rattle.kube_types.specs.declared.objects.Object.{Object}
 use Rattle.call_types.specs.declared.entry.Entry.{Entry}
-use Rattle.binder_model.specs.Told.{After, SomeOf, ToldObject}
+use Rattle.binder_model.specs.Told.{After, SomeOf, TellsObject, ToldObject, objects_in}
 use Rattle.licence_tests.specs.Last.{IsLast}
 use Rattle.licence_tests.proofs.Fronts.{cut_at, some_reverse}
 
@@ -38,3 +38,18 @@ after_last R Q mine place told last is =
       (λ t. subst (After (ToldObject R) Q) (sym cut) (after_back R Q (reverse (drop (place + 1) mine)) last.entry (reverse (take place mine)) last.is (is.0 t))),
       (λ h. is.1 (after_cut R Q (reverse (drop (place + 1) mine)) last.entry (reverse (take place mine)) last.since (subst (After (ToldObject R) Q) cut h))),
     )
+
+-- what is told to be this object is told to be one of which the condition holds
+
+pub some_found : (P : Object → Type 0) (objects : List Object) (o : Object) → P o → SomeOf (λ x. x ≡ o) objects → SomeOf P objects
+some_found P [] o p h = elim h [ ]
+some_found P (x ∷ xs) o p (inl e) = inl (subst P (sym e) p)
+some_found P (x ∷ xs) o p (inr h) = inr (some_found P xs o p h)
+
+pub tells_found : (P : Object → Type 0) (e : Entry) (o : Object) → P o → TellsObject (λ x. x ≡ o) e → TellsObject P e
+tells_found P e o p t = (t.0, some_found P (objects_in e.reply) o p t.1)
+
+pub told_found : (P : Object → Type 0) (mine : List Entry) (o : Object) → P o → ToldObject (λ x. x ≡ o) mine → ToldObject P mine
+told_found P [] o p h = elim h [ ]
+told_found P (e ∷ mine) o p (inl t) = inl (tells_found P e o p t)
+told_found P (e ∷ mine) o p (inr h) = inr (told_found P mine o p h)

@@ -1,3 +1,4 @@
 pub mod Following
+pub mod Found
 pub mod Keyed
 pub mod Last

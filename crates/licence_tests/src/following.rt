@@ -1,6 +1,7 @@
 //! Where a seat stands with a kind.
 
-ghost use Rattle.std.specs.Prelude.{◌≡◌, ◌↔◌, IsTrue, reverse, true, None};
+ghost use Rattle.std.specs.Prelude.{◌≡◌, ◌↔◌, ℕ, IsTrue, reverse, None};
+ghost use Rattle.call_types.specs.declared.request.Request.TheVariants as requests;
 ghost use Rattle.call_types.specs.declared.request.SeatKind.TheVariants as seats;
 ghost use Rattle.kube_types.specs.Keys.{same_kind};
 ghost use Rattle.binder_model.specs.Reading.{IsFrom, IsUnlisted, follow_on, following_of, follows};
@@ -13,6 +14,49 @@ use kube_types::key::same_kind;
 use kube_types::objects::Version;
 use kube_types::parts::Kind;
 
+/// Where the seat stands after the answer to a list of a whole kind.
+fn follow_list(
+    listed: Kind,
+    reply: &Reply,
+    kind: Kind,
+    before: Option<(Version, Option<Version>)>,
+) -> Option<(Version, Option<Version>)>
+    ensures { as_following result ≡ follow_on (requests.List listed None) reply.now kind (as_following before) }
+{
+    match reply {
+        Reply::Listed { items: _, version } => {
+            if same_kind(listed, kind) {
+                Some((*version, None))
+            } else {
+                before
+            }
+        }
+        _ => before,
+    }
+}
+
+/// Where the seat stands after the answer to a watch.
+fn follow_watch(
+    watched: Kind,
+    reply: &Reply,
+    kind: Kind,
+    before: Option<(Version, Option<Version>)>,
+) -> Option<(Version, Option<Version>)>
+    ensures { (from : ℕ) → as_following result ≡ follow_on (requests.Watch watched from) reply.now kind (as_following before) }
+{
+    if !same_kind(watched, kind) {
+        return before;
+    }
+    match reply {
+        Reply::Refused(Refusal::Gone { oldest: _ }) => None,
+        Reply::Events(events) => match before {
+            None => None,
+            Some((version, _)) => Some((version, Some(events.upto))),
+        },
+        _ => before,
+    }
+}
+
 /// Where the seat stands after an answer.
 fn follow_on(
     request: &Request,
@@ -22,48 +66,15 @@ fn follow_on(
 ) -> Option<(Version, Option<Version>)>
     ensures { as_following result ≡ follow_on request.now reply.now kind (as_following before) }
 {
-    match (request, reply) {
-        (
-            Request::List {
-                kind: listed,
-                namespace: None,
-            },
-            Reply::Listed { items: _, version },
-        ) => {
-            if same_kind(*listed, kind) {
-                Some((*version, None))
-            } else {
-                before
-            }
-        }
-        (
-            Request::Watch {
-                kind: watched,
-                from: _,
-            },
-            Reply::Refused(Refusal::Gone { oldest: _ }),
-        ) => {
-            if same_kind(*watched, kind) {
-                None
-            } else {
-                before
-            }
-        }
-        (
-            Request::Watch {
-                kind: watched,
-                from: _,
-            },
-            Reply::Events(events),
-        ) => {
-            if !same_kind(*watched, kind) {
-                return before;
-            }
-            match before {
-                None => None,
-                Some((version, _)) => Some((version, Some(events.upto))),
-            }
-        }
+    match request {
+        Request::List {
+            kind: listed,
+            namespace: None,
+        } => follow_list(*listed, reply, kind, before),
+        Request::Watch {
+            kind: watched,
+            from: _,
+        } => follow_watch(*watched, reply, kind, before),
         _ => before,
     }
 }

@@ -2,6 +2,7 @@
 //! Nothing here takes memory.
 #![tactic(auto)]
 
+mod at;
 pub mod changes;
 pub mod entries;
 pub mod following;

@@ -5,12 +5,16 @@ ghost use Rattle.kube_types.specs.declared.objects.Claim.{Claim as ClaimData};
 ghost use Rattle.kube_types.specs.declared.objects.Object.{Object};
 ghost use Rattle.kube_types.specs.declared.objects.Pod.{Pod as PodData};
 ghost use Rattle.kube_types.specs.declared.objects.Volume.{Volume as VolumeData};
+ghost use Rattle.kube_types.specs.Keys.{meta_of};
 ghost use Rattle.binder_model.specs.At.{IsWrittenAt};
-ghost use Rattle.binder_model.specs.Told.{IsClaimWith, IsPodWith, IsVolumeWith, ToldClaim, ToldPod, ToldVolume};
+ghost use Rattle.licence_tests.specs.Found.{IsOtherAt};
+ghost use Rattle.binder_model.specs.Told.{IsClaimWith, IsPodWith, IsVolumeWith, ToldClaim, ToldObject, ToldPod, ToldVolume};
 
-use crate::told::{ObjectTest, told_object};
+use crate::at::is_written_at;
+use crate::told::{ObjectTest, find_told, told_object};
 use call_types::entry::Entry;
-use kube_types::objects::{Claim, Meta, Object, Pod, Version, Volume};
+use kube_types::key::meta_of;
+use kube_types::objects::{Claim, Object, Pod, Version, Volume};
 use plain_data::copies::Plain;
 use plain_data::text::Text;
 
@@ -113,41 +117,77 @@ pub fn told_claim<T: ClaimTest>(test: &T, mine: &[Entry]) -> bool
     told_object(&test, mine)
 }
 
-/// Whether a write with this version and name is at the object.
-fn is_written_at(given: Option<Version>, namespace: &Text, name: &Text, meta: &Meta) -> bool
-    ensures { IsTrue result ↔ IsWrittenAt given namespace.now name.now meta.now }
-{
-    match given {
-        None => false,
-        Some(given) => {
-            if given != meta.version {
-                return false;
-            }
-            if !meta.namespace.same(namespace) {
-                return false;
-            }
-            meta.name.same(name)
-        }
+/// The write is at the object.
+#[derive(Drop)]
+struct WrittenAt<'a> {
+    given: Option<Version>,
+    namespace: &'a Text,
+    name: &'a Text,
+}
+
+impl<'a> ObjectTest for WrittenAt<'a> {
+    ghost allows = { λ t o. IsWrittenAt t.given t.namespace.now t.name.now (meta_of o) };
+
+    fn test(&self, object: &Object) -> bool {
+        is_written_at(self.given, self.namespace, self.name, meta_of(object))
     }
 }
 
-/// The write is at the volume, and the condition holds of it.
+/// The write is at the object, which is not the one that was tried, and the condition holds of it.
 #[derive(Drop)]
-struct VolumeAt<'a, T> {
+struct OtherAt<'a, T> {
     given: Option<Version>,
     namespace: &'a Text,
     name: &'a Text,
     row: &'a T,
+    tried: &'a Object,
 }
 
-impl<'a, T: VolumeTest> VolumeTest for VolumeAt<'a, T> {
-    ghost allows = { λ t v. IsWrittenAt t.given t.namespace.now t.name.now v.meta × T.allows t.row.now v };
+impl<'a, T: ObjectTest> ObjectTest for OtherAt<'a, T> {
+    ghost allows = { λ t o. IsOtherAt (λ x. IsWrittenAt t.given t.namespace.now t.name.now (meta_of x)) (T.allows t.row.now) t.tried.now o };
 
-    fn test(&self, volume: &Volume) -> bool {
-        if !is_written_at(self.given, self.namespace, self.name, &volume.meta) {
+    fn test(&self, object: &Object) -> bool {
+        if !is_written_at(self.given, self.namespace, self.name, meta_of(object)) {
             return false;
         }
-        self.row.test(volume)
+        if object.same(self.tried) {
+            return false;
+        }
+        self.row.test(object)
+    }
+}
+
+/// Whether the write is at a told object of which the condition holds. Where all that was told at the
+/// version is one object, as in every history, the condition is asked once.
+fn told_object_at<T: ObjectTest>(
+    row: &T,
+    mine: &[Entry],
+    given: Option<Version>,
+    namespace: &Text,
+    name: &Text,
+) -> bool
+    ensures { IsTrue result ↔ ToldObject (λ o. IsWrittenAt given namespace.now name.now (meta_of o) × T.allows row.now o) (reverse mine.now) }
+{
+    let at = WrittenAt {
+        given,
+        namespace,
+        name,
+    };
+    match find_told(&at, mine) {
+        None => false,
+        Some(tried) => {
+            if row.test(tried) {
+                return true;
+            }
+            let other = OtherAt {
+                given,
+                namespace,
+                name,
+                row,
+                tried,
+            };
+            told_object(&other, mine)
+        }
     }
 }
 
@@ -161,33 +201,8 @@ pub fn told_volume_at<T: VolumeTest>(
 ) -> bool
     ensures { IsTrue result ↔ ToldVolume (λ v. IsWrittenAt given namespace.now name.now v.meta × T.allows row.now v) (reverse mine.now) }
 {
-    let at = VolumeAt {
-        given,
-        namespace,
-        name,
-        row,
-    };
-    told_volume(&at, mine)
-}
-
-/// The write is at the claim, and the condition holds of it.
-#[derive(Drop)]
-struct ClaimAt<'a, T> {
-    given: Option<Version>,
-    namespace: &'a Text,
-    name: &'a Text,
-    row: &'a T,
-}
-
-impl<'a, T: ClaimTest> ClaimTest for ClaimAt<'a, T> {
-    ghost allows = { λ t c. IsWrittenAt t.given t.namespace.now t.name.now c.meta × T.allows t.row.now c };
-
-    fn test(&self, claim: &Claim) -> bool {
-        if !is_written_at(self.given, self.namespace, self.name, &claim.meta) {
-            return false;
-        }
-        self.row.test(claim)
-    }
+    let volumes = OfVolumes { test: row };
+    told_object_at(&volumes, mine, given, namespace, name)
 }
 
 /// Whether the write is at a told claim of which the condition holds.
@@ -200,11 +215,6 @@ pub fn told_claim_at<T: ClaimTest>(
 ) -> bool
     ensures { IsTrue result ↔ ToldClaim (λ c. IsWrittenAt given namespace.now name.now c.meta × T.allows row.now c) (reverse mine.now) }
 {
-    let at = ClaimAt {
-        given,
-        namespace,
-        name,
-        row,
-    };
-    told_claim(&at, mine)
+    let claims = OfClaims { test: row };
+    told_object_at(&claims, mine, given, namespace, name)
 }

@@ -1,4 +1,4 @@
-use Rattle.std.proofs.Common.{◌≡◌, reverse, subst, sym, true≢false}
+use Rattle.std.proofs.Common.{reverse, subst, sym, true≢false}
 use Rattle.kube_types.specs.declared.objects.Claim.{Claim as ClaimData}
 use Rattle.kube_types.specs.declared.objects.Class.{Class as ClassData}
 use Rattle.kube_types.specs.declared.objects.Object.TheVariants.{Class, Claim}

@@ -1,4 +1,4 @@
-use Rattle.std.proofs.Common.{◌≡◌, ◌↔◌, ◌∙◌, IsTrue, get_or, take, reverse, ap, sym, subst, true≢false}
+use Rattle.std.proofs.Common.{◌≡◌, ◌↔◌, IsTrue, get_or, take, reverse, sym, subst, true≢false}
 use Rattle.std.proofs.lemmas.List.{get_or_read}
 use Rattle.kube_types.specs.Sources.{data_id_of}
 use Rattle.call_types.specs.declared.entry.Entry.{Entry}

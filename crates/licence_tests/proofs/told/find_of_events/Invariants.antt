@@ -1,6 +1,6 @@
 use Rattle.std.specs.Prelude.{drop}
 use Rattle.binder_model.specs.Told.{SomeOf, objects_of_events}
-use Rattle.licence_tests.proofs.told.some_of_events.Given as goal
+use Rattle.licence_tests.proofs.told.find_of_events.Given as goal
 
 -- what is to be found is still ahead
 abbrev pub invariant-loop-event : goal.invariant-loop-event

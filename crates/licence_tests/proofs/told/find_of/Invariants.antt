@@ -1,6 +1,6 @@
 use Rattle.std.specs.Prelude.{drop}
 use Rattle.binder_model.specs.Told.{SomeOf}
-use Rattle.licence_tests.proofs.told.some_of.Given as goal
+use Rattle.licence_tests.proofs.told.find_of.Given as goal
 
 -- what is to be found is still ahead
 abbrev pub invariant-loop-object : goal.invariant-loop-object

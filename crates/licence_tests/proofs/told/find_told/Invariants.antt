@@ -1,6 +1,6 @@
 use Rattle.std.proofs.Common.{◌≤◌, length, reverse, take}
 use Rattle.binder_model.specs.Told.{ToldObject}
-use Rattle.licence_tests.proofs.told.told_object.Given as goal
+use Rattle.licence_tests.proofs.told.find_told.Given as goal
 
 -- what is to be found is among the older ones
 abbrev pub invariant-loop-left : goal.invariant-loop-left

@@ -1,0 +1,74 @@
+-- One object tried, and the others told at its version; rows of volumes and of claims as rows of objects.
+use Rattle.std.proofs.Common.{◌↔◌, IsTrue, Bool, List, [], ◌∷◌, Option, ℕ, subst, inl, inr}
+use Rattle.kube_types.specs.declared.objects.Claim.{Claim as ClaimData}
+use Rattle.kube_types.specs.declared.objects.Volume.{Volume as VolumeData}
+use Rattle.kube_types.specs.declared.objects.Object.{Object}
+use Rattle.kube_types.specs.declared.objects.Object.TheVariants.{Class, Node, Volume, Claim, Pod}
+use Rattle.kube_types.specs.Keys.{meta_of}
+use Rattle.call_types.specs.declared.entry.Entry.{Entry}
+use Rattle.binder_model.specs.At.{IsWrittenAt}
+use Rattle.binder_model.specs.Told.{IsClaimWith, IsVolumeWith, SomeOf, TellsObject, ToldClaim, ToldObject, ToldVolume, objects_in}
+use Rattle.licence_tests.specs.Found.{IsOtherAt, IsToldFound}
+use Rattle.licence_tests.proofs.Afters.{told_found}
+
+some_map : {X : Type 0} (P Q : X → Type 0) (xs : List X) → ((x : X) → P x → Q x) → SomeOf P xs → SomeOf Q xs
+some_map P Q [] f h = h
+some_map P Q (x ∷ xs) f (inl p) = inl (f x p)
+some_map P Q (x ∷ xs) f (inr h) = inr (some_map P Q xs f h)
+
+pub told_map : (P Q : Object → Type 0) (mine : List Entry) → ((o : Object) → P o → Q o) → ToldObject P mine → ToldObject Q mine
+told_map P Q mine f h = some_map (TellsObject P) (TellsObject Q) mine (λ e t. (t.0, some_map P Q (objects_in e.reply) f t.1)) h
+
+pub tried_none : (At Row : Object → Type 0) (mine : List Entry) → (ToldObject At mine → ⊥) → ToldObject (λ o. At o × Row o) mine → ⊥
+tried_none At Row mine none h = none (told_map (λ o. At o × Row o) At mine (λ o p. p.0) h)
+
+pub tried_yes : (At Row : Object → Type 0) (mine : List Entry) (tried : Object) → IsToldFound At mine tried → Row tried → ToldObject (λ o. At o × Row o) mine
+tried_yes At Row mine tried found row = told_found (λ o. At o × Row o) mine tried (found.holds, row) found.told
+
+pub tried_other : (At Row : Object → Type 0) (mine : List Entry) (tried : Object) (b : Bool) → (Row tried → ⊥) → (IsTrue b ↔ ToldObject (IsOtherAt At Row tried) mine) → (IsTrue b ↔ ToldObject (λ o. At o × Row o) mine)
+tried_other At Row mine tried b not is = (
+  (λ t. told_map (IsOtherAt At Row tried) (λ o. At o × Row o) mine (λ o p. (p.at, p.row)) (is.0 t)),
+  (λ h. is.1 (told_map (λ o. At o × Row o) (IsOtherAt At Row tried) mine (λ o p. record { at = p.0; other = λ e. not (subst Row e p.1); row = p.1 }) h)),
+)
+
+volume_in : (given : Option ℕ) (namespace name : List ℕ) (R : VolumeData → Type 0) (o : Object) → IsWrittenAt given namespace name (meta_of o) × IsVolumeWith R o → IsVolumeWith (λ v. IsWrittenAt given namespace name v.meta × R v) o
+volume_in given namespace name R (Volume v) p = p
+volume_in given namespace name R (Class x) p = p.1
+volume_in given namespace name R (Node x) p = p.1
+volume_in given namespace name R (Claim x) p = p.1
+volume_in given namespace name R (Pod x) p = p.1
+
+volume_out : (given : Option ℕ) (namespace name : List ℕ) (R : VolumeData → Type 0) (o : Object) → IsVolumeWith (λ v. IsWrittenAt given namespace name v.meta × R v) o → IsWrittenAt given namespace name (meta_of o) × IsVolumeWith R o
+volume_out given namespace name R (Volume v) p = p
+volume_out given namespace name R (Class x) p = absurd p
+volume_out given namespace name R (Node x) p = absurd p
+volume_out given namespace name R (Claim x) p = absurd p
+volume_out given namespace name R (Pod x) p = absurd p
+
+pub volume_at : (given : Option ℕ) (namespace name : List ℕ) (R : VolumeData → Type 0) (mine : List Entry) (b : Bool) → (IsTrue b ↔ ToldObject (λ o. IsWrittenAt given namespace name (meta_of o) × IsVolumeWith R o) mine)
+    → (IsTrue b ↔ ToldVolume (λ v. IsWrittenAt given namespace name v.meta × R v) mine)
+volume_at given namespace name R mine b is = (
+  (λ t. told_map (λ o. IsWrittenAt given namespace name (meta_of o) × IsVolumeWith R o) (IsVolumeWith (λ v. IsWrittenAt given namespace name v.meta × R v)) mine (volume_in given namespace name R) (is.0 t)),
+  (λ h. is.1 (told_map (IsVolumeWith (λ v. IsWrittenAt given namespace name v.meta × R v)) (λ o. IsWrittenAt given namespace name (meta_of o) × IsVolumeWith R o) mine (volume_out given namespace name R) h)),
+)
+
+claim_in : (given : Option ℕ) (namespace name : List ℕ) (R : ClaimData → Type 0) (o : Object) → IsWrittenAt given namespace name (meta_of o) × IsClaimWith R o → IsClaimWith (λ c. IsWrittenAt given namespace name c.meta × R c) o
+claim_in given namespace name R (Claim c) p = p
+claim_in given namespace name R (Class x) p = p.1
+claim_in given namespace name R (Node x) p = p.1
+claim_in given namespace name R (Volume x) p = p.1
+claim_in given namespace name R (Pod x) p = p.1
+
+claim_out : (given : Option ℕ) (namespace name : List ℕ) (R : ClaimData → Type 0) (o : Object) → IsClaimWith (λ c. IsWrittenAt given namespace name c.meta × R c) o → IsWrittenAt given namespace name (meta_of o) × IsClaimWith R o
+claim_out given namespace name R (Claim c) p = p
+claim_out given namespace name R (Class x) p = absurd p
+claim_out given namespace name R (Node x) p = absurd p
+claim_out given namespace name R (Volume x) p = absurd p
+claim_out given namespace name R (Pod x) p = absurd p
+
+pub claim_at : (given : Option ℕ) (namespace name : List ℕ) (R : ClaimData → Type 0) (mine : List Entry) (b : Bool) → (IsTrue b ↔ ToldObject (λ o. IsWrittenAt given namespace name (meta_of o) × IsClaimWith R o) mine)
+    → (IsTrue b ↔ ToldClaim (λ c. IsWrittenAt given namespace name c.meta × R c) mine)
+claim_at given namespace name R mine b is = (
+  (λ t. told_map (λ o. IsWrittenAt given namespace name (meta_of o) × IsClaimWith R o) (IsClaimWith (λ c. IsWrittenAt given namespace name c.meta × R c)) mine (claim_in given namespace name R) (is.0 t)),
+  (λ h. is.1 (told_map (IsClaimWith (λ c. IsWrittenAt given namespace name c.meta × R c)) (λ o. IsWrittenAt given namespace name (meta_of o) × IsClaimWith R o) mine (claim_out given namespace name R) h)),
+)
