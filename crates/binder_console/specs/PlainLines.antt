@@ -30,6 +30,10 @@ abbrev pub objects_of : List (List ℕ) → Option (List Object)
 objects_of [] = Some []
 objects_of (line ∷ lines) = line_object line >>= λ o. objects_of lines >>= λ os. Some (o ∷ os)
 
--- the objects that the input creates, in order, where it is a list of at most 1,024 plain lines
+-- how many lines a plain script may have, a choice of this project
+abbrev pub most_lines : ℕ
+most_lines = 1024
+
+-- the objects that the input creates, in order, where it is a list of at most so many plain lines
 unfoldable pub plain_objects : List ℕ → Option (List Object)
-plain_objects bytes = if nat_le (length (filled_lines bytes)) 1024 then objects_of (filled_lines bytes) else None
+plain_objects bytes = if nat_le (length (filled_lines bytes)) most_lines then objects_of (filled_lines bytes) else None

@@ -5,7 +5,7 @@ ghost use Rattle.std.specs.List.{list_all, slice_split};
 ghost use Rattle.json_text.specs.Trees.{tree_data};
 ghost use Rattle.binder_console.specs.Readings.{Gives, GivesBy};
 ghost use Rattle.object_text.specs.Reading.{json_of};
-ghost use Rattle.binder_console.specs.PlainLines.{is_blank, filled_lines, line_object, objects_of, plain_objects};
+ghost use Rattle.binder_console.specs.PlainLines.{filled_lines, is_blank, line_object, most_lines, objects_of, plain_objects};
 ghost use Rattle.plain_binder.specs.Calls.{IsPlain};
 
 use crate::errors::PlainError;
@@ -86,7 +86,7 @@ fn objects_of(alloc: Global, lines: &[&[u8]]) -> Result<Items<Object>, PlainErro
 pub fn read_plain(alloc: Global, bytes: &[u8]) -> Result<Items<Object>, PlainError>
     ensures objects { Gives result (plain_objects bytes.now) }
     ensures plain { IfOk result (All IsPlain) }
-    ensures few { IfOk result (λ objects. length objects ≤ 1024) }
+    ensures few { IfOk result (λ objects. length objects ≤ most_lines) }
 {
     let lines = filled_lines(alloc, bytes)?;
     if lines.len() > MOST_LINES {

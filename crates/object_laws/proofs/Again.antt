@@ -9,7 +9,7 @@ use Rattle.object_text.specs.declared.errors.ObjectError.{ObjectError}
 use Rattle.object_text.specs.declared.errors.ObjectError.TheVariants.{TooLong}
 use Rattle.object_text.specs.declared.errors.ListError.{ListError}
 use Rattle.object_text.specs.MemberReaders.{needed_items}
-use Rattle.object_text.specs.Reading.{is_object, object_of, value_of, read_text_of}
+use Rattle.object_text.specs.Reading.{is_object, most_bytes, object_of, read_text_of, value_of}
 use Rattle.object_text.specs.Listing.{is_long, item_of, with_item, items_from, is_list, list_items, one_item, list_in, list_from, list_of}
 use Rattle.object_laws.specs.Given.{IsGiven}
 use Rattle.object_laws.specs.Again.{IsReadAgain, TextIsReadAgain, ListIsReadAgain}
@@ -28,7 +28,7 @@ again o is h short = record { manifest = line_is_read o is (line_utf8 o is h) sh
 
 text_utf8 : (text : List ℕ) → IfOk (read_text_of text) ObjectUtf8
 unfolding read_text_of
-text_utf8 text = if_ok ObjectUtf8 (nat_lt 8192 (length text)) (Err TooLong) _ (λ e. tt) (λ e. step HasUtf8 ObjectUtf8 (value_of text) _ (value_read_utf8 text) (λ d h. object_read_utf8 d h))
+text_utf8 text = if_ok ObjectUtf8 (nat_lt most_bytes (length text)) (Err TooLong) _ (λ e. tt) (λ e. step HasUtf8 ObjectUtf8 (value_of text) _ (value_read_utf8 text) (λ d h. object_read_utf8 d h))
 
 pub text_is_read_again : TextIsReadAgain
 text_is_read_again text o e = again o (text_gives text o e) (of_ok ObjectUtf8 (read_text_of text) o (text_utf8 text) e)

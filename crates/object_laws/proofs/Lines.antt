@@ -14,7 +14,7 @@ use Rattle.kube_types.specs.declared.objects.Object.{Object}
 use Rattle.object_text.specs.Printing.Objects.{object_data, object_line}
 use Rattle.object_text.proofs.LineLaws.{objects_are_lines}
 use Rattle.object_text.specs.declared.errors.ObjectError.{ObjectError}
-use Rattle.object_text.specs.Reading.{object_of, read_text_of}
+use Rattle.object_text.specs.Reading.{most_bytes, object_of, read_text_of}
 use Rattle.object_text.specs.Listing.{is_list, item_of, list_in, list_of}
 use Rattle.object_laws.specs.Given.{IsGiven}
 use Rattle.object_laws.proofs.Canonical.{object_good}
@@ -34,11 +34,11 @@ lines_are_apart o p ho hp same =
     let values : object_data o ≡ object_data p = compact_text_once (object_data o) (object_data p) good.canonical other.canonical good.shallow other.shallow same in
     same_object o p (object_of (object_data o)) (object_back o ho) (ap object_of values ∙ object_back p hp)
 
-pub line_is_read : (o : Object) → IsGiven o → is_utf8 (object_line o) ≡ true → length (object_line o) ≤ 8192 → read_text_of (object_line o) ≡ Ok o
+pub line_is_read : (o : Object) → IsGiven o → is_utf8 (object_line o) ≡ true → length (object_line o) ≤ most_bytes → read_text_of (object_line o) ≡ Ok o
 unfolding object_line read_text_of
 line_is_read o h utf8 short =
     let good = object_good o h in
-    rw (le-ltb 8192 (length (object_line o)) short, utf8, read-compact_text (object_data o) good.canonical good.shallow) (object_back o h)
+    rw (le-ltb most_bytes (length (object_line o)) short, utf8, read-compact_text (object_data o) good.canonical good.shallow) (object_back o h)
 
 -- no kind is named as lists are
 no_list : (kind : Kind) (d : Data) → TellsKind kind d → is_list d ≡ false
@@ -48,9 +48,9 @@ no_list kinds.PersistentVolume d h = rw h.name refl
 no_list kinds.PersistentVolumeClaim d h = rw h.name refl
 no_list kinds.Pod d h = rw h.name refl
 
-pub line_is_listed : (o : Object) → IsGiven o → is_utf8 (object_line o) ≡ true → length (object_line o) ≤ 8192 → list_of (object_line o) ≡ Ok (o ∷ [])
+pub line_is_listed : (o : Object) → IsGiven o → is_utf8 (object_line o) ≡ true → length (object_line o) ≤ most_bytes → list_of (object_line o) ≡ Ok (o ∷ [])
 unfolding object_line list_of list_in item_of
 line_is_listed o h utf8 short =
     let good = object_good o h in
     let tells = object_tells o h in
-    rw (utf8, read-compact_text (object_data o) good.canonical good.shallow, tells.members, no_list (kind_of o) (object_data o) tells, no_float_good good, le-ltb 8192 (length (compact_text (object_data o))) short, object_back o h) refl
+    rw (utf8, read-compact_text (object_data o) good.canonical good.shallow, tells.members, no_list (kind_of o) (object_data o) tells, no_float_good good, le-ltb most_bytes (length (compact_text (object_data o))) short, object_back o h) refl

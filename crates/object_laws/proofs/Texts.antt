@@ -18,7 +18,7 @@ use Rattle.object_text.specs.declared.errors.ObjectError.TheVariants.{TooLong}
 use Rattle.object_text.specs.declared.errors.ListError.{ListError}
 use Rattle.object_text.specs.MemberWords.{member_word}
 use Rattle.object_text.specs.MemberReaders.{at, as_items, needed_from, needed, needed_items}
-use Rattle.object_text.specs.Reading.{is_object, object_of, value_in, value_of, read_text_of}
+use Rattle.object_text.specs.Reading.{is_object, most_bytes, object_of, read_text_of, value_in, value_of}
 use Rattle.object_text.specs.Listing.{is_long, item_of, with_item, items_from, is_list, list_items, one_item, list_in, list_from, list_of}
 use Rattle.object_laws.specs.Given.{IsGiven}
 use Rattle.object_laws.specs.Laws.{TextGives, ListGives}
@@ -51,7 +51,7 @@ value_given text = by (is_utf8 text) (read text) refl
 text_given : (text : List ℕ) → IfOk (read_text_of text) IsGiven
 unfolding read_text_of
 text_given text =
-    if_ok IsGiven (nat_lt 8192 (length text)) (Err TooLong) _ (λ e. tt) (λ e. step (IsTaken 127) IsGiven (value_of text) _ (value_given text) (λ d h. sound_given d (sound_whole d h)))
+    if_ok IsGiven (nat_lt most_bytes (length text)) (Err TooLong) _ (λ e. tt) (λ e. step (IsTaken 127) IsGiven (value_of text) _ (value_given text) (λ d h. sound_given d (sound_whole d h)))
 
 pub text_gives : TextGives
 text_gives text o e = of_ok IsGiven (read_text_of text) o (text_given text) e

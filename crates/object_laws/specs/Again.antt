@@ -3,7 +3,7 @@
 use Rattle.std.specs.Prelude.{◌≡◌, ℕ, ◌≤◌, List, [], ◌∷◌, length, All, Ok}
 use Rattle.kube_types.specs.declared.objects.Object.{Object}
 use Rattle.object_text.specs.Printing.Objects.{object_line}
-use Rattle.object_text.specs.Reading.{read_text_of}
+use Rattle.object_text.specs.Reading.{most_bytes, read_text_of}
 use Rattle.object_text.specs.Listing.{list_of}
 
 -- the line of an object gives the object, as a manifest and as a list of one
@@ -13,7 +13,7 @@ pub record LineGivesBack (o : Object) : Type 0 where
 
 -- where it is no longer than a manifest may be: members that a manifest leaves out are printed
 abbrev pub IsReadAgain : Object → Type 0
-IsReadAgain o = length (object_line o) ≤ 8192 → LineGivesBack o
+IsReadAgain o = length (object_line o) ≤ most_bytes → LineGivesBack o
 
 -- what the text of a manifest gives
 abbrev pub TextIsReadAgain : Type 0

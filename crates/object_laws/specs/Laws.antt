@@ -6,7 +6,7 @@ use Rattle.json_text.specs.Build.{Good}
 use Rattle.json_text.specs.Canonical.{IsLine}
 use Rattle.kube_types.specs.declared.objects.Object.{Object}
 use Rattle.object_text.specs.Printing.Objects.{object_data, object_line}
-use Rattle.object_text.specs.Reading.{object_of, read_text_of}
+use Rattle.object_text.specs.Reading.{most_bytes, object_of, read_text_of}
 use Rattle.object_text.specs.Listing.{list_of}
 use Rattle.object_laws.specs.Given.{IsGiven}
 
@@ -16,11 +16,11 @@ PrintedGivesBack = (o : Object) → IsGiven o → object_of (object_data o) ≡ 
 
 -- its line is read as the object, where it is UTF-8 and no longer than a manifest may be
 abbrev pub LineIsRead : Type 0
-LineIsRead = (o : Object) → IsGiven o → is_utf8 (object_line o) ≡ true → length (object_line o) ≤ 8192 → read_text_of (object_line o) ≡ Ok o
+LineIsRead = (o : Object) → IsGiven o → is_utf8 (object_line o) ≡ true → length (object_line o) ≤ most_bytes → read_text_of (object_line o) ≡ Ok o
 
 -- and so does a reader of lists read it, as the one object
 abbrev pub LineIsListed : Type 0
-LineIsListed = (o : Object) → IsGiven o → is_utf8 (object_line o) ≡ true → length (object_line o) ≤ 8192 → list_of (object_line o) ≡ Ok (o ∷ [])
+LineIsListed = (o : Object) → IsGiven o → is_utf8 (object_line o) ≡ true → length (object_line o) ≤ most_bytes → list_of (object_line o) ≡ Ok (o ∷ [])
 
 -- its JSON is canonical and nests no deeper than is read
 abbrev pub PrintedIsCanonical : Type 0

@@ -11,14 +11,14 @@ use Rattle.object_text.specs.declared.errors.ObjectError.{ObjectError}
 use Rattle.object_text.specs.declared.errors.ObjectError.TheVariants.{NotObject, TooLong}
 use Rattle.object_text.specs.declared.errors.ListError.{ListError}
 use Rattle.object_text.specs.MemberReaders.{at, needed_items}
-use Rattle.object_text.specs.Reading.{is_object, object_of, value_of}
+use Rattle.object_text.specs.Reading.{is_object, most_bytes, object_of, value_of}
 
--- the compact text of the value has more than 8 KiB; a value that holds a number which is not whole has no such text, and
+-- the compact text of the value has more bytes than a manifest may have; a value that holds a number which is not whole has no such text, and
 -- is refused for that number, whatever its size
 abbrev pub is_long : Data → Bool
-is_long d = if has_float d then false else nat_lt 8192 (length (compact_text d))
+is_long d = if has_float d then false else nat_lt most_bytes (length (compact_text d))
 
--- the object of an item of at most 8 KiB
+-- the object of an item of at most so many bytes
 unfoldable pub item_of : Data → Result Object ObjectError
 item_of d = if is_long d then Err TooLong else object_of d
 

@@ -81,6 +81,10 @@ value_in (Some d) = Ok d
 abbrev pub value_of : List ℕ → Result Data ObjectError
 value_of text = value_in (json_of text)
 
--- the object of a manifest of at most 8 KiB
+-- how many bytes a manifest may have: 8 KiB, a choice of this project
+abbrev pub most_bytes : ℕ
+most_bytes = 8192
+
+-- the object of a manifest of at most so many bytes
 unfoldable pub read_text_of : List ℕ → Result Object ObjectError
-read_text_of text = if nat_lt 8192 (length text) then Err TooLong else (value_of text >>= λ d. object_of d)
+read_text_of text = if nat_lt most_bytes (length text) then Err TooLong else (value_of text >>= λ d. object_of d)
