@@ -1,7 +1,8 @@
 //! The text of a history and of a run's final state.
 //!
-//! Promises: setup, entries, final objects and summary are written exactly as their canonical lines; an
-//! object that many entries tell is printed once and copied. Not said: that the entries are a history.
+//! Promises: setup, entries, final objects and summary are written exactly as their canonical lines. Not
+//! said: that the entries are a history, and that an object which many entries tell is printed once and
+//! copied, which is for speed alone.
 #![tactic(auto)]
 
 pub mod asks;
