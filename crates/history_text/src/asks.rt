@@ -16,7 +16,7 @@ use kube_types::pairs::Pairs;
 use kube_types::parts::{ClaimPhase, Kind, Modes};
 use kube_types::text::Text;
 use kube_types::uid::Uid;
-use object_text::printing::members::{AsJson, MemberSink, put_filled, put_optional};
+use object_print::members::{AsJson, MemberSink, put_filled, put_optional};
 
 fn put_key(out: &mut MemberTexts, key: &Key) -> Result<(), OutOfMemory>
     ensures ok { OnOk result (out.new ≡ with_options with_member_text (key_pairs key.now) out.old) }

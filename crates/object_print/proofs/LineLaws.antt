@@ -1,7 +1,7 @@
 -- Canonical texts of objects are lines.
 use Rattle.json_text.proofs.Lines.{text_line}
-use Rattle.object_text.specs.Printing.Objects.{object_data, object_line}
-use Rattle.object_text.specs.Laws.{ObjectsAreLines}
+use Rattle.object_print.specs.Objects.{object_data, object_line}
+use Rattle.object_print.specs.Laws.{ObjectsAreLines}
 
 pub objects_are_lines : ObjectsAreLines
 unfolding object_line

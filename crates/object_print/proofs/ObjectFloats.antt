@@ -10,11 +10,11 @@ use Rattle.kube_types.specs.declared.objects.Amount.{Amount}
 use Rattle.kube_types.specs.declared.objects.Meta.{Meta}
 use Rattle.kube_types.specs.declared.objects.Object.TheVariants as objects
 use Rattle.json_text.specs.Members.{filled, extra_members}
-use Rattle.object_text.specs.Printing.Metadata.{uid_data, filled_or_always, front_pairs, back_pairs, head_pairs, meta_data}
-use Rattle.object_text.specs.Printing.Parts.{modes_data, storage_pairs, ref_pairs, expr_pairs, term_pairs, selector_pairs, storage_data, requests_data, ref_data, source_pairs, source_data, expr_data, term_data, node_terms_data, selector_data}
-use Rattle.object_text.specs.Printing.Volumes.{volume_front, volume_back, volume_status_pairs, volume_pairs, volume_spec, volume_status, volume_data}
-use Rattle.object_text.specs.Printing.Claims.{claim_front, claim_back, claim_status_pairs, claim_pairs, got_modes, claim_spec, claim_status, claim_data}
-use Rattle.object_text.specs.Printing.Objects.{class_back, pod_pairs, node_pairs, class_data, pod_spec, pod_data, node_data, object_data}
+use Rattle.object_print.specs.Metadata.{uid_data, filled_or_always, front_pairs, back_pairs, head_pairs, meta_data}
+use Rattle.object_print.specs.Parts.{modes_data, storage_pairs, ref_pairs, expr_pairs, term_pairs, selector_pairs, storage_data, requests_data, ref_data, source_pairs, source_data, expr_data, term_data, node_terms_data, selector_data}
+use Rattle.object_print.specs.Volumes.{volume_front, volume_back, volume_status_pairs, volume_pairs, volume_spec, volume_status, volume_data}
+use Rattle.object_print.specs.Claims.{claim_front, claim_back, claim_status_pairs, claim_pairs, got_modes, claim_spec, claim_status, claim_data}
+use Rattle.object_print.specs.Objects.{class_back, pod_pairs, node_pairs, class_data, pod_spec, pod_data, node_data, object_data}
 use Rattle.json_text.proofs.NoFloats.{NoFloat, NoFloats, FloatFree, float_put_all, float_object_of, float_filled, float_counted, float_option, float_array, float_filled_array, string_free, float_filled_pairs, float_filled_object, float_within, float_extra}
 
 pub uid_free : FloatFree uid_data

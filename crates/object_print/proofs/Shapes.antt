@@ -12,7 +12,7 @@ use Rattle.kube_types.specs.declared.objects.Expr.{Expr}
 use Rattle.kube_types.specs.declared.objects.Selector.{Selector}
 use Rattle.kube_types.specs.declared.objects.NodeTerms.{NodeTerms}
 use Rattle.json_text.specs.Members.{within, items_data, array_data}
-use Rattle.object_text.specs.Printing.Parts.{modes_data, storage_pairs, storage_data, requests_data, ref_pairs, ref_data, source_pairs, source_data, expr_pairs, expr_data, term_pairs, term_data, node_terms_data, selector_pairs, selector_data}
+use Rattle.object_print.specs.Parts.{modes_data, storage_pairs, storage_data, requests_data, ref_pairs, ref_data, source_pairs, source_data, expr_pairs, expr_data, term_pairs, term_data, node_terms_data, selector_pairs, selector_data}
 use Rattle.json_text.specs.Writing.{Writing, closed, opened, with_all, with_value, items_after, names_rise, with_some}
 use Rattle.json_text.proofs.Closing.{closes, closes_array, closes_within}
 

@@ -13,14 +13,10 @@ use Rattle.kube_types.specs.declared.objects.Expr.{Expr}
 use Rattle.kube_types.specs.declared.objects.Selector.{Selector}
 use Rattle.kube_types.specs.declared.objects.NodeTerms.{NodeTerms}
 use Rattle.json_text.specs.Members.{MemberList, text, filled_array, filled_pairs, array_data, object_of, within}
-use Rattle.object_text.specs.Printing.Metadata.{uid_data}
+use Rattle.object_print.specs.Metadata.{uid_data}
 
 unfoldable pub modes_data : Modes → Data
 modes_data m = array_data string (mode_words m)
-
-abbrev pub volume_mode : Bool → List ℕ
-volume_mode false = codes "Filesystem"
-volume_mode true = codes "Block"
 
 -- an amount, as it was written
 abbrev pub storage_pairs : Amount → MemberList

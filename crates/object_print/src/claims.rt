@@ -3,16 +3,17 @@
 ghost use Rattle.std.specs.Prelude.{◌≡◌, ◌++◌, [], Some, OnOk, codes};
 ghost use Rattle.json_text.specs.Members.{with_option, with_options};
 ghost use Rattle.json_text.specs.Writing.{written, with_some, with_all, with_value};
-ghost use Rattle.object_text.specs.Printing.Claims.{claim_front, claim_back, got_modes, claim_status_pairs, claim_spec, claim_status};
+ghost use Rattle.object_print.specs.Claims.{claim_front, claim_back, got_modes, claim_status_pairs, claim_spec, claim_status};
 
-use crate::printing::members::{AsJson, MemberSink, put_filled, put_filled_list, put_optional};
-use crate::printing::metadata::put_head;
-use crate::printing::parts::{Requests, volume_mode};
+use crate::members::{AsJson, MemberSink, put_filled, put_filled_list, put_optional};
+use crate::metadata::put_head;
+use crate::parts::Requests;
 use json_text::member_texts::MemberTexts;
 use json_text::writing::JsonText;
 use kube_types::copies::OutOfMemory;
 use kube_types::objects::{Amount, Claim};
 use kube_types::parts::Modes;
+use kube_types::words::volume_mode;
 
 fn put_claim_front<S: MemberSink>(out: &mut S, claim: &Claim) -> Result<(), OutOfMemory>
     ensures ok { OnOk result (S.state out.new
@@ -35,7 +36,7 @@ fn put_claim_back<S: MemberSink>(out: &mut S, claim: &Claim) -> Result<(), OutOf
     put_filled(out, "volumeName", claim.volume_name.as_str())
 }
 
-#[tactic(auto, using(crate::proofs::Claims::closes_claim_spec))]
+#[tactic(auto, using(crate::proofs::ClosingClaims::closes_claim_spec))]
 fn write_plain_spec(out: &mut JsonText, claim: &Claim) -> Result<(), OutOfMemory>
     requires { claim.now.extra ≡ [] }
     ensures ok { OnOk result (written out.new ≡ with_value (claim_spec claim.now) (written out.old)) }
@@ -47,7 +48,7 @@ fn write_plain_spec(out: &mut JsonText, claim: &Claim) -> Result<(), OutOfMemory
 }
 
 /// Over the members that are kept.
-#[tactic(auto, using(crate::proofs::Claims::closes_full_claim_spec))]
+#[tactic(auto, using(crate::proofs::ClosingClaims::closes_full_claim_spec))]
 fn write_full_spec(out: &mut JsonText, claim: &Claim) -> Result<(), OutOfMemory>
     ensures ok { OnOk result (written out.new ≡ with_value (claim_spec claim.now) (written out.old)) }
 {
@@ -88,7 +89,7 @@ fn put_claim_state(out: &mut JsonText, claim: &Claim) -> Result<(), OutOfMemory>
     out.put_text("phase", claim.phase.name())
 }
 
-#[tactic(auto, using(crate::proofs::Claims::closes_claim_status))]
+#[tactic(auto, using(crate::proofs::ClosingClaims::closes_claim_status))]
 fn write_status(out: &mut JsonText, claim: &Claim) -> Result<(), OutOfMemory>
     ensures ok { OnOk result (written out.new ≡ with_value (claim_status claim.now) (written out.old)) }
 {
@@ -116,11 +117,11 @@ fn put_status(out: &mut JsonText, claim: &Claim) -> Result<(), OutOfMemory>
 }
 
 impl AsJson for Claim {
-    ghost use Rattle.object_text.specs.Printing.Claims.{claim_data};
+    ghost use Rattle.object_print.specs.Claims.{claim_data};
 
     ghost json = { claim_data };
 
-    #[tactic(auto, using(crate::proofs::Claims::closes_claim))]
+    #[tactic(auto, using(crate::proofs::ClosingClaims::closes_claim))]
     fn write(&self, out: &mut JsonText) -> Result<(), OutOfMemory> {
         out.begin_object()?;
         put_head(out, "v1", "PersistentVolumeClaim", true, &self.meta)?;

@@ -1,6 +1,6 @@
 //! Laws over the texts of objects.
 
-ghost use Rattle.object_text.specs.Laws.{ObjectsHoldNoFloat, ObjectsAreLines};
+ghost use Rattle.object_print.specs.Laws.{ObjectsHoldNoFloat, ObjectsAreLines};
 
 /// No object's JSON holds a float, so that its compact text is one text.
 pub fn objects_hold_no_float()

@@ -3,9 +3,9 @@
 ghost use Rattle.std.specs.Prelude.{◌≡◌, OnOk, codes};
 ghost use Rattle.json_text.specs.Members.{with_option, with_options};
 ghost use Rattle.json_text.specs.Writing.{written, with_some, with_all};
-ghost use Rattle.object_text.specs.Printing.Metadata.{filled_or_always, front_pairs, back_pairs, head_pairs};
+ghost use Rattle.object_print.specs.Metadata.{filled_or_always, front_pairs, back_pairs, head_pairs};
 
-use crate::printing::members::{
+use crate::members::{
     AsJson, MemberSink, put_counted, put_filled, put_filled_list, put_filled_pairs, put_optional,
 };
 use json_text::writing::JsonText;
@@ -15,7 +15,7 @@ use kube_types::uid::Uid;
 use uuid::Uuid;
 
 impl AsJson for Uid {
-    ghost use Rattle.object_text.specs.Printing.Metadata.{uid_data};
+    ghost use Rattle.object_print.specs.Metadata.{uid_data};
 
     ghost json = { uid_data };
 
@@ -65,7 +65,7 @@ fn put_back(out: &mut JsonText, namespaced: bool, meta: &Meta) -> Result<(), Out
 }
 
 impl<'a> AsJson for MetaOf<'a> {
-    ghost use Rattle.object_text.specs.Printing.Metadata.{meta_data};
+    ghost use Rattle.object_print.specs.Metadata.{meta_data};
 
     ghost json = { λ m. meta_data m.namespaced m.meta.now };
 

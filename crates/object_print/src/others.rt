@@ -4,26 +4,16 @@ ghost use Rattle.std.specs.Prelude.{◌≡◌, ◌++◌, [], false, OnOk, codes}
 ghost use Rattle.serde_json.specs.Data.{string};
 ghost use Rattle.json_text.specs.Members.{within, filled_object, extra_members, with_options};
 ghost use Rattle.json_text.specs.Writing.{written, with_some, with_all, with_value};
-ghost use Rattle.object_text.specs.Printing.Metadata.{head_pairs};
-ghost use Rattle.object_text.specs.Printing.Objects.{binding_mode, class_back, class_data, node_spec, pod_spec};
+ghost use Rattle.object_print.specs.Metadata.{head_pairs};
+ghost use Rattle.object_print.specs.Objects.{class_back, class_data, node_spec, pod_spec};
 
-use crate::printing::members::{AsJson, MemberSink, put_filled, put_filled_pairs};
-use crate::printing::metadata::put_head;
+use crate::members::{AsJson, MemberSink, put_filled, put_filled_pairs};
+use crate::metadata::put_head;
 use json_text::member_texts::MemberTexts;
 use json_text::writing::JsonText;
 use kube_types::copies::OutOfMemory;
 use kube_types::objects::{Class, Node, Pod};
-
-/// The word for classes whose claims wait for their first pod, and for others.
-pub fn binding_mode(delayed: bool) -> &'static str
-    ensures { result.now ≡ binding_mode delayed }
-{
-    if delayed {
-        "WaitForFirstConsumer"
-    } else {
-        "Immediate"
-    }
-}
+use kube_types::words::binding_mode;
 
 fn put_class_head<S: MemberSink>(out: &mut S, class: &Class) -> Result<(), OutOfMemory>
     ensures ok { OnOk result (S.state out.new
@@ -42,7 +32,7 @@ fn put_class_back<S: MemberSink>(out: &mut S, class: &Class) -> Result<(), OutOf
     out.put_text("volumeBindingMode", binding_mode(class.delayed))
 }
 
-#[tactic(auto, using(crate::proofs::Others::closes_class))]
+#[tactic(auto, using(crate::proofs::ClosingOthers::closes_class))]
 fn write_plain_class(out: &mut JsonText, class: &Class) -> Result<(), OutOfMemory>
     requires { class.now.extra ≡ [] }
     ensures ok { OnOk result (written out.new ≡ with_value (class_data class.now) (written out.old)) }
@@ -54,7 +44,7 @@ fn write_plain_class(out: &mut JsonText, class: &Class) -> Result<(), OutOfMemor
 }
 
 /// Over the members that are kept.
-#[tactic(auto, using(crate::proofs::Others::closes_full_class))]
+#[tactic(auto, using(crate::proofs::ClosingOthers::closes_full_class))]
 fn write_full_class(out: &mut JsonText, class: &Class) -> Result<(), OutOfMemory>
     ensures ok { OnOk result (written out.new ≡ with_value (class_data class.now) (written out.old)) }
 {
@@ -65,7 +55,7 @@ fn write_full_class(out: &mut JsonText, class: &Class) -> Result<(), OutOfMemory
 }
 
 impl AsJson for Class {
-    ghost use Rattle.object_text.specs.Printing.Objects.{class_data};
+    ghost use Rattle.object_print.specs.Objects.{class_data};
 
     ghost json = { class_data };
 
@@ -100,7 +90,7 @@ fn put_node_name(out: &mut JsonText, node: &str) -> Result<(), OutOfMemory>
     write_node_name(out, node)
 }
 
-#[tactic(auto, using(crate::proofs::Others::plain_pod_spec))]
+#[tactic(auto, using(crate::proofs::ClosingOthers::plain_pod_spec))]
 fn put_plain_pod_spec(out: &mut JsonText, pod: &Pod) -> Result<(), OutOfMemory>
     requires { pod.now.extra ≡ [] }
     ensures ok { OnOk result (written out.new
@@ -110,7 +100,7 @@ fn put_plain_pod_spec(out: &mut JsonText, pod: &Pod) -> Result<(), OutOfMemory>
 }
 
 /// Over the members that are kept.
-#[tactic(auto, using(crate::proofs::Others::full_pod_spec))]
+#[tactic(auto, using(crate::proofs::ClosingOthers::full_pod_spec))]
 fn put_full_pod_spec(out: &mut JsonText, pod: &Pod) -> Result<(), OutOfMemory>
     ensures ok { OnOk result (written out.new
         ≡ with_some (codes "spec") (filled_object (pod_spec pod.now)) (written out.old)) }
@@ -132,11 +122,11 @@ fn put_pod_spec(out: &mut JsonText, pod: &Pod) -> Result<(), OutOfMemory>
 }
 
 impl AsJson for Pod {
-    ghost use Rattle.object_text.specs.Printing.Objects.{pod_data};
+    ghost use Rattle.object_print.specs.Objects.{pod_data};
 
     ghost json = { pod_data };
 
-    #[tactic(auto, using(crate::proofs::Others::closes_pod))]
+    #[tactic(auto, using(crate::proofs::ClosingOthers::closes_pod))]
     fn write(&self, out: &mut JsonText) -> Result<(), OutOfMemory> {
         out.begin_object()?;
         put_head(out, "v1", "Pod", true, &self.meta)?;
@@ -145,7 +135,7 @@ impl AsJson for Pod {
     }
 }
 
-#[tactic(auto, using(crate::proofs::Others::no_node_spec))]
+#[tactic(auto, using(crate::proofs::ClosingOthers::no_node_spec))]
 fn put_no_spec(out: &mut JsonText, node: &Node) -> Result<(), OutOfMemory>
     requires { node.now.extra ≡ [] }
     ensures ok { OnOk result (written out.new
@@ -154,7 +144,7 @@ fn put_no_spec(out: &mut JsonText, node: &Node) -> Result<(), OutOfMemory>
     Ok(())
 }
 
-#[tactic(auto, using(crate::proofs::Others::kept_node_spec))]
+#[tactic(auto, using(crate::proofs::ClosingOthers::kept_node_spec))]
 fn put_kept_spec(out: &mut JsonText, node: &Node) -> Result<(), OutOfMemory>
     ensures ok { OnOk result (written out.new
         ≡ with_some (codes "spec") (filled_object (extra_members node.now.extra)) (written out.old)) }
@@ -176,11 +166,11 @@ fn put_node_spec(out: &mut JsonText, node: &Node) -> Result<(), OutOfMemory>
 }
 
 impl AsJson for Node {
-    ghost use Rattle.object_text.specs.Printing.Objects.{node_data};
+    ghost use Rattle.object_print.specs.Objects.{node_data};
 
     ghost json = { node_data };
 
-    #[tactic(auto, using(crate::proofs::Others::closes_node))]
+    #[tactic(auto, using(crate::proofs::ClosingOthers::closes_node))]
     fn write(&self, out: &mut JsonText) -> Result<(), OutOfMemory> {
         out.begin_object()?;
         put_head(out, "v1", "Node", false, &self.meta)?;

@@ -5,23 +5,14 @@ ghost use Rattle.serde_json.specs.Data.{string};
 ghost use Rattle.json_text.specs.Writing.{written, with_some, with_all, with_value, items_after};
 ghost use Rattle.kube_types.specs.Words.{words_if};
 ghost use Rattle.json_text.specs.Members.{items_data, within, array_data};
-ghost use Rattle.object_text.specs.Printing.Parts.{volume_mode, source_pairs, term_data};
+ghost use Rattle.object_print.specs.Parts.{source_pairs, term_data};
 
-use crate::printing::members::{
-    AsJson, MemberSink, put_filled_list, put_filled_pairs, put_optional,
-};
+use crate::members::{AsJson, MemberSink, put_filled_list, put_filled_pairs, put_optional};
 use json_text::writing::JsonText;
 use kube_types::copies::OutOfMemory;
 use kube_types::items::Items;
 use kube_types::objects::{Amount, Expr, NodeTerms, Ref, Selector, Source};
 use kube_types::parts::{Modes, SourceKind};
-
-/// The word for block volumes, and for volumes with a file system.
-pub fn volume_mode(block: bool) -> &'static str
-    ensures { result.now ≡ volume_mode block }
-{
-    if block { "Block" } else { "Filesystem" }
-}
 
 fn word_if(out: &mut JsonText, wanted: bool, word: &str) -> Result<(), OutOfMemory>
     ensures ok { OnOk result (written out.new ≡ items_after (items_data string (words_if wanted word.now)) (written out.old)) }
@@ -30,7 +21,7 @@ fn word_if(out: &mut JsonText, wanted: bool, word: &str) -> Result<(), OutOfMemo
 }
 
 impl AsJson for Modes {
-    ghost use Rattle.object_text.specs.Printing.Parts.{modes_data};
+    ghost use Rattle.object_print.specs.Parts.{modes_data};
 
     ghost json = { modes_data };
 
@@ -46,7 +37,7 @@ impl AsJson for Modes {
 }
 
 impl AsJson for Amount {
-    ghost use Rattle.object_text.specs.Printing.Parts.{storage_data};
+    ghost use Rattle.object_print.specs.Parts.{storage_data};
 
     ghost json = { storage_data };
 
@@ -65,7 +56,7 @@ pub struct Requests<'a> {
 }
 
 impl<'a> AsJson for Requests<'a> {
-    ghost use Rattle.object_text.specs.Printing.Parts.{requests_data};
+    ghost use Rattle.object_print.specs.Parts.{requests_data};
 
     ghost json = { λ r. requests_data r.amount.now };
 
@@ -78,7 +69,7 @@ impl<'a> AsJson for Requests<'a> {
 }
 
 impl AsJson for Ref {
-    ghost use Rattle.object_text.specs.Printing.Parts.{ref_data};
+    ghost use Rattle.object_print.specs.Parts.{ref_data};
 
     ghost json = { ref_data };
 
@@ -113,7 +104,7 @@ fn put_source(out: &mut JsonText, source: &Source) -> Result<(), OutOfMemory>
 }
 
 impl AsJson for Source {
-    ghost use Rattle.object_text.specs.Printing.Parts.{source_data};
+    ghost use Rattle.object_print.specs.Parts.{source_data};
 
     ghost json = { source_data };
 
@@ -126,7 +117,7 @@ impl AsJson for Source {
 }
 
 impl AsJson for Expr {
-    ghost use Rattle.object_text.specs.Printing.Parts.{expr_data};
+    ghost use Rattle.object_print.specs.Parts.{expr_data};
 
     ghost json = { expr_data };
 
@@ -141,7 +132,7 @@ impl AsJson for Expr {
 }
 
 impl AsJson for Items<Expr> {
-    ghost use Rattle.object_text.specs.Printing.Parts.{term_data};
+    ghost use Rattle.object_print.specs.Parts.{term_data};
 
     ghost json = { term_data };
 
@@ -173,7 +164,7 @@ fn put_required(out: &mut JsonText, terms: &NodeTerms) -> Result<(), OutOfMemory
 }
 
 impl AsJson for NodeTerms {
-    ghost use Rattle.object_text.specs.Printing.Parts.{node_terms_data};
+    ghost use Rattle.object_print.specs.Parts.{node_terms_data};
 
     ghost json = { node_terms_data };
 
@@ -186,7 +177,7 @@ impl AsJson for NodeTerms {
 }
 
 impl AsJson for Selector {
-    ghost use Rattle.object_text.specs.Printing.Parts.{selector_data};
+    ghost use Rattle.object_print.specs.Parts.{selector_data};
 
     ghost json = { selector_data };
 

@@ -3,15 +3,15 @@
 ghost use Rattle.std.specs.Prelude.{◌≡◌, ◌++◌, [], Some, OnOk, codes};
 ghost use Rattle.json_text.specs.Members.{with_option, with_options};
 ghost use Rattle.json_text.specs.Writing.{written, with_some, with_value};
-ghost use Rattle.object_text.specs.Printing.Volumes.{volume_front, volume_back, volume_spec, volume_status};
+ghost use Rattle.object_print.specs.Volumes.{volume_front, volume_back, volume_spec, volume_status};
 
-use crate::printing::members::{AsJson, MemberSink, put_filled, put_optional};
-use crate::printing::metadata::put_head;
-use crate::printing::parts::volume_mode;
+use crate::members::{AsJson, MemberSink, put_filled, put_optional};
+use crate::metadata::put_head;
 use json_text::member_texts::MemberTexts;
 use json_text::writing::JsonText;
 use kube_types::copies::OutOfMemory;
 use kube_types::objects::Volume;
+use kube_types::words::volume_mode;
 
 fn put_volume_front<S: MemberSink>(out: &mut S, volume: &Volume) -> Result<(), OutOfMemory>
     ensures ok { OnOk result (S.state out.new
@@ -33,7 +33,7 @@ fn put_volume_back<S: MemberSink>(out: &mut S, volume: &Volume) -> Result<(), Ou
     out.put_text("volumeMode", volume_mode(volume.block))
 }
 
-#[tactic(auto, using(crate::proofs::Volumes::closes_volume_spec))]
+#[tactic(auto, using(crate::proofs::ClosingVolumes::closes_volume_spec))]
 fn write_plain_spec(out: &mut JsonText, volume: &Volume) -> Result<(), OutOfMemory>
     requires { volume.now.extra ≡ [] }
     ensures ok { OnOk result (written out.new ≡ with_value (volume_spec volume.now) (written out.old)) }
@@ -45,7 +45,7 @@ fn write_plain_spec(out: &mut JsonText, volume: &Volume) -> Result<(), OutOfMemo
 }
 
 /// Over the members that are kept.
-#[tactic(auto, using(crate::proofs::Volumes::closes_full_volume_spec))]
+#[tactic(auto, using(crate::proofs::ClosingVolumes::closes_full_volume_spec))]
 fn write_full_spec(out: &mut JsonText, volume: &Volume) -> Result<(), OutOfMemory>
     ensures ok { OnOk result (written out.new ≡ with_value (volume_spec volume.now) (written out.old)) }
 {
@@ -65,7 +65,7 @@ fn write_spec(out: &mut JsonText, volume: &Volume) -> Result<(), OutOfMemory>
     }
 }
 
-#[tactic(auto, using(crate::proofs::Volumes::closes_volume_status))]
+#[tactic(auto, using(crate::proofs::ClosingVolumes::closes_volume_status))]
 fn write_status(out: &mut JsonText, volume: &Volume) -> Result<(), OutOfMemory>
     ensures ok { OnOk result (written out.new ≡ with_value (volume_status volume.now) (written out.old)) }
 {
@@ -93,11 +93,11 @@ fn put_status(out: &mut JsonText, volume: &Volume) -> Result<(), OutOfMemory>
 }
 
 impl AsJson for Volume {
-    ghost use Rattle.object_text.specs.Printing.Volumes.{volume_data};
+    ghost use Rattle.object_print.specs.Volumes.{volume_data};
 
     ghost json = { volume_data };
 
-    #[tactic(auto, using(crate::proofs::Volumes::closes_volume))]
+    #[tactic(auto, using(crate::proofs::ClosingVolumes::closes_volume))]
     fn write(&self, out: &mut JsonText) -> Result<(), OutOfMemory> {
         out.begin_object()?;
         put_head(out, "v1", "PersistentVolume", false, &self.meta)?;

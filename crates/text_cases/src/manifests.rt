@@ -6,7 +6,7 @@ use kube_types::key::key_of;
 use kube_types::objects::Object;
 use object_text::errors::ObjectError;
 use object_text::listing::read_list;
-use object_text::printing::print_object;
+use object_print::print_object;
 use object_text::reading::read_object;
 use plain_data::copies::{OutOfMemory, Plain};
 use plain_data::text::{Bytes, Text};

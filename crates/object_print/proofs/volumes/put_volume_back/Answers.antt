@@ -1,4 +1,4 @@
-use Rattle.object_text.proofs.printing.volumes.put_volume_back.Goals as goal
+use Rattle.object_print.proofs.volumes.put_volume_back.Goals as goal
 
 pub returns : goal.returns
 returns g c =

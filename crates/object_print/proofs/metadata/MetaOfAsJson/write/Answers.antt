@@ -1,8 +1,8 @@
 use Rattle.std.proofs.Common.{refl, ◌++◌}
 use Rattle.json_text.specs.Writing.{written}
 use Rattle.json_text.proofs.Closing.{closes}
-use Rattle.object_text.specs.Printing.Metadata.{meta_data, front_pairs, back_pairs}
-use Rattle.object_text.proofs.printing.metadata.MetaOfAsJson.write.Goals as goal
+use Rattle.object_print.specs.Metadata.{meta_data, front_pairs, back_pairs}
+use Rattle.object_print.proofs.metadata.MetaOfAsJson.write.Goals as goal
 
 pub returns : goal.returns
 unfolding meta_data

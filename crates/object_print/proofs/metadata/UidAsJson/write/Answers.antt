@@ -1,6 +1,6 @@
 use Rattle.std.proofs.Common.{ℕ, Ok, refl, ◌∙◌}
 use Rattle.kube_types.proofs.UidTexts.{text_is}
-use Rattle.object_text.proofs.printing.metadata.UidAsJson.write.Goals as goal
+use Rattle.object_print.proofs.metadata.UidAsJson.write.Goals as goal
 
 pub returns : goal.returns
 returns c =

@@ -1,6 +1,6 @@
 use Rattle.json_text.specs.Writing.{written}
-use Rattle.object_text.proofs.Shapes.{closes_term}
-use Rattle.object_text.proofs.printing.parts.ItemsExprAsJson.write.Goals as goal
+use Rattle.object_print.proofs.Shapes.{closes_term}
+use Rattle.object_print.proofs.parts.ItemsExprAsJson.write.Goals as goal
 
 pub returns : goal.returns
 returns c =

@@ -1,6 +1,6 @@
 use Rattle.json_text.specs.Writing.{written}
-use Rattle.object_text.proofs.Shapes.{closes_selector}
-use Rattle.object_text.proofs.printing.parts.SelectorAsJson.write.Goals as goal
+use Rattle.object_print.proofs.Shapes.{closes_selector}
+use Rattle.object_print.proofs.parts.SelectorAsJson.write.Goals as goal
 
 pub returns : goal.returns
 returns c =

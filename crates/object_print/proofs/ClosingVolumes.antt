@@ -2,14 +2,14 @@
 use Rattle.std.proofs.Common.{◌≡◌, [], ◌∷◌, ◌++◌, true, false, Option, Some, codes, option_map, refl, sym, ap, ◌∙◌}
 use Rattle.serde_json.specs.Data.{Data, object}
 use Rattle.json_text.specs.Build.{put_all}
-use Rattle.kube_types.specs.Words.{source_word, policy_word}
+use Rattle.kube_types.specs.Words.{source_word, policy_word, volume_mode}
 use Rattle.kube_types.specs.declared.parts.SourceKind.{SourceKind}
 use Rattle.kube_types.specs.declared.parts.SourceKind.TheVariants.{Csi, Nfs, Local, HostPath}
 use Rattle.kube_types.specs.declared.objects.Volume.{Volume}
 use Rattle.json_text.specs.Members.{extra_members, text, filled, with_options, with_member_text, member_texts}
-use Rattle.object_text.specs.Printing.Parts.{modes_data, storage_data, ref_data, source_data, node_terms_data, volume_mode}
-use Rattle.object_text.specs.Printing.Metadata.{head_pairs}
-use Rattle.object_text.specs.Printing.Volumes.{volume_front, volume_back, volume_spec, volume_status_pairs, volume_status, volume_pairs, volume_data}
+use Rattle.object_print.specs.Parts.{modes_data, storage_data, ref_data, source_data, node_terms_data}
+use Rattle.object_print.specs.Metadata.{head_pairs}
+use Rattle.object_print.specs.Volumes.{volume_front, volume_back, volume_spec, volume_status_pairs, volume_status, volume_pairs, volume_data}
 use Rattle.json_text.specs.Writing.{Writing, closed, opened, with_all, with_value, names_rise, with_some, with_texts}
 use Rattle.json_text.proofs.Closing.{closes, no_extra}
 use Rattle.json_text.proofs.MemberTexts.{closes_over}

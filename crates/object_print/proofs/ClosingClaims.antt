@@ -3,8 +3,8 @@ use Rattle.std.proofs.Common.{◌≡◌, [], ◌++◌, true, Some, codes, refl, 
 use Rattle.serde_json.specs.Data.{object}
 use Rattle.json_text.specs.Build.{put_all}
 use Rattle.kube_types.specs.declared.objects.Claim.{Claim}
-use Rattle.object_text.specs.Printing.Metadata.{head_pairs}
-use Rattle.object_text.specs.Printing.Claims.{claim_front, claim_back, claim_spec, claim_status_pairs, claim_status, claim_pairs, claim_data}
+use Rattle.object_print.specs.Metadata.{head_pairs}
+use Rattle.object_print.specs.Claims.{claim_front, claim_back, claim_spec, claim_status_pairs, claim_status, claim_pairs, claim_data}
 use Rattle.json_text.specs.Writing.{Writing, closed, opened, with_all, with_value, with_some, with_texts}
 use Rattle.json_text.specs.Members.{extra_members, with_options, with_member_text, member_texts}
 use Rattle.json_text.proofs.Closing.{closes, no_extra}

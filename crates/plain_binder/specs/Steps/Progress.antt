@@ -12,7 +12,7 @@ use Rattle.call_types.specs.declared.entry.Entry.{Entry}
 use Rattle.call_types.specs.declared.request.Request.{Request}
 use Rattle.binder_model.specs.BindWrites.{next_write}
 use Rattle.plain_binder.specs.Calls.{AreCalls, AreCreates, IsNothingDue, rows_after}
-use Rattle.plain_binder.specs.Stages.{keys_of, AreFresh, AvailableUpTo, AreServed, SettledUpTo, IsBinding}
+use Rattle.plain_binder.specs.Steps.Stages.{keys_of, AreFresh, AvailableUpTo, AreServed, SettledUpTo, IsBinding}
 
 -- the new entries are calls of the binder alone, and so many at most
 pub record Adds (most : ℕ) (old new : List Entry) : Type 0 where

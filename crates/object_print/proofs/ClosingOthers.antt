@@ -9,8 +9,8 @@ use Rattle.json_text.specs.Members.{MemberList, filled, filled_object, extra_mem
 use Rattle.json_text.specs.Writing.{Writing, closed, opened, with_all, with_value, with_some, with_texts, with_filled_texts}
 use Rattle.json_text.proofs.Closing.{closes, no_extra}
 use Rattle.json_text.proofs.MemberTexts.{closes_over, closes_filled}
-use Rattle.object_text.specs.Printing.Metadata.{head_pairs}
-use Rattle.object_text.specs.Printing.Objects.{class_back, class_data, node_spec, pod_spec, pod_pairs, pod_data, node_pairs, node_data}
+use Rattle.object_print.specs.Metadata.{head_pairs}
+use Rattle.object_print.specs.Objects.{class_back, class_data, node_spec, pod_spec, pod_pairs, pod_data, node_pairs, node_data}
 
 abbrev class_head : Class → MemberList
 class_head c = head_pairs (codes "storage.k8s.io/v1") (codes "StorageClass") false c.meta
