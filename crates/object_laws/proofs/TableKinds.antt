@@ -2,7 +2,6 @@
 use Rattle.std.proofs.Common.{◌≡◌, List, [], ◌∷◌, ◌++◌, map, Bool, true, false, codes, Option, Some, None, Result, Ok, Err, refl, sym, ap, ◌∙◌}
 use Rattle.serde_json.specs.Data.{Data, null, boolean, number, string, array, object}
 use Rattle.json_text.specs.Look.{unless_null}
-use Rattle.kube_types.specs.declared.parts.Kind.{Kind}
 use Rattle.kube_types.specs.declared.parts.Kind.TheVariants as kinds
 use Rattle.kube_types.specs.declared.objects.Object.TheVariants as objects
 use Rattle.kube_types.specs.declared.objects.Amount.{Amount}
@@ -16,14 +15,12 @@ use Rattle.object_text.specs.declared.kind_readers.ClaimShape.{ClaimShape}
 use Rattle.object_text.specs.declared.errors.Member.{Member}
 use Rattle.object_text.specs.declared.errors.Member.TheVariants as members
 use Rattle.object_text.specs.declared.errors.ObjectError.{ObjectError}
-use Rattle.object_text.specs.declared.errors.ObjectError.TheVariants.{Missing}
 use Rattle.object_text.specs.Answers.{◌>>=◌}
 use Rattle.object_text.specs.MemberReaders.{at, as_object, needed_from, needed_text, needed_object, needed_way, way_from, object_at, text_or, optional_text, optional_items, pairs_at, texts_at, uid_at, stamp_at, stamp_or_empty, version_at}
 use Rattle.object_text.specs.MetaReaders.{namespace_at, identity_at, marks_at, meta_with, meta_of}
 use Rattle.object_text.specs.PartReaders.{quantity_at, optional_quantity, modes_at, optional_modes, block_at, policy_at, class_policy_at, delayed_at, volume_phase_at, claim_phase_at, claim_ref_at, source_at, terms_or_none, terms_at, selector_at, claims_at}
 use Rattle.object_text.specs.KindReaders.{volume_shape, volume_ties, volume_spec_of, volume_status_of, volume_of, claim_shape, claim_ties, claim_status_of, claim_of, class_of, node_of, pod_of}
-use Rattle.object_text.specs.Reading.{object_of_kind}
-use Rattle.object_laws.specs.Manifests.{Shape, Text, OneOf, Uuid, Version, Moment, Quantity, Modes, Texts, TextMap, Members, Reference, Terms, Selector, PodVolumes, Presence, Required, Optional, Default, Nullable, Row, meta_row, top_row, spec_row, status_row, meta_rows, class_rows, claim_rows, pod_rows, node_rows, volume_front, volume_back, fault, ◌then◌, member_fault, step_to, way_to, after, row_fault, rows_fault, source_fault, kind_fault, FollowsTable, TableExamples}
+use Rattle.object_laws.specs.Manifests.{Text, OneOf, Uuid, Version, Moment, Quantity, Modes, Texts, TextMap, Members, Reference, Terms, Selector, PodVolumes, Presence, Required, Optional, Default, Nullable, Row, meta_row, spec_row, status_row, meta_rows, class_rows, claim_rows, pod_rows, node_rows, volume_front, volume_back, fault, ◌then◌, member_fault, step_to, way_to, after, row_fault, rows_fault, source_fault, FollowsTable, TableExamples}
 use Rattle.object_laws.proofs.TableMembers.{mapped, needed_object_fault, needed_text_fault, quantity_fault, modes_fault, text_fault, namespace_fault, version_fault, optional_text_fault, uid_fault, stamp_fault, stamp_or_empty_fault, block_fault, policy_fault, class_policy_fault, delayed_fault, volume_phase_fault, claim_phase_fault, texts_fault, pairs_fault, optional_quantity_fault, optional_modes_fault, claim_ref_fault, selector_fault, claims_fault, terms_fault}
 
 -- ---- one fault after another

@@ -1,10 +1,9 @@
 -- What a reader of one member refuses is what its row of the table of manifests says.
-use Rattle.std.proofs.Common.{◌≡◌, ℕ, List, [], ◌∷◌, map, bytes_eq, codes, Bool, true, false, ◌||◌, if◌then◌else◌, Option, Some, None, Result, Ok, Err, refl, ap, ◌∙◌}
+use Rattle.std.proofs.Common.{◌≡◌, ℕ, List, [], ◌∷◌, map, bytes_eq, codes, Bool, true, false, ◌||◌, if◌then◌else◌, Option, Some, None, Result, Ok, Err, refl, ◌∙◌}
 use Rattle.std.specs.Prelude.{unwrap_or}
 use Rattle.std.specs.List.{list_any}
-use Rattle.serde_json.specs.Data.{Data, Items}
+use Rattle.serde_json.specs.Data.{Data}
 use Rattle.json_text.specs.Look.{unless_null}
-use Rattle.kube_types.specs.declared.uid.Uid.{Uid}
 use Rattle.kube_types.specs.Words.{policy_word, volume_mode, binding_mode, volume_phase_word, claim_phase_word}
 use Rattle.kube_types.specs.Named.{value_named, both, all_policies, all_volume_phases, all_claim_phases}
 use Rattle.kube_types.specs.declared.parts.Policy.TheVariants.{Retain, Delete}
@@ -18,7 +17,7 @@ use Rattle.object_text.specs.Answers.{◌>>=◌}
 use Rattle.object_text.specs.MemberReaders.{at, as_text, as_items, as_object, needed_from, needed_text, needed_object, way_from, text_from, text_or, optional_from, optional_text, optional_items_from, texts_or_none, texts_at, pairs_or_none, pairs_at, uid_or_none, uid_named, uid_at, stamp_from, stamp_named, stamp_at, stamp_or_empty, version_named, version_at}
 use Rattle.object_text.specs.MetaReaders.{kept_namespace, namespace_at}
 use Rattle.object_text.specs.PartReaders.{amount_in, quantity_at, amount_or_none, optional_quantity, no_modes, modes_from, modes_at, modes_or_none, optional_modes, known, block_at, policy_at, class_policies, class_policy_at, delayed_at, volume_phase_at, claim_phase_at, ref_at, ref_or_none, claim_ref_at, terms_from, terms_or_none, selector_of, selector_or_none, selector_at, claims_or_none, claims_at}
-use Rattle.object_laws.specs.Manifests.{Shape, Text, OneOf, Uuid, Version, Moment, Quantity, Modes, Texts, TextMap, Members, Reference, Terms, Selector, PodVolumes, Presence, Required, Optional, Default, Nullable, fault, one_of, on, shape_fault, member_fault}
+use Rattle.object_laws.specs.Manifests.{Text, OneOf, Uuid, Version, Moment, Quantity, Modes, Texts, TextMap, Members, Reference, Terms, Selector, PodVolumes, Required, Optional, Default, Nullable, fault, one_of, on, shape_fault, member_fault}
 
 -- ---- results and their faults
 
