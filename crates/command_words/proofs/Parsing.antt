@@ -1,5 +1,5 @@
 -- A parse of the command of `clap`, and what the words say.
-use Rattle.std.proofs.Common.{◌≡◌, ◌∙◌, ◌⊎◌, inl, inr, ℕ, true, false, refl, sym, ap, subst, List, [], ◌∷◌, map, Option, Some, None, Result, Ok, Err, IsErrAnd}
+use Rattle.std.proofs.Common.{◌≡◌, ◌∙◌, inl, inr, true, refl, sym, ap, subst, List, [], ◌∷◌, None, Result, Ok, Err, IsErrAnd}
 use Rattle.clap.specs.Walk.{first_of, rows_of}
 use Rattle.clap.specs.Simple.{HasMatchesOf, app_of, is_simple, matches_of}
 use Rattle.clap.specs.Matches.{first_value, found_of}

@@ -1,5 +1,5 @@
 -- What `clap` makes of the words, word by word: the parts of the grammar.
-use Rattle.std.proofs.Common.{◌≡◌, ◌∙◌, ◌&&◌, ◌||◌, ◌⊎◌, inl, inr, ℕ, Bool, cond, codes, true, false, not, refl, sym, ap, ap₂, subst, List, [], ◌∷◌, ◌++◌, map, length, Option, Some, None, is_some, true≢false, append-nil, append_assoc, zero, suc}
+use Rattle.std.proofs.Common.{◌≡◌, ◌∙◌, ◌&&◌, ◌||◌, inl, inr, ℕ, Bool, cond, codes, true, false, not, refl, sym, ap, ap₂, subst, List, [], ◌∷◌, ◌++◌, length, Option, Some, None, is_some, true≢false, append-nil}
 use Rattle.std.specs.List.{find, fold, list_all, list_any}
 use Rattle.std.specs.Option.{option_map_or}
 use Rattle.std.specs.Prelude.{slice_get}
@@ -10,10 +10,9 @@ use Rattle.clap.specs.Simple.{Shape, built, entered, filled, matches_of}
 use Rattle.clap.specs.Kinds.{Kinds, or_else}
 use Rattle.clap.specs.Faults.{bundle_fault, check_fault, default_fault, defaults_fault, entered_fault, fault_of, flag_word_fault, flags_fault, long_fault, positional_fault, settle_fault, step_fault, stray_fault, turn_fault, use_fault, walk_fault}
 use Rattle.clap.specs.declared.error.kind.ErrorKind.TheVariants as kind
-use Rattle.clap.specs.declared.builder.value_parser.Reading.TheVariants.{AsWritten}
 use Rattle.clap.specs.declared.parser.matches.ValueSource.TheVariants.{CommandLine}
 use Rattle.command_words.specs.Grammar.{Part, Text, is_option, last_parts, option_parts, parts_from, with_part, word_parts, words_of}
-use Rattle.command_words.specs.Steps.Line.{command_rule, line, option_rule}
+use Rattle.command_words.specs.Steps.Line.{line, option_rule}
 use Rattle.command_words.specs.declared.words.Words.{Words}
 use Rattle.command_words.proofs.Parts.{adds, all_added, bad_command, bad_number, has_more, hyphen, hyphen_of_long, hyphen_of_short, is_one_of, itself, one_none, reads, row, same_text, take_part}
 

@@ -1,6 +1,6 @@
 -- Words that are of the grammar, with what they say, and words that are not. A choice of this project.
-use Rattle.std.specs.Prelude.{◌≡◌, ℕ, List, [], ◌∷◌, Option, Some, None, codes}
-use Rattle.command_words.specs.Grammar.{Text, words_of}
+use Rattle.std.specs.Prelude.{◌≡◌, ℕ, [], ◌∷◌, Option, Some, None, codes}
+use Rattle.command_words.specs.Grammar.{words_of}
 use Rattle.command_words.specs.declared.words.Command.{Command}
 use Rattle.command_words.specs.declared.words.Command.TheVariants.{Replay, Run, Check, Gen}
 use Rattle.command_words.specs.declared.words.Words.{Words}
