@@ -1,14 +1,14 @@
 -- The next call of a machine is allowed by its evidence.
 use Rattle.std.proofs.Common.{◌≡◌, ◌⊎◌, List, [], Bool, true, false, true≢false, Option, Some, None, inl, inr, refl, sym, ap, subst, ◌∙◌, if◌then◌else◌}
 use Rattle.plain_data.specs.Pairs.{without_key}
-use Rattle.std.specs.Prelude.{◌&&◌, ◌||◌, not, is_some, is_none}
+use Rattle.std.specs.Prelude.{◌||◌, not, is_some, is_none}
 use Rattle.std.proofs.lemmas.Bool.{and_parts}
 use Rattle.kube_types.specs.declared.uid.Uid.{Uid}
 use Rattle.kube_types.specs.declared.objects.Ref.{Ref}
 use Rattle.kube_types.specs.declared.objects.Meta.{Meta}
 use Rattle.kube_types.specs.declared.objects.Volume.{Volume as VolumeData}
 use Rattle.kube_types.specs.declared.objects.Claim.{Claim as ClaimData}
-use Rattle.kube_types.specs.Bindings.{bound_by_controller, has_key, is_empty, is_for, is_ended, is_bound, is_completed, is_protected_volume, carries, ref_uid}
+use Rattle.kube_types.specs.Bindings.{bound_by_controller, has_key, is_empty, is_for, is_ended, is_bound, is_protected_volume, carries, ref_uid}
 use Rattle.call_types.specs.declared.entry.Entry.{Entry}
 use Rattle.call_types.specs.declared.request.Request.{Request}
 use Rattle.call_types.specs.declared.request.Request.TheVariants.{Get}
@@ -23,7 +23,7 @@ use Rattle.model_laws.proofs.Lists.{none_some, one}
 use Rattle.binder_machines.specs.declared.machine.Machine.{Machine}
 use Rattle.binder_machines.specs.declared.machine.Machine.TheVariants.{Frees, Binds, MarksBound, ReadsClaim, Releases, Unbinds, ReadsVolume, Loses}
 use Rattle.binder_machines.specs.Machines.{call_of, may_bind, on_volume, read_of, write_lost, write_released}
-use Rattle.binder_machines.specs.Evidence.{Keeps, MayReadClaim, MayReadVolume, ToldThis, ToldThisClaim}
+use Rattle.binder_machines.specs.Evidence.{Keeps, MayReadClaim, ToldThis, ToldThisClaim}
 use Rattle.binder_machines.proofs.Tests.{either, empty_is, bytes_are, carried, free}
 
 -- the tests of a binding, as facts

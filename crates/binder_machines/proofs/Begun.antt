@@ -1,6 +1,6 @@
 -- A machine that begins has its evidence, where the look-up shows what was told newest.
-use Rattle.std.proofs.Common.{◌≡◌, ℕ, List, [], Bool, true, false, true≢false, Option, Some, None, inl, inr, refl, sym, ◌∙◌, ap, subst, if◌then◌else◌}
-use Rattle.std.specs.Prelude.{not, is_none, is_some, slice_get}
+use Rattle.std.proofs.Common.{◌≡◌, ℕ, List, Bool, true, false, true≢false, Option, Some, None, inl, refl, sym, ◌∙◌, ap, subst}
+use Rattle.std.specs.Prelude.{is_some}
 use Rattle.kube_types.specs.declared.uid.Uid.{Uid}
 use Rattle.kube_types.specs.declared.key.Key.{Key}
 use Rattle.kube_types.specs.declared.parts.Kind.TheVariants as kinds
@@ -10,34 +10,32 @@ use Rattle.kube_types.specs.declared.objects.Volume.{Volume as VolumeData}
 use Rattle.kube_types.specs.declared.objects.Claim.{Claim as ClaimData}
 use Rattle.kube_types.specs.declared.objects.Object.{Object}
 use Rattle.kube_types.specs.declared.objects.Object.TheVariants.{Class, Node, Volume, Claim, Pod}
-use Rattle.kube_types.specs.Keys.{AreRows, key_of, row_at, rows_of}
-use Rattle.kube_types.specs.Bindings.{is_completed, is_deleting, is_empty, is_ended, is_for, ref_uid}
+use Rattle.kube_types.specs.Keys.{AreRows, key_of, row_at}
+use Rattle.kube_types.specs.Bindings.{is_completed, is_empty, is_ended, ref_uid}
 use Rattle.kube_types.proofs.KeyOrder.{row_at_key}
 use Rattle.kube_types.proofs.RowPlaces.{row_at_place}
 use Rattle.call_types.specs.declared.entry.Entry.{Entry}
-use Rattle.binder_model.specs.At.{HasUid}
-use Rattle.binder_model.specs.ObjectKeys.{claim_key, volume_key}
+use Rattle.binder_model.specs.ObjectKeys.{claim_key}
 use Rattle.binder_model.specs.BinderDue.{claim_with}
-use Rattle.binder_model.specs.Matching.{fits, has_match}
-use Rattle.binder_model.specs.Reading.{AsksForClaim, AsksForVolume, LacksUid}
+use Rattle.binder_model.specs.Reading.{LacksUid}
 use Rattle.binder_model.specs.Told.{IsClaimWith, IsNewest, IsVolumeWith, newest, object_of}
 use Rattle.informer_cache.specs.All.{AllKnown, AllStandFor, all_objects}
-use Rattle.claim_sync.specs.ClaimDecision.{claim_decision, completed_step, is_blocked, named_step, named_volume}
+use Rattle.claim_sync.specs.ClaimDecision.{claim_decision}
 use Rattle.claim_sync.specs.declared.action.ClaimStep.{ClaimStep}
 use Rattle.claim_sync.specs.declared.action.ClaimStep.TheVariants as steps
 use Rattle.volume_sync.specs.VolumeDecision.{claim_by_reference, claim_by_uid, or_else, seen_claim, has_uid, volume_decision}
 use Rattle.volume_sync.specs.declared.action.VolumeAction.{VolumeAction}
 use Rattle.volume_sync.specs.declared.action.VolumeAction.TheVariants as actions
 use Rattle.model_laws.proofs.Evidence.{told_map}
-use Rattle.model_laws.proofs.Lists.{none_some, one}
+use Rattle.model_laws.proofs.Lists.{none_some}
 use Rattle.model_laws.proofs.Newest.{newest_told}
 use Rattle.binder_machines.specs.declared.decide.First.{First}
-use Rattle.binder_machines.specs.declared.decide.First.TheVariants.{Drops, Queues, Begins}
+use Rattle.binder_machines.specs.declared.decide.First.TheVariants.{Begins}
 use Rattle.binder_machines.specs.declared.machine.Machine.{Machine}
-use Rattle.binder_machines.specs.declared.machine.Machine.TheVariants.{Binds, ReadsClaim, ReadsVolume, Loses}
+use Rattle.binder_machines.specs.declared.machine.Machine.TheVariants.{Binds, ReadsClaim, ReadsVolume}
 use Rattle.binder_machines.specs.Machines.{machine_for}
-use Rattle.binder_machines.specs.Evidence.{Keeps, MayReadClaim, MayReadVolume, ToldThis, ToldThisClaim}
-use Rattle.binder_machines.specs.FirstSteps.{IsClaimFirst, IsFirst, claim_first, first_of, lost_for, queue_of, volume_first}
+use Rattle.binder_machines.specs.Evidence.{Keeps, MayReadVolume, ToldThis, ToldThisClaim}
+use Rattle.binder_machines.specs.FirstSteps.{IsClaimFirst, IsFirst, first_of, lost_for, queue_of, volume_first}
 use Rattle.binder_machines.proofs.Moves.{Seen, becomes, decided_keeps, found, lacks}
 use Rattle.binder_machines.proofs.Shown.{completed_of, is_for_completed}
 use Rattle.binder_machines.proofs.Tests.{empty_is}

@@ -22,7 +22,7 @@ use Rattle.call_types.specs.declared.request.Request.{Request}
 use Rattle.call_types.specs.declared.request.Request.TheVariants.{Get}
 use Rattle.binder_model.specs.ObjectKeys.{volume_key}
 use Rattle.binder_model.specs.BinderDue.{has_other_uid}
-use Rattle.binder_model.specs.BindWrites.{claim_write, is_completed_with, next_write, shows_bound, write_bound, write_claim_status, write_completion, write_reference}
+use Rattle.binder_model.specs.BindWrites.{claim_write, next_write, shows_bound, write_bound, write_claim_status, write_completion, write_reference}
 use Rattle.binder_model.specs.Matching.{eligible, fits, has_match, may_serve}
 use Rattle.volume_match.specs.Volumes.{as_volume}
 use Rattle.claim_sync.specs.ClaimDecision.{IsChoice, claim_decision, completed_step, has_write, is_blocked, named_step, named_volume}
@@ -32,12 +32,11 @@ use Rattle.volume_sync.specs.VolumeDecision.{free_action, has_uid, referred_acti
 use Rattle.volume_sync.specs.declared.action.VolumeAction.{VolumeAction}
 use Rattle.volume_sync.specs.declared.action.VolumeAction.TheVariants as actions
 use Rattle.model_laws.proofs.Lists.{none_some, one}
-use Rattle.binder_machines.specs.declared.decide.First.{First}
-use Rattle.binder_machines.specs.declared.decide.First.TheVariants.{Drops, Queues, Begins}
+use Rattle.binder_machines.specs.declared.decide.First.TheVariants.{Begins}
 use Rattle.binder_machines.specs.declared.machine.Machine.{Machine}
-use Rattle.binder_machines.specs.declared.machine.Machine.TheVariants.{Frees, Binds, MarksBound, ReadsClaim, Releases, Unbinds, ReadsVolume, Loses}
+use Rattle.binder_machines.specs.declared.machine.Machine.TheVariants.{Frees, Binds, MarksBound, ReadsClaim, Releases, Unbinds, ReadsVolume}
 use Rattle.binder_machines.specs.BeginLaw.{AreStored, BegunHaveCalls}
-use Rattle.binder_machines.specs.FirstSteps.{IsBindingTo, IsClaimFirst, IsFirst, claim_first, first_of, lost_for, queue_of, volume_first}
+use Rattle.binder_machines.specs.FirstSteps.{IsClaimFirst, IsFirst, lost_for, queue_of, volume_first}
 use Rattle.binder_machines.specs.Machines.{call_of, machine_for, may_bind, on_volume, read_of}
 use Rattle.binder_machines.proofs.Begun.{first_back, known_of, machine_in}
 use Rattle.binder_machines.proofs.Shown.{free_reads_none}

@@ -1,10 +1,8 @@
 -- The evidence of a machine goes on with the answer to its call.
 use Rattle.std.proofs.Common.{◌≡◌, ◌≢◌, ◌⊎◌, List, [], ◌∷◌, Bool, true, false, true≢false, Option, Some, None, inl, inr, refl, sym, ◌∙◌, ap, subst, if◌then◌else◌}
-use Rattle.std.specs.Prelude.{◌&&◌, ◌||◌, not, is_some, is_none, bytes_eq}
-use Rattle.std.proofs.lemmas.Bool.{and_parts}
+use Rattle.std.specs.Prelude.{◌&&◌, ◌||◌, not, is_some, bytes_eq}
 use Rattle.kube_types.specs.declared.uid.Uid.{Uid}
 use Rattle.kube_types.specs.declared.objects.Ref.{Ref}
-use Rattle.kube_types.specs.declared.objects.Meta.{Meta}
 use Rattle.kube_types.specs.declared.objects.Volume.{Volume as VolumeData}
 use Rattle.kube_types.specs.declared.objects.Claim.{Claim as ClaimData}
 use Rattle.kube_types.specs.declared.objects.Object.{Object}
@@ -18,9 +16,8 @@ use Rattle.call_types.specs.declared.reply.Reply.{Reply}
 use Rattle.call_types.specs.declared.reply.Reply.TheVariants as replies
 use Rattle.binder_model.specs.At.{HasUid, IsElsewhere, IsSameObject}
 use Rattle.binder_model.specs.ObjectKeys.{claim_key, volume_key}
-use Rattle.binder_model.specs.BindWrites.{unbound_volume}
 use Rattle.binder_model.specs.BinderDue.{claim_with, has_other_uid, is_reclaimed, is_uid_of_other}
-use Rattle.binder_model.specs.BinderLicence.{IsCompletedVersion, IsGone, IsHere, IsNotCarrying, IsReferring, MayBind, MayLose, MayRelease, MayUnbind, WasReadGone, WasReadLost}
+use Rattle.binder_model.specs.BinderLicence.{IsCompletedVersion, IsGone, IsHere, IsNotCarrying, IsReferring, WasReadGone, WasReadLost}
 use Rattle.binder_model.specs.Reading.{LacksUid}
 use Rattle.binder_model.specs.Told.{SomeOf, TellsObject, IsLiveAnswer, objects_in}
 use Rattle.volume_match.specs.Volumes.{as_volume}
@@ -28,7 +25,6 @@ use Rattle.claim_sync.specs.ClaimDecision.{read_step}
 use Rattle.claim_sync.specs.declared.action.ClaimStep.{ClaimStep}
 use Rattle.claim_sync.specs.declared.action.ClaimStep.TheVariants as steps
 use Rattle.volume_sync.specs.VolumeDecision.{claimed_action, free_action, has_uid, referred_action}
-use Rattle.volume_sync.specs.declared.action.VolumeAction.{VolumeAction}
 use Rattle.volume_sync.specs.declared.action.VolumeAction.TheVariants as actions
 use Rattle.model_laws.proofs.Evidence.{told_claim, told_volume}
 use Rattle.model_laws.proofs.Lists.{none_some, one}

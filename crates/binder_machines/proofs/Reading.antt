@@ -1,11 +1,10 @@
 -- After a read the machines decide anew by the tables of the decisions.
-use Rattle.std.proofs.Common.{◌≡◌, ◌∙◌, Bool, true, false, true≢false, List, Option, Some, None, refl, sym, ap}
+use Rattle.std.proofs.Common.{◌≡◌, ◌∙◌, Bool, true, false, true≢false, Option, Some, None, refl, sym, ap}
 use Rattle.kube_types.specs.declared.lookup.Live.{Live}
 use Rattle.kube_types.specs.declared.lookup.Live.TheVariants.{NotAsked, Absent, Present}
 use Rattle.kube_types.specs.declared.objects.Ref.{Ref}
 use Rattle.kube_types.specs.declared.objects.Volume.{Volume as VolumeData}
 use Rattle.kube_types.specs.declared.objects.Claim.{Claim as ClaimData}
-use Rattle.kube_types.specs.declared.objects.Object.{Object}
 use Rattle.call_types.specs.declared.reply.Refusal.TheVariants as refusals
 use Rattle.call_types.specs.declared.reply.Reply.{Reply}
 use Rattle.call_types.specs.declared.reply.Reply.TheVariants as replies
@@ -16,10 +15,9 @@ use Rattle.volume_sync.specs.VolumeDecision.{seen_claim, volume_decision}
 use Rattle.volume_sync.specs.declared.action.VolumeAction.{VolumeAction}
 use Rattle.volume_sync.specs.declared.action.VolumeAction.TheVariants as actions
 use Rattle.binder_machines.specs.declared.decide.First.{First}
-use Rattle.binder_machines.specs.declared.decide.First.TheVariants.{Drops, Queues, Begins}
-use Rattle.binder_machines.specs.declared.machine.Machine.{Machine}
+use Rattle.binder_machines.specs.declared.decide.First.TheVariants.{Begins}
 use Rattle.binder_machines.specs.declared.machine.Machine.TheVariants as machines
-use Rattle.binder_machines.specs.FirstSteps.{claim_first, lost_for, queue_of, volume_first}
+use Rattle.binder_machines.specs.FirstSteps.{claim_first, queue_of, volume_first}
 use Rattle.binder_machines.specs.Machines.{confirmed_for, machine_for, moved, parks_at, volume_read, claim_read}
 use Rattle.binder_machines.specs.ReadLaw.{ClaimReadDecides, IsAnswer, ParkedHaveEnded, VolumeReadDecides}
 use Rattle.binder_machines.proofs.Shown.{claim_reads, is_for_completed, unseen, volume_reads}

@@ -18,8 +18,7 @@ use Rattle.volume_match.specs.Volumes.{as_volume}
 use Rattle.claim_sync.specs.ClaimDecision.{claim_decision, completed_step, has_write, is_blocked, named_step, named_volume, other_step, read_step}
 use Rattle.claim_sync.specs.declared.action.ClaimStep.{ClaimStep}
 use Rattle.claim_sync.specs.declared.action.ClaimStep.TheVariants as steps
-use Rattle.volume_sync.specs.VolumeDecision.{claim_by_reference, claim_by_uid, claimed_action, free_action, has_uid, live_claim, or_else, referred_action, seen_claim, volume_decision}
-use Rattle.volume_sync.specs.declared.action.VolumeAction.{VolumeAction}
+use Rattle.volume_sync.specs.VolumeDecision.{claim_by_reference, claim_by_uid, free_action, has_uid, live_claim, or_else, referred_action, seen_claim, volume_decision}
 use Rattle.volume_sync.specs.declared.action.VolumeAction.TheVariants as actions
 use Rattle.binder_machines.specs.Machines.{claim_in, claim_read, volume_read}
 

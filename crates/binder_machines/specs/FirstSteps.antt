@@ -1,6 +1,6 @@
 -- What is done about a key, on the look-up alone. Source: `syncVolume`, `syncUnboundClaim` and `syncBoundClaim` of `pv_controller.go`. That a
 -- claim is not Lost by what the look-up shows of its volume, but by what a read shows, is a choice of this project.
-use Rattle.std.specs.Prelude.{ℕ, ◌≡◌, Bool, true, false, List, Option, Some, None, slice_get, if◌then◌else◌}
+use Rattle.std.specs.Prelude.{ℕ, ◌≡◌, Bool, true, false, List, Option, Some, None, slice_get}
 use Rattle.kube_types.specs.declared.parts.Kind.TheVariants as kinds
 use Rattle.kube_types.specs.declared.lookup.Live.TheVariants.{NotAsked}
 use Rattle.kube_types.specs.declared.objects.Ref.{Ref}
