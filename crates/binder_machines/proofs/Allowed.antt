@@ -4,6 +4,8 @@ use Rattle.plain_data.specs.Pairs.{without_key}
 use Rattle.std.specs.Prelude.{◌||◌, not, is_some, is_none}
 use Rattle.std.proofs.lemmas.Bool.{and_parts}
 use Rattle.kube_types.specs.declared.uid.Uid.{Uid}
+use Rattle.kube_types.specs.declared.parts.VolumePhase.{VolumePhase}
+use Rattle.kube_types.specs.declared.parts.VolumePhase.TheVariants as volumes
 use Rattle.kube_types.specs.declared.objects.Ref.{Ref}
 use Rattle.kube_types.specs.declared.objects.Meta.{Meta}
 use Rattle.kube_types.specs.declared.objects.Volume.{Volume as VolumeData}
@@ -17,12 +19,12 @@ use Rattle.binder_model.specs.At.{IsWrittenAt}
 use Rattle.binder_model.specs.ObjectKeys.{claim_key, volume_key}
 use Rattle.binder_model.specs.BindWrites.{annotated_meta_if, claim_write, completed_with, is_completed_with, next_write, shows_bound, taken_for, unbound_volume, without_uid, write_available, write_bound, write_claim_status, write_completion, write_reference, write_unbound}
 use Rattle.binder_model.specs.BinderLicence.{IsTaken, MayTake, MayBind, MayComplete, MayShow, MayFree, MayLose, MayRelease, MayUnbind, IsHere, IsBoundFor, IsShown}
-use Rattle.binder_model.specs.Licence.{AreOfKind, AtVolumeKey, BinderMay, BinderVolume, Licensed}
+use Rattle.binder_model.specs.Licence.{AreOfKind, AtVolumeKey, BinderMay, BinderPhase, BinderVolume, Licensed}
 use Rattle.model_laws.proofs.Evidence.{told_claim, told_volume}
 use Rattle.model_laws.proofs.Lists.{none_some, one}
 use Rattle.binder_machines.specs.declared.machine.Machine.{Machine}
 use Rattle.binder_machines.specs.declared.machine.Machine.TheVariants.{Frees, Binds, MarksBound, ReadsClaim, Releases, Unbinds, ReadsVolume, Loses}
-use Rattle.binder_machines.specs.Machines.{call_of, may_bind, on_volume, read_of, write_lost, write_released}
+use Rattle.binder_machines.specs.Machines.{call_of, may_bind, phase_call, read_of, write_lost, write_phase}
 use Rattle.binder_machines.specs.Evidence.{Keeps, MayReadClaim, ToldThis, ToldThisClaim}
 use Rattle.binder_machines.proofs.Tests.{either, empty_is, bytes_are, carried, free}
 
@@ -152,16 +154,18 @@ lost_allowed c mine told row = (refl, told_claim (λ o. IsWrittenAt (Some c.meta
 read_allowed : (v : VolumeData) (mine : List Entry) (r : Request) → MayReadClaim v mine → v.meta.namespace ≡ [] → read_of v.claim_ref ≡ Some r → BinderMay mine r
 read_allowed v mine r kept placed e = answered mine (Get (claim_key kept.reference.namespace kept.reference.name)) r (sym (ap read_of kept.refers) ∙ e) (inl (kept.asks placed))
 
-on_told : (v : VolumeData) (mine : List Entry) (a r : Request) → (v.meta.namespace ≡ [] → BinderMay mine a) → on_volume v a ≡ Some r → BinderMay mine r
-on_told v mine a r may e = tested mine (is_empty v.meta.namespace) (Some a) r (λ placed is. answered mine a r is (may (empty_is v.meta.namespace placed))) e
+phase_allowed : (v : VolumeData) (phase : VolumePhase) (mine : List Entry) (r : Request) → ToldThis v mine → BinderPhase phase mine v → phase_call v phase ≡ Some r → BinderMay mine r
+phase_allowed v phase mine r told row e =
+    tested mine (is_empty v.meta.namespace) (Some (write_phase v phase)) r
+    (λ placed is. answered mine (write_phase v phase) r is (volume_status v mine (BinderPhase phase mine) told (empty_is v.meta.namespace placed) row)) e
 
 pub row_allows : (machine : Machine) (mine : List Entry) (request : Request) → Keeps machine mine → call_of machine ≡ Some request → BinderMay mine request
 unfolding call_of
-row_allows (Frees v) mine r kept e = on_told v mine (write_available v) r (λ placed. volume_status v mine MayFree kept.0 placed kept.1) e
+row_allows (Frees v) mine r kept e = phase_allowed v volumes.Available mine r kept.0 kept.1 e
 row_allows (Binds v c) mine r kept e = tested mine (may_bind v c) (next_write v c) r (λ may is. binding_allowed v c mine r kept.0 kept.1 (open_of v c may) is) e
-row_allows (MarksBound v) mine r kept e = on_told v mine (write_bound v) r (λ placed. volume_status v mine (MayBind mine) kept.0 placed kept.1) e
+row_allows (MarksBound v) mine r kept e = phase_allowed v volumes.Bound mine r kept.0 kept.1 e
 row_allows (ReadsClaim v) mine r kept e = tested mine _ (read_of v.claim_ref) r (λ known is. read_allowed v mine r kept (empty_is v.meta.namespace (and_parts _ _ known).0) is) e
-row_allows (Releases v) mine r kept e = on_told v mine (write_released v) r (λ placed. volume_status v mine (MayRelease mine) kept.0 placed kept.1) e
+row_allows (Releases v) mine r kept e = phase_allowed v volumes.Released mine r kept.0 kept.1 e
 row_allows (Unbinds v) mine r kept e = answered mine (write_unbound v) r e (unbinding_allowed v mine kept.0 kept.1)
 row_allows (ReadsVolume c) mine r kept e = tested mine (is_some c.meta.uid) (Some (Get (volume_key c.volume_name))) r (λ known is. answered mine _ r is (inr kept.asks)) e
 row_allows (Loses c) mine r kept e = answered mine (write_lost c) r e (lost_allowed c mine kept.0 kept.1)

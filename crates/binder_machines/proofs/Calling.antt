@@ -37,7 +37,7 @@ use Rattle.binder_machines.specs.declared.machine.Machine.{Machine}
 use Rattle.binder_machines.specs.declared.machine.Machine.TheVariants.{Frees, Binds, MarksBound, ReadsClaim, Releases, Unbinds, ReadsVolume}
 use Rattle.binder_machines.specs.BeginLaw.{AreStored, BegunHaveCalls}
 use Rattle.binder_machines.specs.FirstSteps.{IsClaimFirst, IsFirst, lost_for, queue_of, volume_first}
-use Rattle.binder_machines.specs.Machines.{call_of, machine_for, may_bind, on_volume, read_of}
+use Rattle.binder_machines.specs.Machines.{call_of, machine_for, may_bind, phase_call, read_of, write_phase}
 use Rattle.binder_machines.proofs.Begun.{first_back, known_of, machine_in}
 use Rattle.binder_machines.proofs.Shown.{free_reads_none}
 use Rattle.binder_machines.proofs.Tests.{either}
@@ -61,8 +61,8 @@ not_false false h = refl
 calls : (a b : Machine) → Some a ≡ Some b → is_some (call_of a) ≡ true → is_some (call_of b) ≡ true
 calls a b e is = subst (λ m. is_some (call_of m) ≡ true) (one a b e) is
 
-on_volume_calls : (v : VolumeData) (r : Request) → v.meta.namespace ≡ [] → is_some (on_volume v r) ≡ true
-on_volume_calls v r placed = ap (λ (n : List ℕ). is_some (if is_empty n then Some r else None)) placed
+phase_calls : (v : VolumeData) (phase : VolumePhase) → v.meta.namespace ≡ [] → is_some (phase_call v phase) ≡ true
+phase_calls v phase placed = ap (λ (n : List ℕ). is_some (if is_empty n then Some (write_phase v phase) else None)) placed
 
 -- volumes
 
@@ -86,9 +86,9 @@ unfolding call_of
 volume_calls rows v actions.Nothing machine placed known is e = none_some e
 volume_calls rows v actions.QueueClaim machine placed known is e = none_some e
 volume_calls rows v actions.ReadClaim machine placed known is e = calls (ReadsClaim v) machine e (read_calls v placed known (known_to_read rows v is))
-volume_calls rows v actions.Available machine placed known is e = calls (Frees v) machine e (on_volume_calls v _ placed)
-volume_calls rows v actions.Bound machine placed known is e = calls (MarksBound v) machine e (on_volume_calls v _ placed)
-volume_calls rows v actions.Release machine placed known is e = calls (Releases v) machine e (on_volume_calls v _ placed)
+volume_calls rows v actions.Available machine placed known is e = calls (Frees v) machine e (phase_calls v _ placed)
+volume_calls rows v actions.Bound machine placed known is e = calls (MarksBound v) machine e (phase_calls v _ placed)
+volume_calls rows v actions.Release machine placed known is e = calls (Releases v) machine e (phase_calls v _ placed)
 volume_calls rows v actions.Unbind machine placed known is e = calls (Unbinds v) machine e refl
 
 volume_begun : (rows : List Object) (v : VolumeData) (a : VolumeAction) (machine : Machine) → v.meta.namespace ≡ [] → is_some v.meta.uid ≡ true → volume_decision rows v NotAsked ≡ a → Begins machine ≡ volume_first v a → is_some (call_of machine) ≡ true

@@ -166,9 +166,9 @@ record Call (v : VolumeData) (r : Ref) (request : Request) : Type 0 where
   uid : Uid
   has : v.meta.uid ≡ Some uid
 
-claim_call : (v : VolumeData) (r : Ref) (request : Request) → v.claim_ref ≡ Some r → call_of (ReadsClaim v) ≡ Some request → Call v r request
+claim_was_asked : (v : VolumeData) (r : Ref) (request : Request) → v.claim_ref ≡ Some r → call_of (ReadsClaim v) ≡ Some request → Call v r request
 unfolding call_of
-claim_call v r request refers = by (is_empty v.meta.namespace) v.meta.uid refl
+claim_was_asked v r request refers = by (is_empty v.meta.namespace) v.meta.uid refl
   where
     by : (b : Bool) (u : Option Uid) → v.meta.uid ≡ u → (if b && is_some u then read_of v.claim_ref else None) ≡ Some request → Call v r request
     by false u h e = none_some e
@@ -190,7 +190,7 @@ claim_goes_on v o mine e next kept told call read = decided_keeps v true (claim_
 
     lacking : is_ended v.phase ≡ false → has_uid v ≡ true → claim_in (ref_uid v.claim_ref) o ≡ None → Some (Releases v) ≡ Some next → Keeps next (e ∷ mine)
     lacking live known none s =
-        let c = claim_call v kept.reference e.request kept.refers call in
+        let c = claim_was_asked v kept.reference e.request kept.refers call in
         let same : IsSameObject v.meta v.meta = record { uid = c.uid; first = c.has; second = c.has } in
         let was : WasReadGone (e ∷ mine) v kept.reference kept.uid =
         inl ((told, c.key, read.live (IsGone kept.uid) (gone kept.uid o (sym uid_is_its ∙ none))), told_volume (IsReferring v kept.reference) v mine kept.volume (record { same = same; refers = kept.refers }))
@@ -237,9 +237,9 @@ record VolumeCall (c : ClaimData) (request : Request) : Type 0 where
   uid : Uid
   has : c.meta.uid ≡ Some uid
 
-volume_call : (c : ClaimData) (request : Request) → call_of (ReadsVolume c) ≡ Some request → VolumeCall c request
+volume_was_asked : (c : ClaimData) (request : Request) → call_of (ReadsVolume c) ≡ Some request → VolumeCall c request
 unfolding call_of
-volume_call c request = by c.meta.uid refl
+volume_was_asked c request = by c.meta.uid refl
   where
     by : (u : Option Uid) → c.meta.uid ≡ u → (if is_some u then Some (Get (volume_key c.volume_name)) else None) ≡ Some request → VolumeCall c request
     by None h e = none_some e
@@ -255,7 +255,7 @@ why_lost c o mine e kept told call read is = by (is_completed c) (is_empty c.vol
     by false empty n s = cc
     by true true n s = inl (empty_is c.volume_name n)
     by true false n s =
-        let k = volume_call c e.request call in
+        let k = volume_was_asked c e.request call in
         let same : IsSameObject c.meta c.meta = record { uid = k.uid; first = k.has; second = k.has } in
         inr (inl ((told, k.key, read.live (IsNotCarrying c) (not_carrying c o s)), told_claim (IsCompletedVersion c) c mine kept.claim (record { same = same; completed = kept.completed })))
 

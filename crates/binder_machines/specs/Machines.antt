@@ -4,6 +4,7 @@
 use Rattle.std.specs.Prelude.{Bool, true, false, not, ◌&&◌, ◌||◌, Option, Some, None, bytes_eq, is_none, is_some, if◌then◌else◌}
 use Rattle.kube_types.specs.declared.uid.Uid.{Uid}
 use Rattle.kube_types.specs.declared.parts.ClaimPhase.TheVariants as claims
+use Rattle.kube_types.specs.declared.parts.VolumePhase.{VolumePhase}
 use Rattle.kube_types.specs.declared.parts.VolumePhase.TheVariants as volumes
 use Rattle.kube_types.specs.declared.objects.Ref.{Ref}
 use Rattle.kube_types.specs.declared.objects.Volume.{Volume as VolumeData}
@@ -18,7 +19,7 @@ use Rattle.call_types.specs.declared.reply.Refusal.TheVariants.{NotFound}
 use Rattle.call_types.specs.declared.reply.Reply.{Reply}
 use Rattle.call_types.specs.declared.reply.Reply.TheVariants.{Done, Found, Refused}
 use Rattle.binder_model.specs.ObjectKeys.{claim_key, volume_key}
-use Rattle.binder_model.specs.BindWrites.{next_write, write_available, write_bound, write_unbound}
+use Rattle.binder_model.specs.BindWrites.{next_write, write_unbound}
 use Rattle.binder_model.specs.BinderDue.{claim_with}
 use Rattle.volume_match.specs.Volumes.{as_volume}
 use Rattle.claim_sync.specs.ClaimDecision.{read_step}
@@ -32,18 +33,19 @@ use Rattle.binder_machines.specs.declared.machine.Machine.TheVariants.{Frees, Bi
 
 -- the next call
 
--- A volume has no namespace: the store refuses to create one that has. So the test fails in no history
-abbrev pub on_volume : VolumeData → Request → Option Request
-on_volume v request = if is_empty v.meta.namespace then Some request else None
-
 -- The claim has a UID and names this volume or none, and the volume has no reference or is for it. Each pair on which a binding is decided
 -- is so (an object has a UID from its creation on), and so is what the writes answer, which is what was written. So the test fails in no history
 abbrev pub may_bind : VolumeData → ClaimData → Bool
 may_bind v c =
     is_some c.meta.uid && is_empty v.meta.namespace && (is_none v.claim_ref || is_for v c) && (is_empty c.volume_name || bytes_eq c.volume_name v.meta.name)
 
-abbrev pub write_released : VolumeData → Request
-write_released v = UpdateStatus (volume_key v.meta.name) (statuses.Volume volumes.Released) (Some v.meta.version)
+-- the write of a phase of the volume
+abbrev pub write_phase : VolumeData → VolumePhase → Request
+write_phase v phase = UpdateStatus (volume_key v.meta.name) (statuses.Volume phase) (Some v.meta.version)
+
+-- A volume has no namespace: no store takes one that has. So the test fails in no history
+abbrev pub phase_call : VolumeData → VolumePhase → Option Request
+phase_call v phase = if is_empty v.meta.namespace then Some (write_phase v phase) else None
 
 -- the access modes and the capacity stay
 abbrev pub write_lost : ClaimData → Request
@@ -51,20 +53,31 @@ write_lost c =
     UpdateStatus (claim_key c.meta.namespace c.meta.name)
     (statuses.Claim claims.Lost c.got_modes c.got) (Some c.meta.version)
 
+-- the next of the four writes
+abbrev pub bind_call : VolumeData → ClaimData → Option Request
+bind_call v c = if may_bind v c then next_write v c else None
+
 -- the read of the claim that the reference names
 abbrev pub read_of : Option Ref → Option Request
 read_of None = None
 read_of (Some r) = Some (Get (claim_key r.namespace r.name))
 
 -- An object has a UID from its creation on. So the tests of it fail in no history
+abbrev pub claim_call : VolumeData → Option Request
+claim_call v = if is_empty v.meta.namespace && is_some v.meta.uid then read_of v.claim_ref else None
+
+-- the read of the volume that the claim names
+abbrev pub volume_call : ClaimData → Option Request
+volume_call c = if is_some c.meta.uid then Some (Get (volume_key c.volume_name)) else None
+
 unfoldable pub call_of : Machine → Option Request
-call_of (Frees v) = on_volume v (write_available v)
-call_of (Binds v c) = if may_bind v c then next_write v c else None
-call_of (MarksBound v) = on_volume v (write_bound v)
-call_of (ReadsClaim v) = if is_empty v.meta.namespace && is_some v.meta.uid then read_of v.claim_ref else None
-call_of (Releases v) = on_volume v (write_released v)
+call_of (Frees v) = phase_call v volumes.Available
+call_of (Binds v c) = bind_call v c
+call_of (MarksBound v) = phase_call v volumes.Bound
+call_of (ReadsClaim v) = claim_call v
+call_of (Releases v) = phase_call v volumes.Released
 call_of (Unbinds v) = Some (write_unbound v)
-call_of (ReadsVolume c) = if is_some c.meta.uid then Some (Get (volume_key c.volume_name)) else None
+call_of (ReadsVolume c) = volume_call c
 call_of (Loses c) = Some (write_lost c)
 
 -- what a decision begins

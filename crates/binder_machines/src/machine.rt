@@ -5,13 +5,14 @@ ghost use Rattle.binder_machines.specs.Machines.{call_of, confirmed_for, machine
 ghost use Rattle.claim_sync.specs.ClaimDecision.{step_of};
 
 use crate::reads::{claim_read, has_uid, is_available, volume_read};
-use crate::requests::{has_namespace, may_bind, read_of, read_volume, write_lost, write_released};
-use bind_writes::{next_write, unbind, write_available, write_bound};
+use crate::requests::{bind_call, claim_call, phase_call, volume_call, write_lost};
+use bind_writes::unbind;
 use call_types::reply::{Refusal, Reply};
 use call_types::request::Request;
 use claim_sync::ClaimAction;
 use kube_types::copies::{OutOfMemory, Plain};
 use kube_types::objects::{Claim, Object, Volume};
+use kube_types::parts::VolumePhase;
 use std::alloc::Global;
 use volume_sync::VolumeAction;
 
@@ -61,43 +62,13 @@ impl Machine {
         ensures { IfOk result (λ call. call ≡ call_of self.now) }
     {
         match self {
-            Machine::Frees(volume) => {
-                if has_namespace(volume) {
-                    return Ok(None);
-                }
-                Ok(Some(write_available(alloc, volume)?))
-            }
-            Machine::Binds(volume, claim) => {
-                if may_bind(volume, claim) {
-                    return next_write(alloc, volume, claim);
-                }
-                Ok(None)
-            }
-            Machine::MarksBound(volume) => {
-                if has_namespace(volume) {
-                    return Ok(None);
-                }
-                Ok(Some(write_bound(alloc, volume)?))
-            }
-            Machine::ReadsClaim(volume) => {
-                if has_namespace(volume) || volume.meta.uid.is_none() {
-                    return Ok(None);
-                }
-                read_of(alloc, &volume.claim_ref)
-            }
-            Machine::Releases(volume) => {
-                if has_namespace(volume) {
-                    return Ok(None);
-                }
-                Ok(Some(write_released(alloc, volume)?))
-            }
+            Machine::Frees(volume) => phase_call(alloc, volume, VolumePhase::Available),
+            Machine::Binds(volume, claim) => bind_call(alloc, volume, claim),
+            Machine::MarksBound(volume) => phase_call(alloc, volume, VolumePhase::Bound),
+            Machine::ReadsClaim(volume) => claim_call(alloc, volume),
+            Machine::Releases(volume) => phase_call(alloc, volume, VolumePhase::Released),
             Machine::Unbinds(volume) => Ok(Some(unbind(alloc, volume)?)),
-            Machine::ReadsVolume(claim) => {
-                if claim.meta.uid.is_none() {
-                    return Ok(None);
-                }
-                Ok(Some(read_volume(alloc, claim)?))
-            }
+            Machine::ReadsVolume(claim) => volume_call(alloc, claim),
             Machine::Loses(claim) => Ok(Some(write_lost(alloc, claim)?)),
         }
     }

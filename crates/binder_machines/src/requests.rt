@@ -1,11 +1,10 @@
-//! The requests of the machines beside those of a binding, and what they ask of the objects.
+//! The calls of the machines, and what they ask of the objects.
 
-ghost use Rattle.std.specs.Prelude.{◌≡◌, not, IfOk};
-ghost use Rattle.kube_types.specs.Bindings.{is_empty};
-ghost use Rattle.call_types.specs.declared.request.Request.TheVariants.{Get};
+ghost use Rattle.std.specs.Prelude.{◌≡◌, IfOk};
 ghost use Rattle.binder_model.specs.ObjectKeys.{claim_key, volume_key};
-ghost use Rattle.binder_machines.specs.Machines.{may_bind, read_of, write_lost, write_released};
+ghost use Rattle.binder_machines.specs.Machines.{bind_call, claim_call, may_bind, phase_call, read_of, volume_call, write_lost};
 
+use bind_writes::next_write;
 use call_types::request::{NewStatus, Request};
 use kube_types::bindings::{is_empty, is_for};
 use kube_types::copies::{OutOfMemory, Plain, copy_option};
@@ -15,14 +14,22 @@ use kube_types::parts::{ClaimPhase, Kind, VolumePhase};
 use kube_types::text::Text;
 use std::alloc::Global;
 
-pub(crate) fn has_namespace(volume: &Volume) -> bool
-    ensures { result ≡ not (is_empty volume.now.meta.namespace) }
+/// The next write of the binding. None where the pair is not one to be bound.
+pub(crate) fn bind_call(
+    alloc: Global,
+    volume: &Volume,
+    claim: &Claim,
+) -> Result<Option<Request>, OutOfMemory>
+    ensures { IfOk result (λ call. call ≡ bind_call volume.now claim.now) }
 {
-    !is_empty(&volume.meta.namespace)
+    if may_bind(volume, claim) {
+        return next_write(alloc, volume, claim);
+    }
+    Ok(None)
 }
 
 /// Whether the claim may be bound to the volume.
-pub(crate) fn may_bind(volume: &Volume, claim: &Claim) -> bool
+fn may_bind(volume: &Volume, claim: &Claim) -> bool
     ensures { result ≡ may_bind volume.now claim.now }
 {
     claim.meta.uid.is_some()
@@ -51,11 +58,19 @@ pub(crate) fn claim_key(alloc: Global, namespace: &Text, name: &Text) -> Result<
     })
 }
 
+/// The read of the claim that the volume's reference names. None where the volume has a namespace or
+/// no UID.
+pub(crate) fn claim_call(alloc: Global, volume: &Volume) -> Result<Option<Request>, OutOfMemory>
+    ensures { IfOk result (λ call. call ≡ claim_call volume.now) }
+{
+    if !is_empty(&volume.meta.namespace) || volume.meta.uid.is_none() {
+        return Ok(None);
+    }
+    read_of(alloc, &volume.claim_ref)
+}
+
 /// The read of the claim that the reference names.
-pub(crate) fn read_of(
-    alloc: Global,
-    reference: &Option<Ref>,
-) -> Result<Option<Request>, OutOfMemory>
+fn read_of(alloc: Global, reference: &Option<Ref>) -> Result<Option<Request>, OutOfMemory>
     ensures { IfOk result (λ call. call ≡ read_of reference.now) }
 {
     match reference {
@@ -66,24 +81,34 @@ pub(crate) fn read_of(
     }
 }
 
-/// The read of the volume that the claim names.
-pub(crate) fn read_volume(alloc: Global, claim: &Claim) -> Result<Request, OutOfMemory>
-    ensures { IfOk result (λ call. call ≡ Get (volume_key claim.now.volume_name)) }
+/// The read of the volume that the claim names. None where the claim has no UID.
+pub(crate) fn volume_call(alloc: Global, claim: &Claim) -> Result<Option<Request>, OutOfMemory>
+    ensures { IfOk result (λ call. call ≡ volume_call claim.now) }
 {
-    Ok(Request::Get {
+    if claim.meta.uid.is_none() {
+        return Ok(None);
+    }
+    Ok(Some(Request::Get {
         key: volume_key(alloc, &claim.volume_name)?,
-    })
+    }))
 }
 
-/// The write of phase Released, at the volume's version.
-pub(crate) fn write_released(alloc: Global, volume: &Volume) -> Result<Request, OutOfMemory>
-    ensures { IfOk result (λ write. write ≡ write_released volume.now) }
+/// The write of a phase of the volume, at its version. None where the volume has a namespace.
+pub(crate) fn phase_call(
+    alloc: Global,
+    volume: &Volume,
+    phase: VolumePhase,
+) -> Result<Option<Request>, OutOfMemory>
+    ensures { IfOk result (λ call. call ≡ phase_call volume.now phase) }
 {
-    Ok(Request::UpdateStatus {
+    if !is_empty(&volume.meta.namespace) {
+        return Ok(None);
+    }
+    Ok(Some(Request::UpdateStatus {
         key: volume_key(alloc, &volume.meta.name)?,
-        status: NewStatus::Volume(VolumePhase::Released),
+        status: NewStatus::Volume(phase),
         version: Some(volume.meta.version),
-    })
+    }))
 }
 
 /// The write of phase Lost, at the claim's version. Access modes and capacity stay.
