@@ -1,0 +1,5 @@
+pub mod BeginLaw
+pub mod Evidence
+pub mod FirstSteps
+pub mod Machines
+pub mod ReadLaw
