@@ -3,9 +3,9 @@
 use plain_data::copies::OutOfMemory;
 use plain_data::text::Bytes;
 use script_print::printing::print_script;
-use script_text::errors::{BadLine, Reason, ScriptError};
-use script_text::line_member::LineMember;
+use script_text::errors::ScriptError;
 use script_text::reading::{read_numbered, read_script};
+use script_text::refusals::refusal_line;
 use script_text::script::{Numbered, Script};
 use std::alloc::Global;
 
@@ -13,41 +13,10 @@ fn word(alloc: Global, text: &str) -> Result<String, OutOfMemory> {
     Ok(String::from_str(alloc, text)?)
 }
 
-fn with_member(alloc: Global, name: &str, member: LineMember) -> Result<String, OutOfMemory> {
-    let member = member.name();
-    Ok(format!(in alloc; "{name} {member}")?)
-}
-
-fn reason_text(alloc: Global, reason: Reason) -> Result<String, OutOfMemory> {
-    match reason {
-        Reason::TooLong => word(alloc, "TooLong"),
-        Reason::NotJson => word(alloc, "NotJson"),
-        Reason::NotObject => word(alloc, "NotObject"),
-        Reason::UnknownDo => word(alloc, "UnknownDo"),
-        Reason::UnknownKind => word(alloc, "UnknownKind"),
-        Reason::NotWhole => word(alloc, "NotWhole"),
-        Reason::Missing(member) => with_member(alloc, "Missing", member),
-        Reason::WrongType(member) => with_member(alloc, "WrongType", member),
-        Reason::BadQuantity(member) => with_member(alloc, "BadQuantity", member),
-        Reason::BadValue(member) => with_member(alloc, "BadValue", member),
-        Reason::TooManyLines => word(alloc, "TooManyLines"),
-        Reason::TooManyObjects => word(alloc, "TooManyObjects"),
-        Reason::TooManyNodes => word(alloc, "TooManyNodes"),
-        Reason::TooManyPools => word(alloc, "TooManyPools"),
-        Reason::TooManyFaults => word(alloc, "TooManyFaults"),
-        Reason::TooManyRestarts => word(alloc, "TooManyRestarts"),
-        Reason::TooManyLosses => word(alloc, "TooManyLosses"),
-        Reason::TooManyTurns => word(alloc, "TooManyTurns"),
-    }
-}
-
 fn refusal(alloc: Global, error: ScriptError) -> Result<String, OutOfMemory> {
     match error {
         ScriptError::OutOfMemory => Err(OutOfMemory),
-        ScriptError::BadLine(BadLine { line, reason }) => {
-            let reason = reason_text(alloc, reason)?;
-            Ok(format!(in alloc; "line {line}: {reason}")?)
-        }
+        ScriptError::BadLine(bad) => refusal_line(alloc, bad),
     }
 }
 

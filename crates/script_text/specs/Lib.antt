@@ -6,4 +6,5 @@ pub mod Members
 pub mod Said
 pub mod LineReaders
 pub mod Grammar
+pub mod Refusals
 pub mod Steps

@@ -16,5 +16,6 @@ mod members;
 mod numbers;
 mod progress;
 pub mod reading;
+pub mod refusals;
 pub mod script;
 mod verbs;

@@ -7,6 +7,7 @@ ghost use Rattle.script_text.specs.Answers.{Gives, unless};
 ghost use Rattle.script_text.specs.Steps.Results.{line_result};
 ghost use Rattle.script_text.specs.LineReaders.{create_line, condition_of, update_line, edit_line, delete_line, get_line, list_line, time_line, pool_line, fault_line, lose_line, restart_line, turn_line, verb_from, verb_at, as_line, meaning_by};
 ghost use Rattle.script_text.specs.Verbs.{verb_named};
+ghost use Rattle.script_text.specs.Steps.Indexed.{Stands, said_by};
 
 use crate::edits::edit_at;
 use crate::errors::{LineError, Reason};
@@ -20,6 +21,7 @@ use crate::script::{Line, Meaning};
 use crate::verbs::{Verb, verb_named};
 use call_types::request::Request;
 use call_types::setup::Pool;
+use kube_types::copies::Plain;
 use kube_types::key::meta_of;
 use kube_types::objects::{Object, Version};
 use kube_types::pairs::Pairs;
@@ -143,8 +145,9 @@ fn pool_line(alloc: Global, line: &Value) -> Result<Meaning, LineError>
     let provisioner = text_at(alloc, line, LineMember::Of(Member::Provisioner))?;
     let amount = size_at(alloc, line)?;
     let topology = topology_at(alloc, line)?;
+    let size = amount.text.copy(alloc)?;
     Ok(Meaning::Pool {
-        size: amount.text,
+        size,
         pool: Pool {
             name,
             provisioner,
@@ -166,6 +169,7 @@ fn new_call(call: u64, given: bool, member: LineMember) -> Result<u64, LineError
 
 #[tactic(auto, unfolding(crate::specs::LineReaders::fault_line))]
 fn fault_line(progress: &Progress, line: &Value) -> Result<Meaning, LineError>
+    requires { Stands progress.now }
     ensures { Gives result (fault_line progress.now.faults.items (view line.now)) }
 {
     let call = call_at(line, LineMember::Call)?;
@@ -182,6 +186,7 @@ fn lose_line(
     progress: &Progress,
     line: &Value,
 ) -> Result<Line, LineError>
+    requires { Stands progress.now }
     ensures { Gives result (lose_line agents.now progress.now.lines (view line.now)) }
 {
     let actor = actor_at(alloc, agents, line)?;
@@ -199,6 +204,7 @@ fn restart_line(
     progress: &Progress,
     line: &Value,
 ) -> Result<Line, LineError>
+    requires { Stands progress.now }
     ensures { Gives result (restart_line agents.now progress.now.lines (view line.now)) }
 {
     let actor = actor_at(alloc, agents, line)?;
@@ -255,6 +261,7 @@ pub(crate) fn meaning_by(
     progress: &Progress,
     line: &Value,
 ) -> Result<Meaning, LineError>
+    requires { Stands progress.now }
     ensures { Gives result (meaning_by verb agents.now (said_by progress.now) (view line.now)) }
 {
     match verb {

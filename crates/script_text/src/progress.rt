@@ -1,17 +1,18 @@
 //! What the lines so far said.
 
-ghost use Rattle.std.specs.Prelude.{◌≡◌, [], OnOk};
+ghost use Rattle.std.specs.Prelude.{◌≡◌, length, IfOk, IfErr, OnOk};
+ghost use Rattle.std.specs.List.Sorted.{IsSearchInRange};
 ghost use Rattle.std.specs.Ordering.{nat_cmp};
-ghost use Rattle.plain_data.specs.Rows.{put};
+ghost use Rattle.plain_data.specs.Rows.{IsAt, IsGap, put};
 ghost use Rattle.script_text.specs.declared.script.Meaning.TheVariants as meanings;
 ghost use Rattle.script_text.specs.Members.{is_given};
-ghost use Rattle.script_text.specs.Said.{nothing_said, and_said, losses_of, restarts_of, numbered_of};
+ghost use Rattle.script_text.specs.Said.{nothing_said, and_said, losses_of, restarts_of, nodes_of, numbered_of};
 ghost use Rattle.script_text.specs.Grammar.{limit_of, unless_passed};
-ghost use Rattle.script_text.specs.Steps.Indexed.{AreFaults, IsIndex, Stands, Takes, said_by};
+ghost use Rattle.script_text.specs.Steps.Indexed.{AreFaults, Stands, Takes, said_by};
 
 use crate::errors::{LineError, Reason};
 use crate::index::{Index, no_index, note_line};
-use crate::script::{Line, Meaning, Numbered, Script};
+use crate::script::{Line, Numbered, Script};
 use call_types::setup::{Pool, Setup};
 use kube_types::copies::OutOfMemory;
 use kube_types::items::Items;
@@ -115,7 +116,7 @@ impl Progress {
     }
 }
 
-fn take_pool(progress: &mut Progress, _number: u64, pool: Pool, size: &Text) -> Result<(), LineError>
+pub(crate) fn take_pool(progress: &mut Progress, _number: u64, pool: Pool, size: &Text) -> Result<(), LineError>
     requires { Stands progress.old }
     ensures { Takes result progress.new (unless_passed (limit_of (and_said (said_by progress.old) _number (meanings.Pool pool size.now)) (meanings.Pool pool size.now)) (and_said (said_by progress.old) _number (meanings.Pool pool size.now))) }
 {
@@ -127,7 +128,7 @@ fn take_pool(progress: &mut Progress, _number: u64, pool: Pool, size: &Text) -> 
     Ok(())
 }
 
-fn take_fault(progress: &mut Progress, _number: u64, call: u64) -> Result<(), LineError>
+pub(crate) fn take_fault(progress: &mut Progress, _number: u64, call: u64) -> Result<(), LineError>
     requires { Stands progress.old }
     ensures { Takes result progress.new (unless_passed (limit_of (and_said (said_by progress.old) _number (meanings.Fault call)) (meanings.Fault call)) (and_said (said_by progress.old) _number (meanings.Fault call))) }
 {
@@ -138,7 +139,7 @@ fn take_fault(progress: &mut Progress, _number: u64, call: u64) -> Result<(), Li
     Ok(())
 }
 
-fn take_line(
+pub(crate) fn take_line(
     alloc: Global,
     progress: &mut Progress,
     number: u64,
@@ -151,25 +152,6 @@ fn take_line(
     progress.lines.push(line)?;
     progress.numbers.push(number)?;
     Ok(())
-}
-
-impl Meaning {
-    /// Takes what a line of this number means, unless it passes a limit.
-    pub(crate) fn take(
-        self,
-        alloc: Global,
-        progress: &mut Progress,
-        number: u64,
-    ) -> Result<(), LineError>
-        requires { Stands progress.old }
-        ensures { Takes result progress.new (unless_passed (limit_of (and_said (said_by progress.old) number self) self) (and_said (said_by progress.old) number self)) }
-    {
-        match self {
-            Meaning::Pool { pool, size } => take_pool(progress, number, pool, &size),
-            Meaning::Fault { call } => take_fault(progress, number, call),
-            Meaning::Line(line) => take_line(alloc, progress, number, line),
-        }
-    }
 }
 
 fn node_names(alloc: Global, index: &Index) -> Result<Names, OutOfMemory>

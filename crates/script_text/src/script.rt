@@ -1,12 +1,18 @@
 //! Scripts, and what their lines mean.
 
 ghost use Rattle.std.specs.Prelude.{◌≡◌};
+ghost use Rattle.script_text.specs.Said.{and_said};
+ghost use Rattle.script_text.specs.Grammar.{limit_of, unless_passed};
+ghost use Rattle.script_text.specs.Steps.Indexed.{Stands, Takes, said_by};
 
 use crate::actors::Actor;
+use crate::errors::LineError;
+use crate::progress::{Progress, take_fault, take_line, take_pool};
 use call_types::request::Request;
 use call_types::setup::{Pool, Setup};
 use kube_types::items::Items;
 use kube_types::text::{Names, Text};
+use std::alloc::Global;
 
 /// A line of a script that is done in its turn, or that says what becomes of an actor's calls.
 #[derive(Debug)]
@@ -57,6 +63,25 @@ impl Drop for Meaning {
             }
             Meaning::Fault { call: _ } => {}
             Meaning::Line(line) => drop(line),
+        }
+    }
+}
+
+impl Meaning {
+    /// Takes what a line of this number means, unless it passes a limit.
+    pub(crate) fn take(
+        self,
+        alloc: Global,
+        progress: &mut Progress,
+        number: u64,
+    ) -> Result<(), LineError>
+        requires { Stands progress.old }
+        ensures { Takes result progress.new (unless_passed (limit_of (and_said (said_by progress.old) number self) self) (and_said (said_by progress.old) number self)) }
+    {
+        match self {
+            Meaning::Pool { pool, size } => take_pool(progress, number, pool, &size),
+            Meaning::Fault { call } => take_fault(progress, number, call),
+            Meaning::Line(line) => take_line(alloc, progress, number, line),
         }
     }
 }
@@ -115,7 +140,8 @@ impl Numbered {
     pub fn into_script(self) -> Script
         ensures { result ≡ self.script }
     {
-        let Numbered { script, .. } = self;
+        let Numbered { script, numbers } = self;
+        drop(numbers);
         script
     }
 }
