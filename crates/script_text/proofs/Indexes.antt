@@ -17,8 +17,8 @@ use Rattle.script_text.specs.Said.{and_node, created, created_node, node_name, c
 use Rattle.script_text.specs.Steps.Indexed.{HasNumbers, IsIndex}
 use Rattle.script_text.specs.Steps.Numbers.{numbers_at, and_number}
 use Rattle.call_types.specs.declared.request.Request.{Request}
-use Rattle.script_text.specs.declared.errors.Reason.TheVariants.{TooManyObjects, TooManyNodes}
-use Rattle.script_text.specs.Grammar.{most_objects, most_nodes, create_limit}
+use Rattle.script_text.specs.declared.errors.Reason.TheVariants.{TooManyObjects, TooManyNodes, TooManyLosses, TooManyRestarts}
+use Rattle.script_text.specs.Grammar.{most_objects, most_nodes, most_losses, most_restarts, most_calls, create_limit, line_limit}
 use Rattle.script_text.proofs.NumberRows.{numbers_more}
 
 agents_more : (agents : List Pair) (lines : List Line) (line : Line) → agents_after agents (lines ++ line ∷ []) ≡ and_node (agents_after agents lines) (created_node line)
@@ -30,6 +30,9 @@ flat_more f xs x = flat_map-append f xs (x ∷ []) ∙ ap (λ ys. flat_map f xs 
 
 sum_more : {X : Type 0} (f : X → ℕ) (xs : List X) (x : X) → sum_by f (xs ++ x ∷ []) ≡ sum_by f xs + f x
 sum_more f xs x = let e : sum_by f (x ∷ []) ≡ f x = omega arith in sum_by-append f xs (x ∷ []) ∙ ap (λ n. sum_by f xs + n) e
+
+abbrev counted : Option Object → ℕ
+counted o = cond (is_some o) 1 0
 
 -- what has grown by a line is the index of the lines with it
 pub record Grows (old new : Index) (line : Line) : Type 0 where
@@ -139,7 +142,7 @@ call_noted old lines user request h e = grown old old lines (Call user request) 
   agents = same_agents old.agents (Call user request) e;
   losses = λ name. sym (append-nil (numbers_at name old.losses));
   restarts = λ name. sym (append-nil (numbers_at name old.restarts));
-  created = let none : cond (is_some (created (Call user request))) 1 0 ≡ 0 = ap (λ x. cond (is_some x) 1 0) e in omega (arith, none);
+  created = let none : counted (created (Call user request)) ≡ 0 = ap counted e in omega (arith, none);
   calls = omega arith;
 })
 
@@ -177,3 +180,67 @@ none_passed old new lines line o h e c under few =
     let is = create_noted old new lines line o h e c in
     let none : ltb most_nodes (length (agents_of (lines ++ line ∷ []))) ≡ false = ap (λ (a : List Pair). ltb most_nodes (length a)) (sym is.agents) ∙ le-ltb most_nodes (length new.agents) few in
     rw (few_objects old lines line o h e under, none) refl
+
+-- ---- numbers of an actor, after its name
+
+loss_index : (old : Index) (lines : List Line) (actor : Actor) (call : ℕ) (after : Bool) (name : List ℕ) (rows : List NumberRow) → IsIndex old lines → name ≡ actor_word actor → rows ≡ and_number name call old.losses
+    → IsIndex (record old { losses = rows }) (lines ++ Lose actor call after ∷ [])
+loss_index old lines actor call after name rows h is added =
+    loss_noted old _ lines actor call after h (λ i. record old { losses = (added ∙ ap (λ k. and_number k call old.losses) is) i })
+
+losses_counted : (old : Index) (lines : List Line) (actor : Actor) (call : ℕ) (after : Bool) (name : List ℕ) (rows : List NumberRow) → IsIndex old lines → name ≡ actor_word actor → rows ≡ and_number name call old.losses
+    → length (losses_of (actor_word actor) (lines ++ Lose actor call after ∷ [])) ≡ length (numbers_at name rows)
+losses_counted old lines actor call after name rows h is added =
+    let index = loss_index old lines actor call after name rows h is added in
+    ap length (sym (index.losses (actor_word actor)) ∙ ap (λ k. numbers_at k rows) (sym is))
+
+pub loss_passed : (old : Index) (lines : List Line) (actor : Actor) (call : ℕ) (after : Bool) (name : List ℕ) (rows : List NumberRow) → IsIndex old lines → name ≡ actor_word actor → rows ≡ and_number name call old.losses
+    → most_losses < length (numbers_at name rows) → line_limit (lines ++ Lose actor call after ∷ []) (Lose actor call after) ≡ Some TooManyLosses
+loss_passed old lines actor call after name rows h is added over =
+    let counted = losses_counted old lines actor call after name rows h is added in
+    rw (lt-ltb most_losses (length (losses_of (actor_word actor) (lines ++ Lose actor call after ∷ []))) (omega (arith, counted, over))) refl
+
+pub loss_kept : (old : Index) (lines : List Line) (actor : Actor) (call : ℕ) (after : Bool) (name : List ℕ) (rows : List NumberRow) → IsIndex old lines → name ≡ actor_word actor → rows ≡ and_number name call old.losses
+    → length (numbers_at name rows) ≤ most_losses → IsIndex (record old { losses = rows }) (lines ++ Lose actor call after ∷ []) × (line_limit (lines ++ Lose actor call after ∷ []) (Lose actor call after) ≡ None)
+loss_kept old lines actor call after name rows h is added few =
+    let counted = losses_counted old lines actor call after name rows h is added in
+    (loss_index old lines actor call after name rows h is added, rw (le-ltb most_losses (length (losses_of (actor_word actor) (lines ++ Lose actor call after ∷ []))) (omega (arith, counted, few))) refl)
+
+restart_index : (old : Index) (lines : List Line) (actor : Actor) (after : ℕ) (name : List ℕ) (rows : List NumberRow) → IsIndex old lines → name ≡ actor_word actor → rows ≡ and_number name after old.restarts
+    → IsIndex (record old { restarts = rows }) (lines ++ Restart actor after ∷ [])
+restart_index old lines actor after name rows h is added =
+    restart_noted old _ lines actor after h (λ i. record old { restarts = (added ∙ ap (λ k. and_number k after old.restarts) is) i })
+
+restarts_counted : (old : Index) (lines : List Line) (actor : Actor) (after : ℕ) (name : List ℕ) (rows : List NumberRow) → IsIndex old lines → name ≡ actor_word actor → rows ≡ and_number name after old.restarts
+    → length (restarts_of (actor_word actor) (lines ++ Restart actor after ∷ [])) ≡ length (numbers_at name rows)
+restarts_counted old lines actor after name rows h is added =
+    let index = restart_index old lines actor after name rows h is added in
+    ap length (sym (index.restarts (actor_word actor)) ∙ ap (λ k. numbers_at k rows) (sym is))
+
+pub restart_passed : (old : Index) (lines : List Line) (actor : Actor) (after : ℕ) (name : List ℕ) (rows : List NumberRow) → IsIndex old lines → name ≡ actor_word actor → rows ≡ and_number name after old.restarts
+    → most_restarts < length (numbers_at name rows) → line_limit (lines ++ Restart actor after ∷ []) (Restart actor after) ≡ Some TooManyRestarts
+restart_passed old lines actor after name rows h is added over =
+    let counted = restarts_counted old lines actor after name rows h is added in
+    rw (lt-ltb most_restarts (length (restarts_of (actor_word actor) (lines ++ Restart actor after ∷ []))) (omega (arith, counted, over))) refl
+
+pub restart_kept : (old : Index) (lines : List Line) (actor : Actor) (after : ℕ) (name : List ℕ) (rows : List NumberRow) → IsIndex old lines → name ≡ actor_word actor → rows ≡ and_number name after old.restarts
+    → length (numbers_at name rows) ≤ most_restarts → IsIndex (record old { restarts = rows }) (lines ++ Restart actor after ∷ []) × (line_limit (lines ++ Restart actor after ∷ []) (Restart actor after) ≡ None)
+restart_kept old lines actor after name rows h is added few =
+    let counted = restarts_counted old lines actor after name rows h is added in
+    (restart_index old lines actor after name rows h is added, rw (le-ltb most_restarts (length (restarts_of (actor_word actor) (lines ++ Restart actor after ∷ []))) (omega (arith, counted, few))) refl)
+
+pub turn_kept : (old : Index) (lines : List Line) (actor : Actor) (calls all : ℕ) → IsIndex old lines → all ≡ old.calls + calls → all ≤ most_calls
+    → IsIndex (record old { calls = all }) (lines ++ Turn actor calls ∷ []) × (line_limit (lines ++ Turn actor calls ∷ []) (Turn actor calls) ≡ None)
+turn_kept old lines actor calls all h e few =
+    let index = turn_noted old (record old { calls = all }) lines actor calls h (λ i. record old { calls = e i }) in
+    (index, rw (le-ltb most_calls (calls_of (lines ++ Turn actor calls ∷ [])) (omega (arith, index.calls, few))) refl)
+
+pub other_kept : (old : Index) (lines : List Line) (line : Line) (user : ℕ) (request : Request) → IsIndex old lines → line ≡ Call user request → created line ≡ None
+    → IsIndex old (lines ++ line ∷ []) × (line_limit (lines ++ line ∷ []) line ≡ None)
+other_kept old lines line user request h is e =
+    let none : created (Call user request) ≡ None = ap created (sym is) ∙ e in
+    let limit : line_limit (lines ++ Call user request ∷ []) (Call user request) ≡ None = ap (λ o. create_limit (lines ++ Call user request ∷ []) (is_some o)) none in
+    subst (λ l. IsIndex old (lines ++ l ∷ []) × (line_limit (lines ++ l ∷ []) l ≡ None)) (sym is) (call_noted old lines user request h none, limit)
+
+pub drain_kept : (old : Index) (lines : List Line) (line : Line) → IsIndex old lines → line ≡ Drain → IsIndex old (lines ++ line ∷ []) × (line_limit (lines ++ line ∷ []) line ≡ None)
+drain_kept old lines line h is = subst (λ l. IsIndex old (lines ++ l ∷ []) × (line_limit (lines ++ l ∷ []) l ≡ None)) (sym is) (drain_noted old lines h, refl)

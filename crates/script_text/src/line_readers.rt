@@ -6,9 +6,14 @@ ghost use Rattle.script_text.specs.declared.errors.Reason.TheVariants.{BadValue}
 ghost use Rattle.script_text.specs.Answers.{Gives, unless};
 ghost use Rattle.script_text.specs.Steps.Results.{line_result};
 ghost use Rattle.script_text.specs.LineReaders.{create_line, condition_of, update_line, edit_line, delete_line, get_line, list_line, time_line, pool_line, fault_line, lose_line, restart_line, turn_line, verb_from, verb_at, as_line, meaning_by};
+ghost use Rattle.script_text.specs.declared.line_member.LineMember.TheVariants as members;
+ghost use Rattle.script_text.specs.Actors.{actor_word};
+ghost use Rattle.script_text.specs.Members.{new_call_at};
+ghost use Rattle.script_text.specs.Said.{losses_of, restarts_of};
 ghost use Rattle.script_text.specs.Verbs.{verb_named};
 ghost use Rattle.script_text.specs.Steps.Indexed.{Stands, said_by};
 
+use crate::actors::Actor;
 use crate::edits::edit_at;
 use crate::errors::{LineError, Reason};
 use crate::members::{
@@ -179,6 +184,20 @@ fn fault_line(progress: &Progress, line: &Value) -> Result<Meaning, LineError>
 
 // ---- actors
 
+fn new_loss(
+    alloc: Global,
+    progress: &Progress,
+    actor: &Actor,
+    line: &Value,
+) -> Result<u64, LineError>
+    requires { Stands progress.now }
+    ensures { Gives result (new_call_at members.Call (losses_of (actor_word actor.now) progress.now.lines) (view line.now)) }
+{
+    let call = call_at(line, LineMember::Call)?;
+    let name = actor.name(alloc)?;
+    new_call(call, progress.has_loss(&name, call), LineMember::Call)
+}
+
 #[tactic(auto, unfolding(crate::specs::LineReaders::lose_line))]
 fn lose_line(
     alloc: Global,
@@ -190,11 +209,23 @@ fn lose_line(
     ensures { Gives result (lose_line agents.now progress.now.lines (view line.now)) }
 {
     let actor = actor_at(alloc, agents, line)?;
-    let name = actor.name(alloc)?;
-    let call = call_at(line, LineMember::Call)?;
-    let call = new_call(call, progress.has_loss(&name, call), LineMember::Call)?;
+    let call = new_loss(alloc, progress, &actor, line)?;
     let after = when_at(line)?;
     Ok(Line::Lose { actor, call, after })
+}
+
+fn new_restart(
+    alloc: Global,
+    progress: &Progress,
+    actor: &Actor,
+    line: &Value,
+) -> Result<u64, LineError>
+    requires { Stands progress.now }
+    ensures { Gives result (new_call_at members.After (restarts_of (actor_word actor.now) progress.now.lines) (view line.now)) }
+{
+    let after = call_at(line, LineMember::After)?;
+    let name = actor.name(alloc)?;
+    new_call(after, progress.has_restart(&name, after), LineMember::After)
 }
 
 #[tactic(auto, unfolding(crate::specs::LineReaders::restart_line))]
@@ -208,9 +239,7 @@ fn restart_line(
     ensures { Gives result (restart_line agents.now progress.now.lines (view line.now)) }
 {
     let actor = actor_at(alloc, agents, line)?;
-    let name = actor.name(alloc)?;
-    let after = call_at(line, LineMember::After)?;
-    let after = new_call(after, progress.has_restart(&name, after), LineMember::After)?;
+    let after = new_restart(alloc, progress, &actor, line)?;
     Ok(Line::Restart { actor, after })
 }
 

@@ -6,7 +6,7 @@ ghost use Rattle.std.specs.Ordering.{nat_cmp};
 ghost use Rattle.plain_data.specs.Rows.{IsAt, IsGap, put};
 ghost use Rattle.script_text.specs.declared.script.Meaning.TheVariants as meanings;
 ghost use Rattle.script_text.specs.Members.{is_given};
-ghost use Rattle.script_text.specs.Said.{nothing_said, and_said, losses_of, restarts_of, nodes_of, numbered_of};
+ghost use Rattle.script_text.specs.Said.{nothing_said, and_said, agents_of, losses_of, restarts_of, nodes_of, numbered_of};
 ghost use Rattle.script_text.specs.Grammar.{limit_of, unless_passed};
 ghost use Rattle.script_text.specs.Steps.Indexed.{AreFaults, Stands, Takes, said_by};
 
@@ -169,7 +169,8 @@ impl Progress {
     #[tactic(auto, unfolding(crate::specs::Said::numbered_of))]
     pub fn into_numbered(self, alloc: Global) -> Result<Numbered, OutOfMemory>
         requires { Stands self }
-        ensures { IfOk result (λ n. n ≡ numbered_of (said_by self)) }
+        ensures said { IfOk result (λ n. n ≡ numbered_of (said_by self)) }
+        ensures nodes { IfOk result (λ n. n.script.node_names ≡ nodes_of (agents_of n.script.lines)) }
     {
         let names = node_names(alloc, &self.index)?;
         let Progress {

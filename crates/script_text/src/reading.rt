@@ -6,7 +6,7 @@ ghost use Rattle.serde_json.specs.View.{view};
 ghost use Rattle.json_text.specs.Trees.{tree_data};
 ghost use Rattle.object_text.specs.Reading.{value_of};
 ghost use Rattle.script_text.specs.Answers.{Gives, GivesBy, ScriptGives, taken};
-ghost use Rattle.script_text.specs.Said.{and_node, created_node};
+ghost use Rattle.script_text.specs.Said.{agents_of, and_node, created_node, nodes_of};
 ghost use Rattle.script_text.specs.LineReaders.{meaning_of};
 ghost use Rattle.script_text.specs.Grammar.{agents_in, and_filled, and_line, is_blank, line_value, lines_of, node_from, own_create, read_numbered_of, said_in, script_of};
 ghost use Rattle.script_text.specs.Steps.Indexed.{Stands, Takes, said_by};
@@ -270,7 +270,8 @@ fn said_in(alloc: Global, lines: &[&[u8]]) -> Result<Progress, ScriptError>
 /// line feed; the last may lack it.
 #[tactic(auto, unfolding(crate::specs::Grammar::read_numbered_of))]
 pub fn read_numbered(alloc: Global, text: &[u8]) -> Result<Numbered, ScriptError>
-    ensures { ScriptGives result (read_numbered_of text.now) }
+    ensures gives { ScriptGives result (read_numbered_of text.now) }
+    ensures nodes { IfOk result (λ n. n.script.node_names ≡ nodes_of (agents_of n.script.lines)) }
 {
     let lines = lines_of(alloc, text)?;
     let progress = said_in(alloc, &lines)?;
@@ -279,7 +280,8 @@ pub fn read_numbered(alloc: Global, text: &[u8]) -> Result<Numbered, ScriptError
 
 /// The script of a text.
 pub fn read_script(alloc: Global, text: &[u8]) -> Result<Script, ScriptError>
-    ensures { ScriptGives result (script_of text.now) }
+    ensures gives { ScriptGives result (script_of text.now) }
+    ensures nodes { IfOk result (λ s. s.node_names ≡ nodes_of (agents_of s.lines)) }
 {
     let numbered = read_numbered(alloc, text)?;
     Ok(numbered.into_script())
