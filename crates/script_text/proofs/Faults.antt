@@ -1,6 +1,5 @@
 -- Numbers that rise: one that stands among them changes nothing where it is put again, and is found.
-use Rattle.std.proofs.Common.{◌≡◌, ℕ, zero, suc, ◌<◌, List, [], ◌∷◌, Bool, true, false, if◌then◌else◌, ◌||◌, Option, Some, None, Result, Ok, Err, IfOk, IfErr, is_ok, eqb, refl, sym, ap, ◌∙◌, arith}
-use Rattle.std.specs.List.{list_any}
+use Rattle.std.proofs.Common.{◌≡◌, ℕ, zero, suc, ◌<◌, List, [], ◌∷◌, Bool, true, false, if◌then◌else◌, ◌||◌, Some, Result, Ok, Err, IfOk, IfErr, is_ok, eqb, refl, sym, ap, ◌∙◌, arith}
 use Rattle.std.specs.Prelude.{is_some}
 use Rattle.std.specs.declared.cmp.Ordering.{Ordering}
 use Rattle.std.specs.declared.cmp.Ordering.TheVariants.{Less, Equal, Greater}

@@ -1,5 +1,5 @@
 -- The meaning of a line that names no actor is the same whatever agents are known.
-use Rattle.std.proofs.Common.{◌≡◌, List, true, false, Result, refl, ap}
+use Rattle.std.proofs.Common.{◌≡◌, List, refl, ap}
 use Rattle.serde_json.specs.Data.{Data}
 use Rattle.plain_data.specs.Pairs.{Pair}
 use Rattle.script_text.specs.declared.verbs.Verb.{Verb}

@@ -5,7 +5,6 @@ use Rattle.std.specs.List.{list_all, slice_split}
 use Rattle.std.specs.declared.result.Result.{Result}
 use Rattle.serde_json.specs.Data.{Data}
 use Rattle.plain_data.specs.Pairs.{Pair}
-use Rattle.call_types.specs.declared.request.Request.{Request}
 use Rattle.object_text.specs.Reading.{is_object, value_of}
 use Rattle.script_text.specs.declared.errors.Reason.{Reason}
 use Rattle.script_text.specs.declared.errors.Reason.TheVariants.{TooLong, NotObject, UnknownDo, TooManyLines, TooManyObjects, TooManyNodes, TooManyPools, TooManyFaults, TooManyRestarts, TooManyLosses, TooManyTurns}

@@ -1,6 +1,6 @@
 -- What each line means, by its member `do`: its members in their turn, the first refusal answered; other members are not looked at.
 -- A choice of this project: the script format.
-use Rattle.std.specs.Prelude.{ℕ, ◌==◌, List, [], Bool, true, false, if◌then◌else◌, Ok, Err, Option, Some, None}
+use Rattle.std.specs.Prelude.{ℕ, ◌==◌, List, if◌then◌else◌, Ok, Err, Option, Some, None}
 use Rattle.std.specs.declared.result.Result.{Result}
 use Rattle.serde_json.specs.Data.{Data}
 use Rattle.plain_data.specs.Pairs.{Pair}

@@ -226,11 +226,7 @@ pub fn worker_named(word: &str) -> Option<Worker>
 }
 
 /// The actor that a text names: a worker, or one of these agents.
-pub fn actor_named(
-    alloc: Global,
-    agents: &Pairs,
-    word: &str,
-) -> Result<Option<Actor>, OutOfMemory>
+pub fn actor_named(alloc: Global, agents: &Pairs, word: &str) -> Result<Option<Actor>, OutOfMemory>
     ensures { IfOk result (λ o. o ≡ actor_named agents.now word.now) }
 {
     match worker_named(word) {

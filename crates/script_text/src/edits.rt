@@ -96,16 +96,20 @@ fn cleared(value: &Value) -> Result<Edit, LineError>
 {
     match value {
         Value::Bool(true) => Ok(Edit::ClearClaimRef),
-        _ => Err(LineError::Refused(Reason::WrongType(
-            LineMember::ClearClaimRef,
-        ))),
+        _ => Err(LineError::Refused(Reason::WrongType(LineMember::ClearClaimRef))),
     }
 }
 
 fn label_in(alloc: Global, value: &Value, edit: EditMember) -> Result<(Text, Text), LineError>
     ensures { Gives result (two_texts_in (edit_member edit) (members.Of manifests.Key) members.Value (view value.now)) }
 {
-    two_texts_in(alloc, value, edit.member(), LineMember::Of(Member::Key), LineMember::Value)
+    two_texts_in(
+        alloc,
+        value,
+        edit.member(),
+        LineMember::Of(Member::Key),
+        LineMember::Value,
+    )
 }
 
 fn claim_in(alloc: Global, value: &Value) -> Result<(Text, Text), LineError>

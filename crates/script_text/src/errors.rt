@@ -119,9 +119,15 @@ impl From<ObjectError> for LineError {
             ObjectError::NotObject => LineError::Refused(Reason::NotObject),
             ObjectError::NotWhole => LineError::Refused(Reason::NotWhole),
             ObjectError::UnknownKind => LineError::Refused(Reason::UnknownKind),
-            ObjectError::Missing(member) => LineError::Refused(Reason::Missing(LineMember::Of(member))),
-            ObjectError::WrongType(member) => LineError::Refused(Reason::WrongType(LineMember::Of(member))),
-            ObjectError::BadQuantity(member) => LineError::Refused(Reason::BadQuantity(LineMember::Of(member))),
+            ObjectError::Missing(member) => LineError::Refused(Reason::Missing(LineMember::Of(
+                member,
+            ))),
+            ObjectError::WrongType(member) => LineError::Refused(Reason::WrongType(LineMember::Of(
+                member,
+            ))),
+            ObjectError::BadQuantity(member) => LineError::Refused(Reason::BadQuantity(
+                LineMember::Of(member),
+            )),
         }
     }
 }

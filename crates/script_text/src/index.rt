@@ -19,9 +19,13 @@ use kube_types::text::Text;
 use std::alloc::Global;
 
 const MOST_OBJECTS: u64 = 1024;
+
 const MOST_NODES: usize = 8;
+
 const MOST_RESTARTS: usize = 3;
+
 const MOST_LOSSES: usize = 64;
+
 const MOST_CALLS: u64 = 28000;
 
 /// The agents of the nodes that lines create, the numbers of calls that lines lose or after which they begin

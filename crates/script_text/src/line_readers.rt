@@ -16,11 +16,11 @@ ghost use Rattle.script_text.specs.Steps.Indexed.{Stands, said_by};
 use crate::actors::Actor;
 use crate::edits::edit_at;
 use crate::errors::{LineError, Reason};
+use crate::line_member::LineMember;
 use crate::members::{
     actor_at, call_at, condition_at, count_at, key_at, kind_at, object_at, size_at, text_at,
     topology_at, user_at, when_at, word_at,
 };
-use crate::line_member::LineMember;
 use crate::progress::Progress;
 use crate::script::{Line, Meaning};
 use crate::verbs::{Verb, verb_named};
@@ -55,11 +55,7 @@ fn condition_of(object: &Object) -> Option<Version>
     ensures { result ≡ condition_of object.now }
 {
     let version = meta_of(object).version;
-    if version == 0 {
-        None
-    } else {
-        Some(version)
-    }
+    if version == 0 { None } else { Some(version) }
 }
 
 #[tactic(auto, unfolding(crate::specs::LineReaders::update_line))]

@@ -75,11 +75,7 @@ pub(crate) fn word_at<'v>(line: &'v Value, member: LineMember) -> Result<&'v str
 }
 
 /// A copy of the text that the value is.
-pub(crate) fn text_of(
-    alloc: Global,
-    value: &Value,
-    member: LineMember,
-) -> Result<Text, LineError>
+pub(crate) fn text_of(alloc: Global, value: &Value, member: LineMember) -> Result<Text, LineError>
     ensures { Gives result (text_of member (view value.now)) }
 {
     let word = word_of(value, member)?;
@@ -87,11 +83,7 @@ pub(crate) fn text_of(
 }
 
 /// A copy of a text that has to be there.
-pub(crate) fn text_at(
-    alloc: Global,
-    line: &Value,
-    member: LineMember,
-) -> Result<Text, LineError>
+pub(crate) fn text_at(alloc: Global, line: &Value, member: LineMember) -> Result<Text, LineError>
     ensures { Gives result (text_at member (view line.now)) }
 {
     let word = word_at(line, member)?;
@@ -99,10 +91,7 @@ pub(crate) fn text_at(
 }
 
 /// The value, where it is an object.
-pub(crate) fn object_of<'v>(
-    value: &'v Value,
-    member: LineMember,
-) -> Result<&'v Value, LineError>
+pub(crate) fn object_of<'v>(value: &'v Value, member: LineMember) -> Result<&'v Value, LineError>
     ensures { GivesBy (λ v. view v.now) result (object_value_of member (view value.now)) }
 {
     match value.as_object() {

@@ -20,6 +20,7 @@ use kube_types::text::{Names, Text};
 use std::alloc::Global;
 
 const MOST_POOLS: usize = 64;
+
 const MOST_FAULTS: usize = 256;
 
 /// What was said, and the index of its lines.
@@ -116,7 +117,12 @@ impl Progress {
     }
 }
 
-pub(crate) fn take_pool(progress: &mut Progress, _number: u64, pool: Pool, size: &Text) -> Result<(), LineError>
+pub(crate) fn take_pool(
+    progress: &mut Progress,
+    _number: u64,
+    pool: Pool,
+    size: &Text,
+) -> Result<(), LineError>
     requires { Stands progress.old }
     ensures { Takes result progress.new (unless_passed (limit_of (and_said (said_by progress.old) _number (meanings.Pool pool size.now)) (meanings.Pool pool size.now)) (and_said (said_by progress.old) _number (meanings.Pool pool size.now))) }
 {

@@ -28,6 +28,7 @@ use serde_json::Value;
 use std::alloc::{AllocError, Global};
 
 const MOST_LINE_BYTES: usize = 16384;
+
 const MOST_LINES: u64 = 4096;
 
 // ---- one line

@@ -18,13 +18,26 @@ use std::alloc::Global;
 #[derive(Debug)]
 pub enum Line {
     /// A user's call.
-    Call { user: u64, request: Request },
+    Call {
+        user: u64,
+        request: Request,
+    },
     /// The call of this number that the actor makes is lost, before its effect or after it.
-    Lose { actor: Actor, call: u64, after: bool },
+    Lose {
+        actor: Actor,
+        call: u64,
+        after: bool,
+    },
     /// After so many calls of the actor a new life of it begins.
-    Restart { actor: Actor, after: u64 },
+    Restart {
+        actor: Actor,
+        after: u64,
+    },
     /// The actor makes calls, at most so many.
-    Turn { actor: Actor, calls: u64 },
+    Turn {
+        actor: Actor,
+        calls: u64,
+    },
     /// All controllers make calls until nothing is due.
     Drain,
 }

@@ -1,8 +1,7 @@
 -- What stands beside what was said, so that it is found at once.
-use Rattle.std.specs.Prelude.{ℕ, ◌≡◌, List, [], ◌∷◌, ◌++◌, Option, Some, None, Ok, Err, ⊤}
+use Rattle.std.specs.Prelude.{ℕ, ◌≡◌, List, Option, Some, None, Ok, Err, ⊤}
 use Rattle.std.specs.declared.result.Result.{Result}
 use Rattle.std.specs.Ordering.{nat_cmp}
-use Rattle.plain_data.specs.Pairs.{Pair}
 use Rattle.plain_data.specs.Rows.{IsRising}
 use Rattle.script_text.specs.declared.errors.Reason.{Reason}
 use Rattle.script_text.specs.declared.errors.LineError.{LineError}

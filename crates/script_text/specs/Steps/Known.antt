@@ -1,5 +1,5 @@
 -- The agents of the whole text, which are looked for where a line first names an actor.
-use Rattle.std.specs.Prelude.{ℕ, ◌≡◌, List, Bool, true, false, Ok, Err, ⊤}
+use Rattle.std.specs.Prelude.{ℕ, ◌≡◌, List, Bool, true, false, Ok, Err}
 use Rattle.std.specs.declared.result.Result.{Result}
 use Rattle.script_text.specs.declared.errors.BadLine.{BadLine}
 use Rattle.script_text.specs.declared.errors.ScriptError.{ScriptError}
