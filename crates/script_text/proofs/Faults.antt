@@ -10,7 +10,7 @@ use Rattle.std.proofs.lemmas.Cmp.{ranked, nat_cmp_total}
 use Rattle.std.proofs.lemmas.Map.Lookups.{exact_unsigned}
 use Rattle.plain_data.specs.Rows.{IsRising, IsAt, IsGap, put, find}
 use Rattle.plain_data.proofs.RowFacts.{find_at, find_gap}
-use Rattle.script_text.specs.Members.{is_given}
+use Rattle.script_lines.specs.Members.{is_given}
 
 pub put_same : (n : ℕ) (xs : List ℕ) (i : ℕ) → IsAt nat_cmp (λ m. m) n xs i → put nat_cmp (λ m. m) n xs ≡ xs
 put_same n [] i h = absurd h

@@ -14,7 +14,7 @@ use Rattle.script_text.specs.declared.script.Line.TheVariants.{Call, Lose, Resta
 use Rattle.script_text.specs.declared.script.Meaning.{Meaning}
 use Rattle.script_text.specs.declared.script.Meaning.TheVariants as meanings
 use Rattle.script_text.specs.declared.script.Numbered.{Numbered}
-use Rattle.script_text.specs.Actors.{actor_word, with_node}
+use Rattle.script_lines.specs.Actors.{actor_word, with_node}
 
 -- the pools in their order with their sizes as they were written, the faults as they rise, and the lines in their order with their numbers
 pub record Said : Type 0 where

@@ -5,12 +5,12 @@ ghost use Rattle.std.specs.List.Sorted.{IsSearchInRange};
 ghost use Rattle.std.specs.Ordering.{nat_cmp};
 ghost use Rattle.plain_data.specs.Rows.{IsAt, IsGap, put};
 ghost use Rattle.script_text.specs.declared.script.Meaning.TheVariants as meanings;
-ghost use Rattle.script_text.specs.Members.{is_given};
+ghost use Rattle.script_lines.specs.Members.{is_given};
 ghost use Rattle.script_text.specs.Said.{nothing_said, and_said, agents_of, losses_of, restarts_of, nodes_of, numbered_of};
 ghost use Rattle.script_text.specs.Grammar.{limit_of, unless_passed};
 ghost use Rattle.script_text.specs.Steps.Indexed.{AreFaults, Stands, Takes, said_by};
 
-use crate::errors::{LineError, Reason};
+use script_lines::errors::{LineError, Reason};
 use crate::index::{Index, no_index, note_line};
 use crate::script::{Line, Numbered, Script};
 use call_types::setup::{Pool, Setup};

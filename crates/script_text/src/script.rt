@@ -5,8 +5,8 @@ ghost use Rattle.script_text.specs.Said.{and_said};
 ghost use Rattle.script_text.specs.Grammar.{limit_of, unless_passed};
 ghost use Rattle.script_text.specs.Steps.Indexed.{Stands, Takes, said_by};
 
-use crate::actors::Actor;
-use crate::errors::LineError;
+use script_lines::actors::Actor;
+use script_lines::errors::LineError;
 use crate::progress::{Progress, take_fault, take_line, take_pool};
 use call_types::request::Request;
 use call_types::setup::{Pool, Setup};
