@@ -14,12 +14,12 @@ use Rattle.object_print.specs.Objects.{object_data}
 use Rattle.history_text.specs.Requests.{ask_word, argument_pairs, edit_pairs}
 use Rattle.history_text.specs.Replies.{topology_pairs}
 use Rattle.history_text.specs.Output.{with_lines}
-use Rattle.script_text.specs.declared.actors.Actor.{Actor}
+use Rattle.script_lines.specs.declared.actors.Actor.{Actor}
 use Rattle.script_text.specs.declared.script.Line.{Line}
 use Rattle.script_text.specs.declared.script.Line.TheVariants.{Call, Lose, Restart, Turn, Drain}
 use Rattle.script_text.specs.declared.script.Script.{Script}
-use Rattle.script_text.specs.Actors.{actor_word}
-use Rattle.script_text.specs.Members.{is_namespaced}
+use Rattle.script_lines.specs.Actors.{actor_word}
+use Rattle.script_lines.specs.Members.{is_namespaced}
 
 -- the first user is left out
 abbrev pub user_pairs : ℕ → MemberList

@@ -4,7 +4,7 @@ ghost use Rattle.std.specs.Prelude.{◌≡◌, None, OnOk, codes, if◌then◌el
 ghost use Rattle.json_text.specs.Members.{text, with_option, with_options, with_member_text};
 ghost use Rattle.json_text.specs.Writing.{written, with_value};
 ghost use Rattle.script_text.specs.declared.script.Line.TheVariants.{Lose};
-ghost use Rattle.script_text.specs.Members.{is_namespaced};
+ghost use Rattle.script_lines.specs.Members.{is_namespaced};
 ghost use Rattle.script_print.specs.Printing.{user_pairs, line_key_pairs, call_pairs, when_word, actor_pairs, line_pairs, line_data, pool_pairs, pool_data, fault_data};
 
 use call_types::request::Request;

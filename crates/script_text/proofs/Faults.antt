@@ -1,6 +1,5 @@
 -- Numbers that rise: one that stands among them changes nothing where it is put again, and is found.
-use Rattle.std.proofs.Common.{◌≡◌, ℕ, zero, suc, ◌<◌, List, [], ◌∷◌, Bool, true, false, if◌then◌else◌, ◌||◌, Option, Some, None, Result, Ok, Err, IfOk, IfErr, is_ok, eqb, refl, sym, ap, ◌∙◌, arith}
-use Rattle.std.specs.List.{list_any}
+use Rattle.std.proofs.Common.{◌≡◌, ℕ, zero, suc, ◌<◌, List, [], ◌∷◌, Bool, true, false, if◌then◌else◌, ◌||◌, Some, Result, Ok, Err, IfOk, IfErr, is_ok, eqb, refl, sym, ap, ◌∙◌, arith}
 use Rattle.std.specs.Prelude.{is_some}
 use Rattle.std.specs.declared.cmp.Ordering.{Ordering}
 use Rattle.std.specs.declared.cmp.Ordering.TheVariants.{Less, Equal, Greater}
@@ -11,7 +10,7 @@ use Rattle.std.proofs.lemmas.Cmp.{ranked, nat_cmp_total}
 use Rattle.std.proofs.lemmas.Map.Lookups.{exact_unsigned}
 use Rattle.plain_data.specs.Rows.{IsRising, IsAt, IsGap, put, find}
 use Rattle.plain_data.proofs.RowFacts.{find_at, find_gap}
-use Rattle.script_text.specs.Members.{is_given}
+use Rattle.script_lines.specs.Members.{is_given}
 
 pub put_same : (n : ℕ) (xs : List ℕ) (i : ℕ) → IsAt nat_cmp (λ m. m) n xs i → put nat_cmp (λ m. m) n xs ≡ xs
 put_same n [] i h = absurd h

@@ -1,23 +1,23 @@
 -- What stands beside the lines, with one line more.
 use Rattle.std.proofs.Common.{◌≡◌, ℕ, ◌+◌, ◌<◌, ◌≤◌, List, [], ◌∷◌, ◌++◌, length, Bool, true, false, Option, Some, None, cond, refl, sym, ap, ◌∙◌, append-nil, arith, subst, ltb}
-use Rattle.std.specs.List.{flat_map, count_by, sum_by}
-use Rattle.std.specs.Prelude.{is_some, bytes_eq, nat_lt, option_and_then}
+use Rattle.std.specs.List.{flat_map, sum_by}
+use Rattle.std.specs.Prelude.{is_some, option_and_then}
 use Rattle.std.proofs.lemmas.List.Concat.{flat_map-append}
 use Rattle.std.proofs.lemmas.List.Sums.{sum_by-append}
 use Rattle.std.proofs.lemmas.Bool.{lt-ltb, le-ltb}
 use Rattle.plain_data.specs.Pairs.{Pair}
 use Rattle.kube_types.specs.declared.objects.Object.{Object}
-use Rattle.script_text.specs.declared.actors.Actor.{Actor}
+use Rattle.script_lines.specs.declared.actors.Actor.{Actor}
 use Rattle.script_text.specs.declared.script.Line.{Line}
 use Rattle.script_text.specs.declared.script.Line.TheVariants.{Call, Lose, Restart, Turn, Drain}
 use Rattle.script_text.specs.declared.numbers.NumberRow.{NumberRow}
 use Rattle.script_text.specs.declared.index.Index.{Index}
-use Rattle.script_text.specs.Actors.{actor_word}
+use Rattle.script_lines.specs.Actors.{actor_word}
 use Rattle.script_text.specs.Said.{and_node, created, created_node, node_name, creates, agents_after, agents_of, loss_of, losses_of, restart_of, restarts_of, turn_calls, calls_of}
-use Rattle.script_text.specs.Steps.Indexed.{HasNumbers, IsIndex}
+use Rattle.script_text.specs.Steps.Indexed.{IsIndex}
 use Rattle.script_text.specs.Steps.Numbers.{numbers_at, and_number}
 use Rattle.call_types.specs.declared.request.Request.{Request}
-use Rattle.script_text.specs.declared.errors.Reason.TheVariants.{TooManyObjects, TooManyNodes, TooManyLosses, TooManyRestarts}
+use Rattle.script_lines.specs.declared.errors.Reason.TheVariants.{TooManyObjects, TooManyNodes, TooManyLosses, TooManyRestarts}
 use Rattle.script_text.specs.Grammar.{most_objects, most_nodes, most_losses, most_restarts, most_calls, create_limit, line_limit}
 use Rattle.script_text.proofs.NumberRows.{numbers_more}
 

@@ -1,4 +1,4 @@
-pub mod Taken
+pub mod LineResults
 pub mod Meanings
 pub mod NumberRows
 pub mod Indexes

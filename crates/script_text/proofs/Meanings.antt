@@ -1,9 +1,9 @@
 -- The meaning of a line that names no actor is the same whatever agents are known.
-use Rattle.std.proofs.Common.{◌≡◌, List, true, false, Result, refl, ap}
+use Rattle.std.proofs.Common.{◌≡◌, List, refl, ap}
 use Rattle.serde_json.specs.Data.{Data}
 use Rattle.plain_data.specs.Pairs.{Pair}
-use Rattle.script_text.specs.declared.verbs.Verb.{Verb}
-use Rattle.script_text.specs.declared.verbs.Verb.TheVariants as verbs
+use Rattle.script_lines.specs.declared.verbs.Verb.{Verb}
+use Rattle.script_lines.specs.declared.verbs.Verb.TheVariants as verbs
 use Rattle.script_text.specs.Said.{Said}
 use Rattle.script_text.specs.LineReaders.{meaning_by}
 use Rattle.script_text.specs.Steps.Known.{IfNamed}

@@ -5,21 +5,20 @@ use Rattle.std.specs.List.{list_all, slice_split}
 use Rattle.std.specs.declared.result.Result.{Result}
 use Rattle.serde_json.specs.Data.{Data}
 use Rattle.plain_data.specs.Pairs.{Pair}
-use Rattle.call_types.specs.declared.request.Request.{Request}
 use Rattle.object_text.specs.Reading.{is_object, value_of}
-use Rattle.script_text.specs.declared.errors.Reason.{Reason}
-use Rattle.script_text.specs.declared.errors.Reason.TheVariants.{TooLong, NotObject, UnknownDo, TooManyLines, TooManyObjects, TooManyNodes, TooManyPools, TooManyFaults, TooManyRestarts, TooManyLosses, TooManyTurns}
-use Rattle.script_text.specs.declared.errors.BadLine.{BadLine}
-use Rattle.script_text.specs.declared.verbs.Verb.{Verb}
-use Rattle.script_text.specs.declared.verbs.Verb.TheVariants as verbs
+use Rattle.script_lines.specs.declared.errors.Reason.{Reason}
+use Rattle.script_lines.specs.declared.errors.Reason.TheVariants.{TooLong, NotObject, UnknownDo, TooManyLines, TooManyObjects, TooManyNodes, TooManyPools, TooManyFaults, TooManyRestarts, TooManyLosses, TooManyTurns}
+use Rattle.script_lines.specs.declared.errors.BadLine.{BadLine}
+use Rattle.script_lines.specs.declared.verbs.Verb.{Verb}
+use Rattle.script_lines.specs.declared.verbs.Verb.TheVariants as verbs
 use Rattle.script_text.specs.declared.script.Line.{Line}
 use Rattle.script_text.specs.declared.script.Line.TheVariants.{Call, Lose, Restart, Turn, Drain}
 use Rattle.script_text.specs.declared.script.Meaning.{Meaning}
 use Rattle.script_text.specs.declared.script.Meaning.TheVariants as meanings
 use Rattle.script_text.specs.declared.script.Script.{Script}
 use Rattle.script_text.specs.declared.script.Numbered.{Numbered}
-use Rattle.script_text.specs.Answers.{◌>>=◌, taken, unless}
-use Rattle.script_text.specs.Actors.{actor_word}
+use Rattle.script_lines.specs.Answers.{◌>>=◌, taken, unless}
+use Rattle.script_lines.specs.Actors.{actor_word}
 use Rattle.script_text.specs.Said.{Said, nothing_said, and_said, created_by, created_node, and_node, creates, agents_of, losses_of, restarts_of, calls_of, numbered_of}
 use Rattle.script_text.specs.LineReaders.{verb_at, create_line, meaning_of}
 

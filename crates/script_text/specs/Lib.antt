@@ -1,10 +1,4 @@
-pub mod Answers
-pub mod MemberWords
-pub mod Actors
-pub mod Verbs
-pub mod Members
 pub mod Said
 pub mod LineReaders
 pub mod Grammar
-pub mod Refusals
 pub mod Steps

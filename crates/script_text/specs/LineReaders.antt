@@ -1,6 +1,6 @@
 -- What each line means, by its member `do`: its members in their turn, the first refusal answered; other members are not looked at.
 -- A choice of this project: the script format.
-use Rattle.std.specs.Prelude.{ℕ, ◌==◌, List, [], Bool, true, false, if◌then◌else◌, Ok, Err, Option, Some, None}
+use Rattle.std.specs.Prelude.{ℕ, ◌==◌, List, if◌then◌else◌, Ok, Err, Option, Some, None}
 use Rattle.std.specs.declared.result.Result.{Result}
 use Rattle.serde_json.specs.Data.{Data}
 use Rattle.plain_data.specs.Pairs.{Pair}
@@ -8,19 +8,19 @@ use Rattle.kube_types.specs.Keys.{meta_of}
 use Rattle.kube_types.specs.declared.objects.Object.{Object}
 use Rattle.call_types.specs.declared.request.Request.TheVariants as asks
 use Rattle.object_text.specs.declared.errors.Member.TheVariants as manifests
-use Rattle.script_text.specs.declared.line_member.LineMember.TheVariants as members
-use Rattle.script_text.specs.declared.errors.Reason.{Reason}
-use Rattle.script_text.specs.declared.errors.Reason.TheVariants.{UnknownDo}
-use Rattle.script_text.specs.declared.verbs.Verb.{Verb}
-use Rattle.script_text.specs.declared.verbs.Verb.TheVariants as verbs
+use Rattle.script_lines.specs.declared.line_member.LineMember.TheVariants as members
+use Rattle.script_lines.specs.declared.errors.Reason.{Reason}
+use Rattle.script_lines.specs.declared.errors.Reason.TheVariants.{UnknownDo}
+use Rattle.script_lines.specs.declared.verbs.Verb.{Verb}
+use Rattle.script_lines.specs.declared.verbs.Verb.TheVariants as verbs
 use Rattle.script_text.specs.declared.script.Line.{Line}
 use Rattle.script_text.specs.declared.script.Line.TheVariants.{Call, Lose, Restart, Turn, Drain}
 use Rattle.script_text.specs.declared.script.Meaning.{Meaning}
 use Rattle.script_text.specs.declared.script.Meaning.TheVariants as meanings
-use Rattle.script_text.specs.Answers.{◌>>=◌}
-use Rattle.script_text.specs.Actors.{actor_word}
-use Rattle.script_text.specs.Members.{text_at, count_at, most_turn, new_call_at, user_at, kind_at, key_at, condition_at, object_at, actor_at, when_at, size_at, topology_at, edit_at}
-use Rattle.script_text.specs.Verbs.{verb_named}
+use Rattle.script_lines.specs.Answers.{◌>>=◌}
+use Rattle.script_lines.specs.Actors.{actor_word}
+use Rattle.script_lines.specs.Members.{text_at, count_at, most_turn, new_call_at, user_at, kind_at, key_at, condition_at, object_at, actor_at, when_at, size_at, topology_at, edit_at}
+use Rattle.script_lines.specs.Verbs.{verb_named}
 use Rattle.script_text.specs.Said.{Said, losses_of, restarts_of}
 
 -- ---- users' calls

@@ -1,5 +1,5 @@
 -- What the lines before a line said. A choice of this project: the script format.
-use Rattle.std.specs.Prelude.{ℕ, ◌+◌, List, [], ◌∷◌, ◌++◌, Bool, if◌then◌else◌, Option, Some, None, option_and_then, is_some, bytes_eq, map}
+use Rattle.std.specs.Prelude.{ℕ, List, [], ◌∷◌, ◌++◌, if◌then◌else◌, Option, Some, None, option_and_then, is_some, bytes_eq, map}
 use Rattle.std.specs.List.{flat_map, count_by, sum_by}
 use Rattle.std.specs.Ordering.{nat_cmp}
 use Rattle.plain_data.specs.Pairs.{Pair}
@@ -10,12 +10,11 @@ use Rattle.call_types.specs.declared.request.Request.{Request}
 use Rattle.call_types.specs.declared.request.Request.TheVariants as asks
 use Rattle.call_types.specs.declared.setup.Pool.{Pool}
 use Rattle.script_text.specs.declared.script.Line.{Line}
-use Rattle.script_text.specs.declared.script.Line.TheVariants.{Call, Lose, Restart, Turn, Drain}
+use Rattle.script_text.specs.declared.script.Line.TheVariants.{Call, Lose, Restart, Turn}
 use Rattle.script_text.specs.declared.script.Meaning.{Meaning}
 use Rattle.script_text.specs.declared.script.Meaning.TheVariants as meanings
-use Rattle.script_text.specs.declared.script.Script.{Script}
 use Rattle.script_text.specs.declared.script.Numbered.{Numbered}
-use Rattle.script_text.specs.Actors.{actor_word, with_node}
+use Rattle.script_lines.specs.Actors.{actor_word, with_node}
 
 -- the pools in their order with their sizes as they were written, the faults as they rise, and the lines in their order with their numbers
 pub record Said : Type 0 where

@@ -2,13 +2,13 @@
 
 ghost use Rattle.std.specs.Prelude.{◌≡◌, [], ◌∷◌, ◌++◌, true, Some, OnOk, option_map};
 ghost use Rattle.script_text.specs.declared.script.Line.TheVariants.{Lose, Restart, Turn};
-ghost use Rattle.script_text.specs.Actors.{with_node};
+ghost use Rattle.script_lines.specs.Actors.{with_node};
 ghost use Rattle.script_text.specs.Said.{node_name, and_node, created};
 ghost use Rattle.script_text.specs.Grammar.{create_limit, line_limit};
 ghost use Rattle.script_text.specs.Steps.Indexed.{IsIndex, Notes};
 
-use crate::actors::{Actor, agent_name};
-use crate::errors::{LineError, Reason};
+use script_lines::actors::{Actor, agent_name};
+use script_lines::errors::{LineError, Reason};
 use crate::numbers::Numbers;
 use crate::script::Line;
 use call_types::request::Request;
@@ -19,9 +19,13 @@ use kube_types::text::Text;
 use std::alloc::Global;
 
 const MOST_OBJECTS: u64 = 1024;
+
 const MOST_NODES: usize = 8;
+
 const MOST_RESTARTS: usize = 3;
+
 const MOST_LOSSES: usize = 64;
+
 const MOST_CALLS: u64 = 28000;
 
 /// The agents of the nodes that lines create, the numbers of calls that lines lose or after which they begin

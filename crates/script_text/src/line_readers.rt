@@ -2,28 +2,28 @@
 
 ghost use Rattle.std.specs.Prelude.{◌≡◌};
 ghost use Rattle.serde_json.specs.View.{view};
-ghost use Rattle.script_text.specs.declared.errors.Reason.TheVariants.{BadValue};
-ghost use Rattle.script_text.specs.Answers.{Gives, unless};
+ghost use Rattle.script_lines.specs.declared.errors.Reason.TheVariants.{BadValue};
+ghost use Rattle.script_lines.specs.Answers.{Gives, unless};
 ghost use Rattle.script_text.specs.Steps.Results.{line_result};
 ghost use Rattle.script_text.specs.LineReaders.{create_line, condition_of, update_line, edit_line, delete_line, get_line, list_line, time_line, pool_line, fault_line, lose_line, restart_line, turn_line, verb_from, verb_at, as_line, meaning_by};
-ghost use Rattle.script_text.specs.declared.line_member.LineMember.TheVariants as members;
-ghost use Rattle.script_text.specs.Actors.{actor_word};
-ghost use Rattle.script_text.specs.Members.{new_call_at};
+ghost use Rattle.script_lines.specs.declared.line_member.LineMember.TheVariants as members;
+ghost use Rattle.script_lines.specs.Actors.{actor_word};
+ghost use Rattle.script_lines.specs.Members.{new_call_at};
 ghost use Rattle.script_text.specs.Said.{losses_of, restarts_of};
-ghost use Rattle.script_text.specs.Verbs.{verb_named};
+ghost use Rattle.script_lines.specs.Verbs.{verb_named};
 ghost use Rattle.script_text.specs.Steps.Indexed.{Stands, said_by};
 
-use crate::actors::Actor;
-use crate::edits::edit_at;
-use crate::errors::{LineError, Reason};
-use crate::members::{
+use script_lines::actors::Actor;
+use script_lines::edits::edit_at;
+use script_lines::errors::{LineError, Reason};
+use script_lines::line_member::LineMember;
+use script_lines::members::{
     actor_at, call_at, condition_at, count_at, key_at, kind_at, object_at, size_at, text_at,
     topology_at, user_at, when_at, word_at,
 };
-use crate::line_member::LineMember;
 use crate::progress::Progress;
 use crate::script::{Line, Meaning};
-use crate::verbs::{Verb, verb_named};
+use script_lines::verbs::{Verb, verb_named};
 use call_types::request::Request;
 use call_types::setup::Pool;
 use kube_types::copies::Plain;
@@ -55,11 +55,7 @@ fn condition_of(object: &Object) -> Option<Version>
     ensures { result ≡ condition_of object.now }
 {
     let version = meta_of(object).version;
-    if version == 0 {
-        None
-    } else {
-        Some(version)
-    }
+    if version == 0 { None } else { Some(version) }
 }
 
 #[tactic(auto, unfolding(crate::specs::LineReaders::update_line))]
@@ -282,7 +278,7 @@ fn as_line(read: Result<Line, LineError>) -> Result<Meaning, LineError>
 }
 
 /// What a line with this word means, with the agents of the whole text and after what was said before.
-#[tactic(auto, using(crate::proofs::Taken::line_gives))]
+#[tactic(auto, using(crate::proofs::LineResults::line_gives))]
 pub(crate) fn meaning_by(
     alloc: Global,
     verb: Verb,

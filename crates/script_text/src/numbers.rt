@@ -2,7 +2,7 @@
 
 ghost use Rattle.std.specs.Prelude.{◌≡◌, [], length, IfOk, IfErr, OnOk, option_map};
 ghost use Rattle.std.specs.List.Sorted.{IsSearchInRange};
-ghost use Rattle.script_text.specs.Members.{is_given};
+ghost use Rattle.script_lines.specs.Members.{is_given};
 ghost use Rattle.script_text.specs.Steps.Numbers.{AreNumbers, IsNumbersAt, IsNumbersGap, numbers_shown, numbers_at, and_number};
 
 use kube_types::copies::{OutOfMemory, Plain};

@@ -5,12 +5,12 @@ ghost use Rattle.std.specs.List.Sorted.{IsSearchInRange};
 ghost use Rattle.std.specs.Ordering.{nat_cmp};
 ghost use Rattle.plain_data.specs.Rows.{IsAt, IsGap, put};
 ghost use Rattle.script_text.specs.declared.script.Meaning.TheVariants as meanings;
-ghost use Rattle.script_text.specs.Members.{is_given};
+ghost use Rattle.script_lines.specs.Members.{is_given};
 ghost use Rattle.script_text.specs.Said.{nothing_said, and_said, agents_of, losses_of, restarts_of, nodes_of, numbered_of};
 ghost use Rattle.script_text.specs.Grammar.{limit_of, unless_passed};
 ghost use Rattle.script_text.specs.Steps.Indexed.{AreFaults, Stands, Takes, said_by};
 
-use crate::errors::{LineError, Reason};
+use script_lines::errors::{LineError, Reason};
 use crate::index::{Index, no_index, note_line};
 use crate::script::{Line, Numbered, Script};
 use call_types::setup::{Pool, Setup};
@@ -20,6 +20,7 @@ use kube_types::text::{Names, Text};
 use std::alloc::Global;
 
 const MOST_POOLS: usize = 64;
+
 const MOST_FAULTS: usize = 256;
 
 /// What was said, and the index of its lines.
@@ -116,7 +117,12 @@ impl Progress {
     }
 }
 
-pub(crate) fn take_pool(progress: &mut Progress, _number: u64, pool: Pool, size: &Text) -> Result<(), LineError>
+pub(crate) fn take_pool(
+    progress: &mut Progress,
+    _number: u64,
+    pool: Pool,
+    size: &Text,
+) -> Result<(), LineError>
     requires { Stands progress.old }
     ensures { Takes result progress.new (unless_passed (limit_of (and_said (said_by progress.old) _number (meanings.Pool pool size.now)) (meanings.Pool pool size.now)) (and_said (said_by progress.old) _number (meanings.Pool pool size.now))) }
 {

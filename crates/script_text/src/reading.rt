@@ -5,19 +5,19 @@ ghost use Rattle.std.specs.List.{list_all};
 ghost use Rattle.serde_json.specs.View.{view};
 ghost use Rattle.json_text.specs.Trees.{tree_data};
 ghost use Rattle.object_text.specs.Reading.{value_of};
-ghost use Rattle.script_text.specs.Answers.{Gives, GivesBy, ScriptGives, taken};
+ghost use Rattle.script_lines.specs.Answers.{Gives, GivesBy, ScriptGives, taken};
 ghost use Rattle.script_text.specs.Said.{agents_of, and_node, created_node, nodes_of};
 ghost use Rattle.script_text.specs.LineReaders.{meaning_of};
 ghost use Rattle.script_text.specs.Grammar.{agents_in, and_filled, and_line, is_blank, line_value, lines_of, node_from, own_create, read_numbered_of, said_in, script_of};
 ghost use Rattle.script_text.specs.Steps.Indexed.{Stands, Takes, said_by};
 ghost use Rattle.script_text.specs.Steps.Known.{IfNamed, IsKnown, SaidGives, names_actor};
 
-use crate::errors::{BadLine, LineError, Reason, ScriptError};
+use script_lines::errors::{BadLine, LineError, Reason, ScriptError};
 use crate::index::{node_name, put_node};
 use crate::line_readers::{create_line, meaning_by, verb_at};
 use crate::progress::Progress;
 use crate::script::{Line, Meaning, Numbered, Script};
-use crate::verbs::Verb;
+use script_lines::verbs::Verb;
 use call_types::request::Request;
 use json_text::tree::Tree;
 use kube_types::copies::OutOfMemory;
@@ -28,6 +28,7 @@ use serde_json::Value;
 use std::alloc::{AllocError, Global};
 
 const MOST_LINE_BYTES: usize = 16384;
+
 const MOST_LINES: u64 = 4096;
 
 // ---- one line
@@ -44,7 +45,7 @@ fn are_blank(line: &[u8]) -> bool
     line.iter().all(|byte| is_blank(*byte))
 }
 
-#[tactic(auto, using(crate::proofs::Taken::taken_fails))]
+#[tactic(auto, using(script_lines::proofs::Taken::taken_fails))]
 fn json_of(alloc: Global, line: &[u8]) -> Result<Tree, LineError>
     ensures { GivesBy tree_data result (taken (value_of line.now)) }
 {

@@ -5,8 +5,8 @@ ghost use Rattle.script_text.specs.Said.{and_said};
 ghost use Rattle.script_text.specs.Grammar.{limit_of, unless_passed};
 ghost use Rattle.script_text.specs.Steps.Indexed.{Stands, Takes, said_by};
 
-use crate::actors::Actor;
-use crate::errors::LineError;
+use script_lines::actors::Actor;
+use script_lines::errors::LineError;
 use crate::progress::{Progress, take_fault, take_line, take_pool};
 use call_types::request::Request;
 use call_types::setup::{Pool, Setup};
@@ -18,13 +18,26 @@ use std::alloc::Global;
 #[derive(Debug)]
 pub enum Line {
     /// A user's call.
-    Call { user: u64, request: Request },
+    Call {
+        user: u64,
+        request: Request,
+    },
     /// The call of this number that the actor makes is lost, before its effect or after it.
-    Lose { actor: Actor, call: u64, after: bool },
+    Lose {
+        actor: Actor,
+        call: u64,
+        after: bool,
+    },
     /// After so many calls of the actor a new life of it begins.
-    Restart { actor: Actor, after: u64 },
+    Restart {
+        actor: Actor,
+        after: u64,
+    },
     /// The actor makes calls, at most so many.
-    Turn { actor: Actor, calls: u64 },
+    Turn {
+        actor: Actor,
+        calls: u64,
+    },
     /// All controllers make calls until nothing is due.
     Drain,
 }

@@ -1,17 +1,16 @@
 -- What stands beside what was said, so that it is found at once.
-use Rattle.std.specs.Prelude.{ℕ, ◌≡◌, List, [], ◌∷◌, ◌++◌, Option, Some, None, Ok, Err, ⊤}
+use Rattle.std.specs.Prelude.{ℕ, ◌≡◌, List, Option, Some, None, Ok, Err, ⊤}
 use Rattle.std.specs.declared.result.Result.{Result}
 use Rattle.std.specs.Ordering.{nat_cmp}
-use Rattle.plain_data.specs.Pairs.{Pair}
 use Rattle.plain_data.specs.Rows.{IsRising}
-use Rattle.script_text.specs.declared.errors.Reason.{Reason}
-use Rattle.script_text.specs.declared.errors.LineError.{LineError}
-use Rattle.script_text.specs.declared.errors.LineError.TheVariants.{OutOfMemory, Refused}
+use Rattle.script_lines.specs.declared.errors.Reason.{Reason}
+use Rattle.script_lines.specs.declared.errors.LineError.{LineError}
+use Rattle.script_lines.specs.declared.errors.LineError.TheVariants.{OutOfMemory, Refused}
 use Rattle.script_text.specs.declared.numbers.NumberRow.{NumberRow}
 use Rattle.script_text.specs.declared.script.Line.{Line}
 use Rattle.script_text.specs.declared.index.Index.{Index}
 use Rattle.script_text.specs.declared.progress.Progress.{Progress}
-use Rattle.script_text.specs.Answers.{Fails}
+use Rattle.script_lines.specs.Answers.{Fails}
 use Rattle.script_text.specs.Said.{Said, creates, agents_of, losses_of, restarts_of, calls_of}
 use Rattle.script_text.specs.Steps.Numbers.{numbers_at}
 

@@ -1,13 +1,13 @@
 -- The agents of the whole text, which are looked for where a line first names an actor.
-use Rattle.std.specs.Prelude.{ℕ, ◌≡◌, List, Bool, true, false, Ok, Err, ⊤}
+use Rattle.std.specs.Prelude.{ℕ, ◌≡◌, List, Bool, true, false, Ok, Err}
 use Rattle.std.specs.declared.result.Result.{Result}
-use Rattle.script_text.specs.declared.errors.BadLine.{BadLine}
-use Rattle.script_text.specs.declared.errors.ScriptError.{ScriptError}
-use Rattle.script_text.specs.declared.verbs.Verb.{Verb}
-use Rattle.script_text.specs.declared.verbs.Verb.TheVariants.{Lose, Restart, Turn}
+use Rattle.script_lines.specs.declared.errors.BadLine.{BadLine}
+use Rattle.script_lines.specs.declared.errors.ScriptError.{ScriptError}
+use Rattle.script_lines.specs.declared.verbs.Verb.{Verb}
+use Rattle.script_lines.specs.declared.verbs.Verb.TheVariants.{Lose, Restart, Turn}
 use Rattle.script_text.specs.declared.progress.Progress.{Progress}
 use Rattle.script_text.specs.declared.reading.Known.{Known}
-use Rattle.script_text.specs.Answers.{ScriptFails}
+use Rattle.script_lines.specs.Answers.{ScriptFails}
 use Rattle.script_text.specs.Said.{Said}
 use Rattle.script_text.specs.Grammar.{agents_in}
 use Rattle.script_text.specs.Steps.Indexed.{Stands, said_by}

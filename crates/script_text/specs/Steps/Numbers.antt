@@ -1,8 +1,7 @@
 -- Numbers by the names of actors, and what stands beside what was said, so that it is found at once.
-use Rattle.std.specs.Prelude.{ℕ, ◌≡◌, ◌+◌, List, [], ◌∷◌, ◌++◌, Option, Some, None, is_some}
+use Rattle.std.specs.Prelude.{ℕ, List, [], ◌∷◌, ◌++◌, Option, Some, None}
 use Rattle.plain_data.specs.Pairs.{text_cmp}
 use Rattle.plain_data.specs.Rows.{IsRising, IsAt, IsGap, put, find}
-use Rattle.std.specs.Ordering.{nat_cmp}
 use Rattle.script_text.specs.declared.numbers.NumberRow.{NumberRow}
 
 abbrev pub row_name : NumberRow → List ℕ

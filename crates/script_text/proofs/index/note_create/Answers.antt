@@ -13,7 +13,7 @@ returns-then-as_slice-gt-MOST_NODES c =
 pub returns : goal.returns
 returns c =
     let new : Index = record { agents = c.note_node.new.agents; losses = c.args.index.now.losses; restarts = c.args.index.now.restarts; created = c.args.index.now.created + 1; calls = c.args.index.now.calls } in
-    let more : Creates c.args.index.now new c.args.object.now = record { agents = c.in_ok-note_node.ensures.ok; losses = refl; restarts = refl; created = refl; calls = refl } in
-    ( create_noted c.args.index.now new c.args._before.now c.args.line.now c.args.object.now c.requires.index c.requires.created more
-    , none_passed c.args.index.now new c.args._before.now c.args.line.now c.args.object.now c.requires.index c.requires.created more c.if-index-ge-MOST_OBJECTS.false (subst (λ a. length a ≤ most_nodes) c.as_slice.ensures.pairs c.if-as_slice-gt-MOST_NODES.false)
+    let more : Creates c.args.index.now new c.args.object.now = record { agents = c.in_ok-note_node.ensures.ok; losses = refl; restarts = refl; created = refl; calls = refl } in (
+      create_noted c.args.index.now new c.args._before.now c.args.line.now c.args.object.now c.requires.index c.requires.created more,
+      none_passed c.args.index.now new c.args._before.now c.args.line.now c.args.object.now c.requires.index c.requires.created more c.if-index-ge-MOST_OBJECTS.false (subst (λ a. length a ≤ most_nodes) c.as_slice.ensures.pairs c.if-as_slice-gt-MOST_NODES.false),
     )

@@ -1,8 +1,7 @@
-use Rattle.std.proofs.Common.{◌<◌, ◌≤◌, length, ◌∙◌, sym, ap, subst}
+use Rattle.std.proofs.Common.{◌<◌, ◌≤◌, subst}
 use Rattle.script_text.proofs.Indexes.{loss_passed, loss_kept}
 use Rattle.script_text.proofs.index.note_lose.Goals as goal
 use Rattle.script_text.specs.Grammar.{most_losses}
-use Rattle.script_text.specs.Steps.Numbers.{numbers_at}
 
 pub returns-then-count-gt-MOST_LOSSES : goal.returns-then-count-gt-MOST_LOSSES
 returns-then-count-gt-MOST_LOSSES c =

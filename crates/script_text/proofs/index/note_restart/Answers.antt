@@ -1,8 +1,7 @@
-use Rattle.std.proofs.Common.{◌<◌, ◌≤◌, length, ◌∙◌, sym, ap, subst}
+use Rattle.std.proofs.Common.{◌<◌, ◌≤◌, subst}
 use Rattle.script_text.proofs.Indexes.{restart_passed, restart_kept}
 use Rattle.script_text.proofs.index.note_restart.Goals as goal
 use Rattle.script_text.specs.Grammar.{most_restarts}
-use Rattle.script_text.specs.Steps.Numbers.{numbers_at}
 
 pub returns-then-count-gt-MOST_RESTARTS : goal.returns-then-count-gt-MOST_RESTARTS
 returns-then-count-gt-MOST_RESTARTS c =

@@ -1,4 +1,4 @@
-use Rattle.std.proofs.Common.{sym, ap, ◌∙◌}
+use Rattle.std.proofs.Common.{sym, ap}
 use Rattle.std.proofs.lemmas.Cmp.{nat_list_cmp_total}
 use Rattle.plain_data.proofs.RowFacts.{find_at, find_gap}
 use Rattle.script_text.specs.Steps.Numbers.{row_name, numbers_in}

@@ -1,6 +1,4 @@
-use Rattle.std.proofs.Common.{◌∙◌, subst}
-use Rattle.script_text.specs.Members.{is_given}
-use Rattle.script_text.specs.Steps.Indexed.{AreFaults}
+use Rattle.std.proofs.Common.{◌∙◌}
 use Rattle.script_text.proofs.Faults.{given_at}
 use Rattle.script_text.proofs.progress.Progress.has_fault.Goals as goal
 

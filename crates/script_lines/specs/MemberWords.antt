@@ -1,8 +1,8 @@
 -- The names of the members of lines. A choice of this project; those of manifests are the Kubernetes API's.
 use Rattle.std.specs.Prelude.{ℕ, List, codes}
 use Rattle.object_text.specs.MemberWords.{member_word}
-use Rattle.script_text.specs.declared.line_member.LineMember.{LineMember}
-use Rattle.script_text.specs.declared.line_member.LineMember.TheVariants as members
+use Rattle.script_lines.specs.declared.line_member.LineMember.{LineMember}
+use Rattle.script_lines.specs.declared.line_member.LineMember.TheVariants as members
 
 abbrev pub line_word : LineMember → List ℕ
 line_word members.Do = codes "do"

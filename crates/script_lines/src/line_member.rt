@@ -1,7 +1,7 @@
 //! The members of lines.
 
 ghost use Rattle.std.specs.Prelude.{◌≡◌};
-ghost use Rattle.script_text.specs.MemberWords.{line_word};
+ghost use Rattle.script_lines.specs.MemberWords.{line_word};
 
 use object_text::errors::Member;
 

@@ -8,10 +8,10 @@ ghost use Rattle.object_text.specs.Answers.{Gives as GivesAmount};
 ghost use Rattle.quantity_text.specs.Quantity.{amount_of};
 ghost use Rattle.object_text.specs.Listing.{item_of};
 ghost use Rattle.object_text.specs.declared.errors.Member.TheVariants as manifests;
-ghost use Rattle.script_text.specs.Answers.{Gives, GivesBy};
-ghost use Rattle.script_text.specs.Steps.Results.{object_line_error, size_line_error};
-ghost use Rattle.script_text.specs.Actors.{actor_named};
-ghost use Rattle.script_text.specs.Members.{at as at_line, needed, text_of, text_at, object_value_of, count_of, count_at, most_call, user_at, kind_from, kind_at, namespace_at, condition_at, key_at, object_taken, object_at, actor_from, actor_at, when_named, when_at, size_taken, size_at, value_from, topology_at};
+ghost use Rattle.script_lines.specs.Answers.{Gives, GivesBy};
+ghost use Rattle.script_lines.specs.Steps.Results.{object_line_error, size_line_error};
+ghost use Rattle.script_lines.specs.Actors.{actor_named};
+ghost use Rattle.script_lines.specs.Members.{at as at_line, needed, text_of, text_at, object_value_of, count_of, count_at, most_call, user_at, kind_from, kind_at, namespace_at, condition_at, key_at, object_taken, object_at, actor_from, actor_at, when_named, when_at, size_taken, size_at, value_from, topology_at};
 
 use crate::actors::{Actor, actor_named};
 use crate::errors::{LineError, Reason};
@@ -39,14 +39,14 @@ const MOST_CALL: u64 = 999_999_999;
 const USERS: u64 = 4;
 
 /// The member of the line.
-pub(crate) fn at<'v>(line: &'v Value, member: LineMember) -> Option<&'v Value>
+pub fn at<'v>(line: &'v Value, member: LineMember) -> Option<&'v Value>
     ensures { option_map (λ v. view v.now) result ≡ at_line member (view line.now) }
 {
     line.get(member.name())
 }
 
 /// A member that has to be there.
-pub(crate) fn needed<'v>(line: &'v Value, member: LineMember) -> Result<&'v Value, LineError>
+pub fn needed<'v>(line: &'v Value, member: LineMember) -> Result<&'v Value, LineError>
     ensures { GivesBy (λ v. view v.now) result (needed member (view line.now)) }
 {
     match unless_null(at(line, member)) {
@@ -58,7 +58,7 @@ pub(crate) fn needed<'v>(line: &'v Value, member: LineMember) -> Result<&'v Valu
 // ---- texts, objects and numbers
 
 /// The text that the value is.
-pub(crate) fn word_of<'v>(value: &'v Value, member: LineMember) -> Result<&'v str, LineError>
+pub fn word_of<'v>(value: &'v Value, member: LineMember) -> Result<&'v str, LineError>
     ensures { GivesBy (λ s. s.now) result (text_of member (view value.now)) }
 {
     match value.as_str() {
@@ -68,18 +68,14 @@ pub(crate) fn word_of<'v>(value: &'v Value, member: LineMember) -> Result<&'v st
 }
 
 /// A text that has to be there.
-pub(crate) fn word_at<'v>(line: &'v Value, member: LineMember) -> Result<&'v str, LineError>
+pub fn word_at<'v>(line: &'v Value, member: LineMember) -> Result<&'v str, LineError>
     ensures { GivesBy (λ s. s.now) result (text_at member (view line.now)) }
 {
     word_of(needed(line, member)?, member)
 }
 
 /// A copy of the text that the value is.
-pub(crate) fn text_of(
-    alloc: Global,
-    value: &Value,
-    member: LineMember,
-) -> Result<Text, LineError>
+pub fn text_of(alloc: Global, value: &Value, member: LineMember) -> Result<Text, LineError>
     ensures { Gives result (text_of member (view value.now)) }
 {
     let word = word_of(value, member)?;
@@ -87,11 +83,7 @@ pub(crate) fn text_of(
 }
 
 /// A copy of a text that has to be there.
-pub(crate) fn text_at(
-    alloc: Global,
-    line: &Value,
-    member: LineMember,
-) -> Result<Text, LineError>
+pub fn text_at(alloc: Global, line: &Value, member: LineMember) -> Result<Text, LineError>
     ensures { Gives result (text_at member (view line.now)) }
 {
     let word = word_at(line, member)?;
@@ -99,10 +91,7 @@ pub(crate) fn text_at(
 }
 
 /// The value, where it is an object.
-pub(crate) fn object_of<'v>(
-    value: &'v Value,
-    member: LineMember,
-) -> Result<&'v Value, LineError>
+pub fn object_of<'v>(value: &'v Value, member: LineMember) -> Result<&'v Value, LineError>
     ensures { GivesBy (λ v. view v.now) result (object_value_of member (view value.now)) }
 {
     match value.as_object() {
@@ -134,7 +123,7 @@ fn count_of(value: &Value, member: LineMember, most: u64) -> Result<u64, LineErr
 }
 
 /// A whole number from 1 to the greatest, which has to be there.
-pub(crate) fn count_at(line: &Value, member: LineMember, most: u64) -> Result<u64, LineError>
+pub fn count_at(line: &Value, member: LineMember, most: u64) -> Result<u64, LineError>
     ensures { Gives result (count_at member most (view line.now)) }
 {
     let value = needed(line, member)?;
@@ -142,14 +131,14 @@ pub(crate) fn count_at(line: &Value, member: LineMember, most: u64) -> Result<u6
 }
 
 /// The number of a call, which has to be there.
-pub(crate) fn call_at(line: &Value, member: LineMember) -> Result<u64, LineError>
+pub fn call_at(line: &Value, member: LineMember) -> Result<u64, LineError>
     ensures { Gives result (count_at member most_call (view line.now)) }
 {
     count_at(line, member, MOST_CALL)
 }
 
 /// The user of a line.
-pub(crate) fn user_at(line: &Value) -> Result<u64, LineError>
+pub fn user_at(line: &Value) -> Result<u64, LineError>
     ensures { Gives result (user_at (view line.now)) }
 {
     match at(line, LineMember::User) {
@@ -170,7 +159,7 @@ fn kind_named(word: &str) -> Result<Kind, LineError>
 }
 
 /// The kind of a line.
-pub(crate) fn kind_at(line: &Value) -> Result<Kind, LineError>
+pub fn kind_at(line: &Value) -> Result<Kind, LineError>
     ensures { Gives result (kind_at (view line.now)) }
 {
     let word = word_at(line, LineMember::Of(Member::Kind))?;
@@ -191,7 +180,7 @@ fn namespace_at(alloc: Global, namespaced: bool, line: &Value) -> Result<Text, L
 
 /// The UID that the object of a line has to have, where there is one.
 #[tactic(auto, using(crate::proofs::Taken::taken_fails))]
-pub(crate) fn condition_at(line: &Value) -> Result<Option<Uid>, LineError>
+pub fn condition_at(line: &Value) -> Result<Option<Uid>, LineError>
     ensures { Gives result (condition_at (view line.now)) }
 {
     Ok(uid_at(Some(line), Member::Uid)?)
@@ -199,7 +188,7 @@ pub(crate) fn condition_at(line: &Value) -> Result<Option<Uid>, LineError>
 
 /// The key of a line.
 #[tactic(auto, unfolding(crate::specs::Members::key_at))]
-pub(crate) fn key_at(alloc: Global, line: &Value) -> Result<Key, LineError>
+pub fn key_at(alloc: Global, line: &Value) -> Result<Key, LineError>
     ensures { Gives result (key_at (view line.now)) }
 {
     let kind = kind_at(line)?;
@@ -235,7 +224,7 @@ fn object_in(alloc: Global, value: &Value) -> Result<Object, LineError>
 }
 
 /// The object of a line.
-pub(crate) fn object_at(alloc: Global, line: &Value) -> Result<Object, LineError>
+pub fn object_at(alloc: Global, line: &Value) -> Result<Object, LineError>
     ensures { Gives result (object_at (view line.now)) }
 {
     let value = needed(line, LineMember::Object)?;
@@ -254,7 +243,7 @@ fn known_actor(alloc: Global, agents: &Pairs, word: &str) -> Result<Actor, LineE
 }
 
 /// The actor of a line.
-pub(crate) fn actor_at(alloc: Global, agents: &Pairs, line: &Value) -> Result<Actor, LineError>
+pub fn actor_at(alloc: Global, agents: &Pairs, line: &Value) -> Result<Actor, LineError>
     ensures { Gives result (actor_at agents.now (view line.now)) }
 {
     let word = word_at(line, LineMember::Actor)?;
@@ -274,7 +263,7 @@ fn when_named(word: &str) -> Result<bool, LineError>
 }
 
 /// Whether the call of a line is lost after its effect.
-pub(crate) fn when_at(line: &Value) -> Result<bool, LineError>
+pub fn when_at(line: &Value) -> Result<bool, LineError>
     ensures { Gives result (when_at (view line.now)) }
 {
     let word = word_at(line, LineMember::When)?;
@@ -336,7 +325,7 @@ fn size_in(alloc: Global, value: &Value) -> Result<Amount, LineError>
 }
 
 /// The size of a pool.
-pub(crate) fn size_at(alloc: Global, line: &Value) -> Result<Amount, LineError>
+pub fn size_at(alloc: Global, line: &Value) -> Result<Amount, LineError>
     ensures { Gives result (size_at (view line.now)) }
 {
     let value = needed(line, LineMember::Bytes)?;
@@ -357,7 +346,7 @@ fn value_of_label(
 }
 
 /// The topology of a pool.
-pub(crate) fn topology_at(alloc: Global, line: &Value) -> Result<Option<(Text, Text)>, LineError>
+pub fn topology_at(alloc: Global, line: &Value) -> Result<Option<(Text, Text)>, LineError>
     ensures { Gives result (topology_at (view line.now)) }
 {
     let value = at(line, LineMember::Value);

@@ -1,7 +1,7 @@
 //! Keys in lines.
 
 ghost use Rattle.std.specs.Prelude.{◌≡◌};
-ghost use Rattle.script_text.specs.Members.{is_namespaced};
+ghost use Rattle.script_lines.specs.Members.{is_namespaced};
 
 use kube_types::parts::Kind;
 

@@ -1,18 +1,13 @@
 -- What a reader of manifests says of a refusal, in a line.
-use Rattle.std.proofs.Common.{◌≡◌, Result, Ok, Err, refl, ap}
+use Rattle.std.proofs.Common.{Result, Ok, Err, ap}
 use Rattle.object_text.specs.declared.errors.ObjectError.{ObjectError}
 use Rattle.object_text.specs.declared.errors.ObjectError.TheVariants as objects
 use Rattle.object_text.specs.Answers as manifests
-use Rattle.script_text.specs.declared.errors.Reason.{Reason}
-use Rattle.script_text.specs.declared.errors.LineError.{LineError}
-use Rattle.script_text.specs.declared.errors.LineError.TheVariants as lines
-use Rattle.script_text.specs.declared.script.Line.{Line}
-use Rattle.script_text.specs.Answers.{taken, line_error, Fails, Gives}
+use Rattle.script_lines.specs.Answers.{taken, line_error, Fails}
 use Rattle.kube_types.specs.declared.objects.Object.{Object}
 use Rattle.kube_types.specs.declared.objects.Amount.{Amount}
-use Rattle.script_text.specs.Members.{object_taken, size_taken}
-use Rattle.script_text.specs.LineReaders.{as_line}
-use Rattle.script_text.specs.Steps.Results.{line_result, object_line_error, size_line_error}
+use Rattle.script_lines.specs.Members.{object_taken, size_taken}
+use Rattle.script_lines.specs.Steps.Results.{object_line_error, size_line_error}
 
 pub taken_fails : {X : Type 0} (e : ObjectError) (answer : Result X ObjectError) → manifests.Fails e answer → Fails (line_error e) (taken answer)
 taken_fails objects.OutOfMemory answer h = tt
@@ -24,11 +19,6 @@ taken_fails (objects.WrongType m) answer h = ap taken h
 taken_fails (objects.BadQuantity m) answer h = ap taken h
 taken_fails objects.NotWhole answer h = ap taken h
 taken_fails objects.TooLong answer h = ap taken h
-
-pub line_gives : (read : Result Line LineError) (answer : Result Line Reason) → Gives read answer → Gives (line_result read) (as_line answer)
-line_gives (Ok line) answer h = ap as_line h
-line_gives (Err lines.OutOfMemory) answer h = tt
-line_gives (Err (lines.Refused reason)) answer h = ap as_line h
 
 pub object_fails : (e : ObjectError) (answer : Result Object ObjectError) → manifests.Fails e answer → Fails (object_line_error e) (object_taken answer)
 object_fails objects.OutOfMemory answer h = tt

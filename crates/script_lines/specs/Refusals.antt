@@ -1,10 +1,10 @@
 -- What is printed for a line at fault. The words and the form of the line are a choice of this project.
 use Rattle.std.specs.Prelude.{ℕ, List, ◌++◌, Option, Some, None, codes, decimal}
-use Rattle.script_text.specs.declared.line_member.LineMember.{LineMember}
-use Rattle.script_text.specs.declared.errors.Reason.{Reason}
-use Rattle.script_text.specs.declared.errors.Reason.TheVariants as reasons
-use Rattle.script_text.specs.declared.errors.BadLine.{BadLine}
-use Rattle.script_text.specs.MemberWords.{line_word}
+use Rattle.script_lines.specs.declared.line_member.LineMember.{LineMember}
+use Rattle.script_lines.specs.declared.errors.Reason.{Reason}
+use Rattle.script_lines.specs.declared.errors.Reason.TheVariants as reasons
+use Rattle.script_lines.specs.declared.errors.BadLine.{BadLine}
+use Rattle.script_lines.specs.MemberWords.{line_word}
 
 abbrev pub reason_word : Reason → List ℕ
 reason_word reasons.TooLong = codes "TooLong"

@@ -1,7 +1,7 @@
 //! The edit members of a line.
 
 ghost use Rattle.std.specs.Prelude.{◌≡◌};
-ghost use Rattle.script_text.specs.Members.{edit_member};
+ghost use Rattle.script_lines.specs.Members.{edit_member};
 
 use crate::line_member::LineMember;
 

@@ -56,7 +56,7 @@ pub enum ScriptError {
 
 impl From<AllocError> for ScriptError {
     ghost use Rattle.std.specs.Prelude.{◌≡◌};
-    ghost use Rattle.script_text.specs.declared.errors.ScriptError.TheVariants.{OutOfMemory};
+    ghost use Rattle.script_lines.specs.declared.errors.ScriptError.TheVariants.{OutOfMemory};
 
     ghost from_gives = { λ _ e. e ≡ OutOfMemory };
 
@@ -67,7 +67,7 @@ impl From<AllocError> for ScriptError {
 
 impl From<OutOfMemory> for ScriptError {
     ghost use Rattle.std.specs.Prelude.{◌≡◌};
-    ghost use Rattle.script_text.specs.declared.errors.ScriptError.TheVariants.{OutOfMemory};
+    ghost use Rattle.script_lines.specs.declared.errors.ScriptError.TheVariants.{OutOfMemory};
 
     ghost from_gives = { λ _ e. e ≡ OutOfMemory };
 
@@ -78,14 +78,14 @@ impl From<OutOfMemory> for ScriptError {
 
 /// Why a line was not taken.
 #[derive(Clone, Copy, Debug, PartialEq, Eq)]
-pub(crate) enum LineError {
+pub enum LineError {
     OutOfMemory,
     Refused(Reason),
 }
 
 impl From<OutOfMemory> for LineError {
     ghost use Rattle.std.specs.Prelude.{◌≡◌};
-    ghost use Rattle.script_text.specs.declared.errors.LineError.TheVariants.{OutOfMemory};
+    ghost use Rattle.script_lines.specs.declared.errors.LineError.TheVariants.{OutOfMemory};
 
     ghost from_gives = { λ _ e. e ≡ OutOfMemory };
 
@@ -96,7 +96,7 @@ impl From<OutOfMemory> for LineError {
 
 impl From<AllocError> for LineError {
     ghost use Rattle.std.specs.Prelude.{◌≡◌};
-    ghost use Rattle.script_text.specs.declared.errors.LineError.TheVariants.{OutOfMemory};
+    ghost use Rattle.script_lines.specs.declared.errors.LineError.TheVariants.{OutOfMemory};
 
     ghost from_gives = { λ _ e. e ≡ OutOfMemory };
 
@@ -107,7 +107,7 @@ impl From<AllocError> for LineError {
 
 impl From<ObjectError> for LineError {
     ghost use Rattle.std.specs.Prelude.{◌≡◌};
-    ghost use Rattle.script_text.specs.Answers.{line_error};
+    ghost use Rattle.script_lines.specs.Answers.{line_error};
 
     ghost from_gives = { λ e f. f ≡ line_error e };
 
@@ -119,9 +119,15 @@ impl From<ObjectError> for LineError {
             ObjectError::NotObject => LineError::Refused(Reason::NotObject),
             ObjectError::NotWhole => LineError::Refused(Reason::NotWhole),
             ObjectError::UnknownKind => LineError::Refused(Reason::UnknownKind),
-            ObjectError::Missing(member) => LineError::Refused(Reason::Missing(LineMember::Of(member))),
-            ObjectError::WrongType(member) => LineError::Refused(Reason::WrongType(LineMember::Of(member))),
-            ObjectError::BadQuantity(member) => LineError::Refused(Reason::BadQuantity(LineMember::Of(member))),
+            ObjectError::Missing(member) => LineError::Refused(Reason::Missing(LineMember::Of(
+                member,
+            ))),
+            ObjectError::WrongType(member) => LineError::Refused(Reason::WrongType(LineMember::Of(
+                member,
+            ))),
+            ObjectError::BadQuantity(member) => LineError::Refused(Reason::BadQuantity(
+                LineMember::Of(member),
+            )),
         }
     }
 }

@@ -1,7 +1,7 @@
 //! What is printed for a line at fault.
 
 ghost use Rattle.std.specs.Prelude.{◌≡◌, IfOk, string_bytes};
-ghost use Rattle.script_text.specs.Refusals.{reason_member, reason_text, reason_word, refusal_line};
+ghost use Rattle.script_lines.specs.Refusals.{reason_member, reason_text, reason_word, refusal_line};
 
 use crate::errors::{BadLine, Reason};
 use crate::line_member::LineMember;

@@ -2,13 +2,13 @@
 use Rattle.std.specs.Prelude.{ℕ, List, [], ◌∷◌, ◌++◌, Option, Some, None, codes, option_map}
 use Rattle.kube_types.specs.Named.{value_named}
 use Rattle.plain_data.specs.Pairs.{Pair, put_pair, value_at}
-use Rattle.script_text.specs.declared.actors.WorkerKind.{WorkerKind}
-use Rattle.script_text.specs.declared.actors.WorkerKind.TheVariants.{Binder, Ops, Scheduler, Claims, Volumes}
-use Rattle.script_text.specs.declared.actors.WorkerNumber.{WorkerNumber}
-use Rattle.script_text.specs.declared.actors.WorkerNumber.TheVariants.{One, Two, Three, Four}
-use Rattle.script_text.specs.declared.actors.Worker.{Worker}
-use Rattle.script_text.specs.declared.actors.Actor.{Actor}
-use Rattle.script_text.specs.declared.actors.Actor.TheVariants as actors
+use Rattle.script_lines.specs.declared.actors.WorkerKind.{WorkerKind}
+use Rattle.script_lines.specs.declared.actors.WorkerKind.TheVariants.{Binder, Ops, Scheduler, Claims, Volumes}
+use Rattle.script_lines.specs.declared.actors.WorkerNumber.{WorkerNumber}
+use Rattle.script_lines.specs.declared.actors.WorkerNumber.TheVariants.{One, Two, Three, Four}
+use Rattle.script_lines.specs.declared.actors.Worker.{Worker}
+use Rattle.script_lines.specs.declared.actors.Actor.{Actor}
+use Rattle.script_lines.specs.declared.actors.Actor.TheVariants as actors
 
 abbrev pub kind_prefix : WorkerKind → List ℕ
 kind_prefix Binder = codes "binder-"

@@ -1,7 +1,7 @@
 //! The actors that a script may name: four workers of each of five kinds, and an agent for each node.
 
 ghost use Rattle.std.specs.Prelude.{◌≡◌, IfOk};
-ghost use Rattle.script_text.specs.Actors.{all_workers, worker_word, agent_word, actor_word, actor_named};
+ghost use Rattle.script_lines.specs.Actors.{all_workers, worker_word, agent_word, actor_word, actor_named};
 ghost use Rattle.kube_types.specs.Named.{value_named};
 
 use kube_types::copies::{OutOfMemory, Plain};
@@ -72,7 +72,7 @@ impl Plain for Actor {
 }
 
 impl Worded for Worker {
-    ghost use Rattle.script_text.specs.Actors.{worker_word};
+    ghost use Rattle.script_lines.specs.Actors.{worker_word};
 
     ghost word = { worker_word };
 
@@ -226,11 +226,7 @@ pub fn worker_named(word: &str) -> Option<Worker>
 }
 
 /// The actor that a text names: a worker, or one of these agents.
-pub fn actor_named(
-    alloc: Global,
-    agents: &Pairs,
-    word: &str,
-) -> Result<Option<Actor>, OutOfMemory>
+pub fn actor_named(alloc: Global, agents: &Pairs, word: &str) -> Result<Option<Actor>, OutOfMemory>
     ensures { IfOk result (λ o. o ≡ actor_named agents.now word.now) }
 {
     match worker_named(word) {

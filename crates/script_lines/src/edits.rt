@@ -2,11 +2,11 @@
 
 ghost use Rattle.std.specs.Prelude.{◌≡◌, option_map, filter};
 ghost use Rattle.object_text.specs.declared.errors.Member.TheVariants as manifests;
-ghost use Rattle.script_text.specs.declared.line_member.LineMember.TheVariants as members;
+ghost use Rattle.script_lines.specs.declared.line_member.LineMember.TheVariants as members;
 ghost use Rattle.serde_json.specs.View.{view};
 ghost use Rattle.kube_types.specs.Named.{policy_named};
-ghost use Rattle.script_text.specs.Answers.{Gives};
-ghost use Rattle.script_text.specs.Members.{all_edits, edit_member, stands, the_one, edit_member_at, two_texts_in, policy_from, cleared, edit_of, edit_from, edit_at};
+ghost use Rattle.script_lines.specs.Answers.{Gives};
+ghost use Rattle.script_lines.specs.Members.{all_edits, edit_member, stands, the_one, edit_member_at, two_texts_in, policy_from, cleared, edit_of, edit_from, edit_at};
 
 use crate::edit_members::EditMember;
 use crate::errors::{LineError, Reason};
@@ -96,16 +96,20 @@ fn cleared(value: &Value) -> Result<Edit, LineError>
 {
     match value {
         Value::Bool(true) => Ok(Edit::ClearClaimRef),
-        _ => Err(LineError::Refused(Reason::WrongType(
-            LineMember::ClearClaimRef,
-        ))),
+        _ => Err(LineError::Refused(Reason::WrongType(LineMember::ClearClaimRef))),
     }
 }
 
 fn label_in(alloc: Global, value: &Value, edit: EditMember) -> Result<(Text, Text), LineError>
     ensures { Gives result (two_texts_in (edit_member edit) (members.Of manifests.Key) members.Value (view value.now)) }
 {
-    two_texts_in(alloc, value, edit.member(), LineMember::Of(Member::Key), LineMember::Value)
+    two_texts_in(
+        alloc,
+        value,
+        edit.member(),
+        LineMember::Of(Member::Key),
+        LineMember::Value,
+    )
 }
 
 fn claim_in(alloc: Global, value: &Value) -> Result<(Text, Text), LineError>
@@ -174,7 +178,7 @@ fn edit_from(alloc: Global, edit: EditMember, value: Option<&Value>) -> Result<E
 
 /// The edit of a line: of the one edit member that stands in it.
 #[tactic(auto, unfolding(crate::specs::Members::edit_at))]
-pub(crate) fn edit_at(alloc: Global, line: &Value) -> Result<Edit, LineError>
+pub fn edit_at(alloc: Global, line: &Value) -> Result<Edit, LineError>
     ensures { Gives result (edit_at (view line.now)) }
 {
     let edit = edit_member_at(line)?;

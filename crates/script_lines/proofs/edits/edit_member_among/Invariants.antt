@@ -2,8 +2,8 @@ use Rattle.std.proofs.Common.{◌≡◌, ◌++◌, drop}
 use Rattle.std.specs.Prelude.{filter}
 use Rattle.std.specs.Option.{option_to_list}
 use Rattle.serde_json.specs.View.{view}
-use Rattle.script_text.specs.Members.{stands, the_one}
-use Rattle.script_text.proofs.edits.edit_member_among.Given as goal
+use Rattle.script_lines.specs.Members.{stands, the_one}
+use Rattle.script_lines.proofs.edits.edit_member_among.Given as goal
 
 -- the one among those found so far and those that are left
 abbrev pub invariant-loop-edit : goal.invariant-loop-edit

@@ -1,8 +1,8 @@
 -- The words of lines. A choice of this project.
 use Rattle.std.specs.Prelude.{ℕ, List, [], ◌∷◌, Option, codes}
 use Rattle.kube_types.specs.Named.{value_named}
-use Rattle.script_text.specs.declared.verbs.Verb.{Verb}
-use Rattle.script_text.specs.declared.verbs.Verb.TheVariants.{Create, Update, Edit, Delete, Get, List as ListAll, Time, Pool, Fault, Lose, Restart, Turn, Drain}
+use Rattle.script_lines.specs.declared.verbs.Verb.{Verb}
+use Rattle.script_lines.specs.declared.verbs.Verb.TheVariants.{Create, Update, Edit, Delete, Get, List as ListAll, Time, Pool, Fault, Lose, Restart, Turn, Drain}
 
 abbrev pub verb_word : Verb → List ℕ
 verb_word Create = codes "create"

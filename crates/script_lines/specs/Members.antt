@@ -25,16 +25,16 @@ use Rattle.object_text.specs.MemberReaders.{text_or, uid_at}
 use Rattle.object_text.specs.MetaReaders.{kept_namespace}
 use Rattle.object_text.specs.PartReaders.{amount_in}
 use Rattle.object_text.specs.Listing.{item_of}
-use Rattle.script_text.specs.declared.actors.Actor.{Actor}
-use Rattle.script_text.specs.declared.line_member.LineMember.{LineMember}
-use Rattle.script_text.specs.declared.line_member.LineMember.TheVariants as members
-use Rattle.script_text.specs.declared.edit_members.EditMember.{EditMember}
-use Rattle.script_text.specs.declared.edit_members.EditMember.TheVariants.{AddFinalizer, DropFinalizer, DropLabel, DropAnnotation, SetLabel, SetAnnotation, SetVolumeName, SetPolicy, SetClaimRef, ClearClaimRef}
-use Rattle.script_text.specs.declared.errors.Reason.{Reason}
-use Rattle.script_text.specs.declared.errors.Reason.TheVariants.{Missing, WrongType, UnknownKind, BadQuantity, NotWhole, BadValue}
-use Rattle.script_text.specs.Answers.{◌>>=◌, reason_of, taken, unless}
-use Rattle.script_text.specs.MemberWords.{line_word}
-use Rattle.script_text.specs.Actors.{actor_named}
+use Rattle.script_lines.specs.declared.actors.Actor.{Actor}
+use Rattle.script_lines.specs.declared.line_member.LineMember.{LineMember}
+use Rattle.script_lines.specs.declared.line_member.LineMember.TheVariants as members
+use Rattle.script_lines.specs.declared.edit_members.EditMember.{EditMember}
+use Rattle.script_lines.specs.declared.edit_members.EditMember.TheVariants.{AddFinalizer, DropFinalizer, DropLabel, DropAnnotation, SetLabel, SetAnnotation, SetVolumeName, SetPolicy, SetClaimRef, ClearClaimRef}
+use Rattle.script_lines.specs.declared.errors.Reason.{Reason}
+use Rattle.script_lines.specs.declared.errors.Reason.TheVariants.{Missing, WrongType, UnknownKind, BadQuantity, NotWhole, BadValue}
+use Rattle.script_lines.specs.Answers.{◌>>=◌, reason_of, taken, unless}
+use Rattle.script_lines.specs.MemberWords.{line_word}
+use Rattle.script_lines.specs.Actors.{actor_named}
 
 -- the member of the line
 abbrev pub at : LineMember → Data → Option Data

@@ -1,7 +1,7 @@
 //! The words of lines.
 
 ghost use Rattle.std.specs.Prelude.{◌≡◌};
-ghost use Rattle.script_text.specs.Verbs.{verb_word, verb_named};
+ghost use Rattle.script_lines.specs.Verbs.{verb_word, verb_named};
 
 use kube_types::words::{Worded, value_named};
 
@@ -24,7 +24,7 @@ pub enum Verb {
 }
 
 impl Worded for Verb {
-    ghost use Rattle.script_text.specs.Verbs.{verb_word};
+    ghost use Rattle.script_lines.specs.Verbs.{verb_word};
 
     ghost word = { verb_word };
 

@@ -3,14 +3,14 @@ use Rattle.std.specs.Prelude.{◌≡◌, Bool, if◌then◌else◌, Ok, Err, ⊤
 use Rattle.std.specs.declared.result.Result.{Result}
 use Rattle.object_text.specs.declared.errors.ObjectError.{ObjectError}
 use Rattle.object_text.specs.declared.errors.ObjectError.TheVariants as objects
-use Rattle.script_text.specs.declared.line_member.LineMember.TheVariants.{Of}
-use Rattle.script_text.specs.declared.errors.Reason.{Reason}
-use Rattle.script_text.specs.declared.errors.Reason.TheVariants.{TooLong, NotJson, NotObject, NotWhole, UnknownKind, Missing, WrongType, BadQuantity}
-use Rattle.script_text.specs.declared.errors.LineError.{LineError}
-use Rattle.script_text.specs.declared.errors.LineError.TheVariants as lines
-use Rattle.script_text.specs.declared.errors.BadLine.{BadLine}
-use Rattle.script_text.specs.declared.errors.ScriptError.{ScriptError}
-use Rattle.script_text.specs.declared.errors.ScriptError.TheVariants as scripts
+use Rattle.script_lines.specs.declared.line_member.LineMember.TheVariants.{Of}
+use Rattle.script_lines.specs.declared.errors.Reason.{Reason}
+use Rattle.script_lines.specs.declared.errors.Reason.TheVariants.{TooLong, NotJson, NotObject, NotWhole, UnknownKind, Missing, WrongType, BadQuantity}
+use Rattle.script_lines.specs.declared.errors.LineError.{LineError}
+use Rattle.script_lines.specs.declared.errors.LineError.TheVariants as lines
+use Rattle.script_lines.specs.declared.errors.BadLine.{BadLine}
+use Rattle.script_lines.specs.declared.errors.ScriptError.{ScriptError}
+use Rattle.script_lines.specs.declared.errors.ScriptError.TheVariants as scripts
 
 -- the first refusal, else what the next step makes of the value
 infixl 10 ◌>>=◌
