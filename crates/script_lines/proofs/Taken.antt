@@ -1,5 +1,5 @@
 -- What a reader of manifests says of a refusal, in a line.
-use Rattle.std.proofs.Common.{Result, Ok, Err, ap}
+use Rattle.std.proofs.Common.{Result, ap}
 use Rattle.object_text.specs.declared.errors.ObjectError.{ObjectError}
 use Rattle.object_text.specs.declared.errors.ObjectError.TheVariants as objects
 use Rattle.object_text.specs.Answers as manifests

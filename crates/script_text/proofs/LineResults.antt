@@ -1,5 +1,5 @@
 -- What a reader of lines answers, as what a line means.
-use Rattle.std.proofs.Common.{◌≡◌, Result, Ok, Err, refl, ap}
+use Rattle.std.proofs.Common.{Result, Ok, Err, ap}
 use Rattle.script_lines.specs.declared.errors.Reason.{Reason}
 use Rattle.script_lines.specs.declared.errors.LineError.{LineError}
 use Rattle.script_lines.specs.declared.errors.LineError.TheVariants as lines

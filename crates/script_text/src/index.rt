@@ -7,8 +7,6 @@ ghost use Rattle.script_text.specs.Said.{node_name, and_node, created};
 ghost use Rattle.script_text.specs.Grammar.{create_limit, line_limit};
 ghost use Rattle.script_text.specs.Steps.Indexed.{IsIndex, Notes};
 
-use script_lines::actors::{Actor, agent_name};
-use script_lines::errors::{LineError, Reason};
 use crate::numbers::Numbers;
 use crate::script::Line;
 use call_types::request::Request;
@@ -16,6 +14,8 @@ use kube_types::copies::OutOfMemory;
 use kube_types::objects::Object;
 use kube_types::pairs::Pairs;
 use kube_types::text::Text;
+use script_lines::actors::{Actor, agent_name};
+use script_lines::errors::{LineError, Reason};
 use std::alloc::Global;
 
 const MOST_OBJECTS: u64 = 1024;

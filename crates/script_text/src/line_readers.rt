@@ -13,6 +13,15 @@ ghost use Rattle.script_text.specs.Said.{losses_of, restarts_of};
 ghost use Rattle.script_lines.specs.Verbs.{verb_named};
 ghost use Rattle.script_text.specs.Steps.Indexed.{Stands, said_by};
 
+use crate::progress::Progress;
+use crate::script::{Line, Meaning};
+use call_types::request::Request;
+use call_types::setup::Pool;
+use kube_types::copies::Plain;
+use kube_types::key::meta_of;
+use kube_types::objects::{Object, Version};
+use kube_types::pairs::Pairs;
+use object_text::errors::Member;
 use script_lines::actors::Actor;
 use script_lines::edits::edit_at;
 use script_lines::errors::{LineError, Reason};
@@ -21,16 +30,7 @@ use script_lines::members::{
     actor_at, call_at, condition_at, count_at, key_at, kind_at, object_at, size_at, text_at,
     topology_at, user_at, when_at, word_at,
 };
-use crate::progress::Progress;
-use crate::script::{Line, Meaning};
 use script_lines::verbs::{Verb, verb_named};
-use call_types::request::Request;
-use call_types::setup::Pool;
-use kube_types::copies::Plain;
-use kube_types::key::meta_of;
-use kube_types::objects::{Object, Version};
-use kube_types::pairs::Pairs;
-use object_text::errors::Member;
 use serde_json::Value;
 use std::alloc::Global;
 

@@ -10,13 +10,13 @@ ghost use Rattle.script_text.specs.Said.{nothing_said, and_said, agents_of, loss
 ghost use Rattle.script_text.specs.Grammar.{limit_of, unless_passed};
 ghost use Rattle.script_text.specs.Steps.Indexed.{AreFaults, Stands, Takes, said_by};
 
-use script_lines::errors::{LineError, Reason};
 use crate::index::{Index, no_index, note_line};
 use crate::script::{Line, Numbered, Script};
 use call_types::setup::{Pool, Setup};
 use kube_types::copies::OutOfMemory;
 use kube_types::items::Items;
 use kube_types::text::{Names, Text};
+use script_lines::errors::{LineError, Reason};
 use std::alloc::Global;
 
 const MOST_POOLS: usize = 64;

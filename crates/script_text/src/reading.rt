@@ -12,18 +12,18 @@ ghost use Rattle.script_text.specs.Grammar.{agents_in, and_filled, and_line, is_
 ghost use Rattle.script_text.specs.Steps.Indexed.{Stands, Takes, said_by};
 ghost use Rattle.script_text.specs.Steps.Known.{IfNamed, IsKnown, SaidGives, names_actor};
 
-use script_lines::errors::{BadLine, LineError, Reason, ScriptError};
 use crate::index::{node_name, put_node};
 use crate::line_readers::{create_line, meaning_by, verb_at};
 use crate::progress::Progress;
 use crate::script::{Line, Meaning, Numbered, Script};
-use script_lines::verbs::Verb;
 use call_types::request::Request;
 use json_text::tree::Tree;
 use kube_types::copies::OutOfMemory;
 use kube_types::pairs::Pairs;
 use kube_types::text::Text;
 use object_text::reading::value_of;
+use script_lines::errors::{BadLine, LineError, Reason, ScriptError};
+use script_lines::verbs::Verb;
 use serde_json::Value;
 use std::alloc::{AllocError, Global};
 

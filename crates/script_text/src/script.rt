@@ -5,13 +5,13 @@ ghost use Rattle.script_text.specs.Said.{and_said};
 ghost use Rattle.script_text.specs.Grammar.{limit_of, unless_passed};
 ghost use Rattle.script_text.specs.Steps.Indexed.{Stands, Takes, said_by};
 
-use script_lines::actors::Actor;
-use script_lines::errors::LineError;
 use crate::progress::{Progress, take_fault, take_line, take_pool};
 use call_types::request::Request;
 use call_types::setup::{Pool, Setup};
 use kube_types::items::Items;
 use kube_types::text::{Names, Text};
+use script_lines::actors::Actor;
+use script_lines::errors::LineError;
 use std::alloc::Global;
 
 /// A line of a script that is done in its turn, or that says what becomes of an actor's calls.
