@@ -128,7 +128,9 @@ struct WrittenAt<'a, T> {
 
 impl<'a, T: ObjectTest> SharedTest for WrittenAt<'a, T> {
     ghost allows = { λ t o. IsWrittenAt t.given t.namespace.now t.name.now (meta_of o) };
+
     ghost pairs = { λ t o x. o ≡ x };
+
     ghost holds = { λ t o. T.allows t.row.now o };
 
     fn may(&self, object: &Object) -> bool {

@@ -13,7 +13,9 @@ use kube_types::objects::Object;
 /// holds of an object it holds of each that is alike.
 pub trait SharedTest {
     ghost allows: { Self → Object → Type 0 };
+
     ghost pairs: { Self → Object → Object → Type 0 };
+
     ghost holds: { Self → Object → Type 0 };
 
     fn may(&self, object: &Object) -> bool
