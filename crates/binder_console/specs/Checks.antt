@@ -3,7 +3,7 @@
 use Rattle.std.specs.Prelude.{ℕ, ◌≡◌, ⊤, List, [], ◌++◌, map, codes, decimal, Ok, Err}
 use Rattle.std.specs.declared.result.Result.{Result}
 use Rattle.kube_types.specs.declared.objects.Object.{Object}
-use Rattle.object_text.specs.Printing.Objects.{object_line}
+use Rattle.object_print.specs.Objects.{object_line}
 use Rattle.history_text.specs.Output.{with_line, with_lines}
 use Rattle.object_text.specs.declared.errors.Member.{Member}
 use Rattle.object_text.specs.declared.errors.ObjectError.{ObjectError}

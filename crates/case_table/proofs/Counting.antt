@@ -4,6 +4,9 @@ use Rattle.std.proofs.lemmas.List.Sums.{sum_by-cons}
 use Rattle.std.specs.List.{list_any}
 use Rattle.std.specs.Option.{option_map_or}
 use Rattle.case_table.specs.declared.rows.CaseRow.{CaseRow}
+use Rattle.case_table.specs.declared.table.TableError.{TableError}
+use Rattle.case_table.specs.declared.table.TableError.TheVariants.{Gap, Overlap}
+use Rattle.case_table.specs.Errors.{Tells}
 use Rattle.case_table.specs.Cases.{EachFits, IsExact, IsLeastGap, IsLeastOverlap, Overlaps, row_fits, some_row_fits}
 
 abbrev hit : {X : Type 0} → (X → Bool) → List X → ℕ → Bool
@@ -55,16 +58,21 @@ pub exact_rows : {k : ℕ} (rows : List (CaseRow k)) → EachFits rows → ((i j
 exact_rows rows each apart = λ cs whole.
     one_counted (row_fits cs) rows (each cs whole) (λ i j below h k. apart i j below (record { conditions = cs; whole = whole; fits_first = h; fits_second = k }))
 
-pub no_gap : {k : ℕ} (rows : List (CaseRow k)) (conditions : List Bool) → IsLeastGap rows conditions → IsExact rows → ⊥
+no_gap : {k : ℕ} (rows : List (CaseRow k)) (conditions : List Bool) → IsLeastGap rows conditions → IsExact rows → ⊥
 no_gap rows conditions gap exact =
     let one : count_by (row_fits conditions) rows ≡ 1 = exact conditions gap.whole in
     let some : some_row_fits rows conditions ≡ true = any_counted (row_fits conditions) rows (omega arith) in
     let both : true ≡ false = sym some ∙ gap.gap in
     cc
 
-pub no_overlap : {k : ℕ} (rows : List (CaseRow k)) (i j : ℕ) → IsLeastOverlap rows i j → IsExact rows → ⊥
+no_overlap : {k : ℕ} (rows : List (CaseRow k)) (i j : ℕ) → IsLeastOverlap rows i j → IsExact rows → ⊥
 no_overlap rows i j least exact =
     let o = least.overlap in
     let one : count_by (row_fits o.conditions) rows ≡ 1 = exact o.conditions o.whole in
     let two : 2 ≤ count_by (row_fits o.conditions) rows = two_counted (row_fits o.conditions) rows i j least.rising o.fits_first o.fits_second in
     absurd (omega arith)
+
+-- rows of which a fault tells are not exact
+pub no_fault : {k : ℕ} (rows : List (CaseRow k)) (fault : TableError k) → Tells rows fault → IsExact rows → ⊥
+no_fault rows (Gap conditions) gap exact = no_gap rows conditions gap exact
+no_fault rows (Overlap first second) tells exact = no_overlap rows first second tells.1 exact

@@ -1,7 +1,7 @@
 //! Exact tables.
 
-ghost use Rattle.std.specs.Prelude.{◌≡◌, ◌≤◌, ◌↔◌, IsOk, IfOk, IfErr};
-ghost use Rattle.case_table.specs.Cases.{IsExact, action_of};
+ghost use Rattle.std.specs.Prelude.{ℕ, ◌≡◌, ◌<◌, ◌≤◌, ◌↔◌, IsOk, IfOk, IfErr, IfSome, IfNone};
+ghost use Rattle.case_table.specs.Cases.{EachFits, IsExact, Overlaps, action_of};
 ghost use Rattle.case_table.specs.Errors.{Tells};
 
 use crate::conditions::least_gap;
@@ -37,6 +37,22 @@ pub enum TableError<const K: usize> {
     Overlap(usize, usize),
 }
 
+/// The least list of conditions that no row fits; where there is none, the least pair of rows that fit one list.
+fn first_fault<const K: usize>(rows: &[CaseRow<K>]) -> Option<TableError<K>>
+    requires { K ≤ 12 }
+    ensures fault { IfSome result (Tells rows.now) }
+    ensures total { IfNone result (EachFits rows.now) }
+    ensures exclusive { IfNone result ((i j : ℕ) → i < j → Overlaps rows.now i j → ⊥) }
+{
+    match least_gap(rows) {
+        Some(conditions) => Some(TableError::Gap(conditions)),
+        None => match least_overlap(rows) {
+            Some((first, second)) => Some(TableError::Overlap(first, second)),
+            None => None,
+        },
+    }
+}
+
 impl<const K: usize, const N: usize> Table<K, N> {
     /// The table of the rows, where each list of conditions fits exactly one. Else the least list
     /// that no row fits; where there is none, the least pair of rows that fit one list.
@@ -47,12 +63,9 @@ impl<const K: usize, const N: usize> Table<K, N> {
         ensures table { IfOk result (λ table. table ≡ rows.entry) }
         ensures error { IfErr result (Tells rows.entry) }
     {
-        match least_gap(&rows) {
-            Some(conditions) => Err(TableError::Gap(conditions)),
-            None => match least_overlap(&rows) {
-                Some((first, second)) => Err(TableError::Overlap(first, second)),
-                None => Ok(Table { rows }),
-            },
+        match first_fault(&rows) {
+            Some(fault) => Err(fault),
+            None => Ok(Table { rows }),
         }
     }
 

@@ -15,7 +15,7 @@ use Rattle.json_text.specs.Members.{text, whole, items_data, array_data, object_
 use Rattle.json_text.specs.Writing.{Writing, closed, opened, with_all, with_value, with_some, with_key, with_texts, items_after}
 use Rattle.json_text.proofs.Closing.{closes, closes_array, closes_within}
 use Rattle.json_text.proofs.MemberTexts.{closes_over}
-use Rattle.object_text.specs.Printing.Objects.{object_data}
+use Rattle.object_print.specs.Objects.{object_data}
 use Rattle.history_text.specs.Requests.{label_data, claim_name_data, two_texts, ask_word, argument_pairs, request_data, data_id_pairs}
 use Rattle.history_text.specs.Replies.{event_pairs, event_data, mount_pairs, mount_data, topology_pairs, provisioned_pairs, refusal_pairs, listed_pairs, events_pairs}
 use Rattle.history_text.specs.Entries.{entry_pairs, entry_data, pool_pairs, pool_data, setup_pairs, setup_data}

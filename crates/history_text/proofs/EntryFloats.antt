@@ -15,13 +15,13 @@ use Rattle.call_types.specs.declared.reply.Refusal.TheVariants as refusals
 use Rattle.call_types.specs.declared.reply.Reply.{Reply}
 use Rattle.call_types.specs.declared.reply.Reply.TheVariants as replies
 use Rattle.json_text.specs.Members.{MemberList, text, pairs_data}
-use Rattle.object_text.specs.Printing.Metadata.{uid_data}
-use Rattle.object_text.specs.Printing.Objects.{object_data}
+use Rattle.object_print.specs.Metadata.{uid_data}
+use Rattle.object_print.specs.Objects.{object_data}
 use Rattle.history_text.specs.Requests.{key_pairs, two_texts, label_data, edit_pairs, amount_text, status_pairs, ask_word, argument_pairs, request_data}
 use Rattle.history_text.specs.Replies.{event_pairs, event_data, mount_pairs, mount_data, topology_pairs, refusal_pairs, reply_pairs, reply_data}
 use Rattle.history_text.specs.Entries.{entry_pairs, entry_data, pool_pairs, pool_data, setup_pairs, setup_data}
 use Rattle.json_text.proofs.NoFloats.{NoFloats, FloatFree, float_object_of, float_filled, float_option, float_array, float_filled_array, float_pairs, float_within, string_free}
-use Rattle.object_text.proofs.ObjectFloats.{uid_free, modes_free, object_free}
+use Rattle.object_print.proofs.ObjectFloats.{uid_free, modes_free, object_free}
 
 number_free : FloatFree number_data
 number_free n = refl

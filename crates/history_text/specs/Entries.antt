@@ -10,7 +10,7 @@ use Rattle.call_types.specs.declared.entry.Entry.{Entry}
 use Rattle.call_types.specs.declared.setup.Pool.{Pool}
 use Rattle.call_types.specs.declared.setup.Setup.{Setup}
 use Rattle.json_text.specs.Members.{MemberList, text, whole, flag, array_data, filled_array, object_of, within}
-use Rattle.object_text.specs.Printing.Objects.{object_data}
+use Rattle.object_print.specs.Objects.{object_data}
 use Rattle.history_text.specs.Requests.{request_data}
 use Rattle.history_text.specs.Replies.{topology_pairs, reply_data}
 

@@ -5,7 +5,7 @@ use Rattle.kube_types.specs.declared.objects.Object.{Object}
 use Rattle.call_types.specs.declared.entry.Entry.{Entry}
 use Rattle.call_types.specs.declared.setup.Setup.{Setup}
 use Rattle.history_text.specs.declared.summary.Summary.{Summary}
-use Rattle.object_text.specs.Printing.Objects.{object_line}
+use Rattle.object_print.specs.Objects.{object_line}
 use Rattle.history_text.specs.Entries.{entry_line, setup_line}
 use Rattle.history_text.specs.Summaries.{summary_lines}
 

@@ -15,8 +15,8 @@ use Rattle.call_types.specs.declared.reply.Refusal.TheVariants as refusals
 use Rattle.call_types.specs.declared.reply.Reply.{Reply}
 use Rattle.call_types.specs.declared.reply.Reply.TheVariants as replies
 use Rattle.json_text.specs.Members.{MemberList, text, whole, flag, array_data, object_of}
-use Rattle.object_text.specs.Printing.Metadata.{uid_data}
-use Rattle.object_text.specs.Printing.Objects.{object_data}
+use Rattle.object_print.specs.Metadata.{uid_data}
+use Rattle.object_print.specs.Objects.{object_data}
 use Rattle.history_text.specs.Requests.{data_id_pairs}
 
 abbrev pub change_word : Change → List ℕ

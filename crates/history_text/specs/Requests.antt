@@ -20,9 +20,9 @@ use Rattle.call_types.specs.declared.request.NewStatus.TheVariants as statuses
 use Rattle.call_types.specs.declared.request.Request.{Request}
 use Rattle.call_types.specs.declared.request.Request.TheVariants as asks
 use Rattle.json_text.specs.Members.{MemberList, text, whole, flag, filled, array_data, pairs_data, object_of}
-use Rattle.object_text.specs.Printing.Metadata.{uid_data}
-use Rattle.object_text.specs.Printing.Parts.{modes_data}
-use Rattle.object_text.specs.Printing.Objects.{object_data}
+use Rattle.object_print.specs.Metadata.{uid_data}
+use Rattle.object_print.specs.Parts.{modes_data}
+use Rattle.object_print.specs.Objects.{object_data}
 
 -- the namespace stands where it is not empty
 abbrev pub key_pairs : Key → MemberList

@@ -15,7 +15,7 @@ use call_types::request::{Request, SeatKind};
 use json_text::writing::JsonText;
 use kube_types::copies::OutOfMemory;
 use kube_types::text::Bytes;
-use object_text::printing::members::MemberSink;
+use object_print::members::MemberSink;
 use std::alloc::Global;
 
 /// The word for the kind of a seat.

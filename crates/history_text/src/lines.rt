@@ -1,7 +1,7 @@
 //! Lines, one after another.
 
 ghost use Rattle.std.specs.Prelude.{◌≡◌, [], OnOk, IfOk, map};
-ghost use Rattle.object_text.specs.Printing.Objects.{object_line};
+ghost use Rattle.object_print.specs.Objects.{object_line};
 ghost use Rattle.history_text.specs.Entries.{entry_line, setup_line};
 ghost use Rattle.history_text.specs.Output.{with_line, with_lines, history_lines, history_text, final_lines, final_text};
 
@@ -16,7 +16,7 @@ use json_text::writing::JsonText;
 use kube_types::copies::OutOfMemory;
 use kube_types::objects::Object;
 use kube_types::text::Bytes;
-use object_text::printing::members::AsJson;
+use object_print::members::AsJson;
 use std::alloc::Global;
 use std::marker::Model;
 
@@ -75,7 +75,7 @@ impl Lines {
         self.out.end_line()
     }
 
-    #[tactic(auto, using(crate::proofs::LineLists::ends_value), unfolding(object_text::specs::Printing::Objects::object_line))]
+    #[tactic(auto, using(crate::proofs::LineLists::ends_value), unfolding(object_print::specs::Objects::object_line))]
     fn push_object(&mut self, object: &Object) -> Result<(), OutOfMemory>
         ensures ok { OnOk result (self.new ≡ with_line self.old (object_line object.now)) }
     {

@@ -2,15 +2,15 @@
 
 ghost use Rattle.std.specs.Prelude.{◌≡◌, OnOk, IfOk, true, false};
 ghost use Rattle.json_text.specs.Writing.{written, with_value};
-ghost use Rattle.object_text.specs.Printing.Objects.{object_data, object_line};
+ghost use Rattle.object_print.specs.Objects.{object_data, object_line};
 
 use json_text::writing::JsonText;
 use kube_types::copies::{OutOfMemory, Plain};
 use kube_types::key::meta_of;
 use kube_types::objects::Object;
 use kube_types::text::Bytes;
-use object_text::printing::members::AsJson;
-use object_text::printing::print_object;
+use object_print::members::AsJson;
+use object_print::print_object;
 use std::alloc::Global;
 
 /// An object and its text.
@@ -27,7 +27,7 @@ pub struct Memo<'a> {
     places: Vec<Option<Kept<'a>>>,
 }
 
-#[tactic(auto, unfolding(object_text::specs::Printing::Objects::object_line))]
+#[tactic(auto, unfolding(object_print::specs::Objects::object_line))]
 fn write_kept(out: &mut JsonText, kept: &Kept<'_>, object: &Object) -> Result<bool, OutOfMemory>
     ensures ok { IfOk result (λ found. found ≡ true → written out.new ≡ with_value (object_data object.now) (written out.old)) }
     ensures none { IfOk result (λ found. found ≡ false → written out.new ≡ written out.old) }
@@ -52,7 +52,7 @@ impl<'a> Memo<'a> {
     }
 
     /// Puts an object at the end.
-    #[tactic(auto, unfolding(object_text::specs::Printing::Objects::object_line))]
+    #[tactic(auto, unfolding(object_print::specs::Objects::object_line))]
     pub fn write(&mut self, out: &mut JsonText, object: &'a Object) -> Result<(), OutOfMemory>
         ensures ok { OnOk result (written out.new ≡ with_value (object_data object.now) (written out.old)) }
     {

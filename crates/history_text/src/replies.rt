@@ -3,7 +3,7 @@
 ghost use Rattle.std.specs.Prelude.{◌≡◌, Some, OnOk, codes};
 ghost use Rattle.json_text.specs.Members.{items_data, array_data, object_of, within, with_options, with_member_text};
 ghost use Rattle.json_text.specs.Writing.{written, with_some, with_value, items_after};
-ghost use Rattle.object_text.specs.Printing.Objects.{object_data};
+ghost use Rattle.object_print.specs.Objects.{object_data};
 ghost use Rattle.history_text.specs.Replies.{change_word, event_data, mount_data, topology_pairs, refused, refused_number, refused_text, refusal_pairs, listed_pairs, events_pairs, provisioned_pairs, reply_data};
 
 use crate::asks::put_data_id;
@@ -14,7 +14,7 @@ use json_text::writing::JsonText;
 use kube_types::copies::OutOfMemory;
 use kube_types::objects::{DataId, Object, Version};
 use kube_types::text::Text;
-use object_text::printing::members::{AsJson, MemberSink};
+use object_print::members::{AsJson, MemberSink};
 
 /// The word for a change.
 pub fn change_word(change: Change) -> &'static str
@@ -202,7 +202,7 @@ fn write_mounted(out: &mut JsonText, rows: &[MountRow]) -> Result<(), OutOfMemor
 }
 
 /// The label and the value of a topology, if there is one.
-pub(crate) fn put_topology(
+pub fn put_topology(
     out: &mut MemberTexts,
     topology: &Option<(Text, Text)>,
 ) -> Result<(), OutOfMemory>

@@ -11,7 +11,7 @@ use json_text::member_texts::MemberTexts;
 use json_text::writing::JsonText;
 use kube_types::copies::OutOfMemory;
 use kube_types::text::Bytes;
-use object_text::printing::members::{MemberSink, put_filled_list};
+use object_print::members::{MemberSink, put_filled_list};
 use std::alloc::Global;
 
 fn put_pool(out: &mut MemberTexts, pool: &Pool) -> Result<(), OutOfMemory>

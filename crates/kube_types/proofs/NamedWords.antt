@@ -11,8 +11,8 @@ use Rattle.kube_types.specs.declared.parts.ClaimPhase.{ClaimPhase}
 use Rattle.kube_types.specs.declared.parts.ClaimPhase.TheVariants as claim_phases
 use Rattle.kube_types.specs.declared.parts.Op.{Op}
 use Rattle.kube_types.specs.declared.parts.Op.TheVariants as ops
-use Rattle.kube_types.specs.Words.{kind_word, policy_word, volume_phase_word, claim_phase_word, op_word}
-use Rattle.kube_types.specs.Named.{value_named, all_kinds, all_policies, all_volume_phases, all_claim_phases, all_operators, kind_named, policy_named, volume_phase_named, claim_phase_named, op_named, AreInverse}
+use Rattle.kube_types.specs.Words.{kind_word, policy_word, volume_mode, binding_mode, volume_phase_word, claim_phase_word, op_word}
+use Rattle.kube_types.specs.Named.{value_named, all_kinds, all_policies, both, all_volume_phases, all_claim_phases, all_operators, kind_named, policy_named, block_named, delayed_named, volume_phase_named, claim_phase_named, op_named, AreInverse}
 
 -- whatever the values are, the one that is named has the word
 named_has : {X : Type 0} (word : X → List ℕ) (xs : List X) (text : List ℕ) (x : X) → value_named word xs text ≡ Some x → text ≡ word x
@@ -40,6 +40,20 @@ policies_inverse = record { back = back; only = λ text x h. named_has policy_wo
     back policies.Retain = refl
     back policies.Delete = refl
     back policies.Recycle = refl
+
+pub blocks_inverse : AreInverse volume_mode block_named
+blocks_inverse = record { back = back; only = λ text x h. named_has volume_mode both text x h }
+  where
+    back : (b : Bool) → block_named (volume_mode b) ≡ Some b
+    back false = refl
+    back true = refl
+
+pub delays_inverse : AreInverse binding_mode delayed_named
+delays_inverse = record { back = back; only = λ text x h. named_has binding_mode both text x h }
+  where
+    back : (b : Bool) → delayed_named (binding_mode b) ≡ Some b
+    back false = refl
+    back true = refl
 
 pub volume_phases_inverse : AreInverse volume_phase_word volume_phase_named
 volume_phases_inverse = record { back = back; only = λ text x h. named_has volume_phase_word all_volume_phases text x h }

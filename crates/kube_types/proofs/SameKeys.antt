@@ -1,5 +1,5 @@
 -- The tests of kinds and of keys decide their equality.
-use Rattle.std.proofs.Common.{◌≡◌, ◌≢◌, Bool, true, false, true≢false, refl, sym, ◌∙◌, ap, subst}
+use Rattle.std.proofs.Common.{◌≡◌, ◌≢◌, ◌⊎◌, inl, inr, Bool, true, false, true≢false, refl, sym, ◌∙◌, ap, subst}
 use Rattle.std.specs.Bool.{Decides}
 use Rattle.std.specs.Cmp.{IsEquivalence}
 use Rattle.std.specs.declared.cmp.Ordering.TheVariants.{Equal}
@@ -32,6 +32,13 @@ key_cases a b = by (same_key a b) refl
     by : (t : Bool) → same_key a b ≡ t → KeyCases a b
     by true e = One e ((same_key-Decides a b).0 e)
     by false e = Two e (λ is. true≢false (sym ((same_key-Decides a b).1 is) ∙ e))
+
+pub key_tells : (a b : Key) → (a ≡ b) ⊎ (a ≢ b)
+key_tells a b = by (key_cases a b)
+  where
+    by : KeyCases a b → (a ≡ b) ⊎ (a ≢ b)
+    by (One e is) = inl is
+    by (Two e differs) = inr differs
 
 pub same_key_itself : (k : Key) → same_key k k ≡ true
 same_key_itself k = (same_key-Decides k k).1 refl

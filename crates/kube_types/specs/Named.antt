@@ -1,5 +1,5 @@
 -- The value that a printed word names: the words of `Words`, read back. Each word stands there alone.
-use Rattle.std.specs.Prelude.{◌≡◌, ℕ, List, [], ◌∷◌, Option, Some, None, bytes_eq, if◌then◌else◌}
+use Rattle.std.specs.Prelude.{◌≡◌, ℕ, List, [], ◌∷◌, Bool, true, false, Option, Some, None, bytes_eq, if◌then◌else◌}
 use Rattle.kube_types.specs.declared.parts.Kind.{Kind}
 use Rattle.kube_types.specs.declared.parts.Kind.TheVariants as kinds
 use Rattle.kube_types.specs.declared.parts.Policy.{Policy}
@@ -10,7 +10,7 @@ use Rattle.kube_types.specs.declared.parts.ClaimPhase.{ClaimPhase}
 use Rattle.kube_types.specs.declared.parts.ClaimPhase.TheVariants as claim_phases
 use Rattle.kube_types.specs.declared.parts.Op.{Op}
 use Rattle.kube_types.specs.declared.parts.Op.TheVariants as ops
-use Rattle.kube_types.specs.Words.{kind_word, policy_word, volume_phase_word, claim_phase_word, op_word}
+use Rattle.kube_types.specs.Words.{kind_word, policy_word, volume_mode, binding_mode, volume_phase_word, claim_phase_word, op_word}
 
 -- the first of these values that has the word
 abbrev pub value_named : {X : Type 0} → (X → List ℕ) → List X → List ℕ → Option X
@@ -28,6 +28,17 @@ all_policies = policies.Retain ∷ policies.Delete ∷ policies.Recycle ∷ []
 
 abbrev pub policy_named : List ℕ → Option Policy
 policy_named text = value_named policy_word all_policies text
+
+abbrev pub both : List Bool
+both = false ∷ true ∷ []
+
+-- whether the volume is a block device
+abbrev pub block_named : List ℕ → Option Bool
+block_named text = value_named volume_mode both text
+
+-- whether binding waits for the first pod
+abbrev pub delayed_named : List ℕ → Option Bool
+delayed_named text = value_named binding_mode both text
 
 abbrev pub all_volume_phases : List VolumePhase
 all_volume_phases = volume_phases.Pending ∷ volume_phases.Available ∷ volume_phases.Bound ∷ volume_phases.Released ∷ volume_phases.Failed ∷ []

@@ -1,5 +1,5 @@
 -- The printed words.
-use Rattle.std.specs.Prelude.{ℕ, List, [], ◌∷◌, ◌++◌, Bool, if◌then◌else◌, codes}
+use Rattle.std.specs.Prelude.{ℕ, List, [], ◌∷◌, ◌++◌, Bool, true, false, if◌then◌else◌, codes}
 use Rattle.kube_types.specs.declared.parts.Modes.{Modes}
 use Rattle.kube_types.specs.declared.parts.Kind.{Kind}
 use Rattle.kube_types.specs.declared.parts.Kind.TheVariants as kinds
@@ -35,6 +35,16 @@ abbrev pub policy_word : Policy → List ℕ
 policy_word policies.Retain = codes "Retain"
 policy_word policies.Delete = codes "Delete"
 policy_word policies.Recycle = codes "Recycle"
+
+-- Kubernetes API: volumeMode, a block device or a file system
+abbrev pub volume_mode : Bool → List ℕ
+volume_mode false = codes "Filesystem"
+volume_mode true = codes "Block"
+
+-- Kubernetes API: volumeBindingMode, whether binding waits for the first pod
+abbrev pub binding_mode : Bool → List ℕ
+binding_mode false = codes "Immediate"
+binding_mode true = codes "WaitForFirstConsumer"
 
 -- Kubernetes API: PersistentVolumePhase
 abbrev pub volume_phase_word : VolumePhase → List ℕ

@@ -1,8 +1,8 @@
 //! Values with one printed word, and the value that a word names.
 
-ghost use Rattle.std.specs.Prelude.{◌≡◌, ℕ, List};
-ghost use Rattle.kube_types.specs.Named.{AreInverse, value_named, kind_named, policy_named, volume_phase_named, claim_phase_named, op_named};
-ghost use Rattle.kube_types.specs.Words.{kind_word, policy_word, volume_phase_word, claim_phase_word, op_word};
+ghost use Rattle.std.specs.Prelude.{◌≡◌, ℕ, List, Bool, true, false};
+ghost use Rattle.kube_types.specs.Named.{AreInverse, value_named, kind_named, policy_named, block_named, delayed_named, volume_phase_named, claim_phase_named, op_named};
+ghost use Rattle.kube_types.specs.Words.{kind_word, policy_word, volume_mode, binding_mode, volume_phase_word, claim_phase_word, op_word};
 
 use crate::parts::{ClaimPhase, Kind, Op, Policy, VolumePhase};
 
@@ -132,11 +132,57 @@ impl Op {
     }
 }
 
+/// The printed word of a block device, or of a file system.
+pub fn volume_mode(block: bool) -> &'static str
+    ensures { result.now ≡ volume_mode block }
+{
+    if block { "Block" } else { "Filesystem" }
+}
+
+/// The printed word of binding that waits for the first pod, or does not.
+pub fn binding_mode(delayed: bool) -> &'static str
+    ensures { result.now ≡ binding_mode delayed }
+{
+    if delayed {
+        "WaitForFirstConsumer"
+    } else {
+        "Immediate"
+    }
+}
+
+/// Whether the volume is a block device, by the word.
+pub fn block_named(word: &str) -> Option<bool>
+    ensures { result ≡ block_named word.now }
+{
+    if word == volume_mode(false) {
+        Some(false)
+    } else if word == volume_mode(true) {
+        Some(true)
+    } else {
+        None
+    }
+}
+
+/// Whether binding waits for the first pod, by the word.
+pub fn delayed_named(word: &str) -> Option<bool>
+    ensures { result ≡ delayed_named word.now }
+{
+    if word == binding_mode(false) {
+        Some(false)
+    } else if word == binding_mode(true) {
+        Some(true)
+    } else {
+        None
+    }
+}
+
 /// The law that a word names the value that has it, and nothing else.
-#[tactic(auto, using(crate::proofs::NamedWords::kinds_inverse, crate::proofs::NamedWords::policies_inverse, crate::proofs::NamedWords::volume_phases_inverse, crate::proofs::NamedWords::claim_phases_inverse, crate::proofs::NamedWords::ops_inverse))]
+#[tactic(auto, using(crate::proofs::NamedWords::kinds_inverse, crate::proofs::NamedWords::policies_inverse, crate::proofs::NamedWords::blocks_inverse, crate::proofs::NamedWords::delays_inverse, crate::proofs::NamedWords::volume_phases_inverse, crate::proofs::NamedWords::claim_phases_inverse, crate::proofs::NamedWords::ops_inverse))]
 pub fn words_are_inverse()
     ensures kinds { AreInverse kind_word kind_named }
     ensures policies { AreInverse policy_word policy_named }
+    ensures blocks { AreInverse volume_mode block_named }
+    ensures delays { AreInverse binding_mode delayed_named }
     ensures volume_phases { AreInverse volume_phase_word volume_phase_named }
     ensures claim_phases { AreInverse claim_phase_word claim_phase_named }
     ensures operators { AreInverse op_word op_named }

@@ -5,7 +5,7 @@ use kube_types::key::Key;
 use kube_types::lookup::Lookup;
 use kube_types::objects::{Amount, Object, Version};
 use kube_types::parts::{Kind, Modes};
-use object_text::printing::print_object;
+use object_print::print_object;
 use plain_data::copies::OutOfMemory;
 use std::alloc::Global;
 

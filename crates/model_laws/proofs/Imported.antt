@@ -16,7 +16,7 @@ use Rattle.kube_types.proofs.KeyOrder.{row_at-put_row, row_at-put_row_other}
 use Rattle.binder_model.specs.Fields.{create_fault}
 use Rattle.binder_model.specs.Imports.{most_imported, most_serials, serial_of, serial_or_zero, reference_of, greatest_number, base_of, imported_object, is_dropped, rows_of_imports, fault_if, fault_of_field, shares_uid, import_fault, holds_of_pair, refers_to_another, is_ended_for, PassAfter}
 use Rattle.model_laws.proofs.Lists.{IsIn, one, none_some, some_left, some_right}
-use Rattle.model_laws.proofs.Kept.{key_tells}
+use Rattle.kube_types.proofs.SameKeys.{key_tells}
 
 -- what an import keeps
 record KeepsMeta (x o : Object) : Type 0 where

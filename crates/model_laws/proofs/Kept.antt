@@ -1,35 +1,20 @@
 -- What stands under a key before a call and after it keeps its identity.
 use Rattle.std.proofs.Common.{sym, refl, subst, inl, inr, ap, ◌∙◌, true≢false}
-use Rattle.std.specs.Prelude.{◌≡◌, ◌≢◌, ◌⊎◌, List, false, Option, Some, None, is_some, unwrap_or}
-use Rattle.std.specs.declared.cmp.Ordering.{Ordering}
-use Rattle.std.specs.declared.cmp.Ordering.TheVariants.{Less, Equal, Greater}
-use Rattle.std.specs.Ordering.{is_eq}
-use Rattle.std.proofs.lemmas.Cmp.{tied_itself}
+use Rattle.std.specs.Prelude.{◌≡◌, ◌≢◌, ◌⊎◌, List, Option, Some, None, is_some, unwrap_or}
 use Rattle.kube_types.specs.declared.key.Key.{Key}
 use Rattle.kube_types.specs.declared.objects.Object.{Object}
 use Rattle.call_types.specs.declared.reply.Change.{Change}
 use Rattle.call_types.specs.declared.reply.Change.TheVariants.{Added, Modified, Deleted}
 use Rattle.kube_types.specs.declared.objects.Object.TheVariants.{Class, Node, Volume, Claim, Pod}
-use Rattle.kube_types.specs.Keys.{AreRows, key_cmp, key_of, row_at, put_row, without_row}
-use Rattle.kube_types.proofs.KeyOrder.{key_cmp_total, equal_keys, row_at-put_row, row_at-put_row_other, row_at-without_row, row_at-without_row_other}
+use Rattle.kube_types.specs.Keys.{AreRows, key_of, row_at, put_row, without_row}
+use Rattle.kube_types.proofs.SameKeys.{key_tells}
+use Rattle.kube_types.proofs.KeyOrder.{row_at-put_row, row_at-put_row_other, row_at-without_row, row_at-without_row_other}
 use Rattle.binder_model.specs.Store.{State}
 use Rattle.binder_model.specs.Answers.{Outcome, Says, Stores, Removes, after}
 use Rattle.binder_model.specs.World.{World, Effect, OnStore, OnDevices, SetsMoment, world_after}
 use Rattle.model_laws.specs.Histories.{NamesOnce, KeepsIdentity, CallsKeepIdentity}
 use Rattle.model_laws.proofs.Changes.{ChangeOf, IsOver, IsInPlace, outcome_changes}
 use Rattle.model_laws.proofs.Effects.{OfStore, on_effects}
-
--- two keys are one, or they are not
-pub key_tells : (a b : Key) → (a ≡ b) ⊎ (a ≢ b)
-key_tells a b = by (key_cmp a b) refl
-  where
-    apart : (r : Ordering) → key_cmp a b ≡ r → is_eq r ≡ false → a ≢ b
-    apart r e other is = true≢false (sym (ap is_eq (subst (λ k. key_cmp a k ≡ Equal) is (tied_itself key_cmp_total a))) ∙ ap is_eq e ∙ other)
-
-    by : (r : Ordering) → key_cmp a b ≡ r → (a ≡ b) ⊎ (a ≢ b)
-    by Less e = inr (apart Less e refl)
-    by Equal e = inl (equal_keys a b e)
-    by Greater e = inr (apart Greater e refl)
 
 names-own : (o : Object) → NamesOnce o o
 names-own (Class x) = tt

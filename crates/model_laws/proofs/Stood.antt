@@ -19,7 +19,7 @@ use Rattle.binder_model.specs.World.{World, Effect, OnStore, OnDevices, SetsMome
 use Rattle.model_laws.specs.Steps.{KeepsStore, WritesOnce}
 use Rattle.model_laws.specs.Stood.{Stands, Stood, OneVersionOneObject, OneUidOneKey}
 use Rattle.model_laws.proofs.Lists.{one, none_some}
-use Rattle.model_laws.proofs.Kept.{key_tells}
+use Rattle.kube_types.proofs.SameKeys.{key_tells}
 use Rattle.model_laws.proofs.Changes.{IsOver, IsInPlace, ChangeOf, outcome_changes}
 use Rattle.model_laws.proofs.Givings.{Gives, outcome_gives}
 use Rattle.model_laws.proofs.Versions.{NextOf, outcome_next, versions_count_writes}

@@ -15,10 +15,10 @@ use Rattle.kube_types.specs.declared.objects.Claim.{Claim}
 use Rattle.kube_types.specs.declared.objects.Pod.{Pod}
 use Rattle.kube_types.specs.declared.objects.Object.{Object}
 use Rattle.kube_types.specs.declared.objects.Object.TheVariants as objects
-use Rattle.object_text.specs.Printing.Volumes.{volume_pairs, volume_data}
-use Rattle.object_text.specs.Printing.Claims.{claim_pairs, claim_data}
-use Rattle.object_text.specs.Printing.Objects.{class_data, pod_pairs, pod_data, node_pairs, node_data, object_data}
-use Rattle.object_text.proofs.ObjectFloats.{class_free, node_free, volume_free, claim_free, pod_free}
+use Rattle.object_print.specs.Volumes.{volume_pairs, volume_data}
+use Rattle.object_print.specs.Claims.{claim_pairs, claim_data}
+use Rattle.object_print.specs.Objects.{class_data, pod_pairs, pod_data, node_pairs, node_data, object_data}
+use Rattle.object_print.proofs.ObjectFloats.{class_free, node_free, volume_free, claim_free, pod_free}
 use Rattle.object_text.specs.Reading.{is_object, api_version, kind_at, object_of_kind, object_of}
 use Rattle.object_laws.specs.Given.{IsClass, IsGiven}
 use Rattle.object_laws.proofs.ClassBack.{class_is, class_has, class_back}

@@ -14,11 +14,11 @@ use Rattle.kube_types.specs.declared.objects.Pod.{Pod}
 use Rattle.kube_types.specs.declared.objects.Object.{Object}
 use Rattle.kube_types.specs.declared.objects.Object.TheVariants as objects
 use Rattle.json_text.specs.Members.{filled, extra_members}
-use Rattle.object_text.specs.Printing.Metadata.{head_pairs}
-use Rattle.object_text.specs.Printing.Parts.{storage_data, ref_data, node_terms_data, selector_data}
-use Rattle.object_text.specs.Printing.Volumes.{volume_front, volume_back, volume_spec, volume_status_pairs, volume_status, volume_pairs, volume_data}
-use Rattle.object_text.specs.Printing.Claims.{claim_front, claim_back, claim_spec, got_modes, claim_status_pairs, claim_status, claim_pairs, claim_data}
-use Rattle.object_text.specs.Printing.Objects.{class_back, class_data, pod_spec, pod_pairs, pod_data, node_pairs, node_data, object_data}
+use Rattle.object_print.specs.Metadata.{head_pairs}
+use Rattle.object_print.specs.Parts.{storage_data, ref_data, node_terms_data, selector_data}
+use Rattle.object_print.specs.Volumes.{volume_front, volume_back, volume_spec, volume_status_pairs, volume_status, volume_pairs, volume_data}
+use Rattle.object_print.specs.Claims.{claim_front, claim_back, claim_spec, got_modes, claim_status_pairs, claim_status, claim_pairs, claim_data}
+use Rattle.object_print.specs.Objects.{class_back, class_data, pod_spec, pod_pairs, pod_data, node_pairs, node_data, object_data}
 use Rattle.object_text.specs.declared.extra.Listed.{Listed}
 use Rattle.object_laws.specs.Given.{AreExtra, IsVolume, IsClaim, IsClass, IsNode, IsPod, IsGiven}
 use Rattle.object_laws.proofs.ExtraBack.{extra_back}

@@ -9,8 +9,8 @@ use Rattle.kube_types.specs.declared.parts.SourceKind.{SourceKind}
 use Rattle.kube_types.specs.declared.parts.SourceKind.TheVariants.{Csi, Nfs, Local, HostPath}
 use Rattle.kube_types.specs.declared.objects.Meta.{Meta}
 use Rattle.json_text.specs.Members.{MemberList, text, filled, counted, object_of, items_data, array_data, filled_array, put_pairs, filled_pairs, filled_object, within}
-use Rattle.object_text.specs.Printing.Metadata.{uid_data, filled_or_always, front_pairs, back_pairs, meta_data}
-use Rattle.object_text.specs.Printing.Parts.{modes_data, storage_pairs, storage_data, requests_data, ref_pairs, ref_data, source_pairs, source_data, expr_pairs, expr_data, term_pairs, term_data, node_terms_data, selector_pairs, selector_data}
+use Rattle.object_print.specs.Metadata.{uid_data, filled_or_always, front_pairs, back_pairs, meta_data}
+use Rattle.object_print.specs.Parts.{modes_data, storage_pairs, storage_data, requests_data, ref_pairs, ref_data, source_pairs, source_data, expr_pairs, expr_data, term_pairs, term_data, node_terms_data, selector_pairs, selector_data}
 
 -- each value is good
 abbrev pub AllGood : {X : Type 0} → ℕ → (X → Data) → Type 0

@@ -1,29 +1,31 @@
 -- What is printed of a claim is read again.
-use Rattle.std.proofs.Common.{◌≡◌, ℕ, List, [], ◌∷◌, ◌++◌, true, Option, Some, None, IfSome, Ok, codes, option_map, refl, ap, arith}
+use Rattle.std.proofs.Common.{◌≡◌, ℕ, List, [], ◌∷◌, ◌++◌, true, Option, Some, None, IfSome, Ok, codes, option_map, refl, ap, ◌∙◌, arith}
 use Rattle.serde_json.specs.Data.{Data, string, object, Members, no_members, member}
 use Rattle.serde_json.specs.Find.{get, get_member}
 use Rattle.json_text.specs.Build.{put_some, put_all, pick}
 use Rattle.json_text.proofs.PutAll.{get-put_all}
 use Rattle.kube_types.specs.Words.{mode_words, claim_phase_word}
+use Rattle.kube_types.specs.Named.{claim_phase_named}
+use Rattle.kube_types.proofs.NamedWords.{claim_phases_inverse}
 use Rattle.kube_types.specs.declared.parts.Modes.{Modes}
 use Rattle.kube_types.specs.declared.parts.ClaimPhase.{ClaimPhase}
-use Rattle.kube_types.specs.declared.parts.ClaimPhase.TheVariants.{Pending, Bound, Lost}
+use Rattle.kube_types.specs.declared.parts.ClaimPhase.TheVariants.{Pending}
 use Rattle.kube_types.specs.declared.objects.Amount.{Amount}
 use Rattle.kube_types.specs.declared.objects.Selector.{Selector}
 use Rattle.kube_types.specs.declared.objects.Claim.{Claim}
 use Rattle.json_text.specs.Members.{MemberList, items_data, filled_array}
-use Rattle.object_text.specs.Printing.Parts.{modes_data, storage_data, requests_data, selector_pairs, selector_data}
-use Rattle.object_text.specs.Printing.Claims.{claim_front, claim_back as back_pairs, claim_spec, got_modes, claim_status_pairs, claim_status, claim_pairs, claim_data}
+use Rattle.object_print.specs.Parts.{modes_data, storage_data, requests_data, selector_pairs, selector_data}
+use Rattle.object_print.specs.Claims.{claim_front, claim_back as back_pairs, claim_spec, got_modes, claim_status_pairs, claim_status, claim_pairs, claim_data}
 use Rattle.object_text.specs.declared.errors.Member.TheVariants as members
 use Rattle.object_text.specs.declared.extra.Listed.TheVariants as listed
 use Rattle.object_text.specs.Answers.{◌>>=◌}
 use Rattle.object_text.specs.MemberReaders.{at, way_from, optional_items_from}
-use Rattle.object_text.specs.PartReaders.{modes_from, no_modes, modes_or_none, optional_modes, optional_quantity, claim_phase_at, selector_of, selector_at}
+use Rattle.object_text.specs.PartReaders.{known, modes_from, no_modes, modes_or_none, optional_modes, optional_quantity, claim_phase_at, selector_of, selector_at}
 use Rattle.object_text.specs.KindReaders.{claim_shape, claim_ties, claim_status_of, claim_of}
 use Rattle.object_text.specs.ExtraMembers.{is_listed}
 use Rattle.object_laws.specs.Given.{IsAmount, IsSelector, AreExtra, IsClaim}
 use Rattle.object_laws.proofs.ExtraBack.{extra_back, spec_has, kept_back}
-use Rattle.object_laws.proofs.PartsBack.{text_back, optional_text_back, pairs_back, quantity_back, modes_items, modes_back, block_back, exprs_back}
+use Rattle.object_laws.proofs.PartsBack.{next, shown_text_back, text_back, optional_text_back, pairs_back, quantity_back, modes_items, modes_back, block_back, exprs_back}
 use Rattle.object_laws.proofs.MetaBack.{meta_back}
 
 -- ---- parts
@@ -53,9 +55,9 @@ selector_back place (Some s) h e = rw (e, selector_is s, members_back s h) refl
 
 phase_back : (place : Option Data) (p : ClaimPhase) → at members.Phase place ≡ Some (string (claim_phase_word p)) → claim_phase_at place ≡ Ok p
 unfolding claim_phase_at
-phase_back place Pending e = rw e refl
-phase_back place Bound e = rw e refl
-phase_back place Lost e = rw e refl
+phase_back place p h =
+    next (λ s. known members.Phase (claim_phase_named s)) (shown_text_back members.Phase (claim_phase_word Pending) place (claim_phase_word p) h)
+    ∙ ap (known members.Phase) (claim_phases_inverse.back p)
 
 -- ---- the modes of what a claim got
 

@@ -3,13 +3,13 @@ use Rattle.std.proofs.Common.{◌≡◌, ℕ, List, ◌++◌, Bool, true, false,
 use Rattle.serde_json.specs.Data.{Data, string, object, Members}
 use Rattle.serde_json.specs.Find.{get_member}
 use Rattle.json_text.specs.Build.{put_all, pick}
-use Rattle.kube_types.specs.Words.{policy_word}
+use Rattle.kube_types.specs.Words.{policy_word, binding_mode}
 use Rattle.kube_types.specs.declared.parts.Policy.{Policy}
 use Rattle.kube_types.specs.declared.parts.Policy.TheVariants.{Retain, Delete, Recycle}
 use Rattle.kube_types.specs.declared.objects.Class.{Class}
 use Rattle.json_text.specs.Members.{MemberList}
-use Rattle.object_text.specs.Printing.Metadata.{head_pairs}
-use Rattle.object_text.specs.Printing.Objects.{binding_mode, class_back as back_pairs, class_data}
+use Rattle.object_print.specs.Metadata.{head_pairs}
+use Rattle.object_print.specs.Objects.{class_back as back_pairs, class_data}
 use Rattle.object_text.specs.declared.errors.Member.TheVariants as members
 use Rattle.object_text.specs.declared.extra.Listed.TheVariants as listed
 use Rattle.object_text.specs.MemberReaders.{at}

@@ -21,3 +21,5 @@ pub mod Utf8Objects
 pub mod Utf8Readers
 pub mod Utf8Kinds
 pub mod Again
+pub mod TableMembers
+pub mod TableKinds

@@ -11,8 +11,8 @@ use Rattle.kube_types.specs.Keys.{kind_of}
 use Rattle.kube_types.specs.declared.parts.Kind.{Kind}
 use Rattle.kube_types.specs.declared.parts.Kind.TheVariants as kinds
 use Rattle.kube_types.specs.declared.objects.Object.{Object}
-use Rattle.object_text.specs.Printing.Objects.{object_data, object_line}
-use Rattle.object_text.proofs.LineLaws.{objects_are_lines}
+use Rattle.object_print.specs.Objects.{object_data, object_line}
+use Rattle.object_print.proofs.LineLaws.{objects_are_lines}
 use Rattle.object_text.specs.declared.errors.ObjectError.{ObjectError}
 use Rattle.object_text.specs.Reading.{most_bytes, object_of, read_text_of}
 use Rattle.object_text.specs.Listing.{is_list, item_of, list_in, list_of}

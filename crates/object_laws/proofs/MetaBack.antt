@@ -13,7 +13,7 @@ use Rattle.serde_json.specs.Find.{get}
 use Rattle.json_text.specs.Look.{unless_null}
 use Rattle.kube_types.specs.declared.objects.Meta.{Meta}
 use Rattle.json_text.specs.Members.{MemberList, filled, counted, object_of}
-use Rattle.object_text.specs.Printing.Metadata.{filled_or_always, front_pairs, back_pairs, meta_data}
+use Rattle.object_print.specs.Metadata.{filled_or_always, front_pairs, back_pairs, meta_data}
 use Rattle.object_text.specs.declared.errors.Member.{Member}
 use Rattle.object_text.specs.declared.errors.Member.TheVariants as members
 use Rattle.object_text.specs.Answers.{◌>>=◌}

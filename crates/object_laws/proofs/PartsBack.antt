@@ -1,5 +1,5 @@
 -- What is printed of texts, lists of texts, pairs, ids, amounts, modes and expressions is read again.
-use Rattle.std.proofs.Common.{◌≡◌, ℕ, List, [], ◌∷◌, ◌++◌, Bool, true, false, Option, Some, None, Ok, Less, codes, refl, sym, ap, ◌∙◌, append-nil, append_assoc}
+use Rattle.std.proofs.Common.{◌≡◌, ℕ, List, [], ◌∷◌, ◌++◌, Bool, true, false, Option, Some, None, Ok, Less, refl, sym, ap, ◌∙◌, append-nil, append_assoc}
 use Rattle.std.specs.Prelude.{IfSome, option_map}
 use Rattle.std.specs.declared.result.Result.{Result}
 use Rattle.serde_json.specs.Data.{Data, string, object, Members, no_members, member}
@@ -13,21 +13,22 @@ use Rattle.plain_data.specs.Rows.{IsAfter}
 use Rattle.kube_types.specs.declared.uid.Uid.{Uid}
 use Rattle.kube_types.specs.declared.parts.Modes.{Modes}
 use Rattle.kube_types.specs.declared.parts.Op.{Op}
-use Rattle.kube_types.specs.declared.parts.Op.TheVariants.{In, NotIn, Exists, DoesNotExist}
 use Rattle.kube_types.specs.declared.objects.Amount.{Amount}
 use Rattle.kube_types.specs.declared.objects.Expr.{Expr}
-use Rattle.kube_types.specs.Words.{op_word, mode_words}
+use Rattle.kube_types.specs.Words.{op_word, volume_mode, mode_words}
+use Rattle.kube_types.specs.Named.{block_named, op_named}
+use Rattle.kube_types.proofs.NamedWords.{blocks_inverse, ops_inverse}
 use Rattle.kube_types.proofs.UidTexts.{reads_back}
 use Rattle.json_text.specs.Members.{MemberList, filled, filled_array, items_data, put_pairs, filled_pairs, object_of}
-use Rattle.object_text.specs.Printing.Metadata.{uid_data}
-use Rattle.object_text.specs.Printing.Parts.{modes_data, volume_mode, expr_pairs, expr_data}
+use Rattle.object_print.specs.Metadata.{uid_data}
+use Rattle.object_print.specs.Parts.{modes_data, expr_pairs, expr_data}
 use Rattle.object_text.specs.declared.errors.Member.{Member}
 use Rattle.object_text.specs.declared.errors.Member.TheVariants as members
 use Rattle.object_text.specs.declared.errors.ObjectError.{ObjectError}
 use Rattle.object_text.specs.Answers.{◌>>=◌}
 use Rattle.object_text.specs.MemberWords.{member_word}
 use Rattle.object_text.specs.MemberReaders.{at, as_text, as_items, needed_from, needed_text, needed_way, way_from, object_at, text_from, text_or, optional_from, optional_text, optional_items_from, texts_from, texts_or_none, texts_at, pairs_from, pairs_or_none, pairs_at, uid_from, uid_or_none, uid_at}
-use Rattle.object_text.specs.PartReaders.{amount_from, amount_in, quantity_at, no_modes, modes_from, modes_at, block_named, block_at, op_named, op_at, expr_of, exprs_from, exprs_or_none, exprs_at}
+use Rattle.object_text.specs.PartReaders.{amount_from, amount_in, quantity_at, no_modes, modes_from, modes_at, known, block_at, op_at, expr_of, exprs_from, exprs_or_none, exprs_at}
 use Rattle.object_laws.specs.Given.{IsUid, IsAmount}
 
 -- the next step goes on with the value
@@ -193,23 +194,17 @@ modes_back place m h =
 
 pub block_back : (place : Option Data) (b : Bool) → at members.VolumeMode place ≡ Some (string (volume_mode b)) → block_at place ≡ Ok b
 unfolding block_at
-block_back place b h = next block_named (shown_text_back members.VolumeMode (codes "Filesystem") place (volume_mode b) h) ∙ by b
-  where
-    by : (c : Bool) → block_named (volume_mode c) ≡ Ok c
-    by false = refl
-    by true = refl
+block_back place b h =
+    next (λ s. known members.VolumeMode (block_named s)) (shown_text_back members.VolumeMode (volume_mode false) place (volume_mode b) h)
+    ∙ ap (known members.VolumeMode) (blocks_inverse.back b)
 
 -- ---- expressions
 
 op_back : (place : Option Data) (op : Op) → at members.Operator place ≡ Some (string (op_word op)) → op_at place ≡ Ok op
 unfolding op_at
-op_back place op h = next op_named (needed_text_back members.Operator place (op_word op) h) ∙ by op
-  where
-    by : (o : Op) → op_named (op_word o) ≡ Ok o
-    by In = refl
-    by NotIn = refl
-    by Exists = refl
-    by DoesNotExist = refl
+op_back place op h =
+    next (λ s. known members.Operator (op_named s)) (needed_text_back members.Operator place (op_word op) h)
+    ∙ ap (known members.Operator) (ops_inverse.back op)
 
 expr_back : (e : Expr) → expr_of (expr_data e) ≡ Ok e
 unfolding expr_of expr_data

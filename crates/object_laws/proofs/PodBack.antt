@@ -7,7 +7,7 @@ use Rattle.json_text.proofs.PutAll.{get-put_all}
 use Rattle.kube_types.specs.declared.objects.Node.{Node}
 use Rattle.kube_types.specs.declared.objects.Pod.{Pod}
 use Rattle.json_text.specs.Members.{MemberList, filled, filled_object}
-use Rattle.object_text.specs.Printing.Objects.{pod_pairs, pod_data, node_pairs, node_data}
+use Rattle.object_print.specs.Objects.{pod_pairs, pod_data, node_pairs, node_data}
 use Rattle.object_text.specs.declared.errors.Member.{Member}
 use Rattle.object_text.specs.declared.errors.Member.TheVariants as members
 use Rattle.object_text.specs.declared.extra.Listed.{Listed}

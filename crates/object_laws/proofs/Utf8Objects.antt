@@ -15,7 +15,7 @@ use Rattle.uuid.proofs.TextLemmas.{hyphenated_ascii}
 use Rattle.json_text.specs.Build.{put_some, put_all}
 use Rattle.plain_data.specs.Pairs.{Pair}
 use Rattle.kube_types.specs.Uids.{uid_text}
-use Rattle.kube_types.specs.Words.{words_if, mode_words, policy_word, volume_phase_word, claim_phase_word, source_word, op_word}
+use Rattle.kube_types.specs.Words.{volume_mode, binding_mode, words_if, mode_words, policy_word, volume_phase_word, claim_phase_word, source_word, op_word}
 use Rattle.kube_types.specs.declared.uid.Uid.{Uid}
 use Rattle.kube_types.specs.declared.parts.Modes.{Modes}
 use Rattle.kube_types.specs.declared.parts.Policy.{Policy}
@@ -44,11 +44,11 @@ use Rattle.kube_types.specs.declared.objects.Object.{Object}
 use Rattle.kube_types.specs.declared.objects.Object.TheVariants as objects
 use Rattle.json_text.specs.Trees.{members_in}
 use Rattle.json_text.specs.Members.{MemberList, text, filled, counted, object_of, items_data, array_data, filled_array, put_pairs, filled_pairs, filled_object, within, members_unless, extra_from, extra_members}
-use Rattle.object_text.specs.Printing.Metadata.{uid_data, filled_or_always, front_pairs, back_pairs, head_pairs, meta_data}
-use Rattle.object_text.specs.Printing.Parts.{modes_data, volume_mode, storage_pairs, storage_data, requests_data, ref_pairs, ref_data, source_pairs, source_data, expr_pairs, expr_data, term_pairs, term_data, node_terms_data, selector_pairs, selector_data}
-use Rattle.object_text.specs.Printing.Volumes.{volume_front, volume_back, volume_spec, volume_status_pairs, volume_status, volume_pairs, volume_data}
-use Rattle.object_text.specs.Printing.Claims.{claim_front, claim_back, claim_spec, got_modes, claim_status_pairs, claim_status, claim_pairs, claim_data}
-use Rattle.object_text.specs.Printing.Objects.{binding_mode, class_back, class_data, pod_spec, pod_pairs, pod_data, node_pairs, node_data, object_data, object_line}
+use Rattle.object_print.specs.Metadata.{uid_data, filled_or_always, front_pairs, back_pairs, head_pairs, meta_data}
+use Rattle.object_print.specs.Parts.{modes_data, storage_pairs, storage_data, requests_data, ref_pairs, ref_data, source_pairs, source_data, expr_pairs, expr_data, term_pairs, term_data, node_terms_data, selector_pairs, selector_data}
+use Rattle.object_print.specs.Volumes.{volume_front, volume_back, volume_spec, volume_status_pairs, volume_status, volume_pairs, volume_data}
+use Rattle.object_print.specs.Claims.{claim_front, claim_back, claim_spec, got_modes, claim_status_pairs, claim_status, claim_pairs, claim_data}
+use Rattle.object_print.specs.Objects.{class_back, class_data, pod_spec, pod_pairs, pod_data, node_pairs, node_data, object_data, object_line}
 use Rattle.object_laws.specs.Given.{IsMeta, IsVolume, IsClaim, IsClass, IsNode, IsPod, IsGiven}
 use Rattle.object_laws.proofs.Utf8Texts.{HasUtf8, ItemsUtf8, MembersUtf8, put_utf8, text_utf8}
 use Rattle.object_laws.proofs.Utf8Read.{read_utf8}

@@ -7,9 +7,9 @@ use Rattle.json_text.specs.Look.{unless_null}
 use Rattle.json_text.specs.Build.{put_some, put_all, pick, AreOthers, are_known}
 use Rattle.json_text.proofs.PutAll.{get-put_all}
 use Rattle.kube_types.specs.declared.parts.Policy.{Policy}
-use Rattle.kube_types.specs.declared.parts.Policy.TheVariants.{Retain, Delete, Recycle}
+use Rattle.kube_types.specs.declared.parts.Policy.TheVariants as policies
 use Rattle.kube_types.specs.declared.parts.VolumePhase.{VolumePhase}
-use Rattle.kube_types.specs.declared.parts.VolumePhase.TheVariants.{Pending, Available, Bound, Released, Failed}
+use Rattle.kube_types.specs.declared.parts.VolumePhase.TheVariants as volume_phases
 use Rattle.kube_types.specs.declared.parts.SourceKind.{SourceKind}
 use Rattle.kube_types.specs.declared.parts.SourceKind.TheVariants.{Csi, Nfs, Local, HostPath}
 use Rattle.kube_types.specs.declared.objects.Ref.{Ref}
@@ -18,16 +18,18 @@ use Rattle.kube_types.specs.declared.objects.Expr.{Expr}
 use Rattle.kube_types.specs.declared.objects.NodeTerms.{NodeTerms}
 use Rattle.kube_types.specs.declared.objects.Volume.{Volume}
 use Rattle.kube_types.specs.Words.{policy_word, source_word, volume_phase_word}
+use Rattle.kube_types.specs.Named.{policy_named, volume_phase_named}
+use Rattle.kube_types.proofs.NamedWords.{policies_inverse, volume_phases_inverse}
 use Rattle.json_text.specs.Members.{MemberList, text, items_data, object_of}
-use Rattle.object_text.specs.Printing.Parts.{modes_data, storage_pairs, storage_data, ref_pairs, ref_data, source_pairs, source_data, term_pairs, term_data, node_terms_data}
-use Rattle.object_text.specs.Printing.Volumes.{volume_front, volume_back as printed_back, volume_spec, volume_status_pairs, volume_status, volume_pairs, volume_data}
+use Rattle.object_print.specs.Parts.{modes_data, storage_pairs, storage_data, ref_pairs, ref_data, source_pairs, source_data, term_pairs, term_data, node_terms_data}
+use Rattle.object_print.specs.Volumes.{volume_front, volume_back as printed_back, volume_spec, volume_status_pairs, volume_status, volume_pairs, volume_data}
 use Rattle.object_text.specs.declared.errors.Member.{Member}
 use Rattle.object_text.specs.declared.errors.Member.TheVariants as members
 use Rattle.object_text.specs.declared.extra.Listed.TheVariants as listed
 use Rattle.object_text.specs.Answers.{◌>>=◌}
 use Rattle.object_text.specs.MemberWords.{member_word}
 use Rattle.object_text.specs.MemberReaders.{at, way_from, object_at, optional_items}
-use Rattle.object_text.specs.PartReaders.{policy_named, policy_at, volume_phase_named, volume_phase_at, ref_at, ref_or_none, claim_ref_at, there, source_at, term_of, terms_from, terms_or_none, terms_at}
+use Rattle.object_text.specs.PartReaders.{known, policy_at, volume_phase_at, ref_at, ref_or_none, claim_ref_at, there, source_at, term_of, terms_from, terms_or_none, terms_at}
 use Rattle.object_text.specs.ExtraMembers.{is_listed}
 use Rattle.object_text.specs.KindReaders.{volume_shape, volume_ties, volume_spec_of, volume_status_of, volume_of}
 use Rattle.object_laws.specs.Given.{IsRef, IsAmount, HasItsTexts, IsSource, IsFree, NoneBefore, AreVolumeExtra, IsVolume}
@@ -39,23 +41,15 @@ use Rattle.object_laws.proofs.ExtraBack.{extra_back, spec_has, kept_back}
 
 policy_back : (place : Option Data) (p : Policy) → at members.PersistentVolumeReclaimPolicy place ≡ text (policy_word p) → policy_at place ≡ Ok p
 unfolding policy_at
-policy_back place p h = next policy_named (shown_text_back members.PersistentVolumeReclaimPolicy (codes "Retain") place (policy_word p) h) ∙ by p
-  where
-    by : (q : Policy) → policy_named (policy_word q) ≡ Ok q
-    by Retain = refl
-    by Delete = refl
-    by Recycle = refl
+policy_back place p h =
+    next (λ s. known members.PersistentVolumeReclaimPolicy (policy_named s)) (shown_text_back members.PersistentVolumeReclaimPolicy (policy_word policies.Retain) place (policy_word p) h)
+    ∙ ap (known members.PersistentVolumeReclaimPolicy) (policies_inverse.back p)
 
 phase_back : (place : Option Data) (p : VolumePhase) → at members.Phase place ≡ text (volume_phase_word p) → volume_phase_at place ≡ Ok p
 unfolding volume_phase_at
-phase_back place p h = next volume_phase_named (shown_text_back members.Phase (codes "Pending") place (volume_phase_word p) h) ∙ by p
-  where
-    by : (q : VolumePhase) → volume_phase_named (volume_phase_word q) ≡ Ok q
-    by Pending = refl
-    by Available = refl
-    by Bound = refl
-    by Released = refl
-    by Failed = refl
+phase_back place p h =
+    next (λ s. known members.Phase (volume_phase_named s)) (shown_text_back members.Phase (volume_phase_word volume_phases.Pending) place (volume_phase_word p) h)
+    ∙ ap (known members.Phase) (volume_phases_inverse.back p)
 
 -- ---- the claim of a volume
 

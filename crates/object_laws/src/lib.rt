@@ -5,6 +5,7 @@
 
 ghost use Rattle.object_laws.specs.Again.{ListIsReadAgain, TextIsReadAgain};
 ghost use Rattle.object_laws.specs.Laws.{LineIsListed, LineIsRead, LinesAreApart, ListGives, PrintedGivesBack, PrintedIsCanonical, PrintedIsLine, TextGives, ValueGives};
+ghost use Rattle.object_laws.specs.Manifests.{FollowsTable, TableExamples};
 
 /// The JSON of an object that a manifest can give gives the object back.
 #[tactic(auto, using(crate::proofs::Back::object_back))]
@@ -68,4 +69,11 @@ pub fn text_is_read_again()
 /// So is each object that the text of a list gives.
 pub fn list_is_read_again()
     ensures { ListIsReadAgain }
+{}
+
+/// A value is refused exactly with the first fault of the rows of its kind, in the order of the table of manifests.
+#[tactic(auto, using(crate::proofs::TableKinds::follows_table, crate::proofs::TableKinds::table_examples))]
+pub fn reading_follows_the_table()
+    ensures law { FollowsTable }
+    ensures examples { TableExamples }
 {}

@@ -2,9 +2,3 @@ pub mod WholeParts
 pub mod Versions
 pub mod Utf8Texts
 pub mod Refusals
-pub mod Shapes
-pub mod Volumes
-pub mod Claims
-pub mod Others
-pub mod ObjectFloats
-pub mod LineLaws

@@ -11,7 +11,7 @@ use Rattle.json_text.specs.Trees.{members_in, others, others_from}
 use Rattle.object_text.specs.declared.errors.Member.{Member}
 use Rattle.object_text.specs.MemberWords.{member_word}
 use Rattle.object_text.specs.MemberReaders.{at}
-use Rattle.object_text.specs.Whole.{IsWholePlace}
+use Rattle.object_text.specs.Steps.Whole.{IsWholePlace}
 
 or_false : (a b : Bool) → (a || b) ≡ false → (a ≡ false) × (b ≡ false)
 or_false true b h = absurd (true≢false h)

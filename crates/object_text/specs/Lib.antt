@@ -3,10 +3,8 @@ pub mod MemberWords
 pub mod MemberReaders
 pub mod MetaReaders
 pub mod PartReaders
-pub mod Whole
+pub mod Steps
 pub mod ExtraMembers
 pub mod KindReaders
 pub mod Reading
 pub mod Listing
-pub mod Printing
-pub mod Laws

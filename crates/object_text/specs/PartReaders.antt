@@ -8,7 +8,7 @@ use Rattle.quantity_text.specs.declared.errors.AmountError.{AmountError}
 use Rattle.quantity_text.specs.Quantity.{amount_of}
 use Rattle.kube_types.specs.declared.parts.Modes.{Modes}
 use Rattle.kube_types.specs.declared.parts.Policy.{Policy}
-use Rattle.kube_types.specs.declared.parts.Policy.TheVariants.{Retain, Delete, Recycle}
+use Rattle.kube_types.specs.declared.parts.Policy.TheVariants.{Retain, Delete}
 use Rattle.kube_types.specs.declared.parts.VolumePhase.{VolumePhase}
 use Rattle.kube_types.specs.declared.parts.VolumePhase.TheVariants as volume_phases
 use Rattle.kube_types.specs.declared.parts.ClaimPhase.{ClaimPhase}
@@ -16,7 +16,8 @@ use Rattle.kube_types.specs.declared.parts.ClaimPhase.TheVariants as claim_phase
 use Rattle.kube_types.specs.declared.parts.SourceKind.{SourceKind}
 use Rattle.kube_types.specs.declared.parts.SourceKind.TheVariants as sources
 use Rattle.kube_types.specs.declared.parts.Op.{Op}
-use Rattle.kube_types.specs.declared.parts.Op.TheVariants.{In, NotIn, Exists, DoesNotExist}
+use Rattle.kube_types.specs.Words.{policy_word, volume_mode, binding_mode, volume_phase_word, claim_phase_word}
+use Rattle.kube_types.specs.Named.{value_named, policy_named, block_named, delayed_named, volume_phase_named, claim_phase_named, op_named}
 use Rattle.kube_types.specs.declared.objects.Amount.{Amount}
 use Rattle.kube_types.specs.declared.objects.Ref.{Ref}
 use Rattle.kube_types.specs.declared.objects.Source.{Source}
@@ -88,66 +89,35 @@ modes_or_none (Some ds) = modes_from ds no_modes
 unfoldable pub optional_modes : Option Data → Result Modes ObjectError
 optional_modes place = optional_items members.AccessModes place >>= λ o. modes_or_none o
 
-abbrev pub block_named : List ℕ → Result Bool ObjectError
-block_named s = if bytes_eq s (codes "Filesystem") then Ok false else (if bytes_eq s (codes "Block") then Ok true else Err (WrongType members.VolumeMode))
+-- the value that a word names; a word that is none of those listed is of the wrong type
+abbrev pub known : {X : Type 0} → Member → Option X → Result X ObjectError
+known m None = Err (WrongType m)
+known m (Some x) = Ok x
 
 unfoldable pub block_at : Option Data → Result Bool ObjectError
-block_at place = text_or members.VolumeMode (codes "Filesystem") place >>= λ s. block_named s
-
-abbrev pub policy_named : List ℕ → Result Policy ObjectError
-policy_named s =
-    if bytes_eq s (codes "Retain") then Ok Retain else (
-    if bytes_eq s (codes "Delete") then Ok Delete else (
-    if bytes_eq s (codes "Recycle") then Ok Recycle else Err (WrongType members.PersistentVolumeReclaimPolicy)))
+block_at place = text_or members.VolumeMode (volume_mode false) place >>= λ s. known members.VolumeMode (block_named s)
 
 unfoldable pub policy_at : Option Data → Result Policy ObjectError
-policy_at place = text_or members.PersistentVolumeReclaimPolicy (codes "Retain") place >>= λ s. policy_named s
+policy_at place = text_or members.PersistentVolumeReclaimPolicy (policy_word Retain) place >>= λ s. known members.PersistentVolumeReclaimPolicy (policy_named s)
 
-abbrev pub class_policy_named : List ℕ → Result Policy ObjectError
-class_policy_named s =
-    if bytes_eq s (codes "Delete") then Ok Delete else (
-    if bytes_eq s (codes "Retain") then Ok Retain else Err (WrongType members.ReclaimPolicy))
+-- volumes of a class are never to be recycled
+abbrev pub class_policies : List Policy
+class_policies = Delete ∷ Retain ∷ []
 
 unfoldable pub class_policy_at : Option Data → Result Policy ObjectError
-class_policy_at place = text_or members.ReclaimPolicy (codes "Delete") place >>= λ s. class_policy_named s
-
-abbrev pub delayed_named : List ℕ → Result Bool ObjectError
-delayed_named s =
-    if bytes_eq s (codes "Immediate") then Ok false else (
-    if bytes_eq s (codes "WaitForFirstConsumer") then Ok true else Err (WrongType members.VolumeBindingMode))
+class_policy_at place = text_or members.ReclaimPolicy (policy_word Delete) place >>= λ s. known members.ReclaimPolicy (value_named policy_word class_policies s)
 
 unfoldable pub delayed_at : Option Data → Result Bool ObjectError
-delayed_at place = text_or members.VolumeBindingMode (codes "Immediate") place >>= λ s. delayed_named s
-
-abbrev pub volume_phase_named : List ℕ → Result VolumePhase ObjectError
-volume_phase_named s =
-    if bytes_eq s (codes "Pending") then Ok volume_phases.Pending else (
-    if bytes_eq s (codes "Available") then Ok volume_phases.Available else (
-    if bytes_eq s (codes "Bound") then Ok volume_phases.Bound else (
-    if bytes_eq s (codes "Released") then Ok volume_phases.Released else (
-    if bytes_eq s (codes "Failed") then Ok volume_phases.Failed else Err (WrongType members.Phase)))))
+delayed_at place = text_or members.VolumeBindingMode (binding_mode false) place >>= λ s. known members.VolumeBindingMode (delayed_named s)
 
 unfoldable pub volume_phase_at : Option Data → Result VolumePhase ObjectError
-volume_phase_at place = text_or members.Phase (codes "Pending") place >>= λ s. volume_phase_named s
-
-abbrev pub claim_phase_named : List ℕ → Result ClaimPhase ObjectError
-claim_phase_named s =
-    if bytes_eq s (codes "Pending") then Ok claim_phases.Pending else (
-    if bytes_eq s (codes "Bound") then Ok claim_phases.Bound else (
-    if bytes_eq s (codes "Lost") then Ok claim_phases.Lost else Err (WrongType members.Phase)))
+volume_phase_at place = text_or members.Phase (volume_phase_word volume_phases.Pending) place >>= λ s. known members.Phase (volume_phase_named s)
 
 unfoldable pub claim_phase_at : Option Data → Result ClaimPhase ObjectError
-claim_phase_at place = text_or members.Phase (codes "Pending") place >>= λ s. claim_phase_named s
-
-abbrev pub op_named : List ℕ → Result Op ObjectError
-op_named s =
-    if bytes_eq s (codes "In") then Ok In else (
-    if bytes_eq s (codes "NotIn") then Ok NotIn else (
-    if bytes_eq s (codes "Exists") then Ok Exists else (
-    if bytes_eq s (codes "DoesNotExist") then Ok DoesNotExist else Err (WrongType members.Operator))))
+claim_phase_at place = text_or members.Phase (claim_phase_word claim_phases.Pending) place >>= λ s. known members.Phase (claim_phase_named s)
 
 unfoldable pub op_at : Option Data → Result Op ObjectError
-op_at place = needed_text members.Operator place >>= λ s. op_named s
+op_at place = needed_text members.Operator place >>= λ s. known members.Operator (op_named s)
 
 -- ---- the claim of a volume
 

@@ -9,6 +9,7 @@ use Rattle.serde_json.specs.Read.{read}
 use Rattle.serde_json.specs.Written.{has_float}
 use Rattle.kube_types.specs.declared.parts.Kind.{Kind}
 use Rattle.kube_types.specs.declared.parts.Kind.TheVariants as kinds
+use Rattle.kube_types.specs.Named.{kind_named}
 use Rattle.kube_types.specs.declared.objects.Object.{Object}
 use Rattle.kube_types.specs.declared.objects.Object.TheVariants as objects
 use Rattle.object_text.specs.declared.errors.Member.TheVariants as members
@@ -30,13 +31,10 @@ is_object (object ms) = true
 abbrev pub whole_object : Data → Result Data ObjectError
 whole_object d = if is_object d then (if has_float d then Err NotWhole else Ok d) else Err NotObject
 
-abbrev pub kind_named : List ℕ → Result Kind ObjectError
-kind_named s =
-    if bytes_eq s (codes "StorageClass") then Ok kinds.StorageClass else (
-    if bytes_eq s (codes "Node") then Ok kinds.Node else (
-    if bytes_eq s (codes "PersistentVolume") then Ok kinds.PersistentVolume else (
-    if bytes_eq s (codes "PersistentVolumeClaim") then Ok kinds.PersistentVolumeClaim else (
-    if bytes_eq s (codes "Pod") then Ok kinds.Pod else Err UnknownKind))))
+-- the kind that the word names
+abbrev pub known_kind : Option Kind → Result Kind ObjectError
+known_kind None = Err UnknownKind
+known_kind (Some kind) = Ok kind
 
 abbrev pub api_version : Kind → List ℕ
 api_version kinds.StorageClass = codes "storage.k8s.io/v1"
@@ -52,7 +50,7 @@ kind_of_version kind s = if bytes_eq s (api_version kind) then Ok kind else Err 
 unfoldable pub kind_at : Data → Result Kind ObjectError
 kind_at d = do
   named ← needed_text members.Kind (Some d)
-  kind ← kind_named named
+  kind ← known_kind (kind_named named)
   version ← needed_text members.ApiVersion (Some d)
   kind_of_version kind version
 

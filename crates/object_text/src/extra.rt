@@ -5,7 +5,7 @@ ghost use Rattle.serde_json.specs.View.{view};
 ghost use Rattle.serde_json.specs.Written.{has_float};
 ghost use Rattle.json_text.specs.Trees.{members_in, others};
 ghost use Rattle.object_text.specs.ExtraMembers.{is_volume_member, is_claim_member, is_class_member, is_listed, extra_text, extra_at};
-ghost use Rattle.object_text.specs.Whole.{IsWholePlace};
+ghost use Rattle.object_text.specs.Steps.Whole.{IsWholePlace};
 
 use json_text::build::{Fields, KnownNames};
 use kube_types::copies::OutOfMemory;

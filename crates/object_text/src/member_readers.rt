@@ -7,7 +7,7 @@ ghost use Rattle.std.specs.Str.Parse.{digits_value};
 ghost use Rattle.serde_json.specs.View.{view, items_view, members_view};
 ghost use Rattle.object_text.specs.Answers.{Gives, GivesBy};
 ghost use Rattle.object_text.specs.MemberReaders.{at, as_text, as_items, as_object, needed, needed_text, needed_items, needed_object, needed_way, object_at, text_or, optional_text, optional_items, texts_from, texts_at, pairs_from, pairs_in, pairs_at, uid_named, uid_at, stamp_named, stamp_at, stamp_or_empty, is_version, version_named, version_at};
-ghost use Rattle.object_text.specs.Whole.{IsWholePlace};
+ghost use Rattle.object_text.specs.Steps.Whole.{IsWholePlace};
 
 use crate::errors::{Member, ObjectError};
 use json_text::look::unless_null;

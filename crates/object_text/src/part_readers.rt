@@ -3,7 +3,7 @@
 ghost use Rattle.std.specs.Prelude.{◌≡◌, [], Some, Ok, option_map};
 ghost use Rattle.serde_json.specs.View.{view, items_view};
 ghost use Rattle.object_text.specs.Answers.{Gives};
-ghost use Rattle.object_text.specs.PartReaders.{quantity_text, amount_from, amount_in, quantity_at, optional_quantity, with_mode, no_modes, modes_from, modes_at, optional_modes, block_named, block_at, policy_named, policy_at, class_policy_named, class_policy_at, delayed_named, delayed_at, volume_phase_named, volume_phase_at, claim_phase_named, claim_phase_at, op_named, op_at, ref_at, claim_ref_at, two_texts, one_text, there, source_at, expr_of, exprs_from, exprs_at, term_of, terms_from, terms_at, selector_of, selector_at, claim_name_of, claims_from, claims_at};
+ghost use Rattle.object_text.specs.PartReaders.{quantity_text, amount_from, amount_in, quantity_at, optional_quantity, with_mode, no_modes, modes_from, modes_at, optional_modes, known, block_at, policy_at, class_policies, class_policy_at, delayed_at, volume_phase_at, claim_phase_at, op_at, ref_at, claim_ref_at, two_texts, one_text, there, source_at, expr_of, exprs_from, exprs_at, term_of, terms_from, terms_at, selector_of, selector_at, claim_name_of, claims_from, claims_at};
 ghost use Rattle.quantity_text.specs.Quantity.{amount_of};
 
 use crate::errors::{Member, ObjectError};
@@ -17,6 +17,7 @@ use kube_types::items::Items;
 use kube_types::objects::{Amount, Expr, NodeTerms, Ref, Selector, Source};
 use kube_types::parts::{ClaimPhase, Modes, Op, Policy, SourceKind, VolumePhase};
 use kube_types::text::{Names, Text};
+use kube_types::words::{binding_mode, block_named, delayed_named, value_named, volume_mode};
 use quantity_text::{AmountError, read_amount};
 use serde_json::Value;
 use std::alloc::Global;
@@ -136,15 +137,13 @@ pub fn optional_modes(place: Option<&Value>) -> Result<Modes, ObjectError>
     }
 }
 
-fn block_named(word: &str) -> Result<bool, ObjectError>
-    ensures { Gives result (block_named word.now) }
+/// The value that a word names; a word that is none of those listed is of the wrong type.
+fn known<T>(value: Option<T>, member: Member) -> Result<T, ObjectError>
+    ensures { Gives result (known member value) }
 {
-    if word == "Filesystem" {
-        Ok(false)
-    } else if word == "Block" {
-        Ok(true)
-    } else {
-        Err(ObjectError::WrongType(Member::VolumeMode))
+    match value {
+        Some(value) => Ok(value),
+        None => Err(ObjectError::WrongType(member)),
     }
 }
 
@@ -153,21 +152,8 @@ fn block_named(word: &str) -> Result<bool, ObjectError>
 pub fn block_at(place: Option<&Value>) -> Result<bool, ObjectError>
     ensures { Gives result (block_at (option_map (λ v. view v.now) place.entry)) }
 {
-    block_named(word_or(place, Member::VolumeMode, "Filesystem")?)
-}
-
-fn policy_named(word: &str) -> Result<Policy, ObjectError>
-    ensures { Gives result (policy_named word.now) }
-{
-    if word == "Retain" {
-        Ok(Policy::Retain)
-    } else if word == "Delete" {
-        Ok(Policy::Delete)
-    } else if word == "Recycle" {
-        Ok(Policy::Recycle)
-    } else {
-        Err(ObjectError::WrongType(Member::PersistentVolumeReclaimPolicy))
-    }
+    let word = word_or(place, Member::VolumeMode, volume_mode(false))?;
+    known(block_named(word), Member::VolumeMode)
 }
 
 /// The policy of a volume.
@@ -175,19 +161,9 @@ fn policy_named(word: &str) -> Result<Policy, ObjectError>
 pub fn policy_at(place: Option<&Value>) -> Result<Policy, ObjectError>
     ensures { Gives result (policy_at (option_map (λ v. view v.now) place.entry)) }
 {
-    policy_named(word_or(place, Member::PersistentVolumeReclaimPolicy, "Retain")?)
-}
-
-fn class_policy_named(word: &str) -> Result<Policy, ObjectError>
-    ensures { Gives result (class_policy_named word.now) }
-{
-    if word == "Delete" {
-        Ok(Policy::Delete)
-    } else if word == "Retain" {
-        Ok(Policy::Retain)
-    } else {
-        Err(ObjectError::WrongType(Member::ReclaimPolicy))
-    }
+    let member = Member::PersistentVolumeReclaimPolicy;
+    let word = word_or(place, member, Policy::Retain.name())?;
+    known(Policy::named(word), member)
 }
 
 /// The policy of a class.
@@ -195,19 +171,9 @@ fn class_policy_named(word: &str) -> Result<Policy, ObjectError>
 pub fn class_policy_at(place: Option<&Value>) -> Result<Policy, ObjectError>
     ensures { Gives result (class_policy_at (option_map (λ v. view v.now) place.entry)) }
 {
-    class_policy_named(word_or(place, Member::ReclaimPolicy, "Delete")?)
-}
-
-fn delayed_named(word: &str) -> Result<bool, ObjectError>
-    ensures { Gives result (delayed_named word.now) }
-{
-    if word == "Immediate" {
-        Ok(false)
-    } else if word == "WaitForFirstConsumer" {
-        Ok(true)
-    } else {
-        Err(ObjectError::WrongType(Member::VolumeBindingMode))
-    }
+    let word = word_or(place, Member::ReclaimPolicy, Policy::Delete.name())?;
+    let policy = value_named(&[Policy::Delete, Policy::Retain], word);
+    known(policy, Member::ReclaimPolicy)
 }
 
 /// Whether the claims of a class wait for their first pod.
@@ -215,25 +181,8 @@ fn delayed_named(word: &str) -> Result<bool, ObjectError>
 pub fn delayed_at(place: Option<&Value>) -> Result<bool, ObjectError>
     ensures { Gives result (delayed_at (option_map (λ v. view v.now) place.entry)) }
 {
-    delayed_named(word_or(place, Member::VolumeBindingMode, "Immediate")?)
-}
-
-fn volume_phase_named(word: &str) -> Result<VolumePhase, ObjectError>
-    ensures { Gives result (volume_phase_named word.now) }
-{
-    if word == "Pending" {
-        Ok(VolumePhase::Pending)
-    } else if word == "Available" {
-        Ok(VolumePhase::Available)
-    } else if word == "Bound" {
-        Ok(VolumePhase::Bound)
-    } else if word == "Released" {
-        Ok(VolumePhase::Released)
-    } else if word == "Failed" {
-        Ok(VolumePhase::Failed)
-    } else {
-        Err(ObjectError::WrongType(Member::Phase))
-    }
+    let word = word_or(place, Member::VolumeBindingMode, binding_mode(false))?;
+    known(delayed_named(word), Member::VolumeBindingMode)
 }
 
 /// The phase of a volume.
@@ -241,21 +190,8 @@ fn volume_phase_named(word: &str) -> Result<VolumePhase, ObjectError>
 pub fn volume_phase_at(place: Option<&Value>) -> Result<VolumePhase, ObjectError>
     ensures { Gives result (volume_phase_at (option_map (λ v. view v.now) place.entry)) }
 {
-    volume_phase_named(word_or(place, Member::Phase, "Pending")?)
-}
-
-fn claim_phase_named(word: &str) -> Result<ClaimPhase, ObjectError>
-    ensures { Gives result (claim_phase_named word.now) }
-{
-    if word == "Pending" {
-        Ok(ClaimPhase::Pending)
-    } else if word == "Bound" {
-        Ok(ClaimPhase::Bound)
-    } else if word == "Lost" {
-        Ok(ClaimPhase::Lost)
-    } else {
-        Err(ObjectError::WrongType(Member::Phase))
-    }
+    let word = word_or(place, Member::Phase, VolumePhase::Pending.name())?;
+    known(VolumePhase::named(word), Member::Phase)
 }
 
 /// The phase of a claim.
@@ -263,30 +199,16 @@ fn claim_phase_named(word: &str) -> Result<ClaimPhase, ObjectError>
 pub fn claim_phase_at(place: Option<&Value>) -> Result<ClaimPhase, ObjectError>
     ensures { Gives result (claim_phase_at (option_map (λ v. view v.now) place.entry)) }
 {
-    claim_phase_named(word_or(place, Member::Phase, "Pending")?)
-}
-
-fn op_named(word: &str) -> Result<Op, ObjectError>
-    ensures { Gives result (op_named word.now) }
-{
-    if word == "In" {
-        Ok(Op::In)
-    } else if word == "NotIn" {
-        Ok(Op::NotIn)
-    } else if word == "Exists" {
-        Ok(Op::Exists)
-    } else if word == "DoesNotExist" {
-        Ok(Op::DoesNotExist)
-    } else {
-        Err(ObjectError::WrongType(Member::Operator))
-    }
+    let word = word_or(place, Member::Phase, ClaimPhase::Pending.name())?;
+    known(ClaimPhase::named(word), Member::Phase)
 }
 
 #[tactic(auto, unfolding(crate::specs::PartReaders::op_at))]
 fn op_at(place: Option<&Value>) -> Result<Op, ObjectError>
     ensures { Gives result (op_at (option_map (λ v. view v.now) place.entry)) }
 {
-    op_named(needed_word(place, Member::Operator)?)
+    let word = needed_word(place, Member::Operator)?;
+    known(Op::named(word), Member::Operator)
 }
 
 // ---- the claim of a volume

@@ -5,7 +5,7 @@ ghost use Rattle.serde_json.specs.View.{view};
 ghost use Rattle.serde_json.specs.Written.{has_float};
 ghost use Rattle.json_text.specs.Trees.{tree_data};
 ghost use Rattle.object_text.specs.Answers.{Gives, GivesBy};
-ghost use Rattle.object_text.specs.Reading.{whole_object, kind_named, api_version, kind_of_version, kind_at, object_of_kind, object_of, value_of, read_text_of};
+ghost use Rattle.object_text.specs.Reading.{whole_object, known_kind, api_version, kind_of_version, kind_at, object_of_kind, object_of, value_of, read_text_of};
 
 use crate::errors::{Member, ObjectError};
 use crate::kind_readers::{claim_of, class_of, node_of, pod_of, volume_of};
@@ -20,21 +20,12 @@ use std::alloc::Global;
 /// The most bytes of a manifest.
 pub const MOST_BYTES: usize = 8192;
 
-fn kind_named(word: &str) -> Result<Kind, ObjectError>
-    ensures { Gives result (kind_named word.now) }
+fn known_kind(kind: Option<Kind>) -> Result<Kind, ObjectError>
+    ensures { Gives result (known_kind kind) }
 {
-    if word == "StorageClass" {
-        Ok(Kind::StorageClass)
-    } else if word == "Node" {
-        Ok(Kind::Node)
-    } else if word == "PersistentVolume" {
-        Ok(Kind::PersistentVolume)
-    } else if word == "PersistentVolumeClaim" {
-        Ok(Kind::PersistentVolumeClaim)
-    } else if word == "Pod" {
-        Ok(Kind::Pod)
-    } else {
-        Err(ObjectError::UnknownKind)
+    match kind {
+        Some(kind) => Ok(kind),
+        None => Err(ObjectError::UnknownKind),
     }
 }
 
@@ -65,7 +56,7 @@ fn kind_at(value: &Value) -> Result<Kind, ObjectError>
     ensures { Gives result (kind_at (view value.now)) }
 {
     let named = needed_word(Some(value), Member::Kind)?;
-    let kind = kind_named(named)?;
+    let kind = known_kind(Kind::named(named))?;
     let version = needed_word(Some(value), Member::ApiVersion)?;
     kind_of_version(kind, version)
 }

@@ -19,7 +19,7 @@ use Rattle.binder_model.specs.Answers.{Stores, outcome, after}
 use Rattle.binder_model.specs.ObjectKeys.{volume_key}
 use Rattle.binder_model.specs.BindWrites.{ref_to, next_write, claim_write, write_reference, write_bound, write_completion, write_claim_status, shows_bound}
 use Rattle.plain_binder.specs.Calls.{is_asked}
-use Rattle.plain_binder.specs.Stages.{IsSoundVolume, IsSoundClaim, IsStage, IsBinding}
+use Rattle.plain_binder.specs.Steps.Stages.{IsSoundVolume, IsSoundClaim, IsStage, IsBinding}
 use Rattle.plain_binder.proofs.Same.{bytes_own, number_own, modes_own, amount_own}
 use Rattle.plain_binder.proofs.Valid.{volume_parts, volume_whole, claim_parts, claim_whole}
 use Rattle.plain_binder.proofs.Standing.{keys_of-put}

@@ -12,7 +12,7 @@ use Rattle.binder_model.specs.ObjectKeys.{volume_key}
 use Rattle.binder_model.specs.BindWrites.{next_write, claim_write}
 use Rattle.binder_model.specs.BinderDue.{binder_due, volume_due, claim_due, reference_due, referred_due, claim_with, completed_due, has_other_uid}
 use Rattle.plain_binder.specs.Calls.{IsNothingDue}
-use Rattle.plain_binder.specs.Stages.{keys_of, IsServedVolume, IsServedClaim, Free, Taken, Open, Done, AreServed, SettledUpTo}
+use Rattle.plain_binder.specs.Steps.Stages.{keys_of, IsServedVolume, IsServedClaim, Free, Taken, Open, Done, AreServed, SettledUpTo}
 use Rattle.plain_binder.proofs.Same.{bytes_own, number_own}
 use Rattle.plain_binder.proofs.Valid.{volume_parts, name_stands}
 use Rattle.plain_binder.proofs.Fresh.{open_not_completed}

@@ -22,7 +22,7 @@ use Rattle.binder_model.specs.Safe.{IsBoundTo, AreBindings}
 use Rattle.call_types.specs.declared.entry.Entry.{Entry}
 use Rattle.plain_binder.specs.Calls.{CompletedAreBound, no_setup, rows_after}
 use Rattle.binder_model.specs.ObjectKeys.{volume_key, claim_key}
-use Rattle.plain_binder.specs.Stages.{keys_of, IsSoundVolume, IsFree, IsOpen, IsFresh, AreFresh, AvailableUpTo, AreServed, Free, Open}
+use Rattle.plain_binder.specs.Steps.Stages.{keys_of, IsSoundVolume, IsFree, IsOpen, IsFresh, AreFresh, AvailableUpTo, AreServed, Free, Open}
 use Rattle.plain_binder.proofs.Valid.{volume_parts, volume_whole}
 use Rattle.kube_types.proofs.RowPlaces.{place_of_row, row_at_place}
 use Rattle.plain_binder.proofs.Standing.{row_put, keys_of-put, key_at_place}

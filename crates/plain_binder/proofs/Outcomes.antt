@@ -27,7 +27,7 @@ use Rattle.binder_model.specs.ObjectKeys.{volume_key, claim_key}
 use Rattle.binder_model.specs.BindWrites.{ref_to, taken_for, completed_with, write_reference, write_completion, write_claim_status}
 use Rattle.binder_model.specs.Same.{same_selector, same_terms}
 use Rattle.plain_binder.specs.Calls.{IsPlain, IsPlainVolume, IsPlainClaim}
-use Rattle.plain_binder.specs.Stages.{IsSoundVolume, IsSoundClaim, IsFresh}
+use Rattle.plain_binder.specs.Steps.Stages.{IsSoundVolume, IsSoundClaim, IsFresh}
 use Rattle.plain_binder.proofs.Same.{number_own, bytes_own, beq_own, option_own, modes_own, amount_own, selector_own, terms_own, source_own}
 use Rattle.plain_binder.proofs.Valid.{ValidClaim, volume_parts, volume_whole, claim_parts, claim_whole, name_stands, namespace_stands, no_namespace}
 

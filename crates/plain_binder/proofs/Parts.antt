@@ -22,8 +22,8 @@ use Rattle.binder_model.specs.ObjectKeys.{volume_key}
 use Rattle.binder_model.specs.BindWrites.{next_write, write_available}
 use Rattle.plain_binder.specs.Calls.{CompletedAreBound}
 use Rattle.plain_binder.specs.Calls.{IsPlain, AreCreates, AreCalls, store_after, rows_after, asked, store_with, is_asked}
-use Rattle.plain_binder.specs.Stages.{as_volume, as_claim, volume_at, claim_at, keys_of, AreFresh, AvailableUpTo, AreServed, SettledUpTo, IsBinding}
-use Rattle.plain_binder.specs.Progress.{Adds, MakesAvailable, Settles, IsUnderWay, Writes, Binds, Lists, MakesAllAvailable, Serves}
+use Rattle.plain_binder.specs.Steps.Stages.{as_volume, as_claim, volume_at, claim_at, keys_of, AreFresh, AvailableUpTo, AreServed, SettledUpTo, IsBinding}
+use Rattle.plain_binder.specs.Steps.Progress.{Adds, MakesAvailable, Settles, IsUnderWay, Writes, Binds, Lists, MakesAllAvailable, Serves}
 use Rattle.plain_binder.proofs.Places.{passes}
 use Rattle.kube_types.proofs.RowPlaces.{row_at_place}
 use Rattle.plain_binder.proofs.Standing.{keys_of-put}

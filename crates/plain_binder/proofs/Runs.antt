@@ -11,7 +11,7 @@ use Rattle.plain_data.proofs.RowFacts.{rising_put, rising_without}
 use Rattle.kube_types.specs.declared.parts.Kind.{Kind}
 use Rattle.kube_types.specs.Keys.{AreRows, key_cmp, key_of, put_row, without_row, rows_of, is_of_kind}
 use Rattle.kube_types.proofs.KeyOrder.{key_cmp_total}
-use Rattle.plain_binder.specs.Stages.{keys_of}
+use Rattle.plain_binder.specs.Steps.Stages.{keys_of}
 use Rattle.kube_types.specs.declared.key.Key.{Key}
 use Rattle.call_types.specs.declared.entry.Entry.{Entry}
 use Rattle.call_types.specs.declared.request.SeatKind.{SeatKind}

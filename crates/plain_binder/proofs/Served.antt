@@ -17,9 +17,10 @@ use Rattle.binder_model.specs.ObjectKeys.{volume_key}
 use Rattle.binder_model.specs.BindWrites.{ref_to}
 use Rattle.binder_model.specs.Safe.{IsBoundTo}
 use Rattle.plain_binder.specs.Calls.{CompletedAreBound}
-use Rattle.plain_binder.specs.Stages.{keys_of, IsSoundClaim, IsFree, IsOpen, IsPair, IsServed, IsServedVolume, IsServedClaim, Free, Taken, Open, Done, AreServed, SettledUpTo, IsStage, IsBinding}
+use Rattle.plain_binder.specs.Steps.Stages.{keys_of, IsSoundClaim, IsFree, IsOpen, IsPair, IsServed, IsServedVolume, IsServedClaim, Free, Taken, Open, Done, AreServed, SettledUpTo, IsStage, IsBinding}
 use Rattle.kube_types.proofs.RowPlaces.{place_of_row, row_at_place}
-use Rattle.plain_binder.proofs.Standing.{key_tells, key_at_place}
+use Rattle.kube_types.proofs.SameKeys.{key_tells}
+use Rattle.plain_binder.proofs.Standing.{key_at_place}
 use Rattle.plain_binder.proofs.Fresh.{open_not_completed, in_order}
 use Rattle.plain_binder.proofs.Matches.{takes_no_other}
 use Rattle.plain_binder.proofs.Binding.{kinds_apart, global_key, carries_ref}

@@ -1,30 +1,15 @@
 -- What stands in rows of objects after a put, and at which place.
-use Rattle.std.proofs.Common.{◌≡◌, ◌≢◌, ◌⊎◌, ℕ, List, Bool, false, true≢false, Some, inl, inr, refl, sym, ◌∙◌, ap, subst, ◌==◌}
+use Rattle.std.proofs.Common.{◌≡◌, ◌≢◌, ◌⊎◌, ℕ, List, Bool, false, Some, inl, inr, sym, ◌∙◌, subst, ◌==◌}
 use Rattle.std.specs.Prelude.{slice_get}
 use Rattle.std.specs.List.{list_any}
-use Rattle.std.specs.declared.cmp.Ordering.{Ordering}
-use Rattle.std.specs.declared.cmp.Ordering.TheVariants.{Less, Equal, Greater}
-use Rattle.std.specs.Ordering.{is_eq}
-use Rattle.std.proofs.lemmas.Cmp.{tied_itself}
 use Rattle.kube_types.specs.declared.parts.Kind.{Kind}
 use Rattle.kube_types.specs.declared.key.Key.{Key}
 use Rattle.kube_types.specs.declared.objects.Object.{Object}
-use Rattle.kube_types.specs.Keys.{AreRows, key_cmp, key_of, kind_index, row_at, put_row, rows_of}
+use Rattle.kube_types.specs.Keys.{AreRows, key_of, kind_index, row_at, put_row, rows_of}
+use Rattle.kube_types.proofs.SameKeys.{key_tells}
 use Rattle.kube_types.proofs.KeyOrder.{key_cmp_total, equal_keys, row_at-put_row, row_at-put_row_other}
-use Rattle.plain_binder.specs.Stages.{keys_of}
+use Rattle.plain_binder.specs.Steps.Stages.{keys_of}
 use Rattle.plain_binder.proofs.Places.{slice_get-map, keys_put, any_put}
-
--- two keys are one, or they are not
-pub key_tells : (a b : Key) → (a ≡ b) ⊎ (a ≢ b)
-key_tells a b = by (key_cmp a b) refl
-  where
-    apart : (r : Ordering) → key_cmp a b ≡ r → is_eq r ≡ false → a ≢ b
-    apart r e other is = true≢false (sym (ap is_eq (subst (λ k. key_cmp a k ≡ Equal) is (tied_itself key_cmp_total a))) ∙ ap is_eq e ∙ other)
-
-    by : (r : Ordering) → key_cmp a b ≡ r → (a ≡ b) ⊎ (a ≢ b)
-    by Less e = inr (apart Less e refl)
-    by Equal e = inl (equal_keys a b e)
-    by Greater e = inr (apart Greater e refl)
 
 -- what stands after a put is what was put, or stood before
 pub row_put : (k : Key) (x o : Object) (rows : List Object) → row_at k (put_row x rows) ≡ Some o → ((key_of x ≡ k) × (x ≡ o)) ⊎ ((key_of x ≢ k) × (row_at k rows ≡ Some o))

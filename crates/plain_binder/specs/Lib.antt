@@ -1,3 +1,2 @@
 pub mod Calls
-pub mod Progress
-pub mod Stages
+pub mod Steps

@@ -3,8 +3,8 @@
 ghost use Rattle.std.specs.Prelude.{◌≡◌, ◌<◌, ◌-◌, ◌^◌, IfOk, length};
 ghost use Rattle.std.specs.Option.{option_copied};
 ghost use Rattle.plain_binder.specs.Calls.{rows_after};
-ghost use Rattle.plain_binder.specs.Stages.{AreFresh, AreServed, AvailableUpTo, IsBinding, SettledUpTo, claim_at, volume_at};
-ghost use Rattle.plain_binder.specs.Progress.{Binds, IsChoice, IsNextWrite, IsUnderWay, Lists, MakesAllAvailable, MakesAvailable, Serves, Settles, Writes};
+ghost use Rattle.plain_binder.specs.Steps.Stages.{AreFresh, AreServed, AvailableUpTo, IsBinding, SettledUpTo, claim_at, volume_at};
+ghost use Rattle.plain_binder.specs.Steps.Progress.{Binds, IsChoice, IsNextWrite, IsUnderWay, Lists, MakesAllAvailable, MakesAvailable, Serves, Settles, Writes};
 
 use crate::run::Run;
 use bind_writes::{next_write, write_available};

@@ -2,7 +2,7 @@
 
 ghost use Rattle.std.specs.Prelude.{◌<◌, ◌^◌, All, IfOk, length};
 ghost use Rattle.plain_binder.specs.Calls.{IsPlain, IsReplay};
-ghost use Rattle.plain_binder.specs.Progress.{Creates};
+ghost use Rattle.plain_binder.specs.Steps.Progress.{Creates};
 
 use crate::binder::serve;
 use crate::run::Run;

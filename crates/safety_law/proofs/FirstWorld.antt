@@ -21,7 +21,7 @@ use Rattle.binder_model.specs.Imports.{most_serials, serial_or_zero, binds_claim
 use Rattle.binder_model.specs.Store.{with_finalizer}
 use Rattle.binder_model.specs.World.{world, base}
 use Rattle.binder_model.specs.Safe.{is_lost_import, was_imported_as_lost}
-use Rattle.model_laws.proofs.Kept.{key_tells}
+use Rattle.kube_types.proofs.SameKeys.{key_tells}
 use Rattle.model_laws.proofs.Histories.{import_rows_rise}
 use Rattle.world_moves.specs.Writes.{IsIn}
 use Rattle.world_moves.proofs.Objects.{same_volume, same_claim}

@@ -6,7 +6,7 @@ use native.Mathlib.Decide.{ℕ_discrete}
 use lib.ListN.{get_elem?}
 use Rattle.atomic_table.proofs.Lists.{at_set}
 use Rattle.seat_lock.specs.declared.known.Known.{Known}
-use Rattle.seat_lock.specs.Rule.{KnowsMade, share_within, within, share, total, spent_view}
+use Rattle.seat_lock.specs.Steps.Rule.{KnowsMade, share_within, within, share, total, spent_view}
 use Rattle.seat_lock.proofs.Views.{at_snoc, total_set, total_snoc, total_le, total_has}
 
 pub covers : (t m s : ℕ) → ((t < m) × (share_within t m s ≡ 0)) ⊎ ((m ≤ t) × (share_within t m s ≡ s))

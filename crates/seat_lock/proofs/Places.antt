@@ -7,7 +7,7 @@ use lib.ListN.{get_elem?}
 use Rattle.atomic_table.proofs.Lists.{set_here, set_else}
 use Rattle.seat_lock.specs.declared.keeps.Entry.{Entry}
 use Rattle.seat_lock.specs.declared.known.Known.{Known}
-use Rattle.seat_lock.specs.Rule.{Tie, Own, Held, Met, IsMet, HasNumber, IsPlaced, live_count}
+use Rattle.seat_lock.specs.Steps.Rule.{Tie, Own, Held, Met, IsMet, HasNumber, IsPlaced, live_count}
 use Rattle.seat_lock.proofs.Views.{at_below}
 
 module _ {E : Type 0} where

@@ -6,7 +6,7 @@ use Rattle.kube_types.specs.declared.objects.Object.TheVariants.{Class, Node, Vo
 use Rattle.kube_types.specs.Keys.{is_of_kind, rows_of}
 use Rattle.binder_model.specs.Store.{default_class}
 use Rattle.binder_model.specs.Answers.{is_in_namespace, listed_rows}
-use Rattle.version_store.specs.Made.{default_from, is_wanted}
+use Rattle.version_store.specs.Steps.Made.{default_from, is_wanted}
 
 pub default_class-cons : (o : Object) (os : List Object) → default_class (o ∷ os) ≡ default_from o (default_class os)
 default_class-cons (Class x) os = refl

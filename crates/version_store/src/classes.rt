@@ -4,7 +4,7 @@ ghost use Rattle.std.specs.Prelude.{◌≡◌, IfOk};
 ghost use Rattle.std.specs.Option.{option_copied};
 ghost use Rattle.kube_types.specs.Keys.{AreRows};
 ghost use Rattle.binder_model.specs.Store.{is_default, newer_class, default_class, class_name, text_lt, lacks_named_node, lacks_node};
-ghost use Rattle.version_store.specs.Made.{default_from};
+ghost use Rattle.version_store.specs.Steps.Made.{default_from};
 
 use kube_types::bindings::IS_DEFAULT_CLASS;
 use kube_types::copies::{OutOfMemory, Plain};

@@ -6,7 +6,7 @@ ghost use Rattle.kube_types.specs.Bindings.{is_bound, pv_protection, pvc_protect
 ghost use Rattle.kube_types.specs.Keys.{AreRows};
 ghost use Rattle.binder_model.specs.Store.{with_finalizer};
 ghost use Rattle.binder_model.specs.Imports.{base_of, binds_claim, greatest_number, imported_meta, imported_object, imported_phase, is_dropped, is_imported_as_lost, reference_of, rows_of_imports, serial_of, serial_or_zero};
-ghost use Rattle.version_store.specs.Made.{with_import};
+ghost use Rattle.version_store.specs.Steps.Made.{with_import};
 
 use field_rules::add_finalizer;
 use finalizer_rules::leaves;

@@ -2,7 +2,7 @@
 
 ghost use Rattle.std.specs.Prelude.{◌≡◌};
 ghost use Rattle.binder_model.specs.Answers.{is_for_store, reply_of};
-ghost use Rattle.version_store.specs.Made.{outcome_of};
+ghost use Rattle.version_store.specs.Steps.Made.{outcome_of};
 
 use call_types::reply::{Change, Reply};
 use call_types::request::Request;

@@ -7,7 +7,7 @@ ghost use Rattle.call_types.specs.declared.reply.Reply.TheVariants as replies;
 ghost use Rattle.binder_model.specs.Store.{no_store};
 ghost use Rattle.binder_model.specs.Imports.{base_of, rows_of_imports};
 ghost use Rattle.binder_model.specs.Answers.{after, is_for_store, outcome, reply_of};
-ghost use Rattle.version_store.specs.Made.{outcome_of};
+ghost use Rattle.version_store.specs.Steps.Made.{outcome_of};
 
 use crate::imports::{base_of, rows_of_imports};
 use crate::outcome::Made;

@@ -11,7 +11,7 @@ ghost use Rattle.call_types.specs.declared.reply.Refusal.TheVariants as refusals
 ghost use Rattle.call_types.specs.declared.reply.Reply.TheVariants as replies;
 ghost use Rattle.binder_model.specs.Store.{at_version};
 ghost use Rattle.binder_model.specs.Answers.{Says, is_user, guard_on, is_other_version, is_other_uid, write_outcome, written_if_fits, create, update, update_status, edit, edit_to, delete, get, list, listed_rows, is_in_namespace, pod_with, bind, finish, outcome, refuse};
-ghost use Rattle.version_store.specs.Made.{is_listed, is_wanted, outcome_of, state_of};
+ghost use Rattle.version_store.specs.Steps.Made.{is_listed, is_wanted, outcome_of, state_of};
 
 use crate::classes::{default_class_name, lacks_named_node, lacks_node};
 use crate::edits::edited_object;
@@ -25,7 +25,7 @@ use finalizer_rules::{leaves, leaves_at_once};
 use kube_types::bindings::{is_deleting, is_scheduled, is_uid};
 use kube_types::copies::{OutOfMemory, Plain};
 use kube_types::items::Items;
-use kube_types::key::{key_of, kind_index, kind_of, meta_of};
+use kube_types::key::{key_of, kind_of, meta_of, same_kind};
 use kube_types::names::{Field, Rule};
 use kube_types::objects::{Object, Pod, Version};
 use kube_types::parts::Kind;
@@ -241,7 +241,7 @@ fn get(alloc: Global, row: Option<&Object>) -> Result<Made, OutOfMemory>
 fn is_of_kind(kind: Kind, object: &Object) -> bool
     ensures { result ≡ is_of_kind kind object.now }
 {
-    kind_index(kind_of(object)) == kind_index(kind)
+    same_kind(kind_of(object), kind)
 }
 
 /// Whether the object is in the namespace, where one is given.

@@ -10,7 +10,7 @@ ghost use Rattle.watch_log.specs.Kept.{IsWindow, StandsFor, events_among, is_eve
 use call_types::reply::{Event, Events};
 use kube_types::copies::{OutOfMemory, Plain};
 use kube_types::items::Items;
-use kube_types::key::{kind_index, kind_of};
+use kube_types::key::{kind_of, same_kind};
 use kube_types::objects::Version;
 use kube_types::parts::Kind;
 use std::alloc::{AllocError, Global};
@@ -80,7 +80,7 @@ fn put_first(events: &mut VecDeque<Event>, event: Event)
 fn is_of_kind(kind: Kind, event: &Event) -> bool
     ensures { result ≡ is_event_of kind event.now }
 {
-    kind_index(kind_of(&event.object)) == kind_index(kind)
+    same_kind(kind_of(&event.object), kind)
 }
 
 /// The events of the kind among the newest ones, of which there are so many; the oldest first, and at most as

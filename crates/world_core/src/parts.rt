@@ -7,7 +7,7 @@ ghost use Rattle.call_types.specs.declared.request.Request.TheVariants.{SetTime,
 ghost use Rattle.binder_model.specs.Answers.{after, is_for_store, is_user, reply_of};
 ghost use Rattle.device_model.specs.Kept.{is_for_devices};
 ghost use Rattle.binder_model.specs.World.{first_world, stale_epoch};
-ghost use Rattle.version_store.specs.Made.{outcome_of};
+ghost use Rattle.version_store.specs.Steps.Made.{outcome_of};
 ghost use Rattle.watch_log.specs.Kept.{Log, StandsFor};
 ghost use Rattle.world_core.specs.Moves.{AreAsBefore, AreOf, IsAnswered, Logs, MayMove, event_of, made_of, version_after, with_event};
 

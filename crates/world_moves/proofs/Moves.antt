@@ -9,7 +9,7 @@ use Rattle.call_types.specs.declared.request.SeatKind.{SeatKind}
 use Rattle.call_types.specs.declared.request.Request.{Request}
 use Rattle.binder_model.specs.Answers.{Outcome, Says, Stores, Removes, after}
 use Rattle.binder_model.specs.World.{World, Effect, OnStore, OnDevices, SetsMoment, world_after, log_after}
-use Rattle.model_laws.proofs.Kept.{key_tells}
+use Rattle.kube_types.proofs.SameKeys.{key_tells}
 use Rattle.model_laws.proofs.Histories.{rows_after}
 use Rattle.world_moves.specs.Writes.{Writes, FormOf, EffectOf}
 use Rattle.world_moves.proofs.Effects.{effect_form}

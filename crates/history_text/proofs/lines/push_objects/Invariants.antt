@@ -1,5 +1,5 @@
 use Rattle.std.proofs.Common.{◌≡◌, drop, map}
-use Rattle.object_text.specs.Printing.Objects.{object_line}
+use Rattle.object_print.specs.Objects.{object_line}
 use Rattle.history_text.specs.Output.{with_lines}
 use Rattle.history_text.proofs.lines.push_objects.Given as goal
 

@@ -1,7 +1,7 @@
 use Rattle.std.proofs.Common.{◌≡◌, drop}
 use Rattle.json_text.specs.Members.{items_data}
 use Rattle.json_text.specs.Writing.{written, items_after}
-use Rattle.object_text.specs.Printing.Objects.{object_data}
+use Rattle.object_print.specs.Objects.{object_data}
 use Rattle.history_text.proofs.replies.write_objects.Given as goal
 
 abbrev pub invariant-loop-object : goal.invariant-loop-object

@@ -1,7 +1,7 @@
 -- Each write leaves the binding under way, and the fourth ends it.
 use Rattle.std.proofs.Common.{arith}
 use Rattle.plain_binder.specs.Calls.{rows_after}
-use Rattle.plain_binder.specs.Progress.{Binds, Writes}
+use Rattle.plain_binder.specs.Steps.Progress.{Binds, Writes}
 use Rattle.plain_binder.proofs.Parts.{adds_then, ok_map}
 use Rattle.plain_binder.proofs.binder.bind.Goals as goal
 

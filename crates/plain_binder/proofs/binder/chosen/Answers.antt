@@ -6,7 +6,7 @@ use Rattle.kube_types.specs.declared.objects.Object.TheVariants.{Volume, Claim}
 use Rattle.kube_types.specs.Keys.{key_of, rows_of}
 use Rattle.kube_types.specs.Bindings.{is_completed}
 use Rattle.binder_model.specs.Matching.{eligible}
-use Rattle.plain_binder.specs.Stages.{IsBinding}
+use Rattle.plain_binder.specs.Steps.Stages.{IsBinding}
 use Rattle.kube_types.proofs.RowPlaces.{row_at_place}
 use Rattle.plain_binder.proofs.Standing.{key_at_place}
 use Rattle.plain_binder.specs.Calls.{rows_after}

@@ -1,7 +1,7 @@
 -- A list changes nothing.
 use Rattle.call_types.specs.declared.request.Request.TheVariants as requests
 use Rattle.std.proofs.Common.{None}
-use Rattle.plain_binder.specs.Progress.{Lists}
+use Rattle.plain_binder.specs.Steps.Progress.{Lists}
 use Rattle.plain_binder.proofs.Parts.{ok_asked, list_bound, list_made}
 use Rattle.plain_binder.proofs.binder.list.Goals as goal
 

@@ -4,7 +4,7 @@ use Rattle.std.proofs.lemmas.List.{length-map}
 use Rattle.kube_types.specs.declared.parts.Kind.TheVariants as kinds
 use Rattle.kube_types.specs.Keys.{key_of, rows_of}
 use Rattle.plain_binder.specs.Calls.{rows_after}
-use Rattle.plain_binder.specs.Stages.{keys_of}
+use Rattle.plain_binder.specs.Steps.Stages.{keys_of}
 use Rattle.plain_binder.proofs.Parts.{all_available}
 use Rattle.plain_binder.proofs.Runs.{keys_few}
 use Rattle.plain_binder.proofs.binder.make_all_available.Goals as goal

@@ -1,8 +1,8 @@
 use Rattle.std.proofs.Common.{◌≡◌, length}
 use Rattle.kube_types.specs.declared.parts.Kind.TheVariants as kinds
 use Rattle.plain_binder.specs.Calls.{rows_after}
-use Rattle.plain_binder.specs.Stages.{keys_of, AreFresh, AvailableUpTo}
-use Rattle.plain_binder.specs.Progress.{Adds}
+use Rattle.plain_binder.specs.Steps.Stages.{keys_of, AreFresh, AvailableUpTo}
+use Rattle.plain_binder.specs.Steps.Progress.{Adds}
 use Rattle.plain_binder.proofs.binder.make_all_available.Given as goal
 
 abbrev pub invariant-loop-place : goal.invariant-loop-place

@@ -4,7 +4,7 @@ use Rattle.call_types.specs.declared.entry.Entry.{Entry}
 use Rattle.call_types.specs.declared.request.SeatKind.TheVariants.{Binder}
 use Rattle.plain_binder.specs.Calls.{CompletedAreBound}
 use Rattle.plain_binder.specs.Calls.{rows_after, asked, store_with}
-use Rattle.plain_binder.specs.Progress.{MakesAvailable}
+use Rattle.plain_binder.specs.Steps.Progress.{MakesAvailable}
 use Rattle.plain_binder.proofs.Parts.{ok_asked, available_bound, available_made, available_left, volume_stands, no_volume}
 use Rattle.plain_binder.proofs.binder.make_available.Goals as goal
 

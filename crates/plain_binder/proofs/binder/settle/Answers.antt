@@ -1,7 +1,7 @@
 -- A binding settles its claim.
 use Rattle.std.proofs.Common.{subst}
 use Rattle.plain_binder.specs.Calls.{rows_after}
-use Rattle.plain_binder.specs.Progress.{Binds, IsChoice, Settles}
+use Rattle.plain_binder.specs.Steps.Progress.{Binds, IsChoice, Settles}
 use Rattle.plain_binder.proofs.Parts.{ok_map, settles_bound}
 use Rattle.plain_binder.proofs.binder.settle.Goals as goal
 

@@ -1,6 +1,6 @@
 -- The next write leads to the next stage.
 use Rattle.std.proofs.Common.{sym, ◌∙◌}
-use Rattle.plain_binder.specs.Progress.{Writes}
+use Rattle.plain_binder.specs.Steps.Progress.{Writes}
 use Rattle.plain_binder.proofs.Parts.{ok_asked, step_asked, step_bound, step_made, step_stands}
 use Rattle.plain_binder.proofs.binder.write_next.Goals as goal
 

@@ -1,6 +1,6 @@
 use Rattle.std.proofs.Common.{◌≤◌, length, take, reverse}
 use Rattle.plain_binder.specs.Calls.{AreCreates, rows_after}
-use Rattle.plain_binder.specs.Stages.{AreFresh}
+use Rattle.plain_binder.specs.Steps.Stages.{AreFresh}
 use Rattle.plain_binder.proofs.plain.create_all.Given as goal
 
 abbrev pub invariant-loop-object : goal.invariant-loop-object

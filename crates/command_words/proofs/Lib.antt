@@ -1,0 +1,4 @@
+pub mod Parts
+pub mod Walking
+pub mod Numbers
+pub mod Parsing

@@ -1,5 +1,0 @@
-use Rattle.object_text.proofs.LineLaws.{objects_are_lines}
-use Rattle.object_text.proofs.laws.objects_are_lines.Goals as goal
-
-pub returns : goal.returns
-returns c = objects_are_lines
