@@ -61,7 +61,7 @@ fn is_claim(claim: &Claim, object: &Object) -> bool
 }
 
 /// Whether the key is that of the claim.
-fn is_claim_key(key: &Key, reference: &Ref) -> bool
+pub fn is_claim_key(key: &Key, reference: &Ref) -> bool
     ensures { IsTrue result ↔ (key.now ≡ claim_key reference.now.namespace reference.now.name) }
 {
     if !key.kind.same(&Kind::PersistentVolumeClaim) {
@@ -87,7 +87,7 @@ pub fn is_volume_key(key: &Key, claim: &Claim) -> bool
 }
 
 /// Whether what was found is no claim with this UID.
-fn lacks_uid(found: Option<&Object>, uid: Uid) -> bool
+pub fn lacks_uid(found: Option<&Object>, uid: Uid) -> bool
     ensures { IsTrue result ↔ LacksUid (option_copied found.entry) uid }
 {
     match found {
