@@ -1,6 +1,7 @@
 pub mod Allowed
 pub mod Begun
 pub mod Calling
+pub mod Reaching
 pub mod Moves
 pub mod Reading
 pub mod Shown

@@ -13,6 +13,7 @@ ghost use Rattle.binder_machines.specs.declared.machine.Machine.{Machine};
 ghost use Rattle.binder_machines.specs.BeginLaw.{BegunHaveCalls};
 ghost use Rattle.binder_machines.specs.Evidence.{Keeps};
 ghost use Rattle.binder_machines.specs.FirstSteps.{IsFirst};
+ghost use Rattle.binder_machines.specs.KindLaw.{CallsReadNoKind, VolumesQueueClaims};
 ghost use Rattle.binder_machines.specs.Machines.{call_of, moved};
 ghost use Rattle.binder_machines.specs.ReadLaw.{ClaimReadDecides, ParkedHaveEnded, VolumeReadDecides};
 
@@ -55,4 +56,15 @@ pub fn parked_have_ended()
 #[tactic(auto, using(crate::proofs::Calling::begun_have_calls))]
 pub fn begun_have_calls()
     ensures { BegunHaveCalls }
+{}
+
+/// No call of a machine lists or watches a whole kind.
+pub fn calls_read_no_kind()
+    ensures { CallsReadNoKind }
+{}
+
+/// A key that queues another is a volume's, and the other is a claim's.
+#[tactic(auto, using(crate::proofs::Reaching::volumes_queue_claims))]
+pub fn volumes_queue_claims()
+    ensures { VolumesQueueClaims }
 {}

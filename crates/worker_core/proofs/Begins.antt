@@ -1,0 +1,23 @@
+-- An actor that was told nothing stands for no entries.
+use Rattle.std.proofs.Common.{◌≡◌, ℕ, List, [], true, false, true≢false, refl, sym, ap, ◌∙◌, Option, Some, None, subst}
+use Rattle.call_types.specs.declared.setup.Setup.{Setup}
+use Rattle.worker_core.specs.declared.role.Role.{Role}
+use Rattle.worker_core.specs.declared.turn.Given.{Given}
+use Rattle.worker_core.specs.declared.turn.Pass.{Pass}
+use Rattle.worker_core.specs.declared.task.Under.{Under}
+use Rattle.worker_core.specs.Stands.{AnyIsUnderWay, AreOwn, GivenStands, IsNew, StandsFor}
+use Rattle.worker_core.specs.States.{State}
+
+nobody : AreOwn []
+nobody = record { setup = record { pools = []; faults = []; imports = [] }; past = []; seat = 0; history = tt; own = refl }
+
+pub begins : (role : Role) (s : State) → IsNew role s → StandsFor s []
+begins role s new = record {
+  caches = new.caches;
+  under_way = subst (λ (u : Option Under). AnyIsUnderWay s.role u []) (sym new.under) tt;
+  pass = λ quiet. absurd (true≢false (sym (ap (λ (p : Pass). p.event) new.pass) ∙ quiet));
+  memory = new.memory;
+  licensed = tt;
+  own = nobody;
+  given = subst (λ (g : Option Given). GivenStands s.role g s.under) (sym new.given) tt;
+}

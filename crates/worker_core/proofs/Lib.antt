@@ -1,0 +1,15 @@
+pub mod Absorbing
+pub mod Answered
+pub mod Begins
+pub mod Decided
+pub mod KeyMoves
+pub mod KeysKept
+pub mod Licensed
+pub mod Machines
+pub mod PassRules
+pub mod Passes
+pub mod Quiet
+pub mod Turned
+pub mod Turning
+pub mod Watches
+pub mod Weights

@@ -1,0 +1,201 @@
+-- In a history a watch that the seat may make is answered by events, or is gone: it is never ahead of the store.
+use Rattle.std.proofs.Common.{◌≡◌, ◌⊎◌, ◌<◌, ◌≤◌, ℕ, List, [], ◌∷◌, ◌++◌, length, Bool, true, false, true≢false, Option, Some, None, inl, inr, refl, sym, ◌∙◌, ap, subst, arith, if◌then◌else◌}
+use Rattle.std.specs.Prelude.{◌==◌, nat_lt, take, reverse, filter, is_some, ⊤}
+use Rattle.std.proofs.lemmas.Bool.Decides.{nat_tests}
+use Rattle.kube_types.specs.declared.parts.Kind.{Kind}
+use Rattle.kube_types.specs.Keys.{same_kind}
+use Rattle.call_types.specs.declared.entry.Entry.{Entry}
+use Rattle.call_types.specs.declared.setup.Setup.{Setup}
+use Rattle.call_types.specs.declared.request.Request.{Request}
+use Rattle.call_types.specs.declared.request.Request.TheVariants as requests
+use Rattle.call_types.specs.declared.request.SeatKind.{SeatKind}
+use Rattle.call_types.specs.declared.request.SeatKind.TheVariants.{Binder}
+use Rattle.call_types.specs.declared.reply.Event.{Event}
+use Rattle.kube_types.specs.declared.names.Field.TheVariants as fields
+use Rattle.call_types.specs.declared.reply.Refusal.{Refusal}
+use Rattle.call_types.specs.declared.reply.Refusal.TheVariants as refusals
+use Rattle.call_types.specs.declared.reply.Reply.{Reply}
+use Rattle.call_types.specs.declared.reply.Reply.TheVariants as replies
+use Rattle.binder_model.specs.Answers.{reply_of}
+use Rattle.binder_model.specs.Reading.{Following, Unlisted, ListedAt, IsFrom, follow_on, following_of, reached_on}
+use Rattle.binder_model.specs.Told.{SomeOf, own}
+use Rattle.binder_model.specs.Watching.{events_after, is_later, last_version, most_events, oldest, reached_version, told_events}
+use Rattle.binder_model.specs.World.{IsHistory, World, base, effect, reply_to, watch, world}
+use Rattle.informer_cache.specs.Cache.{IsTold}
+use Rattle.model_laws.proofs.Histories.{rows_stand_in_order}
+use Rattle.model_laws.proofs.Lists.{none_some, one, some_filter, some_reverse, some_take}
+use Rattle.model_laws.proofs.Readings.{lists_tell_what_stands}
+use Rattle.model_laws.proofs.Uids.{rises}
+use Rattle.model_laws.proofs.Watched.{AreBetween, logs}
+use Rattle.worker_core.specs.Rules.{IsWatchAnswer, WatchesAreAnswered}
+use Rattle.worker_core.specs.Stands.{AreOwn, StandsFor}
+use Rattle.worker_core.specs.States.{State, asked}
+use Rattle.worker_core.proofs.Licensed.{given_allowed}
+
+-- what a watch is answered
+data Watched (w : World) (k : Kind) (from : ℕ) (reply : Reply) : Type 0 where
+  IsAhead : nat_lt w.store.version from ≡ true → (refusal : Refusal) → reply ≡ replies.Refused refusal → Watched w k from reply
+  IsGone : (version : ℕ) → reply ≡ replies.Refused (refusals.Gone version) → Watched w k from reply
+  Tells : reply ≡ replies.Events (told_events k from w.store.version w.log) → Watched w k from reply
+
+watched : (setup : Setup) (w : World) (kind : SeatKind) (k : Kind) (from : ℕ) → Watched w k from (reply_to (effect setup w kind (requests.Watch k from)))
+unfolding effect watch reply_to reply_of
+watched setup w kind k from = by (nat_lt w.store.version from) (nat_lt from (oldest (base setup) w.store.version)) refl refl
+  where
+    by : (a b : Bool) → nat_lt w.store.version from ≡ a → nat_lt from (oldest (base setup) w.store.version) ≡ b → Watched w k from (reply_to (effect setup w kind (requests.Watch k from)))
+    by true b ea eb = IsAhead ea (refusals.Invalid fields.From) (rw ea refl)
+    by false true ea eb = IsGone (oldest (base setup) w.store.version) (rw (ea, eb) refl)
+    by false false ea eb = Tells (rw (ea, eb) refl)
+
+-- a watch reaches no further than the store
+
+last_in : (none : ℕ) (es : List Event) → (last_version none es ≡ none) ⊎ SomeOf (λ e. e.version ≡ last_version none es) es
+last_in none [] = inl refl
+last_in none (e ∷ es) = elim (last_in e.version es) [ inl own ↦ inr (inl (sym own)) | inr more ↦ inr (inr more) ]
+
+below : (high last : ℕ) (es : List Event) → AreBetween 0 high es → SomeOf (λ e. e.version ≡ last) es → last ≤ high
+below high last [] b s = absurd s
+below high last (e ∷ es) b (inl is) = let h = b.1 in omega (arith, h, is)
+below high last (e ∷ es) b (inr more) = below high last es b.2 more
+
+last_below : (k : Kind) (from high : ℕ) (log : List Event) → AreBetween 0 high log → last_version high (take most_events (events_after k from log)) ≤ high
+last_below k from high log b = elim (last_in high (take most_events (events_after k from log))) [
+  | inl is ↦ omega (arith, is)
+  | inr more ↦ below high _ log b (some_filter _ (is_later k from) log (some_reverse _ (filter (is_later k from) log) (some_take _ most_events (events_after k from log) more)))
+]
+
+reached_below : (k : Kind) (from high : ℕ) (log : List Event) → AreBetween 0 high log → (told_events k from high log).upto ≤ high
+reached_below k from high log b = by (length (take most_events (events_after k from log)) == most_events) refl
+  where
+    by : (full : Bool) → (length (take most_events (events_after k from log)) == most_events) ≡ full → (told_events k from high log).upto ≤ high
+    by true is = rw is (last_below k from high log b)
+    by false is = rw is (omega arith)
+
+-- a version from which the seat may watch is at most that of the store
+
+abbrev version_in : Reply → Option ℕ
+version_in (replies.Listed items version) = Some version
+version_in (replies.Events events) = Some events.upto
+version_in reply = None
+
+module _ (setup : Setup) (e : Entry) (past : List Entry) (answered : e.reply ≡ reply_to (effect setup (world setup past) e.kind e.request)) where
+  listed_at : (k : Kind) (version : ℕ) → e.request ≡ requests.List k None → version_in e.reply ≡ Some version → version ≡ (world setup past).store.version
+  listed_at k version asks is =
+      let l = lists_tell_what_stands setup (world setup past) e.kind k None (rows_stand_in_order setup past) in
+      let same : e.reply ≡ replies.Listed l.0 l.1.0 = answered ∙ ap (λ r. reply_to (effect setup (world setup past) e.kind r)) asks ∙ l.1.1.0 in
+      one version l.1.0 (sym is ∙ ap version_in same) ∙ l.1.1.1.at
+
+  reached_at : (k : Kind) (from upto : ℕ) → e.request ≡ requests.Watch k from → version_in e.reply ≡ Some upto → upto ≤ (world setup past).store.version
+  reached_at k from upto asks is = by (watched setup (world setup past) e.kind k from)
+    where
+      same : e.reply ≡ reply_to (effect setup (world setup past) e.kind (requests.Watch k from))
+      same = answered ∙ ap (λ r. reply_to (effect setup (world setup past) e.kind r)) asks
+
+      by : Watched (world setup past) k from (reply_to (effect setup (world setup past) e.kind (requests.Watch k from))) → upto ≤ (world setup past).store.version
+      by (Tells t) =
+          let at : upto ≡ (told_events k from (world setup past).store.version (world setup past).log).upto = one upto _ (sym is ∙ ap version_in (same ∙ t)) in
+          subst (λ n. n ≤ (world setup past).store.version) (sym at) (reached_below k from (world setup past).store.version (world setup past).log (logs setup past 0))
+      by (IsGone version g) = none_some (sym (ap version_in (same ∙ g)) ∙ is)
+      by (IsAhead a refusal r) = none_some (sym (ap version_in (same ∙ r)) ∙ is)
+
+-- where the seat stands with a kind after an entry that it was told
+from_on : (setup : Setup) (e : Entry) (past : List Entry) → e.reply ≡ reply_to (effect setup (world setup past) e.kind e.request)
+    → (kind : Kind) (f : Following) (from : ℕ) → ((v : ℕ) → IsFrom v f → v ≤ (world setup past).store.version)
+    → IsFrom from (follow_on e.request e.reply kind f) → from ≤ (world setup past).store.version
+from_on setup e past answered kind f from before = by e.request e.reply refl refl
+  where
+    same : IsFrom from f → from ≤ (world setup past).store.version
+    same h = before from h
+
+    listed : (b : Bool) (version : ℕ) → version ≤ (world setup past).store.version → IsFrom from (if b then ListedAt version None else f) → from ≤ (world setup past).store.version
+    listed true version low (inl is) = omega (arith, low, is)
+    listed true version low (inr is) = none_some is
+    listed false version low h = same h
+
+    gone : (b : Bool) → IsFrom from (if b then Unlisted else f) → from ≤ (world setup past).store.version
+    gone true h = absurd h
+    gone false h = same h
+
+    reached : (g : Following) (upto : ℕ) → ((v : ℕ) → IsFrom v g → v ≤ (world setup past).store.version) → upto ≤ (world setup past).store.version → IsFrom from (reached_on upto g) → from ≤ (world setup past).store.version
+    reached Unlisted upto low up h = absurd h
+    reached (ListedAt version r) upto low up (inl is) = low from (inl is)
+    reached (ListedAt version r) upto low up (inr is) = let same_one = one upto from is in omega (arith, up, same_one)
+
+    watched_on : (b : Bool) (upto : ℕ) → upto ≤ (world setup past).store.version → IsFrom from (if b then reached_on upto f else f) → from ≤ (world setup past).store.version
+    watched_on true upto up h = reached f upto before up h
+    watched_on false upto up h = same h
+
+    by : (request : Request) (reply : Reply) → e.request ≡ request → e.reply ≡ reply → IsFrom from (follow_on request reply kind f) → from ≤ (world setup past).store.version
+    by (requests.List k None) (replies.Listed items version) er ea h =
+        listed (same_kind k kind) version (let at = listed_at setup e past answered k version er (ap version_in ea) in omega (arith, at)) h
+    by (requests.Watch k start) (replies.Refused (refusals.Gone version)) er ea h = gone (same_kind k kind) h
+    by (requests.Watch k start) (replies.Events events) er ea h = watched_on (same_kind k kind) events.upto (reached_at setup e past answered k start events.upto er (ap version_in ea)) h
+    by (requests.List k None) _ er ea h = same h
+    by (requests.Watch k start) _ er ea h = same h
+    by _ _ er ea h = same h
+
+-- after any entry
+from_after : (setup : Setup) (e : Entry) (past : List Entry) (seat : ℕ) (kind : Kind) (from : ℕ) → e.reply ≡ reply_to (effect setup (world setup past) e.kind e.request)
+    → ((v : ℕ) → IsFrom v (following_of (own seat past) kind) → v ≤ (world setup past).store.version)
+    → IsFrom from (following_of (own seat (e ∷ past)) kind) → from ≤ (world setup past).store.version
+from_after setup e past seat kind from answered before = by (e.seat == seat) e.told refl refl
+  where
+    by : (mine told : Bool) → (e.seat == seat) ≡ mine → e.told ≡ told → IsFrom from (following_of (own seat (e ∷ past)) kind) → from ≤ (world setup past).store.version
+    by false told em et g = let g2 : IsFrom from (following_of (own seat past) kind) = rw em at g in before from g2
+    by true false em et g = let g2 : IsFrom from (following_of (own seat past) kind) = rw (em, et) at g in before from g2
+    by true true em et g =
+        let g2 : IsFrom from (follow_on e.request e.reply kind (following_of (own seat past) kind)) = rw (em, et) at g in
+        from_on setup e past answered kind (following_of (own seat past) kind) from before g2
+
+from_below : (setup : Setup) (past : List Entry) (seat : ℕ) (kind : Kind) (from : ℕ) → IsHistory setup past → IsFrom from (following_of (own seat past) kind) → from ≤ (world setup past).store.version
+from_below setup [] seat kind from history h = absurd h
+from_below setup (e ∷ past) seat kind from history h =
+    let up = rises setup (e ∷ []) past in
+    let low = from_after setup e past seat kind from history.1 (λ v g. from_below setup past seat kind v history.0 g) h in
+    omega (arith, up, low)
+
+-- the history in which an entry is the newest of its seat
+record IsNewestOwn (setup : Setup) (e : Entry) (mine : List Entry) : Type 0 where
+  past : List Entry
+  seat : ℕ
+  history : IsHistory setup (e ∷ past)
+  own_before : mine ≡ own seat past
+
+abbrev head_of : Entry → List Entry → Entry
+head_of none [] = none
+head_of none (e ∷ es) = e
+
+abbrev tail_of : List Entry → List Entry
+tail_of [] = []
+tail_of (e ∷ es) = es
+
+abbrev is_filled : List Entry → Bool
+is_filled [] = false
+is_filled (e ∷ es) = true
+
+newest_own : (setup : Setup) (past : List Entry) (seat : ℕ) (e : Entry) (mine : List Entry) → IsHistory setup past → e ∷ mine ≡ own seat past → IsNewestOwn setup e mine
+newest_own setup [] seat e mine history is = absurd (true≢false (ap is_filled is))
+newest_own setup (x ∷ past) seat e mine history is = by (x.seat == seat) refl (newest_own setup past seat e mine history.0)
+  where
+    by : (b : Bool) → (x.seat == seat) ≡ b → (e ∷ mine ≡ own seat past → IsNewestOwn setup e mine) → IsNewestOwn setup e mine
+    by true at more =
+        let front : e ∷ mine ≡ x ∷ own seat past = is ∙ ap (λ b. if b then x ∷ own seat past else own seat past) at in
+        record { past = past; seat = seat; history = subst (λ y. IsHistory setup (y ∷ past)) (sym (ap (head_of e) front)) history; own_before = ap tail_of front }
+    by false at more = more (is ∙ ap (λ b. if b then x ∷ own seat past else own seat past) at)
+
+watch_from_is : (s : State) (mine : List Entry) (kind : Kind) (from : ℕ) → s.role.kind ≡ Binder → StandsFor s mine → asked s ≡ Some (requests.Watch kind from) → IsFrom from (following_of mine kind)
+watch_from_is s mine kind from is stands ask = (given_allowed s mine (requests.Watch kind from) is stands ask).1
+
+pub watches_are_answered : WatchesAreAnswered
+watches_are_answered s mine kind from e reply is stands ask told own_all =
+    let n = newest_own own_all.setup own_all.past own_all.seat e mine own_all.history own_all.own in
+    let may : IsFrom from (following_of (own n.seat n.past) kind) = subst (λ m. IsFrom from (following_of m kind)) n.own_before (watch_from_is s mine kind from is stands ask) in
+    let low = from_below own_all.setup n.past n.seat kind from n.history.0 may in
+    let w = world own_all.setup n.past in
+    let same : reply ≡ reply_to (effect own_all.setup w e.kind (requests.Watch kind from)) = sym told.answered ∙ n.history.1 ∙ ap (λ r. reply_to (effect own_all.setup w e.kind r)) told.asked in
+    subst IsWatchAnswer (sym same) (by w low (watched own_all.setup w e.kind kind from))
+  where
+    by : (w : World) → from ≤ w.store.version → {answer : Reply} → Watched w kind from answer → IsWatchAnswer answer
+    by w low (IsAhead a refusal r) = absurd (true≢false (sym a ∙ grind (arith, nat_tests)))
+    by w low (IsGone version r) = subst IsWatchAnswer (sym r) tt
+    by w low (Tells r) = subst IsWatchAnswer (sym r) tt

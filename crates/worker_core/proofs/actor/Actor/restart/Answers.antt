@@ -1,0 +1,5 @@
+use Rattle.worker_core.proofs.Begins.{begins}
+use Rattle.worker_core.proofs.actor.Actor.restart.Goals as goal
+
+pub returns-clause-stands : goal.returns-clause-stands
+returns-clause-stands c = begins _ _ c.clear.ensures

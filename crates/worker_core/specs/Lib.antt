@@ -1,0 +1,9 @@
+pub mod Absorbs
+pub mod Memories
+pub mod Roles
+pub mod Rules
+pub mod Stands
+pub mod States
+pub mod Steps
+pub mod Tasks
+pub mod Turns

@@ -1,0 +1,346 @@
+//! The actor.
+
+ghost use Rattle.std.specs.Prelude.{◌≡◌, List, [], ◌∷◌, Some, None, IfOk, OnOk, false, length, true};
+ghost use Rattle.kube_types.specs.declared.parts.Kind.{Kind};
+ghost use Rattle.call_types.specs.declared.entry.Entry.{Entry};
+ghost use Rattle.call_types.specs.declared.reply.Reply.{Reply};
+ghost use Rattle.call_types.specs.declared.request.SeatKind.TheVariants as seats;
+ghost use Rattle.informer_cache.specs.All.{AllStandFor, all_objects};
+ghost use Rattle.kube_types.specs.Keys.{AreRows};
+ghost use Rattle.informer_cache.specs.Cache.{IsTold, keys_in};
+ghost use Rattle.worker_core.specs.declared.turn.Next.TheVariants as nexts;
+ghost use Rattle.worker_core.specs.declared.turn.Outcome.TheVariants as outcomes;
+ghost use Rattle.worker_core.specs.Absorbs.{absorbed, all_added, is_passing, lost_to, lost_under, pass_after, task_told, told_to, woken};
+ghost use Rattle.worker_core.specs.Memories.{no_memory};
+ghost use Rattle.worker_core.specs.Roles.{kinds_of};
+ghost use Rattle.worker_core.specs.Rules.{KeepsKeys, KeepsWaiting, WakesKeys, WokenIsBusy};
+ghost use Rattle.worker_core.specs.Stands.{AreOwn, IsLicensedAnswer, IsNew, MayBeIdle, StandsFor};
+ghost use Rattle.worker_core.specs.States.{asked, call_in, start_call};
+ghost use Rattle.worker_core.specs.Turns.{DecidesKeys, GivesRead, IsTurn, passing};
+
+use crate::keys::{add_all, add_cached, decide_keys};
+use crate::pass::{first_unlisted, is_passing, pass_after, read_of_kind};
+use crate::role::{Role, first_kind, kinds_of};
+use crate::task::Under;
+use crate::turn::{Given, Next, Outcome, Pass};
+use call_types::reply::Reply;
+use call_types::request::{Request, SeatKind};
+use informer_cache::caches::Caches;
+use kube_types::copies::{OutOfMemory, Plain};
+use kube_types::key::Key;
+use kube_types::parts::Kind;
+use kube_types::text::Text;
+use std::alloc::Global;
+use std::marker::Model;
+use sync_queue::queue::Queue;
+
+/// An actor: its caches, its keys, its passes, and what it has under way.
+///
+/// Beside the decision on a key a call takes a constant number of look-ups by key, and no cache is copied. An answer to a
+/// list or a watch takes what the caches and the queue take for each object that it tells.
+#[derive(Debug, Drop)]
+pub struct Actor {
+    alloc: Global,
+    role: Role,
+    caches: Caches,
+    queue: Queue,
+    pass: Pass,
+    under: Option<Under>,
+    given: Option<Given>,
+}
+
+impl Model for Actor {
+    ghost use Rattle.std.specs.Prelude.{◌≡◌};
+    ghost use Rattle.call_types.specs.declared.request.SeatKind.TheVariants as seats;
+    ghost use Rattle.worker_core.specs.Memories.{no_memory};
+    ghost use Rattle.worker_core.specs.States.{State};
+
+    ghost Value = { State };
+
+    ghost view = { λ a. record { role = a.role; caches = a.caches; work = a.queue; pass = a.pass; memory = no_memory; under = a.under; given = a.given } };
+
+    ghost invariant = { λ a. a.role.kind ≡ seats.Binder };
+}
+
+impl Actor {
+    /// An actor that was told nothing. The binder is the only kind that is built.
+    pub fn new(alloc: Global, kind: SeatKind, node: &Text) -> Result<Actor, OutOfMemory>
+        requires { kind ≡ seats.Binder }
+        ensures is { IfOk result (λ actor. IsNew (record { kind = kind; node = node.now }) actor) }
+        ensures stands { IfOk result (λ actor. StandsFor actor []) }
+    {
+        let role = Role {
+            kind,
+            node: node.copy(alloc)?,
+        };
+        Ok(Actor::begun(alloc, role))
+    }
+
+    fn begun(alloc: Global, role: Role) -> Actor
+        requires { role.kind ≡ seats.Binder }
+        ensures is { IsNew role result }
+        ensures stands { StandsFor result [] }
+    {
+        Actor::of(alloc, role)
+    }
+
+    fn of(alloc: Global, role: Role) -> Actor
+        requires { role.kind ≡ seats.Binder }
+        ensures { IsNew role result }
+    {
+        let behind = kinds_of(role.kind).len();
+        Actor {
+            alloc,
+            role,
+            caches: Caches::new(alloc),
+            queue: Queue::new(alloc),
+            pass: Pass {
+                behind,
+                event: true,
+            },
+            under: None,
+            given: None,
+        }
+    }
+
+    /// The kind of the actor's seat.
+    pub fn kind(&self) -> SeatKind
+        ensures kind { result ≡ self.now.role.kind }
+        ensures built { result ≡ seats.Binder }
+    {
+        self.role.kind
+    }
+
+    /// What the actor asks next.
+    pub fn next(&mut self) -> Result<Next, OutOfMemory>
+        ensures turn { IfOk result (λ answer. IsTurn self.old self.new answer) }
+        ensures stands { OnOk result ((mine : List Entry) → StandsFor self.old mine → StandsFor self.new mine) }
+        ensures licensed { IfOk result (λ answer. (mine : List Entry) → StandsFor self.old mine → IsLicensedAnswer self.old.role.kind mine answer) }
+        ensures idle { IfOk result (λ answer. (mine : List Entry) → StandsFor self.old mine → answer ≡ nexts.Idle → MayBeIdle self.old.role self.old.memory mine) }
+        ensures keys { IfOk result (λ answer. KeepsKeys self.old self.new answer) }
+        ensures asked { IfOk result (λ answer. call_in answer ≡ asked self.new) }
+    {
+        self.stand();
+        let answer = self.turn()?;
+        Ok(answer)
+    }
+
+    /// The rows of the caches stand in order, and the actor is of a kind that is built. It does nothing: its contract is
+    /// what is known of the actor.
+    fn stand(&self)
+        ensures order { AreRows (all_objects self.now.caches) }
+        ensures built { self.now.role.kind ≡ seats.Binder }
+        ensures fresh { start_call self.now.role self.now.memory ≡ None }
+    {
+        self.caches.stand_together();
+    }
+
+    /// The turn.
+    fn turn(&mut self) -> Result<Next, OutOfMemory>
+        ensures { IfOk result (λ answer. IsTurn self.old self.new answer) }
+    {
+        self.stand();
+        if let Some(under) = &self.under {
+            let call = under.call.copy(self.alloc)?;
+            self.given = Some(Given::Task);
+            return Ok(Next::Call(call));
+        }
+        let kinds = kinds_of(self.role.kind);
+        if let Some(kind) = first_unlisted(&self.caches, kinds) {
+            return Ok(self.read(kind));
+        }
+        if let Some(kind) = kinds.get(self.pass.behind) {
+            return Ok(self.read(*kind));
+        }
+        self.after_keys()
+    }
+
+    /// Gives the read of a kind.
+    fn read(&mut self, kind: Kind) -> Next
+        ensures { GivesRead self.old self.new result kind }
+    {
+        self.given = Some(Given::Read(kind));
+        Next::Call(read_of_kind(&self.caches, kind))
+    }
+
+    /// Decides the waiting keys, and where none gives a call begins a pass or is idle.
+    fn after_keys(&mut self) -> Result<Next, OutOfMemory>
+        requires { self.old.under ≡ None }
+        ensures { IfOk result (λ answer. DecidesKeys self.old self.new answer) }
+    {
+        let first = first_kind(self.role.kind);
+        match decide_keys(self.alloc, &self.role, &self.caches, &mut self.queue)? {
+            Some(under) => {
+                let call = under.call.copy(self.alloc)?;
+                self.under = Some(under);
+                self.given = Some(Given::Task);
+                Ok(Next::Call(call))
+            }
+            None => {
+                if !self.pass.event {
+                    self.given = None;
+                    return Ok(Next::Idle);
+                }
+                self.pass = Pass {
+                    behind: 0,
+                    event: false,
+                };
+                Ok(self.read(first))
+            }
+        }
+    }
+
+    /// Takes what came of the call that was given last. After want of memory the actor may only be restarted.
+    pub fn absorb(&mut self, request: &Request, outcome: Outcome) -> Result<(), OutOfMemory>
+        requires asked { asked self.old ≡ Some request.now }
+        ensures state { OnOk result (self.new ≡ absorbed self.old self.new.caches request.now outcome) }
+        ensures told { OnOk result ((mine : List Entry) (e : Entry) (reply : Reply) → outcome ≡ outcomes.Told reply → IsTold e request.now reply → e.kind ≡ self.old.role.kind → AreOwn (e ∷ mine) → StandsFor self.old mine → StandsFor self.new (e ∷ mine)) }
+        ensures lost_before { OnOk result ((mine : List Entry) → outcome ≡ outcomes.Lost → StandsFor self.old mine → StandsFor self.new mine) }
+        ensures lost_after { OnOk result ((mine : List Entry) (e : Entry) → outcome ≡ outcomes.Lost → e.told ≡ false → e.request ≡ request.now → e.kind ≡ self.old.role.kind → AreOwn (e ∷ mine) → StandsFor self.old mine → StandsFor self.new (e ∷ mine)) }
+        ensures keys { OnOk result (KeepsWaiting self.old self.new outcome) }
+    {
+        self.stand();
+        self.take(request, &outcome)?;
+        Ok(())
+    }
+
+    fn take(&mut self, request: &Request, outcome: &Outcome) -> Result<(), OutOfMemory>
+        ensures state { OnOk result (self.new ≡ absorbed self.old self.new.caches request.now outcome.now) }
+        ensures caches { OnOk result ((mine : List Entry) (e : Entry) (reply : Reply) → outcome.now ≡ outcomes.Told reply → IsTold e request.now reply → AllStandFor self.old.caches mine → AllStandFor self.new.caches (e ∷ mine)) }
+    {
+        match outcome {
+            Outcome::Told(reply) => self.told(request, reply),
+            Outcome::Lost => {
+                self.lost();
+                Ok(())
+            }
+        }
+    }
+
+    /// Takes an answer.
+    fn told(&mut self, request: &Request, reply: &Reply) -> Result<(), OutOfMemory>
+        ensures state { OnOk result (self.new ≡ told_to self.old self.new.caches request.now reply.now) }
+        ensures caches { OnOk result ((mine : List Entry) (e : Entry) → IsTold e request.now reply.now → AllStandFor self.old.caches mine → AllStandFor self.new.caches (e ∷ mine)) }
+    {
+        let keys = self.caches.absorb(request, reply)?;
+        self.move_on(request, reply, keys.as_slice())
+    }
+
+    /// Takes an answer that the caches have taken, and that told these keys.
+    fn move_on(&mut self, request: &Request, reply: &Reply, keys: &[Key]) -> Result<(), OutOfMemory>
+        requires keys { keys.now ≡ keys_in reply.now }
+        ensures state { OnOk result (self.new ≡ told_to self.old self.old.caches request.now reply.now) }
+        ensures caches { OnOk result (self.new.caches ≡ self.old.caches) }
+    {
+        match self.given {
+            None | Some(Given::Start) => {}
+            Some(Given::Task) => self.told_task(reply)?,
+            Some(Given::Read(kind)) => self.told_read(kind, request, reply, keys)?,
+        }
+        self.given = None;
+        Ok(())
+    }
+
+    /// Takes an answer to the read of a kind.
+    fn told_read(
+        &mut self,
+        kind: Kind,
+        request: &Request,
+        reply: &Reply,
+        keys: &[Key],
+    ) -> Result<(), OutOfMemory>
+        ensures { OnOk result (self.new ≡ record self.old { work = all_added keys.now self.old.work; pass = pass_after self.old.pass (is_passing (passing self.old) kind) request.now reply.now }) }
+    {
+        add_all(&mut self.queue, keys)?;
+        let kinds = kinds_of(self.role.kind);
+        let passes = is_passing(kinds, self.pass.behind, kind);
+        self.pass = pass_after(self.pass, passes, request, reply);
+        Ok(())
+    }
+
+    /// Takes an answer to the call of the task under way.
+    fn told_task(&mut self, reply: &Reply) -> Result<(), OutOfMemory>
+        ensures { OnOk result (self.new ≡ task_told self.old reply.now self.old.under) }
+    {
+        let under = match self.under.take() {
+            None => return Ok(()),
+            Some(under) => under,
+        };
+        match under.after(self.alloc, reply)? {
+            Some(next) => self.under = Some(next),
+            None => {
+                if under.task.parks(reply) {
+                    self.queue.retry_later(&under.key);
+                } else {
+                    self.queue.done(&under.key);
+                }
+            }
+        }
+        Ok(())
+    }
+
+    /// Drops the task whose call was lost, and parks its key. Any other call is made again.
+    fn lost(&mut self)
+        ensures { self.new ≡ lost_to self.old }
+    {
+        if let Some(Given::Task) = self.given {
+            self.lost_task();
+        }
+        self.given = None;
+    }
+
+    fn lost_task(&mut self)
+        ensures { self.new ≡ record (lost_under self.old self.old.under) { given = self.old.given } }
+    {
+        let under = match self.under.take() {
+            None => return,
+            Some(under) => under,
+        };
+        self.queue.retry_later(&under.key);
+    }
+
+    /// Begins a pass, and queues every cached key, in the order of the kinds and then of namespace and name. The next
+    /// answer of `next` is then not `Idle`.
+    pub fn wake(&mut self) -> Result<(), OutOfMemory>
+        ensures state { OnOk result (self.new ≡ woken self.old) }
+        ensures stands { OnOk result ((mine : List Entry) → StandsFor self.old mine → StandsFor self.new mine) }
+        ensures keys { OnOk result (WakesKeys self.old self.new) }
+        ensures busy { OnOk result (WokenIsBusy self.new) }
+    {
+        self.stand();
+        self.queue_all()
+    }
+
+    fn queue_all(&mut self) -> Result<(), OutOfMemory>
+        ensures { OnOk result (self.new ≡ woken self.old) }
+    {
+        let kinds = kinds_of(self.role.kind);
+        add_cached(self.alloc, &mut self.queue, &self.caches, kinds)?;
+        self.pass = Pass {
+            behind: 0,
+            event: false,
+        };
+        Ok(())
+    }
+
+    /// As made new. It takes no memory.
+    pub fn restart(&mut self)
+        ensures is { IsNew self.old.role self.new }
+        ensures stands { StandsFor self.new [] }
+    {
+        self.clear();
+    }
+
+    fn clear(&mut self)
+        ensures { IsNew self.old.role self.new }
+    {
+        self.caches = Caches::new(self.alloc);
+        self.queue = Queue::new(self.alloc);
+        self.pass = Pass {
+            behind: kinds_of(self.role.kind).len(),
+            event: true,
+        };
+        self.under = None;
+        self.given = None;
+    }
+}

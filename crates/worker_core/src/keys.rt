@@ -1,0 +1,121 @@
+//! The keys of an actor: which are queued, and which of them gives a call.
+
+ghost use Rattle.std.specs.Prelude.{◌≡◌, ◌++◌, IfOk, OnOk, map};
+ghost use Rattle.kube_types.specs.Keys.{key_of};
+ghost use Rattle.informer_cache.specs.All.{all_objects, cache_of};
+ghost use Rattle.sync_queue.specs.Work.{begun, oldest_of};
+ghost use Rattle.worker_core.specs.Absorbs.{all_added, kind_added, kinds_added};
+ghost use Rattle.worker_core.specs.Memories.{no_memory};
+ghost use Rattle.worker_core.specs.Tasks.{IsDecision};
+ghost use Rattle.worker_core.specs.Turns.{Decides};
+ghost use Rattle.call_types.specs.declared.request.SeatKind.TheVariants as seats;
+
+use crate::role::Role;
+use crate::task::{First, Under, first_of_binder};
+use informer_cache::caches::Caches;
+use kube_types::copies::{OutOfMemory, Plain};
+use kube_types::key::{Key, key_of};
+use kube_types::objects::Object;
+use kube_types::parts::Kind;
+use std::alloc::Global;
+use sync_queue::queue::Queue;
+
+/// The oldest key, taken.
+fn take(alloc: Global, queue: &mut Queue) -> Result<Option<Key>, OutOfMemory>
+    ensures after { OnOk result (queue.new ≡ begun queue.old) }
+    ensures oldest { IfOk result (λ key. key ≡ oldest_of queue.old.waiting) }
+{
+    match queue.take() {
+        None => Ok(None),
+        Some(key) => Ok(Some(key.copy(alloc)?)),
+    }
+}
+
+/// What the decision on the key comes to.
+fn first_for(alloc: Global, role: &Role, caches: &Caches, key: &Key) -> Result<First, OutOfMemory>
+    requires { role.now.kind ≡ seats.Binder }
+    ensures { IfOk result (λ first. IsDecision role.now no_memory (all_objects caches.now) key.now first) }
+{
+    let _ = role;
+    first_of_binder(alloc, caches, key)
+}
+
+/// The waiting keys are decided, the oldest first, until one gives a call or none is left.
+pub(crate) fn decide_keys(
+    alloc: Global,
+    role: &Role,
+    caches: &Caches,
+    queue: &mut Queue,
+) -> Result<Option<Under>, OutOfMemory>
+    requires { role.now.kind ≡ seats.Binder }
+    ensures { IfOk result (λ under. Decides role.now no_memory (all_objects caches.now) queue.new under queue.old) }
+{
+    loop {
+        let _ = queue.len();
+        let key = match take(alloc, queue)? {
+            None => return Ok(None),
+            Some(key) => key,
+        };
+        match first_for(alloc, role, caches, &key)? {
+            First::Drops => queue.done(&key),
+            First::Queues(other) => {
+                queue.add(&other)?;
+                queue.done(&key);
+            }
+            First::Begins(task) => match task.next(alloc)? {
+                None => queue.done(&key),
+                Some(call) => {
+                    return Ok(Some(Under { key, task, call }));
+                }
+            },
+        }
+    }
+}
+
+/// Queues the keys, in order.
+pub(crate) fn add_all(queue: &mut Queue, keys: &[Key]) -> Result<(), OutOfMemory>
+    ensures { OnOk result (queue.new ≡ all_added keys.now queue.old) }
+{
+    for key in keys {
+        queue.add(key)?;
+    }
+    Ok(())
+}
+
+/// Queues the keys of the objects, in order.
+fn add_objects(alloc: Global, queue: &mut Queue, objects: &[Object]) -> Result<(), OutOfMemory>
+    ensures { OnOk result (queue.new ≡ all_added (map key_of objects.now) queue.old) }
+{
+    for object in objects {
+        let key = key_of(alloc, object)?;
+        queue.add(&key)?;
+    }
+    Ok(())
+}
+
+/// Queues every cached key of a kind, in the order of namespace and name.
+fn add_kind(
+    alloc: Global,
+    queue: &mut Queue,
+    caches: &Caches,
+    kind: Kind,
+) -> Result<(), OutOfMemory>
+    ensures { OnOk result (queue.new ≡ kind_added caches.now kind queue.old) }
+{
+    add_objects(alloc, queue, caches.cache(kind).objects())
+}
+
+/// Queues every cached key, in the order of the kinds and then of namespace and name.
+pub(crate) fn add_cached(
+    alloc: Global,
+    queue: &mut Queue,
+    caches: &Caches,
+    kinds: &[Kind],
+) -> Result<(), OutOfMemory>
+    ensures { OnOk result (queue.new ≡ kinds_added caches.now kinds.now queue.old) }
+{
+    for kind in kinds {
+        add_kind(alloc, queue, caches, *kind)?;
+    }
+    Ok(())
+}
