@@ -1,0 +1,3 @@
+pub mod LiveReads
+pub mod Restricted
+pub mod Scanned

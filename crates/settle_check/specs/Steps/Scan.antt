@@ -1,0 +1,34 @@
+-- The first object of a list for which something is due, and what a read told. For the proofs alone.
+use Rattle.std.specs.Prelude.{◌≡◌, ◌⊎◌, List, [], ◌∷◌, Option, Some, None}
+use Rattle.kube_types.specs.declared.key.Key.{Key}
+use Rattle.kube_types.specs.declared.names.Due.{Due}
+use Rattle.kube_types.specs.declared.objects.Object.{Object}
+use Rattle.kube_types.specs.declared.lookup.Live.{Live}
+use Rattle.kube_types.specs.declared.lookup.Live.TheVariants.{NotAsked, Absent, Present}
+use Rattle.kube_types.specs.Keys.{key_of}
+use Rattle.settle_check.specs.declared.first.FirstDue.{FirstDue}
+
+-- the object that a read told
+abbrev pub object_read : Live → Option Object
+object_read NotAsked = None
+object_read Absent = None
+object_read (Present o) = Some o.now
+
+abbrev pub first_pair : Option FirstDue → Option (Object × Due)
+first_pair None = None
+first_pair (Some first) = Some (first.object.now, first.action)
+
+abbrev pub first_key : Option FirstDue → Option (Key × Due)
+first_key None = None
+first_key (Some first) = Some (key_of first.object.now, first.action)
+
+-- this object is the first, with this action
+pub record IsHere (IsDue : Object → Option Due → Type 0) (o : Object) (answer : Option (Object × Due)) : Type 0 where
+  pub action : Due
+  pub due : IsDue o (Some action)
+  pub answers : answer ≡ Some (o, action)
+
+-- the first object for which something is due, with its action
+abbrev pub IsFirstIn : (Object → Option Due → Type 0) → List Object → Option (Object × Due) → Type 0
+IsFirstIn IsDue [] answer = answer ≡ None
+IsFirstIn IsDue (o ∷ os) answer = IsHere IsDue o answer ⊎ (IsDue o None × IsFirstIn IsDue os answer)
