@@ -1,2 +1,4 @@
-mod Since
 mod Calling
+mod Lives
+mod Since
+mod Stepping

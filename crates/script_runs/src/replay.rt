@@ -5,7 +5,7 @@ ghost use Rattle.binder_model.specs.Run.{Run};
 ghost use Rattle.script_runs.specs.Limits.{AreBuilt, IsReadable};
 ghost use Rattle.script_runs.specs.Replays.{IsReplay};
 
-use crate::stage::{Stage, begin};
+use crate::stage::begin;
 use kube_types::copies::OutOfMemory;
 use script_text::script::Script;
 use std::alloc::Global;
@@ -38,15 +38,9 @@ pub fn replay(alloc: Global, script: &Script, budget: Option<u64>) -> Result<Rep
     for place in 0..script.lines.as_slice().len() {
         stage.play(script, budget, place)?;
     }
-    let ending = stage.end(script, budget)?;
-    let Stage {
-        world,
-        players,
-        drainers,
-        drained: _,
-        budget: _,
-    } = stage;
-    drop(players);
-    drop(drainers);
-    Ok(Replayed { world, ending })
+    let ending = stage.end(alloc, script, budget)?;
+    Ok(Replayed {
+        world: stage.into_world(),
+        ending,
+    })
 }

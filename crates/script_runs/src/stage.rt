@@ -10,13 +10,13 @@ ghost use Rattle.script_runs.specs.Limits.{AreBuilt, IsReadable, is_actor_built}
 ghost use Rattle.script_runs.specs.Parts.{is_named, part_at, part_of};
 ghost use Rattle.script_runs.specs.Replays.{IsDrain, IsMove, IsTurn, IsUserCall, Progress, begun};
 ghost use Rattle.script_runs.specs.Steps.Playing.{EachPlayer, IsNewPlayer};
-ghost use Rattle.script_runs.specs.Steps.Standing.{Ended, HasMoved, MadeAtMost, SomeStands, Stands, binder, parts_from, parts_in, place_of, seat_of_drains};
+ghost use Rattle.script_runs.specs.Steps.Standing.{Ended, HasMoved, MadeAtMost, SomeStands, Stands, binder, parts_from, parts_in, place_of, seat_of_drains, with_made};
 
 use crate::budget::raised;
 use crate::parts::{part_from, seat_after};
 use crate::player::{Player, turn};
 use call_types::request::{Request, SeatKind};
-use kube_types::copies::OutOfMemory;
+use kube_types::copies::{OutOfMemory, Plain};
 use kube_types::text::Text;
 use script_text::actors::{Actor, Worker, WorkerKind, WorkerNumber};
 use script_text::script::{Line, Script};
@@ -166,20 +166,45 @@ impl Stage {
     /// Drains, and says how all drains ended.
     pub(crate) fn end(
         &mut self,
+        alloc: Global,
         script: &Script,
         option: Option<u64>,
     ) -> Result<Drained, OutOfMemory>
         requires { SomeStands script.now option self.old }
         ensures { IfOk result (λ ending. (p : Progress) → Stands script.now option p self.old → Ended script.now option p self.new ending) }
     {
-        match self.drain(script, option)? {
-            Drained::Settled { made: _ } => Ok(Drained::Settled { made: self.drained }),
-            Drained::Spent { made: _, key, due } => Ok(Drained::Spent {
-                made: self.drained,
-                key,
-                due,
-            }),
-        }
+        let drained = self.drain(script, option)?;
+        ended(alloc, self.drained, &drained)
+    }
+
+    /// The world alone.
+    pub(crate) fn into_world(self) -> KeptWorld
+        ensures { result ≡ self.world }
+    {
+        let Stage {
+            world,
+            players,
+            drainers,
+            drained: _,
+            budget: _,
+        } = self;
+        drop(players);
+        drop(drainers);
+        world
+    }
+}
+
+/// How all drains ended: as the last of them, with the calls of all.
+fn ended(alloc: Global, made: u64, drained: &Drained) -> Result<Drained, OutOfMemory>
+    ensures { IfOk result (λ ending. ending ≡ with_made made drained.now) }
+{
+    match drained {
+        Drained::Settled { made: _ } => Ok(Drained::Settled { made }),
+        Drained::Spent { made: _, key, due } => Ok(Drained::Spent {
+            made,
+            key: key.copy(alloc)?,
+            due: *due,
+        }),
     }
 }
 

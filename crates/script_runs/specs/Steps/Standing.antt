@@ -4,6 +4,7 @@ use Rattle.call_types.specs.declared.entry.Entry.{Entry}
 use Rattle.worker_threads.specs.Drainers.{AreStanding, seats_of}
 use Rattle.worker_threads.specs.Longer.{IsOneOf}
 use Rattle.world_core.specs.declared.drained.Drained.{Drained}
+use Rattle.world_core.specs.declared.drained.Drained.TheVariants.{Settled, Spent}
 use Rattle.script_text.specs.declared.actors.WorkerKind.TheVariants as workers
 use Rattle.script_text.specs.declared.actors.WorkerNumber.{WorkerNumber}
 use Rattle.script_text.specs.declared.actors.WorkerNumber.TheVariants.{One, Two, Three, Four}
@@ -106,3 +107,7 @@ pub record Ended (script : Script) (option : Option ℕ) (before : Progress) (s 
   pub move : IsDrain script option before after
   pub stands : Stands script option after s
   pub ends : EndsAs script.setup after ending
+
+abbrev pub with_made : ℕ → Drained → Drained
+with_made made (Settled before) = Settled made
+with_made made (Spent before key due) = Spent made key due
