@@ -1,4 +1,10 @@
+mod Beginning
+mod Building
+mod Casting
 mod Calling
 mod Lives
+mod Orders
 mod Since
+mod Staging
 mod Stepping
+mod Turning

@@ -1,6 +1,6 @@
 -- The scripts that can be replayed: those that keep the limits of the format, and name actors that are built.
 -- A choice of this project.
-use Rattle.std.specs.Prelude.{ℕ, ◌≡◌, ◌≤◌, ◌<◌, Bool, true, false, ◌&&◌, List, [], ◌∷◌, Option, Some, None, length, slice_get, not, ⊤}
+use Rattle.std.specs.Prelude.{ℕ, ◌≡◌, ◌≤◌, ◌<◌, ◌+◌, Bool, true, false, List, [], ◌∷◌, Option, Some, None, length, ⊤, if◌then◌else◌}
 use Rattle.script_text.specs.declared.actors.WorkerKind.{WorkerKind}
 use Rattle.script_text.specs.declared.actors.WorkerKind.TheVariants as workers
 use Rattle.script_text.specs.declared.actors.Actor.{Actor}
@@ -50,12 +50,10 @@ abbrev pub AreBuilt : List Line → Type 0
 AreBuilt [] = ⊤
 AreBuilt (line ∷ lines) = (is_line_built line ≡ true) × AreBuilt lines
 
--- the place of the first line that names an actor that is not built; none where each is built
+-- the place of the first line that names an actor that is not built, the places counted from here on; none where each is
+abbrev pub unbuilt_from : ℕ → List Line → Option ℕ
+unbuilt_from place [] = None
+unbuilt_from place (line ∷ lines) = if is_line_built line then unbuilt_from (place + 1) lines else Some place
+
 abbrev pub first_unbuilt : List Line → Option ℕ
-first_unbuilt [] = None
-first_unbuilt (line ∷ lines) = by (is_line_built line) (first_unbuilt lines)
-  where
-    by : Bool → Option ℕ → Option ℕ
-    by false rest = Some 0
-    by true None = None
-    by true (Some place) = Some (place + 1)
+first_unbuilt lines = unbuilt_from 0 lines

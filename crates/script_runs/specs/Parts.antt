@@ -82,7 +82,7 @@ abbrev pub first_actor_seat : ℕ
 first_actor_seat = 5
 
 -- the part of the actor of a name and kind, whose first life has this seat
-unfoldable pub part_at : List ℕ → SeatKind → ℕ → List Line → Part
+abbrev pub part_at : List ℕ → SeatKind → ℕ → List Line → Part
 part_at name kind first lines = record {
   name = name;
   kind = kind;
@@ -99,7 +99,7 @@ part_of script actor = part_at (actor_word actor) (kind_of actor) (first_actor_s
 -- the seats of the drains' actors: binder, ops, scheduler, claim protection, volume protection, and the agents by the names
 -- of their nodes. An actor that is not built keeps its number
 
-unfoldable pub drain_seat : Script → ℕ
+abbrev pub drain_seat : Script → ℕ
 drain_seat script = first_actor_seat + all_lives (all_actors script) script.lines
 
 -- the seat, and one more for each node

@@ -1,7 +1,7 @@
 //! Which actors are built.
 
-ghost use Rattle.std.specs.Prelude.{◌≡◌};
-ghost use Rattle.script_runs.specs.Limits.{first_unbuilt, is_actor_built, is_kind_built, is_line_built};
+ghost use Rattle.std.specs.Prelude.{◌≡◌, None};
+ghost use Rattle.script_runs.specs.Limits.{AreBuilt, first_unbuilt, is_actor_built, is_kind_built, is_line_built};
 
 use script_text::actors::{Actor, WorkerKind};
 use script_text::script::{Line, Script};
@@ -45,7 +45,8 @@ fn is_line_built(line: &Line) -> bool
 
 /// The place, counted from 0, of the first line that names an actor that is not built; none exactly where each is built.
 pub fn unbuilt(script: &Script) -> Option<usize>
-    ensures { result ≡ first_unbuilt script.now.lines }
+    ensures first { result ≡ first_unbuilt script.now.lines }
+    ensures built { result ≡ None → AreBuilt script.now.lines }
 {
     let lines = script.lines.as_slice();
     for place in 0..lines.len() {

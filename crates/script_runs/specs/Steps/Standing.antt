@@ -1,5 +1,5 @@
 -- What stands for how far a replay has come: a world, the actors, and the numbers of the drains. A choice of this project.
-use Rattle.std.specs.Prelude.{ℕ, ◌≡◌, ◌≤◌, ◌+◌, ◌*◌, true, List, [], ◌∷◌, Option, Some, None, map, slice_get}
+use Rattle.std.specs.Prelude.{ℕ, ◌≡◌, ◌≤◌, ◌+◌, ◌*◌, true, List, [], ◌∷◌, Option, Some, None, drop, map, slice_get}
 use Rattle.call_types.specs.declared.entry.Entry.{Entry}
 use Rattle.worker_threads.specs.Drainers.{AreStanding, seats_of}
 use Rattle.worker_threads.specs.Longer.{IsOneOf}
@@ -16,10 +16,10 @@ use Rattle.script_runs.specs.declared.part.Part.{Part}
 use Rattle.script_runs.specs.declared.player.Player.{Player}
 use Rattle.script_runs.specs.declared.stage.Stage.{Stage}
 use Rattle.script_runs.specs.Budget.{most_budget}
-use Rattle.script_runs.specs.Parts.{drain_seat, first_actor_seat, part_at, part_of}
+use Rattle.script_runs.specs.Parts.{first_actor_seat, part_at}
 use Rattle.script_text.specs.Actors.{actor_word}
 use Rattle.call_types.specs.declared.request.SeatKind.TheVariants as seats
-use Rattle.script_runs.specs.Replays.{EndsAs, IsDrain, IsMove, IsTurn, IsUserCall, Progress}
+use Rattle.script_runs.specs.Replays.{AreMoves, EndsAs, IsDrain, IsMove, IsTurn, IsUserCall, Progress, begun}
 use Rattle.script_runs.specs.Steps.Playing.{EachPlayer, Plays, lives_of}
 use Rattle.call_types.specs.declared.request.Request.{Request}
 
@@ -36,9 +36,6 @@ place_of (Agent node) = 0
 
 abbrev pub binder : WorkerNumber → Actor
 binder number = Worker (record { kind = workers.Binder; number = number })
-
-abbrev pub parts_of : Script → List Part
-parts_of script = part_of script (binder One) ∷ part_of script (binder Two) ∷ part_of script (binder Three) ∷ part_of script (binder Four) ∷ []
 
 -- the parts by the lines alone, where the binder alone is built
 
@@ -73,11 +70,11 @@ IsBudget None budget = budget ≤ most_budget
 pub record Stands (script : Script) (option : Option ℕ) (p : Progress) (s : Stage) : Type 0 where
   pub past : s.world.past ≡ p.past
   pub setup : s.world.setup ≡ script.setup
-  pub parts : parts_in s.players.items ≡ parts_of script
+  pub parts : parts_in s.players.items ≡ parts_from script.lines
   pub plays : EachPlayer (λ x. x.part.named ≡ true → Plays x s.world.past p.idle) s.players.items
   pub made : EachPlayer (λ x. x.made ≡ p.made x.part.name) s.players.items
   pub drainers : AreStanding s.drainers s.world.past
-  pub seats : (seat : ℕ) → IsOneOf (seats_of s.drainers) seat → seat ≡ drain_seat script
+  pub seats : (seat : ℕ) → IsOneOf (seats_of s.drainers) seat → seat ≡ seat_of_drains script.lines
   pub drained : s.drained ≡ p.drained
   pub budget : s.budget ≡ p.budget
   pub few : s.drained ≤ s.budget
@@ -111,3 +108,9 @@ pub record Ended (script : Script) (option : Option ℕ) (before : Progress) (s 
 abbrev pub with_made : ℕ → Drained → Drained
 with_made made (Settled before) = Settled made
 with_made made (Spent before key due) = Spent made key due
+
+-- the lines before a place are done
+pub record SoFar (script : Script) (option : Option ℕ) (place : ℕ) (s : Stage) : Type 0 where
+  pub progress : Progress
+  pub stands : Stands script option progress s
+  pub moves : (end : Progress) → AreMoves script option end (drop place script.lines) progress → AreMoves script option end script.lines (begun option)
