@@ -17,8 +17,8 @@ use Rattle.call_types.specs.declared.request.Request.TheVariants.{Get}
 use Rattle.call_types.specs.declared.request.SeatKind.TheVariants.{Binder}
 use Rattle.binder_model.specs.At.{IsWrittenAt}
 use Rattle.binder_model.specs.ObjectKeys.{claim_key, volume_key}
-use Rattle.binder_model.specs.BindWrites.{annotated_meta_if, claim_write, completed_with, is_completed_with, next_write, shows_bound, taken_for, unbound_volume, without_uid, write_available, write_bound, write_claim_status, write_completion, write_reference, write_unbound}
-use Rattle.binder_model.specs.BinderLicence.{IsTaken, MayTake, MayBind, MayComplete, MayShow, MayFree, MayLose, MayRelease, MayUnbind, IsHere, IsBoundFor, IsShown}
+use Rattle.binder_model.specs.BindWrites.{annotated_meta_if, claim_write, completed_with, is_completed_with, next_write, shows_bound, taken_for, unbound_volume, without_uid, write_bound, write_claim_status, write_completion, write_reference, write_unbound}
+use Rattle.binder_model.specs.BinderLicence.{IsTaken, MayTake, MayBind, MayComplete, MayShow, MayLose, MayUnbind, IsHere, IsBoundFor, IsShown}
 use Rattle.binder_model.specs.Licence.{AreOfKind, AtVolumeKey, BinderMay, BinderPhase, BinderVolume, Licensed}
 use Rattle.model_laws.proofs.Evidence.{told_claim, told_volume}
 use Rattle.model_laws.proofs.Lists.{none_some, one}

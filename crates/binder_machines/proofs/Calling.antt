@@ -1,5 +1,5 @@
 -- A machine that begins on what a store can hold has a next call.
-use Rattle.std.proofs.Common.{◌≡◌, ℕ, List, [], Bool, true, false, true≢false, Option, Some, None, inl, inr, refl, sym, ◌∙◌, ap, subst, if◌then◌else◌}
+use Rattle.std.proofs.Common.{◌≡◌, ℕ, List, [], ◌∷◌, Bool, true, false, true≢false, Option, Some, None, inl, inr, refl, sym, ◌∙◌, ap, subst, if◌then◌else◌}
 use Rattle.std.specs.Prelude.{◌&&◌, ◌||◌, not, bytes_eq, is_none, is_some, slice_get}
 use Rattle.std.proofs.lemmas.Bool.{and_parts}
 use Rattle.std.proofs.lemmas.Slice.Eq.{bytes_eq-Decides}
@@ -20,6 +20,8 @@ use Rattle.kube_types.proofs.KeyOrder.{row_at_key}
 use Rattle.kube_types.proofs.RowPlaces.{row_at_place}
 use Rattle.call_types.specs.declared.request.Request.{Request}
 use Rattle.call_types.specs.declared.request.Request.TheVariants.{Get}
+use Rattle.call_types.specs.declared.reply.Refusal.TheVariants.{NotFound}
+use Rattle.call_types.specs.declared.reply.Reply.TheVariants.{Found, Refused}
 use Rattle.binder_model.specs.ObjectKeys.{volume_key}
 use Rattle.binder_model.specs.BinderDue.{has_other_uid}
 use Rattle.binder_model.specs.BindWrites.{claim_write, next_write, shows_bound, write_bound, write_claim_status, write_completion, write_reference}
@@ -34,10 +36,10 @@ use Rattle.volume_sync.specs.declared.action.VolumeAction.TheVariants as actions
 use Rattle.model_laws.proofs.Lists.{none_some, one}
 use Rattle.binder_machines.specs.declared.decide.First.TheVariants.{Begins}
 use Rattle.binder_machines.specs.declared.machine.Machine.{Machine}
-use Rattle.binder_machines.specs.declared.machine.Machine.TheVariants.{Frees, Binds, MarksBound, ReadsClaim, Releases, Unbinds, ReadsVolume}
-use Rattle.binder_machines.specs.BeginLaw.{AreStored, BegunHaveCalls}
+use Rattle.binder_machines.specs.declared.machine.Machine.TheVariants.{Frees, Binds, MarksBound, ReadsClaim, Releases, Unbinds, ReadsVolume, Loses}
+use Rattle.binder_machines.specs.BeginLaw.{AreStored, BegunHaveCalls, ReadHaveCalls}
 use Rattle.binder_machines.specs.FirstSteps.{IsClaimFirst, IsFirst, lost_for, queue_of, volume_first}
-use Rattle.binder_machines.specs.Machines.{call_of, machine_for, may_bind, phase_call, read_of, write_phase}
+use Rattle.binder_machines.specs.Machines.{call_of, claim_read, confirmed_for, moved, volume_read, machine_for, may_bind, phase_call, read_of, write_phase}
 use Rattle.binder_machines.proofs.Begun.{first_back, known_of, machine_in}
 use Rattle.binder_machines.proofs.Shown.{free_reads_none}
 use Rattle.binder_machines.proofs.Tests.{either}
@@ -275,3 +277,40 @@ begun_have_calls rows key machine stored first = by (row_at key rows) refl first
     by (Some (Class x)) at e = none_some (sym (ap machine_in e))
     by (Some (Node x)) at e = none_some (sym (ap machine_in e))
     by (Some (Pod x)) at e = none_some (sym (ap machine_in e))
+
+-- after a read
+
+placed_call : (v : VolumeData) (r : Request) → call_of (ReadsClaim v) ≡ Some r → v.meta.namespace ≡ []
+unfolding call_of
+placed_call v r = by v.meta.namespace
+  where
+    by : (n : List ℕ) → (if is_empty n && is_some v.meta.uid then read_of v.claim_ref else None) ≡ Some r → n ≡ []
+    by [] e = refl
+    by (x ∷ n) e = none_some e
+
+volume_goes_on : (v : VolumeData) (r : Request) (a : VolumeAction) (next : Machine) → call_of (ReadsClaim v) ≡ Some r → machine_for v a ≡ Some next → is_some (call_of next) ≡ true
+unfolding call_of
+volume_goes_on v r actions.Nothing next call e = none_some e
+volume_goes_on v r actions.QueueClaim next call e = none_some e
+volume_goes_on v r actions.ReadClaim next call e = calls (ReadsClaim v) next e (ap is_some call)
+volume_goes_on v r actions.Available next call e = calls (Frees v) next e (phase_calls v phases.Available (placed_call v r call))
+volume_goes_on v r actions.Bound next call e = calls (MarksBound v) next e (phase_calls v phases.Bound (placed_call v r call))
+volume_goes_on v r actions.Release next call e = calls (Releases v) next e (phase_calls v phases.Released (placed_call v r call))
+volume_goes_on v r actions.Unbind next call e = calls (Unbinds v) next e refl
+
+claim_goes_on : (c : ClaimData) (s : ClaimStep) (next : Machine) → confirmed_for c s ≡ Some next → is_some (call_of next) ≡ true
+unfolding call_of
+claim_goes_on c steps.Lost next e = calls (Loses c) next e refl
+claim_goes_on c steps.Nothing next e = none_some e
+claim_goes_on c steps.ReadVolume next e = none_some e
+claim_goes_on c steps.Bind next e = none_some e
+
+pub read_have_calls : ReadHaveCalls
+unfolding moved
+read_have_calls (ReadsClaim v) next r (Refused NotFound) is call e = volume_goes_on v r (volume_read v None) next call e
+read_have_calls (ReadsClaim v) next r (Found o) is call e = volume_goes_on v r (volume_read v (Some o)) next call e
+read_have_calls (ReadsVolume c) next r (Refused NotFound) is call e = claim_goes_on c (claim_read c None) next e
+read_have_calls (ReadsVolume c) next r (Found o) is call e = claim_goes_on c (claim_read c (Some o)) next e
+read_have_calls (ReadsClaim v) next r _ is call e = none_some e
+read_have_calls (ReadsVolume c) next r _ is call e = none_some e
+read_have_calls machine next r reply is call e = absurd (true≢false (sym is))

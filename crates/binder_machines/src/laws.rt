@@ -10,7 +10,7 @@ ghost use Rattle.binder_model.specs.Licence.{AreOfKind, Licensed};
 ghost use Rattle.informer_cache.specs.All.{AllKnown, AllStandFor, all_objects};
 ghost use Rattle.binder_machines.specs.declared.decide.First.TheVariants.{Begins};
 ghost use Rattle.binder_machines.specs.declared.machine.Machine.{Machine};
-ghost use Rattle.binder_machines.specs.BeginLaw.{BegunHaveCalls};
+ghost use Rattle.binder_machines.specs.BeginLaw.{BegunHaveCalls, ReadHaveCalls};
 ghost use Rattle.binder_machines.specs.Evidence.{Keeps};
 ghost use Rattle.binder_machines.specs.FirstSteps.{IsFirst};
 ghost use Rattle.binder_machines.specs.KindLaw.{CallsReadNoKind, VolumesQueueClaims};
@@ -67,4 +67,10 @@ pub fn calls_read_no_kind()
 #[tactic(auto, using(crate::proofs::Reaching::volumes_queue_claims))]
 pub fn volumes_queue_claims()
     ensures { VolumesQueueClaims }
+{}
+
+/// After a read that was asked, each machine that goes on has a next call.
+#[tactic(auto, using(crate::proofs::Calling::read_have_calls))]
+pub fn read_have_calls()
+    ensures { ReadHaveCalls }
 {}

@@ -68,7 +68,8 @@ impl<'a> AsJson for ClaimName<'a> {
     }
 }
 
-fn put_edit(out: &mut MemberTexts, edit: &Edit) -> Result<(), OutOfMemory>
+/// The one member of an edit.
+pub fn put_edit(out: &mut MemberTexts, edit: &Edit) -> Result<(), OutOfMemory>
     ensures ok { OnOk result (out.new ≡ with_options with_member_text (edit_pairs edit.now) out.old) }
 {
     match edit {
@@ -283,7 +284,8 @@ fn put_unmount(out: &mut MemberTexts, node: &Text, epoch: u64, pod: Uid) -> Resu
     out.put("pod", &pod)
 }
 
-fn put_arguments(out: &mut MemberTexts, request: &Request) -> Result<(), OutOfMemory>
+/// The members of a request but for its word.
+pub fn put_arguments(out: &mut MemberTexts, request: &Request) -> Result<(), OutOfMemory>
     ensures ok { OnOk result (out.new ≡ with_options with_member_text (argument_pairs request.now) out.old) }
 {
     match request {

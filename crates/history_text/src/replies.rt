@@ -202,7 +202,7 @@ fn write_mounted(out: &mut JsonText, rows: &[MountRow]) -> Result<(), OutOfMemor
 }
 
 /// The label and the value of a topology, if there is one.
-pub(crate) fn put_topology(
+pub fn put_topology(
     out: &mut MemberTexts,
     topology: &Option<(Text, Text)>,
 ) -> Result<(), OutOfMemory>

@@ -1,0 +1,173 @@
+//! The world and the binders that stand while the lines are read.
+
+ghost use Rattle.std.specs.Prelude.{◌≡◌, [], IfOk};
+ghost use Rattle.binder_model.specs.Imports.{ImportsPass};
+
+use call_types::edit::Edit;
+use call_types::request::{Request, SeatKind};
+use call_types::setup::Setup;
+use kube_types::items::Items;
+use kube_types::key::Key;
+use kube_types::parts::Kind;
+use plain_data::copies::OutOfMemory;
+use plain_data::text::Text;
+use std::alloc::Global;
+use worker_core::actor::Actor;
+use worker_core::turn::{Next, Outcome};
+use world_core::world::World;
+
+/// A call that is lost: its number, and whether it is lost after its effect.
+#[derive(Clone, Copy, Debug)]
+pub struct Loss {
+    pub call: u64,
+    pub after: bool,
+}
+
+/// A binder at its seat, with the number of its calls.
+#[derive(Drop)]
+pub struct Seat {
+    pub number: u64,
+    pub actor: Actor,
+    pub made: u64,
+    pub losses: Vec<Loss>,
+}
+
+/// A world, its binders, and how many of its entries were written.
+#[derive(Drop)]
+pub struct Bench {
+    pub alloc: Global,
+    pub world: World,
+    pub seats: Vec<Seat>,
+    pub written: usize,
+}
+
+/// An empty world.
+fn empty_world(alloc: Global) -> Result<World, OutOfMemory> {
+    let setup = Setup {
+        pools: Items::new(alloc),
+        faults: Items::new(alloc),
+        imports: Items::new(alloc),
+    };
+    World::new(alloc, &setup, 0)
+}
+
+impl Bench {
+    pub fn new(alloc: Global) -> Result<Bench, OutOfMemory> {
+        let world = empty_world(alloc)?;
+        Ok(Bench {
+            alloc,
+            world,
+            seats: Vec::new(alloc),
+            written: 0,
+        })
+    }
+
+    /// An empty world without binders.
+    pub fn clear(&mut self) -> Result<(), OutOfMemory> {
+        self.world = empty_world(self.alloc)?;
+        self.seats = Vec::new(self.alloc);
+        self.written = 0;
+        Ok(())
+    }
+
+    /// A user's write.
+    pub fn write(&mut self, request: &Request) -> Result<(), OutOfMemory> {
+        let _reply = self.world.call(1, SeatKind::User, request, true)?;
+        Ok(())
+    }
+
+    /// So many writes of a user, each of another label of the volume.
+    pub fn stir(&mut self, volume: &str, count: u64) -> Result<(), OutOfMemory> {
+        for number in 0..count {
+            let value = format!(in self.alloc; "{number}")?;
+            let key = Key {
+                kind: Kind::PersistentVolume,
+                namespace: Text::new(self.alloc, "")?,
+                name: Text::new(self.alloc, volume)?,
+            };
+            let edit = Edit::SetLabel {
+                key: Text::new(self.alloc, "stirred")?,
+                value: Text::new(self.alloc, &value)?,
+            };
+            self.write(&Request::Edit { key, edit })?;
+        }
+        Ok(())
+    }
+
+    /// The place of the binder of this seat, which is made where there is none.
+    pub fn place(&mut self, number: u64) -> Result<usize, OutOfMemory> {
+        for (place, seat) in self.seats.iter().enumerate() {
+            if seat.number == number {
+                return Ok(place);
+            }
+        }
+        let node = Text::new(self.alloc, "")?;
+        self.seats.push(Seat {
+            number,
+            actor: Actor::new(self.alloc, SeatKind::Binder, &node)?,
+            made: 0,
+            losses: Vec::new(self.alloc),
+        })?;
+        Ok(self.seats.len() - 1)
+    }
+
+    /// Makes so many calls of the binder, or fewer where it is idle. Answers whether it is idle.
+    pub fn turn(&mut self, number: u64, calls: u64) -> Result<bool, OutOfMemory> {
+        let place = self.place(number)?;
+        let Bench { world, seats, .. } = self;
+        match seats.get_mut(place) {
+            None => Ok(false),
+            Some(seat) => seat.turn(world, calls),
+        }
+    }
+}
+
+impl Seat {
+    fn turn(&mut self, world: &mut World, calls: u64) -> Result<bool, OutOfMemory> {
+        for _ in 0..calls {
+            if !self.step(world)? {
+                return Ok(true);
+            }
+        }
+        Ok(false)
+    }
+
+    /// Makes one call; false where the binder is idle.
+    fn step(&mut self, world: &mut World) -> Result<bool, OutOfMemory> {
+        let request = match self.actor.next()? {
+            Next::Idle => return Ok(false),
+            Next::Call(request) => request,
+        };
+        self.made = self.made.wrapping_add(1);
+        let outcome = made(world, self.number, &request, self.loss())?;
+        self.actor.absorb(&request, outcome)?;
+        Ok(true)
+    }
+
+    /// Whether the present call is lost, and then whether after its effect.
+    fn loss(&self) -> Option<bool> {
+        for loss in &self.losses {
+            if loss.call == self.made {
+                return Some(loss.after);
+            }
+        }
+        None
+    }
+}
+
+/// What comes of a binder's call.
+fn made(
+    world: &mut World,
+    seat: u64,
+    request: &Request,
+    lost: Option<bool>,
+) -> Result<Outcome, OutOfMemory> {
+    match lost {
+        None => Ok(Outcome::Told(world.call(seat, SeatKind::Binder, request, true)?)),
+        Some(false) => Ok(Outcome::Lost),
+        Some(true) => {
+            let _reply = world.call(seat, SeatKind::Binder, request, false)?;
+            Ok(Outcome::Lost)
+        }
+    }
+}

@@ -1,0 +1,28 @@
+//! Cases of actors on one world. A line that is read is a user's write, or so many calls of a binder at its seat, some of
+//! which are lost; the entries that were made are written as lines of the history, or a word for each.
+//!
+//! `new` begins with an empty world. `create` and a manifest is a user's write. `turn SEAT CALLS` makes so many calls of the
+//! binder of the seat, or fewer where it is idle; `wake SEAT` wakes it, and `restart SEAT` begins it anew. `lose SEAT CALL
+//! before` and `lose SEAT CALL after` lose the call of this number, from 1. `entries` and `words` write what was made since.
+#![tactic(auto)]
+
+mod bench;
+mod lines;
+
+use crate::bench::Bench;
+use plain_data::copies::OutOfMemory;
+use std::io;
+
+fn main(rt: HostRuntime) -> io::Result<()> {
+    let mut bench = match Bench::new(rt.alloc()) {
+        Ok(bench) => bench,
+        Err(OutOfMemory) => return println!(rt; "no memory"),
+    };
+    for line in rt.lines(rt.alloc()) {
+        match lines::answer(rt.alloc(), &mut bench, line?.as_str()) {
+            Ok(text) => print!(rt; "{text}")?,
+            Err(OutOfMemory) => println!(rt; "no memory")?,
+        }
+    }
+    Ok(())
+}

@@ -1,0 +1,7 @@
+pub mod Answers
+pub mod MemberWords
+pub mod Actors
+pub mod Verbs
+pub mod Members
+pub mod Refusals
+pub mod Steps

@@ -1,0 +1,26 @@
+-- The words of lines. A choice of this project.
+use Rattle.std.specs.Prelude.{ℕ, List, [], ◌∷◌, Option, codes}
+use Rattle.kube_types.specs.Named.{value_named}
+use Rattle.script_lines.specs.declared.verbs.Verb.{Verb}
+use Rattle.script_lines.specs.declared.verbs.Verb.TheVariants.{Create, Update, Edit, Delete, Get, List as ListAll, Time, Pool, Fault, Lose, Restart, Turn, Drain}
+
+abbrev pub verb_word : Verb → List ℕ
+verb_word Create = codes "create"
+verb_word Update = codes "update"
+verb_word Edit = codes "edit"
+verb_word Delete = codes "delete"
+verb_word Get = codes "get"
+verb_word ListAll = codes "list"
+verb_word Time = codes "time"
+verb_word Pool = codes "pool"
+verb_word Fault = codes "fault"
+verb_word Lose = codes "lose"
+verb_word Restart = codes "restart"
+verb_word Turn = codes "turn"
+verb_word Drain = codes "drain"
+
+abbrev pub all_verbs : List Verb
+all_verbs = Create ∷ Update ∷ Edit ∷ Delete ∷ Get ∷ ListAll ∷ Time ∷ Pool ∷ Fault ∷ Lose ∷ Restart ∷ Turn ∷ Drain ∷ []
+
+abbrev pub verb_named : List ℕ → Option Verb
+verb_named word = value_named verb_word all_verbs word

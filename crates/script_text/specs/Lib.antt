@@ -1,0 +1,4 @@
+pub mod Said
+pub mod LineReaders
+pub mod Grammar
+pub mod Steps

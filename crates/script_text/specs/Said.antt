@@ -1,0 +1,110 @@
+-- What the lines before a line said. A choice of this project: the script format.
+use Rattle.std.specs.Prelude.{ℕ, List, [], ◌∷◌, ◌++◌, if◌then◌else◌, Option, Some, None, option_and_then, is_some, bytes_eq, map}
+use Rattle.std.specs.List.{flat_map, count_by, sum_by}
+use Rattle.std.specs.Ordering.{nat_cmp}
+use Rattle.plain_data.specs.Pairs.{Pair}
+use Rattle.plain_data.specs.Rows.{put}
+use Rattle.kube_types.specs.declared.objects.Object.{Object}
+use Rattle.kube_types.specs.declared.objects.Object.TheVariants as objects
+use Rattle.call_types.specs.declared.request.Request.{Request}
+use Rattle.call_types.specs.declared.request.Request.TheVariants as asks
+use Rattle.call_types.specs.declared.setup.Pool.{Pool}
+use Rattle.script_text.specs.declared.script.Line.{Line}
+use Rattle.script_text.specs.declared.script.Line.TheVariants.{Call, Lose, Restart, Turn}
+use Rattle.script_text.specs.declared.script.Meaning.{Meaning}
+use Rattle.script_text.specs.declared.script.Meaning.TheVariants as meanings
+use Rattle.script_text.specs.declared.script.Numbered.{Numbered}
+use Rattle.script_lines.specs.Actors.{actor_word, with_node}
+
+-- the pools in their order with their sizes as they were written, the faults as they rise, and the lines in their order with their numbers
+pub record Said : Type 0 where
+  pub pools : List Pool
+  pub sizes : List (List ℕ)
+  pub faults : List ℕ
+  pub lines : List Line
+  pub numbers : List ℕ
+
+abbrev pub nothing_said : Said
+nothing_said = record { pools = []; sizes = []; faults = []; lines = []; numbers = [] }
+
+-- with what a line of this number means
+abbrev pub and_said : Said → ℕ → Meaning → Said
+and_said said n (meanings.Pool pool size) = record said { pools = said.pools ++ pool ∷ []; sizes = said.sizes ++ size ∷ [] }
+and_said said n (meanings.Fault call) = record said { faults = put nat_cmp (λ m. m) call said.faults }
+and_said said n (meanings.Line line) = record said { lines = said.lines ++ line ∷ []; numbers = said.numbers ++ n ∷ [] }
+
+-- ---- what lines create
+
+abbrev pub created_by : Request → Option Object
+created_by (asks.Create object) = Some object
+created_by request = None
+
+abbrev pub created : Line → Option Object
+created (Call user request) = created_by request
+created line = None
+
+abbrev pub node_name : Object → Option (List ℕ)
+node_name (objects.Node n) = Some n.meta.name
+node_name object = None
+
+-- the name of the node that a line creates
+abbrev pub created_node : Line → Option (List ℕ)
+created_node line = option_and_then node_name (created line)
+
+abbrev pub creates : List Line → ℕ
+creates lines = count_by (λ line. is_some (created line)) lines
+
+abbrev pub and_node : List Pair → Option (List ℕ) → List Pair
+and_node agents None = agents
+and_node agents (Some node) = with_node node agents
+
+-- the agents of the nodes that lines create, beside others
+abbrev pub agents_after : List Pair → List Line → List Pair
+agents_after agents [] = agents
+agents_after agents (line ∷ lines) = agents_after (and_node agents (created_node line)) lines
+
+abbrev pub agents_of : List Line → List Pair
+agents_of lines = agents_after [] lines
+
+-- the nodes of agents, in order
+abbrev pub nodes_of : List Pair → List (List ℕ)
+nodes_of agents = map (λ p. p.1) agents
+
+-- ---- what lines say of an actor of this name
+
+abbrev pub loss_of : List ℕ → Line → List ℕ
+loss_of name (Lose actor call after) = if bytes_eq (actor_word actor) name then call ∷ [] else []
+loss_of name line = []
+
+-- the numbers of its calls that are lost
+abbrev pub losses_of : List ℕ → List Line → List ℕ
+losses_of name lines = flat_map (loss_of name) lines
+
+abbrev pub restart_of : List ℕ → Line → List ℕ
+restart_of name (Restart actor after) = if bytes_eq (actor_word actor) name then after ∷ [] else []
+restart_of name line = []
+
+-- the numbers of calls after which a new life of it begins
+abbrev pub restarts_of : List ℕ → List Line → List ℕ
+restarts_of name lines = flat_map (restart_of name) lines
+
+abbrev pub turn_calls : Line → ℕ
+turn_calls (Turn actor calls) = calls
+turn_calls line = 0
+
+-- the calls of all turns
+abbrev pub calls_of : List Line → ℕ
+calls_of lines = sum_by turn_calls lines
+
+-- ---- the script
+
+unfoldable pub numbered_of : Said → Numbered
+numbered_of said = record {
+  script = record {
+    setup = record { pools = said.pools; faults = said.faults; imports = [] };
+    lines = said.lines;
+    node_names = nodes_of (agents_of said.lines);
+    sizes = said.sizes;
+  };
+  numbers = said.numbers;
+}

@@ -1,0 +1,11 @@
+-- Results of readers, one made of another.
+use Rattle.std.specs.Prelude.{Ok, Err}
+use Rattle.std.specs.declared.result.Result.{Result}
+use Rattle.script_lines.specs.declared.errors.LineError.{LineError}
+use Rattle.script_text.specs.declared.script.Line.{Line}
+use Rattle.script_text.specs.declared.script.Meaning.{Meaning}
+use Rattle.script_text.specs.declared.script.Meaning.TheVariants as meanings
+
+abbrev pub line_result : Result Line LineError → Result Meaning LineError
+line_result (Ok line) = Ok (meanings.Line line)
+line_result (Err e) = Err e

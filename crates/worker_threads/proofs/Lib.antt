@@ -1,0 +1,4 @@
+pub mod Entries
+pub mod RunFacts
+pub mod RoundFacts
+pub mod DrainFacts

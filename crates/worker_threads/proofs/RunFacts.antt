@@ -1,0 +1,151 @@
+-- What follows from how an actor was run.
+use Rattle.std.proofs.Common.{◌≡◌, ◌∙◌, ◌+◌, ◌-◌, ◌≤◌, ◌<◌, ℕ, List, [], ◌∷◌, Bool, true, false, true≢false, Option, Some, None, refl, sym, ap, subst, inl, inr, arith, if◌then◌else◌, Result, Ok, Err, IfOk}
+use Rattle.kube_types.specs.declared.parts.Kind.{Kind}
+use Rattle.call_types.specs.declared.entry.Entry.{Entry}
+use Rattle.call_types.specs.declared.reply.Reply.{Reply}
+use Rattle.call_types.specs.declared.request.Request.{Request}
+use Rattle.call_types.specs.declared.request.SeatKind.{SeatKind}
+use Rattle.call_types.specs.declared.request.SeatKind.TheVariants as seats
+use Rattle.call_types.specs.declared.setup.Setup.{Setup}
+use Rattle.binder_model.specs.Told.{own}
+use Rattle.binder_model.specs.World.{IsHistory}
+use Rattle.model_laws.proofs.Evidence.{own_mine}
+use Rattle.informer_cache.specs.All.{AllKnown}
+use Rattle.sync_queue.specs.Work.{Work}
+use Rattle.worker_core.specs.declared.role.Role.{Role}
+use Rattle.worker_core.specs.declared.task.Under.{Under}
+use Rattle.worker_core.specs.declared.turn.Given.{Given}
+use Rattle.worker_core.specs.declared.turn.Given.TheVariants as givens
+use Rattle.worker_core.specs.declared.turn.Next.{Next}
+use Rattle.worker_core.specs.declared.turn.Next.TheVariants.{Idle}
+use Rattle.worker_core.specs.declared.turn.Outcome.TheVariants.{Told}
+use Rattle.worker_core.specs.Absorbs.{absorbed, given_told, learned, task_told}
+use Rattle.worker_core.specs.Memories.{Memory, memory_after, memory_of, no_memory, remembers}
+use Rattle.worker_core.specs.Rules.{WokenIsBusy}
+use Rattle.worker_core.specs.Stands.{AreOwn, MayBeIdle, StandsFor}
+use Rattle.worker_core.specs.States.{State, start_call}
+use Rattle.worker_core.specs.Turns.{AfterKeys, IsTurn, TurnBy, passing, unlisted}
+use Rattle.worker_threads.specs.declared.run.Ran.{Ran}
+use Rattle.worker_threads.specs.Longer.{IsLonger}
+use Rattle.worker_threads.specs.Rounds.{Asks, IsIdle, IsSpent, Runs, told_entry}
+use Rattle.worker_threads.proofs.Entries.{longer_then, not_longer, one_longer}
+
+module _ (seat : ℕ) (after : State) (past : List Entry) (left : ℕ) (idle : Bool) where
+  pub run_left : (s : State) (h : List Entry) (b : ℕ) → Runs seat after past left idle s h b → left ≤ b
+  run_left s h b (IsSpent none state entries rest busy) = omega arith
+  run_left s h b (IsIdle some turn entries rest calm) = omega arith
+  run_left s h b (Asks given next request reply some turn absorbs more) = let rest = run_left _ _ _ more in omega arith
+
+  -- the entries are the earlier ones and then as many of the seat as calls were made
+  pub run_longer : (s : State) (h : List Entry) (b : ℕ) → Runs seat after past left idle s h b → IsLonger (seat ∷ []) (b - left) h past
+  run_longer s h b (IsSpent none state entries rest busy) =
+      let made : 0 ≡ b - left = omega arith in
+      subst (λ p. IsLonger (seat ∷ []) (b - left) h p) (sym entries) (subst (λ n. IsLonger (seat ∷ []) n h h) made (not_longer (seat ∷ []) h))
+  run_longer s h b (IsIdle some turn entries rest calm) =
+      let made : 0 ≡ b - left = omega arith in
+      subst (λ p. IsLonger (seat ∷ []) (b - left) h p) (sym entries) (subst (λ n. IsLonger (seat ∷ []) n h h) made (not_longer (seat ∷ []) h))
+  run_longer s h b (Asks given next request reply some turn absorbs more) =
+      let few = run_left _ _ _ more in
+      let made : 1 + ((b - 1) - left) ≡ b - left = omega arith in
+      let e = told_entry seat given request reply in
+      subst (λ n. IsLonger (seat ∷ []) n h past) made (longer_then (seat ∷ []) 1 ((b - 1) - left) h (e ∷ h) past (one_longer (seat ∷ []) e h (inl refl) refl) (run_longer _ _ _ more))
+
+  -- an actor that is not idle has spent the budget
+  pub run_part : (s : State) (h : List Entry) (b : ℕ) → Runs seat after past left idle s h b → idle ≡ false → left ≡ 0
+  run_part s h b (IsSpent none state entries rest busy) not = rest ∙ none
+  run_part s h b (IsIdle some turn entries rest calm) not = absurd (true≢false (sym calm ∙ not))
+  run_part s h b (Asks given next request reply some turn absorbs more) not = run_part _ _ _ more not
+
+  -- an actor whose next turn is not idle makes a call
+  pub run_busy : (s : State) (h : List Entry) (b : ℕ) → Runs seat after past left idle s h b → WokenIsBusy s → s.memory.stale ≡ false → 0 < b → left < b
+  run_busy s h b (IsSpent none state entries rest calm) busy fresh some = absurd (omega arith)
+  run_busy s h b (IsIdle some turn entries rest calm) busy fresh more = absurd (busy after Idle turn fresh refl)
+  run_busy s h b (Asks given next request reply some turn absorbs more) busy fresh any = let rest = run_left _ _ _ more in omega arith
+
+-- a turn leaves the actor what it is, and what it remembers
+
+abbrev Kept : Type 0
+Kept = Role × Memory
+
+abbrev kept : State → Kept
+kept s = (s.role, s.memory)
+
+kept_after_keys : (s new : State) (answer : Next) (w : Work) (under : Option Under) → AfterKeys s new answer w under → kept new ≡ kept s
+kept_after_keys s new answer w (Some u) x = ap kept x.state
+kept_after_keys s new answer w None (inl x) = ap kept x.state
+kept_after_keys s new answer w None (inr x) = ap kept x.state
+
+kept_by : (s new : State) (answer : Next) (stale : Bool) (under : Option Under) (start : Option Request) (lacking passes : Option Kind) → TurnBy s new answer stale under start lacking passes → kept new ≡ kept s
+kept_by s new answer true under start lacking passes x = ap kept x.state
+kept_by s new answer false (Some u) start lacking passes x = ap kept x.state
+kept_by s new answer false None (Some request) lacking passes x = ap kept x.state
+kept_by s new answer false None None (Some kind) passes x = ap kept x.state
+kept_by s new answer false None None None (Some kind) x = ap kept x.state
+kept_by s new answer false None None None None x = kept_after_keys s new answer x.work x.under x.then_
+
+turn_keeps : (s new : State) (answer : Next) → IsTurn s new answer → kept new ≡ kept s
+turn_keeps s new answer turn = kept_by s new answer s.memory.stale s.under (start_call s.role s.memory) (unlisted s) (passing s) turn
+
+pub turn_role : (s new : State) (answer : Next) → IsTurn s new answer → new.role ≡ s.role
+turn_role s new answer turn = ap (λ (k : Kept). k.0) (turn_keeps s new answer turn)
+
+pub turn_memory : (s new : State) (answer : Next) → IsTurn s new answer → new.memory ≡ s.memory
+turn_memory s new answer turn = ap (λ (k : Kept). k.1) (turn_keeps s new answer turn)
+
+pub idle_after : (s new : State) (answer : Next) (mine : List Entry) → IsTurn s new answer → MayBeIdle s.role s.memory mine → MayBeIdle new.role new.memory mine
+idle_after s new answer mine turn idle = subst (λ (k : Kept). MayBeIdle k.0 k.1 mine) (sym (turn_keeps s new answer turn)) idle
+
+-- an answer leaves the actor what it is
+pub told_role : (s : State) (caches : AllKnown) (request : Request) (reply : Reply) → (absorbed s caches request (Told reply)).role ≡ s.role
+told_role s caches request reply = by s.given
+  where
+    with_ : State
+    with_ = learned s caches request reply
+
+    under : (u : Option Under) → (task_told with_ reply u).role ≡ s.role
+    under None = refl
+    under (Some u) = refl
+
+    by : (g : Option Given) → (given_told with_ request reply g).role ≡ s.role
+    by None = refl
+    by (Some givens.Task) = under with_.under
+    by (Some givens.Start) = refl
+    by (Some (givens.Read kind)) = refl
+
+pub still_kind : (kind : SeatKind) (s given after : State) (answer : Next) (request : Request) (reply : Reply) → kind ≡ s.role.kind → IsTurn s given answer → after ≡ absorbed given after.caches request (Told reply) → (kind ≡ given.role.kind) × (kind ≡ after.role.kind)
+still_kind kind s given after answer request reply is turn state =
+    let asked : kind ≡ given.role.kind = is ∙ ap (λ (r : Role). r.kind) (sym (turn_role s given answer turn)) in
+    (asked, asked ∙ ap (λ (r : Role). r.kind) (sym (told_role given after.caches request reply)) ∙ ap (λ (t : State). t.role.kind) (sym state))
+
+-- the entry that was made is the actor's
+pub entry_told : (seat : ℕ) (kind : SeatKind) (given : State) (request : Request) (reply : Reply) (h past : List Entry) → kind ≡ given.role.kind
+    → past ≡ (record { seat = seat; kind = kind; request = request; reply = reply; told = true }) ∷ h → past ≡ told_entry seat given request reply ∷ h
+entry_told seat kind given request reply h past same is = is ∙ ap (λ (k : SeatKind). (record { seat = seat; kind = k; request = request; reply = reply; told = true }) ∷ h) same
+
+-- a binder is never told that its epoch is stale
+
+binder_forgets : (role : Role) → role.kind ≡ seats.Binder → (mine : List Entry) → memory_of role mine ≡ no_memory
+binder_forgets role binder [] = refl
+binder_forgets role binder (e ∷ mine) = by e.told (binder_forgets role binder mine)
+  where
+    by : (told : Bool) → memory_of role mine ≡ no_memory → (if told then memory_after role e.request e.reply (memory_of role mine) else memory_of role mine) ≡ no_memory
+    by true rest = ap (λ kind. remembers kind role.node e.request e.reply (memory_of role mine)) binder ∙ rest
+    by false rest = rest
+
+pub binder_fresh : (s : State) (mine : List Entry) → s.role.kind ≡ seats.Binder → StandsFor s mine → s.memory.stale ≡ false
+binder_fresh s mine binder stands = ap (λ (m : Memory). m.stale) (stands.memory ∙ binder_forgets s.role binder mine)
+
+-- a call that was made and told
+pub stands_on : (given after : State) (setup : Setup) (h past : List Entry) (seat : ℕ) (e : Entry) → past ≡ e ∷ h → e.seat ≡ seat → IsHistory setup past
+    → ((mine : List Entry) → AreOwn (e ∷ mine) → StandsFor given mine → StandsFor after (e ∷ mine))
+    → StandsFor given (own seat h) → StandsFor after (own seat past)
+stands_on given after setup h past seat e is of_seat history absorbs stands =
+    let front : own seat past ≡ e ∷ own seat h = ap (own seat) is ∙ own_mine e h seat of_seat in
+    let mine : AreOwn (e ∷ own seat h) = record { setup = setup; past = past; seat = seat; history = history; own = sym front } in
+    subst (λ m. StandsFor after m) (sym front) (absorbs (own seat h) mine stands)
+
+-- a woken actor that has a call left makes one
+pub ran_busy : {E : Type 0} (seat : ℕ) (after s : State) (past h : List Entry) (b : ℕ) (r : Result Ran E) → IfOk r (λ (ran : Ran). Runs seat after past ran.left ran.idle s h b)
+    → WokenIsBusy s → s.memory.stale ≡ false → IfOk r (λ (ran : Ran). 0 < b → ran.left < b)
+ran_busy seat after s past h b (Ok ran) runs busy fresh = run_busy seat after past ran.left ran.idle s h b runs busy fresh
+ran_busy seat after s past h b (Err e) runs busy fresh = tt

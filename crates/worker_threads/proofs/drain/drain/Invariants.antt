@@ -1,0 +1,20 @@
+use Rattle.std.proofs.Common.{◌≡◌, ◌≤◌, ℕ, List}
+use Rattle.call_types.specs.declared.entry.Entry.{Entry}
+use Rattle.worker_threads.specs.declared.drainers.Drainer.{Drainer}
+use Rattle.worker_threads.specs.Drainers.{AreStanding, seats_of}
+use Rattle.worker_threads.specs.Longer.{HasGrown}
+use Rattle.worker_threads.specs.Rounds.{Drains}
+use Rattle.worker_threads.proofs.drain.drain.Given as goal
+
+abbrev pub invariant-rounds : goal.invariant-rounds
+invariant-rounds l = record {
+  few : l.left ≤ l.budget;
+  drains : (after : List Drainer) (past : List Entry) (left : ℕ) → Drains l.initial.world.setup after past left l.drainers l.world.past l.left → Drains l.initial.world.setup after past left l.initial.drainers l.initial.world.past l.budget;
+  stands : AreStanding l.drainers l.world.past;
+  seats : seats_of l.drainers ≡ seats_of l.initial.drainers;
+  setup : l.world.setup ≡ l.initial.world.setup;
+  grown : HasGrown (seats_of l.initial.drainers) l.initial.world.past l.world.past;
+}
+
+abbrev pub decreases-rounds : goal.decreases-rounds
+decreases-rounds l = l.left

@@ -1,0 +1,99 @@
+use Rattle.std.proofs.Common.{◌≡◌, ◌∙◌, ◌+◌, ◌≤◌, ◌&&◌, ◌++◌, sym, subst, refl, arith, length, take, List, [], ◌∷◌, Some, ℕ, Bool}
+use Rattle.std.specs.Prelude.{slice_get, slice_set}
+use Rattle.std.proofs.lemmas.Option.{slice_get_within}
+use Rattle.worker_core.specs.Stands.{StandsFor}
+use Rattle.worker_threads.specs.Drainers.{AreSeats, seats_of}
+use Rattle.worker_threads.specs.Longer.{HasGrown}
+use Rattle.worker_threads.specs.Rounds.{IsRound}
+use Rattle.worker_threads.proofs.Entries.{grown_then, grown_wider, not_grown}
+use Rattle.worker_threads.proofs.RunFacts.{run_left}
+use Rattle.worker_threads.proofs.RoundFacts.{IsIdleAt, and_else, and_then, at_place, both, each_set, fewer_left, length_set, one_of_seats, same_length, seats_set, turn_more, turns_end}
+use Rattle.worker_threads.proofs.round.turns.Goals as goal
+use Rattle.worker_threads.proofs.round.turns.Goals.{then-whole, else-whole}
+
+pub loop-place-init : goal.loop-place-init
+loop-place-init c = record {
+  few = omega arith;
+  some = λ more any. absurd (omega arith);
+  round = λ past left after whole r. r;
+  stands = λ place d lt at. c.requires.stands place d at;
+  idle = λ still place d lt at. absurd (omega arith);
+  seats = refl;
+  setup = refl;
+  grown = not_grown (seats_of c.args.drainers.now.items) c.args.world.now.past c.args.world.now.past refl;
+}
+
+pub turn-requires : goal.turn-requires
+turn-requires c =
+    let items = c.loop-place.drainers.items in
+    let d = c.index_mut.result.now in
+    let at : slice_get items c.loop-place.place ≡ Some d = at_place c.args.drainers.now.items items c.loop-place.place d c.loop-place.invariant.seats (omega (arith, c.loop-place-test.true, c.len-place-end.ensures)) c.index_mut.ensures.value in
+    c.loop-place.invariant.stands c.loop-place.place d (slice_get_within items c.loop-place.place d at) at
+
+pub returns-in_err-ran-clause-grown : goal.returns-in_err-ran-clause-grown
+returns-in_err-ran-clause-grown c =
+    let items = c.loop-place.drainers.items in
+    let d = c.index_mut.result.now in
+    let at : slice_get items c.loop-place.place ≡ Some d = at_place c.args.drainers.now.items items c.loop-place.place d c.loop-place.invariant.seats (omega (arith, c.loop-place-test.true, c.len-place-end.ensures)) c.index_mut.ensures.value in
+    let i = c.loop-place.invariant in
+    let wide = grown_wider (d.seat ∷ []) (seats_of items) (one_of_seats items c.loop-place.place d at) c.loop-place.world.past c.turn.new.world.past c.turn.ensures.grown in
+    grown_then (seats_of c.args.drainers.now.items) c.args.world.now.past c.loop-place.world.past c.turn.new.world.past i.grown
+    (subst (λ (seats : List ℕ). HasGrown seats c.loop-place.world.past c.turn.new.world.past) i.seats wide)
+
+pub returns-in_err-ran-clause-seats : goal.returns-in_err-ran-clause-seats
+returns-in_err-ran-clause-seats c =
+    let items = c.loop-place.drainers.items in
+    let d = c.index_mut.result.now in
+    let at : slice_get items c.loop-place.place ≡ Some d = at_place c.args.drainers.now.items items c.loop-place.place d c.loop-place.invariant.seats (omega (arith, c.loop-place-test.true, c.len-place-end.ensures)) c.index_mut.ensures.value in
+    seats_set items c.loop-place.place d c.turn.new.drainer at c.turn.ensures.seat ∙ c.loop-place.invariant.seats
+
+pub loop-place-preserved : goal.loop-place-preserved
+loop-place-preserved c =
+    let items = c.loop-place.drainers.items in
+    let place = c.loop-place.place in
+    let d = c.index_mut.result.now in
+    let ran = c.turn.new.drainer in
+    let h = c.loop-place.world.past in
+    let new = c.turn.new.world.past in
+    let left = c.loop-place.left in
+    let rest = c.in_ok-ran.ran.left in
+    let idle = c.in_ok-ran.ran.idle in
+    let i = c.loop-place.invariant in
+    let r = c.in_ok-ran.ensures in
+    let at : slice_get items place ≡ Some d = at_place c.args.drainers.now.items items c.loop-place.place d c.loop-place.invariant.seats (omega (arith, c.loop-place-test.true, c.len-place-end.ensures)) c.index_mut.ensures.value in
+    let low : rest ≤ left = run_left _ _ _ _ _ _ _ _ r.runs in
+    let whole : c.if-whole.whole ≡ (c.loop-place.whole && idle) =
+    elim c.if-whole.branch [ then-whole w ↦ and_then _ _ _ w.if-whole.true w.whole-is | else-whole w ↦ and_else _ _ _ w.if-whole.false w.whole-is ] in
+    let seats_ok = subst (λ (seats : List ℕ). AreSeats seats) (sym i.seats) c.requires.seats in
+    let grown = c.turn.ensures.grown in
+    let wide = grown_wider (d.seat ∷ []) (seats_of items) (one_of_seats items place d at) h new grown in
+    record {
+      few = omega (arith, i.few, low);
+      some = λ more any. fewer_left rest left c.args.budget low i.few r.some any;
+      round = λ past last after all more. subst (λ (w : Bool). IsRound past last c.args.drainers.now.items c.args.world.now.past c.args.budget (take (place + 1) (slice_set items place ran) ++ after) (w && all)) (sym whole)
+          (turn_more c.args.drainers.now.items c.args.world.now.past c.args.budget items place d ran h new left rest c.loop-place.whole idle i.round at r.seat r.runs past last after all more);
+      stands = each_set StandsFor (length items) (length (slice_set items place ran)) items place d ran h new seats_ok at grown (λ p lt other. omega (arith, lt, length_set items place ran)) i.stands r.stands;
+      idle = λ still.
+          let halves = both c.loop-place.whole idle (sym whole ∙ still) in
+          each_set IsIdleAt place (place + 1) items place d ran h new seats_ok at grown (λ p lt other. omega arith) (i.idle halves.0) (r.idle halves.1);
+      seats = seats_set items place d ran at r.seat ∙ i.seats;
+      setup = r.setup ∙ i.setup;
+      grown = grown_then (seats_of c.args.drainers.now.items) c.args.world.now.past h new i.grown (subst (λ (seats : List ℕ). HasGrown seats h new) i.seats wide);
+    }
+
+pub returns-clause-round : goal.returns-clause-round
+returns-clause-round c =
+    let items = c.loop-place.drainers.items in
+    let same = same_length items c.args.drainers.now.items c.loop-place.invariant.seats in
+    let all : c.loop-place.place ≡ length items = omega (arith, same, c.loop-place-test.false, c.len-place-end.ensures, c.loop-place.auto.place-end) in
+    turns_end c.args.drainers.now.items c.args.world.now.past c.args.budget items c.loop-place.place c.loop-place.world.past c.loop-place.left c.loop-place.whole all c.loop-place.invariant.round
+
+pub returns-clause-stands : goal.returns-clause-stands
+returns-clause-stands c = λ place d at. c.loop-place.invariant.stands place d (slice_get_within c.loop-place.drainers.items place d at) at
+
+pub returns-clause-idle : goal.returns-clause-idle
+returns-clause-idle c = λ still place d at.
+    let items = c.loop-place.drainers.items in
+    let same = same_length items c.args.drainers.now.items c.loop-place.invariant.seats in
+    let within = slice_get_within items place d at in
+    c.loop-place.invariant.idle still place d (omega (arith, same, within, c.loop-place-test.false, c.len-place-end.ensures)) at

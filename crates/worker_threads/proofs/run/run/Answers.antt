@@ -1,0 +1,51 @@
+use Rattle.std.proofs.Common.{◌≡◌, ◌∙◌, ◌-◌, subst, refl, arith, List}
+use Rattle.call_types.specs.declared.entry.Entry.{Entry}
+use Rattle.binder_model.specs.Told.{own}
+use Rattle.worker_core.specs.declared.turn.Next.{Next}
+use Rattle.worker_core.specs.Turns.{IsTurn}
+use Rattle.worker_threads.specs.Rounds.{Asks, IsIdle, IsSpent, Runs, told_entry}
+use Rattle.worker_threads.proofs.Entries.{grown_more}
+use Rattle.worker_threads.proofs.RunFacts.{entry_told, idle_after, stands_on, still_kind}
+use Rattle.worker_threads.proofs.run.run.Goals as goal
+
+pub returns-in-Idle-clause-runs : goal.returns-in-Idle-clause-runs
+returns-in-Idle-clause-runs c =
+    c.loop-left.invariant.runs _ _ _ _ (IsIdle c.loop-left-test.true (subst (λ (a : Next). IsTurn c.loop-left.actor c.next.new.self a) c.in-Idle.is c.in_ok-next.ensures.turn) refl refl refl)
+
+pub returns-in-Idle-clause-idle : goal.returns-in-Idle-clause-idle
+returns-in-Idle-clause-idle c = λ still.
+    let mine = own c.args.seat c.loop-left.world.past in
+    idle_after c.loop-left.actor c.next.new.self _ mine c.in_ok-next.ensures.turn (c.in_ok-next.ensures.idle mine c.loop-left.invariant.stands c.in-Idle.is)
+
+pub returns-in_err-absorb-in-Call-clause-grown : goal.returns-in_err-absorb-in-Call-clause-grown
+returns-in_err-absorb-in-Call-clause-grown c = grown_more c.args.seat _ _ _ _ c.loop-left.invariant.grown c.in_ok-reply-in-Call.ensures.entry refl refl
+
+pub loop-left-preserved-in_ok-absorb-in-Call : goal.loop-left-preserved-in_ok-absorb-in-Call
+loop-left-preserved-in_ok-absorb-in-Call c =
+    let i = c.loop-left.invariant in
+    let s = c.loop-left.actor in
+    let given = c.next.new.self in
+    let after = c.absorb.new.self in
+    let h = c.loop-left.world.past in
+    let new = c.ask.new.world.past in
+    let request = c.in-Call.request in
+    let reply = c.in_ok-reply-in-Call.reply in
+    let e = told_entry c.args.seat given request reply in
+    let kinds = still_kind c.args.kind s given after _ request reply i.kind c.in_ok-next.ensures.turn c.in_ok-absorb-in-Call.ensures.state in
+    let entry = entry_told c.args.seat c.args.kind given request reply h new kinds.0 c.in_ok-reply-in-Call.ensures.entry in
+    let turn = subst (λ (a : Next). IsTurn s given a) c.in-Call.is c.in_ok-next.ensures.turn in
+    let mine = own c.args.seat h in
+    record {
+      few = omega (arith, i.few, c.loop-left-test.true);
+      kind = kinds.1;
+      runs = λ last past left idle more. i.runs last past left idle (Asks given after request reply c.loop-left-test.true turn c.in_ok-absorb-in-Call.ensures.state (subst (λ (p : List Entry). Runs c.args.seat last past left idle after p (c.loop-left.left - 1)) entry more));
+      stands = stands_on given after c.ask.new.world.setup h new c.args.seat e entry refl c.in_ok-reply-in-Call.ensures.history
+          (λ own_mine is_own stands. c.in_ok-absorb-in-Call.ensures.told own_mine e reply refl (record { told = refl; asked = refl; answered = refl }) refl is_own stands)
+          (c.in_ok-next.ensures.stands mine i.stands);
+      history = c.in_ok-reply-in-Call.ensures.history;
+      setup = c.ask.ensures.setup ∙ i.setup;
+      grown = grown_more c.args.seat _ h new e i.grown entry refl refl;
+    }
+
+pub returns-clause-runs : goal.returns-clause-runs
+returns-clause-runs c = let none : c.loop-left.left ≡ 0 = omega (arith, c.loop-left-test.false) in c.loop-left.invariant.runs _ _ _ _ (IsSpent none refl refl refl refl)

@@ -1,0 +1,23 @@
+use Rattle.std.proofs.Common.{◌≡◌, ◌≤◌, ℕ, List, [], ◌∷◌, Bool}
+use Rattle.call_types.specs.declared.entry.Entry.{Entry}
+use Rattle.binder_model.specs.Told.{own}
+use Rattle.binder_model.specs.World.{IsHistory}
+use Rattle.worker_core.specs.Stands.{StandsFor}
+use Rattle.worker_core.specs.States.{State}
+use Rattle.worker_threads.specs.Longer.{HasGrown}
+use Rattle.worker_threads.specs.Rounds.{Runs}
+use Rattle.worker_threads.proofs.run.run.Given as goal
+
+abbrev pub invariant-loop-left : goal.invariant-loop-left
+invariant-loop-left l = record {
+  few : l.left ≤ l.budget;
+  kind : l.kind ≡ l.actor.role.kind;
+  runs : (after : State) (past : List Entry) (left : ℕ) (idle : Bool) → Runs l.seat after past left idle l.actor l.world.past l.left → Runs l.seat after past left idle l.initial.actor l.initial.world.past l.budget;
+  stands : StandsFor l.actor (own l.seat l.world.past);
+  history : IsHistory l.world.setup l.world.past;
+  setup : l.world.setup ≡ l.initial.world.setup;
+  grown : HasGrown (l.seat ∷ []) l.initial.world.past l.world.past;
+}
+
+abbrev pub decreases-loop-left : goal.decreases-loop-left
+decreases-loop-left l = l.left

@@ -1,0 +1,43 @@
+-- The actors of a drain: their seats, and that each stands for its seat's entries.
+-- A choice of this project.
+use Rattle.std.specs.Prelude.{ℕ, ◌≡◌, ◌<◌, List, [], ◌∷◌, Some, length, map, slice_get, ⊤}
+use Rattle.call_types.specs.declared.entry.Entry.{Entry}
+use Rattle.call_types.specs.declared.request.SeatKind.TheVariants as seats
+use Rattle.binder_model.specs.Told.{own}
+use Rattle.worker_core.specs.Stands.{IsNew, MayBeIdle, StandsFor}
+use Rattle.worker_threads.specs.declared.drainers.Drainer.{Drainer}
+
+abbrev pub seats_of : List Drainer → List ℕ
+seats_of ds = map (λ (d : Drainer). d.seat) ds
+
+-- there is a seat, and none stands twice
+pub record AreSeats (seats : List ℕ) : Type 0 where
+  pub some : 0 < length seats
+  pub differ : (i j seat : ℕ) → slice_get seats i ≡ Some seat → slice_get seats j ≡ Some seat → i ≡ j
+
+-- the actor stands for the entries of its seat
+abbrev pub IsStanding : Drainer → List Entry → Type 0
+IsStanding d past = StandsFor d.actor (own d.seat past)
+
+abbrev pub AreStanding : List Drainer → List Entry → Type 0
+AreStanding ds past = (place : ℕ) (d : Drainer) → slice_get ds place ≡ Some d → IsStanding d past
+
+-- the actor may be idle: none of its kinds has news
+abbrev pub IsIdleNow : Drainer → List Entry → Type 0
+IsIdleNow d past = MayBeIdle d.actor.role d.actor.memory (own d.seat past)
+
+abbrev pub AreIdle : List Drainer → List Entry → Type 0
+AreIdle ds past = (place : ℕ) (d : Drainer) → slice_get ds place ≡ Some d → IsIdleNow d past
+
+-- none of these seats has an entry
+abbrev pub HaveNoEntries : List ℕ → List Entry → Type 0
+HaveNoEntries [] past = ⊤
+HaveNoEntries (seat ∷ seats) past = (own seat past ≡ []) × HaveNoEntries seats past
+
+-- new actors: a binder at the first seat. Later actors come with their own seats, in the order in which seats are counted
+-- (binder, ops, scheduler, claim protection, volume protection, agents by node), and stand in the order of a round
+pub record AreNew (first_seat : ℕ) (ds : List Drainer) : Type 0 where
+  pub binder : Drainer
+  pub are : ds ≡ binder ∷ []
+  pub seat : binder.seat ≡ first_seat
+  pub is_new : IsNew (record { kind = seats.Binder; node = [] }) binder.actor

@@ -1,0 +1,3 @@
+pub mod Drainers
+pub mod Longer
+pub mod Rounds

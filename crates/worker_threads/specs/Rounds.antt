@@ -1,0 +1,63 @@
+-- How actors are run on a world: one actor until it is idle or the budget of calls is spent; a round of all of them; and
+-- rounds while something is due. The newest entry of a history stands first.
+-- A choice of this project.
+use Rattle.std.specs.Prelude.{ℕ, ◌≡◌, ◌<◌, ◌+◌, ◌-◌, Bool, true, false, ◌&&◌, List, [], ◌∷◌, Option, Some, None}
+use Rattle.kube_types.specs.declared.key.Key.{Key}
+use Rattle.kube_types.specs.declared.names.Due.{Due}
+use Rattle.call_types.specs.declared.entry.Entry.{Entry}
+use Rattle.call_types.specs.declared.request.Request.{Request}
+use Rattle.call_types.specs.declared.reply.Reply.{Reply}
+use Rattle.call_types.specs.declared.setup.Setup.{Setup}
+use Rattle.binder_model.specs.World.{world}
+use Rattle.world_core.specs.declared.drained.Drained.{Drained}
+use Rattle.world_core.specs.declared.drained.Drained.TheVariants.{Settled, Spent}
+use Rattle.settle_check.specs.SoFar.{IsFirstBuiltDue, IsSettledSoFar}
+use Rattle.worker_core.specs.declared.turn.Next.TheVariants.{Call, Idle}
+use Rattle.worker_core.specs.declared.turn.Outcome.TheVariants.{Told}
+use Rattle.worker_core.specs.Absorbs.{absorbed, woken}
+use Rattle.worker_core.specs.States.{State}
+use Rattle.worker_core.specs.Turns.{IsTurn}
+use Rattle.worker_threads.specs.declared.drainers.Drainer.{Drainer}
+
+-- the entry of an actor's call, whose answer was told
+abbrev pub told_entry : ℕ → State → Request → Reply → Entry
+told_entry seat s request reply = record { seat = seat; kind = s.role.kind; request = request; reply = reply; told = true }
+
+-- the actor is run at its seat until it is idle or the budget is spent: from a state, some entries and a budget to the
+-- state `after` and the entries `past`, with so many calls left, and idle or not
+pub data Runs (seat : ℕ) (after : State) (past : List Entry) (left : ℕ) (idle : Bool) : State → List Entry → ℕ → Type 0 where
+  IsSpent : {s : State} {h : List Entry} {b : ℕ} → b ≡ 0 → after ≡ s → past ≡ h → left ≡ b → idle ≡ false → Runs seat after past left idle s h b
+  IsIdle : {s : State} {h : List Entry} {b : ℕ} → 0 < b → IsTurn s after Idle → past ≡ h → left ≡ b → idle ≡ true → Runs seat after past left idle s h b
+  Asks : {s : State} {h : List Entry} {b : ℕ} (given next : State) (request : Request) (reply : Reply) → 0 < b → IsTurn s given (Call request) → next ≡ absorbed given next.caches request (Told reply)
+      → Runs seat after past left idle next (told_entry seat given request reply ∷ h) (b - 1) → Runs seat after past left idle s h b
+
+-- each actor in its turn is woken and run, with what the others have left of the budget. The round is whole where each was
+-- idle at the end of its turn
+pub data IsRound (past : List Entry) (left : ℕ) : List Drainer → List Entry → ℕ → List Drainer → Bool → Type 0 where
+  Ends : {h : List Entry} {b : ℕ} → past ≡ h → left ≡ b → IsRound past left [] h b [] true
+  Turns : {h : List Entry} {b : ℕ} {ds after : List Drainer} {whole : Bool} (d ran : Drainer) (middle : List Entry) (rest : ℕ) (idle : Bool)
+      → ran.seat ≡ d.seat → Runs d.seat ran.actor middle rest idle (woken d.actor) h b → IsRound past left ds middle rest after whole
+      → IsRound past left (d ∷ ds) h b (ran ∷ after) (idle && whole)
+
+-- rounds are made while something is due and the budget is not spent
+pub data Drains (setup : Setup) (after : List Drainer) (past : List Entry) (left : ℕ) : List Drainer → List Entry → ℕ → Type 0 where
+  IsSettled : {ds : List Drainer} {h : List Entry} {b : ℕ} → IsSettledSoFar setup (world setup h) → after ≡ ds → past ≡ h → left ≡ b → Drains setup after past left ds h b
+  IsSpent : {ds : List Drainer} {h : List Entry} {b : ℕ} (first : Key × Due) → IsFirstBuiltDue setup (world setup h) (Some first) → b ≡ 0 → after ≡ ds → past ≡ h → left ≡ b → Drains setup after past left ds h b
+  Goes : {ds : List Drainer} {h : List Entry} {b : ℕ} (first : Key × Due) → IsFirstBuiltDue setup (world setup h) (Some first) → 0 < b
+      → (between : List Drainer) (middle : List Entry) (rest : ℕ) (whole : Bool) → IsRound middle rest ds h b between whole
+      → Drains setup after past left between middle rest → Drains setup after past left ds h b
+
+-- how many calls a drain has made
+abbrev pub made_of : Drained → ℕ
+made_of (Settled made) = made
+made_of (Spent made key due) = made
+
+-- how a drain ends: settled where nothing is due, else with the budget spent and the first that is due
+abbrev pub EndsWith : Setup → List Entry → ℕ → Drained → Type 0
+EndsWith setup past budget (Settled made) = IsSettledSoFar setup (world setup past)
+EndsWith setup past budget (Spent made key due) = (made ≡ budget) × IsFirstBuiltDue setup (world setup past) (Some (key, due))
+
+-- what a drain finds between two rounds: it ends here, having made what is not left; or something is due, and calls are left
+abbrev pub EndsHere : Setup → List Entry → ℕ → ℕ → Option Drained → Type 0
+EndsHere setup past budget left (Some drained) = EndsWith setup past budget drained × (left + made_of drained ≡ budget)
+EndsHere setup past budget left None = (0 < left) × ((first : Key × Due) × IsFirstBuiltDue setup (world setup past) (Some first))

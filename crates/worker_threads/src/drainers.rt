@@ -1,0 +1,75 @@
+//! The actors of a drain.
+
+ghost use Rattle.std.specs.Prelude.{◌≡◌, ◌+◌, ◌<◌, ◌^◌, [], ◌∷◌, List, IfOk, length};
+ghost use Rattle.call_types.specs.declared.entry.Entry.{Entry};
+ghost use Rattle.worker_threads.specs.Drainers.{AreNew, AreStanding, HaveNoEntries, seats_of};
+
+use call_types::request::SeatKind;
+use kube_types::copies::OutOfMemory;
+use kube_types::text::{Names, Text};
+use std::alloc::Global;
+use std::marker::Model;
+use worker_core::actor::Actor;
+
+/// An actor and its seat.
+#[derive(Debug)]
+pub struct Drainer {
+    pub seat: u64,
+    pub actor: Actor,
+}
+
+impl Drop for Drainer {
+    fn drop(self) {
+        let Drainer { seat: _, actor } = self;
+        drop(actor);
+    }
+}
+
+/// The actors of a drain, in the order of a round: the scheduler, ops, the binder, claim protection, volume protection, and
+/// the agents by the names of their nodes. Contracts see the list of them. Their seats differ.
+pub struct Drainers {
+    pub(crate) alloc: Global,
+    pub(crate) list: Vec<Drainer>,
+}
+
+impl Drop for Drainers {
+    fn drop(self) {
+        let Drainers { alloc: _, list } = self;
+        drop(list);
+    }
+}
+
+impl Model for Drainers {
+    ghost use Rattle.std.specs.Prelude.{List};
+    ghost use Rattle.worker_threads.specs.declared.drainers.Drainer.{Drainer};
+    ghost use Rattle.worker_threads.specs.Drainers.{AreSeats, seats_of};
+
+    ghost Value = { List Drainer };
+
+    ghost view = { λ d. d.list.items };
+
+    ghost invariant = { λ d. AreSeats (seats_of d.list.items) };
+}
+
+/// The seats of the actors, counted from the first one on: binder, ops, scheduler, claim protection, volume protection, and
+/// then the agents. An actor that is not built keeps its number.
+const BINDER: u64 = 0;
+
+impl Drainers {
+    /// New actors for a world with these nodes. They stand for the entries of their seats where these have none.
+    pub fn new(alloc: Global, _nodes: &Names, first_seat: u64) -> Result<Drainers, OutOfMemory>
+        requires { first_seat + length _nodes.now < 2 ^ 63 }
+        ensures are { IfOk result (λ drainers. AreNew first_seat drainers) }
+        ensures stand { IfOk result (λ drainers. (past : List Entry) → HaveNoEntries (seats_of drainers) past → AreStanding drainers past) }
+    {
+        let node = Text::new(alloc, "")?;
+        let actor = Actor::new(alloc, SeatKind::Binder, &node)?;
+        let binder = Drainer {
+            seat: first_seat + BINDER,
+            actor,
+        };
+        let mut list = Vec::new(alloc);
+        list.push(binder)?;
+        Ok(Drainers { alloc, list })
+    }
+}

@@ -1,0 +1,14 @@
+//! Actors that are run on one world, one after the other.
+//!
+//! `drain::drain` makes rounds while something is due and calls are left; `round::round` wakes each drainer in its turn and
+//! runs it until it is idle. Promises: a round is exactly that (`specs/Rounds`), and a drain exactly such rounds; the world's
+//! history is the earlier one and then as many entries as were made, all of the drainers' seats and told, so it stays a run;
+//! no other seat's entries change; each drainer stands for its seat's entries again; a drain ends Settled exactly where
+//! nothing is due, else Spent exactly where the budget is. Not said: that any budget is enough to settle a world.
+//! The binder is the only actor that is built. Threads come later.
+#![tactic(auto)]
+
+pub mod drain;
+pub mod drainers;
+pub mod round;
+mod run;
