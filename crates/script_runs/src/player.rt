@@ -84,6 +84,7 @@ fn step(world: &mut KeptWorld, player: &mut Player) -> Result<bool, OutOfMemory>
     ensures setup { world.new.setup ≡ world.old.setup }
 {
     begin_life(player);
+    let _kind = player.actor.kind();
     let answer = player.actor.next()?;
     let kind = player.actor.kind();
     match &answer {

@@ -173,8 +173,8 @@ impl Stage {
         requires { SomeStands script.now option self.old }
         ensures { IfOk result (λ ending. (p : Progress) → Stands script.now option p self.old → Ended script.now option p self.new ending) }
     {
-        let drained = self.drain(script, option)?;
-        ended(alloc, self.drained, &drained)
+        let last = self.drain(script, option)?;
+        ended(alloc, self.drained, &last)
     }
 
     /// The world alone.
