@@ -5,17 +5,17 @@ use Rattle.std.specs.List.{list_any}
 use Rattle.std.proofs.lemmas.Slice.Eq.{bytes_eq-Decides}
 use Rattle.call_types.specs.declared.request.SeatKind.TheVariants as seats
 use Rattle.model_laws.proofs.Lists.{none_some, one}
-use Rattle.script_text.specs.declared.actors.WorkerKind.{WorkerKind}
-use Rattle.script_text.specs.declared.actors.WorkerKind.TheVariants as workers
-use Rattle.script_text.specs.declared.actors.WorkerNumber.{WorkerNumber}
-use Rattle.script_text.specs.declared.actors.WorkerNumber.TheVariants.{One, Two, Three, Four}
-use Rattle.script_text.specs.declared.actors.Worker.{Worker as WorkerData}
-use Rattle.script_text.specs.declared.actors.Actor.{Actor}
-use Rattle.script_text.specs.declared.actors.Actor.TheVariants.{Worker, Agent}
+use Rattle.script_lines.specs.declared.actors.WorkerKind.{WorkerKind}
+use Rattle.script_lines.specs.declared.actors.WorkerKind.TheVariants as workers
+use Rattle.script_lines.specs.declared.actors.WorkerNumber.{WorkerNumber}
+use Rattle.script_lines.specs.declared.actors.WorkerNumber.TheVariants.{One, Two, Three, Four}
+use Rattle.script_lines.specs.declared.actors.Worker.{Worker as WorkerData}
+use Rattle.script_lines.specs.declared.actors.Actor.{Actor}
+use Rattle.script_lines.specs.declared.actors.Actor.TheVariants.{Worker, Agent}
 use Rattle.script_text.specs.declared.script.Line.{Line}
 use Rattle.script_text.specs.declared.script.Line.TheVariants as kinds_of_line
 use Rattle.script_text.specs.declared.script.Script.{Script}
-use Rattle.script_text.specs.Actors.{actor_word, agent_word, four, kind_prefix, number_word}
+use Rattle.script_lines.specs.Actors.{actor_word, agent_word, four, kind_prefix, number_word}
 use Rattle.script_runs.specs.declared.part.Part.{Part}
 use Rattle.script_runs.specs.Limits.{AreBuilt, AreWithinLimits, IsWithinLimits, is_actor_built, is_kind_built, is_line_built}
 use Rattle.script_runs.specs.Parts.{all_lives, drain_seat, is_named, is_turn_of, lives_by, lives_in, part_at, part_of}

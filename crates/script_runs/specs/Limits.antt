@@ -1,10 +1,10 @@
 -- The scripts that can be replayed: those that keep the limits of the format, and name actors that are built.
 -- A choice of this project.
 use Rattle.std.specs.Prelude.{ℕ, ◌≡◌, ◌≤◌, ◌<◌, ◌+◌, Bool, true, false, List, [], ◌∷◌, Option, Some, None, length, ⊤, if◌then◌else◌}
-use Rattle.script_text.specs.declared.actors.WorkerKind.{WorkerKind}
-use Rattle.script_text.specs.declared.actors.WorkerKind.TheVariants as workers
-use Rattle.script_text.specs.declared.actors.Actor.{Actor}
-use Rattle.script_text.specs.declared.actors.Actor.TheVariants.{Worker, Agent}
+use Rattle.script_lines.specs.declared.actors.WorkerKind.{WorkerKind}
+use Rattle.script_lines.specs.declared.actors.WorkerKind.TheVariants as workers
+use Rattle.script_lines.specs.declared.actors.Actor.{Actor}
+use Rattle.script_lines.specs.declared.actors.Actor.TheVariants.{Worker, Agent}
 use Rattle.script_text.specs.declared.script.Line.{Line}
 use Rattle.script_text.specs.declared.script.Line.TheVariants.{Call, Lose, Restart, Turn, Drain}
 use Rattle.script_text.specs.declared.script.Script.{Script}

@@ -6,14 +6,14 @@ use Rattle.std.specs.Prelude.{ℕ, ◌+◌, List, [], ◌∷◌, ◌++◌, Bool,
 use Rattle.std.specs.List.{flat_map, list_any}
 use Rattle.call_types.specs.declared.request.SeatKind.{SeatKind}
 use Rattle.call_types.specs.declared.request.SeatKind.TheVariants as seats
-use Rattle.script_text.specs.declared.actors.WorkerKind.{WorkerKind}
-use Rattle.script_text.specs.declared.actors.WorkerKind.TheVariants as workers
-use Rattle.script_text.specs.declared.actors.Actor.{Actor}
-use Rattle.script_text.specs.declared.actors.Actor.TheVariants.{Worker, Agent}
+use Rattle.script_lines.specs.declared.actors.WorkerKind.{WorkerKind}
+use Rattle.script_lines.specs.declared.actors.WorkerKind.TheVariants as workers
+use Rattle.script_lines.specs.declared.actors.Actor.{Actor}
+use Rattle.script_lines.specs.declared.actors.Actor.TheVariants.{Worker, Agent}
 use Rattle.script_text.specs.declared.script.Line.{Line}
 use Rattle.script_text.specs.declared.script.Line.TheVariants.{Lose, Turn}
 use Rattle.script_text.specs.declared.script.Script.{Script}
-use Rattle.script_text.specs.Actors.{actor_word, all_workers}
+use Rattle.script_lines.specs.Actors.{actor_word, all_workers}
 use Rattle.script_text.specs.Said.{restarts_of}
 use Rattle.script_runs.specs.declared.loss.Loss.{Loss}
 use Rattle.script_runs.specs.declared.part.Part.{Part}

@@ -3,7 +3,7 @@
 ghost use Rattle.std.specs.Prelude.{◌≡◌, None};
 ghost use Rattle.script_runs.specs.Limits.{AreBuilt, first_unbuilt, is_actor_built, is_kind_built, is_line_built};
 
-use script_text::actors::{Actor, WorkerKind};
+use script_lines::actors::{Actor, WorkerKind};
 use script_text::script::{Line, Script};
 
 fn is_kind_built(kind: WorkerKind) -> bool

@@ -2,7 +2,7 @@
 
 ghost use Rattle.std.specs.Prelude.{◌≡◌, ◌<◌, ◌+◌, ◌^◌, IfOk, bytes_eq, length};
 ghost use Rattle.call_types.specs.declared.request.SeatKind.TheVariants as seats;
-ghost use Rattle.script_text.specs.Actors.{actor_word, worker_word};
+ghost use Rattle.script_lines.specs.Actors.{actor_word, worker_word};
 ghost use Rattle.script_text.specs.Said.{restarts_of};
 ghost use Rattle.script_runs.specs.Parts.{is_named, lost_calls, part_at};
 ghost use Rattle.script_runs.specs.Steps.Playing.{lives_of};
@@ -14,7 +14,7 @@ use kube_types::copies::OutOfMemory;
 use kube_types::items::Items;
 use kube_types::text::Text;
 use kube_types::words::Worded;
-use script_text::actors::{Actor, Worker};
+use script_lines::actors::{Actor, Worker};
 use script_text::script::Line;
 use std::alloc::Global;
 

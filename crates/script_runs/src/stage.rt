@@ -3,7 +3,7 @@
 ghost use Rattle.std.specs.Prelude.{◌≡◌, ◌≤◌, ◌<◌, ◌+◌, ◌-◌, ◌*◌, ◌^◌, true, IfOk, OnOk, Some, length, slice_get};
 ghost use Rattle.call_types.specs.declared.request.SeatKind.TheVariants as seats;
 ghost use Rattle.script_text.specs.declared.script.Line.{Line};
-ghost use Rattle.script_text.specs.Actors.{actor_word};
+ghost use Rattle.script_lines.specs.Actors.{actor_word};
 ghost use Rattle.worker_threads.specs.Rounds.{EndsWith, made_of};
 ghost use Rattle.script_runs.specs.Budget.{first_budget};
 ghost use Rattle.script_runs.specs.Limits.{AreBuilt, IsReadable, is_actor_built};
@@ -18,7 +18,7 @@ use crate::player::{Player, turn};
 use call_types::request::{Request, SeatKind};
 use kube_types::copies::{OutOfMemory, Plain};
 use kube_types::text::Text;
-use script_text::actors::{Actor, Worker, WorkerKind, WorkerNumber};
+use script_lines::actors::{Actor, Worker, WorkerKind, WorkerNumber};
 use script_text::script::{Line, Script};
 use std::alloc::Global;
 use world_core::drained::Drained;

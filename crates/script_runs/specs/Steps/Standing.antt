@@ -5,11 +5,11 @@ use Rattle.worker_threads.specs.Drainers.{AreStanding, seats_of}
 use Rattle.worker_threads.specs.Longer.{IsOneOf}
 use Rattle.world_core.specs.declared.drained.Drained.{Drained}
 use Rattle.world_core.specs.declared.drained.Drained.TheVariants.{Settled, Spent}
-use Rattle.script_text.specs.declared.actors.WorkerKind.TheVariants as workers
-use Rattle.script_text.specs.declared.actors.WorkerNumber.{WorkerNumber}
-use Rattle.script_text.specs.declared.actors.WorkerNumber.TheVariants.{One, Two, Three, Four}
-use Rattle.script_text.specs.declared.actors.Actor.{Actor}
-use Rattle.script_text.specs.declared.actors.Actor.TheVariants.{Worker, Agent}
+use Rattle.script_lines.specs.declared.actors.WorkerKind.TheVariants as workers
+use Rattle.script_lines.specs.declared.actors.WorkerNumber.{WorkerNumber}
+use Rattle.script_lines.specs.declared.actors.WorkerNumber.TheVariants.{One, Two, Three, Four}
+use Rattle.script_lines.specs.declared.actors.Actor.{Actor}
+use Rattle.script_lines.specs.declared.actors.Actor.TheVariants.{Worker, Agent}
 use Rattle.script_text.specs.declared.script.Line.{Line}
 use Rattle.script_text.specs.declared.script.Script.{Script}
 use Rattle.script_runs.specs.declared.part.Part.{Part}
@@ -17,7 +17,7 @@ use Rattle.script_runs.specs.declared.player.Player.{Player}
 use Rattle.script_runs.specs.declared.stage.Stage.{Stage}
 use Rattle.script_runs.specs.Budget.{most_budget}
 use Rattle.script_runs.specs.Parts.{first_actor_seat, part_at}
-use Rattle.script_text.specs.Actors.{actor_word}
+use Rattle.script_lines.specs.Actors.{actor_word}
 use Rattle.call_types.specs.declared.request.SeatKind.TheVariants as seats
 use Rattle.script_runs.specs.Replays.{AreMoves, EndsAs, IsDrain, IsMove, IsTurn, IsUserCall, Progress, begun}
 use Rattle.script_runs.specs.Steps.Playing.{EachPlayer, Plays, lives_of}
