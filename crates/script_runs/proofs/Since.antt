@@ -179,6 +179,9 @@ woken_since old new mine state stands = record {
 pub new_since : (s : State) → StandsFor s [] → StandsSince s [] []
 new_since s stands = record { stands = stands; recent = []; are = refl; pass = stands.pass }
 
+abbrev AreQuiet : List Entry → Type 0
+AreQuiet recent = (k : Kind) → follows seats.Binder k ≡ true → HasNoNews k recent
+
 -- where an actor is idle its kinds have no news since
 pub quiet_since : (s new : State) (answer : Next) (earlier mine : List Entry) → s.role.kind ≡ seats.Binder → s.memory.stale ≡ false → StandsSince s earlier mine → IsTurn s new answer → answer ≡ nexts.Idle → IsQuietSince seats.Binder earlier mine
 quiet_since s new answer earlier mine is fresh since turn idle = record {
@@ -197,18 +200,15 @@ quiet_since s new answer earlier mine is fresh since turn idle = record {
     each quiet past kinds.Node f = absurd (true≢false (sym f))
     each quiet past kinds.Pod f = absurd (true≢false (sym f))
 
-    abbrev Quiet : Type 0
-    Quiet = (k : Kind) → follows seats.Binder k ≡ true → HasNoNews k since.recent
-
-    no_call : (r : Request) → answer ≡ nexts.Call r → Quiet
+    no_call : (r : Request) → answer ≡ nexts.Call r → AreQuiet since.recent
     no_call r e = none_some (ap call_in (sym idle ∙ e))
 
-    keys : (w : Work) (under : Option Under) → 3 ≤ s.pass.behind → AfterKeys s new answer w under → Quiet
+    keys : (w : Work) (under : Option Under) → 3 ≤ s.pass.behind → AfterKeys s new answer w under → AreQuiet since.recent
     keys w (Some u) past b = no_call _ b.call
     keys w None past (inl b) = no_call _ b.call
     keys w None past (inr b) = each b.quiet past
 
-    by : (stale : Bool) (u : Option Under) (start : Option Request) (l p : Option Kind) → s.memory.stale ≡ stale → passing s ≡ p → TurnBy s new answer stale u start l p → Quiet
+    by : (stale : Bool) (u : Option Under) (start : Option Request) (l p : Option Kind) → s.memory.stale ≡ stale → passing s ≡ p → TurnBy s new answer stale u start l p → AreQuiet since.recent
     by true u start l p at ep t = absurd (true≢false (sym at ∙ fresh))
     by false (Some u) start l p at ep t = no_call _ t.call
     by false None (Some request) l p at ep t = no_call _ t.call
