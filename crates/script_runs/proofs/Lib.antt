@@ -4,6 +4,7 @@ mod Casting
 mod Calling
 mod Lives
 mod Orders
+mod Raising
 mod Since
 mod Staging
 mod Stepping
