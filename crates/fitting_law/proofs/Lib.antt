@@ -1,0 +1,4 @@
+pub mod Fields
+pub mod Writes
+pub mod Kept
+pub mod Law

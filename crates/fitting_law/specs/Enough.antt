@@ -1,0 +1,71 @@
+-- A claim never gets less than it asked for: what holds of each completed claim in each world of a run.
+-- A choice of this project; the mark is that of `pv_controller.go`, which stands where the controller made the binding.
+use Rattle.std.specs.Prelude.{◌≡◌, ◌⊎◌, true, false, List, [], ◌∷◌, Option, Some, is_some}
+use Rattle.kube_types.specs.declared.uid.Uid.{Uid}
+use Rattle.kube_types.specs.declared.key.Key.{Key}
+use Rattle.kube_types.specs.declared.objects.Volume.{Volume as VolumeData}
+use Rattle.kube_types.specs.declared.objects.Claim.{Claim as ClaimData}
+use Rattle.kube_types.specs.declared.objects.Object.TheVariants.{Volume, Claim}
+use Rattle.kube_types.specs.Keys.{row_at}
+use Rattle.kube_types.specs.Bindings.{is_completed, ref_uid}
+use Rattle.call_types.specs.declared.entry.Entry.{Entry}
+use Rattle.call_types.specs.declared.setup.Setup.{Setup}
+use Rattle.binder_model.specs.ObjectKeys.{volume_key}
+use Rattle.binder_model.specs.World.{world}
+use Rattle.binder_model.specs.Safe.{Counts, was_imported_as_lost}
+use Rattle.binder_model.specs.Promises.{IsRunOf}
+use Rattle.model_laws.specs.Stood.{Stood}
+use Rattle.world_moves.specs.Writes.{IsIn}
+use Rattle.fitting_law.specs.Fitting.{Fits, IsReservedFor, AreFitting, is_marked}
+
+-- each imported volume whose reference has the UID of this imported claim fits it
+abbrev pub ImportsFit : Setup → Option Uid → Type 0
+ImportsFit setup uid =
+    (v : VolumeData) (c : ClaimData) → IsIn (Volume v) setup.imports → IsIn (Claim c) setup.imports
+    → ref_uid v.claim_ref ≡ uid → c.meta.uid ≡ uid → Fits v c
+
+-- both were bound by hand: a version of the volume was reserved for the claim, and a version of the claim named the volume
+-- before it was completed
+pub record WerePair (setup : Setup) (past : List Entry) (v : VolumeData) (c : ClaimData) : Type 0 where
+  pub volume : VolumeData
+  pub volume_stood : Stood setup past (Volume volume)
+  pub same_volume : volume.meta.uid ≡ v.meta.uid
+  pub reserved : IsReservedFor volume c
+  pub claim : ClaimData
+  pub claim_stood : Stood setup past (Claim claim)
+  pub same_claim : claim.meta.uid ≡ c.meta.uid
+  pub named : claim.volume_name ≡ v.meta.name
+  pub undone : is_completed claim ≡ false
+
+-- the mark stands on the volume, and stood on none of its versions that had no UID in the reference: who gave it to a claim
+-- put the mark there
+pub record IsGivenByController (setup : Setup) (past : List Entry) (v : VolumeData) : Type 0 where
+  pub marked : is_marked v.meta ≡ true
+  pub fresh : (o : VolumeData) → Stood setup past (Volume o) → o.meta.uid ≡ v.meta.uid → is_marked o.meta ≡ true → is_some (ref_uid o.claim_ref) ≡ true
+
+-- the mark stands on the claim, and stood on none of its versions before it was completed: who completed it put it there
+pub record IsNamedByController (setup : Setup) (past : List Entry) (c : ClaimData) : Type 0 where
+  pub marked : is_marked c.meta ≡ true
+  pub fresh : (o : ClaimData) → Stood setup past (Claim o) → o.meta.uid ≡ c.meta.uid → is_marked o.meta ≡ true → is_completed o ≡ true
+
+-- the claim names a volume that fits it, or both were bound by hand, and then no controller decided it
+pub record GetsEnough (setup : Setup) (past : List Entry) (c : ClaimData) : Type 0 where
+  pub volume : VolumeData
+  pub there : row_at (volume_key c.volume_name) (world setup past).store.rows ≡ Some (Volume volume)
+  pub enough : Fits volume c ⊎ WerePair setup past volume c
+  pub decided : IsGivenByController setup past volume ⊎ IsNamedByController setup past c → Fits volume c
+
+-- each claim that counts gets enough, if it was not imported as Lost, nor referred to by an imported volume that does not fit
+abbrev pub GetEnough : Setup → List Entry → Type 0
+GetEnough setup past =
+    (key : Key) (c : ClaimData) → row_at key (world setup past).store.rows ≡ Some (Claim c) → Counts setup past c
+    → was_imported_as_lost setup c.meta.uid ≡ false → ImportsFit setup c.meta.uid → GetsEnough setup past c
+
+-- at each point of a history
+abbrev pub GetEnoughThroughout : Setup → List Entry → Type 0
+GetEnoughThroughout setup [] = GetEnough setup []
+GetEnoughThroughout setup (e ∷ past) = GetEnough setup (e ∷ past) × GetEnoughThroughout setup past
+
+-- the law: in each run in which each reference is given to a claim that the volume suits
+abbrev pub RunsGetEnough : Type 0
+RunsGetEnough = (setup : Setup) (past : List Entry) → IsRunOf setup past → AreFitting past → GetEnoughThroughout setup past

@@ -1,0 +1,14 @@
+//! A claim never gets less than it asked for.
+//!
+//! Where each write that gives a volume the reference of a claim was decided on a volume that fits, or on one of the two
+//! cases of `specs/Fitting` in which Kubernetes does not ask for the size, each completed claim names a volume of at least
+//! its bytes and of its volume mode, but for those that were bound by hand on both sides (`runs_get_enough`).
+#![tactic(auto)]
+
+ghost use Rattle.fitting_law.specs.Enough.{RunsGetEnough};
+
+/// In each run in which references are so given, each claim that counts gets enough, at every point of it.
+#[tactic(auto, using(crate::proofs::Law::runs_get_enough))]
+pub fn runs_get_enough()
+    ensures { RunsGetEnough }
+{}
