@@ -61,17 +61,17 @@ record IsClaimImport (imports : List Object) (c : ClaimData) : Type 0 where
 other_kind : {G : Type 0} (a b : Object) → a ≡ b → (kind_index (key_of a).kind ≡ kind_index (key_of b).kind → ⊥) → G
 other_kind a b e no_kind = absurd (no_kind (ap (λ o. kind_index (key_of o).kind) e))
 
-bytes_in : Object → ℕ
+abbrev bytes_in : Object → ℕ
 bytes_in (Volume v) = v.amount.bytes
 bytes_in (Claim c) = c.amount.bytes
 bytes_in o = 0
 
-block_in : Object → Bool
+abbrev block_in : Object → Bool
 block_in (Volume v) = v.block
 block_in (Claim c) = c.block
 block_in o = false
 
-reference_in : Object → Option Ref
+abbrev reference_in : Object → Option Ref
 reference_in (Volume v) = v.claim_ref
 reference_in o = None
 

@@ -334,10 +334,10 @@ provisioned setup past mine true_of v row r uid h =
 create_names : (setup : Setup) (past mine : List Entry) → IsTrue setup past mine → (kind : SeatKind) (new : Object) → Licensed kind mine (requests.Create new)
     → guard_on kind None new ≡ None → (v : VolumeData) → new ≡ Volume v → NamesFitting setup past v
 create_names setup past mine true_of seats.User new l g v is r uid h = no_uid_given v r uid (passes None (Volume v) (subst (λ (x : Object). guard_on seats.User None x ≡ None) is g)) h
-create_names setup past mine true_of seats.Ops new l g v is =
+create_names setup past mine true_of seats.Ops new l g v is r uid h =
     let row : Licensed seats.Ops mine (requests.Create (Volume v)) = subst (λ (x : Object). Licensed seats.Ops mine (requests.Create x)) is l in
-    provisioned setup past mine true_of v row.1
-create_names setup past mine true_of kind new l g v is = absurd l.1
+    provisioned setup past mine true_of v row.1 r uid h
+create_names setup past mine true_of kind new l g v is r uid h = absurd l.1
 
 -- each write of an allowed request that gives fittingly
 pub fitted : (setup : Setup) (past mine : List Entry) → Invariant setup past → Known setup past mine → (kind : SeatKind) (request : Request)
