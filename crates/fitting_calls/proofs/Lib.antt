@@ -1,0 +1,4 @@
+pub mod Decided
+pub mod Asked
+pub mod Answered
+pub mod Turns
