@@ -27,7 +27,7 @@ use Rattle.worker_core.specs.declared.turn.Given.{Given}
 use Rattle.worker_core.specs.declared.turn.Given.TheVariants as givens
 use Rattle.worker_core.specs.declared.turn.Next.{Next}
 use Rattle.worker_core.specs.declared.turn.Next.TheVariants as nexts
-use Rattle.worker_core.specs.Memories.{Memory}
+use Rattle.worker_core.specs.Memories.{Memory, memory_of}
 use Rattle.worker_core.specs.Stands.{AnyIsUnderWay, AreOwn, Begun, IsUnderWay, StandsFor, WentOn}
 use Rattle.worker_core.specs.States.{State, asked, call_in, call_under, given_call, read_of_kind, read_request, start_call}
 use Rattle.worker_core.specs.Steps.Evidence.{TaskKeeps}
@@ -105,7 +105,7 @@ under_goes u next e before a kept asked is = by_task (task_moved u.task e.reply)
     by_task (Some t) at h = by_call t (task_call t) (task_goes u.task t e before a kept.keeps (kept.call ∙ ap (λ r. Some r) (sym asked)) at) h
 
 under_suits : (role : Role) (u : Under) (mine : List Entry) → role.kind ≡ Binder → AreOwn mine → IsUnderWay role u mine → TaskSuits u.task
-under_suits role u mine is o (Begun c stand order gives) = task_begins role _ (all_objects c) u.key u.task is gives.decided
+under_suits role u mine is o (Begun c stand order gives) = task_begins role (memory_of role mine) (all_objects c) u.key u.task is gives.decided
 under_suits role u mine is o (WentOn before e past split way told asked moves) =
     let a = answered_of e past (subst AreOwn split o) in
     under_goes before u e past a (keeps_under role before past is way) asked moves
