@@ -2,3 +2,4 @@ pub mod Fields
 pub mod Writes
 pub mod Kept
 pub mod Law
+pub mod Examples

@@ -6,9 +6,28 @@
 #![tactic(auto)]
 
 ghost use Rattle.fitting_law.specs.Enough.{RunsGetEnough};
+ghost use Rattle.fitting_law.specs.Examples.{ByHandExamples, FitsExamples, GivingExamples};
 
 /// In each run in which references are so given, each claim that counts gets enough, at every point of it.
 #[tactic(auto, using(crate::proofs::Law::runs_get_enough))]
 pub fn runs_get_enough()
     ensures { RunsGetEnough }
+{}
+
+/// Which volumes fit a claim, computed.
+#[tactic(auto, using(crate::proofs::Examples::fits_examples))]
+pub fn fits_examples()
+    ensures { FitsExamples }
+{}
+
+/// Volumes and claims that were bound by hand, computed.
+#[tactic(auto, using(crate::proofs::Examples::by_hand_examples))]
+pub fn by_hand_examples()
+    ensures { ByHandExamples }
+{}
+
+/// What may be given, computed.
+#[tactic(auto, using(crate::proofs::Examples::giving_examples))]
+pub fn giving_examples()
+    ensures { GivingExamples }
 {}
