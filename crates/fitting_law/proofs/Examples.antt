@@ -39,7 +39,7 @@ sole (inr h) = absurd h
 
 -- what fits
 
-fewer : (v : VolumeData) (x : ClaimData) → nat_le x.amount.bytes v.amount.bytes ≡ false → Fits v x → ⊥
+pub fewer : (v : VolumeData) (x : ClaimData) → nat_le x.amount.bytes v.amount.bytes ≡ false → Fits v x → ⊥
 fewer v x test f = true≢false (sym (le-leb x.amount.bytes v.amount.bytes f.bytes) ∙ test)
 
 other_mode : (v : VolumeData) (x : ClaimData) → Fits v x → v.block ≡ false → x.block ≡ true → ⊥

@@ -3,3 +3,4 @@ pub mod Writes
 pub mod Kept
 pub mod Law
 pub mod Examples
+pub mod Runs

@@ -6,7 +6,7 @@
 #![tactic(auto)]
 
 ghost use Rattle.fitting_law.specs.Enough.{RunsGetEnough};
-ghost use Rattle.fitting_law.specs.Examples.{ByHandExamples, FitsExamples, GivingExamples};
+ghost use Rattle.fitting_law.specs.Examples.{ByHandExamples, FitsExamples, FittingRunExamples, GivingExamples, ShortRunExamples};
 
 /// In each run in which references are so given, each claim that counts gets enough, at every point of it.
 #[tactic(auto, using(crate::proofs::Law::runs_get_enough))]
@@ -30,4 +30,16 @@ pub fn by_hand_examples()
 #[tactic(auto, using(crate::proofs::Examples::giving_examples))]
 pub fn giving_examples()
     ensures { GivingExamples }
+{}
+
+/// A run in which a claim gets what it asked for, computed.
+#[tactic(auto, using(crate::proofs::Runs::fitting_run_examples))]
+pub fn fitting_run_examples()
+    ensures { FittingRunExamples }
+{}
+
+/// A run in which it gets less, since the volume was not given fittingly, computed.
+#[tactic(auto, using(crate::proofs::Runs::short_run_examples))]
+pub fn short_run_examples()
+    ensures { ShortRunExamples }
 {}
