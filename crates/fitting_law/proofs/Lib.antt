@@ -4,3 +4,4 @@ pub mod Kept
 pub mod Law
 pub mod Examples
 pub mod Runs
+pub mod MoreRuns

@@ -46,18 +46,18 @@ use Rattle.fitting_law.proofs.Examples.{fewer, giving_examples, by_hand_examples
 
 -- licences of the reads
 
-l3 : (v : VolumeData) → Licensed seats.Binder [] (lists_volume seats.Binder v 2).request
+pub l3 : (v : VolumeData) → Licensed seats.Binder [] (lists_volume seats.Binder v 2).request
 l3 v = (tt, (refl, tt))
 
-l4 : (v : VolumeData) (x : ClaimData) → Licensed seats.Binder (lists_volume seats.Binder v 2 ∷ []) (lists_claim seats.Binder x 2).request
+pub l4 : (v : VolumeData) (x : ClaimData) → Licensed seats.Binder (lists_volume seats.Binder v 2 ∷ []) (lists_claim seats.Binder x 2).request
 l4 v x = ((refl, tt), (refl, tt))
 
 -- what the seat was told at each write
 
-abbrev after_take : VolumeData → ClaimData → List Entry
+abbrev pub after_take : VolumeData → ClaimData → List Entry
 after_take v x = entry 5 seats.Binder (write_reference v x) (replies.Done (Volume (taken v x 3 volumes.Pending))) ∷ told seats.Binder v x
 
-abbrev after_bind : VolumeData → ClaimData → List Entry
+abbrev pub after_bind : VolumeData → ClaimData → List Entry
 after_bind v x = entry 5 seats.Binder (write_bound (taken v x 3 volumes.Pending)) (replies.Done (Volume (taken v x 4 volumes.Bound))) ∷ after_take v x
 
 -- a claim that names no volume, of any size

@@ -6,7 +6,7 @@
 #![tactic(auto)]
 
 ghost use Rattle.fitting_law.specs.Enough.{RunsGetEnough};
-ghost use Rattle.fitting_law.specs.Examples.{ByHandExamples, FitsExamples, FittingRunExamples, GivingExamples, ShortRunExamples};
+ghost use Rattle.fitting_law.specs.Examples.{ByHandExamples, FitsExamples, FittingRunExamples, GivingExamples, ImportedPairExamples, KeptMarkExamples, LostClaimExamples, PairRunExamples, ShortRunExamples};
 
 /// In each run in which references are so given, each claim that counts gets enough, at every point of it.
 #[tactic(auto, using(crate::proofs::Law::runs_get_enough))]
@@ -42,4 +42,28 @@ pub fn fitting_run_examples()
 #[tactic(auto, using(crate::proofs::Runs::short_run_examples))]
 pub fn short_run_examples()
     ensures { ShortRunExamples }
+{}
+
+/// A run in which a volume and a larger claim were bound by hand, computed.
+#[tactic(auto, using(crate::proofs::MoreRuns::pair_run_examples))]
+pub fn pair_run_examples()
+    ensures { PairRunExamples }
+{}
+
+/// Imports in which a volume refers to a larger claim, computed.
+#[tactic(auto, using(crate::proofs::MoreRuns::imported_pair_examples))]
+pub fn imported_pair_examples()
+    ensures { ImportedPairExamples }
+{}
+
+/// A run in which the volume of a claim that was imported as Lost comes back smaller, computed.
+#[tactic(auto, using(crate::proofs::MoreRuns::lost_claim_examples))]
+pub fn lost_claim_examples()
+    ensures { LostClaimExamples }
+{}
+
+/// A run in which a user leaves the controller's mark on a volume and binds it by hand, computed.
+#[tactic(auto, using(crate::proofs::MoreRuns::kept_mark_examples))]
+pub fn kept_mark_examples()
+    ensures { KeptMarkExamples }
 {}
