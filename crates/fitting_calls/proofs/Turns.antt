@@ -7,7 +7,9 @@ use Rattle.kube_types.specs.declared.objects.Object.{Object}
 use Rattle.call_types.specs.declared.entry.Entry.{Entry}
 use Rattle.call_types.specs.declared.setup.Setup.{Setup}
 use Rattle.call_types.specs.declared.request.Request.{Request}
+use Rattle.call_types.specs.declared.request.SeatKind.{SeatKind}
 use Rattle.call_types.specs.declared.request.SeatKind.TheVariants.{Binder}
+use Rattle.call_types.specs.declared.request.SeatKind.TheVariants as seats
 use Rattle.binder_model.specs.Told.{own}
 use Rattle.binder_model.specs.World.{IsHistory, effect, reply_to, world}
 use Rattle.model_laws.proofs.Lists.{none_some, one}
@@ -36,7 +38,9 @@ use Rattle.worker_core.specs.Turns.{AfterKeys, IsTurn, TurnBy, passing, unlisted
 use Rattle.worker_core.proofs.Licensed.{no_start}
 use Rattle.worker_core.proofs.Machines.{KeepsUnder, keeps_under}
 use Rattle.fitting_law.specs.Fitting.{GivesFitting, GivesSo}
-use Rattle.fitting_calls.specs.Calls.{CallsGiveFitting}
+use Rattle.fitting_law.specs.Fitting.{AreFitting}
+use Rattle.fitting_law.proofs.Law.{runs_get_enough}
+use Rattle.fitting_calls.specs.Calls.{CallsGiveFitting, AskedGiveFitting, IsByActor, AreByActors, ActorsGiveEnough}
 use Rattle.fitting_calls.proofs.Decided.{MachineSuits, begun_suits}
 use Rattle.fitting_calls.proofs.Asked.{call_gives}
 use Rattle.fitting_calls.proofs.Answered.{IsAnswered, goes_on_suits}
@@ -169,3 +173,24 @@ pub calls_give_fitting : CallsGiveFitting
 calls_give_fitting s given mine request is stands turn =
     let a = turn_asks s given request turn in
     asked_gives given mine request (ap (λ (role : Role). role.kind) a.role ∙ is) stands a.asked
+
+pub asked_give_fitting : AskedGiveFitting
+asked_give_fitting mine request a = asked_gives a.actor mine request a.binder a.stands a.asks
+
+-- a history of actors
+
+by_actor : (kind : SeatKind) (mine : List Entry) (r : Request) → IsByActor kind mine r → GivesFitting kind mine r
+by_actor seats.Binder mine r by = asked_give_fitting mine r by
+by_actor seats.User mine r by = by
+by_actor seats.Ops mine r by = by
+by_actor seats.Scheduler mine r by = by
+by_actor seats.ClaimProtect mine r by = by
+by_actor seats.VolumeProtect mine r by = by
+by_actor seats.Agent mine r by = by
+
+by_actors : (past : List Entry) → AreByActors past → AreFitting past
+by_actors [] all = tt
+by_actors (e ∷ past) all = (by_actors past all.0, by_actor e.kind (own e.seat past) e.request all.1)
+
+pub actors_give_enough : ActorsGiveEnough
+actors_give_enough setup past run all = runs_get_enough setup past run (by_actors past all)
