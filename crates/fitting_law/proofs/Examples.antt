@@ -29,7 +29,7 @@ use Rattle.fitting_law.specs.Examples.{FitsExamples, ByHandExamples, GivingExamp
 
 -- sums of cases
 
-neither : {A B : Type 0} → (A → ⊥) → (B → ⊥) → A ⊎ B → ⊥
+pub neither : {A B : Type 0} → (A → ⊥) → (B → ⊥) → A ⊎ B → ⊥
 neither f g (inl a) = f a
 neither f g (inr b) = g b
 

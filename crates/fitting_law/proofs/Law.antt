@@ -38,7 +38,7 @@ use Rattle.safety_law.proofs.FirstWorld.{first_world_is_good}
 use Rattle.safety_law.proofs.Law.{room_for}
 use Rattle.safety_law.proofs.Safety.{bindings_stand}
 use Rattle.fitting_law.specs.Fitting.{Fits, AreFitting, is_marked}
-use Rattle.fitting_law.specs.Enough.{ImportsFit, IsGivenByController, IsNamedByController, GetEnough, GetEnoughThroughout, RunsGetEnough}
+use Rattle.fitting_law.specs.Enough.{ImportsFit, IsGivenByController, IsNamedByController, GetEnough, GetEnoughThroughout, ReferencesFit, RunsGetEnough, RunsReferFitting}
 use Rattle.fitting_law.proofs.Writes.{fitted}
 use Rattle.fitting_law.proofs.Kept.{FittingMoves, IsLaterClaim, AreByHand, Suited, kept}
 
@@ -177,3 +177,21 @@ pub runs_get_enough : RunsGetEnough
 runs_get_enough setup past run fits =
     let start = first_world_is_good setup run.imports in
     enough_throughout setup start.invariant past (room_for setup start past run.short) run.run fits
+
+-- references
+
+has_reference : {G : Type 0} (v : VolumeData) (uid : Uid) → ref_uid v.claim_ref ≡ Some uid → ((r : Ref) → Refers v r uid → G) → G
+has_reference {G = G} v uid known f = by v.claim_ref refl known
+  where
+    by : (x : Option Ref) → v.claim_ref ≡ x → ref_uid x ≡ Some uid → G
+    by None is e = absurd (true≢false (sym (ap is_some e)))
+    by (Some r) is e = f r (record { is = is; known = e })
+
+references_fit : (setup : Setup) (past : List Entry) → Suited setup past → ReferencesFit setup past
+references_fit setup past s key other_key v c uid at_v at_c known its lost fit =
+    has_reference v uid known (λ r h. elim (s.given key other_key v c r uid at_v at_c h its lost fit) [ inl f ↦ inl f | inr hand ↦ inr hand.pair ])
+
+pub runs_refer_fitting : RunsReferFitting
+runs_refer_fitting setup past run fits =
+    let start = first_world_is_good setup run.imports in
+    references_fit setup past (suited_of setup start.invariant past (room_for setup start past run.short) run.run fits)

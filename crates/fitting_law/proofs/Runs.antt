@@ -42,7 +42,8 @@ use Rattle.model_laws.proofs.Lists.{none_some}
 use Rattle.fitting_law.specs.Fitting.{Fits, AreFitting, GivesFitting, IsReservedFor, is_marked}
 use Rattle.fitting_law.specs.Enough.{WerePair, IsGivenByController, IsNamedByController, GetsEnough, GetEnough}
 use Rattle.fitting_law.specs.Examples.{FittingRunExamples, ShortRunExamples, PairRunExamples, a, binding, c, done, entry, lists_claim, lists_volume, naming_a, pair_binding, reserved_a, taken, told}
-use Rattle.fitting_law.proofs.Examples.{fewer, giving_examples, by_hand_examples}
+use Rattle.fitting_law.proofs.Examples.{fewer, giving_examples, neither}
+use Rattle.fitting_law.proofs.Law.{runs_refer_fitting}
 
 -- licences of the reads
 
@@ -153,15 +154,19 @@ fits_3 : Fits (taken a (c 3) 4 volumes.Bound) (done (c 3) a 5)
 unfolding taken_for completed_with
 fits_3 = record { bytes = omega arith; mode = refl }
 
+fitting_3 : AreFitting (binding 3)
+fitting_3 = (((((((tt, tt), tt), tt), tt), giving_examples.fitting), tt), tt)
+
 pub fitting_run_examples : FittingRunExamples
 unfolding effect on_devices device_answer outcome create update update_status list with_status written_if_fits refuse refuse_field refuse_rule guard_on guard breaks create_fault kind_fault volume_fault claim_fault update_fault changed_field faulty lacks_node admitted_object without_status created_object with_status_of updated_object at_version leaves with_meta reply_to world_after reply_of after log_after xor taken_for completed_with
 fitting_run_examples = record {
   run = run_of_3;
-  fitting = (((((((tt, tt), tt), tt), tt), giving_examples.fitting), tt), tt);
+  fitting = fitting_3;
   counts = record { completed = refl; found = λ lost. absurd (true≢false (sym lost)) };
   gets_enough = record { volume = taken a (c 3) 4 volumes.Bound; there = refl; enough = inl fits_3; decided = λ d. fits_3 };
   given_by_controller = volumes_fresh no_setup (binding 3) (taken a (c 3) 4 volumes.Bound) refl refl;
   named_by_controller = claims_fresh no_setup (binding 3) (done (c 3) a 5) refl refl;
+  references_fit = runs_refer_fitting no_setup (binding 3) (record { imports = tt; short = omega arith; run = run_of_3 }) fitting_3;
 }
 
 -- what the claim of 9 gets
@@ -197,5 +202,6 @@ short_run_examples = record {
   not_fitting = λ f. giving_examples.too_small f.0.0.1;
   were_no_pair = no_pair_of_9 (taken a (c 9) 4 volumes.Bound);
   gets_too_little = gets_9;
+  references_misfit = λ h. neither short_of_9 (no_pair_of_9 (taken a (c 9) 4 volumes.Bound)) (h (volume_key (codes "a")) (claim_key (codes "default") (codes "c")) (taken a (c 9) 4 volumes.Bound) (done (c 9) a 5) (uid_of_serial 2) refl refl refl refl refl (λ v x in_v in_x ref its. absurd in_v));
   not_enough = λ g. gets_9 (g (claim_key (codes "default") (codes "c")) (done (c 9) a 5) refl counts_9 refl (λ v x in_v in_x ref its. absurd in_v));
 }

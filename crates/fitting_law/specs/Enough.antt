@@ -61,6 +61,15 @@ GetEnough setup past =
     (key : Key) (c : ClaimData) → row_at key (world setup past).store.rows ≡ Some (Claim c) → Counts setup past c
     → was_imported_as_lost setup c.meta.uid ≡ false → ImportsFit setup c.meta.uid → GetsEnough setup past c
 
+-- each volume fits the claim that its reference has the UID of, completed or not, or both were bound by hand; but for the
+-- same imports
+abbrev pub ReferencesFit : Setup → List Entry → Type 0
+ReferencesFit setup past =
+    (key other_key : Key) (v : VolumeData) (c : ClaimData) (uid : Uid)
+    → row_at key (world setup past).store.rows ≡ Some (Volume v) → row_at other_key (world setup past).store.rows ≡ Some (Claim c)
+    → ref_uid v.claim_ref ≡ Some uid → c.meta.uid ≡ Some uid
+    → was_imported_as_lost setup (Some uid) ≡ false → ImportsFit setup (Some uid) → Fits v c ⊎ WerePair setup past v c
+
 -- at each point of a history
 abbrev pub GetEnoughThroughout : Setup → List Entry → Type 0
 GetEnoughThroughout setup [] = GetEnough setup []
@@ -69,3 +78,7 @@ GetEnoughThroughout setup (e ∷ past) = GetEnough setup (e ∷ past) × GetEnou
 -- the law: in each run in which each reference is given to a claim that the volume suits
 abbrev pub RunsGetEnough : Type 0
 RunsGetEnough = (setup : Setup) (past : List Entry) → IsRunOf setup past → AreFitting past → GetEnoughThroughout setup past
+
+-- and so does what the references of volumes name, in each world of such a run
+abbrev pub RunsReferFitting : Type 0
+RunsReferFitting = (setup : Setup) (past : List Entry) → IsRunOf setup past → AreFitting past → ReferencesFit setup past

@@ -28,7 +28,7 @@ use Rattle.binder_model.specs.Run.{Run}
 use Rattle.binder_model.specs.Safe.{Counts, was_imported_as_lost}
 use Rattle.model_laws.specs.Worked.{no_setup, claim, claim_at, stands, volume, volume_at}
 use Rattle.fitting_law.specs.Fitting.{Fits, IsReservedFor, IsPair, IsRestored, GivesFitting, AreFitting, is_marked}
-use Rattle.fitting_law.specs.Enough.{ImportsFit, WerePair, IsGivenByController, IsNamedByController, GetsEnough, GetEnough}
+use Rattle.fitting_law.specs.Enough.{ImportsFit, WerePair, IsGivenByController, IsNamedByController, GetsEnough, GetEnough, ReferencesFit}
 
 -- a volume of 5 gibibytes that is free; and reserved for the claim by name, for another one, and taken for it
 abbrev pub a : VolumeData
@@ -149,6 +149,7 @@ pub record FittingRunExamples : Type 0 where
   pub gets_enough : GetsEnough no_setup (binding 3) (done (c 3) a 5)
   pub given_by_controller : IsGivenByController no_setup (binding 3) (taken a (c 3) 4 volumes.Bound)
   pub named_by_controller : IsNamedByController no_setup (binding 3) (done (c 3) a 5)
+  pub references_fit : ReferencesFit no_setup (binding 3)
 
 -- the licence alone lets a binder give too little
 pub record ShortRunExamples : Type 0 where
@@ -158,6 +159,7 @@ pub record ShortRunExamples : Type 0 where
   pub were_no_pair : WerePair no_setup (binding 9) (taken a (c 9) 4 volumes.Bound) (done (c 9) a 5) → ⊥
   pub gets_too_little : GetsEnough no_setup (binding 9) (done (c 9) a 5) → ⊥
   pub not_enough : GetEnough no_setup (binding 9) → ⊥
+  pub references_misfit : ReferencesFit no_setup (binding 9) → ⊥
 
 -- who were bound by hand get what the user said
 pub record PairRunExamples : Type 0 where

@@ -5,13 +5,19 @@
 //! its bytes and of its volume mode, but for those that were bound by hand on both sides (`runs_get_enough`).
 #![tactic(auto)]
 
-ghost use Rattle.fitting_law.specs.Enough.{RunsGetEnough};
+ghost use Rattle.fitting_law.specs.Enough.{RunsGetEnough, RunsReferFitting};
 ghost use Rattle.fitting_law.specs.Examples.{ByHandExamples, FitsExamples, FittingRunExamples, GivingExamples, ImportedPairExamples, KeptMarkExamples, LostClaimExamples, PairRunExamples, ShortRunExamples};
 
 /// In each run in which references are so given, each claim that counts gets enough, at every point of it.
 #[tactic(auto, using(crate::proofs::Law::runs_get_enough))]
 pub fn runs_get_enough()
     ensures { RunsGetEnough }
+{}
+
+/// And each volume fits the claim that it refers to, completed or not, or both were bound by hand.
+#[tactic(auto, using(crate::proofs::Law::runs_refer_fitting))]
+pub fn runs_refer_fitting()
+    ensures { RunsReferFitting }
 {}
 
 /// Which volumes fit a claim, computed.
