@@ -28,7 +28,7 @@ use Rattle.world_moves.specs.Writes.{IsIn}
 use Rattle.world_moves.proofs.Objects.{same_claim, same_volume}
 use Rattle.fitting_law.specs.Fitting.{Fits, GivesFitting}
 use Rattle.fitting_law.specs.Enough.{ImportsFit, WerePair, IsGivenByController, IsNamedByController, GetsEnough}
-use Rattle.fitting_law.specs.Examples.{PairRunExamples, ImportedPairExamples, LostClaimExamples, KeptMarkExamples, again_reserved, back_a, c, cleared_a, coming_back, done, entry, keeping_the_mark, lists_claim, lists_volume, lost_c, lost_setup, mark_setup, naming_a, new_c, old_a, old_c, old_pair, pair_binding, reserved_a, taken, told, v13}
+use Rattle.fitting_law.specs.Examples.{PairRunExamples, ImportedPairExamples, LostClaimExamples, KeptMarkExamples, EarlyMarkExamples, again_reserved, back_a, c, cleared_a, coming_back, done, early_c, early_setup, entry, keeping_the_mark, lists_claim, lists_volume, lost_c, lost_setup, mark_setup, marked_early, naming_a, new_c, old_a, old_c, old_pair, pair_binding, reserved_a, reserved_back, taken, told, v13}
 use Rattle.fitting_law.proofs.Examples.{by_hand_examples, fewer, giving_examples}
 use Rattle.fitting_law.proofs.Runs.{after_bind, after_take, l3, l4}
 
@@ -224,4 +224,55 @@ kept_mark_examples = record {
   marked = refl;
   not_given_by_controller = λ d. true≢false (sym (d.fresh (cleared_a 10 volumes.Released) (inl (inl (inl (inl (inl (inl (inl (inl (inr refl))))))))) refl refl));
   too_little = λ f. fewer (taken v13 new_c 15 volumes.Bound) (done new_c v13 16) refl f;
+}
+
+-- a claim that was marked before it was completed
+
+abbrev told_early : List Entry
+told_early = lists_claim seats.Binder early_c 3 ∷ lists_volume seats.Binder reserved_back 3 ∷ []
+
+abbrev after_take_early : List Entry
+after_take_early = entry 5 seats.Binder (write_reference reserved_back early_c) (replies.Done (Volume (taken reserved_back early_c 4 volumes.Pending))) ∷ told_early
+
+abbrev after_bind_early : List Entry
+after_bind_early = entry 5 seats.Binder (write_bound (taken reserved_back early_c 4 volumes.Pending)) (replies.Done (Volume (taken reserved_back early_c 5 volumes.Bound))) ∷ after_take_early
+
+m4 : Licensed seats.Binder told_early (write_reference reserved_back early_c)
+unfolding taken_for
+m4 = ((refl, (refl, tt)), inr (inl (refl, inl (record { version = refl; placed = refl; named = refl }, take))))
+  where
+    take : MayTake told_early reserved_back (taken_for reserved_back early_c)
+    take = record { live = refl; told = inl (refl, inl (record { known = refl; free = (refl, refl); change = refl })) }
+
+m5 : Licensed seats.Binder after_take_early (write_bound (taken reserved_back early_c 4 volumes.Pending))
+unfolding taken_for
+m5 = ((refl, (refl, (refl, tt))), (refl, inl (refl, inl (record { version = refl; placed = refl; named = refl }, bind))))
+  where
+    bind : MayBind after_take_early (taken reserved_back early_c 4 volumes.Pending)
+    bind = record { live = refl; guarded = refl; uid = uid_of_serial 2; refers = refl; told = inr (inl (refl, inl (record { claim = refl; names = inr refl }))) }
+
+m6 : Licensed seats.Binder after_bind_early (write_completion (taken reserved_back early_c 5 volumes.Bound) early_c)
+unfolding taken_for completed_with
+m6 = ((refl, (refl, (refl, (refl, tt)))), inr (inr (inl (refl, inl (record { version = refl; placed = refl; named = refl }, complete)))))
+  where
+    complete : MayComplete after_bind_early early_c (completed_with early_c (taken reserved_back early_c 5 volumes.Bound))
+    complete = inl (refl, inl (record { bound = refl; carries = refl; names = inr refl; change = refl }))
+
+gives_early : GivesFitting seats.Binder told_early (write_reference reserved_back early_c)
+unfolding taken_for
+gives_early = inr (inl (refl, inl (record { version = refl; placed = refl; named = refl }, inl (refl, inl (record {
+  change = refl;
+  suits = inr (inl (record { reserved = record { reference = _; is = refl; names = refl; free = refl }; named = refl; undone = refl }));
+})))))
+
+pub early_mark_examples : EarlyMarkExamples
+unfolding effect on_devices device_answer outcome create update update_status list with_status written_if_fits refuse refuse_field refuse_rule guard_on guard breaks create_fault kind_fault volume_fault claim_fault update_fault changed_field faulty lacks_node admitted_object without_status created_object with_status_of updated_object at_version leaves with_meta reply_to world_after reply_of after log_after xor taken_for completed_with imported_object import_fault fault_if fault_of_field
+early_mark_examples = record {
+  imports_pass = (refl, tt);
+  run = ((((((tt, refl, tt), refl, (tt, (refl, tt))), refl, ((refl, tt), (refl, tt))), refl, m4), refl, m5), refl, m6);
+  fitting = ((((((tt, tt), tt), tt), gives_early), tt), tt);
+  counts = record { completed = refl; found = λ lost. absurd (true≢false (sym lost)) };
+  marked = refl;
+  not_named_by_controller = λ d. true≢false (sym (d.fresh early_c (inl (inl (inl (inl (inl (inl refl)))))) refl refl));
+  too_little = λ f. fewer (taken reserved_back early_c 5 volumes.Bound) (done early_c reserved_back 6) refl f;
 }

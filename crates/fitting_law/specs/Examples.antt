@@ -266,3 +266,30 @@ pub record KeptMarkExamples : Type 0 where
   pub marked : is_marked (taken v13 new_c 15 volumes.Bound).meta ≡ true
   pub not_given_by_controller : IsGivenByController mark_setup keeping_the_mark (taken v13 new_c 15 volumes.Bound) → ⊥
   pub too_little : Fits (taken v13 new_c 15 volumes.Bound) (done new_c v13 16) → ⊥
+
+-- a claim that an older store had marked and not completed, and a volume that a user reserves for it
+abbrev pub early_c : ClaimData
+early_c = let x = naming_a (c 9) in record x { meta = record x.meta { annotations = (bound_by_controller, yes) ∷ [] } }
+
+abbrev pub early_setup : Setup
+early_setup = setup_of (Claim early_c ∷ [])
+
+abbrev pub reserved_back : VolumeData
+reserved_back = with_reference name_c back_a
+
+abbrev pub marked_early : List Entry
+marked_early =
+    entry 5 seats.Binder (write_completion (taken reserved_back early_c 5 volumes.Bound) early_c) (replies.Done (Claim (done early_c reserved_back 6)))
+    ∷ entry 5 seats.Binder (write_bound (taken reserved_back early_c 4 volumes.Pending)) (replies.Done (Volume (taken reserved_back early_c 5 volumes.Bound)))
+    ∷ entry 5 seats.Binder (write_reference reserved_back early_c) (replies.Done (Volume (taken reserved_back early_c 4 volumes.Pending)))
+    ∷ lists_claim seats.Binder early_c 3 ∷ lists_volume seats.Binder reserved_back 3
+    ∷ entry 1 seats.User (requests.Create (Volume (with_reference name_c (volume (codes "a") 5)))) (replies.Done (Volume reserved_back)) ∷ []
+
+pub record EarlyMarkExamples : Type 0 where
+  pub imports_pass : ImportsPass early_setup.imports
+  pub run : Run early_setup marked_early
+  pub fitting : AreFitting marked_early
+  pub counts : Counts early_setup marked_early (done early_c reserved_back 6)
+  pub marked : is_marked (done early_c reserved_back 6).meta ≡ true
+  pub not_named_by_controller : IsNamedByController early_setup marked_early (done early_c reserved_back 6) → ⊥
+  pub too_little : Fits (taken reserved_back early_c 5 volumes.Bound) (done early_c reserved_back 6) → ⊥

@@ -6,7 +6,7 @@
 #![tactic(auto)]
 
 ghost use Rattle.fitting_law.specs.Enough.{RunsGetEnough, RunsReferFitting};
-ghost use Rattle.fitting_law.specs.Examples.{ByHandExamples, FitsExamples, FittingRunExamples, GivingExamples, ImportedPairExamples, KeptMarkExamples, LostClaimExamples, PairRunExamples, ShortRunExamples};
+ghost use Rattle.fitting_law.specs.Examples.{ByHandExamples, EarlyMarkExamples, FitsExamples, FittingRunExamples, GivingExamples, ImportedPairExamples, KeptMarkExamples, LostClaimExamples, PairRunExamples, ShortRunExamples};
 
 /// In each run in which references are so given, each claim that counts gets enough, at every point of it.
 #[tactic(auto, using(crate::proofs::Law::runs_get_enough))]
@@ -72,4 +72,10 @@ pub fn lost_claim_examples()
 #[tactic(auto, using(crate::proofs::MoreRuns::kept_mark_examples))]
 pub fn kept_mark_examples()
     ensures { KeptMarkExamples }
+{}
+
+/// A run in which a claim was imported with the mark and not completed, and bound by hand, computed.
+#[tactic(auto, using(crate::proofs::MoreRuns::early_mark_examples))]
+pub fn early_mark_examples()
+    ensures { EarlyMarkExamples }
 {}
