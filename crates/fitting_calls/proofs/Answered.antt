@@ -1,5 +1,5 @@
 -- What a binding goes on with carries its claim: the answer to each of its writes tells what was written.
-use Rattle.std.proofs.Common.{◌≡◌, ◌⊎◌, ℕ, ◌+◌, List, [], ◌∷◌, Bool, true, false, true≢false, Option, Some, None, inl, inr, refl, sym, ◌∙◌, ap, subst, if◌then◌else◌, arith}
+use Rattle.std.proofs.Common.{◌≡◌, ◌⊎◌, ℕ, List, [], ◌∷◌, Bool, true, false, true≢false, Option, Some, None, inl, inr, refl, sym, ◌∙◌, ap, subst, if◌then◌else◌, arith}
 use Rattle.std.specs.Prelude.{◌==◌, ◌||◌, ◌&&◌, not, bytes_eq, is_some, ⊤}
 use Rattle.std.proofs.lemmas.Bool.{and_parts, not-false}
 use Rattle.std.proofs.lemmas.Bool.Decides.{Decides-eqb, nat_tests}
@@ -10,12 +10,11 @@ use Rattle.kube_types.specs.declared.key.Key.{Key}
 use Rattle.kube_types.specs.declared.parts.Kind.TheVariants as kinds
 use Rattle.kube_types.specs.declared.parts.VolumePhase.TheVariants as volumes
 use Rattle.kube_types.specs.declared.objects.Meta.{Meta}
-use Rattle.kube_types.specs.declared.objects.Ref.{Ref}
 use Rattle.kube_types.specs.declared.objects.Volume.{Volume as VolumeData}
 use Rattle.kube_types.specs.declared.objects.Claim.{Claim as ClaimData}
 use Rattle.kube_types.specs.declared.objects.Object.{Object}
 use Rattle.kube_types.specs.declared.objects.Object.TheVariants.{Class, Node, Volume, Claim, Pod}
-use Rattle.kube_types.specs.Keys.{AreRows, meta_of, key_of, kind_index, row_at}
+use Rattle.kube_types.specs.Keys.{meta_of, key_of, kind_index, row_at}
 use Rattle.kube_types.specs.Bindings.{bound_by_controller, carries, is_bound, is_empty, is_ended, is_protected_volume, names_claim, refers_carrying, uid_carries}
 use Rattle.kube_types.proofs.KeyOrder.{row_at_key}
 use Rattle.call_types.specs.declared.entry.Entry.{Entry}
@@ -44,8 +43,7 @@ use Rattle.model_laws.proofs.Lists.{none_some, one}
 use Rattle.model_laws.proofs.Replies.{DoneBy, Wrote, Again, writing}
 use Rattle.model_laws.proofs.Stood.{one_version_one_object}
 use Rattle.model_laws.proofs.Truths.{told_is_true}
-use Rattle.world_moves.specs.Writes.{EffectOf, IsStatus, IsUpdate, Writes}
-use Rattle.world_moves.specs.Whence.{IsNext}
+use Rattle.world_moves.specs.Writes.{EffectOf, Writes}
 use Rattle.world_moves.proofs.Effects.{effect_form}
 use Rattle.world_moves.proofs.Objects.{same_volume}
 use Rattle.world_moves.proofs.Whence.{updated_next, status_next}
@@ -189,10 +187,10 @@ unfolding updated_object with_status_of with_meta
 updated_reference (Volume a) new w n e = ap (λ (x : VolumeData). x.claim_ref) (same_volume w _ e)
 updated_reference old new w n e = ap (λ (x : VolumeData). x.claim_ref) (same_volume w _ e)
 
-no_volume : (old : Object) (new : VolumeData) (d : ClaimData) (n : ℕ) → kind_index (key_of (updated_object old (Volume new) n)).kind ≡ 2
+updated_kind : (old : Object) (new : VolumeData) (n : ℕ) → kind_index (key_of (updated_object old (Volume new) n)).kind ≡ 2
 unfolding updated_object with_status_of with_meta
-no_volume (Volume a) new d n = refl
-no_volume old new d n = refl
+updated_kind (Volume a) new n = refl
+updated_kind old new n = refl
 
 phased_reference : (v w : VolumeData) (new : Object) (n : ℕ) → with_status (statuses.Volume volumes.Bound) (Volume v) ≡ Some new → Volume w ≡ at_version new n → w.claim_ref ≡ v.claim_ref
 unfolding with_status at_version with_meta
@@ -245,7 +243,7 @@ module _ (e : Entry) (before : List Entry) (a : IsAnswered e before) (v : Volume
       → e.reply ≡ replies.Done (Claim d) → carries v d ≡ true
   claim_carried _ asked Refers placed d done =
       let f : Writes (world a.setup a.rest) e.kind (write_reference v c) (Claim d) = subst (λ q. Writes (world a.setup a.rest) e.kind q (Claim d)) asked (done_writes e before a (Claim d) done (ap deletes asked)) in
-      let k = ap (λ o. kind_index (key_of o).kind) f.is ∙ no_volume f.old (taken_for v c) d _ in
+      let k = ap (λ o. kind_index (key_of o).kind) f.is ∙ updated_kind f.old (taken_for v c) _ in
       absurd (omega (arith, k))
   claim_carried _ asked (Bounds carry) placed d done =
       let f : Writes (world a.setup a.rest) e.kind (write_bound v) (Claim d) = subst (λ q. Writes (world a.setup a.rest) e.kind q (Claim d)) asked (done_writes e before a (Claim d) done (ap deletes asked)) in
@@ -298,8 +296,7 @@ moved_suits machine next reply t e = none_some e
 tells_carrying : (machine : Machine) (e : Entry) (before : List Entry) → IsAnswered e before → Keeps machine before → call_of machine ≡ Some e.request → TellsCarrying machine e.reply
 unfolding call_of
 tells_carrying (Binds v c) e before a kept call =
-    let o = is_open v c e.request call in
-    (
+    let o = is_open v c e.request call in (
       λ w done. volume_carries e before a v c kept.0 kept.1 e.request refl o.write o.known o.placed w done,
       λ d done. claim_carried e before a v c kept.0 kept.1 e.request refl o.write o.placed d done,
     )

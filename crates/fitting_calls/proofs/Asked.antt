@@ -1,7 +1,6 @@
 -- The next call of a machine that suits gives a volume only to a claim that it suits.
-use Rattle.std.proofs.Common.{◌≡◌, List, Bool, true, false, true≢false, Option, Some, None, inl, inr, refl, sym, ◌∙◌, ap, subst, if◌then◌else◌}
-use Rattle.std.specs.Prelude.{◌||◌, ◌&&◌, not, is_none, is_some, ⊤}
-use Rattle.std.proofs.lemmas.Bool.{and_parts}
+use Rattle.std.proofs.Common.{◌≡◌, List, Bool, true, false, true≢false, Option, Some, None, inl, inr, refl, sym, ◌∙◌, subst, if◌then◌else◌}
+use Rattle.std.specs.Prelude.{◌||◌, not, is_none, is_some}
 use Rattle.plain_data.specs.Pairs.{without_key}
 use Rattle.kube_types.specs.declared.uid.Uid.{Uid}
 use Rattle.kube_types.specs.declared.parts.VolumePhase.{VolumePhase}

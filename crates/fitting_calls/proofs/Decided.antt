@@ -1,10 +1,9 @@
 -- A binding that begins is of a volume that suits the claim, or that carries it already.
-use Rattle.std.proofs.Common.{◌≡◌, ◌⊎◌, ℕ, ◌≤◌, List, [], Bool, true, false, true≢false, Option, Some, None, inl, inr, refl, sym, ◌∙◌, ap, subst, if◌then◌else◌, arith}
+use Rattle.std.proofs.Common.{◌≡◌, ◌⊎◌, ℕ, List, Bool, true, false, true≢false, Option, Some, None, inl, inr, refl, sym, ◌∙◌, ap, subst, if◌then◌else◌, arith}
 use Rattle.std.specs.Prelude.{◌&&◌, ◌||◌, not, bytes_eq, is_none, is_some, nat_le, slice_get, ⊤}
 use Rattle.std.specs.Bool.{beq}
 use Rattle.std.proofs.lemmas.Bool.{and_parts}
 use Rattle.std.proofs.lemmas.Bool.Decides.{nat_tests}
-use Rattle.std.proofs.lemmas.Option.{same_Some}
 use Rattle.kube_types.specs.declared.uid.Uid.{Uid}
 use Rattle.kube_types.specs.declared.key.Key.{Key}
 use Rattle.kube_types.specs.declared.lookup.Live.TheVariants.{NotAsked}
@@ -14,7 +13,7 @@ use Rattle.kube_types.specs.declared.objects.Volume.{Volume as VolumeData}
 use Rattle.kube_types.specs.declared.objects.Claim.{Claim as ClaimData}
 use Rattle.kube_types.specs.declared.objects.Object.{Object}
 use Rattle.kube_types.specs.declared.objects.Object.TheVariants.{Class, Node, Volume, Claim, Pod}
-use Rattle.kube_types.specs.Keys.{key_of, row_at, rows_of}
+use Rattle.kube_types.specs.Keys.{row_at, rows_of}
 use Rattle.kube_types.specs.Bindings.{carries, class_of_claim, class_of_volume, is_completed, is_deleting, is_empty, is_for, is_protected_volume, names_claim, refers_carrying, refers_for, uid_fits}
 use Rattle.kube_types.proofs.KeyOrder.{row_at_key}
 use Rattle.binder_model.specs.BinderDue.{has_other_uid}
@@ -25,18 +24,18 @@ use Rattle.volume_match.specs.Volumes.{as_volume}
 use Rattle.volume_sync.specs.VolumeDecision.{volume_decision}
 use Rattle.volume_sync.specs.declared.action.VolumeAction.{VolumeAction}
 use Rattle.volume_sync.specs.declared.action.VolumeAction.TheVariants as actions
-use Rattle.claim_sync.specs.ClaimDecision.{IsChoice, claim_decision, completed_step, has_write, is_blocked, named_step, named_volume}
+use Rattle.claim_sync.specs.ClaimDecision.{IsChoice, claim_decision, completed_step, is_blocked, named_step, named_volume}
 use Rattle.claim_sync.specs.declared.action.ClaimStep.{ClaimStep}
 use Rattle.claim_sync.specs.declared.action.ClaimStep.TheVariants as steps
 use Rattle.model_laws.proofs.Lists.{none_some, one}
 use Rattle.binder_machines.specs.declared.decide.First.{First}
-use Rattle.binder_machines.specs.declared.decide.First.TheVariants.{Drops, Queues, Begins}
+use Rattle.binder_machines.specs.declared.decide.First.TheVariants.{Begins}
 use Rattle.binder_machines.specs.declared.machine.Machine.{Machine}
-use Rattle.binder_machines.specs.declared.machine.Machine.TheVariants.{Frees, Binds, MarksBound, ReadsClaim, Releases, Unbinds, ReadsVolume, Loses}
-use Rattle.binder_machines.specs.FirstSteps.{IsBindingTo, IsClaimFirst, IsFirst, claim_first, first_of, lost_for, queue_of, volume_first}
+use Rattle.binder_machines.specs.declared.machine.Machine.TheVariants.{Binds}
+use Rattle.binder_machines.specs.FirstSteps.{IsClaimFirst, IsFirst, first_of, lost_for, queue_of, volume_first}
 use Rattle.binder_machines.specs.Machines.{machine_for}
 use Rattle.world_moves.proofs.Objects.{some_volume}
-use Rattle.fitting_law.specs.Fitting.{Fits, IsReservedFor, IsPair, IsRestored, Suits}
+use Rattle.fitting_law.specs.Fitting.{Fits, IsReservedFor, Suits}
 use Rattle.fitting_law.proofs.Fields.{beq_same}
 
 -- the volume may be given to the claim, or was

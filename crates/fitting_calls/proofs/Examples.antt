@@ -1,7 +1,6 @@
 -- What a binder asks, computed.
 use Rattle.std.proofs.Common.{refl, true≢false}
-use Rattle.std.specs.Prelude.{◌≡◌, List, [], ◌∷◌, Some, None}
-use Rattle.kube_types.specs.declared.key.Key.{Key}
+use Rattle.std.specs.Prelude.{◌≡◌, []}
 use Rattle.kube_types.specs.declared.parts.Kind.{Kind}
 use Rattle.kube_types.specs.declared.parts.Kind.TheVariants as kinds
 use Rattle.binder_model.specs.BindWrites.{next_write, taken_for}
@@ -10,7 +9,6 @@ use Rattle.informer_cache.specs.Cache.{StandsFor}
 use Rattle.informer_cache.specs.All.{AllStandFor, cache_of}
 use Rattle.worker_core.specs.Stands as stands
 use Rattle.model_laws.specs.Worked.{no_setup}
-use Rattle.fitting_law.specs.Examples.{a, c}
 use Rattle.fitting_calls.specs.Calls.{IsAsked}
 use Rattle.fitting_calls.specs.Examples.{AskedExamples, DecisionExamples, list_volumes, new_binder}
 use Rattle.fitting_calls.proofs.Turns.{asked_give_fitting}

@@ -1,6 +1,6 @@
 -- Each call that a turn of a binder gives, gives a volume only to a claim that it suits.
 use Rattle.std.proofs.Common.{◌≡◌, ℕ, List, [], ◌∷◌, Bool, true, false, true≢false, Option, Some, None, inl, inr, refl, sym, ◌∙◌, ap, subst, if◌then◌else◌}
-use Rattle.std.specs.Prelude.{◌==◌, option_map, ⊤}
+use Rattle.std.specs.Prelude.{◌==◌, option_map}
 use Rattle.kube_types.specs.declared.key.Key.{Key}
 use Rattle.kube_types.specs.declared.parts.Kind.{Kind}
 use Rattle.kube_types.specs.declared.objects.Object.{Object}
@@ -18,7 +18,7 @@ use Rattle.binder_machines.specs.Machines as binder
 use Rattle.informer_cache.specs.declared.cache.Ask.{Ask}
 use Rattle.informer_cache.specs.declared.cache.Ask.TheVariants as asks
 use Rattle.informer_cache.specs.Cache.{ask_of}
-use Rattle.informer_cache.specs.All.{AllKnown, all_objects, cache_of}
+use Rattle.informer_cache.specs.All.{all_objects, cache_of}
 use Rattle.sync_queue.specs.Work.{Work}
 use Rattle.worker_core.specs.declared.role.Role.{Role}
 use Rattle.worker_core.specs.declared.task.First.TheVariants as firsts
@@ -27,7 +27,6 @@ use Rattle.worker_core.specs.declared.task.Task.TheVariants as tasks
 use Rattle.worker_core.specs.declared.task.Under.{Under}
 use Rattle.worker_core.specs.declared.turn.Given.{Given}
 use Rattle.worker_core.specs.declared.turn.Given.TheVariants as givens
-use Rattle.worker_core.specs.declared.turn.Next.{Next}
 use Rattle.worker_core.specs.declared.turn.Next.TheVariants as nexts
 use Rattle.worker_core.specs.Memories.{Memory, memory_of}
 use Rattle.worker_core.specs.Stands.{AnyIsUnderWay, AreOwn, Begun, IsUnderWay, StandsFor, WentOn}
@@ -78,9 +77,6 @@ own_split setup (x ∷ past) seat e before h is = by (x.seat == seat) is (own_sp
 
 answered_of : (e : Entry) (before : List Entry) → AreOwn (e ∷ before) → IsAnswered e before
 answered_of e before o = own_split o.setup o.past o.seat e before o.history (sym o.own)
-
-own_before : (e : Entry) (before : List Entry) → IsAnswered e before → AreOwn before
-own_before e before a = record { setup = a.setup; past = a.rest; seat = a.seat; history = a.history; own = a.is_own }
 
 -- what is under way suits
 

@@ -1,31 +1,17 @@
 -- The examples of what fits, of what may be given and of what claims get, computed.
-use Rattle.std.proofs.Common.{sym, refl, subst, inl, inr, ap, ◌∙◌, true≢false, arith}
-use Rattle.std.proofs.lemmas.Bool.{or_parts, le-leb}
-use Rattle.std.specs.Ordering.{is_eq}
-use Rattle.std.specs.Prelude.{ℕ, ◌≡◌, ◌⊎◌, nat_le, ◌==◌, ◌||◌, ◌&&◌, Bool, true, false, not, List, [], ◌∷◌, Option, Some, None, is_some, bytes_eq, codes, if◌then◌else◌}
-use Rattle.std.specs.List.{list_any}
-use mathlib.Core.Bool.{xor}
-use Rattle.kube_types.specs.declared.uid.Uid.{Uid}
-use Rattle.kube_types.specs.declared.key.Key.{Key}
-use Rattle.kube_types.specs.declared.parts.VolumePhase.TheVariants as volumes
+use Rattle.std.proofs.Common.{sym, refl, inl, inr, ap, ◌∙◌, true≢false, arith}
+use Rattle.std.proofs.lemmas.Bool.{le-leb}
+use Rattle.std.specs.Prelude.{◌≡◌, ◌⊎◌, nat_le, Bool, true, false, Option, Some, None, is_some, bytes_eq}
 use Rattle.kube_types.specs.declared.objects.Ref.{Ref}
 use Rattle.kube_types.specs.declared.objects.Volume.{Volume as VolumeData}
 use Rattle.kube_types.specs.declared.objects.Claim.{Claim as ClaimData}
-use Rattle.kube_types.specs.declared.objects.Object.{Object}
-use Rattle.kube_types.specs.declared.objects.Object.TheVariants.{Class, Node, Volume, Claim, Pod}
-use Rattle.kube_types.specs.Keys.{key_cmp, key_of, row_at}
 use Rattle.kube_types.specs.Uids.{uid_of_serial}
 use Rattle.kube_types.specs.Bindings.{is_completed, names_claim, ref_uid}
-use Rattle.call_types.specs.declared.entry.Entry.{Entry}
-use Rattle.call_types.specs.declared.setup.Setup.{Setup}
 use Rattle.call_types.specs.declared.request.SeatKind.{SeatKind}
 use Rattle.call_types.specs.declared.request.SeatKind.TheVariants as seats
-use Rattle.binder_model.specs.BindWrites.{completed_with, taken_for, write_reference}
-use Rattle.binder_model.specs.BinderLicence.{IsFreeFor, MayBind, MayComplete, MayTake}
-use Rattle.binder_model.specs.World.{world}
-use Rattle.model_laws.specs.Stood.{Stood}
-use Rattle.fitting_law.specs.Fitting.{Fits, IsReservedFor, IsPair, IsRestored, Suits, IsGiven, GivesTo, GivesFitting, is_marked}
-use Rattle.fitting_law.specs.Examples.{FitsExamples, ByHandExamples, GivingExamples, Gives, a, c, completed, lists_claim, lists_volume, naming_a, of_blocks, reserved_a, reserved_for_other, taken_a, told}
+use Rattle.binder_model.specs.BindWrites.{taken_for}
+use Rattle.fitting_law.specs.Fitting.{Fits, IsReservedFor, Suits, GivesTo}
+use Rattle.fitting_law.specs.Examples.{FitsExamples, ByHandExamples, GivingExamples, a, c, completed, naming_a, of_blocks, reserved_a, reserved_for_other, taken_a, told}
 
 -- sums of cases
 

@@ -18,11 +18,11 @@ use Rattle.kube_types.specs.declared.objects.Claim.{Claim as ClaimData}
 use Rattle.kube_types.specs.declared.objects.Object.{Object}
 use Rattle.kube_types.specs.declared.objects.Object.TheVariants.{Volume, Claim}
 use Rattle.kube_types.specs.Keys.{meta_of}
-use Rattle.kube_types.specs.Bindings.{bind_completed, bound_by_controller, selected_node, yes, is_completed, ref_uid}
+use Rattle.kube_types.specs.Bindings.{bind_completed, bound_by_controller, selected_node, yes}
 use Rattle.binder_model.specs.BindWrites.{annotated_meta_if}
 use Rattle.binder_model.specs.Fields.{update_fault, changed_field, faulty, same_claim_spec}
 use Rattle.binder_model.specs.Same.{same_option, same_modes, same_amount, same_selector, same_ref, same_uid}
-use Rattle.binder_model.specs.Guard.{annotations_before, clears_released, changes_annotation, drops_with_reference, has_uid, breaks_reference, is_in_phase_released}
+use Rattle.binder_model.specs.Guard.{annotations_before, clears_released, changes_annotation, has_uid}
 use Rattle.world_moves.proofs.Tests.{same_text}
 use Rattle.world_invariant.specs.Was.{Refers}
 use Rattle.licence_steps.proofs.Users.{Passes}

@@ -1,7 +1,7 @@
 -- What a volume and the claim that it refers to have of each other: kept where the store moves as a fitting run lets it.
-use Rattle.std.proofs.Common.{sym, refl, subst, inl, inr, ap, ◌∙◌, true≢false, arith}
+use Rattle.std.proofs.Common.{sym, refl, subst, inl, inr, ap, ◌∙◌, arith}
 use Rattle.std.proofs.lemmas.Option.{same_Some}
-use Rattle.std.specs.Prelude.{ℕ, ◌≡◌, ◌≢◌, ◌≤◌, ◌⊎◌, Bool, true, false, ◌&&◌, List, [], ◌∷◌, Option, Some, None, bytes_eq, is_some}
+use Rattle.std.specs.Prelude.{◌≡◌, ◌≢◌, ◌⊎◌, true, false, ◌&&◌, List, [], ◌∷◌, Some, None, bytes_eq, is_some}
 use Rattle.kube_types.specs.declared.uid.Uid.{Uid}
 use Rattle.kube_types.specs.declared.key.Key.{Key}
 use Rattle.kube_types.specs.declared.objects.Ref.{Ref}
@@ -10,7 +10,7 @@ use Rattle.kube_types.specs.declared.objects.Claim.{Claim as ClaimData}
 use Rattle.kube_types.specs.declared.objects.Object.{Object}
 use Rattle.kube_types.specs.declared.objects.Object.TheVariants.{Volume, Claim}
 use Rattle.kube_types.specs.Keys.{key_of, kind_index, row_at}
-use Rattle.kube_types.specs.Bindings.{is_completed, names_claim}
+use Rattle.kube_types.specs.Bindings.{is_completed}
 use Rattle.kube_types.proofs.KeyOrder.{row_at_key}
 use Rattle.call_types.specs.declared.entry.Entry.{Entry}
 use Rattle.call_types.specs.declared.setup.Setup.{Setup}
@@ -19,18 +19,16 @@ use Rattle.binder_model.specs.Safe.{was_imported_as_lost}
 use Rattle.binder_model.specs.World.{world, effect}
 use Rattle.model_laws.specs.Stood.{Stood}
 use Rattle.model_laws.proofs.Lists.{none_some}
-use Rattle.world_moves.specs.Moves.{IsWritten, Moves}
-use Rattle.world_moves.proofs.Moves.{as_made}
+use Rattle.world_moves.specs.Moves.{Moves}
 use Rattle.world_moves.proofs.Objects.{same_claim, some_volume}
-use Rattle.world_invariant.specs.Was.{Made, Refers, WasBound}
+use Rattle.world_invariant.specs.Was.{Made, Refers}
 use Rattle.world_invariant.specs.Invariant.{Invariant}
-use Rattle.world_invariant.specs.Good.{MovesAt}
-use Rattle.world_invariant.proofs.Came.{row_was, fresh, old_stood, VolumeCame, VolumeBegan, volume_came, ClaimCame, ClaimBegan, claim_came}
+use Rattle.world_invariant.proofs.Came.{row_was, fresh, old_stood, volume_came, claim_came}
 use Rattle.world_invariant.proofs.Carried.{carried}
 use Rattle.world_invariant.proofs.KeptBindings.{by_name}
-use Rattle.fitting_law.specs.Fitting.{Fits, IsReservedFor, IsPair, IsRestored, is_marked}
+use Rattle.fitting_law.specs.Fitting.{Fits, is_marked}
 use Rattle.fitting_law.specs.Enough.{ImportsFit, WerePair}
-use Rattle.fitting_law.proofs.Writes.{WasGiven, VolumeMoves, ClaimMoves, KindMoves, KindBegins, Fitted}
+use Rattle.fitting_law.proofs.Writes.{WasGiven, VolumeMoves, ClaimMoves, Fitted}
 
 -- how the store moves at an entry of a fitting run
 abbrev pub Writable : Setup → List Entry → Object → Type 0
@@ -159,7 +157,7 @@ module _ (setup : Setup) (past : List Entry) (inv : Invariant setup past) where
       let t = carried b.volume c b.carries in
       let x = inv.binding b.volume t.reference t.uid k c b.was b.bound t.refers is t.its (inr b.names) in
       let at : j ≡ volume_key b.volume.meta.name =
-          sym (row_at_key j (Volume o) (world setup past).store.rows there) ∙ by_name o (inv.placed o (row_was setup past j (Volume o) there)) ∙ ap volume_key (sym named ∙ b.names) in
+      sym (row_at_key j (Volume o) (world setup past).store.rows there) ∙ by_name o (inv.placed o (row_was setup past j (Volume o) there)) ∙ ap volume_key (sym named ∙ b.names) in
       let one : o ≡ x.volume = some_volume o x.volume (sym there ∙ ap (λ i. row_at i (world setup past).store.rows) at ∙ x.there) in
       none_some (sym free ∙ ap (λ (y : VolumeData). y.claim_ref) one ∙ x.refers)
 

@@ -1,7 +1,7 @@
 -- Each claim that counts gets enough: by what volumes and claims have of each other along a fitting run.
 use Rattle.std.proofs.Common.{sym, refl, subst, inl, inr, ap, ◌∙◌, true≢false, arith}
 use Rattle.std.proofs.lemmas.Option.{same_Some}
-use Rattle.std.specs.Prelude.{ℕ, ◌+◌, ◌<◌, ◌≤◌, ◌≡◌, ◌⊎◌, Bool, true, false, List, [], ◌∷◌, Option, Some, None, is_some, length}
+use Rattle.std.specs.Prelude.{ℕ, ◌+◌, ◌<◌, ◌≡◌, ◌⊎◌, Bool, true, false, List, [], ◌∷◌, Option, Some, None, is_some, length}
 use Rattle.kube_types.specs.declared.uid.Uid.{Uid}
 use Rattle.kube_types.specs.declared.key.Key.{Key}
 use Rattle.kube_types.specs.declared.objects.Ref.{Ref}
@@ -14,14 +14,14 @@ use Rattle.kube_types.specs.Bindings.{ref_uid}
 use Rattle.kube_types.proofs.KeyOrder.{row_at_key}
 use Rattle.call_types.specs.declared.entry.Entry.{Entry}
 use Rattle.call_types.specs.declared.setup.Setup.{Setup}
-use Rattle.binder_model.specs.Imports.{most_serials, imported_object, ImportsPass}
+use Rattle.binder_model.specs.Imports.{most_serials, imported_object}
 use Rattle.binder_model.specs.ObjectKeys.{volume_key}
 use Rattle.binder_model.specs.Run.{Run}
 use Rattle.binder_model.specs.Safe.{was_imported_as_lost}
 use Rattle.binder_model.specs.Told.{own}
 use Rattle.binder_model.specs.World.{base, world, effect}
 use Rattle.model_laws.specs.Stood.{Stands}
-use Rattle.model_laws.proofs.Imported.{ComesFrom, import_row, from_uid}
+use Rattle.model_laws.proofs.Imported.{ComesFrom, import_row}
 use Rattle.world_moves.specs.Writes.{IsIn, Writes}
 use Rattle.world_moves.proofs.Moves.{moves, as_made}
 use Rattle.world_moves.proofs.Objects.{same_claim}
@@ -33,11 +33,10 @@ use Rattle.world_invariant.proofs.Known.{invariant_of}
 use Rattle.licence_steps.proofs.Allowed.{made}
 use Rattle.licence_steps.proofs.Runs.{known, run_good}
 use Rattle.model_laws.proofs.Stood.{few_writes}
-use Rattle.safety_law.specs.Law.{IsGoodStart}
 use Rattle.safety_law.proofs.FirstWorld.{first_world_is_good}
 use Rattle.safety_law.proofs.Law.{room_for}
 use Rattle.safety_law.proofs.Safety.{bindings_stand}
-use Rattle.fitting_law.specs.Fitting.{Fits, AreFitting, is_marked}
+use Rattle.fitting_law.specs.Fitting.{Fits, AreFitting}
 use Rattle.fitting_law.specs.Enough.{ImportsFit, IsGivenByController, IsNamedByController, GetEnough, GetEnoughThroughout, ReferencesFit, RunsGetEnough, RunsReferFitting}
 use Rattle.fitting_law.proofs.Writes.{fitted}
 use Rattle.fitting_law.proofs.Kept.{FittingMoves, IsLaterClaim, AreByHand, Suited, kept}
@@ -134,7 +133,7 @@ fitting_moves setup e past short g run fits =
     let knows = known setup past g e.seat in
     as_made (world setup past) e.request (effect setup (world setup past) e.kind e.request)
     (λ (o : Object) (w : Writes (world setup past) e.kind e.request o).
-        (made setup past (own e.seat past) room inv knows e.kind e.request run.2 o w, fitted setup past (own e.seat past) inv knows e.kind e.request run.2 fits.1 o w))
+    (made setup past (own e.seat past) room inv knows e.kind e.request run.2 o w, fitted setup past (own e.seat past) inv knows e.kind e.request run.2 fits.1 o w))
     (moves setup (world setup past) e.kind e.request inv.order)
 
 suited_of : (setup : Setup) → Invariant setup [] → (past : List Entry) → base setup + length past < most_serials → Run setup past → AreFitting past → Suited setup past

@@ -1,12 +1,12 @@
 -- The runs of pairs that were bound by hand, and of imports, computed.
-use Rattle.std.proofs.Common.{sym, refl, subst, inl, inr, ap, ◌∙◌, true≢false, arith}
-use Rattle.std.specs.Prelude.{ℕ, ◌≡◌, ◌⊎◌, Bool, true, false, List, [], ◌∷◌, Option, Some, None, is_some, codes}
+use Rattle.std.proofs.Common.{sym, refl, subst, inl, inr, ap, true≢false, arith}
+use Rattle.std.specs.Prelude.{Bool, true, false, List, [], ◌∷◌, Some}
 use mathlib.Core.Bool.{xor}
 use Rattle.kube_types.specs.declared.parts.VolumePhase.TheVariants as volumes
 use Rattle.kube_types.specs.declared.objects.Volume.{Volume as VolumeData}
 use Rattle.kube_types.specs.declared.objects.Claim.{Claim as ClaimData}
 use Rattle.kube_types.specs.declared.objects.Object.{Object}
-use Rattle.kube_types.specs.declared.objects.Object.TheVariants.{Class, Node, Volume, Claim, Pod}
+use Rattle.kube_types.specs.declared.objects.Object.TheVariants.{Volume}
 use Rattle.kube_types.specs.Uids.{uid_of_serial}
 use Rattle.call_types.specs.declared.entry.Entry.{Entry}
 use Rattle.call_types.specs.declared.request.SeatKind.TheVariants as seats
@@ -18,18 +18,17 @@ use Rattle.binder_model.specs.Edits.{edited_object}
 use Rattle.binder_model.specs.Answers.{refuse, refuse_field, refuse_rule, guard_on, create, update, with_status, written_if_fits, update_status, edit, edit_to, list, outcome, reply_of, after}
 use Rattle.binder_model.specs.Devices.{device_answer}
 use Rattle.binder_model.specs.Imports.{imported_object, import_fault, fault_if, fault_of_field}
-use Rattle.binder_model.specs.World.{effect, on_devices, reply_to, world, world_after, log_after}
+use Rattle.binder_model.specs.World.{effect, on_devices, reply_to, world_after, log_after}
 use Rattle.binder_model.specs.BindWrites.{completed_with, taken_for, write_available, write_bound, write_completion, write_reference}
 use Rattle.binder_model.specs.BinderLicence.{MayBind, MayComplete, MayTake}
 use Rattle.binder_model.specs.Licence.{Licensed}
 use Rattle.binder_model.specs.Run.{Run}
 use Rattle.model_laws.specs.Worked.{no_setup}
-use Rattle.world_moves.specs.Writes.{IsIn}
 use Rattle.world_moves.proofs.Objects.{same_claim, same_volume}
 use Rattle.fitting_law.specs.Fitting.{Fits, GivesFitting}
-use Rattle.fitting_law.specs.Enough.{ImportsFit, WerePair, IsGivenByController, IsNamedByController, GetsEnough}
-use Rattle.fitting_law.specs.Examples.{PairRunExamples, ImportedPairExamples, LostClaimExamples, KeptMarkExamples, EarlyMarkExamples, again_reserved, back_a, c, cleared_a, coming_back, done, early_c, early_setup, entry, keeping_the_mark, lists_claim, lists_volume, lost_c, lost_setup, mark_setup, marked_early, naming_a, new_c, old_a, old_c, old_pair, pair_binding, reserved_a, reserved_back, taken, told, v13}
-use Rattle.fitting_law.proofs.Examples.{by_hand_examples, fewer, giving_examples}
+use Rattle.fitting_law.specs.Enough.{ImportsFit, WerePair, IsGivenByController, IsNamedByController}
+use Rattle.fitting_law.specs.Examples.{PairRunExamples, ImportedPairExamples, LostClaimExamples, KeptMarkExamples, EarlyMarkExamples, again_reserved, back_a, c, cleared_a, done, early_c, entry, lists_claim, lists_volume, lost_c, naming_a, new_c, old_a, old_c, old_pair, pair_binding, reserved_a, reserved_back, taken, told, v13}
+use Rattle.fitting_law.proofs.Examples.{fewer, giving_examples}
 use Rattle.fitting_law.proofs.Runs.{after_bind, after_take, l3, l4}
 
 -- a pair that was bound by hand
@@ -209,10 +208,19 @@ k9 = ((refl, (refl, (refl, (refl, (refl, tt))))), inr (inr (inr (inl (refl, inl 
 
 gives_again : GivesFitting seats.Binder after_free (write_reference v13 new_c)
 unfolding taken_for
-gives_again = inl (refl, inl (record { version = refl; placed = refl; named = refl }, inr (inl (refl, inl (record {
-  change = refl;
-  suits = inr (inl (record { reserved = record { reference = _; is = refl; names = refl; free = refl }; named = refl; undone = refl }));
-})))))
+gives_again = inl (
+  refl,
+  inl (
+    record { version = refl; placed = refl; named = refl },
+    inr (inl (
+      refl,
+      inl (record {
+        change = refl;
+        suits = inr (inl (record { reserved = record { reference = _; is = refl; names = refl; free = refl }; named = refl; undone = refl }));
+      }),
+    )),
+  ),
+)
 
 pub kept_mark_examples : KeptMarkExamples
 unfolding effect on_devices device_answer outcome create update update_status edit edit_to edited_object list with_status written_if_fits refuse refuse_field refuse_rule guard_on guard breaks create_fault kind_fault volume_fault claim_fault update_fault changed_field faulty lacks_node admitted_object without_status created_object with_status_of updated_object at_version leaves with_meta reply_to world_after reply_of after log_after xor taken_for completed_with imported_object import_fault fault_if fault_of_field
@@ -260,10 +268,19 @@ m6 = ((refl, (refl, (refl, (refl, tt)))), inr (inr (inl (refl, inl (record { ver
 
 gives_early : GivesFitting seats.Binder told_early (write_reference reserved_back early_c)
 unfolding taken_for
-gives_early = inr (inl (refl, inl (record { version = refl; placed = refl; named = refl }, inl (refl, inl (record {
-  change = refl;
-  suits = inr (inl (record { reserved = record { reference = _; is = refl; names = refl; free = refl }; named = refl; undone = refl }));
-})))))
+gives_early = inr (inl (
+  refl,
+  inl (
+    record { version = refl; placed = refl; named = refl },
+    inl (
+      refl,
+      inl (record {
+        change = refl;
+        suits = inr (inl (record { reserved = record { reference = _; is = refl; names = refl; free = refl }; named = refl; undone = refl }));
+      }),
+    ),
+  ),
+))
 
 pub early_mark_examples : EarlyMarkExamples
 unfolding effect on_devices device_answer outcome create update update_status list with_status written_if_fits refuse refuse_field refuse_rule guard_on guard breaks create_fault kind_fault volume_fault claim_fault update_fault changed_field faulty lacks_node admitted_object without_status created_object with_status_of updated_object at_version leaves with_meta reply_to world_after reply_of after log_after xor taken_for completed_with imported_object import_fault fault_if fault_of_field

@@ -3,7 +3,7 @@ use Rattle.std.proofs.Common.{sym, refl, subst, inl, inr, ap, ◌∙◌, true≢
 use Rattle.std.proofs.lemmas.Bool.{or_parts}
 use Rattle.std.proofs.lemmas.Option.{same_Some}
 use Rattle.std.specs.Ordering.{is_eq}
-use Rattle.std.specs.Prelude.{ℕ, ◌≡◌, ◌⊎◌, ◌==◌, ◌||◌, ◌&&◌, Bool, true, false, not, List, [], ◌∷◌, Option, Some, None, is_some, is_none, codes, if◌then◌else◌}
+use Rattle.std.specs.Prelude.{ℕ, ◌≡◌, ◌||◌, ◌&&◌, Bool, true, false, not, List, [], ◌∷◌, Option, Some, None, is_some, codes, if◌then◌else◌}
 use Rattle.std.specs.List.{list_any}
 use mathlib.Core.Bool.{xor}
 use Rattle.kube_types.specs.declared.uid.Uid.{Uid}
@@ -13,10 +13,10 @@ use Rattle.kube_types.specs.declared.objects.Ref.{Ref}
 use Rattle.kube_types.specs.declared.objects.Volume.{Volume as VolumeData}
 use Rattle.kube_types.specs.declared.objects.Claim.{Claim as ClaimData}
 use Rattle.kube_types.specs.declared.objects.Object.{Object}
-use Rattle.kube_types.specs.declared.objects.Object.TheVariants.{Class, Node, Volume, Claim, Pod}
+use Rattle.kube_types.specs.declared.objects.Object.TheVariants.{Volume, Claim}
 use Rattle.kube_types.specs.Keys.{key_cmp, key_of, row_at}
 use Rattle.kube_types.specs.Uids.{uid_of_serial}
-use Rattle.kube_types.specs.Bindings.{is_completed, is_uid, ref_uid}
+use Rattle.kube_types.specs.Bindings.{is_completed, ref_uid}
 use Rattle.call_types.specs.declared.entry.Entry.{Entry}
 use Rattle.call_types.specs.declared.setup.Setup.{Setup}
 use Rattle.call_types.specs.declared.request.SeatKind.TheVariants as seats
@@ -24,24 +24,22 @@ use Rattle.call_types.specs.declared.reply.Reply.TheVariants as replies
 use Rattle.binder_model.specs.Store.{with_meta, at_version, admitted_object, without_status, created_object, with_status_of, updated_object, leaves, lacks_node}
 use Rattle.binder_model.specs.Fields.{faulty, volume_fault, claim_fault, kind_fault, create_fault, changed_field, update_fault}
 use Rattle.binder_model.specs.Guard.{breaks, guard}
-use Rattle.binder_model.specs.Edits.{edited_object}
-use Rattle.binder_model.specs.Answers.{refuse, refuse_field, refuse_rule, guard_on, create, update, with_status, written_if_fits, update_status, edit, edit_to, list, outcome, reply_of, after}
+use Rattle.binder_model.specs.Answers.{refuse, refuse_field, refuse_rule, guard_on, create, update, with_status, written_if_fits, update_status, list, outcome, reply_of, after}
 use Rattle.binder_model.specs.Devices.{device_answer}
-use Rattle.binder_model.specs.Imports.{imported_object, import_fault, fault_if, fault_of_field}
 use Rattle.binder_model.specs.World.{effect, on_devices, reply_to, world, world_after, log_after}
 use Rattle.binder_model.specs.BindWrites.{completed_with, taken_for, write_bound, write_completion, write_reference}
-use Rattle.binder_model.specs.BinderLicence.{IsFreeFor, MayBind, MayComplete, MayTake}
+use Rattle.binder_model.specs.BinderLicence.{MayBind, MayComplete, MayTake}
 use Rattle.binder_model.specs.Licence.{Licensed}
 use Rattle.binder_model.specs.ObjectKeys.{claim_key, volume_key}
 use Rattle.world_moves.proofs.Objects.{some_volume}
 use Rattle.binder_model.specs.Run.{Run}
 use Rattle.binder_model.specs.Safe.{Counts}
-use Rattle.model_laws.specs.Stood.{Stands, Stood}
+use Rattle.model_laws.specs.Stood.{Stood}
 use Rattle.model_laws.specs.Worked.{no_setup}
 use Rattle.model_laws.proofs.Lists.{none_some}
-use Rattle.fitting_law.specs.Fitting.{Fits, AreFitting, GivesFitting, IsReservedFor, is_marked}
-use Rattle.fitting_law.specs.Enough.{WerePair, IsGivenByController, IsNamedByController, GetsEnough, GetEnough}
-use Rattle.fitting_law.specs.Examples.{FittingRunExamples, ShortRunExamples, PairRunExamples, a, binding, c, done, entry, lists_claim, lists_volume, naming_a, pair_binding, reserved_a, taken, told}
+use Rattle.fitting_law.specs.Fitting.{Fits, AreFitting, IsReservedFor, is_marked}
+use Rattle.fitting_law.specs.Enough.{WerePair, IsGivenByController, IsNamedByController, GetsEnough}
+use Rattle.fitting_law.specs.Examples.{FittingRunExamples, ShortRunExamples, a, binding, c, done, entry, lists_claim, lists_volume, taken, told}
 use Rattle.fitting_law.proofs.Examples.{fewer, giving_examples, neither}
 use Rattle.fitting_law.proofs.Law.{runs_refer_fitting}
 

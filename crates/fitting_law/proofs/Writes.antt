@@ -3,7 +3,7 @@ use Rattle.std.proofs.Common.{sym, refl, subst, inl, inr, ap, ◌∙◌, true≢
 use Rattle.std.proofs.lemmas.Bool.{not-false}
 use Rattle.std.proofs.lemmas.Bool.Decides.{nat_tests}
 use Rattle.std.proofs.lemmas.Option.{same_Some}
-use Rattle.std.specs.Prelude.{ℕ, ◌+◌, ◌≡◌, ◌≤◌, ◌==◌, ◌⊎◌, Bool, true, false, List, [], ◌∷◌, Option, Some, None, is_some, is_none, unwrap_or, ⊤}
+use Rattle.std.specs.Prelude.{ℕ, ◌≡◌, ◌==◌, ◌⊎◌, Bool, true, false, List, [], ◌∷◌, Option, Some, None, is_some, unwrap_or, ⊤}
 use Rattle.std.proofs.Common.{arith}
 use Rattle.plain_data.specs.Pairs.{value_at}
 use Rattle.kube_types.specs.declared.uid.Uid.{Uid}
@@ -28,21 +28,20 @@ use Rattle.call_types.specs.declared.request.Request.{Request}
 use Rattle.call_types.specs.declared.request.Request.TheVariants as requests
 use Rattle.binder_model.specs.Store.{with_meta, at_version, marked_object, created_object, updated_object, admitted_object, without_status, with_status_of}
 use Rattle.binder_model.specs.Fields.{update_fault}
-use Rattle.binder_model.specs.Answers.{is_other_version, guard_on, with_status, is_user}
+use Rattle.binder_model.specs.Answers.{is_other_version, guard_on, with_status}
 use Rattle.binder_model.specs.At.{IsWrittenAt}
 use Rattle.binder_model.specs.BindWrites.{annotated_meta_if, completed_with, ref_to, taken_for}
 use Rattle.binder_model.specs.BinderLicence.{IsBoundFor, MayComplete}
-use Rattle.binder_model.specs.GuardLicence.{guarded_meta, unguarded_meta}
-use Rattle.binder_model.specs.Licence.{Licensed, GuardsVolume, VolumeGuard, ClaimGuard}
+use Rattle.binder_model.specs.Licence.{Licensed, VolumeGuard, ClaimGuard}
 use Rattle.binder_model.specs.OpsLicence.{MayCreate, MayClearNode}
 use Rattle.binder_model.specs.Provisioning.{provisioned_volume}
 use Rattle.binder_model.specs.SchedulerLicence.{MaySelectNode}
-use Rattle.binder_model.specs.Told.{ToldVolume, ToldClaim, own}
+use Rattle.binder_model.specs.Told.{ToldVolume, ToldClaim}
 use Rattle.binder_model.specs.World.{world}
 use Rattle.model_laws.specs.Stood.{Stood}
 use Rattle.model_laws.proofs.Lists.{none_some}
 use Rattle.model_laws.proofs.Newest.{newest_told}
-use Rattle.world_moves.specs.Writes.{IsCreate, IsUpdate, IsEdit, IsStatus, IsMark, Writes}
+use Rattle.world_moves.specs.Writes.{IsUpdate, IsEdit, Writes}
 use Rattle.world_moves.proofs.Objects.{same_volume}
 use Rattle.world_moves.proofs.Whence.{created_first, updated_next, status_next, marked_next, bound_next, finished_next}
 use Rattle.world_invariant.specs.Was.{Refers}
@@ -51,7 +50,7 @@ use Rattle.world_invariant.specs.Good.{IsTrue}
 use Rattle.world_invariant.proofs.Known.{told_volume, told_claim}
 use Rattle.licence_steps.proofs.Rows.{stored_volume, no_ref_uid}
 use Rattle.licence_steps.proofs.Claims.{stored_claim}
-use Rattle.licence_steps.proofs.Users.{Passes, passes, completion_same, no_uid_given}
+use Rattle.licence_steps.proofs.Users.{passes, completion_same, no_uid_given}
 use Rattle.licence_steps.proofs.Allowed.{Known, at_claim}
 use Rattle.kube_types.proofs.KeyOrder.{row_at_key}
 use Rattle.model_laws.proofs.Stood.{one_version_one_object}
@@ -117,14 +116,14 @@ given_reference setup past mine true_of o new n row =
     let t = told_claim setup past mine true_of (IsGiven o new) row in
     let given : IsGiven o new t.0 = t.2 in
     subst (λ (x : VolumeData). ReferencesMove setup past o (stored_volume o x n)) (sym given.change) (λ r uid h.
-        let e : ref_to t.0 ≡ r = same_Some (ref_to t.0) r h.is in
-        inr (record {
-          claim = t.0;
-          was = t.1;
-          its = ap (λ (z : Ref). z.uid) e ∙ h.known;
-          suits = given.suits;
-          marks = λ had marked. sym (taken_marks o.claim_ref o.meta had) ∙ marked;
-        }))
+    let e : ref_to t.0 ≡ r = same_Some (ref_to t.0) r h.is in
+    inr (record {
+      claim = t.0;
+      was = t.1;
+      its = ap (λ (z : Ref). z.uid) e ∙ h.known;
+      suits = given.suits;
+      marks = λ had marked. sym (taken_marks o.claim_ref o.meta had) ∙ marked;
+    }))
 
 -- the told volume at the current version is the one that stands
 

@@ -1,6 +1,6 @@
 -- Which volumes fit, what may be given, and what claims get at the end of runs, computed: for each definition a case that holds,
 -- and cases that do not. A choice of this project, as the definitions are. Lists of entries begin with the newest.
-use Rattle.std.specs.Prelude.{ℕ, ◌≡◌, true, false, List, [], ◌∷◌, Option, Some, None, codes}
+use Rattle.std.specs.Prelude.{ℕ, ◌≡◌, true, false, List, [], ◌∷◌, Some, None, codes}
 use Rattle.kube_types.specs.declared.parts.Kind.TheVariants as kinds
 use Rattle.kube_types.specs.declared.parts.ClaimPhase.TheVariants as claims
 use Rattle.kube_types.specs.declared.parts.VolumePhase.{VolumePhase}
@@ -11,7 +11,7 @@ use Rattle.kube_types.specs.declared.objects.Claim.{Claim as ClaimData}
 use Rattle.kube_types.specs.declared.objects.Object.{Object}
 use Rattle.kube_types.specs.declared.objects.Object.TheVariants.{Volume, Claim}
 use Rattle.kube_types.specs.Uids.{uid_of_serial}
-use Rattle.kube_types.specs.Bindings.{bind_completed, bound_by_controller, pv_protection, pvc_protection, yes}
+use Rattle.kube_types.specs.Bindings.{bind_completed, bound_by_controller, yes}
 use Rattle.call_types.specs.declared.entry.Entry.{Entry}
 use Rattle.call_types.specs.declared.setup.Setup.{Setup}
 use Rattle.call_types.specs.declared.edit.Edit.TheVariants as edits
@@ -26,7 +26,7 @@ use Rattle.binder_model.specs.ObjectKeys.{volume_key}
 use Rattle.binder_model.specs.Imports.{ImportsPass}
 use Rattle.binder_model.specs.Run.{Run}
 use Rattle.binder_model.specs.Safe.{Counts, was_imported_as_lost}
-use Rattle.model_laws.specs.Worked.{no_setup, claim, claim_at, stands, volume, volume_at}
+use Rattle.model_laws.specs.Worked.{no_setup, claim, claim_at, volume, volume_at}
 use Rattle.fitting_law.specs.Fitting.{Fits, IsReservedFor, IsPair, IsRestored, GivesFitting, AreFitting, is_marked}
 use Rattle.fitting_law.specs.Enough.{ImportsFit, WerePair, IsGivenByController, IsNamedByController, GetsEnough, GetEnough, ReferencesFit}
 

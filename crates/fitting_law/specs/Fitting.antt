@@ -1,7 +1,7 @@
 -- Which volume fits a claim, and what a write that gives a volume the reference of a claim must meet beside its licence.
 -- Source: `syncUnboundClaim`, `syncBoundClaim` and `bind` of `pv_controller.go`. There, as here, a volume and a claim that were
 -- both bound by hand are bound without a test of size, and so is a completed claim whose volume refers to no claim.
-use Rattle.std.specs.Prelude.{ℕ, ◌≡◌, ◌≤◌, ◌⊎◌, Bool, true, false, List, [], ◌∷◌, Option, Some, None, is_some, ⊤}
+use Rattle.std.specs.Prelude.{ℕ, ◌≡◌, ◌≤◌, ◌⊎◌, Bool, true, false, List, [], ◌∷◌, Option, Some, None, ⊤}
 use Rattle.kube_types.specs.declared.uid.Uid.{Uid}
 use Rattle.kube_types.specs.declared.objects.Meta.{Meta}
 use Rattle.kube_types.specs.declared.objects.Ref.{Ref}
