@@ -37,9 +37,8 @@ use Rattle.worker_core.specs.Turns.{AfterKeys, IsTurn, TurnBy, passing, unlisted
 use Rattle.worker_core.proofs.Licensed.{no_start}
 use Rattle.worker_core.proofs.Machines.{KeepsUnder, keeps_under}
 use Rattle.fitting_law.specs.Fitting.{GivesFitting, GivesSo}
-use Rattle.fitting_law.specs.Fitting.{AreFitting}
 use Rattle.fitting_law.proofs.Law.{runs_get_enough}
-use Rattle.fitting_calls.specs.Calls.{CallsGiveFitting, AskedGiveFitting, IsByActor, AreByActors, ActorsGiveEnough}
+use Rattle.fitting_calls.specs.Calls.{CallsGiveFitting, AskedGiveFitting, IsByActor, ActorsAreFitting, ActorsGiveEnough}
 use Rattle.fitting_calls.proofs.Decided.{MachineSuits, begun_suits}
 use Rattle.fitting_calls.proofs.Asked.{call_gives}
 use Rattle.fitting_calls.proofs.Answered.{IsAnswered, goes_on_suits}
@@ -184,9 +183,9 @@ by_actor seats.ClaimProtect mine r by = by
 by_actor seats.VolumeProtect mine r by = by
 by_actor seats.Agent mine r by = by
 
-by_actors : (past : List Entry) → AreByActors past → AreFitting past
-by_actors [] all = tt
-by_actors (e ∷ past) all = (by_actors past all.0, by_actor e.kind (own e.seat past) e.request all.1)
+pub actors_are_fitting : ActorsAreFitting
+actors_are_fitting [] all = tt
+actors_are_fitting (e ∷ past) all = (actors_are_fitting past all.0, by_actor e.kind (own e.seat past) e.request all.1)
 
 pub actors_give_enough : ActorsGiveEnough
-actors_give_enough setup past run all = runs_get_enough setup past run (by_actors past all)
+actors_give_enough setup past run all = runs_get_enough setup past run (actors_are_fitting past all)

@@ -12,7 +12,7 @@ use Rattle.worker_core.specs.declared.turn.Next.TheVariants.{Call}
 use Rattle.worker_core.specs.Stands.{StandsFor}
 use Rattle.worker_core.specs.States.{State, asked}
 use Rattle.worker_core.specs.Turns.{IsTurn}
-use Rattle.fitting_law.specs.Fitting.{GivesFitting}
+use Rattle.fitting_law.specs.Fitting.{GivesFitting, AreFitting}
 use Rattle.fitting_law.specs.Enough.{GetEnoughThroughout}
 
 -- each call that a turn of a binder gives, where the actor then stands for these entries
@@ -41,6 +41,10 @@ IsByActor kind mine request = GivesFitting kind mine request
 abbrev pub AreByActors : List Entry → Type 0
 AreByActors [] = ⊤
 AreByActors (e ∷ past) = AreByActors past × IsByActor e.kind (own e.seat past) e.request
+
+-- such a history gives fittingly throughout
+abbrev pub ActorsAreFitting : Type 0
+ActorsAreFitting = (past : List Entry) → AreByActors past → AreFitting past
 
 -- in a run whose binders are actors each claim that counts gets enough, at every point of it
 abbrev pub ActorsGiveEnough : Type 0

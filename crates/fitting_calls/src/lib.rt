@@ -4,7 +4,7 @@
 //! each later answer tells is the volume with the reference.
 #![tactic(auto)]
 
-ghost use Rattle.fitting_calls.specs.Calls.{ActorsGiveEnough, AskedGiveFitting, CallsGiveFitting};
+ghost use Rattle.fitting_calls.specs.Calls.{ActorsAreFitting, ActorsGiveEnough, AskedGiveFitting, CallsGiveFitting};
 ghost use Rattle.fitting_calls.specs.Examples.{AskedExamples, DecisionExamples};
 
 /// Each call that a turn of a binder gives.
@@ -17,6 +17,12 @@ pub fn calls_give_fitting()
 #[tactic(auto, using(crate::proofs::Turns::asked_give_fitting))]
 pub fn asked_give_fitting()
     ensures { AskedGiveFitting }
+{}
+
+/// A history whose binders are such actors gives fittingly throughout.
+#[tactic(auto, using(crate::proofs::Turns::actors_are_fitting))]
+pub fn actors_are_fitting()
+    ensures { ActorsAreFitting }
 {}
 
 /// In each run whose binders are such actors, each claim that counts gets enough, at every point of it.

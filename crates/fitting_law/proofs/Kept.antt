@@ -1,7 +1,7 @@
 -- What a volume and the claim that it refers to have of each other: kept where the store moves as a fitting run lets it.
 use Rattle.std.proofs.Common.{sym, refl, subst, inl, inr, ap, ◌∙◌, arith}
 use Rattle.std.proofs.lemmas.Option.{same_Some}
-use Rattle.std.specs.Prelude.{◌≡◌, ◌≢◌, ◌⊎◌, true, false, ◌&&◌, List, [], ◌∷◌, Some, None, bytes_eq, is_some}
+use Rattle.std.specs.Prelude.{Bool, ◌≡◌, ◌≢◌, ◌⊎◌, true, false, ◌&&◌, List, [], ◌∷◌, Some, None, bytes_eq, is_some}
 use Rattle.kube_types.specs.declared.uid.Uid.{Uid}
 use Rattle.kube_types.specs.declared.key.Key.{Key}
 use Rattle.kube_types.specs.declared.objects.Ref.{Ref}
@@ -10,24 +10,24 @@ use Rattle.kube_types.specs.declared.objects.Claim.{Claim as ClaimData}
 use Rattle.kube_types.specs.declared.objects.Object.{Object}
 use Rattle.kube_types.specs.declared.objects.Object.TheVariants.{Volume, Claim}
 use Rattle.kube_types.specs.Keys.{key_of, kind_index, row_at}
-use Rattle.kube_types.specs.Bindings.{is_completed}
+use Rattle.kube_types.specs.Bindings.{is_completed, ref_uid}
 use Rattle.kube_types.proofs.KeyOrder.{row_at_key}
 use Rattle.call_types.specs.declared.entry.Entry.{Entry}
 use Rattle.call_types.specs.declared.setup.Setup.{Setup}
 use Rattle.binder_model.specs.ObjectKeys.{volume_key}
 use Rattle.binder_model.specs.Safe.{was_imported_as_lost}
-use Rattle.binder_model.specs.World.{world, effect}
+use Rattle.binder_model.specs.World.{World, world, effect}
 use Rattle.model_laws.specs.Stood.{Stood}
 use Rattle.model_laws.proofs.Lists.{none_some}
 use Rattle.world_moves.specs.Moves.{Moves}
 use Rattle.world_moves.proofs.Objects.{same_claim, some_volume}
 use Rattle.world_invariant.specs.Was.{Made, Refers}
 use Rattle.world_invariant.specs.Invariant.{Invariant}
-use Rattle.world_invariant.proofs.Came.{row_was, fresh, old_stood, volume_came, claim_came}
+use Rattle.world_invariant.proofs.Came.{row_stands, row_was, fresh, old_stood, volume_came, claim_came}
 use Rattle.world_invariant.proofs.Carried.{carried}
 use Rattle.world_invariant.proofs.KeptBindings.{by_name}
 use Rattle.fitting_law.specs.Fitting.{Fits, is_marked}
-use Rattle.fitting_law.specs.Enough.{ImportsFit, WerePair}
+use Rattle.fitting_law.specs.Enough.{ImportsFit, ArePair, WerePair}
 use Rattle.fitting_law.proofs.Writes.{WasGiven, VolumeMoves, ClaimMoves, Fitted}
 
 -- how the store moves at an entry of a fitting run
@@ -41,15 +41,22 @@ FittingMoves setup e past = Moves (world setup past) e.request (effect setup (wo
 pub record IsLaterClaim (a b : ClaimData) : Type 0 where
   pub bytes : b.amount.bytes ≡ a.amount.bytes
   pub mode : b.block ≡ a.block
-  -- once it names a volume it is not marked anew
-  pub marks : a.volume_name ≢ [] → is_marked b.meta ≡ true → is_marked a.meta ≡ true
   pub completed : is_completed a ≡ true → is_completed b ≡ true
 
 -- they were bound by hand, and are marked only where they were so then
 pub record AreByHand (setup : Setup) (past : List Entry) (v : VolumeData) (c : ClaimData) : Type 0 where
   pub pair : WerePair setup past v c
-  pub volume_marks : is_marked v.meta ≡ true → is_marked pair.volume.meta ≡ true
-  pub claim_marks : is_marked c.meta ≡ true → is_marked pair.claim.meta ≡ true
+  pub volume : VolumeData
+  pub volume_stood : Stood setup past (Volume volume)
+  pub same_volume : volume.meta.uid ≡ v.meta.uid
+  pub free : ref_uid volume.claim_ref ≡ None
+  pub volume_marks : is_marked v.meta ≡ true → is_marked volume.meta ≡ true
+  pub claim : ClaimData
+  pub claim_stood : Stood setup past (Claim claim)
+  pub same_claim : claim.meta.uid ≡ c.meta.uid
+  pub named : claim.volume_name ≡ v.meta.name
+  pub undone : is_completed claim ≡ false
+  pub claim_marks : is_marked c.meta ≡ true → is_marked claim.meta ≡ true
 
 pub record Suited (setup : Setup) (past : List Entry) : Type 0 where
   pub claims : (a : ClaimData) (k : Key) (b : ClaimData) → Stood setup past (Claim a) → row_at k (world setup past).store.rows ≡ Some (Claim b)
@@ -63,22 +70,10 @@ pub record Suited (setup : Setup) (past : List Entry) : Type 0 where
 -- claims in time
 
 claim_itself : (c : ClaimData) → IsLaterClaim c c
-claim_itself c = record { bytes = refl; mode = refl; marks = λ named marked. marked; completed = λ done. done }
+claim_itself c = record { bytes = refl; mode = refl; completed = λ done. done }
 
-claim_then : (setup : Setup) (past : List Entry) → Invariant setup past → (a b c : ClaimData) (k : Key) → Stood setup past (Claim a)
-    → row_at k (world setup past).store.rows ≡ Some (Claim b) → b.meta.uid ≡ a.meta.uid → IsLaterClaim a b → ClaimMoves b c → IsLaterClaim a c
-claim_then setup past inv a b c k was is same l m = record {
-  bytes = m.bytes ∙ l.bytes;
-  mode = m.mode ∙ l.mode;
-  marks = λ named marked. elim (m.marks.marks marked) [
-    | inl before ↦ l.marks named before
-    | inr none ↦ elim (inv.later (Claim a) k (Claim b) was is same).keeps.named [
-      | inl empty ↦ absurd (named empty)
-      | inr once ↦ absurd (named (sym once ∙ none))
-    ]
-  ];
-  completed = λ done. m.marks.completed (l.completed done);
-}
+claim_then : (a b c : ClaimData) → IsLaterClaim a b → ClaimMoves b c → IsLaterClaim a c
+claim_then a b c l m = record { bytes = m.bytes ∙ l.bytes; mode = m.mode ∙ l.mode; completed = λ done. m.marks.completed (l.completed done) }
 
 -- a claim that named a volume names it still
 still_named : (setup : Setup) (past : List Entry) → Invariant setup past → (a b : ClaimData) (k : Key) → Stood setup past (Claim a)
@@ -108,7 +103,7 @@ module _ (setup : Setup) (e : Entry) (past : List Entry) (inv : Invariant setup 
         | inl began ↦ fresh began.room a.meta.uid (old_stood setup past (Claim a) before) (sym same ∙ began.first.uid)
         | inr came ↦
             let its : came.old.meta.uid ≡ a.meta.uid = sym came.next.keeps.uid ∙ same in
-            claim_then setup past inv a came.old b (key_of (Claim b)) before came.next.there its (s.claims a (key_of (Claim b)) came.old before came.next.there its) (new.write.1.moves (Claim came.old) came.next.there)
+            claim_then a came.old b (s.claims a (key_of (Claim b)) came.old before came.next.there its) (new.write.1.moves (Claim came.old) came.next.there)
       ]
     ]
   ]
@@ -121,37 +116,56 @@ fits_later v a b bytes mode f = let low = f.bytes in record { bytes = omega (ari
 fits_moved : (v w : VolumeData) (c : ClaimData) → w.amount.bytes ≡ v.amount.bytes → w.block ≡ v.block → Fits v c → Fits w c
 fits_moved v w c bytes mode f = let low = f.bytes in record { bytes = omega (arith, low, bytes); mode = mode ∙ f.mode }
 
--- who were bound by hand stay so, while the claim has its key
-hand_later : (setup : Setup) (e : Entry) (past : List Entry) (v w : VolumeData) (c d : ClaimData) → AreByHand setup past v c
-    → w.meta.uid ≡ v.meta.uid → w.meta.name ≡ v.meta.name → key_of (Claim d) ≡ key_of (Claim c) → d.meta.uid ≡ c.meta.uid
-    → (is_marked w.meta ≡ true → is_marked v.meta ≡ true) → (is_marked d.meta ≡ true → AreByHand setup past v c → is_marked c.meta ≡ true)
-    → AreByHand setup (e ∷ past) w d
-hand_later setup e past v w c d h same_v name key same_c mark_v mark_c = record {
-  pair = record {
-    volume = h.pair.volume;
-    volume_stood = inl h.pair.volume_stood;
-    same_volume = h.pair.same_volume ∙ sym same_v;
-    reserved = record {
-      reference = h.pair.reserved.reference;
-      is = h.pair.reserved.is;
-      names = (λ i. bytes_eq h.pair.reserved.reference.namespace (key i).namespace && bytes_eq h.pair.reserved.reference.name (key i).name) ∙ h.pair.reserved.names;
-      free = h.pair.reserved.free;
-    };
-    claim = h.pair.claim;
-    claim_stood = inl h.pair.claim_stood;
-    same_claim = h.pair.same_claim ∙ sym same_c;
-    named = h.pair.named ∙ sym name;
-    undone = h.pair.undone;
-  };
-  volume_marks = λ marked. h.volume_marks (mark_v marked);
-  claim_marks = λ marked. h.claim_marks (mark_c marked h);
+-- who were a pair
+
+pair_now : (setup : Setup) (past : List Entry) (v : VolumeData) (c : ClaimData) → ArePair (world setup past) v c → WerePair setup past v c
+pair_now setup [] v c p = p
+pair_now setup (e ∷ past) v c p = inr p
+
+are_pair_still : (x : World) (v w : VolumeData) (c d : ClaimData) → w.meta.uid ≡ v.meta.uid → d.meta.uid ≡ c.meta.uid → ArePair x v c → ArePair x w d
+are_pair_still x v w c d same_v same_c p = record {
+  volume = p.volume;
+  volume_there = p.volume_there;
+  same_volume = p.same_volume ∙ sym same_v;
+  claim = p.claim;
+  claim_there = p.claim_there;
+  same_claim = p.same_claim ∙ sym same_c;
+  pair = p.pair;
 }
 
--- a volume without a reference is not that of a completed claim, if this was not imported as Lost
+were_pair_still : (setup : Setup) (past : List Entry) (v w : VolumeData) (c d : ClaimData) → w.meta.uid ≡ v.meta.uid → d.meta.uid ≡ c.meta.uid
+    → WerePair setup past v c → WerePair setup past w d
+were_pair_still setup [] v w c d same_v same_c p = are_pair_still (world setup []) v w c d same_v same_c p
+were_pair_still setup (e ∷ past) v w c d same_v same_c p = elim p [
+  | inl before ↦ inl (were_pair_still setup past v w c d same_v same_c before)
+  | inr now ↦ inr (are_pair_still (world setup (e ∷ past)) v w c d same_v same_c now)
+]
+
+-- who were bound by hand stay so
+hand_later : (setup : Setup) (e : Entry) (past : List Entry) (v w : VolumeData) (c d : ClaimData) → AreByHand setup past v c
+    → w.meta.uid ≡ v.meta.uid → w.meta.name ≡ v.meta.name → d.meta.uid ≡ c.meta.uid
+    → (is_marked w.meta ≡ true → is_marked v.meta ≡ true) → (is_marked d.meta ≡ true → is_marked c.meta ≡ true)
+    → AreByHand setup (e ∷ past) w d
+hand_later setup e past v w c d h same_v name same_c mark_v mark_c = record {
+  pair = inl (were_pair_still setup past v w c d same_v same_c h.pair);
+  volume = h.volume;
+  volume_stood = inl h.volume_stood;
+  same_volume = h.same_volume ∙ sym same_v;
+  free = h.free;
+  volume_marks = λ marked. h.volume_marks (mark_v marked);
+  claim = h.claim;
+  claim_stood = inl h.claim_stood;
+  same_claim = h.same_claim ∙ sym same_c;
+  named = h.named ∙ sym name;
+  undone = h.undone;
+  claim_marks = λ marked. h.claim_marks (mark_c marked);
+}
+
+-- a volume without a UID in its reference is not that of a completed claim, if this was not imported as Lost
 module _ (setup : Setup) (past : List Entry) (inv : Invariant setup past) where
   not_restored : {G : Type 0} (o : VolumeData) (c : ClaimData) (j k : Key) → row_at j (world setup past).store.rows ≡ Some (Volume o)
       → row_at k (world setup past).store.rows ≡ Some (Claim c) → is_completed c ≡ true → was_imported_as_lost setup c.meta.uid ≡ false
-      → c.volume_name ≡ o.meta.name → o.claim_ref ≡ None → G
+      → c.volume_name ≡ o.meta.name → ref_uid o.claim_ref ≡ None → G
   not_restored o c j k there is done lost named free =
       let b = inv.completed k c is done lost in
       let t = carried b.volume c b.carries in
@@ -159,7 +173,17 @@ module _ (setup : Setup) (past : List Entry) (inv : Invariant setup past) where
       let at : j ≡ volume_key b.volume.meta.name =
       sym (row_at_key j (Volume o) (world setup past).store.rows there) ∙ by_name o (inv.placed o (row_was setup past j (Volume o) there)) ∙ ap volume_key (sym named ∙ b.names) in
       let one : o ≡ x.volume = some_volume o x.volume (sym there ∙ ap (λ i. row_at i (world setup past).store.rows) at ∙ x.there) in
-      none_some (sym free ∙ ap (λ (y : VolumeData). y.claim_ref) one ∙ x.refers)
+      none_some (sym free ∙ ap (λ (y : VolumeData). ref_uid y.claim_ref) one ∙ ap ref_uid x.refers ∙ t.refers.known)
+
+  -- so the claim that such a volume's name stands in is not completed
+  not_done : (o : VolumeData) (c : ClaimData) (j k : Key) → row_at j (world setup past).store.rows ≡ Some (Volume o)
+      → row_at k (world setup past).store.rows ≡ Some (Claim c) → was_imported_as_lost setup c.meta.uid ≡ false
+      → c.volume_name ≡ o.meta.name → ref_uid o.claim_ref ≡ None → is_completed c ≡ false
+  not_done o c j k there is lost named free = by (is_completed c) refl
+    where
+      by : (b : Bool) → is_completed c ≡ b → is_completed c ≡ false
+      by true done = not_restored o c j k there is done lost named free
+      by false undone = undone
 
 module _ (setup : Setup) (e : Entry) (past : List Entry) (inv : Invariant setup past) (s : Suited setup past) where
   -- the volume was given to the claim by this entry
@@ -175,31 +199,45 @@ module _ (setup : Setup) (e : Entry) (past : List Entry) (inv : Invariant setup 
         | inr hand ↦ elim hand [
           | inl p ↦
               let keyed : key_of (Claim c) ≡ key_of (Claim g.claim) = inv.keyed (Claim c) (Claim g.claim) (row_was setup past k (Claim c) is) g.was (its ∙ sym g.its) in
-              let named : g.claim.volume_name ≢ [] = λ none. placed.titled (sym p.named ∙ none) in
+              let titled : g.claim.volume_name ≢ [] = λ none. placed.titled (sym p.named ∙ none) in
+              let named : c.volume_name ≡ v.meta.name = still_named setup past inv g.claim c k g.was is (its ∙ sym g.its) titled ∙ p.named in
+              let free : ref_uid v.claim_ref ≡ None = ap ref_uid p.reserved.is ∙ p.reserved.free in
+              let undone = not_done setup past inv v c j k there is (ap (was_imported_as_lost setup) its ∙ lost) named free in
               inr (record {
-                pair = record {
+                pair = inl (pair_now setup past w c (record {
                   volume = v;
-                  volume_stood = inl (row_was setup past j (Volume v) there);
+                  volume_there = row_stands (world setup past) j (Volume v) there;
                   same_volume = sym same;
-                  reserved = record {
-                    reference = p.reserved.reference;
-                    is = p.reserved.is;
-                    names = (λ i. bytes_eq p.reserved.reference.namespace (keyed i).namespace && bytes_eq p.reserved.reference.name (keyed i).name) ∙ p.reserved.names;
-                    free = p.reserved.free;
+                  claim = c;
+                  claim_there = row_stands (world setup past) k (Claim c) is;
+                  same_claim = refl;
+                  pair = record {
+                    reserved = record {
+                      reference = p.reserved.reference;
+                      is = p.reserved.is;
+                      names = (λ i. bytes_eq p.reserved.reference.namespace (keyed i).namespace && bytes_eq p.reserved.reference.name (keyed i).name) ∙ p.reserved.names;
+                      free = p.reserved.free;
+                    };
+                    named = named;
+                    undone = undone;
                   };
-                  claim = g.claim;
-                  claim_stood = inl g.was;
-                  same_claim = g.its ∙ sym its;
-                  named = p.named ∙ sym name;
-                  undone = p.undone;
-                };
+                }));
+                volume = v;
+                volume_stood = inl (row_was setup past j (Volume v) there);
+                same_volume = sym same;
+                free = free;
                 volume_marks = g.marks (ap is_some p.reserved.is);
-                claim_marks = later.marks named;
+                claim = c;
+                claim_stood = inl (row_was setup past k (Claim c) is);
+                same_claim = refl;
+                named = named ∙ sym name;
+                undone = undone;
+                claim_marks = λ marked. marked;
               })
           | inr back ↦
               let named : g.claim.volume_name ≢ [] = λ none. placed.titled (sym back.named ∙ none) in
               not_restored setup past inv v c j k there is (later.completed back.completed) (ap (was_imported_as_lost setup) its ∙ lost)
-              (still_named setup past inv g.claim c k g.was is (its ∙ sym g.its) named ∙ back.named) back.free
+              (still_named setup past inv g.claim c k g.was is (its ∙ sym g.its) named ∙ back.named) (ap ref_uid back.free)
         ]
       ]
 
@@ -219,7 +257,7 @@ module _ (setup : Setup) (e : Entry) (past : List Entry) (inv : Invariant setup 
         elim (moved.refers r uid h) [
           | inl same ↦ elim (s.given (key_of (Volume v)) k came.old c r uid came.next.there is same.0 its lost fit) [
             | inl f ↦ inl (fits_moved came.old v c moved.bytes moved.mode f)
-            | inr hand ↦ inr (hand_later setup e past came.old v c c hand came.next.keeps.uid name refl refl same.1 (λ marked h. marked))
+            | inr hand ↦ inr (hand_later setup e past came.old v c c hand came.next.keeps.uid name refl same.1 (λ marked. marked))
           ]
           | inr given ↦ given_now setup e past inv s came.old v c k (key_of (Volume v)) uid came.next.there is its lost came.next.keeps.uid name moved.bytes moved.mode given
         ]
@@ -235,12 +273,12 @@ module _ (setup : Setup) (e : Entry) (past : List Entry) (inv : Invariant setup 
         let moved : ClaimMoves came.old c = w.1.moves (Claim came.old) came.next.there in
         elim (s.given j (key_of (Claim c)) v came.old r uid is came.next.there h (sym came.next.keeps.uid ∙ its) lost fit) [
           | inl f ↦ inl (fits_later v came.old c moved.bytes moved.mode f)
-          | inr hand ↦ inr (hand_later setup e past v v came.old c hand refl refl came.next.key came.next.keeps.uid (λ marked. marked) (λ marked h. elim (moved.marks.marks marked) [
+          | inr hand ↦ inr (hand_later setup e past v v came.old c hand refl refl came.next.keeps.uid (λ marked. marked) (λ marked. elim (moved.marks.marks marked) [
             | inl before ↦ before
             | inr none ↦
                 let titled = (inv.placed v (row_was setup past j (Volume v) is)).titled in
-                let once = still_named setup past inv h.pair.claim came.old (key_of (Claim c)) h.pair.claim_stood came.next.there (sym h.pair.same_claim) (λ empty. titled (sym h.pair.named ∙ empty)) in
-                absurd (titled (sym (once ∙ h.pair.named) ∙ none))
+                let once = still_named setup past inv hand.claim came.old (key_of (Claim c)) hand.claim_stood came.next.there (sym hand.same_claim) (λ empty. titled (sym hand.named ∙ empty)) in
+                absurd (titled (sym (once ∙ hand.named) ∙ none))
           ]))
         ]
   ]
@@ -253,7 +291,7 @@ module _ (setup : Setup) (e : Entry) (past : List Entry) (inv : Invariant setup 
     | inl v_there ↦ elim (m.row k (Claim c) at_k) [
       | inl c_there ↦ elim (s.given j k v c r uid v_there c_there h its lost fit) [
         | inl f ↦ inl f
-        | inr hand ↦ inr (hand_later setup e past v v c c hand refl refl refl refl (λ marked. marked) (λ marked x. marked))
+        | inr hand ↦ inr (hand_later setup e past v v c c hand refl refl refl (λ marked. marked) (λ marked. marked))
       ]
       | inr c_new ↦ claim_new v c j r uid c_new.write v_there h its lost fit
     ]

@@ -102,7 +102,7 @@ first_claims setup inv a k b now is same =
     let b_now : Stands (world setup []) (Claim b) = ap (λ j. row_at j (world setup []).store.rows) (row_at_key k (Claim b) (world setup []).store.rows is) ∙ is in
     let keyed : key_of (Claim a) ≡ key_of (Claim b) = inv.keyed (Claim a) (Claim b) now b_now (sym same) in
     let one : a ≡ b = same_claim a b (same_Some (Claim a) (Claim b) (sym now ∙ ap (λ j. row_at j (world setup []).store.rows) keyed ∙ b_now)) in
-    subst (IsLaterClaim a) one (record { bytes = refl; mode = refl; marks = λ named marked. marked; completed = λ done. done })
+    subst (IsLaterClaim a) one (record { bytes = refl; mode = refl; completed = λ done. done })
 
 first_given : (setup : Setup) (j k : Key) (v : VolumeData) (c : ClaimData) (r : Ref) (uid : Uid)
     → row_at j (world setup []).store.rows ≡ Some (Volume v) → row_at k (world setup []).store.rows ≡ Some (Claim c)
@@ -148,11 +148,9 @@ suited_of setup start (e ∷ past) short run fits =
 by_hand : {G : Type 0} (setup : Setup) (past : List Entry) (v : VolumeData) (c : ClaimData) → AreByHand setup past v c
     → IsGivenByController setup past v ⊎ IsNamedByController setup past c → G
 by_hand setup past v c hand (inl d) =
-    let has = d.fresh hand.pair.volume hand.pair.volume_stood hand.pair.same_volume (hand.volume_marks d.marked) in
-    absurd (true≢false (sym has ∙ ap is_some (ap ref_uid hand.pair.reserved.is ∙ hand.pair.reserved.free)))
+    absurd (true≢false (sym (d.fresh hand.volume hand.volume_stood hand.same_volume (hand.volume_marks d.marked)) ∙ ap is_some hand.free))
 by_hand setup past v c hand (inr d) =
-    let done = d.fresh hand.pair.claim hand.pair.claim_stood hand.pair.same_claim (hand.claim_marks d.marked) in
-    absurd (true≢false (sym done ∙ hand.pair.undone))
+    absurd (true≢false (sym (d.fresh hand.claim hand.claim_stood hand.same_claim (hand.claim_marks d.marked)) ∙ hand.undone))
 
 get_enough : (setup : Setup) (past : List Entry) → Invariant setup past → Suited setup past → GetEnough setup past
 get_enough setup past inv s key c is counts lost fit =

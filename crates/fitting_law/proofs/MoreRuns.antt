@@ -28,7 +28,7 @@ use Rattle.world_moves.proofs.Objects.{same_claim, same_volume}
 use Rattle.fitting_law.specs.Fitting.{Fits, GivesFitting}
 use Rattle.fitting_law.specs.Enough.{ImportsFit, WerePair, IsGivenByController, IsNamedByController}
 use Rattle.fitting_law.specs.Examples.{PairRunExamples, ImportedPairExamples, LostClaimExamples, KeptMarkExamples, EarlyMarkExamples, again_reserved, back_a, c, cleared_a, done, early_c, entry, lists_claim, lists_volume, lost_c, naming_a, new_c, old_a, old_c, old_pair, pair_binding, reserved_a, reserved_back, taken, told, v13}
-use Rattle.fitting_law.proofs.Examples.{fewer, giving_examples}
+use Rattle.fitting_law.proofs.Examples.{by_hand_examples, fewer, giving_examples}
 use Rattle.fitting_law.proofs.Runs.{after_bind, after_take, l3, l4}
 
 -- a pair that was bound by hand
@@ -63,17 +63,15 @@ run_of_pair = (((((((tt, refl, tt), refl, tt), refl, l3 reserved_a), refl, l4 re
 
 pair_of_9 : WerePair no_setup pair_binding (taken reserved_a x9 4 volumes.Bound) (done x9 reserved_a 5)
 unfolding effect on_devices device_answer outcome create update update_status list with_status written_if_fits refuse refuse_field refuse_rule guard_on guard breaks create_fault kind_fault volume_fault claim_fault update_fault changed_field faulty lacks_node admitted_object without_status created_object with_status_of updated_object at_version leaves with_meta reply_to world_after reply_of after log_after xor taken_for completed_with
-pair_of_9 = record {
+pair_of_9 = inl (inl (inl (inl (inl (inr (record {
   volume = reserved_a;
-  volume_stood = inl (inl (inl (inl (inl (inl (inr refl))))));
+  volume_there = refl;
   same_volume = refl;
-  reserved = record { reference = _; is = refl; names = refl; free = refl };
   claim = x9;
-  claim_stood = inl (inl (inl (inl (inl (inr refl)))));
+  claim_there = refl;
   same_claim = refl;
-  named = refl;
-  undone = refl;
-}
+  pair = by_hand_examples.pair;
+}))))))
 
 not_given : IsGivenByController no_setup pair_binding (taken reserved_a x9 4 volumes.Bound) → ⊥
 unfolding taken_for

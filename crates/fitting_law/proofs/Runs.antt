@@ -135,7 +135,14 @@ reserved_is : (v : VolumeData) (x : ClaimData) → IsReservedFor v x → is_rese
 reserved_is v x r = ap is_nameless r.is ∙ ap (λ (u : Option Uid). not (is_some u)) r.free
 
 no_pair : (setup : Setup) (past : List Entry) (v : VolumeData) (x : ClaimData) → any_stood is_reserved setup past ≡ false → WerePair setup past v x → ⊥
-no_pair setup past v x none p = true≢false (sym (reserved_is p.volume x p.reserved) ∙ none_stood is_reserved setup past (Volume p.volume) none p.volume_stood)
+no_pair setup [] v x none p =
+    true≢false (sym (reserved_is p.volume p.claim p.pair.reserved) ∙ none_at is_reserved (world setup []).store.rows (key_of (Volume p.volume)) (Volume p.volume) p.volume_there none)
+no_pair setup (e ∷ past) v x none p =
+    let parts = or_parts (any_stood is_reserved setup past) (list_any is_reserved (world setup (e ∷ past)).store.rows) none in
+    elim p [
+      | inl before ↦ no_pair setup past v x parts.0 before
+      | inr now ↦ true≢false (sym (reserved_is now.volume now.claim now.pair.reserved) ∙ none_at is_reserved (world setup (e ∷ past)).store.rows (key_of (Volume now.volume)) (Volume now.volume) now.volume_there parts.1)
+    ]
 
 later_true : (a b : Bool) → (a && not b) ≡ false → a ≡ true → b ≡ true
 later_true true true e h = refl

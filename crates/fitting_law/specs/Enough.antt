@@ -11,12 +11,12 @@ use Rattle.kube_types.specs.Bindings.{is_completed, ref_uid}
 use Rattle.call_types.specs.declared.entry.Entry.{Entry}
 use Rattle.call_types.specs.declared.setup.Setup.{Setup}
 use Rattle.binder_model.specs.ObjectKeys.{volume_key}
-use Rattle.binder_model.specs.World.{world}
+use Rattle.binder_model.specs.World.{World, world}
 use Rattle.binder_model.specs.Safe.{Counts, was_imported_as_lost}
 use Rattle.binder_model.specs.Promises.{IsRunOf}
-use Rattle.model_laws.specs.Stood.{Stood}
+use Rattle.model_laws.specs.Stood.{Stands, Stood}
 use Rattle.world_moves.specs.Writes.{IsIn}
-use Rattle.fitting_law.specs.Fitting.{Fits, IsReservedFor, AreFitting, is_marked}
+use Rattle.fitting_law.specs.Fitting.{Fits, IsPair, AreFitting, is_marked}
 
 -- each imported volume whose reference has the UID of this imported claim fits it
 abbrev pub ImportsFit : Setup → Option Uid → Type 0
@@ -24,18 +24,20 @@ ImportsFit setup uid =
     (v : VolumeData) (c : ClaimData) → IsIn (Volume v) setup.imports → IsIn (Claim c) setup.imports
     → ref_uid v.claim_ref ≡ uid → c.meta.uid ≡ uid → Fits v c
 
--- both were bound by hand: a version of the volume was reserved for the claim, and a version of the claim named the volume
--- before it was completed
-pub record WerePair (setup : Setup) (past : List Entry) (v : VolumeData) (c : ClaimData) : Type 0 where
+-- versions of the volume and of the claim stand in this world that were bound by hand to each other
+pub record ArePair (w : World) (v : VolumeData) (c : ClaimData) : Type 0 where
   pub volume : VolumeData
-  pub volume_stood : Stood setup past (Volume volume)
+  pub volume_there : Stands w (Volume volume)
   pub same_volume : volume.meta.uid ≡ v.meta.uid
-  pub reserved : IsReservedFor volume c
   pub claim : ClaimData
-  pub claim_stood : Stood setup past (Claim claim)
+  pub claim_there : Stands w (Claim claim)
   pub same_claim : claim.meta.uid ≡ c.meta.uid
-  pub named : claim.volume_name ≡ v.meta.name
-  pub undone : is_completed claim ≡ false
+  pub pair : IsPair volume claim
+
+-- now, or at an earlier point of the history
+abbrev pub WerePair : Setup → List Entry → VolumeData → ClaimData → Type 0
+WerePair setup [] v c = ArePair (world setup []) v c
+WerePair setup (e ∷ past) v c = WerePair setup past v c ⊎ ArePair (world setup (e ∷ past)) v c
 
 -- the mark stands on the volume, and stood on none of its versions that had no UID in the reference: who gave it to a claim
 -- put the mark there
