@@ -1,5 +1,5 @@
 -- What a volume and the claim that it refers to have of each other: kept where the store moves as a fitting run lets it.
-use Rattle.std.proofs.Common.{sym, refl, subst, inl, inr, ap, ◌∙◌, arith}
+use Rattle.std.proofs.Common.{true≢false, sym, refl, subst, inl, inr, ap, ◌∙◌, arith}
 use Rattle.std.proofs.lemmas.Option.{same_Some}
 use Rattle.std.specs.Prelude.{Bool, ◌≡◌, ◌≢◌, ◌⊎◌, true, false, ◌&&◌, List, [], ◌∷◌, Some, None, bytes_eq, is_some}
 use Rattle.kube_types.specs.declared.uid.Uid.{Uid}
@@ -27,7 +27,7 @@ use Rattle.world_invariant.proofs.Came.{row_stands, row_was, fresh, old_stood, v
 use Rattle.world_invariant.proofs.Carried.{carried}
 use Rattle.world_invariant.proofs.KeptBindings.{by_name}
 use Rattle.fitting_law.specs.Fitting.{Fits, is_marked}
-use Rattle.fitting_law.specs.Enough.{ImportsFit, ArePair, WerePair}
+use Rattle.fitting_law.specs.Enough.{ImportsFit, IsMarkedLate, ArePair, WerePair}
 use Rattle.fitting_law.proofs.Writes.{WasGiven, VolumeMoves, ClaimMoves, Fitted}
 
 -- how the store moves at an entry of a fitting run
@@ -61,6 +61,8 @@ pub record AreByHand (setup : Setup) (past : List Entry) (v : VolumeData) (c : C
 pub record Suited (setup : Setup) (past : List Entry) : Type 0 where
   pub claims : (a : ClaimData) (k : Key) (b : ClaimData) → Stood setup past (Claim a) → row_at k (world setup past).store.rows ≡ Some (Claim b)
       → b.meta.uid ≡ a.meta.uid → IsLaterClaim a b
+  -- a claim that is marked is completed, if it was not imported otherwise
+  pub late : (c : ClaimData) → Stood setup past (Claim c) → IsMarkedLate setup c.meta.uid → is_marked c.meta ≡ true → is_completed c ≡ true
   -- a volume fits the claim that stands and that its reference has the UID of, or both were bound by hand
   pub given : (j k : Key) (v : VolumeData) (c : ClaimData) (r : Ref) (uid : Uid)
       → row_at j (world setup past).store.rows ≡ Some (Volume v) → row_at k (world setup past).store.rows ≡ Some (Claim c)
@@ -104,6 +106,24 @@ module _ (setup : Setup) (e : Entry) (past : List Entry) (inv : Invariant setup 
         | inr came ↦
             let its : came.old.meta.uid ≡ a.meta.uid = sym came.next.keeps.uid ∙ same in
             claim_then a came.old b (s.claims a (key_of (Claim b)) came.old before came.next.there its) (new.write.1.moves (Claim came.old) came.next.there)
+      ]
+    ]
+  ]
+
+  pub kept_late : (c : ClaimData) → Stood setup (e ∷ past) (Claim c) → IsMarkedLate setup c.meta.uid → is_marked c.meta ≡ true → is_completed c ≡ true
+  kept_late c was late marked = elim was [
+    | inl before ↦ s.late c before late marked
+    | inr now ↦ elim (m.row (key_of (Claim c)) (Claim c) now) [
+      | inl there ↦ s.late c (row_was setup past (key_of (Claim c)) (Claim c) there) late marked
+      | inr new ↦ elim (claim_came setup past c new.write.0) [
+        | inl began ↦ absurd (true≢false (sym marked ∙ new.write.1.begins began.first.free))
+        | inr came ↦
+            let moved : ClaimMoves came.old c = new.write.1.moves (Claim came.old) came.next.there in
+            let old_late : IsMarkedLate setup came.old.meta.uid = subst (IsMarkedLate setup) came.next.keeps.uid late in
+            elim (moved.marks.marks marked) [
+              | inl before ↦ moved.marks.completed (s.late came.old (row_was setup past (key_of (Claim c)) (Claim came.old) came.next.there) old_late before)
+              | inr done ↦ done.1
+            ]
       ]
     ]
   ]
@@ -275,10 +295,10 @@ module _ (setup : Setup) (e : Entry) (past : List Entry) (inv : Invariant setup 
           | inl f ↦ inl (fits_later v came.old c moved.bytes moved.mode f)
           | inr hand ↦ inr (hand_later setup e past v v came.old c hand refl refl came.next.keeps.uid (λ marked. marked) (λ marked. elim (moved.marks.marks marked) [
             | inl before ↦ before
-            | inr none ↦
+            | inr new ↦
                 let titled = (inv.placed v (row_was setup past j (Volume v) is)).titled in
                 let once = still_named setup past inv hand.claim came.old (key_of (Claim c)) hand.claim_stood came.next.there (sym hand.same_claim) (λ empty. titled (sym hand.named ∙ empty)) in
-                absurd (titled (sym (once ∙ hand.named) ∙ none))
+                absurd (titled (sym (once ∙ hand.named) ∙ new.0))
           ]))
         ]
   ]
@@ -302,4 +322,4 @@ module _ (setup : Setup) (e : Entry) (past : List Entry) (inv : Invariant setup 
   ]
 
 pub kept : (setup : Setup) (e : Entry) (past : List Entry) → Invariant setup past → Invariant setup (e ∷ past) → FittingMoves setup e past → Suited setup past → Suited setup (e ∷ past)
-kept setup e past inv after m s = record { claims = kept_claims setup e past inv after m s; given = kept_given setup e past inv m s }
+kept setup e past inv after m s = record { claims = kept_claims setup e past inv after m s; late = kept_late setup e past inv after m s; given = kept_given setup e past inv m s }

@@ -10,7 +10,7 @@ use Rattle.kube_types.specs.declared.objects.Claim.{Claim as ClaimData}
 use Rattle.kube_types.specs.declared.objects.Object.{Object}
 use Rattle.kube_types.specs.declared.objects.Object.TheVariants.{Class, Node, Volume, Claim, Pod}
 use Rattle.kube_types.specs.Keys.{meta_of, key_of, kind_index, row_at}
-use Rattle.kube_types.specs.Bindings.{ref_uid}
+use Rattle.kube_types.specs.Bindings.{bind_completed, bound_by_controller, has_key, is_completed, ref_uid}
 use Rattle.kube_types.proofs.KeyOrder.{row_at_key}
 use Rattle.call_types.specs.declared.entry.Entry.{Entry}
 use Rattle.call_types.specs.declared.setup.Setup.{Setup}
@@ -36,8 +36,8 @@ use Rattle.model_laws.proofs.Stood.{few_writes}
 use Rattle.safety_law.proofs.FirstWorld.{first_world_is_good}
 use Rattle.safety_law.proofs.Law.{room_for}
 use Rattle.safety_law.proofs.Safety.{bindings_stand}
-use Rattle.fitting_law.specs.Fitting.{Fits, AreFitting}
-use Rattle.fitting_law.specs.Enough.{ImportsFit, IsGivenByController, IsNamedByController, GetEnough, GetEnoughThroughout, ReferencesFit, RunsGetEnough, RunsReferFitting}
+use Rattle.fitting_law.specs.Fitting.{Fits, AreFitting, is_marked}
+use Rattle.fitting_law.specs.Enough.{ImportsFit, IsMarkedLate, IsGivenByController, IsNamedByController, GetEnough, GetEnoughThroughout, ReferencesFit, RunsGetEnough, RunsReferFitting}
 use Rattle.fitting_law.proofs.Writes.{fitted}
 use Rattle.fitting_law.proofs.Kept.{FittingMoves, IsLaterClaim, AreByHand, Suited, kept}
 
@@ -56,6 +56,7 @@ record IsClaimImport (imports : List Object) (c : ClaimData) : Type 0 where
   bytes : c.amount.bytes ≡ origin.amount.bytes
   mode : c.block ≡ origin.block
   uid : c.meta.uid ≡ origin.meta.uid
+  annotations : c.meta.annotations ≡ origin.meta.annotations
 
 other_kind : {G : Type 0} (a b : Object) → a ≡ b → (kind_index (key_of a).kind ≡ kind_index (key_of b).kind → ⊥) → G
 other_kind a b e no_kind = absurd (no_kind (ap (λ o. kind_index (key_of o).kind) e))
@@ -90,7 +91,7 @@ unfolding imported_object
 claim_import imports c i = by i.import i.given i.is
   where
     by : (o : Object) → IsIn o imports → Claim c ≡ imported_object imports o → IsClaimImport imports c
-    by (Claim a) h e = record { origin = a; among = h; bytes = ap bytes_in e; mode = ap block_in e; uid = ap (λ o. (meta_of o).uid) e }
+    by (Claim a) h e = record { origin = a; among = h; bytes = ap bytes_in e; mode = ap block_in e; uid = ap (λ o. (meta_of o).uid) e; annotations = ap (λ o. (meta_of o).annotations) e }
     by (Class a) h e = other_kind (Claim c) (imported_object imports (Class a)) e (λ k. omega (arith, k))
     by (Node a) h e = other_kind (Claim c) (imported_object imports (Node a)) e (λ k. omega (arith, k))
     by (Volume a) h e = other_kind (Claim c) (imported_object imports (Volume a)) e (λ k. omega (arith, k))
@@ -116,9 +117,17 @@ first_given setup j k v c r uid at_j at_k h its fit =
     let got = x.bytes in
     record { bytes = omega (arith, low, wanted, got); mode = x.mode ∙ f.mode ∙ sym y.mode }
 
+-- a claim that was imported is marked and completed as it was
+first_late : (setup : Setup) (c : ClaimData) → Stands (world setup []) (Claim c) → IsMarkedLate setup c.meta.uid → is_marked c.meta ≡ true → is_completed c ≡ true
+first_late setup c was late marked =
+    let y = claim_import setup.imports c (import_row setup.imports setup.imports (key_of (Claim c)) (Claim c) was) in
+    let done = late y.origin y.among (sym y.uid) (ap (has_key bound_by_controller) (sym y.annotations) ∙ marked) in
+    ap (has_key bind_completed) y.annotations ∙ done
+
 first_suited : (setup : Setup) → Invariant setup [] → Suited setup []
 first_suited setup inv = record {
   claims = first_claims setup inv;
+  late = first_late setup;
   given = λ j k v c r uid at_j at_k h its lost fit. inl (first_given setup j k v c r uid at_j at_k h its fit);
 }
 
@@ -145,12 +154,12 @@ suited_of setup start (e ∷ past) short run fits =
 
 -- what it comes to
 
-by_hand : {G : Type 0} (setup : Setup) (past : List Entry) (v : VolumeData) (c : ClaimData) → AreByHand setup past v c
-    → IsGivenByController setup past v ⊎ IsNamedByController setup past c → G
-by_hand setup past v c hand (inl d) =
+by_hand : {G : Type 0} (setup : Setup) (past : List Entry) → Suited setup past → (v : VolumeData) (c : ClaimData) → AreByHand setup past v c
+    → IsGivenByController setup past v ⊎ IsNamedByController setup c → G
+by_hand setup past s v c hand (inl d) =
     absurd (true≢false (sym (d.fresh hand.volume hand.volume_stood hand.same_volume (hand.volume_marks d.marked)) ∙ ap is_some hand.free))
-by_hand setup past v c hand (inr d) =
-    absurd (true≢false (sym (d.fresh hand.claim hand.claim_stood hand.same_claim (hand.claim_marks d.marked)) ∙ hand.undone))
+by_hand setup past s v c hand (inr d) =
+    absurd (true≢false (sym (s.late hand.claim hand.claim_stood (subst (IsMarkedLate setup) (sym hand.same_claim) d.fresh) (hand.claim_marks d.marked)) ∙ hand.undone))
 
 get_enough : (setup : Setup) (past : List Entry) → Invariant setup past → Suited setup past → GetEnough setup past
 get_enough setup past inv s key c is counts lost fit =
@@ -161,7 +170,7 @@ get_enough setup past inv s key c is counts lost fit =
       volume = b.volume;
       there = b.there;
       enough = elim given [ inl f ↦ inl f | inr hand ↦ inr hand.pair ];
-      decided = λ d. elim given [ inl f ↦ f | inr hand ↦ by_hand setup past b.volume c hand d ];
+      decided = λ d. elim given [ inl f ↦ f | inr hand ↦ by_hand setup past s b.volume c hand d ];
     }
 
 enough_throughout : (setup : Setup) → Invariant setup [] → (past : List Entry) → base setup + length past < most_serials → Run setup past → AreFitting past → GetEnoughThroughout setup past

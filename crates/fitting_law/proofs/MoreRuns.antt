@@ -77,7 +77,7 @@ not_given : IsGivenByController no_setup pair_binding (taken reserved_a x9 4 vol
 unfolding taken_for
 not_given d = true≢false (sym d.marked)
 
-not_named : IsNamedByController no_setup pair_binding (done x9 reserved_a 5) → ⊥
+not_named : IsNamedByController no_setup (done x9 reserved_a 5) → ⊥
 unfolding completed_with
 not_named d = true≢false (sym d.marked)
 
@@ -288,6 +288,6 @@ early_mark_examples = record {
   fitting = ((((((tt, tt), tt), tt), gives_early), tt), tt);
   counts = record { completed = refl; found = λ lost. absurd (true≢false (sym lost)) };
   marked = refl;
-  not_named_by_controller = λ d. true≢false (sym (d.fresh early_c (inl (inl (inl (inl (inl (inl refl)))))) refl refl));
+  not_named_by_controller = λ d. true≢false (sym (d.fresh early_c (inl refl) refl refl));
   too_little = λ f. fewer (taken reserved_back early_c 5 volumes.Bound) (done early_c reserved_back 6) refl f;
 }

@@ -13,10 +13,10 @@ use Rattle.kube_types.specs.declared.objects.Ref.{Ref}
 use Rattle.kube_types.specs.declared.objects.Volume.{Volume as VolumeData}
 use Rattle.kube_types.specs.declared.objects.Claim.{Claim as ClaimData}
 use Rattle.kube_types.specs.declared.objects.Object.{Object}
-use Rattle.kube_types.specs.declared.objects.Object.TheVariants.{Volume, Claim}
+use Rattle.kube_types.specs.declared.objects.Object.TheVariants.{Volume}
 use Rattle.kube_types.specs.Keys.{key_cmp, key_of, row_at}
 use Rattle.kube_types.specs.Uids.{uid_of_serial}
-use Rattle.kube_types.specs.Bindings.{is_completed, ref_uid}
+use Rattle.kube_types.specs.Bindings.{ref_uid}
 use Rattle.call_types.specs.declared.entry.Entry.{Entry}
 use Rattle.call_types.specs.declared.setup.Setup.{Setup}
 use Rattle.call_types.specs.declared.request.SeatKind.TheVariants as seats
@@ -38,7 +38,7 @@ use Rattle.model_laws.specs.Stood.{Stood}
 use Rattle.model_laws.specs.Worked.{no_setup}
 use Rattle.model_laws.proofs.Lists.{none_some}
 use Rattle.fitting_law.specs.Fitting.{Fits, AreFitting, IsReservedFor, is_marked}
-use Rattle.fitting_law.specs.Enough.{WerePair, IsGivenByController, IsNamedByController, GetsEnough}
+use Rattle.fitting_law.specs.Enough.{WerePair, IsGivenByController, GetsEnough}
 use Rattle.fitting_law.specs.Examples.{FittingRunExamples, ShortRunExamples, a, binding, c, done, entry, lists_claim, lists_volume, taken, told}
 use Rattle.fitting_law.proofs.Examples.{fewer, giving_examples, neither}
 use Rattle.fitting_law.proofs.Law.{runs_refer_fitting}
@@ -125,10 +125,9 @@ abbrev is_reserved : Object → Bool
 is_reserved (Volume v) = is_nameless v.claim_ref
 is_reserved o = false
 
--- marked, with no UID in the reference; marked and not completed
+-- a volume that is marked, with no UID in the reference
 abbrev is_marked_early : Object → Bool
 is_marked_early (Volume v) = is_marked v.meta && not (is_some (ref_uid v.claim_ref))
-is_marked_early (Claim x) = is_marked x.meta && not (is_completed x)
 is_marked_early o = false
 
 reserved_is : (v : VolumeData) (x : ClaimData) → IsReservedFor v x → is_reserved (Volume v) ≡ true
@@ -152,9 +151,6 @@ later_true false b e h = absurd (true≢false (sym h))
 volumes_fresh : (setup : Setup) (past : List Entry) (v : VolumeData) → any_stood is_marked_early setup past ≡ false → is_marked v.meta ≡ true → IsGivenByController setup past v
 volumes_fresh setup past v none marked = record { marked = marked; fresh = λ o was same is. later_true (is_marked o.meta) (is_some (ref_uid o.claim_ref)) (none_stood is_marked_early setup past (Volume o) none was) is }
 
-claims_fresh : (setup : Setup) (past : List Entry) (x : ClaimData) → any_stood is_marked_early setup past ≡ false → is_marked x.meta ≡ true → IsNamedByController setup past x
-claims_fresh setup past x none marked = record { marked = marked; fresh = λ o was same is. later_true (is_marked o.meta) (is_completed o) (none_stood is_marked_early setup past (Claim o) none was) is }
-
 fits_3 : Fits (taken a (c 3) 4 volumes.Bound) (done (c 3) a 5)
 unfolding taken_for completed_with
 fits_3 = record { bytes = omega arith; mode = refl }
@@ -170,7 +166,7 @@ fitting_run_examples = record {
   counts = record { completed = refl; found = λ lost. absurd (true≢false (sym lost)) };
   gets_enough = record { volume = taken a (c 3) 4 volumes.Bound; there = refl; enough = inl fits_3; decided = λ d. fits_3 };
   given_by_controller = volumes_fresh no_setup (binding 3) (taken a (c 3) 4 volumes.Bound) refl refl;
-  named_by_controller = claims_fresh no_setup (binding 3) (done (c 3) a 5) refl refl;
+  named_by_controller = record { marked = refl; fresh = λ x in_x its marked. absurd in_x };
   references_fit = runs_refer_fitting no_setup (binding 3) (record { imports = tt; short = omega arith; run = run_of_3 }) fitting_3;
 }
 

@@ -16,7 +16,7 @@ use Rattle.kube_types.specs.declared.objects.Claim.{Claim as ClaimData}
 use Rattle.kube_types.specs.declared.objects.Object.{Object}
 use Rattle.kube_types.specs.declared.objects.Object.TheVariants.{Volume, Claim, Pod}
 use Rattle.kube_types.specs.Keys.{meta_of, key_of, row_at}
-use Rattle.kube_types.specs.Bindings.{bind_completed, bound_by_controller, is_completed, is_empty, is_protected_volume, is_protected_claim, ref_uid}
+use Rattle.kube_types.specs.Bindings.{bind_completed, bound_by_controller, is_completed, is_empty, yes, is_protected_volume, is_protected_claim, ref_uid}
 use Rattle.call_types.specs.declared.entry.Entry.{Entry}
 use Rattle.call_types.specs.declared.setup.Setup.{Setup}
 use Rattle.call_types.specs.declared.edit.Edit.{Edit}
@@ -77,9 +77,10 @@ pub record VolumeMoves (setup : Setup) (past : List Entry) (old new : VolumeData
   pub mode : new.block ≡ old.block
   pub refers : ReferencesMove setup past old new
 
--- what a write makes of the marks of a claim: it is marked anew only where it named no volume, and stays completed
+-- what a write makes of the marks of a claim: it is marked anew only where it named no volume and is completed now, and
+-- stays completed
 pub record MarksMove (old new : ClaimData) : Type 0 where
-  pub marks : is_marked new.meta ≡ true → (is_marked old.meta ≡ true) ⊎ (old.volume_name ≡ [])
+  pub marks : is_marked new.meta ≡ true → (is_marked old.meta ≡ true) ⊎ ((old.volume_name ≡ []) × (is_completed new ≡ true))
   pub completed : is_completed old ≡ true → is_completed new ≡ true
 
 pub record ClaimMoves (old new : ClaimData) : Type 0 where
@@ -92,9 +93,10 @@ KindMoves setup past (Volume a) (Volume b) = VolumeMoves setup past a b
 KindMoves setup past (Claim a) (Claim b) = ClaimMoves a b
 KindMoves setup past a b = ⊤
 
--- a new volume fits the claim that its reference names
+-- a new volume fits the claim that its reference names, and a new claim is not marked
 abbrev pub KindBegins : Setup → List Entry → Object → Type 0
 KindBegins setup past (Volume v) = (r : Ref) (uid : Uid) → Refers v r uid → (c : ClaimData) × (Stood setup past (Claim c) × ((c.meta.uid ≡ Some uid) × Fits v c))
+KindBegins setup past (Claim c) = is_marked c.meta ≡ false
 KindBegins setup past o = ⊤
 
 -- what a write of a run makes of what stands there, or of no object
@@ -200,14 +202,16 @@ same_annotations o new e = kept_marks o new (ap (value_at bound_by_controller) e
 
 completed_marks : (o : ClaimData) (v : VolumeData) (n : ℕ) → MarksMove o (stored_claim o (completed_with o v) n)
 unfolding completed_with
-completed_marks o v n = record {
-  marks = λ marked. by o.volume_name refl (sym (ap is_some (completion_leaves_mark (annotated_meta_if (is_empty o.volume_name) bound_by_controller o.meta).annotations)) ∙ marked);
-  completed = λ done. ap is_some (value_put bind_completed _ (annotated_meta_if (is_empty o.volume_name) bound_by_controller o.meta).annotations);
-}
+completed_marks o v n =
+    let done = ap is_some (value_put bind_completed yes (annotated_meta_if (is_empty o.volume_name) bound_by_controller o.meta).annotations) in
+    record {
+      marks = λ marked. by o.volume_name refl done (sym (ap is_some (completion_leaves_mark (annotated_meta_if (is_empty o.volume_name) bound_by_controller o.meta).annotations)) ∙ marked);
+      completed = λ was. done;
+    }
   where
-    by : (name : List ℕ) → o.volume_name ≡ name → is_marked (annotated_meta_if (is_empty name) bound_by_controller o.meta) ≡ true → (is_marked o.meta ≡ true) ⊎ (o.volume_name ≡ [])
-    by [] e marked = inr e
-    by (c ∷ cs) e marked = inl marked
+    by : {done : Type 0} (name : List ℕ) → o.volume_name ≡ name → done → is_marked (annotated_meta_if (is_empty name) bound_by_controller o.meta) ≡ true → (is_marked o.meta ≡ true) ⊎ ((o.volume_name ≡ []) × done)
+    by [] e done marked = inr (e, done)
+    by (c ∷ cs) e done marked = inl marked
 
 complete_marks : (setup : Setup) (past mine : List Entry) → IsTrue setup past mine → (o new : ClaimData) (n : ℕ) → MayComplete mine o new → MarksMove o (stored_claim o new n)
 complete_marks setup past mine true_of o new n row =
@@ -314,11 +318,13 @@ created_volume setup past default v n moment names r uid h =
     let c = names r uid (record { is = h.is; known = h.known }) in
     (c.0, (c.1.0, (c.1.1.0, record { bytes = c.1.1.1.bytes; mode = c.1.1.1.mode })))
 
-created_other : (setup : Setup) (past : List Entry) (default : Option (List ℕ)) (new : Object) (n : ℕ) (moment : List ℕ)
-    → ((v : VolumeData) → new ≡ Volume v → NamesFitting setup past v) → KindBegins setup past (created_object default new n moment)
+created_begins : (setup : Setup) (past : List Entry) (default : Option (List ℕ)) (new : Object) (n : ℕ) (moment : List ℕ)
+    → ((v : VolumeData) → new ≡ Volume v → NamesFitting setup past v) → ((c : ClaimData) → new ≡ Claim c → is_marked c.meta ≡ false)
+    → KindBegins setup past (created_object default new n moment)
 unfolding created_object admitted_object without_status with_meta
-created_other setup past default (Volume v) n moment names = created_volume setup past default v n moment (names v refl)
-created_other setup past default new n moment names = tt
+created_begins setup past default (Volume v) n moment names unmarked = created_volume setup past default v n moment (names v refl)
+created_begins setup past default (Claim c) n moment names unmarked = unmarked c refl
+created_begins setup past default new n moment names unmarked = tt
 
 -- the reference of a provisioned volume names a claim of its bytes and mode
 provisioned : (setup : Setup) (past mine : List Entry) → IsTrue setup past mine → (v : VolumeData) → MayCreate mine v → NamesFitting setup past v
@@ -338,6 +344,15 @@ create_names setup past mine true_of seats.Ops new l g v is r uid h =
     provisioned setup past mine true_of v row.1 r uid h
 create_names setup past mine true_of kind new l g v is r uid h = absurd l.1
 
+-- users create no claim with the mark, and no controller creates one
+create_unmarked : (mine : List Entry) (kind : SeatKind) (new : Object) → Licensed kind mine (requests.Create new)
+    → guard_on kind None new ≡ None → (c : ClaimData) → new ≡ Claim c → is_marked c.meta ≡ false
+create_unmarked mine seats.User new l g c is =
+    let p = passes None (Claim c) (subst (λ (x : Object). guard_on seats.User None x ≡ None) is g) in
+    ap is_some (sym (mark_same None (Claim c) refl p))
+create_unmarked mine seats.Ops new l g c is = absurd (subst (λ (x : Object). Licensed seats.Ops mine (requests.Create x)) is l).1
+create_unmarked mine kind new l g c is = absurd l.1
+
 -- each write of an allowed request that gives fittingly
 pub fitted : (setup : Setup) (past mine : List Entry) → Invariant setup past → Known setup past mine → (kind : SeatKind) (request : Request)
     → Licensed kind mine request → GivesFitting kind mine request → (o : Object) → Writes (world setup past) kind request o → Fitted setup past o
@@ -345,7 +360,7 @@ fitted setup past mine inv known kind (requests.Create new) l f o w =
     let first = created_first (world setup past).store kind (world setup past).moment new o w in
     record {
       moves = λ old there. none_some (sym first.free ∙ there);
-      begins = λ none. subst (KindBegins setup past) (sym w.is) (created_other setup past _ new _ _ (create_names setup past mine known.told kind new l w.guard));
+      begins = λ none. subst (KindBegins setup past) (sym w.is) (created_begins setup past _ new _ _ (create_names setup past mine known.told kind new l w.guard) (create_unmarked mine kind new l w.guard));
     }
 fitted setup past mine inv known kind (requests.Update new given) l f o w =
     follows setup past o w.old (updated_next (world setup past).store kind new given o w).there

@@ -39,23 +39,27 @@ abbrev pub WerePair : Setup → List Entry → VolumeData → ClaimData → Type
 WerePair setup [] v c = ArePair (world setup []) v c
 WerePair setup (e ∷ past) v c = WerePair setup past v c ⊎ ArePair (world setup (e ∷ past)) v c
 
+-- a claim of this UID that was imported with the mark is completed
+abbrev pub IsMarkedLate : Setup → Option Uid → Type 0
+IsMarkedLate setup uid = (c : ClaimData) → IsIn (Claim c) setup.imports → c.meta.uid ≡ uid → is_marked c.meta ≡ true → is_completed c ≡ true
+
 -- the mark stands on the volume, and stood on none of its versions that had no UID in the reference: who gave it to a claim
 -- put the mark there
 pub record IsGivenByController (setup : Setup) (past : List Entry) (v : VolumeData) : Type 0 where
   pub marked : is_marked v.meta ≡ true
   pub fresh : (o : VolumeData) → Stood setup past (Volume o) → o.meta.uid ≡ v.meta.uid → is_marked o.meta ≡ true → is_some (ref_uid o.claim_ref) ≡ true
 
--- the mark stands on the claim, and stood on none of its versions before it was completed: who completed it put it there
-pub record IsNamedByController (setup : Setup) (past : List Entry) (c : ClaimData) : Type 0 where
+-- the mark stands on the claim, and was not imported on it before it was completed: who completed it put it there
+pub record IsNamedByController (setup : Setup) (c : ClaimData) : Type 0 where
   pub marked : is_marked c.meta ≡ true
-  pub fresh : (o : ClaimData) → Stood setup past (Claim o) → o.meta.uid ≡ c.meta.uid → is_marked o.meta ≡ true → is_completed o ≡ true
+  pub fresh : IsMarkedLate setup c.meta.uid
 
 -- the claim names a volume that fits it, or both were bound by hand, and then no controller decided it
 pub record GetsEnough (setup : Setup) (past : List Entry) (c : ClaimData) : Type 0 where
   pub volume : VolumeData
   pub there : row_at (volume_key c.volume_name) (world setup past).store.rows ≡ Some (Volume volume)
   pub enough : Fits volume c ⊎ WerePair setup past volume c
-  pub decided : IsGivenByController setup past volume ⊎ IsNamedByController setup past c → Fits volume c
+  pub decided : IsGivenByController setup past volume ⊎ IsNamedByController setup c → Fits volume c
 
 -- each claim that counts gets enough, if it was not imported as Lost, nor referred to by an imported volume that does not fit
 abbrev pub GetEnough : Setup → List Entry → Type 0

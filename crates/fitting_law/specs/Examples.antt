@@ -148,7 +148,7 @@ pub record FittingRunExamples : Type 0 where
   pub counts : Counts no_setup (binding 3) (done (c 3) a 5)
   pub gets_enough : GetsEnough no_setup (binding 3) (done (c 3) a 5)
   pub given_by_controller : IsGivenByController no_setup (binding 3) (taken a (c 3) 4 volumes.Bound)
-  pub named_by_controller : IsNamedByController no_setup (binding 3) (done (c 3) a 5)
+  pub named_by_controller : IsNamedByController no_setup (done (c 3) a 5)
   pub references_fit : ReferencesFit no_setup (binding 3)
 
 -- the licence alone lets a binder give too little
@@ -170,7 +170,7 @@ pub record PairRunExamples : Type 0 where
   pub gets_enough : GetsEnough no_setup pair_binding (done (naming_a (c 9)) reserved_a 5)
   pub too_little : Fits (taken reserved_a (naming_a (c 9)) 4 volumes.Bound) (done (naming_a (c 9)) reserved_a 5) → ⊥
   pub not_given_by_controller : IsGivenByController no_setup pair_binding (taken reserved_a (naming_a (c 9)) 4 volumes.Bound) → ⊥
-  pub not_named_by_controller : IsNamedByController no_setup pair_binding (done (naming_a (c 9)) reserved_a 5) → ⊥
+  pub not_named_by_controller : IsNamedByController no_setup (done (naming_a (c 9)) reserved_a 5) → ⊥
 
 -- what imports bring
 
@@ -291,5 +291,5 @@ pub record EarlyMarkExamples : Type 0 where
   pub fitting : AreFitting marked_early
   pub counts : Counts early_setup marked_early (done early_c reserved_back 6)
   pub marked : is_marked (done early_c reserved_back 6).meta ≡ true
-  pub not_named_by_controller : IsNamedByController early_setup marked_early (done early_c reserved_back 6) → ⊥
+  pub not_named_by_controller : IsNamedByController early_setup (done early_c reserved_back 6) → ⊥
   pub too_little : Fits (taken reserved_back early_c 5 volumes.Bound) (done early_c reserved_back 6) → ⊥
