@@ -1,0 +1,4 @@
+pub mod Budget
+pub mod Fates
+pub mod Limits
+pub mod Parts

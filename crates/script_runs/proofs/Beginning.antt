@@ -1,0 +1,131 @@
+-- The stage before the first line, and how a replay goes through the lines and ends.
+use Rattle.std.proofs.Common.{◌≡◌, ℕ, ◌<◌, ◌≤◌, ◌+◌, ◌-◌, ◌*◌, zero, suc, List, [], ◌∷◌, length, drop, Option, Some, None, inl, inr, ◌⊎◌, refl, sym, ◌∙◌, ap, subst, arith}
+use Rattle.std.specs.Prelude.{slice_get}
+use Rattle.kube_types.specs.declared.key.Key.{Key}
+use Rattle.kube_types.specs.declared.names.Due.{Due}
+use Rattle.call_types.specs.declared.entry.Entry.{Entry}
+use Rattle.call_types.specs.declared.setup.Setup.{Setup}
+use Rattle.binder_model.specs.World.{world}
+use Rattle.model_laws.proofs.Lists.{none_some, one}
+use Rattle.settle_check.specs.SoFar.{IsFirstBuiltDue, IsSettledSoFar}
+use Rattle.world_core.specs.declared.drained.Drained.{Drained}
+use Rattle.world_core.specs.declared.drained.Drained.TheVariants.{Settled, Spent}
+use Rattle.worker_threads.specs.declared.drainers.Drainer.{Drainer}
+use Rattle.worker_threads.specs.Drainers.{AreNew, AreStanding, HaveNoEntries, seats_of}
+use Rattle.worker_threads.specs.Longer.{IsOneOf}
+use Rattle.worker_threads.specs.Rounds.{EndsWith, made_of}
+use Rattle.script_text.specs.declared.script.Line.{Line}
+use Rattle.script_text.specs.declared.script.Script.{Script}
+use Rattle.script_runs.specs.declared.player.Player.{Player}
+use Rattle.script_runs.specs.declared.stage.Stage.{Stage}
+use Rattle.script_parts.specs.Budget.{first_budget}
+use Rattle.script_runs.specs.Replays.{AreMoves, EndsAs, IsDrain, IsMove, IsReplay, MoreMoves, NoMoves, Progress, begun}
+use Rattle.script_runs.specs.Steps.Playing.{EachPlayer, IsNewPlayer, Plays}
+use Rattle.script_runs.specs.Steps.Standing.{Ended, HasMoved, IsBudget, Leads, MadeAtMost, SoFar, Stands, parts_from, parts_in, seat_of_drains, with_made}
+use Rattle.script_runs.proofs.Since.{new_since}
+
+-- ---- the beginning
+
+new_plays : (x : Player) → IsNewPlayer x → Plays x [] (λ seat. [])
+new_plays x is = record {
+  first = let s = is.seat in omega (arith, s);
+  reached = let s = is.seat in omega (arith, s);
+  since = new_since x.actor is.stands;
+  unborn = λ seat after below. (refl, refl);
+}
+
+pub none_yet : (seats : List ℕ) → HaveNoEntries seats []
+none_yet [] = tt
+none_yet (seat ∷ seats) = (refl, none_yet seats)
+
+first_most : (option : Option ℕ) → IsBudget option (first_budget option)
+first_most (Some given) = refl
+first_most None = omega arith
+
+new_seats : (first : ℕ) (ds : List Drainer) → AreNew first ds → (seat : ℕ) → IsOneOf (seats_of ds) seat → seat ≡ first
+new_seats first ds new seat own = by (subst (λ xs. IsOneOf (seats_of xs) seat) new.are own)
+  where
+    by : IsOneOf (new.binder.seat ∷ []) seat → seat ≡ first
+    by (inl is) = sym is ∙ new.seat
+    by (inr none) = elim none [ ]
+
+pub begins : (script : Script) (option : Option ℕ) (s : Stage) (first : ℕ) → s.world.past ≡ [] → s.world.setup ≡ script.setup → parts_in s.players.items ≡ parts_from script.lines → EachPlayer IsNewPlayer s.players.items
+    → AreNew first s.drainers → first ≡ seat_of_drains script.lines → ((past : List Entry) → HaveNoEntries (seats_of s.drainers) past → AreStanding s.drainers past) → s.drained ≡ 0 → s.budget ≡ first_budget option → Stands script option (begun option) s
+begins script option s first past setup parts new are seat stand drained budget = record {
+  past = past;
+  setup = setup;
+  parts = parts;
+  plays = λ place x at named. subst (λ h. Plays x h (λ seat. [])) (sym past) (new_plays x (new place x at));
+  made = λ place x at. (new place x at).made;
+  drainers = subst (AreStanding s.drainers) (sym past) (stand [] (none_yet (seats_of s.drainers)));
+  seats = λ other own. new_seats first s.drainers are other own ∙ seat;
+  drained = drained;
+  budget = budget;
+  few = omega (arith, drained);
+  most = subst (IsBudget option) (sym budget) (first_most option);
+}
+
+pub new_made : (s : Stage) → EachPlayer IsNewPlayer s.players.items → MadeAtMost 0 s
+new_made s new place x at = let m = (new place x at).made in omega (arith, m)
+
+-- ---- the lines
+
+drop_at : {X : Type 0} (xs : List X) (place : ℕ) (x : X) → slice_get xs place ≡ Some x → drop place xs ≡ x ∷ drop (place + 1) xs
+drop_at [] place x at = none_some at
+drop_at (y ∷ xs) zero x at = ap (λ z. z ∷ xs) (one y x at)
+drop_at (y ∷ xs) (suc place) x at = drop_at xs place x at
+
+pub so_far_first : (script : Script) (option : Option ℕ) (s : Stage) → Stands script option (begun option) s → SoFar script option 0 s
+so_far_first script option s stands = record { progress = begun option; stands = stands; moves = λ end rest. rest }
+
+pub so_far_on : (script : Script) (option : Option ℕ) (place : ℕ) (line : Line) (old new : Stage) → slice_get script.lines place ≡ Some line → SoFar script option place old → HasMoved script option (IsMove script option line) old new → SoFar script option (place + 1) new
+so_far_on script option place line old new at so moved =
+    let leads = moved so.progress so.stands in
+    record {
+      progress = leads.after;
+      stands = leads.stands;
+      moves = λ end rest. so.moves end (MoreMoves line (drop (place + 1) script.lines) leads.after (drop_at script.lines place line at) leads.move rest);
+    }
+
+-- ---- the end
+
+pub ends_by : (setup : Setup) (past : List Entry) (left : ℕ) (d : Drained) → EndsWith setup past left d → IsSettledSoFar setup (world setup past) ⊎ (made_of d ≡ left)
+ends_by setup past left (Settled made) ends = inl ends
+ends_by setup past left (Spent made key due) ends = inr ends.0
+
+ends_as : (script : Script) (option : Option ℕ) (after : Progress) (s : Stage) (d : Drained) → Stands script option after s → made_of d ≤ s.drained → EndsWith s.world.setup s.world.past (s.budget - (s.drained - made_of d)) d → EndsAs script.setup after (with_made s.drained d)
+ends_as script option after s (Settled made) stands some ends = (stands.drained, subst (λ h. IsSettledSoFar script.setup (world script.setup h)) stands.past (subst (λ u. IsSettledSoFar u (world u s.world.past)) stands.setup ends))
+ends_as script option after s (Spent made key due) stands some ends =
+    let spent = ends.0 in
+    let few = stands.few in
+    let budget = stands.budget in
+    (stands.drained, omega (arith, spent, some, few, budget), subst (λ h. IsFirstBuiltDue script.setup (world script.setup h) (Some (key, due))) stands.past (subst (λ u. IsFirstBuiltDue u (world u s.world.past) (Some (key, due))) stands.setup ends.1))
+
+pub has_ended : (script : Script) (option : Option ℕ) (old new : Stage) (d ending : Drained) → HasMoved script option (IsDrain script option) old new → made_of d ≤ new.drained → EndsWith new.world.setup new.world.past (new.budget - (new.drained - made_of d)) d → ending ≡ with_made new.drained d
+    → (p : Progress) → Stands script option p old → Ended script option p new ending
+has_ended script option old new d ending moved some ends is p stands =
+    let leads = moved p stands in
+    record {
+      after = leads.after;
+      move = leads.move;
+      stands = leads.stands;
+      ends = subst (EndsAs script.setup leads.after) (sym is) (ends_as script option leads.after new d leads.stands some ends);
+    }
+
+drop_all : {X : Type 0} (xs : List X) (n : ℕ) → length xs ≤ n → drop n xs ≡ []
+drop_all [] zero few = refl
+drop_all [] (suc n) few = refl
+drop_all (x ∷ xs) zero few = absurd (omega (arith, few))
+drop_all (x ∷ xs) (suc n) few = drop_all xs n (omega (arith, few))
+
+pub replays : (script : Script) (option : Option ℕ) (place : ℕ) (before after : Stage) (past : List Entry) (ending : Drained) → length script.lines ≤ place → SoFar script option place before → ((p : Progress) → Stands script option p before → Ended script option p after ending) → past ≡ after.world.past → IsReplay script option past ending
+replays script option place before after past ending all so ended is =
+    let e = ended so.progress so.stands in
+    record {
+      lines_done = so.progress;
+      end = e.after;
+      moves = so.moves so.progress (NoMoves (drop_all script.lines place all) refl);
+      last = e.move;
+      history = is ∙ e.stands.past;
+      ends = e.ends;
+    }
