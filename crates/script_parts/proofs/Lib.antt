@@ -1,2 +1,3 @@
 mod Building
 mod Raising
+pub mod Readable
