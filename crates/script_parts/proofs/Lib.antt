@@ -1,3 +1,4 @@
 mod Building
+mod Computed
 mod Raising
 pub mod Readable
