@@ -1,7 +1,6 @@
 -- The examples compute.
-use Rattle.std.proofs.Common.{◌≡◌, ◌≤◌, ◌<◌, refl, arith}
-use Rattle.script_parts.specs.Limits.{AreWithinLimits, IsReadable}
-use Rattle.script_parts.specs.Examples.{BudgetExamples, BuiltExamples, FateExamples, LimitExamples, PartExamples, SeatExamples, binder_1, script_of, some_node, two_binders, user_line}
+use Rattle.std.proofs.Common.{◌≡◌, refl, arith}
+use Rattle.script_parts.specs.Examples.{BudgetExamples, BuiltExamples, FateExamples, LimitExamples, PartExamples, SeatExamples}
 
 pub fates : FateExamples
 fates = record { told_before_them = refl; lost_after = refl; told_between_them = refl; lost_before = refl; not_lost_the_other_way = λ e. absurd (cc) }
@@ -37,7 +36,7 @@ budgets = record {
   faults_ahead_raise_it = refl;
   it_grows_at_each_drain = refl;
   never_above_the_most = refl;
-  not_by_the_whole_there = λ e. absurd (cc);
+  not_by_the_whole_there = λ (e : 133120 ≡ 135048). absurd (omega (arith, e));
   up_to_the_most = refl;
   a_given_one_stays = refl;
   also_above_the_most = refl;

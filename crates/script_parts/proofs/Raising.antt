@@ -1,9 +1,9 @@
 -- The budget as a drain begins, computed with sizes that are cut off.
-use Rattle.std.proofs.Common.{◌≡◌, ℕ, zero, ◌<◌, ◌≤◌, ◌+◌, ◌*◌, Bool, true, false, refl, sym, ◌∙◌, ap, arith, if◌then◌else◌}
+use Rattle.std.proofs.Common.{◌≡◌, ℕ, ◌<◌, ◌≤◌, ◌+◌, ◌*◌, Bool, true, false, refl, sym, ◌∙◌, ap, arith, if◌then◌else◌}
 use Rattle.std.specs.Prelude.{nat_lt}
 use Rattle.std.proofs.lemmas.Bool.{ltb-false, ltb-true}
 use Rattle.std.proofs.lemmas.Bool.Decides.{nat_tests}
-use Rattle.std.proofs.Math.Nat.{le-mul_of_pos_right, mul-le-mul_left, mul-le-mul_right}
+use Rattle.std.proofs.Math.Nat.{le-mul_of_pos_right, mul-le-mul_right}
 use Rattle.script_parts.specs.Budget.{at_most, raise_for}
 
 past_most : (most n : ℕ) → most < n → at_most most n ≡ most

@@ -1,8 +1,6 @@
 -- Examples of the definitions: cases that hold, and cases beside them that do not. A choice of this project.
-use Rattle.std.specs.Prelude.{ℕ, ◌≡◌, ◌≢◌, Bool, true, false, List, [], ◌∷◌, Option, Some, None, codes, length}
+use Rattle.std.specs.Prelude.{ℕ, ◌≡◌, ◌≢◌, true, false, List, [], ◌∷◌, Some, None, codes}
 use Rattle.kube_types.specs.declared.objects.Meta.{Meta}
-use Rattle.kube_types.specs.declared.objects.Node.{Node as NodeData}
-use Rattle.kube_types.specs.declared.objects.Pod.{Pod as PodData}
 use Rattle.kube_types.specs.declared.objects.Object.{Object}
 use Rattle.kube_types.specs.declared.objects.Object.TheVariants.{Node, Pod}
 use Rattle.kube_types.specs.declared.parts.Kind.TheVariants as kinds
@@ -20,7 +18,6 @@ use Rattle.script_text.specs.declared.script.Line.TheVariants as lines
 use Rattle.script_text.specs.declared.script.Script.{Script}
 use Rattle.script_parts.specs.declared.loss.Fate.TheVariants.{Told, LostBefore, LostAfter}
 use Rattle.script_parts.specs.declared.loss.Loss.{Loss}
-use Rattle.script_parts.specs.declared.part.Part.{Part}
 use Rattle.script_parts.specs.Budget.{at_most, faults_ahead, first_budget, most_budget, raise_for, raised, size_of_all}
 use Rattle.script_parts.specs.Fates.{fate_of}
 use Rattle.script_parts.specs.Limits.{AreBuilt, AreWithinLimits, IsReadable, first_unbuilt}
