@@ -71,7 +71,7 @@ AllUnbuilt (actor ∷ actors) = (is_actor_built actor ≡ false) × AllUnbuilt a
 none_lives : (actors : List Actor) (lines : List Line) → AllUnbuilt actors → AreBuilt lines → all_lives actors lines ≡ 0
 none_lives [] lines all built = refl
 none_lives (actor ∷ actors) lines all built =
-    let here : lives_in (actor_word actor) lines ≡ 0 = ap (λ b. lives_by b _) (not_named actor lines all.0 built) in
+    let here : lives_in (actor_word actor) lines ≡ 0 = ap (λ b. lives_by b (length (restarts_of (actor_word actor) lines))) (not_named actor lines all.0 built) in
     let rest = none_lives actors lines all.1 built in
     omega (arith, here, rest)
 
@@ -86,7 +86,7 @@ abbrev actors_after : List (List ℕ) → List Actor
 actors_after nodes = map (λ w. Worker w) workers_after ++ map (λ node. Agent node) nodes
 
 after_unbuilt : (nodes : List (List ℕ)) → AllUnbuilt (actors_after nodes)
-after_unbuilt nodes = (refl, refl, refl, refl, refl, refl, refl, refl, refl, refl, refl, refl, refl, refl, refl, refl, agents_unbuilt nodes)
+after_unbuilt nodes = (refl, (refl, (refl, (refl, (refl, (refl, (refl, (refl, (refl, (refl, (refl, (refl, (refl, (refl, (refl, (refl, agents_unbuilt nodes))))))))))))))))
 
 sum_of_four : (a b c d rest : ℕ) → rest ≡ 0 → 5 + (a + (b + (c + (d + rest)))) ≡ 5 + a + b + c + d
 sum_of_four a b c d rest none = omega (arith, none)
