@@ -1,4 +1,3 @@
 mod Building
 mod Computed
-mod Raising
 pub mod Readable
