@@ -1,2 +1,3 @@
 mod Building
-mod Raising
+mod Computed
+pub mod Readable

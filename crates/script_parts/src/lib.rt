@@ -8,6 +8,7 @@
 
 pub mod budget;
 pub mod built;
+pub mod examples;
 pub mod loss;
 pub mod part;
 pub mod parts;

@@ -6,8 +6,8 @@ ghost use Rattle.script_lines.specs.Actors.{actor_word, worker_word};
 ghost use Rattle.script_text.specs.Said.{restarts_of};
 ghost use Rattle.script_parts.specs.Parts.{is_named, lives_of, lost_calls, part_at};
 
-use crate::part::Part;
 use crate::loss::Loss;
+use crate::part::Part;
 use call_types::request::SeatKind;
 use kube_types::copies::OutOfMemory;
 use kube_types::items::Items;

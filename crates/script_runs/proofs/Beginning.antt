@@ -18,10 +18,13 @@ use Rattle.script_text.specs.declared.script.Line.{Line}
 use Rattle.script_text.specs.declared.script.Script.{Script}
 use Rattle.script_runs.specs.declared.player.Player.{Player}
 use Rattle.script_runs.specs.declared.stage.Stage.{Stage}
+use Rattle.script_lines.specs.declared.actors.WorkerNumber.TheVariants.{One, Two, Three, Four}
+use Rattle.script_parts.specs.declared.part.Part.{Part}
 use Rattle.script_parts.specs.Budget.{first_budget}
+use Rattle.script_parts.specs.Parts.{first_actor_seat}
 use Rattle.script_runs.specs.Replays.{AreMoves, EndsAs, IsDrain, IsMove, IsReplay, MoreMoves, NoMoves, Progress, begun}
 use Rattle.script_runs.specs.Steps.Playing.{EachPlayer, IsNewPlayer, Plays}
-use Rattle.script_runs.specs.Steps.Standing.{Ended, HasMoved, IsBudget, Leads, MadeAtMost, SoFar, Stands, parts_from, parts_in, seat_of_drains, with_made}
+use Rattle.script_runs.specs.Steps.Standing.{Ended, HasMoved, IsBudget, Leads, MadeAtMost, SoFar, Stands, end_of, fourth_seat, part_from, parts_from, parts_in, seat_of_drains, second_seat, third_seat, with_made}
 use Rattle.script_runs.proofs.Since.{new_since}
 
 -- ---- the beginning
@@ -67,6 +70,34 @@ begins script option s first past setup parts new are seat stand drained budget 
 
 pub new_made : (s : Stage) → EachPlayer IsNewPlayer s.players.items → MadeAtMost 0 s
 new_made s new place x at = let m = (new place x at).made in omega (arith, m)
+
+-- ---- the four binders
+
+pub each_of_four : (a b c d : Player) → IsNewPlayer a → IsNewPlayer b → IsNewPlayer c → IsNewPlayer d → (place : ℕ) (x : Player) → slice_get (a ∷ b ∷ c ∷ d ∷ []) place ≡ Some x → IsNewPlayer x
+each_of_four a b c d first second third fourth zero x at = subst IsNewPlayer (one a x at) first
+each_of_four a b c d first second third fourth (suc zero) x at = subst IsNewPlayer (one b x at) second
+each_of_four a b c d first second third fourth (suc (suc zero)) x at = subst IsNewPlayer (one c x at) third
+each_of_four a b c d first second third fourth (suc (suc (suc zero))) x at = subst IsNewPlayer (one d x at) fourth
+each_of_four a b c d first second third fourth (suc (suc (suc (suc place)))) x at = none_some at
+
+-- each part begins where the one before it ends
+pub record AreFour (lines : List Line) (a b c d : Part) : Type 0 where
+  pub first : a ≡ part_from lines One first_actor_seat
+  pub second : b ≡ part_from lines Two (second_seat lines)
+  pub third : c ≡ part_from lines Three (third_seat lines)
+  pub fourth : d ≡ part_from lines Four (fourth_seat lines)
+
+pub four_parts : (lines : List Line) (a b c d : Part) → a ≡ part_from lines One first_actor_seat → b ≡ part_from lines Two (end_of a) → c ≡ part_from lines Three (end_of b) → d ≡ part_from lines Four (end_of c) → AreFour lines a b c d
+four_parts lines a b c d is_a is_b is_c is_d =
+    let second : b ≡ part_from lines Two (second_seat lines) = is_b ∙ ap (λ x. part_from lines Two (end_of x)) is_a in
+    let third : c ≡ part_from lines Three (third_seat lines) = is_c ∙ ap (λ x. part_from lines Three (end_of x)) second in
+    record { first = is_a; second = second; third = third; fourth = is_d ∙ ap (λ x. part_from lines Four (end_of x)) third }
+
+same_four : (a b c d p q r s : Part) → a ≡ p → b ≡ q → c ≡ r → d ≡ s → a ∷ b ∷ c ∷ d ∷ [] ≡ p ∷ q ∷ r ∷ s ∷ []
+same_four a b c d p q r s is_a is_b is_c is_d = cc
+
+pub parts_of_four : (lines : List Line) (a b c d : Player) → AreFour lines a.part b.part c.part d.part → parts_in (a ∷ b ∷ c ∷ d ∷ []) ≡ parts_from lines
+parts_of_four lines a b c d are = same_four a.part b.part c.part d.part _ _ _ _ are.first are.second are.third are.fourth
 
 -- ---- the lines
 

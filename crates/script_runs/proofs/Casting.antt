@@ -1,5 +1,5 @@
 -- The parts of binders where no other actor is built, and the seats of the drains after them.
-use Rattle.std.proofs.Common.{◌≡◌, ℕ, ◌+◌, zero, suc, List, [], ◌∷◌, ◌++◌, length, map, Bool, true, false, true≢false, Option, Some, None, refl, sym, ◌∙◌, ap, subst, arith}
+use Rattle.std.proofs.Common.{◌≡◌, ℕ, ◌+◌, ◌≤◌, zero, suc, List, [], ◌∷◌, ◌++◌, length, length-append, map, Bool, true, false, true≢false, if◌then◌else◌, Option, Some, None, refl, sym, ◌∙◌, ap, subst, arith}
 use Rattle.std.specs.Prelude.{bytes_eq, slice_get, ⊤, ◌||◌}
 use Rattle.std.specs.List.{list_any}
 use Rattle.std.proofs.lemmas.Slice.Eq.{bytes_eq-Decides}
@@ -16,10 +16,11 @@ use Rattle.script_text.specs.declared.script.Line.{Line}
 use Rattle.script_text.specs.declared.script.Line.TheVariants as kinds_of_line
 use Rattle.script_text.specs.declared.script.Script.{Script}
 use Rattle.script_lines.specs.Actors.{actor_word, agent_word, four, kind_prefix, number_word}
+use Rattle.script_text.specs.Said.{restart_of, restarts_of}
 use Rattle.script_parts.specs.declared.part.Part.{Part}
 use Rattle.script_parts.specs.Limits.{AreBuilt, AreWithinLimits, IsWithinLimits, is_actor_built, is_kind_built, is_line_built}
 use Rattle.script_parts.specs.Parts.{all_lives, drain_seat, is_named, is_turn_of, lives_by, lives_in, part_at, part_of}
-use Rattle.script_runs.specs.Steps.Standing.{binder, part_from, parts_from, place_of, place_of_number, seat_of_drains}
+use Rattle.script_runs.specs.Steps.Standing.{binder, end_of, fourth_seat, part_from, parts_from, place_of, place_of_number, seat_of_drains, second_seat, third_seat}
 
 -- ---- names
 
@@ -70,7 +71,7 @@ AllUnbuilt (actor ∷ actors) = (is_actor_built actor ≡ false) × AllUnbuilt a
 none_lives : (actors : List Actor) (lines : List Line) → AllUnbuilt actors → AreBuilt lines → all_lives actors lines ≡ 0
 none_lives [] lines all built = refl
 none_lives (actor ∷ actors) lines all built =
-    let here : lives_in (actor_word actor) lines ≡ 0 = ap (λ b. lives_by b _) (not_named actor lines all.0 built) in
+    let here : lives_in (actor_word actor) lines ≡ 0 = ap (λ b. lives_by b (length (restarts_of (actor_word actor) lines))) (not_named actor lines all.0 built) in
     let rest = none_lives actors lines all.1 built in
     omega (arith, here, rest)
 
@@ -85,7 +86,7 @@ abbrev actors_after : List (List ℕ) → List Actor
 actors_after nodes = map (λ w. Worker w) workers_after ++ map (λ node. Agent node) nodes
 
 after_unbuilt : (nodes : List (List ℕ)) → AllUnbuilt (actors_after nodes)
-after_unbuilt nodes = (refl, refl, refl, refl, refl, refl, refl, refl, refl, refl, refl, refl, refl, refl, refl, refl, agents_unbuilt nodes)
+after_unbuilt nodes = (refl, (refl, (refl, (refl, (refl, (refl, (refl, (refl, (refl, (refl, (refl, (refl, (refl, (refl, (refl, (refl, agents_unbuilt nodes))))))))))))))))
 
 sum_of_four : (a b c d rest : ℕ) → rest ≡ 0 → 5 + (a + (b + (c + (d + rest)))) ≡ 5 + a + b + c + d
 sum_of_four a b c d rest none = omega (arith, none)
@@ -120,6 +121,52 @@ is_binder workers.Volumes built = absurd (true≢false (sym built))
 pub part_of_built : (script : Script) (actor : Actor) → is_actor_built actor ≡ true → slice_get (parts_from script.lines) (place_of actor) ≡ Some (part_of script actor)
 part_of_built script (Agent node) built = absurd (true≢false (sym built))
 part_of_built script (Worker w) built = subst (λ k. slice_get (parts_from script.lines) (place_of_number w.number) ≡ Some (part_of script (Worker (record { kind = k; number = w.number })))) (sym (is_binder w.kind built)) (part_there script w.number)
+
+-- ---- the seats are small
+
+one_restart : (name : List ℕ) (line : Line) → length (restart_of name line) ≤ 1
+one_restart name (kinds_of_line.Restart a after) = by (bytes_eq (actor_word a) name)
+  where
+    by : (b : Bool) → length (if b then after ∷ [] else []) ≤ 1
+    by true = omega arith
+    by false = omega arith
+one_restart name (kinds_of_line.Call user request) = omega arith
+one_restart name (kinds_of_line.Lose a call after) = omega arith
+one_restart name (kinds_of_line.Turn a calls) = omega arith
+one_restart name kinds_of_line.Drain = omega arith
+
+-- an actor has no more restarts than there are lines
+pub few_restarts : (name : List ℕ) (lines : List Line) → length (restarts_of name lines) ≤ length lines
+few_restarts name [] = omega arith
+few_restarts name (line ∷ lines) =
+    let here = one_restart name line in
+    let rest = few_restarts name lines in
+    let long = length-append (restart_of name line) (restarts_of name lines) in
+    omega (arith, here, rest, long)
+
+few_lives : (named : Bool) (restarts : ℕ) → lives_by named restarts ≤ 1 + restarts
+few_lives true restarts = omega arith
+few_lives false restarts = omega arith
+
+end_small : (lines : List Line) (number : WorkerNumber) (first : ℕ) → length lines ≤ 4096 → end_of (part_from lines number first) ≤ first + 4097
+end_small lines number first few =
+    let lives = few_lives (is_named (actor_word (binder number)) lines) (length (restarts_of (actor_word (binder number)) lines)) in
+    let restarts = few_restarts (actor_word (binder number)) lines in
+    omega (arith, lives, restarts, few)
+
+-- the seats of the binders and that after them
+pub record AreSmall (lines : List Line) : Type 0 where
+  pub second : second_seat lines ≤ 4102
+  pub third : third_seat lines ≤ 8199
+  pub fourth : fourth_seat lines ≤ 12296
+  pub drains : seat_of_drains lines ≤ 16393
+
+pub small_seats : (lines : List Line) → length lines ≤ 4096 → AreSmall lines
+small_seats lines few =
+    let second : second_seat lines ≤ 4102 = end_small lines One 5 few in
+    let third : third_seat lines ≤ 8199 = (let e = end_small lines Two (second_seat lines) few in omega (arith, e, second)) in
+    let fourth : fourth_seat lines ≤ 12296 = (let e = end_small lines Three (third_seat lines) few in omega (arith, e, third)) in
+    record { second = second; third = third; fourth = fourth; drains = let e = end_small lines Four (fourth_seat lines) few in omega (arith, e, fourth) }
 
 -- ---- a line at a place
 

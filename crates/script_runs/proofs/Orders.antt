@@ -63,8 +63,8 @@ AllDiffer (name ∷ names) = DiffersFrom name names × AllDiffer names
 
 differs_at : (name : List ℕ) (names : List (List ℕ)) (i : ℕ) (other : List ℕ) → DiffersFrom name names → slice_get names i ≡ Some other → (bytes_eq name other ≡ false) × (bytes_eq other name ≡ false)
 differs_at name [] i other all at = none_some at
-differs_at name (x ∷ names) zero other all at = subst (λ y. (bytes_eq name y ≡ false) × (bytes_eq y name ≡ false)) (one x other at) (all.0, all.1.0)
-differs_at name (x ∷ names) (suc i) other all at = differs_at name names i other all.1.1 at
+differs_at name (x ∷ names) zero other all at = subst (λ y. (bytes_eq name y ≡ false) × (bytes_eq y name ≡ false)) (one x other at) (all.0, all.1)
+differs_at name (x ∷ names) (suc i) other all at = differs_at name names i other all.2 at
 
 pub other_name : (names : List (List ℕ)) (i j : ℕ) (a b : List ℕ) → AllDiffer names → slice_get names i ≡ Some a → slice_get names j ≡ Some b → i ≢ j → bytes_eq a b ≡ false
 other_name [] i j a b all at there differs = none_some at
