@@ -2,6 +2,8 @@ mod Beginning
 mod Casting
 mod Calling
 mod Lives
+mod Moving
+mod Needs
 mod Orders
 mod Since
 mod Staging

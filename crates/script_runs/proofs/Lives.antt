@@ -1,5 +1,5 @@
 -- Lives and their seats.
-use Rattle.std.proofs.Common.{◌≡◌, ℕ, ◌<◌, ◌≤◌, ◌+◌, List, [], ◌∷◌, length, Bool, true, false, refl, sym, ◌∙◌, ap, subst, arith, if◌then◌else◌}
+use Rattle.std.proofs.Common.{◌≡◌, ℕ, suc, ◌<◌, ◌≤◌, ◌+◌, List, [], ◌∷◌, length, Bool, true, false, refl, sym, ◌∙◌, ap, subst, arith, if◌then◌else◌}
 use Rattle.std.specs.Prelude.{nat_lt}
 use Rattle.std.proofs.lemmas.Bool.Decides.{nat_tests}
 use Rattle.script_parts.specs.declared.part.Part.{Part}
@@ -11,7 +11,7 @@ pub restarts_few : (n : ℕ) (restarts : List ℕ) → restarts_before n restart
 restarts_few n [] = omega arith
 restarts_few n (after ∷ restarts) = by (nat_lt after n) (restarts_few n restarts)
   where
-    by : (b : Bool) → restarts_before n restarts ≤ length restarts → (if b then 1 + restarts_before n restarts else restarts_before n restarts) ≤ 1 + length restarts
+    by : (b : Bool) → restarts_before n restarts ≤ length restarts → (if b then 1 + restarts_before n restarts else restarts_before n restarts) ≤ suc (length restarts)
     by true h = omega (arith, h)
     by false h = omega (arith, h)
 

@@ -62,11 +62,11 @@ turn_pass s new answer recent turn stands = by s.memory.stale s.under (start_cal
 -- what has no news lately has none
 no_news : (kind : Kind) (recent earlier : List Entry) → HasNoNews kind recent → HasNoNews kind (recent ++ earlier)
 no_news kind [] earlier quiet = absurd quiet
-no_news kind (e ∷ recent) earlier quiet = by (e.told && reads_kind kind e.request) refl
+no_news kind (e ∷ recent) earlier quiet = by (e.told && reads_kind kind e.request) refl (no_news kind recent earlier)
   where
-    by : (b : Bool) → (e.told && reads_kind kind e.request) ≡ b → HasNoNews kind (e ∷ (recent ++ earlier))
-    by true own = rw own (rw own at quiet)
-    by false other = rw other (no_news kind recent earlier (rw other at quiet))
+    by : (b : Bool) → (e.told && reads_kind kind e.request) ≡ b → (HasNoNews kind recent → HasNoNews kind (recent ++ earlier)) → HasNoNews kind (e ∷ (recent ++ earlier))
+    by true own more = rw own (rw own at quiet)
+    by false other more = rw other (more (rw other at quiet))
 
 abbrev is_list : Ask → Bool
 is_list asks.List = true

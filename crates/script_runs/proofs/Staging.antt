@@ -34,13 +34,13 @@ use Rattle.script_runs.proofs.Orders.{AllDiffer, AreInOrder, get_set_other, get_
 -- ---- the parts of a script
 
 pub in_order : (lines : List Line) → AreInOrder 5 (parts_from lines) (seat_of_drains lines)
-in_order lines = (omega arith, omega arith, omega arith, omega arith, omega arith)
+in_order lines = (omega arith, (omega arith, (omega arith, (omega arith, omega arith))))
 
 abbrev names_in : List Part → List (List ℕ)
 names_in ps = map (λ (p : Part). p.name) ps
 
 names_differ : (lines : List Line) → AllDiffer (names_in (parts_from lines))
-names_differ lines = ((refl, refl, refl, refl, refl, refl, tt), (refl, refl, refl, refl, tt), (refl, refl, tt), tt, tt)
+names_differ lines = ((refl, refl, (refl, refl, (refl, refl, tt))), ((refl, refl, (refl, refl, tt)), ((refl, refl, tt), (tt, tt))))
 
 name_at : (ps : List Part) (i : ℕ) (p : Part) → slice_get ps i ≡ Some p → slice_get (names_in ps) i ≡ Some p.name
 name_at [] i p at = none_some at
@@ -163,7 +163,7 @@ module _ (script : Script) (option : Option ℕ) (old new : Stage) (place : ℕ)
   not_drains life = let b = (life_between 5 (parts_from script.lines) (seat_of_drains script.lines) place x.part (seat_of_drains script.lines) (in_order script.lines) (part_there place x played.there) life).1 in absurd (omega (arith, b))
 
   -- a player of the new stage is the one that made the calls, or one of the old stage at another place
-  player_at : (j : ℕ) (y : Player) → slice_get new.players.items j ≡ Some y → (after ≡ y) ⊎ ((j ≢ place) × (slice_get old.players.items j ≡ Some y))
+  pub player_at : (j : ℕ) (y : Player) → slice_get new.players.items j ≡ Some y → (after ≡ y) ⊎ ((j ≢ place) × (slice_get old.players.items j ≡ Some y))
   player_at j y at = by (same_or_not j place)
     where
       here : slice_get (set old.players.items place after) j ≡ Some y
@@ -236,7 +236,7 @@ turn_moved script option calls old new place x after part is played turns p stan
 
 widen : (some all : List ℕ) (entries : List Entry) → ((seat : ℕ) → IsOneOf some seat → IsOneOf all seat) → AreToldOf some entries → AreToldOf all entries
 widen some all [] more told = tt
-widen some all (e ∷ entries) more told = (more e.seat told.0, told.1.0, widen some all entries more told.1.1)
+widen some all (e ∷ entries) more told = (more e.seat told.0, told.1, widen some all entries more told.2)
 
 -- what a drain made, as the stage sees it
 pub record HasDrained (script : Script) (option : Option ℕ) (old new : Stage) (made : ℕ) : Type 0 where

@@ -18,7 +18,10 @@ use Rattle.script_runs.proofs.Stepping.{HasTaken}
 pub not_gone : (idle : ℕ → List Entry) (past : List Entry) (x : Player) → Plays x past idle → HasGone 0 idle past past x x
 not_gone idle past x plays = record {
   others = λ seat other. refl;
-  calls_are = λ end rest calls. calls;
+  calls_are = λ end rest calls.
+      let at : x.made + 0 + 1 ≡ x.made + 1 = omega arith in
+      let all : rest ≡ 0 + rest = omega arith in
+      subst (λ n. AreCalls x.part end n (0 + rest) past) at (subst (λ n. AreCalls x.part end (x.made + 0 + 1) n past) all calls);
   plays = plays;
 }
 

@@ -1,7 +1,6 @@
 //! A script replayed.
 
-ghost use Rattle.std.specs.Prelude.{◌≡◌, ◌<◌, ◌^◌, IfOk};
-ghost use Rattle.binder_model.specs.Run.{Run};
+ghost use Rattle.std.specs.Prelude.{◌≡◌, IfOk};
 ghost use Rattle.script_parts.specs.Limits.{AreBuilt, IsReadable};
 ghost use Rattle.script_runs.specs.Replays.{IsReplay};
 

@@ -110,12 +110,14 @@ impl Stage {
         ensures made { OnOk result (MadeAtMost (most + 1000) self.new) }
     {
         let place = place_of(actor);
-        turn(&mut self.world, &mut self.players[place], calls)
+        turn(&mut self.world, &mut self.players[place], calls)?;
+        Ok(())
     }
 
     /// Raises the budget, and drains.
     fn drain(&mut self, script: &Script, option: Option<u64>) -> Result<Drained, OutOfMemory>
-        requires { SomeStands script.now option self.old }
+        requires built { AreBuilt script.now.lines }
+        requires stands { SomeStands script.now option self.old }
         ensures moved { OnOk result (HasMoved script.now option (IsDrain script.now option) self.old self.new) }
         ensures ends { IfOk result (λ d. EndsWith self.new.world.setup self.new.world.past (self.new.budget - (self.new.drained - made_of d)) d) }
         ensures made { IfOk result (λ d. made_of d ≤ self.new.drained) }
@@ -170,7 +172,8 @@ impl Stage {
         script: &Script,
         option: Option<u64>,
     ) -> Result<Drained, OutOfMemory>
-        requires { SomeStands script.now option self.old }
+        requires built { AreBuilt script.now.lines }
+        requires stands { SomeStands script.now option self.old }
         ensures { IfOk result (λ ending. (p : Progress) → Stands script.now option p self.old → Ended script.now option p self.new ending) }
     {
         let last = self.drain(script, option)?;
