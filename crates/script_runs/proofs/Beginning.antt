@@ -1,8 +1,7 @@
 -- The stage before the first line, and how a replay goes through the lines and ends.
-use Rattle.std.proofs.Common.{◌≡◌, ℕ, ◌<◌, ◌≤◌, ◌+◌, ◌-◌, ◌*◌, zero, suc, List, [], ◌∷◌, ◌++◌, length, drop, Option, Some, None, inl, inr, ◌⊎◌, refl, sym, ◌∙◌, ap, subst, arith}
+use Rattle.std.proofs.Common.{◌≡◌, ℕ, ◌≤◌, ◌+◌, ◌-◌, zero, suc, List, [], ◌∷◌, ◌++◌, length, drop, Option, Some, None, inl, inr, ◌⊎◌, refl, sym, ◌∙◌, ap, subst, arith}
 use Rattle.std.specs.Prelude.{slice_get}
-use Rattle.kube_types.specs.declared.key.Key.{Key}
-use Rattle.kube_types.specs.declared.names.Due.{Due}
+use Rattle.std.proofs.lemmas.List.{drop_all}
 use Rattle.call_types.specs.declared.entry.Entry.{Entry}
 use Rattle.call_types.specs.declared.setup.Setup.{Setup}
 use Rattle.binder_model.specs.World.{world}
@@ -22,9 +21,9 @@ use Rattle.script_lines.specs.declared.actors.WorkerNumber.TheVariants.{One, Two
 use Rattle.script_parts.specs.declared.part.Part.{Part}
 use Rattle.script_parts.specs.Budget.{first_budget}
 use Rattle.script_parts.specs.Parts.{first_actor_seat}
-use Rattle.script_runs.specs.Replays.{AreMoves, EndsAs, IsDrain, IsMove, IsReplay, MoreMoves, NoMoves, Progress, begun}
+use Rattle.script_runs.specs.Replays.{EndsAs, IsDrain, IsMove, IsReplay, MoreMoves, NoMoves, Progress, begun}
 use Rattle.script_runs.specs.Steps.Playing.{EachPlayer, IsNewPlayer, Plays}
-use Rattle.script_runs.specs.Steps.Standing.{Ended, HasMoved, IsBudget, Leads, MadeAtMost, SoFar, Stands, end_of, fourth_seat, part_from, parts_from, parts_in, seat_of_drains, second_seat, third_seat, with_made}
+use Rattle.script_runs.specs.Steps.Standing.{Ended, HasMoved, IsBudget, SoFar, Stands, end_of, fourth_seat, part_from, parts_from, parts_in, seat_of_drains, second_seat, third_seat, with_made}
 use Rattle.script_runs.proofs.Casting.{small_seats}
 use Rattle.script_runs.proofs.Since.{new_since}
 
@@ -166,19 +165,13 @@ has_ended script option old new d ending moved some ends is p stands =
       ends = subst (EndsAs script.setup leads.after) (sym is) (ends_as script option leads.after new d leads.stands some ends);
     }
 
-drop_all : {X : Type 0} (xs : List X) (n : ℕ) → length xs ≤ n → drop n xs ≡ []
-drop_all [] zero few = refl
-drop_all [] (suc n) few = refl
-drop_all (x ∷ xs) zero few = absurd (omega (arith, few))
-drop_all (x ∷ xs) (suc n) few = drop_all xs n (omega (arith, few))
-
 pub replays : (script : Script) (option : Option ℕ) (place : ℕ) (before after : Stage) (past : List Entry) (ending : Drained) → length script.lines ≤ place → SoFar script option place before → ((p : Progress) → Stands script option p before → Ended script option p after ending) → past ≡ after.world.past → IsReplay script option past ending
 replays script option place before after past ending all so ended is =
     let e = ended so.progress so.stands in
     record {
       lines_done = so.progress;
       end = e.after;
-      moves = so.moves so.progress (NoMoves (drop_all script.lines place all) refl);
+      moves = so.moves so.progress (NoMoves (drop_all place script.lines all) refl);
       last = e.move;
       history = is ∙ e.stands.past;
       ends = e.ends;

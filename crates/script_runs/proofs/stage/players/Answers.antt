@@ -1,4 +1,4 @@
-use Rattle.std.proofs.Common.{◌≡◌, ◌≤◌, ◌+◌, length, sym, ap, ◌∙◌, subst, arith}
+use Rattle.std.proofs.Common.{◌≤◌, length, sym, ap, ◌∙◌, subst, arith}
 use Rattle.script_lines.specs.declared.actors.WorkerNumber.TheVariants.{Two, Three, Four}
 use Rattle.script_runs.specs.Steps.Playing.{EachPlayer, IsNewPlayer}
 use Rattle.script_runs.specs.Steps.Standing.{part_from}
