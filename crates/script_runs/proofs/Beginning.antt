@@ -1,8 +1,7 @@
 -- The stage before the first line, and how a replay goes through the lines and ends.
-use Rattle.std.proofs.Common.{◌≡◌, ℕ, ◌<◌, ◌≤◌, ◌+◌, ◌-◌, ◌*◌, zero, suc, List, [], ◌∷◌, length, drop, Option, Some, None, inl, inr, ◌⊎◌, refl, sym, ◌∙◌, ap, subst, arith}
+use Rattle.std.proofs.Common.{◌≡◌, ℕ, ◌≤◌, ◌+◌, ◌-◌, zero, suc, List, [], ◌∷◌, ◌++◌, length, drop, Option, Some, None, inl, inr, ◌⊎◌, refl, sym, ◌∙◌, ap, subst, arith}
 use Rattle.std.specs.Prelude.{slice_get}
-use Rattle.kube_types.specs.declared.key.Key.{Key}
-use Rattle.kube_types.specs.declared.names.Due.{Due}
+use Rattle.std.proofs.lemmas.List.{drop_all}
 use Rattle.call_types.specs.declared.entry.Entry.{Entry}
 use Rattle.call_types.specs.declared.setup.Setup.{Setup}
 use Rattle.binder_model.specs.World.{world}
@@ -22,9 +21,10 @@ use Rattle.script_lines.specs.declared.actors.WorkerNumber.TheVariants.{One, Two
 use Rattle.script_parts.specs.declared.part.Part.{Part}
 use Rattle.script_parts.specs.Budget.{first_budget}
 use Rattle.script_parts.specs.Parts.{first_actor_seat}
-use Rattle.script_runs.specs.Replays.{AreMoves, EndsAs, IsDrain, IsMove, IsReplay, MoreMoves, NoMoves, Progress, begun}
+use Rattle.script_runs.specs.Replays.{EndsAs, IsDrain, IsMove, IsReplay, MoreMoves, NoMoves, Progress, begun}
 use Rattle.script_runs.specs.Steps.Playing.{EachPlayer, IsNewPlayer, Plays}
-use Rattle.script_runs.specs.Steps.Standing.{Ended, HasMoved, IsBudget, Leads, MadeAtMost, SoFar, Stands, end_of, fourth_seat, part_from, parts_from, parts_in, seat_of_drains, second_seat, third_seat, with_made}
+use Rattle.script_runs.specs.Steps.Standing.{Ended, HasMoved, IsBudget, SoFar, Stands, end_of, fourth_seat, part_from, parts_from, parts_in, seat_of_drains, second_seat, third_seat, with_made}
+use Rattle.script_runs.proofs.Casting.{small_seats}
 use Rattle.script_runs.proofs.Since.{new_since}
 
 -- ---- the beginning
@@ -68,8 +68,8 @@ begins script option s first past setup parts new are seat stand drained budget 
   most = subst (IsBudget option) (sym budget) (first_most option);
 }
 
-pub new_made : (s : Stage) → EachPlayer IsNewPlayer s.players.items → MadeAtMost 0 s
-new_made s new place x at = let m = (new place x at).made in omega (arith, m)
+pub new_made : (players : List Player) → EachPlayer IsNewPlayer players → EachPlayer (λ x. x.made ≤ 0) players
+new_made players new place x at = let m = (new place x at).made in omega (arith, m)
 
 -- ---- the four binders
 
@@ -93,18 +93,40 @@ four_parts lines a b c d is_a is_b is_c is_d =
     let third : c ≡ part_from lines Three (third_seat lines) = is_c ∙ ap (λ x. part_from lines Three (end_of x)) second in
     record { first = is_a; second = second; third = third; fourth = is_d ∙ ap (λ x. part_from lines Four (end_of x)) third }
 
-same_four : (a b c d p q r s : Part) → a ≡ p → b ≡ q → c ≡ r → d ≡ s → a ∷ b ∷ c ∷ d ∷ [] ≡ p ∷ q ∷ r ∷ s ∷ []
-same_four a b c d p q r s is_a is_b is_c is_d = cc
+pub third_first : (lines : List Line) (a b c : Part) → length lines ≤ 4096 → a ≡ part_from lines One first_actor_seat → b ≡ part_from lines Two (end_of a) → c ≡ part_from lines Three (end_of b) → c.first ≤ 8199
+third_first lines a b c few is_a is_b is_c =
+    let second : b ≡ part_from lines Two (second_seat lines) = is_b ∙ ap (λ x. part_from lines Two (end_of x)) is_a in
+    let third : c ≡ part_from lines Three (third_seat lines) = is_c ∙ ap (λ x. part_from lines Three (end_of x)) second in
+    let first : c.first ≡ third_seat lines = ap (λ (x : Part). x.first) third in
+    let small = (small_seats lines few).third in
+    omega (arith, first, small)
 
-pub parts_of_four : (lines : List Line) (a b c d : Player) → AreFour lines a.part b.part c.part d.part → parts_in (a ∷ b ∷ c ∷ d ∷ []) ≡ parts_from lines
-parts_of_four lines a b c d are = same_four a.part b.part c.part d.part _ _ _ _ are.first are.second are.third are.fourth
+pub fourth_first : (lines : List Line) (a b c d : Part) → length lines ≤ 4096 → AreFour lines a b c d → d.first ≤ 12296
+fourth_first lines a b c d few are =
+    let first : d.first ≡ fourth_seat lines = ap (λ (x : Part). x.first) are.fourth in
+    let small = (small_seats lines few).fourth in
+    omega (arith, first, small)
+
+pub last_end : (lines : List Line) (a b c d : Part) → length lines ≤ 4096 → AreFour lines a b c d → end_of d ≤ 16393
+last_end lines a b c d few are =
+    let last : end_of d ≡ seat_of_drains lines = ap end_of are.fourth in
+    let small = (small_seats lines few).drains in
+    omega (arith, last, small)
+
+-- the players, each pushed after those before it
+pub four_items : (a b c d : Player) (none ones two three four : List Player) → none ≡ [] → ones ≡ none ++ a ∷ [] → two ≡ ones ++ b ∷ [] → three ≡ two ++ c ∷ [] → four ≡ three ++ d ∷ [] → four ≡ a ∷ b ∷ c ∷ d ∷ []
+four_items a b c d none ones two three four is_none is_one is_two is_three is_four =
+    let first : ones ≡ a ∷ [] = is_one ∙ ap (λ xs. xs ++ a ∷ []) is_none in
+    let second : two ≡ a ∷ b ∷ [] = is_two ∙ ap (λ xs. xs ++ b ∷ []) first in
+    let third : three ≡ a ∷ b ∷ c ∷ [] = is_three ∙ ap (λ xs. xs ++ c ∷ []) second in
+    is_four ∙ ap (λ xs. xs ++ d ∷ []) third
 
 -- ---- the lines
 
 drop_at : {X : Type 0} (xs : List X) (place : ℕ) (x : X) → slice_get xs place ≡ Some x → drop place xs ≡ x ∷ drop (place + 1) xs
 drop_at [] place x at = none_some at
 drop_at (y ∷ xs) zero x at = ap (λ z. z ∷ xs) (one y x at)
-drop_at (y ∷ xs) (suc place) x at = drop_at xs place x at
+drop_at (y ∷ xs) (suc place) x at = let e : suc (place + 1) ≡ suc place + 1 = omega arith in subst (λ n. drop (suc place) (y ∷ xs) ≡ x ∷ drop n (y ∷ xs)) e (drop_at xs place x at)
 
 pub so_far_first : (script : Script) (option : Option ℕ) (s : Stage) → Stands script option (begun option) s → SoFar script option 0 s
 so_far_first script option s stands = record { progress = begun option; stands = stands; moves = λ end rest. rest }
@@ -143,19 +165,13 @@ has_ended script option old new d ending moved some ends is p stands =
       ends = subst (EndsAs script.setup leads.after) (sym is) (ends_as script option leads.after new d leads.stands some ends);
     }
 
-drop_all : {X : Type 0} (xs : List X) (n : ℕ) → length xs ≤ n → drop n xs ≡ []
-drop_all [] zero few = refl
-drop_all [] (suc n) few = refl
-drop_all (x ∷ xs) zero few = absurd (omega (arith, few))
-drop_all (x ∷ xs) (suc n) few = drop_all xs n (omega (arith, few))
-
 pub replays : (script : Script) (option : Option ℕ) (place : ℕ) (before after : Stage) (past : List Entry) (ending : Drained) → length script.lines ≤ place → SoFar script option place before → ((p : Progress) → Stands script option p before → Ended script option p after ending) → past ≡ after.world.past → IsReplay script option past ending
 replays script option place before after past ending all so ended is =
     let e = ended so.progress so.stands in
     record {
       lines_done = so.progress;
       end = e.after;
-      moves = so.moves so.progress (NoMoves (drop_all script.lines place all) refl);
+      moves = so.moves so.progress (NoMoves (drop_all place script.lines all) refl);
       last = e.move;
       history = is ∙ e.stands.past;
       ends = e.ends;

@@ -1,9 +1,7 @@
 -- The parts of binders where no other actor is built, and the seats of the drains after them.
-use Rattle.std.proofs.Common.{◌≡◌, ℕ, ◌+◌, ◌≤◌, zero, suc, List, [], ◌∷◌, ◌++◌, length, length-append, map, Bool, true, false, true≢false, if◌then◌else◌, Option, Some, None, refl, sym, ◌∙◌, ap, subst, arith}
+use Rattle.std.proofs.Common.{◌≡◌, ℕ, ◌+◌, ◌≤◌, zero, suc, List, [], ◌∷◌, ◌++◌, length, length-append, map, Bool, true, false, true≢false, if◌then◌else◌, Some, refl, sym, ◌∙◌, ap, subst, arith}
 use Rattle.std.specs.Prelude.{bytes_eq, slice_get, ⊤, ◌||◌}
-use Rattle.std.specs.List.{list_any}
 use Rattle.std.proofs.lemmas.Slice.Eq.{bytes_eq-Decides}
-use Rattle.call_types.specs.declared.request.SeatKind.TheVariants as seats
 use Rattle.model_laws.proofs.Lists.{none_some, one}
 use Rattle.script_lines.specs.declared.actors.WorkerKind.{WorkerKind}
 use Rattle.script_lines.specs.declared.actors.WorkerKind.TheVariants as workers
@@ -17,9 +15,8 @@ use Rattle.script_text.specs.declared.script.Line.TheVariants as kinds_of_line
 use Rattle.script_text.specs.declared.script.Script.{Script}
 use Rattle.script_lines.specs.Actors.{actor_word, agent_word, four, kind_prefix, number_word}
 use Rattle.script_text.specs.Said.{restart_of, restarts_of}
-use Rattle.script_parts.specs.declared.part.Part.{Part}
 use Rattle.script_parts.specs.Limits.{AreBuilt, AreWithinLimits, IsWithinLimits, is_actor_built, is_kind_built, is_line_built}
-use Rattle.script_parts.specs.Parts.{all_lives, drain_seat, is_named, is_turn_of, lives_by, lives_in, part_at, part_of}
+use Rattle.script_parts.specs.Parts.{all_lives, drain_seat, is_named, is_turn_of, lives_by, lives_in, part_of}
 use Rattle.script_runs.specs.Steps.Standing.{binder, end_of, fourth_seat, part_from, parts_from, place_of, place_of_number, seat_of_drains, second_seat, third_seat}
 
 -- ---- names
