@@ -18,7 +18,7 @@ overflow_sub-left c =
     room_in c.args.option w.setup w.past c.args.self.now.drained c.args.self.now.budget c.raised-budget.result stands.few stands.most c.raised-budget.ensures.value c.raised-budget.ensures.more
 
 pub drain-requires : goal.drain-requires
-drain-requires c = c.requires.stands.stands.drainers
+drain-requires c = record { stands = c.requires.stands.stands.drainers }
 
 pub overflow_add-self : goal.overflow_add-self
 overflow_add-self c =
