@@ -1,8 +1,8 @@
 -- What a turn needs of its player, and what it leaves of the counts of calls.
-use Rattle.std.proofs.Common.{◌≡◌, ◌≢◌, ◌⊎◌, ℕ, ◌<◌, ◌≤◌, ◌+◌, ◌^◌, List, [], ◌∷◌, ◌++◌, length, map, Bool, true, false, true≢false, Option, Some, inl, inr, refl, sym, ◌∙◌, ap, subst, arith, length-append, if◌then◌else◌}
+use Rattle.std.proofs.Common.{◌≡◌, ◌≢◌, ◌⊎◌, ℕ, ◌<◌, ◌≤◌, ◌+◌, ◌^◌, List, [], ◌∷◌, ◌++◌, length, get_or, map, set, Bool, true, false, true≢false, Option, Some, inl, inr, refl, sym, ◌∙◌, ap, subst, arith, length-append, if◌then◌else◌}
 use Rattle.std.specs.Prelude.{bytes_eq, slice_get}
 use Rattle.std.proofs.lemmas.List.{length-map}
-use Rattle.std.proofs.lemmas.Option.{slice_get_within}
+use Rattle.std.proofs.lemmas.Option.{slice_get_read, slice_get_within}
 use Rattle.call_types.specs.declared.entry.Entry.{Entry}
 use Rattle.call_types.specs.declared.request.SeatKind.TheVariants as seats
 use Rattle.model_laws.proofs.Lists.{one}
@@ -21,11 +21,12 @@ use Rattle.script_parts.specs.Limits.{IsReadable, is_actor_built, is_kind_built}
 use Rattle.script_parts.specs.Parts.{first_actor_seat, is_named, kind_of, kind_of_worker, lives_by, lives_of, part_of}
 use Rattle.script_runs.specs.declared.player.Player.{Player}
 use Rattle.script_runs.specs.declared.stage.Stage.{Stage}
+use Rattle.script_runs.specs.Replays.{IsTurn}
 use Rattle.script_runs.specs.Steps.Playing.{HasMadeAll, HasMadeFewer, HasTurned, IsLife, Plays, SomePlays}
-use Rattle.script_runs.specs.Steps.Standing.{MadeAtMost, SomeStands, fourth_seat, part_from, parts_from, parts_in, place_of, seat_of_drains, second_seat, third_seat}
+use Rattle.script_runs.specs.Steps.Standing.{HasMoved, MadeAtMost, SomeStands, fourth_seat, part_from, parts_from, parts_in, place_of, seat_of_drains, second_seat, third_seat}
 use Rattle.script_runs.proofs.Casting.{part_of_built}
 use Rattle.script_runs.proofs.Orders.{life_between, part_at_place}
-use Rattle.script_runs.proofs.Staging.{HasPlayed, in_order, player_at}
+use Rattle.script_runs.proofs.Staging.{HasPlayed, in_order, player_at, turn_moved}
 
 -- ---- the actors that are built
 
@@ -94,6 +95,9 @@ module _ (script : Script) (option : Option ℕ) (actor : Actor) (s : Stage) (bu
       let all : length (parts_in s.players.items) ≡ length s.players.items = length-map s.players.items (λ (x : Player). x.part) in
       omega (arith, within, parts, all)
 
+  pub player_there : (place : ℕ) (x : Player) → place ≡ place_of actor → x ≡ get_or s.players.items place x → slice_get s.players.items (place_of actor) ≡ Some x
+  player_there place x is read = subst (λ n. slice_get s.players.items n ≡ Some x) is (slice_get_read s.players.items (length s.players.items) place x refl (let w = place_within in omega (arith, w, is)) read)
+
   pub its_part : (x : Player) → slice_get s.players.items (place_of actor) ≡ Some x → part_of script actor ≡ x.part
   its_part x at = one (part_of script actor) x.part (sym (part_of_built script actor built) ∙ ap (λ ps. slice_get ps (place_of actor)) (sym some.stands.parts) ∙ part_at_place s.players.items (place_of actor) x at)
 
@@ -128,3 +132,33 @@ made_on script option old new place x after played some most calls few made turn
         let m = made place x played.there in
         subst (λ (z : Player). z.made ≤ most + 1000) is (omega (arith, t, m, few))
     by j y (inr other) = let m = made j y other.1 in omega (arith, m)
+
+pub made_more : (most : ℕ) (old new : Stage) → new.players ≡ old.players → MadeAtMost most old → MadeAtMost (most + 1000) new
+made_more most old new same made = λ place x at. let m = made place x (ap (λ (xs : _). slice_get xs.items place) (sym same) ∙ at) in omega (arith, m)
+
+-- ---- a turn of an actor that is built
+
+module _ (script : Script) (option : Option ℕ) (actor : Actor) (calls : ℕ) (old new : Stage) (place : ℕ) (x after : Player) (built : is_actor_built actor ≡ true) (named : is_named (actor_word actor) script.lines ≡ true)
+    (some : SomeStands script option old) (is : place ≡ place_of actor) (read : x ≡ get_or old.players.items place x) (players : new.players.items ≡ set old.players.items place after) (part : after.part ≡ x.part)
+    (setup : new.world.setup ≡ old.world.setup) (drainers : new.drainers ≡ old.drainers) (drained : new.drained ≡ old.drained) (budget : new.budget ≡ old.budget)
+    (turns : (idle : ℕ → List Entry) → Plays x old.world.past idle → HasTurned calls idle old.world.past new.world.past x after) where
+  at : slice_get old.players.items (place_of actor) ≡ Some x
+  at = player_there script option actor old built some place x is read
+
+  played : HasPlayed old new place x after
+  played = record {
+    there = subst (λ n. slice_get old.players.items n ≡ Some x) (sym is) at;
+    named = its_name script option actor old built some x at named;
+    players = players;
+    part = part;
+    setup = setup;
+    drainers = drainers;
+    drained = drained;
+    budget = budget;
+  }
+
+  pub turn_made : HasMoved script option (IsTurn (part_of script actor) calls) old new
+  turn_made = turn_moved script option calls old new place x after (part_of script actor) (its_part script option actor old built some x at) played turns
+
+  pub made_after : (most : ℕ) → calls ≤ 1000 → MadeAtMost most old → MadeAtMost (most + 1000) new
+  made_after most few made = made_on script option old new place x after played some most calls few made turns

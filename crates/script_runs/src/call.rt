@@ -76,7 +76,7 @@ fn make_none(
 ) -> Result<(), OutOfMemory>
     requires kind { kind ≡ actor.old.role.kind }
     requires asked { asked actor.old ≡ Some request.now }
-    ensures called { OnOk result (HasCalled seat (IsCallWith LostBefore seat kind) world.now world.now actor.old actor.new) }
+    ensures { OnOk result (HasCalled seat (IsCallWith LostBefore seat kind) world.now world.now actor.old actor.new) }
 {
     let _built = actor.kind();
     actor.absorb(request, Outcome::Lost)?;

@@ -27,7 +27,7 @@ make-requires-clause-licensed c =
     let mine = own mid.seat past in
     let plays = c.begin_life.ensures.plays past some.idle c.requires.named some.plays in
     let kind : mid.actor.role.kind ≡ c.kind-kind-2.result = sym c.kind-kind.ensures.kind ∙ c.kind-kind.ensures.built ∙ sym c.kind-kind-2.ensures.built in
-    subst (λ (k : SeatKind). Licensed k mine c.in-Call.request.now) kind
+    subst (λ (k : SeatKind). Licensed k mine c.in-Call.request) kind
     (subst (λ (a : Next). IsLicensedAnswer mid.actor.role.kind mine a) c.in-Call.is (c.in_ok-answer.ensures.licensed mine plays.since.stands))
 
 pub returns-clause-stepped : goal.returns-clause-stepped
