@@ -1,7 +1,7 @@
 -- The moves of the lines, by what the stage makes of each; and a line of a place.
 use Rattle.std.proofs.Common.{◌≡◌, ◌≢◌, ◌⊎◌, ℕ, ◌<◌, ◌≤◌, ◌+◌, ◌-◌, List, [], ◌∷◌, length, get_or, Bool, true, false, Option, Some, None, Result, Ok, Err, inl, inr, refl, sym, ◌∙◌, ap, subst, arith}
 use Rattle.std.specs.Prelude.{slice_get}
-use Rattle.std.proofs.lemmas.Option.{slice_get-get_or}
+use Rattle.std.proofs.lemmas.Option.{slice_get-get_or, slice_get_read}
 use Rattle.call_types.specs.declared.entry.Entry.{Entry}
 use Rattle.call_types.specs.declared.setup.Setup.{Setup}
 use Rattle.model_laws.proofs.Lists.{one}
@@ -17,6 +17,10 @@ use Rattle.script_runs.specs.Steps.Standing.{HasMoved, IsBudget, Leads, SoFar, S
 
 pub line_there : (lines : List Line) (place : ℕ) → place < length lines → (line : Line) × (slice_get lines place ≡ Some line)
 line_there lines place lt = (get_or lines place Drain, slice_get-get_or lines place Drain lt)
+
+-- the line that was read there
+pub line_is : (lines seen : List Line) (place : ℕ) (x line : Line) → seen ≡ lines → place < length lines → x ≡ get_or seen place x → x ≡ line → slice_get lines place ≡ Some line
+line_is lines seen place x line same lt read is = slice_get_read lines (length lines) place x refl lt (read ∙ ap (λ ls. get_or ls place x) same) ∙ ap (λ (l : Line). Some l) is
 
 -- a move of the line that is there is one of any line that is there
 pub moves_there : (script : Script) (option : Option ℕ) (place : ℕ) (here : Line) (old new : Stage) → slice_get script.lines place ≡ Some here → HasMoved script option (IsMove script option here) old new
