@@ -1,10 +1,8 @@
-use Rattle.std.proofs.Common.{◌≡◌, Some, inl, inr}
-use Rattle.std.specs.Prelude.{slice_get}
+use Rattle.std.proofs.Common.{refl}
 use Rattle.std.proofs.lemmas.Result.{on_ok_weaker}
-use Rattle.script_text.specs.declared.script.Line.{Line}
-use Rattle.script_text.specs.declared.script.Line.TheVariants.{Call, Lose, Restart, Turn, Drain}
+use Rattle.script_text.specs.declared.script.Line.TheVariants.{Call, Turn, Drain}
 use Rattle.script_runs.proofs.Casting.{built_at, named_at, within_at}
-use Rattle.script_runs.proofs.Moving.{line_is, moves_there, none_moved}
+use Rattle.script_runs.proofs.Moving.{line_is, moves_there, stays}
 use Rattle.script_runs.proofs.stage.Stage.play.Goals as goal
 
 pub call-requires-clause-user : goal.call-requires-clause-user
@@ -50,14 +48,12 @@ returns-in_ok-drained-in-Drain-clause-moved c =
 
 pub returns-in-Lose-clause-moved : goal.returns-in-Lose-clause-moved
 returns-in-Lose-clause-moved c =
-    let s = c.args.self.now in
-    let script = c.args.script.now in
     let x = c.index-as_slice-place.result in
-    let at = λ (line : Line) (is : x ≡ line). line_is script.lines c.as_slice.result.now c.args.place x line c.as_slice.ensures c.requires.place c.index-as_slice-place.is is in
-    elim c.in-Lose.is [
-      | inl w ↦ moves_there script c.args.option c.args.place (Lose w.0 w.1 w.2) s s (at (Lose w.0 w.1 w.2) w.3) (none_moved script c.args.option s)
-      | inr w ↦ moves_there script c.args.option c.args.place (Restart w.0 w.1) s s (at (Restart w.0 w.1) w.2) (none_moved script c.args.option s)
-    ]
+    let at = line_is c.args.script.now.lines c.as_slice.result.now c.args.place x x c.as_slice.ensures c.requires.place c.index-as_slice-place.is refl in
+    stays c.args.script.now c.args.option c.args.place x c.args.self.now at c.in-Lose.is
 
 pub returns-in-Lose-2-clause-moved : goal.returns-in-Lose-2-clause-moved
-returns-in-Lose-2-clause-moved c = ?
+returns-in-Lose-2-clause-moved c =
+    let x = c.index-as_slice-place.result in
+    let at = line_is c.args.script.now.lines c.as_slice.result.now c.args.place x x c.as_slice.ensures c.requires.place c.index-as_slice-place.is refl in
+    stays c.args.script.now c.args.option c.args.place x c.args.self.now at c.in-Lose.is
