@@ -1,12 +1,13 @@
 -- The moves of the lines, by what the stage makes of each; and a line of a place.
 use Rattle.std.proofs.Common.{◌≡◌, ◌≢◌, ◌⊎◌, ℕ, ◌<◌, ◌≤◌, ◌+◌, ◌-◌, List, [], ◌∷◌, length, get_or, Bool, true, false, Option, Some, None, Result, Ok, Err, inl, inr, refl, sym, ◌∙◌, ap, subst, arith}
 use Rattle.std.specs.Prelude.{slice_get}
-use Rattle.std.proofs.lemmas.Option.{slice_get-get_or}
+use Rattle.std.proofs.lemmas.Option.{slice_get-get_or, slice_get_read}
 use Rattle.call_types.specs.declared.entry.Entry.{Entry}
 use Rattle.call_types.specs.declared.setup.Setup.{Setup}
 use Rattle.model_laws.proofs.Lists.{one}
+use Rattle.script_lines.specs.declared.actors.Actor.{Actor}
 use Rattle.script_text.specs.declared.script.Line.{Line}
-use Rattle.script_text.specs.declared.script.Line.TheVariants.{Drain}
+use Rattle.script_text.specs.declared.script.Line.TheVariants.{Drain, Lose, Restart}
 use Rattle.script_text.specs.declared.script.Script.{Script}
 use Rattle.script_parts.specs.Budget.{most_budget, raised}
 use Rattle.script_runs.specs.declared.stage.Stage.{Stage}
@@ -18,6 +19,10 @@ use Rattle.script_runs.specs.Steps.Standing.{HasMoved, IsBudget, Leads, SoFar, S
 pub line_there : (lines : List Line) (place : ℕ) → place < length lines → (line : Line) × (slice_get lines place ≡ Some line)
 line_there lines place lt = (get_or lines place Drain, slice_get-get_or lines place Drain lt)
 
+-- the line that was read there
+pub line_is : (lines seen : List Line) (place : ℕ) (x line : Line) → seen ≡ lines → place < length lines → x ≡ get_or seen place x → x ≡ line → slice_get lines place ≡ Some line
+line_is lines seen place x line same lt read is = slice_get_read lines (length lines) place x refl lt (read ∙ ap (λ ls. get_or ls place x) same) ∙ ap (λ (l : Line). Some l) is
+
 -- a move of the line that is there is one of any line that is there
 pub moves_there : (script : Script) (option : Option ℕ) (place : ℕ) (here : Line) (old new : Stage) → slice_get script.lines place ≡ Some here → HasMoved script option (IsMove script option here) old new
     → (line : Line) → slice_get script.lines place ≡ Some line → HasMoved script option (IsMove script option line) old new
@@ -26,6 +31,14 @@ moves_there script option place here old new at moved line there = subst (λ (l 
 -- a line that moves nothing
 pub none_moved : (script : Script) (option : Option ℕ) (s : Stage) → HasMoved script option (λ before after. after ≡ before) s s
 none_moved script option s p stands = record { after = p; move = refl; stands = stands }
+
+-- of a lose line or a restart line
+abbrev pub MovesNothing : Line → Type 0
+MovesNothing line = ((actor : Actor) × (call : ℕ) × (after : Bool) × (line ≡ Lose actor call after)) ⊎ ((actor : Actor) × (after : ℕ) × (line ≡ Restart actor after))
+
+pub stays : (script : Script) (option : Option ℕ) (place : ℕ) (here : Line) (s : Stage) → slice_get script.lines place ≡ Some here → MovesNothing here → (line : Line) → slice_get script.lines place ≡ Some line → HasMoved script option (IsMove script option line) s s
+stays script option place here s at (inl w) = moves_there script option place (Lose w.0 w.1 w.2) s s (at ∙ ap (λ (l : Line). Some l) w.3) (none_moved script option s)
+stays script option place here s at (inr w) = moves_there script option place (Restart w.0 w.1) s s (at ∙ ap (λ (l : Line). Some l) w.2) (none_moved script option s)
 
 pub some_of : (script : Script) (option : Option ℕ) (place : ℕ) (s : Stage) → SoFar script option place s → SomeStands script option s
 some_of script option place s so = record { progress = so.progress; stands = so.stands }

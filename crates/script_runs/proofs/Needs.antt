@@ -22,11 +22,11 @@ use Rattle.script_parts.specs.Parts.{first_actor_seat, is_named, kind_of, kind_o
 use Rattle.script_runs.specs.declared.player.Player.{Player}
 use Rattle.script_runs.specs.declared.stage.Stage.{Stage}
 use Rattle.script_runs.specs.Replays.{IsTurn}
-use Rattle.script_runs.specs.Steps.Playing.{HasMadeAll, HasMadeFewer, HasTurned, IsLife, Plays, SomePlays}
+use Rattle.script_runs.specs.Steps.Playing.{EachPlayer, HasMadeAll, HasMadeFewer, HasTurned, IsLife, Plays, SomePlays}
 use Rattle.script_runs.specs.Steps.Standing.{HasMoved, MadeAtMost, SomeStands, fourth_seat, part_from, parts_from, parts_in, place_of, seat_of_drains, second_seat, third_seat}
 use Rattle.script_runs.proofs.Casting.{part_of_built}
 use Rattle.script_runs.proofs.Orders.{life_between, part_at_place}
-use Rattle.script_runs.proofs.Staging.{HasPlayed, in_order, player_at, turn_moved}
+use Rattle.script_runs.proofs.Staging.{HasPlayed, in_order, set_cases, turn_moved}
 
 -- ---- the actors that are built
 
@@ -122,20 +122,6 @@ turned_made calls idle before after old new t = by t.made
     by (inl all) = let m = all.made in omega (arith, m)
     by (inr few) = let m = few.made in let f = few.few in omega (arith, m, f)
 
-pub made_on : (script : Script) (option : Option ℕ) (old new : Stage) (place : ℕ) (x after : Player) → HasPlayed old new place x after → SomeStands script option old → (most calls : ℕ) → calls ≤ 1000 → MadeAtMost most old
-    → ((idle : ℕ → List Entry) → Plays x old.world.past idle → HasTurned calls idle old.world.past new.world.past x after) → MadeAtMost (most + 1000) new
-made_on script option old new place x after played some most calls few made turns = λ j y at. by j y (player_at script option old new place x after played some.progress some.stands j y at)
-  where
-    by : (j : ℕ) (y : Player) → (after ≡ y) ⊎ ((j ≢ place) × (slice_get old.players.items j ≡ Some y)) → y.made ≤ most + 1000
-    by j y (inl is) =
-        let t = turned_made calls some.progress.idle old.world.past new.world.past x after (turns some.progress.idle (some.stands.plays place x played.there played.named)) in
-        let m = made place x played.there in
-        subst (λ (z : Player). z.made ≤ most + 1000) is (omega (arith, t, m, few))
-    by j y (inr other) = let m = made j y other.1 in omega (arith, m)
-
-pub made_more : (most : ℕ) (old new : Stage) → new.players ≡ old.players → MadeAtMost most old → MadeAtMost (most + 1000) new
-made_more most old new same made = λ place x at. let m = made place x (ap (λ (xs : _). slice_get xs.items place) (sym same) ∙ at) in omega (arith, m)
-
 -- ---- a turn of an actor that is built
 
 module _ (script : Script) (option : Option ℕ) (actor : Actor) (calls : ℕ) (old new : Stage) (place : ℕ) (x after : Player) (built : is_actor_built actor ≡ true) (named : is_named (actor_word actor) script.lines ≡ true)
@@ -160,5 +146,21 @@ module _ (script : Script) (option : Option ℕ) (actor : Actor) (calls : ℕ) (
   pub turn_made : HasMoved script option (IsTurn (part_of script actor) calls) old new
   turn_made = turn_moved script option calls old new place x after (part_of script actor) (its_part script option actor old built some x at) played turns
 
-  pub made_after : (most : ℕ) → calls ≤ 1000 → MadeAtMost most old → MadeAtMost (most + 1000) new
-  made_after most few made = made_on script option old new place x after played some most calls few made turns
+-- no player has then made more than 1,000 calls more
+pub made_after : (script : Script) (option : Option ℕ) (actor : Actor) (calls most : ℕ) (old : Stage) (past : List Entry) (place : ℕ) (x after : Player) → is_actor_built actor ≡ true → is_named (actor_word actor) script.lines ≡ true
+    → SomeStands script option old → place ≡ place_of actor → x ≡ get_or old.players.items place x → ((idle : ℕ → List Entry) → Plays x old.world.past idle → HasTurned calls idle old.world.past past x after)
+    → calls ≤ 1000 → MadeAtMost most old → EachPlayer (λ y. y.made ≤ most + 1000) (set old.players.items place after)
+made_after script option actor calls most old past place x after built named some is read turns few made =
+    let within = place_within script option actor old built some in
+    λ j y here. by j y (set_cases old.players.items place after j y (omega (arith, within, is)) here)
+  where
+    there : slice_get old.players.items (place_of actor) ≡ Some x
+    there = player_there script option actor old built some place x is read
+
+    by : (j : ℕ) (y : Player) → (after ≡ y) ⊎ ((j ≢ place) × (slice_get old.players.items j ≡ Some y)) → y.made ≤ most + 1000
+    by j y (inl same) =
+        let plays = it_plays script option actor old built some x there named in
+        let t = turned_made calls plays.idle old.world.past past x after (turns plays.idle plays.plays) in
+        let m = made (place_of actor) x there in
+        subst (λ (z : Player). z.made ≤ most + 1000) same (omega (arith, t, m, few))
+    by j y (inr other) = let m = made j y other.1 in omega (arith, m)

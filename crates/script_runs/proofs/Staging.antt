@@ -127,6 +127,14 @@ same_or_not i j = by (i == j) refl
     by true e = inl ((Decides-eqb i j).0 e)
     by false e = inr (λ is. true≢false (sym ((Decides-eqb i j).1 is) ∙ e))
 
+-- a player of a list in which one has been put is that one, or stands at another place
+pub set_cases : (xs : List Player) (place : ℕ) (after : Player) (j : ℕ) (y : Player) → place < length xs → slice_get (set xs place after) j ≡ Some y → (after ≡ y) ⊎ ((j ≢ place) × (slice_get xs j ≡ Some y))
+set_cases xs place after j y within here = by (same_or_not j place)
+  where
+    by : (j ≡ place) ⊎ (j ≢ place) → (after ≡ y) ⊎ ((j ≢ place) × (slice_get xs j ≡ Some y))
+    by (inl is) = inl (some_is after y (sym (get_set_same xs place after within) ∙ ap (slice_get (set xs place after)) (sym is) ∙ here))
+    by (inr differs) = inr (differs, sym (get_set_other xs place j after differs) ∙ here)
+
 not_idle : (seat other : ℕ) (mine : List Entry) (idle : ℕ → List Entry) → other ≢ seat → and_idle seat mine idle other ≡ idle other
 not_idle seat other mine idle differs = by (other == seat) refl
   where
@@ -163,15 +171,8 @@ module _ (script : Script) (option : Option ℕ) (old new : Stage) (place : ℕ)
   not_drains life = let b = (life_between 5 (parts_from script.lines) (seat_of_drains script.lines) place x.part (seat_of_drains script.lines) (in_order script.lines) (part_there place x played.there) life).1 in absurd (omega (arith, b))
 
   -- a player of the new stage is the one that made the calls, or one of the old stage at another place
-  pub player_at : (j : ℕ) (y : Player) → slice_get new.players.items j ≡ Some y → (after ≡ y) ⊎ ((j ≢ place) × (slice_get old.players.items j ≡ Some y))
-  player_at j y at = by (same_or_not j place)
-    where
-      here : slice_get (set old.players.items place after) j ≡ Some y
-      here = ap (λ xs. slice_get xs j) (sym played.players) ∙ at
-
-      by : (j ≡ place) ⊎ (j ≢ place) → (after ≡ y) ⊎ ((j ≢ place) × (slice_get old.players.items j ≡ Some y))
-      by (inl is) = inl (some_is after y (sym (get_set_same old.players.items place after (slice_get_within old.players.items place x played.there)) ∙ ap (slice_get (set old.players.items place after)) (sym is) ∙ here))
-      by (inr differs) = inr (differs, sym (get_set_other old.players.items place j after differs) ∙ here)
+  player_at : (j : ℕ) (y : Player) → slice_get new.players.items j ≡ Some y → (after ≡ y) ⊎ ((j ≢ place) × (slice_get old.players.items j ≡ Some y))
+  player_at j y at = set_cases old.players.items place after j y (slice_get_within old.players.items place x played.there) (ap (λ xs. slice_get xs j) (sym played.players) ∙ at)
 
   stands_on : (count : ℕ) (idle : ℕ → List Entry) → after.made ≡ x.made + count → ((seat : ℕ) → (IsLife x.part seat → ⊥) → own seat new.world.past ≡ own seat old.world.past) → ((seat : ℕ) → (IsLife x.part seat → ⊥) → idle seat ≡ p.idle seat)
       → Plays after new.world.past idle → Stands script option (record p { past = new.world.past; made = and_made x.part.name count p.made; idle = idle }) new

@@ -1,4 +1,4 @@
-use Rattle.std.proofs.Common.{refl, set, arith}
+use Rattle.std.proofs.Common.{refl, arith}
 use Rattle.script_runs.proofs.Needs.{it_plays, its_kind, its_name, its_seats, made_after, place_within, player_there, turn_made}
 use Rattle.script_runs.proofs.stage.Stage.turn.Goals as goal
 
@@ -49,7 +49,5 @@ returns-clause-moved c =
 
 pub returns-clause-made : goal.returns-clause-made
 returns-clause-made c =
-    let s = c.args.self.now in
-    let new = record s { world = c.turn.new.world; players = record s.players { items = set s.players.items c.place_of-place.result c.turn.new.player } } in
-    made_after c.args.script.now c.args.option c.args.actor.now c.args.calls s new c.place_of-place.result c.index_mut.result.now c.turn.new.player c.requires.built c.requires.named c.requires.stands
-    c.place_of-place.ensures c.index_mut.ensures.value refl c.turn.ensures.part c.turn.ensures.setup refl refl refl c.in_ok-turn.ensures.turned c.args.most c.requires.few c.requires.made
+    made_after c.args.script.now c.args.option c.args.actor.now c.args.calls c.args.most c.args.self.now c.turn.new.world.past c.place_of-place.result c.index_mut.result.now c.turn.new.player c.requires.built c.requires.named c.requires.stands
+    c.place_of-place.ensures c.index_mut.ensures.value c.in_ok-turn.ensures.turned c.requires.few c.requires.made
