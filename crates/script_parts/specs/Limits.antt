@@ -1,13 +1,15 @@
 -- The scripts that can be replayed: those that keep the limits of the format, and name actors that are built.
 -- A choice of this project.
-use Rattle.std.specs.Prelude.{ℕ, ◌≡◌, ◌≤◌, ◌<◌, ◌+◌, Bool, true, false, List, [], ◌∷◌, Option, Some, None, length, ⊤, if◌then◌else◌}
+use Rattle.std.specs.Prelude.{ℕ, ◌≡◌, ◌≤◌, ◌<◌, ◌+◌, Bool, true, false, List, [], ◌∷◌, Option, Some, None, Ok, length, ⊤, if◌then◌else◌}
 use Rattle.script_lines.specs.declared.actors.WorkerKind.{WorkerKind}
 use Rattle.script_lines.specs.declared.actors.WorkerKind.TheVariants as workers
 use Rattle.script_lines.specs.declared.actors.Actor.{Actor}
 use Rattle.script_lines.specs.declared.actors.Actor.TheVariants.{Worker, Agent}
 use Rattle.script_text.specs.declared.script.Line.{Line}
 use Rattle.script_text.specs.declared.script.Line.TheVariants.{Call, Lose, Restart, Turn, Drain}
+use Rattle.script_text.specs.declared.script.Numbered.{Numbered}
 use Rattle.script_text.specs.declared.script.Script.{Script}
+use Rattle.script_text.specs.Grammar.{read_numbered_of, script_of}
 
 -- what the reader of scripts gives for every line: users 1 to 4, and turns of at most 1,000 calls
 abbrev pub IsWithinLimits : Line → Type 0
@@ -25,6 +27,14 @@ pub record IsReadable (script : Script) : Type 0 where
   pub lines : AreWithinLimits script.lines
   pub few : length script.lines ≤ 4096
   pub nodes : length script.node_names ≤ 8
+
+-- each script that the reader answers is readable
+abbrev pub ReadsReadable : Type 0
+ReadsReadable = (text : List ℕ) (script : Script) → script_of text ≡ Ok script → IsReadable script
+
+-- also where it answers the numbers of the lines beside it
+abbrev pub ReadsNumberedReadable : Type 0
+ReadsNumberedReadable = (text : List ℕ) (numbered : Numbered) → read_numbered_of text ≡ Ok numbered → IsReadable numbered.script
 
 -- the actors of this kind are built. Each later kind turns its line
 abbrev pub is_kind_built : WorkerKind → Bool
