@@ -50,7 +50,7 @@ settled_replay script past made moves budget settled = record {
 
 -- ---- the empty script
 
-nothing_due : IsSettledSoFar empty_script.setup (world empty_script.setup [])
+pub nothing_due : IsSettledSoFar empty_script.setup (world empty_script.setup [])
 nothing_due key o there = absurd (cc)
 
 settled_at : (past : List Entry) → past ≡ [] → IsSettledSoFar empty_script.setup (world empty_script.setup past)

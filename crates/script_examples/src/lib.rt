@@ -4,6 +4,7 @@
 #![tactic(auto)]
 
 ghost use Rattle.script_examples.specs.Calls.{CallExamples, EndExamples, SeatExamples};
+ghost use Rattle.script_examples.specs.Drains.{DrainExamples, SpentExamples};
 ghost use Rattle.script_examples.specs.Replays.{EmptyExamples, TurnExamples, UserExamples};
 
 /// Which life of an actor makes a call.
@@ -34,4 +35,14 @@ pub fn user_examples()
 /// A turn line.
 pub fn turn_examples()
     ensures { TurnExamples }
+{}
+
+/// The calls of a drain.
+pub fn drain_examples()
+    ensures { DrainExamples }
+{}
+
+/// How a replay ends where its budget is spent.
+pub fn spent_examples()
+    ensures { SpentExamples }
 {}
