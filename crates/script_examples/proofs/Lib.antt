@@ -1,3 +1,4 @@
 mod Counted
 mod Drained
 mod Replayed
+mod Turned

@@ -10,9 +10,11 @@ use Rattle.call_types.specs.declared.request.SeatKind.TheVariants as seats
 use Rattle.world_core.specs.declared.drained.Drained.TheVariants.{Settled, Spent}
 use Rattle.script_text.specs.declared.script.Line.TheVariants as lines
 use Rattle.script_text.specs.declared.script.Script.{Script}
+use Rattle.script_parts.specs.declared.part.Part.{Part}
 use Rattle.script_parts.specs.Examples.{binder_1, script_of}
-use Rattle.script_runs.specs.Replays.{IsReplay}
-use Rattle.script_examples.specs.Calls.{reads, some_key}
+use Rattle.script_parts.specs.Parts.{part_of}
+use Rattle.script_runs.specs.Replays.{IsReplay, IsTurn, Progress, and_idle, and_made, begun}
+use Rattle.script_examples.specs.Calls.{reads, some_key, whole_pass}
 
 abbrev pub empty_script : Script
 empty_script = script_of [] []
@@ -46,3 +48,17 @@ pub record TurnExamples : Type 0 where
   pub not_by_another_seat : IsReplay turn_script None (reads 6 true ∷ []) (Settled 0) → ⊥
   pub not_without_its_answer : IsReplay turn_script None (reads 5 false ∷ []) (Settled 0) → ⊥
   pub it_does_not_end_at_once : IsReplay turn_script None [] (Settled 0) → ⊥
+
+-- turns of up to nine calls, one after the other
+
+abbrev pub plain_part : Part
+plain_part = part_of turn_script binder_1
+
+-- after a turn in which it watched each kind
+abbrev pub after_a_pass : Progress
+after_a_pass = record (begun None) { past = whole_pass; made = and_made plain_part.name 3 (begun None).made; idle = and_idle 5 whole_pass (begun None).idle }
+
+pub record FewerExamples : Type 0 where
+  pub fewer_after_a_whole_pass : IsTurn plain_part 9 (begun None) after_a_pass
+  pub not_where_three_were_asked : IsTurn plain_part 3 (begun None) after_a_pass → ⊥
+  pub the_next_begins_with_a_call : IsTurn plain_part 9 after_a_pass after_a_pass → ⊥

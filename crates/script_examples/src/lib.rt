@@ -5,7 +5,7 @@
 
 ghost use Rattle.script_examples.specs.Calls.{CallExamples, EndExamples, SeatExamples};
 ghost use Rattle.script_examples.specs.Drains.{DrainExamples, SpentExamples};
-ghost use Rattle.script_examples.specs.Replays.{EmptyExamples, TurnExamples, UserExamples};
+ghost use Rattle.script_examples.specs.Replays.{EmptyExamples, FewerExamples, TurnExamples, UserExamples};
 
 /// Which life of an actor makes a call.
 pub fn seat_examples()
@@ -35,6 +35,11 @@ pub fn user_examples()
 /// A turn line.
 pub fn turn_examples()
     ensures { TurnExamples }
+{}
+
+/// A turn of fewer calls than its line says, and the one after it.
+pub fn fewer_examples()
+    ensures { FewerExamples }
 {}
 
 /// The calls of a drain.
