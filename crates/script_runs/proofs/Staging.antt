@@ -1,6 +1,6 @@
 -- What the moves of a script leave standing.
-use Rattle.std.proofs.Common.{◌≡◌, ◌≢◌, ◌⊎◌, ℕ, ◌<◌, ◌≤◌, ◌+◌, ◌-◌, zero, suc, List, [], ◌∷◌, ◌++◌, length, map, set, Bool, true, false, true≢false, Option, Some, None, inl, inr, refl, sym, ◌∙◌, ap, subst, arith}
-use Rattle.std.specs.Prelude.{◌==◌, bytes_eq, slice_get, ⊤}
+use Rattle.std.proofs.Common.{◌≡◌, ◌≢◌, ◌⊎◌, ℕ, ◌<◌, ◌≤◌, ◌+◌, ◌-◌, zero, suc, List, [], ◌∷◌, length, map, set, Bool, true, false, true≢false, Option, Some, inl, inr, refl, sym, ◌∙◌, ap, subst, arith}
+use Rattle.std.specs.Prelude.{◌==◌, bytes_eq, slice_get}
 use Rattle.std.proofs.lemmas.Bool.Decides.{Decides-eqb}
 use Rattle.std.proofs.lemmas.Slice.Eq.{bytes_eq-Decides}
 use Rattle.std.proofs.lemmas.Option.{slice_get_within}
@@ -24,9 +24,9 @@ use Rattle.script_runs.specs.Calls.{AreCalls, seat_at}
 use Rattle.binder_model.specs.World.{world}
 use Rattle.settle_check.specs.SoFar.{IsSettledSoFar}
 use Rattle.script_parts.specs.Budget.{raised}
-use Rattle.script_parts.specs.Parts.{drain_seat, drain_seats, lives_of}
+use Rattle.script_parts.specs.Parts.{drain_seat, drain_seats}
 use Rattle.script_runs.specs.Replays.{IsDrain, IsTurn, IsUserCall, Progress, and_idle, and_made}
-use Rattle.script_runs.specs.Steps.Playing.{EachPlayer, HasMadeAll, HasMadeFewer, HasTurned, IsLife, Plays, StandsSince}
+use Rattle.script_runs.specs.Steps.Playing.{HasMadeAll, HasMadeFewer, HasTurned, IsLife, Plays, StandsSince}
 use Rattle.script_runs.specs.Steps.Standing.{HasMoved, IsBudget, Leads, Stands, parts_from, parts_in, seat_of_drains}
 use Rattle.script_runs.proofs.Lives.{seat_within}
 use Rattle.script_runs.proofs.Orders.{AllDiffer, AreInOrder, get_set_other, get_set_same, life_between, one_owner, other_name, part_at_place, parts_set}
