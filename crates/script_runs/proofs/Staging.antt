@@ -117,9 +117,6 @@ module _ (script : Script) (option : Option ℕ) (user : ℕ) (request : Request
 
 -- ---- an actor's turn
 
-some_is : {X : Type 0} (a b : X) → Some a ≡ Some b → a ≡ b
-some_is a b e = one a b e
-
 same_or_not : (i j : ℕ) → (i ≡ j) ⊎ (i ≢ j)
 same_or_not i j = by (i == j) refl
   where
@@ -132,7 +129,7 @@ pub set_cases : (xs : List Player) (place : ℕ) (after : Player) (j : ℕ) (y :
 set_cases xs place after j y within here = by (same_or_not j place)
   where
     by : (j ≡ place) ⊎ (j ≢ place) → (after ≡ y) ⊎ ((j ≢ place) × (slice_get xs j ≡ Some y))
-    by (inl is) = inl (some_is after y (sym (get_set_same xs place after within) ∙ ap (slice_get (set xs place after)) (sym is) ∙ here))
+    by (inl is) = inl (one after y (sym (get_set_same xs place after within) ∙ ap (slice_get (set xs place after)) (sym is) ∙ here))
     by (inr differs) = inr (differs, sym (get_set_other xs place j after differs) ∙ here)
 
 not_idle : (seat other : ℕ) (mine : List Entry) (idle : ℕ → List Entry) → other ≢ seat → and_idle seat mine idle other ≡ idle other
