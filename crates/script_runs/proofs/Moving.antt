@@ -1,5 +1,5 @@
 -- The moves of the lines, by what the stage makes of each; and a line of a place.
-use Rattle.std.proofs.Common.{◌≡◌, ◌≢◌, ◌⊎◌, ℕ, ◌<◌, ◌≤◌, ◌+◌, ◌-◌, List, [], ◌∷◌, length, get_or, Bool, true, false, Option, Some, None, Result, Ok, Err, inl, inr, refl, sym, ◌∙◌, ap, subst, arith}
+use Rattle.std.proofs.Common.{◌≡◌, ◌⊎◌, ℕ, ◌<◌, ◌≤◌, List, length, get_or, Bool, Option, Some, None, inl, inr, refl, sym, ◌∙◌, ap, subst, arith}
 use Rattle.std.specs.Prelude.{slice_get}
 use Rattle.std.proofs.lemmas.Option.{slice_get-get_or, slice_get_read}
 use Rattle.call_types.specs.declared.entry.Entry.{Entry}
@@ -11,8 +11,8 @@ use Rattle.script_text.specs.declared.script.Line.TheVariants.{Drain, Lose, Rest
 use Rattle.script_text.specs.declared.script.Script.{Script}
 use Rattle.script_parts.specs.Budget.{most_budget, raised}
 use Rattle.script_runs.specs.declared.stage.Stage.{Stage}
-use Rattle.script_runs.specs.Replays.{IsMove, Progress}
-use Rattle.script_runs.specs.Steps.Standing.{HasMoved, IsBudget, Leads, SoFar, SomeStands, Stands}
+use Rattle.script_runs.specs.Replays.{IsMove}
+use Rattle.script_runs.specs.Steps.Standing.{HasMoved, IsBudget, SoFar, SomeStands}
 
 -- ---- the line of a place
 

@@ -1,11 +1,10 @@
 -- Lists of parts in the order of their seats, with names of their own; and lists of players of which one has moved.
-use Rattle.std.proofs.Common.{◌≡◌, ◌≢◌, ℕ, ◌<◌, ◌≤◌, ◌+◌, zero, suc, List, [], ◌∷◌, length, map, set, Bool, true, false, Option, Some, None, refl, sym, ◌∙◌, ap, subst, arith}
+use Rattle.std.proofs.Common.{◌≡◌, ◌≢◌, ℕ, ◌<◌, ◌≤◌, ◌+◌, zero, suc, List, [], ◌∷◌, length, set, false, Some, refl, sym, ◌∙◌, ap, subst, arith}
 use Rattle.std.specs.Prelude.{bytes_eq, slice_get, ⊤}
-use Rattle.std.proofs.lemmas.Option.{slice_get_within}
 use Rattle.model_laws.proofs.Lists.{none_some, one}
 use Rattle.script_parts.specs.declared.part.Part.{Part}
 use Rattle.script_runs.specs.declared.player.Player.{Player}
-use Rattle.script_runs.specs.Steps.Playing.{EachPlayer, IsLife}
+use Rattle.script_runs.specs.Steps.Playing.{IsLife}
 use Rattle.script_parts.specs.Parts.{lives_of}
 use Rattle.script_runs.specs.Steps.Standing.{parts_in}
 

@@ -1,6 +1,6 @@
 -- What an actor's pass stands for after some of its entries: turns, answers, lost calls and wakes keep it, and where the
 -- actor is idle there is no news since.
-use Rattle.std.proofs.Common.{◌≡◌, ℕ, ◌<◌, ◌≤◌, ◌++◌, List, [], ◌∷◌, Bool, true, false, true≢false, Option, Some, None, inl, inr, refl, sym, ◌∙◌, ap, subst, arith}
+use Rattle.std.proofs.Common.{◌≡◌, ℕ, ◌≤◌, ◌++◌, List, [], ◌∷◌, Bool, true, false, true≢false, Option, Some, None, inl, inr, refl, sym, ◌∙◌, ap, subst, arith}
 use Rattle.std.specs.Prelude.{slice_get, ◌&&◌, option_map}
 use Rattle.kube_types.specs.declared.parts.Kind.{Kind}
 use Rattle.kube_types.specs.declared.parts.Kind.TheVariants as kinds
@@ -101,10 +101,10 @@ module _ (s : State) (earlier recent : List Entry) (e : Entry) (request : Reques
       read k asks.List at r =
           let from = (stands.caches.each k).from ∙ ap (λ x. watch_from (following_of (recent ++ earlier) x)) (stands.caches.kinds k) in
           subst (λ q. PassStands s.role (pass_after s.pass (is_passing (passing s) k) q reply) (e ∷ recent)) r
-              (list_recent s.role s.pass recent earlier e k pass (subst (λ x. AreLicensed x (recent ++ earlier)) binder stands.licensed) (list_unlisted (following_of (recent ++ earlier) k) (sym (ap ask_from from) ∙ at)) (is.asked ∙ sym r))
+          (list_recent s.role s.pass recent earlier e k pass (subst (λ x. AreLicensed x (recent ++ earlier)) binder stands.licensed) (list_unlisted (following_of (recent ++ earlier) k) (sym (ap ask_from from) ∙ at)) (is.asked ∙ sym r))
       read k (asks.Watch from) at r =
           subst (λ q. PassStands s.role (pass_after s.pass (is_passing (passing s) k) q reply) (e ∷ recent)) r
-              (watch_pass s.role s.pass recent e pass k from is.told (is.asked ∙ sym r) reply is.answered)
+          (watch_pass s.role s.pass recent e pass k from is.told (is.asked ∙ sym r) reply is.answered)
 
       by : (g : Option Given) → GivenStands s.role g s.under → s.given ≡ g → Passes (e ∷ recent) (given_told (learned s caches request reply) request reply g)
       by None f eg = none_some (ap (given_call s) (sym eg) ∙ ask)

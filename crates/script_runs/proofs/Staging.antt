@@ -1,6 +1,6 @@
 -- What the moves of a script leave standing.
-use Rattle.std.proofs.Common.{◌≡◌, ◌≢◌, ◌⊎◌, ℕ, ◌<◌, ◌≤◌, ◌+◌, ◌-◌, zero, suc, List, [], ◌∷◌, ◌++◌, length, map, set, Bool, true, false, true≢false, Option, Some, None, inl, inr, refl, sym, ◌∙◌, ap, subst, arith}
-use Rattle.std.specs.Prelude.{◌==◌, bytes_eq, slice_get, ⊤}
+use Rattle.std.proofs.Common.{◌≡◌, ◌≢◌, ◌⊎◌, ℕ, ◌<◌, ◌≤◌, ◌+◌, ◌-◌, zero, suc, List, [], ◌∷◌, length, map, set, Bool, true, false, true≢false, Option, Some, inl, inr, refl, sym, ◌∙◌, ap, subst, arith}
+use Rattle.std.specs.Prelude.{◌==◌, bytes_eq, slice_get}
 use Rattle.std.proofs.lemmas.Bool.Decides.{Decides-eqb}
 use Rattle.std.proofs.lemmas.Slice.Eq.{bytes_eq-Decides}
 use Rattle.std.proofs.lemmas.Option.{slice_get_within}
@@ -24,9 +24,9 @@ use Rattle.script_runs.specs.Calls.{AreCalls, seat_at}
 use Rattle.binder_model.specs.World.{world}
 use Rattle.settle_check.specs.SoFar.{IsSettledSoFar}
 use Rattle.script_parts.specs.Budget.{raised}
-use Rattle.script_parts.specs.Parts.{drain_seat, drain_seats, lives_of}
+use Rattle.script_parts.specs.Parts.{drain_seat, drain_seats}
 use Rattle.script_runs.specs.Replays.{IsDrain, IsTurn, IsUserCall, Progress, and_idle, and_made}
-use Rattle.script_runs.specs.Steps.Playing.{EachPlayer, HasMadeAll, HasMadeFewer, HasTurned, IsLife, Plays, StandsSince}
+use Rattle.script_runs.specs.Steps.Playing.{HasMadeAll, HasMadeFewer, HasTurned, IsLife, Plays, StandsSince}
 use Rattle.script_runs.specs.Steps.Standing.{HasMoved, IsBudget, Leads, Stands, parts_from, parts_in, seat_of_drains}
 use Rattle.script_runs.proofs.Lives.{seat_within}
 use Rattle.script_runs.proofs.Orders.{AllDiffer, AreInOrder, get_set_other, get_set_same, life_between, one_owner, other_name, part_at_place, parts_set}
@@ -117,9 +117,6 @@ module _ (script : Script) (option : Option ℕ) (user : ℕ) (request : Request
 
 -- ---- an actor's turn
 
-some_is : {X : Type 0} (a b : X) → Some a ≡ Some b → a ≡ b
-some_is a b e = one a b e
-
 same_or_not : (i j : ℕ) → (i ≡ j) ⊎ (i ≢ j)
 same_or_not i j = by (i == j) refl
   where
@@ -132,7 +129,7 @@ pub set_cases : (xs : List Player) (place : ℕ) (after : Player) (j : ℕ) (y :
 set_cases xs place after j y within here = by (same_or_not j place)
   where
     by : (j ≡ place) ⊎ (j ≢ place) → (after ≡ y) ⊎ ((j ≢ place) × (slice_get xs j ≡ Some y))
-    by (inl is) = inl (some_is after y (sym (get_set_same xs place after within) ∙ ap (slice_get (set xs place after)) (sym is) ∙ here))
+    by (inl is) = inl (one after y (sym (get_set_same xs place after within) ∙ ap (slice_get (set xs place after)) (sym is) ∙ here))
     by (inr differs) = inr (differs, sym (get_set_other xs place j after differs) ∙ here)
 
 not_idle : (seat other : ℕ) (mine : List Entry) (idle : ℕ → List Entry) → other ≢ seat → and_idle seat mine idle other ≡ idle other

@@ -1,5 +1,5 @@
 -- Steps of an actor over its lives.
-use Rattle.std.proofs.Common.{◌≡◌, ◌≢◌, ℕ, ◌<◌, ◌≤◌, ◌+◌, List, [], ◌∷◌, Bool, true, false, refl, sym, ◌∙◌, ap, subst, arith, if◌then◌else◌}
+use Rattle.std.proofs.Common.{◌≡◌, ◌≢◌, ℕ, ◌<◌, ◌≤◌, ◌+◌, List, [], Bool, true, false, refl, sym, ◌∙◌, ap, subst, arith}
 use Rattle.std.specs.Prelude.{nat_lt}
 use Rattle.std.proofs.lemmas.Bool.Decides.{nat_tests}
 use Rattle.call_types.specs.declared.entry.Entry.{Entry}
@@ -7,13 +7,12 @@ use Rattle.call_types.specs.declared.request.SeatKind.{SeatKind}
 use Rattle.call_types.specs.declared.request.SeatKind.TheVariants as seats
 use Rattle.binder_model.specs.Told.{own}
 use Rattle.world_core.specs.Kept.{History}
-use Rattle.worker_core.specs.declared.role.Role.{Role}
 use Rattle.worker_core.specs.declared.turn.Next.{Next}
 use Rattle.worker_core.specs.declared.turn.Next.TheVariants as nexts
-use Rattle.worker_core.specs.Memories.{Memory, memory_after, memory_of, no_memory, remembers}
 use Rattle.worker_core.specs.Stands.{StandsFor}
 use Rattle.worker_core.specs.States.{State}
 use Rattle.worker_core.specs.Turns.{IsTurn}
+use Rattle.worker_threads.proofs.RunFacts.{binder_fresh}
 use Rattle.script_parts.specs.declared.loss.Fate.{Fate}
 use Rattle.script_parts.specs.declared.part.Part.{Part}
 use Rattle.script_runs.specs.declared.player.Player.{Player}
@@ -47,18 +46,6 @@ next_life old new past idle named part made seat other stands plays =
     }
 
 -- ---- a step
-
--- a binder is never told that its epoch is stale
-binder_forgets : (role : Role) → role.kind ≡ seats.Binder → (mine : List Entry) → memory_of role mine ≡ no_memory
-binder_forgets role binder [] = refl
-binder_forgets role binder (e ∷ mine) = by e.told (binder_forgets role binder mine)
-  where
-    by : (told : Bool) → memory_of role mine ≡ no_memory → (if told then memory_after role e.request e.reply (memory_of role mine) else memory_of role mine) ≡ no_memory
-    by true rest = ap (λ kind. remembers kind role.node e.request e.reply (memory_of role mine)) binder ∙ rest
-    by false rest = rest
-
-binder_fresh : (s : State) (mine : List Entry) → s.role.kind ≡ seats.Binder → StandsFor s mine → s.memory.stale ≡ false
-binder_fresh s mine binder stands = ap (λ (m : Memory). m.stale) (stands.memory ∙ binder_forgets s.role binder mine)
 
 -- the actor of a life that makes the next call of its part
 pub record IsReady (old mid : Player) : Type 0 where

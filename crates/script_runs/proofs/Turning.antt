@@ -1,7 +1,7 @@
 -- Turns of an actor: many steps, and how they end.
-use Rattle.std.proofs.Common.{◌≡◌, ℕ, ◌<◌, ◌≤◌, ◌+◌, List, [], ◌∷◌, true, inl, inr, refl, sym, ◌∙◌, ap, subst, arith, Bool, false}
+use Rattle.std.proofs.Common.{◌≡◌, ℕ, ◌<◌, ◌≤◌, ◌+◌, List, true, inl, inr, refl, sym, ◌∙◌, ap, subst, arith, Bool, false}
 use Rattle.std.specs.Prelude.{◌==◌}
-use Rattle.std.proofs.lemmas.Bool.Decides.{Decides-eqb, nat_tests}
+use Rattle.std.proofs.lemmas.Bool.Decides.{Decides-eqb}
 use Rattle.call_types.specs.declared.entry.Entry.{Entry}
 use Rattle.binder_model.specs.Told.{own}
 use Rattle.worker_core.specs.Stands.{StandsFor}
@@ -9,10 +9,8 @@ use Rattle.script_parts.specs.declared.part.Part.{Part}
 use Rattle.script_runs.specs.declared.player.Player.{Player}
 use Rattle.script_runs.specs.Calls.{AreCalls, IsCall, IsQuietSince, MoreCalls, NoCalls, seat_at}
 use Rattle.script_runs.specs.Replays.{and_idle}
-use Rattle.script_runs.specs.Steps.Playing.{HasGone, HasMade, HasMadeAll, HasMadeFewer, HasTurned, IsStill, KeepsOthers, Plays, StandsSince}
+use Rattle.script_runs.specs.Steps.Playing.{HasGone, HasMade, HasTurned, IsStill, Plays, StandsSince}
 use Rattle.script_parts.specs.Parts.{lives_of}
-use Rattle.script_runs.proofs.Since.{woken_since}
-use Rattle.script_runs.proofs.Stepping.{HasTaken}
 
 -- no call has been made yet
 pub not_gone : (idle : ℕ → List Entry) (past : List Entry) (x : Player) → Plays x past idle → HasGone 0 idle past past x x

@@ -4,18 +4,17 @@ ghost use Rattle.std.specs.Prelude.{◌≡◌, Some, OnOk};
 ghost use Rattle.binder_model.specs.Licence.{Licensed};
 ghost use Rattle.binder_model.specs.Told.{own};
 ghost use Rattle.binder_model.specs.World.{IsHistory};
-ghost use Rattle.worker_core.specs.Stands.{StandsFor};
 ghost use Rattle.worker_core.specs.States.{asked};
 ghost use Rattle.script_parts.specs.declared.loss.Fate.TheVariants.{Told, LostAfter, LostBefore};
 ghost use Rattle.script_runs.specs.Calls.{IsCallWith};
 ghost use Rattle.script_runs.specs.Steps.Playing.{HasCalled};
 
-use script_parts::loss::Fate;
 use call_types::request::{Request, SeatKind};
 use kube_types::copies::OutOfMemory;
-use world_core::kept::KeptWorld;
+use script_parts::loss::Fate;
 use worker_core::actor::Actor;
 use worker_core::turn::Outcome;
+use world_core::kept::KeptWorld;
 
 /// The entries of the world are a history. It does nothing: its contract is what callers know of the world.
 fn have_history(world: &KeptWorld)

@@ -7,12 +7,12 @@ ghost use Rattle.script_runs.specs.Calls.{restarts_before, seat_at};
 ghost use Rattle.script_runs.specs.Steps.Playing.{HasStepped, HasTurned, IsSmall, Plays, SomePlays};
 
 use crate::call::make;
-use script_parts::part::Part;
-use script_parts::loss::fate_of;
 use kube_types::copies::OutOfMemory;
-use world_core::kept::KeptWorld;
+use script_parts::loss::fate_of;
+use script_parts::part::Part;
 use worker_core::actor::Actor;
 use worker_core::turn::Next;
+use world_core::kept::KeptWorld;
 
 /// An actor with its part: the seat of its life, and how many calls it has made, lost ones too. After a turn in which it was
 /// idle it is woken at once, as no other call changes it before its next turn.

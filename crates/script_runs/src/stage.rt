@@ -12,20 +12,20 @@ ghost use Rattle.script_runs.specs.Replays.{IsDrain, IsMove, IsTurn, IsUserCall,
 ghost use Rattle.script_runs.specs.Steps.Playing.{EachPlayer, IsNewPlayer};
 ghost use Rattle.script_runs.specs.Steps.Standing.{Ended, HasMoved, MadeAtMost, SomeStands, Stands, binder, parts_from, parts_in, place_of, seat_of_drains, with_made};
 
-use script_parts::budget::raised;
-use script_parts::parts::{part_from, seat_after};
 use crate::player::{Player, turn};
 use call_types::request::{Request, SeatKind};
 use kube_types::copies::{OutOfMemory, Plain};
 use kube_types::text::Text;
 use script_lines::actors::{Actor, Worker, WorkerKind, WorkerNumber};
+use script_parts::budget::raised;
+use script_parts::parts::{part_from, seat_after};
 use script_text::script::{Line, Script};
 use std::alloc::Global;
-use world_core::drained::Drained;
-use world_core::kept::KeptWorld;
 use worker_core::actor::Actor as WorkingActor;
 use worker_threads::drain::drain;
 use worker_threads::drainers::Drainers;
+use world_core::drained::Drained;
+use world_core::kept::KeptWorld;
 
 /// Room for the entries that a script within its limits makes where no greater budget is given.
 const MOST_ENTRIES: usize = 165216;

@@ -1,6 +1,5 @@
 -- What stands for how far a replay has come: a world, the actors, and the numbers of the drains. A choice of this project.
-use Rattle.std.specs.Prelude.{ℕ, ◌≡◌, ◌≤◌, ◌+◌, ◌*◌, true, List, [], ◌∷◌, Option, Some, None, drop, map, slice_get}
-use Rattle.call_types.specs.declared.entry.Entry.{Entry}
+use Rattle.std.specs.Prelude.{ℕ, ◌≡◌, ◌≤◌, ◌+◌, true, List, [], ◌∷◌, Option, Some, None, drop, map}
 use Rattle.worker_threads.specs.Drainers.{AreStanding, seats_of}
 use Rattle.worker_threads.specs.Longer.{IsOneOf}
 use Rattle.world_core.specs.declared.drained.Drained.{Drained}
@@ -19,9 +18,8 @@ use Rattle.script_parts.specs.Budget.{most_budget}
 use Rattle.script_parts.specs.Parts.{first_actor_seat, lives_of, part_at}
 use Rattle.script_lines.specs.Actors.{actor_word}
 use Rattle.call_types.specs.declared.request.SeatKind.TheVariants as seats
-use Rattle.script_runs.specs.Replays.{AreMoves, EndsAs, IsDrain, IsMove, IsTurn, IsUserCall, Progress, begun}
+use Rattle.script_runs.specs.Replays.{AreMoves, EndsAs, IsDrain, Progress, begun}
 use Rattle.script_runs.specs.Steps.Playing.{EachPlayer, Plays}
-use Rattle.call_types.specs.declared.request.Request.{Request}
 
 -- the place of a binder among the four
 abbrev pub place_of_number : WorkerNumber → ℕ

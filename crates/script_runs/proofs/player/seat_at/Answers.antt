@@ -1,4 +1,4 @@
-use Rattle.std.proofs.Common.{◌≡◌, ap, subst, arith, List, ℕ, ◌∙◌}
+use Rattle.std.proofs.Common.{ap, arith, ◌∙◌}
 use Rattle.script_runs.specs.Calls.{restarts_before}
 use Rattle.script_runs.proofs.Lives.{restarts_few}
 use Rattle.script_runs.proofs.player.seat_at.Goals as goal

@@ -1,4 +1,4 @@
-use Rattle.std.proofs.Common.{◌≡◌, ◌+◌, ◌∙◌, ap, refl, subst, sym, List, ℕ}
+use Rattle.std.proofs.Common.{◌≡◌, ◌+◌, ◌∙◌, ap, refl, subst, sym, List}
 use Rattle.call_types.specs.declared.request.SeatKind.{SeatKind}
 use Rattle.binder_model.specs.Licence.{Licensed}
 use Rattle.binder_model.specs.Told.{own}

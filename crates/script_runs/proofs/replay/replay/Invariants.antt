@@ -1,4 +1,4 @@
-use Rattle.std.proofs.Common.{◌≡◌, ◌*◌}
+use Rattle.std.proofs.Common.{◌*◌}
 use Rattle.script_runs.specs.Steps.Standing.{MadeAtMost, SoFar, SomeStands}
 use Rattle.script_runs.proofs.replay.replay.Given as goal
 
