@@ -23,8 +23,9 @@ use Rattle.worker_core.specs.Absorbs.{absorbed, given_told, learned, task_told}
 use Rattle.worker_core.specs.Memories.{Memory, memory_after, memory_of, no_memory, remembers}
 use Rattle.worker_core.specs.Rules.{WokenIsBusy}
 use Rattle.worker_core.specs.Stands.{AreOwn, MayBeIdle, StandsFor}
-use Rattle.worker_core.specs.States.{State, start_call}
+use Rattle.worker_core.specs.States.{State, asked, start_call}
 use Rattle.worker_core.specs.Turns.{AfterKeys, IsTurn, TurnBy, passing, unlisted}
+use Rattle.fitting_calls.specs.Calls.{AreByActors, IsByActor}
 use Rattle.worker_threads.specs.declared.run.Ran.{Ran}
 use Rattle.worker_threads.specs.Longer.{IsLonger}
 use Rattle.worker_threads.specs.Rounds.{Asks, IsIdle, IsSpent, Runs, told_entry}
@@ -112,10 +113,13 @@ told_role s caches request reply = by s.given
     by (Some givens.Start) = refl
     by (Some (givens.Read kind)) = refl
 
+pub turn_kind : (kind : SeatKind) (s given : State) (answer : Next) → kind ≡ s.role.kind → IsTurn s given answer → kind ≡ given.role.kind
+turn_kind kind s given answer is turn = is ∙ ap (λ (r : Role). r.kind) (sym (turn_role s given answer turn))
+
 pub still_kind : (kind : SeatKind) (s given after : State) (answer : Next) (request : Request) (reply : Reply) → kind ≡ s.role.kind → IsTurn s given answer → after ≡ absorbed given after.caches request (Told reply) → (kind ≡ given.role.kind) × (kind ≡ after.role.kind)
 still_kind kind s given after answer request reply is turn state =
-    let asked : kind ≡ given.role.kind = is ∙ ap (λ (r : Role). r.kind) (sym (turn_role s given answer turn)) in
-    (asked, asked ∙ ap (λ (r : Role). r.kind) (sym (told_role given after.caches request reply)) ∙ ap (λ (t : State). t.role.kind) (sym state))
+    let asks = turn_kind kind s given answer is turn in
+    (asks, asks ∙ ap (λ (r : Role). r.kind) (sym (told_role given after.caches request reply)) ∙ ap (λ (t : State). t.role.kind) (sym state))
 
 -- the entry that was made is the actor's
 pub entry_told : (seat : ℕ) (kind : SeatKind) (given : State) (request : Request) (reply : Reply) (h past : List Entry) → kind ≡ given.role.kind
@@ -149,3 +153,10 @@ pub ran_busy : {E : Type 0} (seat : ℕ) (after s : State) (past h : List Entry)
     → WokenIsBusy s → s.memory.stale ≡ false → IfOk r (λ (ran : Ran). 0 < b → ran.left < b)
 ran_busy seat after s past h b (Ok ran) runs busy fresh = run_busy seat after past ran.left ran.idle s h b runs busy fresh
 ran_busy seat after s past h b (Err e) runs busy fresh = tt
+
+-- a call that a binder gave is one more of an actor
+pub by_actor : (given : State) (h past : List Entry) (e : Entry) → past ≡ e ∷ h → given.role.kind ≡ seats.Binder → e.kind ≡ given.role.kind → StandsFor given (own e.seat h) → asked given ≡ Some e.request → AreByActors h → AreByActors past
+by_actor given h past e is binder kind stands asks before = subst AreByActors (sym is) (before, by e.kind (kind ∙ binder))
+  where
+    by : (k : SeatKind) → k ≡ seats.Binder → IsByActor k (own e.seat h) e.request
+    by k same = subst (λ (x : SeatKind). IsByActor x (own e.seat h) e.request) (sym same) (record { actor = given; binder = binder; stands = stands; asks = asks })

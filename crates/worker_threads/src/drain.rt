@@ -3,6 +3,7 @@
 ghost use Rattle.std.specs.Prelude.{◌≡◌, ◌≤◌, ◌<◌, ◌-◌, ℕ, List, IfOk, OnOk, OnErr, Some};
 ghost use Rattle.binder_model.specs.Told.{own};
 ghost use Rattle.settle_check.specs.SoFar.{IsSettledSoFar, world_of};
+ghost use Rattle.fitting_calls.specs.Calls.{AreByActors};
 ghost use Rattle.worker_threads.specs.Drainers.{AreStanding, seats_of};
 ghost use Rattle.worker_threads.specs.Longer.{HasGrown, IsLonger, IsOneOf};
 ghost use Rattle.worker_threads.specs.Rounds.{Drains, EndsHere, EndsWith, made_of};
@@ -33,6 +34,7 @@ pub fn drain(
     ensures few { IfOk result (λ d. made_of d ≤ budget) }
     ensures none { OnOk result (IsSettledSoFar world.old.setup (world_of world.old) → world.new.past ≡ world.old.past) }
     ensures err { OnErr result (HasGrown (seats_of drainers.old) world.old.past world.new.past) }
+    ensures actors { AreByActors world.old.past → AreByActors world.new.past }
     ensures setup { world.new.setup ≡ world.old.setup }
     ensures seats { seats_of drainers.new ≡ seats_of drainers.old }
 {

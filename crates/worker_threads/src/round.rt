@@ -4,6 +4,7 @@ ghost use Rattle.std.specs.Prelude.{◌≡◌, ◌≢◌, ◌≤◌, ◌<◌, �
 ghost use Rattle.call_types.specs.declared.entry.Entry.{Entry};
 ghost use Rattle.binder_model.specs.Told.{own};
 ghost use Rattle.worker_core.specs.Absorbs.{woken};
+ghost use Rattle.fitting_calls.specs.Calls.{AreByActors};
 ghost use Rattle.worker_threads.specs.Drainers.{AreIdle, AreSeats, AreStanding, IsIdleNow, IsStanding, seats_of};
 ghost use Rattle.worker_threads.specs.Longer.{HasGrown, IsLonger, IsOneOf};
 ghost use Rattle.worker_threads.specs.Rounds.{IsRound, Runs};
@@ -38,6 +39,7 @@ pub fn round(
     ensures idle { IfOk result (λ r. r.whole ≡ true → AreIdle drainers.new world.new.past) }
     ensures part { IfOk result (λ r. r.whole ≡ false → r.made ≡ budget) }
     ensures err { OnErr result (HasGrown (seats_of drainers.old) world.old.past world.new.past) }
+    ensures actors { AreByActors world.old.past → AreByActors world.new.past }
     ensures setup { world.new.setup ≡ world.old.setup }
     ensures seats { seats_of drainers.new ≡ seats_of drainers.old }
 {
@@ -61,6 +63,7 @@ fn turns(
     ensures idle { IfOk result (λ ran. ran.idle ≡ true → AreIdle drainers.new.items world.new.past) }
     ensures some { IfOk result (λ ran. 0 < budget → ran.left < budget) }
     ensures grown { HasGrown (seats_of drainers.old.items) world.old.past world.new.past }
+    ensures actors { AreByActors world.old.past → AreByActors world.new.past }
     ensures setup { world.new.setup ≡ world.old.setup }
     ensures seats { seats_of drainers.new.items ≡ seats_of drainers.old.items }
 {
@@ -82,6 +85,7 @@ fn turn(world: &mut KeptWorld, drainer: &mut Drainer, budget: u64) -> Result<Ran
     ensures idle { IfOk result (λ ran. ran.idle ≡ true → IsIdleNow drainer.new world.new.past) }
     ensures some { IfOk result (λ ran. 0 < budget → ran.left < budget) }
     ensures grown { HasGrown (drainer.old.seat ∷ []) world.old.past world.new.past }
+    ensures actors { AreByActors world.old.past → AreByActors world.new.past }
     ensures setup { world.new.setup ≡ world.old.setup }
     ensures seat { drainer.new.seat ≡ drainer.old.seat }
 {

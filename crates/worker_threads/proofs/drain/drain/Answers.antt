@@ -61,4 +61,5 @@ rounds-preserved c =
       setup = r.setup ∙ i.setup;
       grown = grown_then (seats_of c.args.drainers.now) c.args.world.now.past c.rounds.world.past c.round.new.world.past i.grown
           (record { made = made; longer = subst (λ (seats : List ℕ). IsLonger seats made c.rounds.world.past c.round.new.world.past) i.seats r.entries });
+      actors = λ before. c.round.ensures.actors (i.actors before);
     }

@@ -1,4 +1,5 @@
 use Rattle.std.proofs.Common.{◌≡◌, ◌≤◌, ℕ, List}
+use Rattle.fitting_calls.specs.Calls.{AreByActors}
 use Rattle.call_types.specs.declared.entry.Entry.{Entry}
 use Rattle.worker_threads.specs.declared.drainers.Drainer.{Drainer}
 use Rattle.worker_threads.specs.Drainers.{AreStanding, seats_of}
@@ -14,6 +15,7 @@ invariant-rounds l = record {
   seats : seats_of l.drainers ≡ seats_of l.initial.drainers;
   setup : l.world.setup ≡ l.initial.world.setup;
   grown : HasGrown (seats_of l.initial.drainers) l.initial.world.past l.world.past;
+  actors : AreByActors l.initial.world.past → AreByActors l.world.past;
 }
 
 abbrev pub decreases-rounds : goal.decreases-rounds

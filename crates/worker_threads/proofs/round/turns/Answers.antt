@@ -21,6 +21,7 @@ loop-place-init c = record {
   seats = refl;
   setup = refl;
   grown = not_grown (seats_of c.args.drainers.now.items) c.args.world.now.past c.args.world.now.past refl;
+  actors = λ before. before;
 }
 
 pub turn-requires : goal.turn-requires
@@ -79,6 +80,7 @@ loop-place-preserved c =
       seats = seats_set items place d ran at r.seat ∙ i.seats;
       setup = r.setup ∙ i.setup;
       grown = grown_then (seats_of c.args.drainers.now.items) c.args.world.now.past h new i.grown (subst (λ (seats : List ℕ). HasGrown seats h new) i.seats wide);
+      actors = λ before. c.turn.ensures.actors (i.actors before);
     }
 
 pub returns-clause-round : goal.returns-clause-round

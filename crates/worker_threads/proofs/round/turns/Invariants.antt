@@ -1,4 +1,5 @@
 use Rattle.std.proofs.Common.{◌≡◌, ◌≤◌, ◌<◌, ℕ, List, ◌++◌, Bool, true, ◌&&◌, take, drop, length}
+use Rattle.fitting_calls.specs.Calls.{AreByActors}
 use Rattle.call_types.specs.declared.entry.Entry.{Entry}
 use Rattle.worker_core.specs.Stands.{StandsFor}
 use Rattle.worker_threads.specs.declared.drainers.Drainer.{Drainer}
@@ -18,4 +19,5 @@ invariant-loop-place l = record {
   seats : seats_of l.drainers.items ≡ seats_of l.initial.drainers.items;
   setup : l.world.setup ≡ l.initial.world.setup;
   grown : HasGrown (seats_of l.initial.drainers.items) l.initial.world.past l.world.past;
+  actors : AreByActors l.initial.world.past → AreByActors l.world.past;
 }

@@ -1,11 +1,12 @@
-use Rattle.std.proofs.Common.{◌≡◌, ◌∙◌, ◌-◌, subst, refl, arith, List}
+use Rattle.std.proofs.Common.{◌≡◌, ◌∙◌, ◌-◌, ap, sym, subst, refl, arith, List}
 use Rattle.call_types.specs.declared.entry.Entry.{Entry}
 use Rattle.binder_model.specs.Told.{own}
 use Rattle.worker_core.specs.declared.turn.Next.{Next}
+use Rattle.worker_core.specs.States.{call_in}
 use Rattle.worker_core.specs.Turns.{IsTurn}
 use Rattle.worker_threads.specs.Rounds.{Asks, IsIdle, IsSpent, Runs, told_entry}
 use Rattle.worker_threads.proofs.Entries.{grown_more}
-use Rattle.worker_threads.proofs.RunFacts.{entry_told, idle_after, stands_on, still_kind}
+use Rattle.worker_threads.proofs.RunFacts.{by_actor, entry_told, idle_after, stands_on, still_kind, turn_kind}
 use Rattle.worker_threads.proofs.run.run.Goals as goal
 
 pub returns-in-Idle-clause-runs : goal.returns-in-Idle-clause-runs
@@ -19,6 +20,17 @@ returns-in-Idle-clause-idle c = λ still.
 
 pub returns-in_err-absorb-in-Call-clause-grown : goal.returns-in_err-absorb-in-Call-clause-grown
 returns-in_err-absorb-in-Call-clause-grown c = grown_more c.args.seat _ _ _ _ c.loop-left.invariant.grown c.in_ok-reply-in-Call.ensures.entry refl refl
+
+-- the call that was made is one of the actor, also where its answer is not absorbed
+pub returns-in_err-absorb-in-Call-clause-actors : goal.returns-in_err-absorb-in-Call-clause-actors
+returns-in_err-absorb-in-Call-clause-actors c = λ before.
+    let i = c.loop-left.invariant in
+    let s = c.loop-left.actor in
+    let given = c.next.new.self in
+    let h = c.loop-left.world.past in
+    let kinds = turn_kind c.args.kind s given _ i.kind c.in_ok-next.ensures.turn in
+    let entry = entry_told c.args.seat c.args.kind given c.in-Call.request c.in_ok-reply-in-Call.reply h c.ask.new.world.past kinds c.in_ok-reply-in-Call.ensures.entry in
+    by_actor given h c.ask.new.world.past (told_entry c.args.seat given c.in-Call.request c.in_ok-reply-in-Call.reply) entry (sym kinds ∙ c.requires.binder) refl (c.in_ok-next.ensures.stands (own c.args.seat h) i.stands) (sym c.in_ok-next.ensures.asked ∙ ap call_in c.in-Call.is) (i.actors before)
 
 pub loop-left-preserved-in_ok-absorb-in-Call : goal.loop-left-preserved-in_ok-absorb-in-Call
 loop-left-preserved-in_ok-absorb-in-Call c =
@@ -45,6 +57,7 @@ loop-left-preserved-in_ok-absorb-in-Call c =
       history = c.in_ok-reply-in-Call.ensures.history;
       setup = c.ask.ensures.setup ∙ i.setup;
       grown = grown_more c.args.seat _ h new e i.grown entry refl refl;
+      actors = λ before. by_actor given h new e entry (sym kinds.0 ∙ c.requires.binder) refl (c.in_ok-next.ensures.stands mine i.stands) (sym c.in_ok-next.ensures.asked ∙ ap call_in c.in-Call.is) (i.actors before);
     }
 
 pub returns-clause-runs : goal.returns-clause-runs

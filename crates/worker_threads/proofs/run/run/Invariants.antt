@@ -1,4 +1,5 @@
 use Rattle.std.proofs.Common.{◌≡◌, ◌≤◌, ℕ, List, [], ◌∷◌, Bool}
+use Rattle.fitting_calls.specs.Calls.{AreByActors}
 use Rattle.call_types.specs.declared.entry.Entry.{Entry}
 use Rattle.binder_model.specs.Told.{own}
 use Rattle.binder_model.specs.World.{IsHistory}
@@ -17,6 +18,7 @@ invariant-loop-left l = record {
   history : IsHistory l.world.setup l.world.past;
   setup : l.world.setup ≡ l.initial.world.setup;
   grown : HasGrown (l.seat ∷ []) l.initial.world.past l.world.past;
+  actors : AreByActors l.initial.world.past → AreByActors l.world.past;
 }
 
 abbrev pub decreases-loop-left : goal.decreases-loop-left
