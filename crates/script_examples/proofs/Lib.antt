@@ -1,0 +1,4 @@
+mod Counted
+mod Drained
+mod Replayed
+mod Turned

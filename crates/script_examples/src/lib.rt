@@ -1,0 +1,53 @@
+//! Computed examples of what the history of a replayed script has.
+//!
+//! Each is a function with nothing to do, whose contract has the examples.
+#![tactic(auto)]
+
+ghost use Rattle.script_examples.specs.Calls.{CallExamples, EndExamples, SeatExamples};
+ghost use Rattle.script_examples.specs.Drains.{DrainExamples, SpentExamples};
+ghost use Rattle.script_examples.specs.Replays.{EmptyExamples, FewerExamples, TurnExamples, UserExamples};
+
+/// Which life of an actor makes a call.
+pub fn seat_examples()
+    ensures { SeatExamples }
+{}
+
+/// Calls that are told, and calls that are lost.
+pub fn call_examples()
+    ensures { CallExamples }
+{}
+
+/// How a turn may give fewer calls than its line says.
+pub fn end_examples()
+    ensures { EndExamples }
+{}
+
+/// The empty script.
+pub fn empty_examples()
+    ensures { EmptyExamples }
+{}
+
+/// A user's line.
+pub fn user_examples()
+    ensures { UserExamples }
+{}
+
+/// A turn line.
+pub fn turn_examples()
+    ensures { TurnExamples }
+{}
+
+/// A turn of fewer calls than its line says, and the one after it.
+pub fn fewer_examples()
+    ensures { FewerExamples }
+{}
+
+/// The calls of a drain.
+pub fn drain_examples()
+    ensures { DrainExamples }
+{}
+
+/// How a replay ends where its budget is spent.
+pub fn spent_examples()
+    ensures { SpentExamples }
+{}
