@@ -4,7 +4,9 @@ ghost use Rattle.std.specs.Prelude.{◌≡◌, Some, OnOk};
 ghost use Rattle.binder_model.specs.Licence.{Licensed};
 ghost use Rattle.binder_model.specs.Told.{own};
 ghost use Rattle.binder_model.specs.World.{IsHistory};
+ghost use Rattle.worker_core.specs.Stands.{StandsFor};
 ghost use Rattle.worker_core.specs.States.{asked};
+ghost use Rattle.fitting_calls.specs.Calls.{AreByActors};
 ghost use Rattle.script_parts.specs.declared.loss.Fate.TheVariants.{Told, LostAfter, LostBefore};
 ghost use Rattle.script_runs.specs.Calls.{IsCallWith};
 ghost use Rattle.script_runs.specs.Steps.Playing.{HasCalled};
@@ -35,6 +37,7 @@ fn make_told(
     requires asked { asked actor.old ≡ Some request.now }
     requires licensed { Licensed kind (own seat world.old.past) request.now }
     ensures called { OnOk result (HasCalled seat (IsCallWith Told seat kind) world.old world.new actor.old actor.new) }
+    ensures actors { OnOk result (StandsFor actor.old (own seat world.old.past) → AreByActors world.old.past → AreByActors world.new.past) }
     ensures setup { world.new.setup ≡ world.old.setup }
 {
     let reply = world.call(seat, kind, request, true)?;
@@ -56,6 +59,7 @@ fn make_untold(
     requires asked { asked actor.old ≡ Some request.now }
     requires licensed { Licensed kind (own seat world.old.past) request.now }
     ensures called { OnOk result (HasCalled seat (IsCallWith LostAfter seat kind) world.old world.new actor.old actor.new) }
+    ensures actors { OnOk result (StandsFor actor.old (own seat world.old.past) → AreByActors world.old.past → AreByActors world.new.past) }
     ensures setup { world.new.setup ≡ world.old.setup }
 {
     let _reply = world.call(seat, kind, request, false)?;
@@ -95,6 +99,7 @@ pub(crate) fn make(
     requires asked { asked actor.old ≡ Some request.now }
     requires licensed { Licensed kind (own seat world.old.past) request.now }
     ensures called { OnOk result (HasCalled seat (IsCallWith fate seat kind) world.old world.new actor.old actor.new) }
+    ensures actors { OnOk result (StandsFor actor.old (own seat world.old.past) → AreByActors world.old.past → AreByActors world.new.past) }
     ensures setup { world.new.setup ≡ world.old.setup }
 {
     match fate {

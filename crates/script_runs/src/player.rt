@@ -3,6 +3,7 @@
 ghost use Rattle.std.specs.Prelude.{◌≡◌, ◌<◌, ◌+◌, ◌^◌, ℕ, List, true, IfOk, OnOk, length};
 ghost use Rattle.call_types.specs.declared.entry.Entry.{Entry};
 ghost use Rattle.call_types.specs.declared.request.SeatKind.TheVariants as seats;
+ghost use Rattle.fitting_calls.specs.Calls.{AreByActors};
 ghost use Rattle.script_runs.specs.Calls.{restarts_before, seat_at};
 ghost use Rattle.script_runs.specs.Steps.Playing.{HasStepped, HasTurned, IsSmall, Plays, SomePlays};
 
@@ -81,6 +82,7 @@ fn step(world: &mut KeptWorld, player: &mut Player) -> Result<bool, OutOfMemory>
     requires plays { SomePlays player.old world.old.past }
     ensures part { player.new.part ≡ player.old.part }
     ensures stepped { IfOk result (λ called. (idle : ℕ → List Entry) → Plays player.old world.old.past idle → HasStepped idle world.old.past world.new.past player.old player.new called) }
+    ensures actors { OnOk result (AreByActors world.old.past → AreByActors world.new.past) }
     ensures setup { world.new.setup ≡ world.old.setup }
 {
     begin_life(player);
@@ -111,6 +113,7 @@ pub(crate) fn turn(
     requires plays { SomePlays player.old world.old.past }
     ensures part { player.new.part ≡ player.old.part }
     ensures turned { OnOk result ((idle : ℕ → List Entry) → Plays player.old world.old.past idle → HasTurned calls idle world.old.past world.new.past player.old player.new) }
+    ensures actors { OnOk result (AreByActors world.old.past → AreByActors world.new.past) }
     ensures setup { world.new.setup ≡ world.old.setup }
 {
     let mut made = 0;

@@ -2,6 +2,7 @@
 
 ghost use Rattle.std.specs.Prelude.{◌≡◌, IfOk};
 ghost use Rattle.script_parts.specs.Limits.{AreBuilt, IsReadable};
+ghost use Rattle.fitting_calls.specs.Calls.{AreByActors};
 ghost use Rattle.script_runs.specs.Replays.{IsReplay};
 
 use crate::stage::begin;
@@ -31,6 +32,7 @@ pub fn replay(alloc: Global, script: &Script, budget: Option<u64>) -> Result<Rep
     requires readable { IsReadable script.now }
     requires built { AreBuilt script.now.lines }
     ensures replay { IfOk result (λ r. IsReplay script.now budget r.world.past r.ending) }
+    ensures actors { IfOk result (λ r. AreByActors r.world.past) }
     ensures setup { IfOk result (λ r. r.world.setup ≡ script.now.setup) }
 {
     let mut stage = begin(alloc, script, budget)?;

@@ -4,6 +4,7 @@ ghost use Rattle.std.specs.Prelude.{◌≡◌, ◌≤◌, ◌<◌, ◌+◌, ◌-
 ghost use Rattle.call_types.specs.declared.request.SeatKind.TheVariants as seats;
 ghost use Rattle.script_text.specs.declared.script.Line.{Line};
 ghost use Rattle.script_lines.specs.Actors.{actor_word};
+ghost use Rattle.fitting_calls.specs.Calls.{AreByActors};
 ghost use Rattle.worker_threads.specs.Rounds.{EndsWith, made_of};
 ghost use Rattle.script_parts.specs.Budget.{first_budget};
 ghost use Rattle.script_parts.specs.Limits.{AreBuilt, IsReadable, is_actor_built};
@@ -84,6 +85,7 @@ impl Stage {
         requires user { user < 5 }
         requires stands { SomeStands script.now option self.old }
         ensures moved { OnOk result (HasMoved script.now option (IsUserCall user request.now) self.old self.new) }
+        ensures actors { OnOk result (AreByActors self.old.world.past → AreByActors self.new.world.past) }
         ensures players { self.new.players ≡ self.old.players }
     {
         let _reply = self.world.call(user, SeatKind::User, request, true)?;
@@ -107,6 +109,7 @@ impl Stage {
         requires most { most ≤ 4096000 }
         requires made { MadeAtMost most self.old }
         ensures moved { OnOk result (HasMoved script.now option (IsTurn (part_of script.now actor.now) calls) self.old self.new) }
+        ensures actors { OnOk result (AreByActors self.old.world.past → AreByActors self.new.world.past) }
         ensures made { OnOk result (MadeAtMost (most + 1000) self.new) }
     {
         let place = place_of(actor);
@@ -119,6 +122,7 @@ impl Stage {
         requires built { AreBuilt script.now.lines }
         requires stands { SomeStands script.now option self.old }
         ensures moved { OnOk result (HasMoved script.now option (IsDrain script.now option) self.old self.new) }
+        ensures actors { OnOk result (AreByActors self.old.world.past → AreByActors self.new.world.past) }
         ensures ends { IfOk result (λ d. EndsWith self.new.world.setup self.new.world.past (self.new.budget - (self.new.drained - made_of d)) d) }
         ensures made { IfOk result (λ d. made_of d ≤ self.new.drained) }
         ensures players { self.new.players ≡ self.old.players }
@@ -144,6 +148,7 @@ impl Stage {
         requires stands { SomeStands script.now option self.old }
         requires made { MadeAtMost (1000 * place) self.old }
         ensures moved { OnOk result ((line : Line) → slice_get script.now.lines place ≡ Some line → HasMoved script.now option (IsMove script.now option line) self.old self.new) }
+        ensures actors { OnOk result (AreByActors self.old.world.past → AreByActors self.new.world.past) }
         ensures made { OnOk result (MadeAtMost (1000 * place + 1000) self.new) }
     {
         match &script.lines.as_slice()[place] {
@@ -174,7 +179,8 @@ impl Stage {
     ) -> Result<Drained, OutOfMemory>
         requires built { AreBuilt script.now.lines }
         requires stands { SomeStands script.now option self.old }
-        ensures { IfOk result (λ ending. (p : Progress) → Stands script.now option p self.old → Ended script.now option p self.new ending) }
+        ensures ended { IfOk result (λ ending. (p : Progress) → Stands script.now option p self.old → Ended script.now option p self.new ending) }
+        ensures actors { OnOk result (AreByActors self.old.world.past → AreByActors self.new.world.past) }
     {
         let last = self.drain(script, option)?;
         ended(alloc, self.drained, &last)
@@ -290,6 +296,7 @@ pub(crate) fn begin(
     requires readable { IsReadable script.now }
     requires built { AreBuilt script.now.lines }
     ensures stands { IfOk result (λ s. Stands script.now option (begun option) s) }
+    ensures actors { IfOk result (λ s. AreByActors s.world.past) }
     ensures made { IfOk result (λ s. MadeAtMost 0 s) }
 {
     let world = KeptWorld::new(alloc, &script.setup, MOST_ENTRIES)?;

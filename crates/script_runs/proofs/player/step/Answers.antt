@@ -39,3 +39,10 @@ returns-clause-stepped c = λ idle plays.
     (c.fate_of-fate.ensures ∙ ap (λ (losses : List Loss). fate_of losses (mid.made + 1)) c.as_slice.ensures)
     c.in_ok-answer.ensures.turn c.in_ok-answer.ensures.stands c.in_ok-make-in-Call.ensures.called
     (c.begin_life.ensures.plays c.args.world.now.past idle c.requires.named plays)
+
+pub returns-clause-actors : goal.returns-clause-actors
+returns-clause-actors c = λ before.
+    let past = c.args.world.now.past in
+    let some = c.requires.plays in
+    let plays = c.begin_life.ensures.plays past some.idle c.requires.named some.plays in
+    c.in_ok-make-in-Call.ensures.actors (c.in_ok-answer.ensures.stands (own c.begin_life.new.player.seat past) plays.since.stands) before

@@ -12,6 +12,7 @@ loop-made-init c = record {
   part = refl;
   count = omega arith;
   setup = refl;
+  actors = λ before. before;
   some = c.requires.plays;
   gone = λ idle plays. not_gone idle c.args.world.now.past c.args.player.now plays;
 }
@@ -59,6 +60,7 @@ loop-made-preserved c =
       part = c.step.ensures.part ∙ i.part;
       count = omega (arith, count, i.count);
       setup = c.step.ensures.setup ∙ i.setup;
+      actors = λ before. c.in_ok-step.ensures.actors (i.actors before);
       some = record { idle = i.some.idle; plays = (made i.some.idle i.some.plays).plays };
       gone = λ idle plays.
           let gone = i.gone idle plays in
@@ -69,3 +71,6 @@ pub returns-clause-turned : goal.returns-clause-turned
 returns-clause-turned c = λ idle plays.
     let i = c.loop-made.invariant in
     turned_all c.loop-made.made c.args.calls idle c.args.world.now.past c.loop-made.world.past c.args.player.now c.loop-made.player (omega (arith, i.few, c.loop-made-test.false)) i.count (i.gone idle plays)
+
+pub returns-then-not-branch-clause-actors : goal.returns-then-not-branch-clause-actors
+returns-then-not-branch-clause-actors c = λ before. c.in_ok-step.ensures.actors (c.loop-made.invariant.actors before)

@@ -1,4 +1,5 @@
-use Rattle.std.proofs.Common.{◌≡◌, ◌+◌, ◌*◌, ◌∙◌, ap, subst, arith, length, ℕ}
+use Rattle.std.proofs.Common.{◌≡◌, ◌+◌, ◌*◌, ◌∙◌, ap, sym, subst, arith, length, ℕ}
+use Rattle.fitting_calls.specs.Calls.{AreByActors}
 use Rattle.world_core.specs.Kept.{History}
 use Rattle.script_runs.specs.Steps.Standing.{MadeAtMost}
 use Rattle.script_runs.proofs.Beginning.{replays, so_far_first, so_far_on}
@@ -10,6 +11,7 @@ loop-place-init c =
     let so = so_far_first c.args.script.now c.args.budget c.in_ok-stage.stage c.in_ok-stage.ensures.stands in
     record {
       some = some_of c.args.script.now c.args.budget 0 c.in_ok-stage.stage so;
+      actors = c.in_ok-stage.ensures.actors;
       so_far = so;
       made = c.in_ok-stage.ensures.made;
     }
@@ -28,6 +30,7 @@ loop-place-preserved c =
     let count : 1000 * place + 1000 ≡ 1000 * (place + 1) = omega arith in
     record {
       some = some_of script c.args.budget (place + 1) new so;
+      actors = c.in_ok-play.ensures.actors c.loop-place.invariant.actors;
       so_far = so;
       made = subst (λ (n : ℕ). MadeAtMost n new) count c.in_ok-play.ensures.made;
     }
@@ -35,10 +38,13 @@ loop-place-preserved c =
 pub returns-clause-replay : goal.returns-clause-replay
 returns-clause-replay c =
     let all = ap length c.as_slice-place-end.ensures in
-    replays c.args.script.now c.args.budget c.loop-place.place c.loop-place.stage c.end.new.self c.into_world.result.past c.in_ok-ending.ending (omega (arith, all, c.loop-place-test.false)) c.loop-place.invariant.so_far c.in_ok-ending.ensures
+    replays c.args.script.now c.args.budget c.loop-place.place c.loop-place.stage c.end.new.self c.into_world.result.past c.in_ok-ending.ending (omega (arith, all, c.loop-place-test.false)) c.loop-place.invariant.so_far c.in_ok-ending.ensures.ended
     (ap (λ (h : History). h.past) c.into_world.ensures)
 
 pub returns-clause-setup : goal.returns-clause-setup
 returns-clause-setup c =
     let so = c.loop-place.invariant.so_far in
-    ap (λ (h : History). h.setup) c.into_world.ensures ∙ (c.in_ok-ending.ensures so.progress so.stands).stands.setup
+    ap (λ (h : History). h.setup) c.into_world.ensures ∙ (c.in_ok-ending.ensures.ended so.progress so.stands).stands.setup
+
+pub returns-clause-actors : goal.returns-clause-actors
+returns-clause-actors c = subst (λ (h : History). AreByActors h.past) (sym c.into_world.ensures) (c.in_ok-ending.ensures.actors c.loop-place.invariant.actors)

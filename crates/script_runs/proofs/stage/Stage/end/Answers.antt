@@ -6,8 +6,8 @@ use Rattle.script_runs.specs.Steps.Standing.{Ended, Stands, with_made}
 use Rattle.script_runs.proofs.Beginning.{has_ended}
 use Rattle.script_runs.proofs.stage.Stage.end.Goals as goal
 
-pub returns : goal.returns
-returns c =
+pub returns-clause-ended : goal.returns-clause-ended
+returns-clause-ended c =
     let old = c.args.self.now in
     let new = c.drain.new.self in
     let d = c.in_ok-last.last in
