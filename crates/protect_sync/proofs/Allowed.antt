@@ -135,15 +135,15 @@ abbrev ReadsNone : Option Request → Type 0
 ReadsNone None = ⊤
 ReadsNone (Some request) = ReadsNoKind request
 
-is_list : Request → Bool
+abbrev is_list : Request → Bool
 is_list (ListOf kind namespace) = true
 is_list request = false
 
-is_whole : Request → Bool
+abbrev is_whole : Request → Bool
 is_whole (ListOf kind None) = true
 is_whole request = false
 
-is_watch : Request → Bool
+abbrev is_watch : Request → Bool
 is_watch (Watch kind from) = true
 is_watch request = false
 

@@ -1,4 +1,4 @@
 pub mod Allowed
 pub mod Begun
 pub mod Moves
-pub mod Uses
+pub mod Scanning

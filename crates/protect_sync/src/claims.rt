@@ -6,6 +6,7 @@ ghost use Rattle.binder_model.specs.Due.{guard_due};
 ghost use Rattle.protect_sync.specs.ClaimGuards.{claim_call, claim_moved, claim_parks, guarded_claim, list_call, unguarded_claim, write_over};
 ghost use Rattle.protect_sync.specs.Decisions.{claim_for};
 
+use crate::names::with_name;
 use crate::uses::some_uses;
 use call_types::reply::Reply;
 use call_types::request::Request;
@@ -13,7 +14,6 @@ use kube_types::bindings::{PVC_PROTECTION, is_deleting, is_protected_claim};
 use kube_types::copies::{OutOfMemory, Plain};
 use kube_types::objects::{Claim, Object};
 use kube_types::parts::Kind;
-use kube_types::text::Text;
 use std::alloc::Global;
 
 /// What is to be done next, or how the machine has ended.
@@ -140,9 +140,8 @@ fn list_call(alloc: Global, claim: &Claim) -> Result<Option<Request>, OutOfMemor
 fn guarded(alloc: Global, claim: &Claim) -> Result<Claim, OutOfMemory>
     ensures { IfOk result (λ new. new ≡ guarded_claim claim.now) }
 {
-    let name = Text::new(alloc, PVC_PROTECTION)?;
     let mut new = claim.copy(alloc)?;
-    new.meta.finalizers.push(&name)?;
+    new.meta.finalizers = with_name(alloc, &claim.meta.finalizers, PVC_PROTECTION)?;
     Ok(new)
 }
 

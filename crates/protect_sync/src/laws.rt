@@ -32,13 +32,11 @@ pub fn claim_decisions_keep()
 {}
 
 /// On a look-up whose objects have UIDs, each claim's machine that begins has a next call.
-#[tactic(auto, using(crate::proofs::Begun::begun_claims_have_calls))]
 pub fn begun_claims_have_calls()
     ensures { BegunClaimsHaveCalls }
 {}
 
 /// No call of a claim's machine lists or watches a whole kind.
-#[tactic(auto, using(crate::proofs::Allowed::claim_calls_read_no_kind))]
 pub fn claim_calls_read_no_kind()
     ensures { ClaimCallsReadNoKind }
 {}
@@ -59,13 +57,11 @@ pub fn volume_decisions_keep()
 {}
 
 /// Each volume's machine that begins has a next call.
-#[tactic(auto, using(crate::proofs::Begun::begun_volumes_have_calls))]
 pub fn begun_volumes_have_calls()
     ensures { BegunVolumesHaveCalls }
 {}
 
 /// No call of a volume's machine lists or watches a whole kind.
-#[tactic(auto, using(crate::proofs::Allowed::volume_calls_read_no_kind))]
 pub fn volume_calls_read_no_kind()
     ensures { VolumeCallsReadNoKind }
 {}

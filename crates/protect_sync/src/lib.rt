@@ -10,5 +10,6 @@
 pub mod claims;
 pub mod decide;
 pub mod laws;
+mod names;
 mod uses;
 pub mod volumes;

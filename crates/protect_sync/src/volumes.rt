@@ -6,13 +6,13 @@ ghost use Rattle.protect_sync.specs.Decisions.{volume_for};
 ghost use Rattle.kube_types.specs.Bindings.{is_bound};
 ghost use Rattle.protect_sync.specs.VolumeGuards.{guarded_volume, unguarded_volume, volume_call, volume_moved, volume_parks, write_over};
 
+use crate::names::with_name;
 use call_types::reply::Reply;
 use call_types::request::Request;
 use kube_types::bindings::{PV_PROTECTION, is_deleting, is_protected_volume};
 use kube_types::copies::{OutOfMemory, Plain};
 use kube_types::objects::{Object, Volume};
 use kube_types::parts::VolumePhase;
-use kube_types::text::Text;
 use std::alloc::Global;
 
 /// What is to be done next, or how the machine has ended.
@@ -122,9 +122,8 @@ fn write_over(volume: &Volume, new: Volume) -> Request
 fn guarded(alloc: Global, volume: &Volume) -> Result<Volume, OutOfMemory>
     ensures { IfOk result (λ new. new ≡ guarded_volume volume.now) }
 {
-    let name = Text::new(alloc, PV_PROTECTION)?;
     let mut new = volume.copy(alloc)?;
-    new.meta.finalizers.push(&name)?;
+    new.meta.finalizers = with_name(alloc, &volume.meta.finalizers, PV_PROTECTION)?;
     Ok(new)
 }
 
