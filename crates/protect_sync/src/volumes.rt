@@ -92,7 +92,11 @@ impl VolumeGuardOp {
 fn first_step(volume: &Volume) -> Option<VolumeGuardStep>
     ensures { option_map (λ step. record { volume = volume.now; step = step }) result ≡ volume_for volume.now (volume_guard_due volume.now) }
 {
-    match (is_deleting(&volume.meta), is_protected_volume(volume), is_bound(volume.phase)) {
+    match (
+        is_deleting(&volume.meta),
+        is_protected_volume(volume),
+        is_bound(volume.phase),
+    ) {
         (false, false, _) => Some(VolumeGuardStep::Adds),
         (true, true, false) => Some(VolumeGuardStep::Drops),
         _ => None,
