@@ -106,12 +106,12 @@ step_after uid ready steps.Finishes reply = after_last reply
 step_after uid ready steps.Done reply = steps.Done
 step_after uid ready steps.Parked reply = steps.Parked
 
-abbrev pub agent_after : AgentOp → Option ReadyClaim → Reply → AgentOp
-agent_after op (Some r) reply = record op { ready = op.ready ++ r ∷ []; step = step_for op.pod (op.ready ++ r ∷ []) }
-agent_after op None reply = record op { step = step_after op.uid op.ready op.step reply }
+abbrev pub agent_after : AgentOp → AgentStep → Option ReadyClaim → Reply → AgentOp
+agent_after op step (Some r) reply = record op { ready = op.ready ++ r ∷ []; step = step_for op.pod (op.ready ++ r ∷ []) }
+agent_after op step None reply = record op { step = step_after op.uid op.ready step reply }
 
 unfoldable pub agent_moved : AgentOp → Reply → AgentOp
-agent_moved op reply = agent_after op (ready_by op.step reply) reply
+agent_moved op reply = agent_after op op.step (ready_by op.step reply) reply
 
 -- the key is parked
 abbrev pub agent_parks : AgentStep → Bool

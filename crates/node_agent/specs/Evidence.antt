@@ -26,10 +26,10 @@ pub record IsFoundReady (recent : List Entry) (namespace name : List ℕ) (r : R
   pub of : read.claim.volume_name ≡ r.volume
 
 -- the first claims of a pod, one for each that was counted
-abbrev pub AreFoundReady : List Entry → List ℕ → List (List ℕ) → List ReadyClaim → Type 0
-AreFoundReady recent namespace names [] = ⊤
-AreFoundReady recent namespace [] (r ∷ ready) = ⊥
-AreFoundReady recent namespace (name ∷ names) (r ∷ ready) = IsFoundReady recent namespace name r × AreFoundReady recent namespace names ready
+abbrev pub AreFoundReady : List Entry → List ℕ → List ReadyClaim → List (List ℕ) → Type 0
+AreFoundReady recent namespace [] names = ⊤
+AreFoundReady recent namespace (r ∷ ready) [] = ⊥
+AreFoundReady recent namespace (r ∷ ready) (name ∷ names) = IsFoundReady recent namespace name r × AreFoundReady recent namespace ready names
 
 -- The pod was told since the node was taken, by a list of all pods or after one, and is the newest told: it is on the node and stays.
 -- `recent` are the entries after the one that told it: by them the claims counted are ready. The seat never asked to finish the pod
@@ -44,7 +44,7 @@ pub record MayRead (op : AgentOp) (mine : List Entry) : Type 0 where
   pub on_node : IsPodOn op.uid op.node op.pod
   pub newest : IsNewest mine (pod_key op.pod.meta.namespace op.pod.meta.name) (Pod op.pod)
   pub staying : is_deleting op.pod.meta ≡ false
-  pub ready : AreFoundReady recent op.pod.meta.namespace op.pod.claims op.ready
+  pub ready : AreFoundReady recent op.pod.meta.namespace op.ready op.pod.claims
   pub unfinished : never_finished op.uid mine ≡ true
 
 -- the next claim of the pod, which was not read yet
@@ -89,8 +89,12 @@ StepKeeps steps.ReadsMounts op mine = MayEnd op mine
 StepKeeps steps.Finishes op mine = MayFinishPod op mine
 StepKeeps step op mine = ⊤
 
+-- the step counts by what it asks alone
+abbrev pub at_rest : AgentOp → AgentOp
+at_rest op = record op { step = steps.Done }
+
 abbrev pub AgentKeeps : AgentOp → List Entry → Type 0
-AgentKeeps op mine = StepKeeps op.step op mine
+AgentKeeps op mine = StepKeeps op.step (at_rest op) mine
 
 -- the start of an agent
 
