@@ -1,20 +1,16 @@
 -- The next call of a machine is allowed by its evidence; and it reads no whole kind.
 use Rattle.std.proofs.Common.{◌≡◌, ◌∙◌, ℕ, suc, zero, List, [], ◌∷◌, Bool, true, false, true≢false, Option, Some, None, inl, inr, refl, sym, ap, subst, length, slice_get}
 use Rattle.std.specs.Prelude.{◌||◌, bytes_eq, is_some, ⊤}
-use Rattle.std.specs.List.{list_any}
 use Rattle.std.proofs.lemmas.Slice.Eq.{bytes_eq-Decides}
 use Rattle.kube_types.specs.declared.key.Key.{Key}
-use Rattle.kube_types.specs.declared.uid.Uid.{Uid}
-use Rattle.kube_types.specs.declared.objects.Claim.{Claim as ClaimData}
 use Rattle.kube_types.specs.declared.objects.Pod.{Pod as PodData}
-use Rattle.kube_types.specs.declared.objects.Object.{Object}
 use Rattle.kube_types.specs.declared.objects.Object.TheVariants.{Pod}
 use Rattle.kube_types.specs.Bindings.{has_name}
 use Rattle.call_types.specs.declared.entry.Entry.{Entry}
 use Rattle.call_types.specs.declared.request.Request.{Request}
 use Rattle.call_types.specs.declared.request.Request.TheVariants as requests
 use Rattle.call_types.specs.declared.request.SeatKind.TheVariants.{Agent}
-use Rattle.binder_model.specs.AgentLicence.{AreReadReady, MayFinish, MayMount, MayUnmount, last_epoch}
+use Rattle.binder_model.specs.AgentLicence.{AreReadReady, MayFinish, last_epoch}
 use Rattle.binder_model.specs.Licence.{AgentMay, AreOfKind, Licensed}
 use Rattle.binder_model.specs.ObjectKeys.{claim_key, pod_key, volume_key}
 use Rattle.binder_model.specs.Reading.{NamesClaim}
@@ -29,7 +25,7 @@ use Rattle.node_agent.specs.declared.step.AgentStep.TheVariants as steps
 use Rattle.node_agent.specs.declared.step.ReadyClaim.{ReadyClaim}
 use Rattle.node_agent.specs.Agents.{agent_call, call_at, finish_call, mount_call, uids_of}
 use Rattle.node_agent.specs.BeginLaw.{CallsReadNoKind, ReadsNoKind}
-use Rattle.node_agent.specs.Evidence.{AgentKeeps, AreFoundReady, MayEnd, MayFinishPod, MayMountPod, MayRead, MayReadClaim, MayReadVolume, StepKeeps, at_rest}
+use Rattle.node_agent.specs.Evidence.{AgentKeeps, AreFoundReady, MayFinishPod, MayMountPod, MayReadClaim, StepKeeps, at_rest}
 
 answered : (mine : List Entry) (a b : Request) → Some a ≡ Some b → AgentMay mine a → AgentMay mine b
 answered mine a b e may = subst (λ r. AgentMay mine r) (one a b e) may

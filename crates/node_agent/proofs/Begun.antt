@@ -1,6 +1,6 @@
 -- What begins on the key of a pod has its evidence, where the look-up shows what was told newest; and it has a next call.
-use Rattle.std.proofs.Common.{◌≡◌, ◌∙◌, ℕ, List, [], ◌∷◌, Bool, true, false, true≢false, Option, Some, None, inl, inr, refl, sym, ap, subst, length, slice_get, if◌then◌else◌}
-use Rattle.std.specs.Prelude.{◌++◌, ◌&&◌, ◌||◌, bytes_eq, is_some}
+use Rattle.std.proofs.Common.{◌≡◌, ◌∙◌, ℕ, List, [], ◌∷◌, Bool, true, false, true≢false, Option, Some, None, inl, inr, refl, sym, ap, subst, slice_get, if◌then◌else◌}
+use Rattle.std.specs.Prelude.{◌++◌, ◌&&◌, bytes_eq, is_some}
 use Rattle.std.specs.List.{list_any}
 use Rattle.std.proofs.lemmas.Bool.{and_parts}
 use Rattle.std.proofs.lemmas.Slice.Eq.{bytes_eq-Decides}
@@ -10,11 +10,11 @@ use Rattle.kube_types.specs.declared.objects.Pod.{Pod as PodData}
 use Rattle.kube_types.specs.declared.objects.Object.{Object}
 use Rattle.kube_types.specs.declared.objects.Object.TheVariants.{Class, Node, Volume, Claim, Pod}
 use Rattle.kube_types.specs.Bindings.{is_deleting, is_scheduled}
-use Rattle.kube_types.specs.Keys.{key_of, row_at}
+use Rattle.kube_types.specs.Keys.{row_at}
 use Rattle.kube_types.proofs.KeyOrder.{row_at_key}
 use Rattle.call_types.specs.declared.entry.Entry.{Entry}
 use Rattle.call_types.specs.declared.reply.MountRow.{MountRow}
-use Rattle.binder_model.specs.AgentLicence.{IsEndingPod, IsPodOn, ListedPods, epoch_in, has_row, never_finished, since_epoch}
+use Rattle.binder_model.specs.AgentLicence.{IsEndingPod, IsPodOn, ListedPods, epoch_in, has_row, since_epoch}
 use Rattle.binder_model.specs.ObjectKeys.{pod_key}
 use Rattle.binder_model.specs.Told.{IsNewest, IsPodWith, SomeOf, TellsObject, ToldPod, objects_in}
 use Rattle.informer_cache.specs.All.{AllKnown, AllStandFor, all_objects}
@@ -23,7 +23,7 @@ use Rattle.node_agent.specs.declared.agent.AgentOp.{AgentOp}
 use Rattle.node_agent.specs.declared.step.AgentStep.TheVariants as steps
 use Rattle.node_agent.specs.Agents.{agent_at, agent_begins, agent_call, agent_for, agent_known, at_start, next_step, step_for}
 use Rattle.node_agent.specs.BeginLaw.{BegunHaveCalls}
-use Rattle.node_agent.specs.Evidence.{AgentKeeps, HasStarted, MayDecide, MayRead, StartedBy, StepKeeps, is_pod, tells_pod}
+use Rattle.node_agent.specs.Evidence.{AgentKeeps, HasStarted, MayDecide, MayRead, StartedBy, is_pod, tells_pod}
 use Rattle.node_agent.proofs.Allowed.{newest_pod}
 use Rattle.node_agent.proofs.Gets.{both, neither_of}
 use Rattle.node_agent.proofs.Moves.{next_keeps}
@@ -137,7 +137,6 @@ unfolding agent_call
 at_calls node epoch p uid mounted op = by (is_deleting p.meta) mounted
   where
     reads : (x : Option (List ℕ)) → is_some (agent_call (at_start node epoch p uid (next_step [] x))) ≡ true
-    unfolding agent_call
     reads None = refl
     reads (Some name) = refl
 

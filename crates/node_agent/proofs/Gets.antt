@@ -13,7 +13,7 @@ use Rattle.call_types.specs.declared.request.Request.{Request}
 use Rattle.call_types.specs.declared.request.Request.TheVariants as requests
 use Rattle.call_types.specs.declared.reply.Reply.{Reply}
 use Rattle.call_types.specs.declared.reply.Reply.TheVariants as replies
-use Rattle.binder_model.specs.AgentLicence.{IsReadReady, epoch_in, epoch_told, is_finish_of, is_get_of, last_epoch, last_get, never_finished, since_epoch, since_get}
+use Rattle.binder_model.specs.AgentLicence.{epoch_in, epoch_told, is_finish_of, is_get_of, last_epoch, last_get, never_finished, since_epoch, since_get}
 use Rattle.binder_model.specs.ObjectKeys.{claim_key, volume_key}
 use Rattle.binder_model.specs.Told.{first_some, later, newest, tells_of}
 use Rattle.node_agent.specs.declared.step.ReadyClaim.{ReadyClaim}
@@ -97,8 +97,8 @@ read_past e recent namespace name r f claim_other volume_other =
         bound = k.bound;
         volume = k.volume;
         volume_read =
-          ap (last_get (volume_key k.claim.volume_name)) (since_past (claim_key namespace name) e recent claim_other)
-          ∙ (last_past (volume_key k.claim.volume_name) e (since_get (claim_key namespace name) recent) other ∙ k.volume_read);
+            ap (last_get (volume_key k.claim.volume_name)) (since_past (claim_key namespace name) e recent claim_other)
+            ∙ (last_past (volume_key k.claim.volume_name) e (since_get (claim_key namespace name) recent) other ∙ k.volume_read);
         carries = k.carries;
       };
       of = f.of;
@@ -110,8 +110,7 @@ claims_past e recent namespace new [] names is unread all = tt
 claims_past e recent namespace new (r ∷ ready) [] is unread all = absurd all
 claims_past e recent namespace new (r ∷ ready) (name ∷ names) is unread all =
     let apart = neither_of (bytes_eq r.claim new) (is_claim_read new ready) unread in
-    let named : bytes_eq name new ≡ false = ap (λ (n : List ℕ). bytes_eq n new) (sym all.0.named) ∙ apart.0 in
-    (
+    let named : bytes_eq name new ≡ false = ap (λ (n : List ℕ). bytes_eq n new) (sym all.0.named) ∙ apart.0 in (
       read_past e recent namespace name r all.0 (other_key (claim_key namespace new) (claim_key namespace name) e is (other_claim namespace new name named)) (claim_asked namespace new r.volume e is),
       claims_past e recent namespace new ready names is apart.1 all.1,
     )
@@ -121,8 +120,7 @@ pub volumes_past : (e : Entry) (recent : List Entry) (namespace new : List ℕ) 
 volumes_past e recent namespace new [] names is unread all = tt
 volumes_past e recent namespace new (r ∷ ready) [] is unread all = absurd all
 volumes_past e recent namespace new (r ∷ ready) (name ∷ names) is unread all =
-    let apart = neither_of (bytes_eq r.volume new) (is_volume_read new ready) unread in
-    (
+    let apart = neither_of (bytes_eq r.volume new) (is_volume_read new ready) unread in (
       read_past e recent namespace name r all.0 (volume_asked namespace name new e is) (other_key (volume_key new) (volume_key r.volume) e is (other_volume new r.volume apart.0)),
       volumes_past e recent namespace new ready names is apart.1 all.1,
     )

@@ -1,5 +1,5 @@
 -- The evidence of a machine goes on with the answer to its call.
-use Rattle.std.proofs.Common.{◌≡◌, ◌∙◌, ℕ, zero, suc, List, [], ◌∷◌, Bool, true, false, true≢false, Option, Some, None, inl, inr, refl, sym, ap, subst, length, slice_get, if◌then◌else◌}
+use Rattle.std.proofs.Common.{◌≡◌, ◌∙◌, ℕ, List, [], ◌∷◌, Bool, true, false, true≢false, Option, Some, None, inl, inr, refl, sym, ap, subst, length, slice_get, if◌then◌else◌}
 use Rattle.std.specs.Prelude.{◌++◌, ◌&&◌, ◌==◌, not, bytes_eq}
 use Rattle.std.proofs.lemmas.Bool.{and_parts}
 use Rattle.std.proofs.lemmas.Bool.Decides.{Decides-eqb}
@@ -21,14 +21,14 @@ use Rattle.binder_model.specs.AgentLicence.{epoch_in, has_row, is_of_epoch, lack
 use Rattle.binder_model.specs.BindWrites.{is_claim_bound}
 use Rattle.binder_model.specs.ObjectKeys.{claim_key, pod_key, volume_key}
 use Rattle.binder_model.specs.Reading.{FoundNaming}
-use Rattle.binder_model.specs.Told.{SomeOf, object_of}
+use Rattle.binder_model.specs.Told.{object_of}
 use Rattle.model_laws.proofs.Lists.{none_some, one}
 use Rattle.node_agent.specs.declared.agent.AgentOp.{AgentOp}
 use Rattle.node_agent.specs.declared.step.AgentStep.{AgentStep}
 use Rattle.node_agent.specs.declared.step.AgentStep.TheVariants as steps
 use Rattle.node_agent.specs.declared.step.ReadyClaim.{ReadyClaim}
-use Rattle.node_agent.specs.Agents.{after_claim, after_last, after_mounts, after_unmount, agent_after, agent_call, agent_moved, call_at, is_claim_read, is_ready, is_volume_read, next_step, ready_by, ready_claim, step_after}
-use Rattle.node_agent.specs.Evidence.{AgentKeeps, AreFoundReady, IsFoundReady, IsNext, MayEnd, MayFinishPod, MayMountPod, MayRead, MayReadClaim, MayReadVolume, StepKeeps, at_rest}
+use Rattle.node_agent.specs.Agents.{after_claim, after_last, after_mounts, after_unmount, agent_after, agent_call, agent_moved, call_at, is_claim_read, is_ready, is_volume_read, next_step, ready_by, ready_claim}
+use Rattle.node_agent.specs.Evidence.{AgentKeeps, AreFoundReady, IsFoundReady, MayEnd, MayRead, MayReadClaim, MayReadVolume, StepKeeps, at_rest}
 use Rattle.node_agent.proofs.Gets.{IsFound, both, claim_past, claims_past, epoch_past, last_found, never_past, newest_past, no_epoch, since_epoch_past, volumes_past}
 
 opposite : (b : Bool) → not b ≡ true → b ≡ false

@@ -141,11 +141,7 @@ pub(crate) fn ready_by(
     }
 }
 
-fn ready_claim(
-    alloc: Global,
-    name: &Text,
-    claim: &Claim,
-) -> Result<Option<ReadyClaim>, OutOfMemory>
+fn ready_claim(alloc: Global, name: &Text, claim: &Claim) -> Result<Option<ReadyClaim>, OutOfMemory>
     ensures { IfOk result (λ ready. ready ≡ ready_claim name.now claim.now claim.now.meta.uid) }
 {
     match claim.meta.uid {
