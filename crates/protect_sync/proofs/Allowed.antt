@@ -1,6 +1,6 @@
 -- The next call of a machine is allowed by its evidence; and it reads no whole kind.
 use Rattle.std.proofs.Common.{◌≡◌, ◌∙◌, List, [], ◌∷◌, Bool, true, false, true≢false, Option, Some, None, refl, sym, ap, subst, if◌then◌else◌}
-use Rattle.std.specs.Prelude.{◌++◌, ◌||◌, not, bytes_eq, cond, filter, is_some, ⊤}
+use Rattle.std.specs.Prelude.{◌++◌, ◌||◌, not, bytes_eq, cond, is_some, ⊤}
 use Rattle.std.specs.List.{list_any}
 use Rattle.std.proofs.Common.{ℕ}
 use Rattle.std.proofs.lemmas.List.Folds.{list_any-append}
@@ -16,7 +16,7 @@ use Rattle.call_types.specs.declared.request.Request.TheVariants.{List as ListOf
 use Rattle.call_types.specs.declared.request.SeatKind.TheVariants.{ClaimProtect, VolumeProtect}
 use Rattle.binder_model.specs.At.{IsWrittenAt}
 use Rattle.binder_model.specs.Edits.{without_name}
-use Rattle.binder_model.specs.GuardLicence.{MayGuard, MayUnguardClaim, MayUnguardVolume}
+use Rattle.binder_model.specs.GuardLicence.{MayUnguardClaim, MayUnguardVolume}
 use Rattle.binder_model.specs.Licence.{AreOfKind, ClaimGuard, ClaimProtectMay, GuardsClaim, GuardsVolume, Licensed, VolumeGuard, VolumeProtectMay}
 use Rattle.binder_model.specs.Reading.{IsDeletingIn}
 use Rattle.binder_model.specs.Told.{ToldClaim, ToldVolume}

@@ -1,6 +1,6 @@
 -- The evidence of a machine goes on with the answer to its call.
-use Rattle.std.proofs.Common.{◌≡◌, ℕ, List, ◌∷◌, Bool, true, false, true≢false, Option, Some, None, inl, inr, refl, sym, ap, subst, if◌then◌else◌}
-use Rattle.std.specs.Prelude.{is_some, ⊤}
+use Rattle.std.proofs.Common.{◌≡◌, ℕ, List, ◌∷◌, Bool, true, false, Option, Some, None, inl, inr, refl, sym, subst, if◌then◌else◌}
+use Rattle.std.specs.Prelude.{is_some}
 use Rattle.std.specs.List.{list_any}
 use Rattle.kube_types.specs.declared.uid.Uid.{Uid}
 use Rattle.kube_types.specs.declared.parts.Kind.TheVariants as kinds
@@ -13,7 +13,6 @@ use Rattle.call_types.specs.declared.request.Request.TheVariants.{List as ListOf
 use Rattle.call_types.specs.declared.reply.Reply.{Reply}
 use Rattle.call_types.specs.declared.reply.Reply.TheVariants as replies
 use Rattle.binder_model.specs.GuardLicence.{IsDeletingVersion, IsPodList, TellsUnused, uses}
-use Rattle.binder_model.specs.Told.{After, ToldClaim}
 use Rattle.model_laws.proofs.Evidence.{told_claim}
 use Rattle.model_laws.proofs.Lists.{none_some, one}
 use Rattle.protect_sync.specs.declared.claims.ClaimGuardOp.{ClaimGuardOp}
