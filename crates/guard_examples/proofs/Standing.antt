@@ -1,7 +1,6 @@
 -- What a seat must have been told, computed.
 use Rattle.std.proofs.Common.{refl, sym, inl, inr, true≢false}
-use Rattle.std.specs.Prelude.{List, [], ◌∷◌}
-use Rattle.kube_types.specs.Uids.{uid_of_serial}
+use Rattle.std.specs.Prelude.{[], ◌∷◌}
 use Rattle.call_types.specs.declared.request.SeatKind.TheVariants as seats
 use Rattle.binder_model.specs.GuardLicence.{IsDeletingVersion, TellsUnused}
 use Rattle.binder_model.specs.Told.{After, ToldClaim}
