@@ -2,3 +2,4 @@ pub mod Allowed
 pub mod Begun
 pub mod Gets
 pub mod Moves
+pub mod Starts

@@ -13,6 +13,7 @@ ghost use Rattle.node_agent.specs.declared.agent.AgentOp.{AgentOp};
 ghost use Rattle.node_agent.specs.Agents.{agent_begins, agent_call, agent_moved};
 ghost use Rattle.node_agent.specs.BeginLaw.{BegunHaveCalls, CallsReadNoKind};
 ghost use Rattle.node_agent.specs.Evidence.{AgentKeeps, MayDecide};
+ghost use Rattle.node_agent.specs.StartLaw.{ParkedHaveEnded, StartGoesOn, UntoldHasStarted};
 
 /// The next call of a machine is allowed by its evidence.
 pub fn calls_are_allowed()
@@ -38,4 +39,20 @@ pub fn begun_have_calls()
 /// No call of a machine lists or watches a whole kind.
 pub fn calls_read_no_kind()
     ensures { CallsReadNoKind }
+{}
+
+/// A machine whose key is parked has ended.
+pub fn parked_have_ended()
+    ensures { ParkedHaveEnded }
+{}
+
+/// A seat that was told no pod has started.
+pub fn untold_has_started()
+    ensures { UntoldHasStarted }
+{}
+
+/// An answer that takes no node leaves the start, where it tells no pod, is a list of all pods, or comes
+/// after one.
+pub fn start_goes_on()
+    ensures { StartGoesOn }
 {}

@@ -1,5 +1,5 @@
 -- What begins on a key has its evidence, where the look-up shows what was told newest; and it has a next call.
-use Rattle.std.proofs.Common.{◌≡◌, List, Bool, true, false, Option, Some, None, refl, sym, ◌∙◌, ap, subst, if◌then◌else◌}
+use Rattle.std.proofs.Common.{◌≡◌, List, Bool, true, false, true≢false, Option, Some, None, refl, sym, ◌∙◌, ap, subst, if◌then◌else◌}
 use Rattle.std.specs.Prelude.{is_some}
 use Rattle.std.specs.List.{list_any}
 use Rattle.kube_types.specs.declared.key.Key.{Key}
@@ -22,14 +22,16 @@ use Rattle.model_laws.proofs.Evidence.{told_map}
 use Rattle.model_laws.proofs.Lists.{none_some, one}
 use Rattle.model_laws.proofs.Newest.{newest_told}
 use Rattle.protect_sync.specs.declared.claims.ClaimGuardOp.{ClaimGuardOp}
+use Rattle.protect_sync.specs.declared.claims.ClaimGuardStep.{ClaimGuardStep}
 use Rattle.protect_sync.specs.declared.claims.ClaimGuardStep.TheVariants as claims
 use Rattle.protect_sync.specs.declared.volumes.VolumeGuardOp.{VolumeGuardOp}
+use Rattle.protect_sync.specs.declared.volumes.VolumeGuardStep.{VolumeGuardStep}
 use Rattle.protect_sync.specs.declared.volumes.VolumeGuardStep.TheVariants as volumes
-use Rattle.protect_sync.specs.BeginLaw.{BegunClaimsHaveCalls, BegunVolumesHaveCalls}
-use Rattle.protect_sync.specs.ClaimGuards.{claim_call, list_call}
+use Rattle.protect_sync.specs.BeginLaw.{BegunClaimsHaveCalls, BegunVolumesHaveCalls, ParkedClaimsHaveEnded, ParkedVolumesHaveEnded}
+use Rattle.protect_sync.specs.ClaimGuards.{call_at, claim_call, claim_parks, list_call}
 use Rattle.protect_sync.specs.Decisions.{claim_begins, claim_for, volume_begins, volume_for}
 use Rattle.protect_sync.specs.Evidence.{ClaimKeeps, VolumeKeeps}
-use Rattle.protect_sync.specs.VolumeGuards.{volume_call}
+use Rattle.protect_sync.specs.VolumeGuards.{call_at as volume_call_at, volume_call, volume_parks}
 
 -- of an object that stays it counts for nothing whether it is needed
 pub staying : (deleting guarded needed : Bool) → deleting ≡ false → guard_due deleting guarded needed ≡ guard_due deleting guarded false
@@ -137,3 +139,26 @@ begun_volumes_have_calls (Some (Class x)) op e = none_some e
 begun_volumes_have_calls (Some (Node x)) op e = none_some e
 begun_volumes_have_calls (Some (Claim x)) op e = none_some e
 begun_volumes_have_calls (Some (Pod x)) op e = none_some e
+
+-- what is parked has ended
+
+pub parked_claims_have_ended : ParkedClaimsHaveEnded
+unfolding claim_call
+parked_claims_have_ended op = by op.step
+  where
+    by : (step : ClaimGuardStep) → claim_parks step ≡ true → call_at step op.claim ≡ None
+    by claims.Parked e = refl
+    by claims.Adds e = absurd (true≢false (sym e))
+    by claims.ListsPods e = absurd (true≢false (sym e))
+    by claims.Drops e = absurd (true≢false (sym e))
+    by claims.Done e = absurd (true≢false (sym e))
+
+pub parked_volumes_have_ended : ParkedVolumesHaveEnded
+unfolding volume_call
+parked_volumes_have_ended op = by op.step
+  where
+    by : (step : VolumeGuardStep) → volume_parks step ≡ true → volume_call_at step op.volume ≡ None
+    by volumes.Parked e = refl
+    by volumes.Adds e = absurd (true≢false (sym e))
+    by volumes.Drops e = absurd (true≢false (sym e))
+    by volumes.Done e = absurd (true≢false (sym e))

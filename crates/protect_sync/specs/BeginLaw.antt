@@ -9,9 +9,9 @@ use Rattle.call_types.specs.declared.request.Request.{Request}
 use Rattle.call_types.specs.declared.request.Request.TheVariants as requests
 use Rattle.protect_sync.specs.declared.claims.ClaimGuardOp.{ClaimGuardOp}
 use Rattle.protect_sync.specs.declared.volumes.VolumeGuardOp.{VolumeGuardOp}
-use Rattle.protect_sync.specs.ClaimGuards.{claim_call}
+use Rattle.protect_sync.specs.ClaimGuards.{claim_call, claim_parks}
 use Rattle.protect_sync.specs.Decisions.{claim_begins, volume_begins}
-use Rattle.protect_sync.specs.VolumeGuards.{volume_call}
+use Rattle.protect_sync.specs.VolumeGuards.{volume_call, volume_parks}
 
 -- each object has its UID
 abbrev pub AreKnown : List Object → Type 0
@@ -33,3 +33,11 @@ ClaimCallsReadNoKind = (op : ClaimGuardOp) (request : Request) → claim_call op
 
 abbrev pub VolumeCallsReadNoKind : Type 0
 VolumeCallsReadNoKind = (op : VolumeGuardOp) (request : Request) → volume_call op ≡ Some request → ReadsNoKind request
+
+-- a machine whose key is parked has ended
+
+abbrev pub ParkedClaimsHaveEnded : Type 0
+ParkedClaimsHaveEnded = (op : ClaimGuardOp) → claim_parks op.step ≡ true → claim_call op ≡ None
+
+abbrev pub ParkedVolumesHaveEnded : Type 0
+ParkedVolumesHaveEnded = (op : VolumeGuardOp) → volume_parks op.step ≡ true → volume_call op ≡ None

@@ -10,7 +10,7 @@ ghost use Rattle.binder_model.specs.Licence.{AreOfKind, Licensed};
 ghost use Rattle.informer_cache.specs.All.{AllKnown, AllStandFor, all_objects};
 ghost use Rattle.protect_sync.specs.declared.claims.ClaimGuardOp.{ClaimGuardOp};
 ghost use Rattle.protect_sync.specs.declared.volumes.VolumeGuardOp.{VolumeGuardOp};
-ghost use Rattle.protect_sync.specs.BeginLaw.{BegunClaimsHaveCalls, BegunVolumesHaveCalls, ClaimCallsReadNoKind, VolumeCallsReadNoKind};
+ghost use Rattle.protect_sync.specs.BeginLaw.{BegunClaimsHaveCalls, BegunVolumesHaveCalls, ClaimCallsReadNoKind, ParkedClaimsHaveEnded, ParkedVolumesHaveEnded, VolumeCallsReadNoKind};
 ghost use Rattle.protect_sync.specs.ClaimGuards.{claim_call, claim_moved};
 ghost use Rattle.protect_sync.specs.Decisions.{claim_begins, volume_begins};
 ghost use Rattle.protect_sync.specs.Evidence.{ClaimKeeps, VolumeKeeps};
@@ -64,4 +64,14 @@ pub fn begun_volumes_have_calls()
 /// No call of a volume's machine lists or watches a whole kind.
 pub fn volume_calls_read_no_kind()
     ensures { VolumeCallsReadNoKind }
+{}
+
+/// A claim's machine whose key is parked has ended.
+pub fn parked_claims_have_ended()
+    ensures { ParkedClaimsHaveEnded }
+{}
+
+/// A volume's machine whose key is parked has ended.
+pub fn parked_volumes_have_ended()
+    ensures { ParkedVolumesHaveEnded }
 {}
