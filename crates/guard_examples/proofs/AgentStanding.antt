@@ -48,4 +48,6 @@ agent_evidence_examples = record {
   started_by_a_list_before_a_watch = (λ e. inr (inl (refl, refl)), (λ e. inl (refl, refl), refl));
   watch_without_a_list_is_no_start = λ h. neither (λ x. true≢false (sym x.1)) (λ x. x) (h.0 refl);
   list_before_the_node_was_taken_is_no_start = λ h. true≢false h;
+  node_was_taken_first = record { untold = refl; unlisted = λ h. neither (λ x. true≢false (sym x.1)) (λ x. x) h };
+  list_without_pods_came_first = λ h. h.unlisted (inr (inl (refl, refl)));
 }

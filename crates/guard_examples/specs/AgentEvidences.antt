@@ -6,6 +6,7 @@ use Rattle.call_types.specs.declared.request.SeatKind.TheVariants as seats
 use Rattle.node_agent.specs.declared.agent.AgentOp.{AgentOp}
 use Rattle.node_agent.specs.declared.step.AgentStep.TheVariants as steps
 use Rattle.node_agent.specs.Evidence.{AgentKeeps, HasStarted}
+use Rattle.node_agent.specs.StartLaw.{TookFirst}
 use Rattle.model_examples.specs.Samples.{Exchange, ending_p, lists, node_1, p, seat_of, takes, tells_pod}
 use Rattle.model_examples.specs.AgentRows.{mounted, row_of}
 use Rattle.model_examples.specs.Samples.{uid_p}
@@ -32,3 +33,5 @@ pub record AgentEvidenceExamples : Type 0 where
   pub started_by_a_list_before_a_watch : Started (watches_p ∷ lists kinds.Pod [] 8 ∷ takes node_1 1 ∷ [])
   pub watch_without_a_list_is_no_start : Started (watches_p ∷ takes node_1 1 ∷ []) → ⊥
   pub list_before_the_node_was_taken_is_no_start : Started (takes node_1 1 ∷ tells_pod p ∷ []) → ⊥
+  pub node_was_taken_first : TookFirst node_1 (seat_of seats.Agent (tells_pod p ∷ takes node_1 1 ∷ []))
+  pub list_without_pods_came_first : TookFirst node_1 (seat_of seats.Agent (takes node_1 1 ∷ lists kinds.Pod [] 8 ∷ [])) → ⊥

@@ -1,10 +1,8 @@
 -- How the start of an agent comes to stand and goes on; and a machine whose key is parked has ended.
-use Rattle.std.proofs.Common.{◌≡◌, ◌∙◌, ℕ, List, [], ◌∷◌, Bool, true, false, true≢false, Option, Some, None, refl, sym, subst}
+use Rattle.std.proofs.Common.{◌≡◌, ◌∙◌, ℕ, [], ◌∷◌, Bool, true, false, true≢false, Option, None, refl, sym, subst}
 use Rattle.std.specs.Prelude.{is_some}
 use Rattle.std.specs.List.{list_any}
-use Rattle.call_types.specs.declared.entry.Entry.{Entry}
 use Rattle.binder_model.specs.AgentLicence.{epoch_in}
-use Rattle.node_agent.specs.declared.agent.AgentOp.{AgentOp}
 use Rattle.node_agent.specs.declared.step.AgentStep.{AgentStep}
 use Rattle.node_agent.specs.declared.step.AgentStep.TheVariants as steps
 use Rattle.node_agent.specs.Agents.{agent_call, agent_parks, call_at}

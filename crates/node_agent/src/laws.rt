@@ -13,7 +13,7 @@ ghost use Rattle.node_agent.specs.declared.agent.AgentOp.{AgentOp};
 ghost use Rattle.node_agent.specs.Agents.{agent_begins, agent_call, agent_moved};
 ghost use Rattle.node_agent.specs.BeginLaw.{BegunHaveCalls, CallsReadNoKind};
 ghost use Rattle.node_agent.specs.Evidence.{AgentKeeps, MayDecide};
-ghost use Rattle.node_agent.specs.StartLaw.{ParkedHaveEnded, StartGoesOn, UntoldHasStarted};
+ghost use Rattle.node_agent.specs.StartLaw.{LicensedHasStarted, ParkedHaveEnded, StartGoesOn, UntoldHasStarted, UntoldIsUnfinished};
 
 /// The next call of a machine is allowed by its evidence.
 pub fn calls_are_allowed()
@@ -55,4 +55,14 @@ pub fn untold_has_started()
 /// after one.
 pub fn start_goes_on()
     ensures { StartGoesOn }
+{}
+
+/// An agent that took its node first has started, by the licence of its reads.
+pub fn licensed_has_started()
+    ensures { LicensedHasStarted }
+{}
+
+/// A seat that was never told the pod deleting never asked to finish it.
+pub fn untold_is_unfinished()
+    ensures { UntoldIsUnfinished }
 {}
