@@ -1,2 +1,2 @@
 mod Building
-mod Raising
+pub mod Readable

@@ -6,8 +6,6 @@
 //! that is not built (`specs/Limits`).
 #![tactic(auto)]
 
-pub mod budget;
 pub mod built;
 pub mod loss;
 pub mod part;
-pub mod parts;

@@ -1,9 +1,0 @@
-mod Beginning
-mod Casting
-mod Calling
-mod Lives
-mod Orders
-mod Since
-mod Staging
-mod Stepping
-mod Turning

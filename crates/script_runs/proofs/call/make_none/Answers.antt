@@ -1,5 +1,0 @@
-use Rattle.script_runs.proofs.Calling.{lost_called}
-use Rattle.script_runs.proofs.call.make_none.Goals as goal
-
-pub returns-clause-called : goal.returns-clause-called
-returns-clause-called c = lost_called _ _ _ _ _ _ c.in_ok-absorb.ensures.state c.in_ok-absorb.ensures.lost_before
