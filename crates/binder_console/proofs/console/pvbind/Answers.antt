@@ -1,6 +1,6 @@
 use Rattle.std.proofs.Common.{◌≡◌, Some}
 use Rattle.binder_console.specs.declared.answers.Answer.TheVariants.{Refusal}
-use Rattle.binder_console.specs.Commands.{command_of}
+use Rattle.binder_console.specs.Commands.{task_of}
 use Rattle.binder_console.proofs.Ends.{of_refusal, refused, refused_cut, long_cut}
 use Rattle.binder_console.proofs.console.pvbind.Goals as goal
 
