@@ -1,4 +1,4 @@
 pub mod Ends
 pub mod Numbering
 pub mod Refusals
-pub mod Replaying
+pub mod Promises

@@ -1,12 +1,12 @@
 -- What a replay promises, and what it writes. The newest entry of a history stands first.
 -- The format is a choice of this project.
 use Rattle.std.specs.Prelude.{ℕ, ◌≡◌, List, Option, length, reverse, Ok}
-use Rattle.std.specs.List.{count_by}
 use Rattle.call_types.specs.declared.entry.Entry.{Entry}
 use Rattle.call_types.specs.declared.setup.Setup.{Setup}
 use Rattle.binder_model.specs.World.{World, world}
 use Rattle.binder_model.specs.Run.{Run}
 use Rattle.binder_model.specs.Safe.{Safe}
+use Rattle.device_model.specs.Kept.{count_there}
 use Rattle.world_core.specs.declared.drained.Drained.{Drained}
 use Rattle.world_core.specs.declared.drained.Drained.TheVariants.{Settled, Spent}
 use Rattle.history_text.specs.declared.summary.Ending.{Ending}
@@ -28,7 +28,7 @@ ending_of (Spent made key due) = endings.Unsettled made key due
 
 -- the numbers of the last world, and how its drains ended
 unfoldable pub last_summary : World → Drained → Summary
-last_summary w ending = summary_of w.store.rows w.store.version (length w.devices.mounts) (count_by (λ d. d.there) w.devices.stored) w.devices.calls (ending_of ending)
+last_summary w ending = summary_of w.store.rows w.store.version (length w.devices.mounts) (count_there w.devices.stored) w.devices.calls (ending_of ending)
 
 -- the setup and the entries, the oldest first; then the objects and the numbers of the last world
 unfoldable pub replay_text : Setup → List Entry → Drained → List ℕ
