@@ -1,2 +1,3 @@
 mod Building
+mod Computed
 pub mod Readable

@@ -8,7 +8,7 @@ use Rattle.std.proofs.lemmas.List.{length-map}
 use Rattle.serde_json.specs.Data.{Num, unsigned, negative, float, Data, null, boolean, number, string, array, object}
 use Rattle.plain_data.specs.Pairs.{Pair}
 use Rattle.kube_types.specs.declared.objects.Object.{Object}
-use Rattle.call_types.specs.declared.request.Request.{Request}
+use Rattle.object_text.specs.declared.errors.Member.TheVariants as manifests
 use Rattle.script_lines.specs.declared.line_member.LineMember.{LineMember}
 use Rattle.script_lines.specs.declared.line_member.LineMember.TheVariants as members
 use Rattle.script_lines.specs.declared.errors.Reason.{Reason}
@@ -16,7 +16,6 @@ use Rattle.script_lines.specs.declared.errors.Reason.TheVariants.{BadValue, TooL
 use Rattle.script_lines.specs.declared.errors.BadLine.{BadLine}
 use Rattle.script_lines.specs.declared.verbs.Verb.{Verb}
 use Rattle.script_lines.specs.declared.verbs.Verb.TheVariants as verbs
-use Rattle.script_lines.specs.Actors.{actor_word}
 use Rattle.script_lines.specs.Answers.{◌>>=◌, unless}
 use Rattle.script_lines.specs.Members.{at, needed, number_in, count_of, count_at, most_turn, user_from, user_at, text_at, key_at, kind_at, condition_at, object_at, actor_at, when_at, new_call_at, size_at, topology_at, edit_at}
 use Rattle.script_text.specs.declared.script.Line.{Line}
@@ -25,7 +24,7 @@ use Rattle.script_text.specs.declared.script.Meaning.{Meaning}
 use Rattle.script_text.specs.declared.script.Meaning.TheVariants as meanings
 use Rattle.script_text.specs.declared.script.Numbered.{Numbered}
 use Rattle.script_text.specs.declared.script.Script.{Script}
-use Rattle.script_text.specs.Said.{Said, nothing_said, and_said, agents_after, agents_of, and_node, created_by, created_node, creates, node_name, nodes_of, numbered_of}
+use Rattle.script_text.specs.Said.{Said, nothing_said, and_said, agents_after, agents_of, and_node, created_by, created_node, creates, node_name, numbered_of}
 use Rattle.script_text.specs.LineReaders.{create_line, update_line, edit_line, delete_line, get_line, list_line, time_line, pool_line, fault_line, lose_line, restart_line, turn_line, as_line, meaning_by, meaning_of, verb_at}
 use Rattle.script_text.specs.Grammar.{agents_in, and_filled, and_line, at_line, create_limit, first_of, is_blank, limit_of, line_limit, line_value, lines_of, most_line_bytes, most_lines, most_nodes, most_objects, numbered_from, passed, read_numbered_of, said_from, said_in, script_from, script_of, unless_passed}
 use Rattle.script_parts.specs.Limits.{AreWithinLimits, IsReadable, IsWithinLimits}
@@ -134,7 +133,7 @@ line_has (Err e) h = tt
 
 pool_has : (d : Data) → Has IsMeaningWithin (pool_line d)
 unfolding pool_line
-pool_has d = then_has IsMeaningWithin (text_at _ d) _ (λ name _. then_has IsMeaningWithin (text_at _ d) _ (λ provisioner _. then_has IsMeaningWithin (size_at d) _ (λ amount _. then_has IsMeaningWithin (topology_at d) _ (λ topology _. tt))))
+pool_has d = then_has IsMeaningWithin (text_at (members.Of manifests.Name) d) _ (λ name _. then_has IsMeaningWithin (text_at (members.Of manifests.Provisioner) d) _ (λ provisioner _. then_has IsMeaningWithin (size_at d) _ (λ amount _. then_has IsMeaningWithin (topology_at d) _ (λ topology _. tt))))
 
 fault_has : (faults : List ℕ) (d : Data) → Has IsMeaningWithin (fault_line faults d)
 unfolding fault_line
@@ -179,8 +178,8 @@ few_nodes lines none = by (nat_lt most_objects (creates lines)) (nat_lt most_nod
     by false true is h = absurd (cc)
     by false false is h = ltb-false 8 (length (agents_of lines)) is
 
-created_few : (lines : List Line) (o : Option Object) → create_limit (lines) (is_some o) ≡ None → (option_and_then node_name o ≡ None → length (agents_of lines) ≤ 8) → length (agents_of lines) ≤ 8
-created_few lines (Some object) none h = few_nodes lines none
+created_few : (lines : List Line) (created : Option Object) → create_limit lines (is_some created) ≡ None → (option_and_then node_name created ≡ None → length (agents_of lines) ≤ 8) → length (agents_of lines) ≤ 8
+created_few lines (Some o) none h = few_nodes lines none
 created_few lines None none h = h refl
 
 nodes_kept : (lines : List Line) (line : Line) → line_limit (lines ++ line ∷ []) line ≡ None → length (agents_of lines) ≤ 8 → length (agents_of (lines ++ line ∷ [])) ≤ 8

@@ -113,5 +113,5 @@ seats_from seat (node ∷ nodes) = seat ∷ seats_from (seat + 1) nodes
 
 abbrev pub drain_seats : Script → List ℕ
 drain_seats script =
-    drain_seat script ∷ drain_seat script + 1 ∷ drain_seat script + 2 ∷ drain_seat script + 3 ∷ drain_seat script + 4
+    drain_seat script ∷ (drain_seat script + 1) ∷ (drain_seat script + 2) ∷ (drain_seat script + 3) ∷ (drain_seat script + 4)
     ∷ seats_from (drain_seat script + 5) script.node_names

@@ -6,6 +6,9 @@
 //! that is not built (`specs/Limits`).
 #![tactic(auto)]
 
+pub mod budget;
 pub mod built;
+pub mod examples;
 pub mod loss;
 pub mod part;
+pub mod parts;

@@ -1,5 +1,8 @@
 //! Calls that are lost.
 
+ghost use Rattle.std.specs.Prelude.{◌≡◌};
+ghost use Rattle.script_parts.specs.Fates.{fate_by, fate_of};
+
 /// What becomes of a call: its answer is told, or it is lost before its effect or after it.
 #[derive(Clone, Copy, Debug, PartialEq, Eq)]
 pub enum Fate {
@@ -13,4 +16,26 @@ pub enum Fate {
 pub struct Loss {
     pub call: u64,
     pub after: bool,
+}
+
+/// What becomes of the call of this number.
+pub fn fate_of(losses: &[Loss], number: u64) -> Fate
+    ensures { result ≡ fate_of losses.now number }
+{
+    for loss in losses {
+        if loss.call == number {
+            return fate_by(loss.after);
+        }
+    }
+    Fate::Told
+}
+
+fn fate_by(after: bool) -> Fate
+    ensures { result ≡ fate_by after }
+{
+    if after {
+        Fate::LostAfter
+    } else {
+        Fate::LostBefore
+    }
 }
