@@ -4,16 +4,31 @@ use Rattle.std.specs.declared.option.Option.{Option}
 use Rattle.std.specs.declared.alloc.Global.{Global}
 use Rattle.fault_io.specs.Reading.{IsLongerThan}
 use Rattle.binder_console.specs.declared.status.Status.{Status}
-use Rattle.binder_console.specs.declared.status.Status.TheVariants.{Refused, WriteFault}
+use Rattle.binder_console.specs.declared.status.Status.TheVariants.{Done, Unsettled, Refused, WriteFault}
 use Rattle.binder_console.specs.declared.commands.Task.{Task}
 use Rattle.binder_console.specs.declared.answers.Answer.{Answer}
-use Rattle.binder_console.specs.declared.answers.Answer.TheVariants.{Refusal}
+use Rattle.binder_console.specs.declared.answers.Answer.TheVariants as answers
 use Rattle.binder_console.specs.Commands.{task_of}
-use Rattle.binder_console.specs.Outcomes.{IsAnswer, Refuses, EndsCut, EndsRefused, OfRefusal, TooLong, OfInput, IsInput, Written, Whole, Front, most_input, too_long_text}
+use Rattle.binder_console.specs.Outcomes.{Answers, IsAnswer, Refuses, EndsCut, EndsRefused, OfRefusal, OfTask, TooLong, OfInput, IsInput, Written, Whole, Front, most_input, too_long_text}
+
+-- ---- of an input of which the task is done
+
+pub of_output : (task : Task) (input text : List ℕ) (answer : Answer) → answer ≡ answers.Output text → IsAnswer task input answer → Answers task Done input text
+of_output task input text answer same h = subst (IsAnswer task input) same h
+
+pub of_unsettled : (task : Task) (input text : List ℕ) (answer : Answer) → answer ≡ answers.Unsettled text → IsAnswer task input answer → Answers task Unsettled input text
+of_unsettled task input text answer same h = subst (IsAnswer task input) same h
+
+pub done_cut : (task : Task) (words : List (String Global)) (left written now : Option (List ℕ)) (old new : ℕ) (input text : List ℕ) (want status : Status)
+    → task_of words ≡ Some task → IsInput left input → Answers task want input text → Written written now old new text want status
+    → (want ≡ WriteFault → ⊥) → status ≡ WriteFault → EndsCut words left written now
+done_cut task words left written now old new input text want status asked read answers (Whole e a) other h = absurd (other (cc))
+done_cut task words left written now old new input text want status asked read answers (Front e r f) other h =
+    record { text = text; due = OfTask task want asked (record { input = input; read = read; answered = answers }); front = f }
 
 -- ---- of an input that is refused
 
-pub of_refusal : (task : Task) (input text : List ℕ) (answer : Answer) → answer ≡ Refusal text → IsAnswer task input answer → Refuses task input text
+pub of_refusal : (task : Task) (input text : List ℕ) (answer : Answer) → answer ≡ answers.Refusal text → IsAnswer task input answer → Refuses task input text
 of_refusal task input text answer same h = subst (IsAnswer task input) same h
 
 pub refused : (task : Task) (words : List (String Global)) (left written now : Option (List ℕ)) (old new : ℕ) (input text : List ℕ) (status : Status)

@@ -3,7 +3,6 @@ use Rattle.std.proofs.Common.{◌≡◌, ℕ, ◌+◌, ◌<◌, ◌≤◌, List,
 use Rattle.std.specs.Bool.{⊤}
 use Rattle.std.specs.Prelude.{nat_lt}
 use Rattle.std.specs.List.{list_all}
-use Rattle.serde_json.specs.Data.{Data}
 use Rattle.plain_data.specs.Pairs.{Pair}
 use Rattle.script_lines.specs.declared.errors.Reason.{Reason}
 use Rattle.script_lines.specs.declared.errors.Reason.TheVariants.{TooLong, TooManyLines}
@@ -93,11 +92,11 @@ numbered_has bytes = by (said_in (lines_of bytes)) (all_numbered (agents_in (lin
 
 unbuilt_within : (place : ℕ) (lines : List Line) (first : ℕ) → unbuilt_from place lines ≡ Some first → first < place + length lines
 unbuilt_within place [] first some = absurd (cc)
-unbuilt_within place (line ∷ lines) first some = by (is_line_built line) some
+unbuilt_within place (line ∷ lines) first some = by (is_line_built line) some (λ rest. unbuilt_within (place + 1) lines first rest)
   where
-    by : (b : Bool) → (if b then unbuilt_from (place + 1) lines else Some place) ≡ Some first → first < place + length (line ∷ lines)
-    by true e = let within = unbuilt_within (place + 1) lines first e in omega (arith, within)
-    by false e = let same : place ≡ first = cc in omega (arith, same)
+    by : (b : Bool) → (if b then unbuilt_from (place + 1) lines else Some place) ≡ Some first → (unbuilt_from (place + 1) lines ≡ Some first → first < place + 1 + length lines) → first < place + length (line ∷ lines)
+    by true e next = let within = next e in omega (arith, within)
+    by false e next = let same : place ≡ first = cc in omega (arith, same)
 
 -- it has a number
 pub unbuilt_has_number : (bytes : List ℕ) (n : Numbered) (place : ℕ) → read_numbered_of bytes ≡ Ok n → first_unbuilt n.script.lines ≡ Some place → place < length n.numbers

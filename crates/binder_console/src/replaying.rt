@@ -20,6 +20,7 @@ use std::alloc::Global;
 use world_core::drained::Drained;
 
 /// The script of an input, each of whose actors is built.
+#[tactic(auto, using(crate::proofs::Numbering::unbuilt_has_number, script_parts::proofs::Readable::numbered_is_readable))]
 fn read_replayable(alloc: Global, input: &[u8]) -> Result<Script, ReplayError>
     ensures ok { IfOk result (λ script. replayable input.now ≡ Ok script) }
     ensures readable { IfOk result IsReadable }
