@@ -1,4 +1,3 @@
 pub mod Ends
 pub mod Numbering
 pub mod Refusals
-pub mod Promises

@@ -19,11 +19,7 @@ pub enum Answer {
     Refusal(Bytes),
 }
 
-fn answer_replay(
-    alloc: Global,
-    input: &[u8],
-    budget: Option<u64>,
-) -> Result<Answer, OutOfMemory>
+fn answer_replay(alloc: Global, input: &[u8], budget: Option<u64>) -> Result<Answer, OutOfMemory>
     ensures { IfOk result (IsAnswer (Task.Replay budget) input.now) }
 {
     match replayed(alloc, input, budget) {

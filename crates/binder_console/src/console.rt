@@ -64,7 +64,7 @@ pub fn pvbind<R: Threads + Wait + Sync, S: Source, K: Sink, G: Gate>(
     ensures done { result ≡ Status.Done → EndsWith Status.Done words.now (S.left source.old) (K.written sink.old) (K.written sink.new) }
     ensures unsettled { result ≡ Status.Unsettled → EndsWith Status.Unsettled words.now (S.left source.old) (K.written sink.old) (K.written sink.new) }
     ensures to_the_end { result ≡ Status.Done → IsLeft (S.left source.new) [] }
-    ensures as_far { result ≡ Status.Unsettled → IsLeft (S.left source.new) [] }
+    ensures unsettled_to_the_end { result ≡ Status.Unsettled → IsLeft (S.left source.new) [] }
 
     // Usage exactly where the words ask for nothing, but for want of memory and a fault of writing; the source is not read then.
     ensures usage { result ≡ Status.Usage → Appends (K.written sink.old) (K.written sink.new) usage_text }

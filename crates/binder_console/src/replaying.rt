@@ -38,11 +38,7 @@ fn read_replayable(alloc: Global, input: &[u8]) -> Result<Script, ReplayError>
 }
 
 /// The text of the replay of an input, told apart by how the last drain ended.
-pub fn replayed(
-    alloc: Global,
-    input: &[u8],
-    budget: Option<u64>,
-) -> Result<Answer, ReplayError>
+pub fn replayed(alloc: Global, input: &[u8], budget: Option<u64>) -> Result<Answer, ReplayError>
     ensures ok { IfOk result (IsAnswer (Task.Replay budget) input.now) }
     ensures refused { IfNotReplayed result (λ e. replayable input.now ≡ Err e) }
 {
