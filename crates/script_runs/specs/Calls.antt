@@ -1,6 +1,6 @@
 -- The calls of an actor, counted over its lives, lost ones too. The newest entry of a history stands first.
 -- A choice of this project, after what a controller of Kubernetes meets: calls are lost, and it is restarted.
-use Rattle.std.specs.Prelude.{ℕ, ◌≡◌, ◌<◌, ◌⊎◌, ◌+◌, ◌-◌, nat_lt, Bool, true, false, List, [], ◌∷◌, ◌++◌, if◌then◌else◌}
+use Rattle.std.specs.Prelude.{ℕ, ◌≡◌, ◌⊎◌, ◌+◌, nat_lt, Bool, true, false, List, [], ◌∷◌, ◌++◌, if◌then◌else◌}
 use Rattle.kube_types.specs.declared.parts.Kind.{Kind}
 use Rattle.call_types.specs.declared.entry.Entry.{Entry}
 use Rattle.call_types.specs.declared.request.Request.{Request}
@@ -14,7 +14,6 @@ use Rattle.worker_core.specs.Stands.{HasNoNews}
 use Rattle.script_parts.specs.declared.loss.Fate.{Fate}
 use Rattle.script_parts.specs.declared.loss.Fate.TheVariants.{Told, LostBefore, LostAfter}
 use Rattle.script_parts.specs.Fates.{fate_of}
-use Rattle.script_parts.specs.Parts.{lives_by}
 use Rattle.script_parts.specs.declared.part.Part.{Part}
 
 -- how many of the restarts come before the call of this number: a restart comes after so many calls

@@ -1,8 +1,6 @@
 -- Whose calls the history of a replayed script has. The newest entry of a history stands first.
 -- A choice of this project.
-use Rattle.std.specs.Prelude.{ℕ, ◌≡◌, ◌≤◌, ◌<◌, ◌⊎◌, ◌+◌, ◌==◌, Bool, true, List, [], ◌∷◌, Option, Some, None, bytes_eq, if◌then◌else◌}
-use Rattle.kube_types.specs.declared.key.Key.{Key}
-use Rattle.kube_types.specs.declared.names.Due.{Due}
+use Rattle.std.specs.Prelude.{ℕ, ◌≡◌, ◌≤◌, ◌<◌, ◌⊎◌, ◌+◌, ◌==◌, true, List, [], ◌∷◌, Option, Some, bytes_eq, if◌then◌else◌}
 use Rattle.call_types.specs.declared.entry.Entry.{Entry}
 use Rattle.call_types.specs.declared.request.Request.{Request}
 use Rattle.call_types.specs.declared.request.SeatKind.TheVariants as seats
@@ -19,7 +17,7 @@ use Rattle.script_text.specs.declared.script.Line.TheVariants.{Call, Lose, Resta
 use Rattle.script_text.specs.declared.script.Script.{Script}
 use Rattle.script_parts.specs.declared.part.Part.{Part}
 use Rattle.script_parts.specs.Budget.{first_budget, raised}
-use Rattle.script_runs.specs.Calls.{AreCalls, IsOneMore, MayEnd, seat_at}
+use Rattle.script_runs.specs.Calls.{AreCalls, MayEnd, seat_at}
 use Rattle.script_parts.specs.Parts.{drain_seats, part_of}
 
 -- how far a replay has come

@@ -5,4 +5,7 @@
 //! that a drain's budget is enough; that an actor does what is due.
 #![tactic(auto)]
 
+mod call;
+mod player;
 pub mod replay;
+mod stage;

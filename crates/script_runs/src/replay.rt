@@ -1,10 +1,10 @@
 //! A script replayed.
 
-ghost use Rattle.std.specs.Prelude.{◌≡◌, ◌<◌, ◌^◌, IfOk};
-ghost use Rattle.binder_model.specs.Run.{Run};
+ghost use Rattle.std.specs.Prelude.{◌≡◌, IfOk};
 ghost use Rattle.script_parts.specs.Limits.{AreBuilt, IsReadable};
 ghost use Rattle.script_runs.specs.Replays.{IsReplay};
 
+use crate::stage::begin;
 use kube_types::copies::OutOfMemory;
 use script_text::script::Script;
 use std::alloc::Global;
@@ -27,11 +27,19 @@ impl Drop for Replayed {
 
 /// Goes through the lines of a script in order, on one thread, and then drains. Without a given budget that of all drains is
 /// raised as each begins. The script is one that the reader gives, and names actors that are built.
-pub fn replay(_alloc: Global, _script: &Script, _budget: Option<u64>) -> Result<Replayed, OutOfMemory>
-    requires readable { IsReadable _script.now }
-    requires built { AreBuilt _script.now.lines }
-    ensures replay { IfOk result (λ r. IsReplay _script.now _budget r.world.past r.ending) }
-    ensures setup { IfOk result (λ r. r.world.setup ≡ _script.now.setup) }
+pub fn replay(alloc: Global, script: &Script, budget: Option<u64>) -> Result<Replayed, OutOfMemory>
+    requires readable { IsReadable script.now }
+    requires built { AreBuilt script.now.lines }
+    ensures replay { IfOk result (λ r. IsReplay script.now budget r.world.past r.ending) }
+    ensures setup { IfOk result (λ r. r.world.setup ≡ script.now.setup) }
 {
-    Err(OutOfMemory)
+    let mut stage = begin(alloc, script, budget)?;
+    for place in 0..script.lines.as_slice().len() {
+        stage.play(script, budget, place)?;
+    }
+    let ending = stage.end(alloc, script, budget)?;
+    Ok(Replayed {
+        world: stage.into_world(),
+        ending,
+    })
 }
