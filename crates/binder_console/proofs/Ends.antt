@@ -4,37 +4,52 @@ use Rattle.std.specs.declared.option.Option.{Option}
 use Rattle.std.specs.declared.alloc.Global.{Global}
 use Rattle.fault_io.specs.Reading.{IsLongerThan}
 use Rattle.binder_console.specs.declared.status.Status.{Status}
-use Rattle.binder_console.specs.declared.status.Status.TheVariants.{Refused, WriteFault}
-use Rattle.binder_console.specs.declared.commands.Command.{Command}
+use Rattle.binder_console.specs.declared.status.Status.TheVariants.{Done, Unsettled, Refused, WriteFault}
+use Rattle.binder_console.specs.declared.commands.Task.{Task}
 use Rattle.binder_console.specs.declared.answers.Answer.{Answer}
-use Rattle.binder_console.specs.declared.answers.Answer.TheVariants.{Refusal}
-use Rattle.binder_console.specs.Commands.{command_of}
-use Rattle.binder_console.specs.Outcomes.{IsAnswer, Refuses, EndsCut, EndsRefused, OfRefusal, TooLong, OfInput, IsInput, Written, Whole, Front, most_input, too_long_text}
+use Rattle.binder_console.specs.declared.answers.Answer.TheVariants as answers
+use Rattle.binder_console.specs.Commands.{task_of}
+use Rattle.binder_console.specs.Outcomes.{Answers, IsAnswer, Refuses, EndsCut, EndsRefused, OfRefusal, OfTask, TooLong, OfInput, IsInput, Written, Whole, Front, most_input, too_long_text}
 
--- ---- of an input that the command refuses
+-- ---- of an input of which the task is done
 
-pub of_refusal : (command : Command) (input text : List ℕ) (answer : Answer) → answer ≡ Refusal text → IsAnswer command input answer → Refuses command input text
-of_refusal command input text answer same h = subst (IsAnswer command input) same h
+pub of_output : (task : Task) (input text : List ℕ) (answer : Answer) → answer ≡ answers.Output text → IsAnswer task input answer → Answers task Done input text
+of_output task input text answer same h = subst (IsAnswer task input) same h
 
-pub refused : (command : Command) (words : List (String Global)) (left written now : Option (List ℕ)) (old new : ℕ) (input text : List ℕ) (status : Status)
-    → command_of words ≡ Some command → IsInput left input → Refuses command input text → Written written now old new text Refused status
+pub of_unsettled : (task : Task) (input text : List ℕ) (answer : Answer) → answer ≡ answers.Unsettled text → IsAnswer task input answer → Answers task Unsettled input text
+of_unsettled task input text answer same h = subst (IsAnswer task input) same h
+
+pub done_cut : (task : Task) (words : List (String Global)) (left written now : Option (List ℕ)) (old new : ℕ) (input text : List ℕ) (want status : Status)
+    → task_of words ≡ Some task → IsInput left input → Answers task want input text → Written written now old new text want status
+    → (want ≡ WriteFault → ⊥) → status ≡ WriteFault → EndsCut words left written now
+done_cut task words left written now old new input text want status asked read answers (Whole e a) other h = absurd (other (cc))
+done_cut task words left written now old new input text want status asked read answers (Front e r f) other h =
+    record { text = text; due = OfTask task want asked (record { input = input; read = read; answered = answers }); front = f }
+
+-- ---- of an input that is refused
+
+pub of_refusal : (task : Task) (input text : List ℕ) (answer : Answer) → answer ≡ answers.Refusal text → IsAnswer task input answer → Refuses task input text
+of_refusal task input text answer same h = subst (IsAnswer task input) same h
+
+pub refused : (task : Task) (words : List (String Global)) (left written now : Option (List ℕ)) (old new : ℕ) (input text : List ℕ) (status : Status)
+    → task_of words ≡ Some task → IsInput left input → Refuses task input text → Written written now old new text Refused status
     → status ≡ Refused → EndsRefused words left written now
-refused command words left written now old new input text status named read refuses (Whole e a) h =
-    record { command = command; text = text; named = named; refused = OfInput input read refuses; appended = a }
-refused command words left written now old new input text status named read refuses (Front e r f) h = absurd (cc)
+refused task words left written now old new input text status asked read refuses (Whole e a) h =
+    record { task = task; text = text; asked = asked; refused = OfInput input read refuses; appended = a }
+refused task words left written now old new input text status asked read refuses (Front e r f) h = absurd (cc)
 
-pub refused_cut : (command : Command) (words : List (String Global)) (left written now : Option (List ℕ)) (old new : ℕ) (input text : List ℕ) (status : Status)
-    → command_of words ≡ Some command → IsInput left input → Refuses command input text → Written written now old new text Refused status
+pub refused_cut : (task : Task) (words : List (String Global)) (left written now : Option (List ℕ)) (old new : ℕ) (input text : List ℕ) (status : Status)
+    → task_of words ≡ Some task → IsInput left input → Refuses task input text → Written written now old new text Refused status
     → status ≡ WriteFault → EndsCut words left written now
-refused_cut command words left written now old new input text status named read refuses (Whole e a) h = absurd (cc)
-refused_cut command words left written now old new input text status named read refuses (Front e r f) h =
-    record { text = text; due = OfRefusal command named (OfInput input read refuses); front = f }
+refused_cut task words left written now old new input text status asked read refuses (Whole e a) h = absurd (cc)
+refused_cut task words left written now old new input text status asked read refuses (Front e r f) h =
+    record { text = text; due = OfRefusal task asked (OfInput input read refuses); front = f }
 
 -- ---- of an input that is too long
 
-pub long_cut : (command : Command) (words : List (String Global)) (left written now : Option (List ℕ)) (old new : ℕ) (status : Status)
-    → command_of words ≡ Some command → IsLongerThan most_input left → Written written now old new too_long_text Refused status
+pub long_cut : (task : Task) (words : List (String Global)) (left written now : Option (List ℕ)) (old new : ℕ) (status : Status)
+    → task_of words ≡ Some task → IsLongerThan most_input left → Written written now old new too_long_text Refused status
     → status ≡ WriteFault → EndsCut words left written now
-long_cut command words left written now old new status named long (Whole e a) h = absurd (cc)
-long_cut command words left written now old new status named long (Front e r f) h =
-    record { text = too_long_text; due = OfRefusal command named (TooLong long refl); front = f }
+long_cut task words left written now old new status asked long (Whole e a) h = absurd (cc)
+long_cut task words left written now old new status asked long (Front e r f) h =
+    record { text = too_long_text; due = OfRefusal task asked (TooLong long refl); front = f }

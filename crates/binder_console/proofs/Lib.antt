@@ -1,6 +1,3 @@
-pub mod Counts
-pub mod Amounts
-pub mod Objects
 pub mod Ends
+pub mod Numbering
 pub mod Refusals
-pub mod Plain

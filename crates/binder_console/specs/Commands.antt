@@ -1,14 +1,35 @@
--- The commands of the program. Their words are a choice of this project.
-use Rattle.std.specs.Prelude.{ℕ, List, [], ◌∷◌, Option, Some, None, codes, bytes_eq, if◌then◌else◌, String, string_bytes}
+-- What the words ask for. Their grammar is that of `command_words`. The commands that are not built yet, run, audit and gen,
+-- count as words outside it. A choice of this project.
+use Rattle.std.specs.Prelude.{◌≡◌, ⊤, List, map, Ok, Err, Option, Some, None, option_and_then, String, string_bytes}
 use Rattle.std.specs.declared.alloc.Global.{Global}
-use Rattle.binder_console.specs.declared.commands.Command.{Command}
-use Rattle.binder_console.specs.declared.commands.Command.TheVariants.{Replay, Check}
+use Rattle.std.specs.declared.result.Result.{Result}
+use Rattle.command_words.specs.declared.words.Command.{Command}
+use Rattle.command_words.specs.declared.words.Command.TheVariants as commands
+use Rattle.command_words.specs.declared.words.Options.{Options}
+use Rattle.command_words.specs.declared.words.Words.{Words}
+use Rattle.command_words.specs.declared.words.WordsError.{WordsError}
+use Rattle.command_words.specs.declared.words.WordsError.TheVariants.{Usage, OutOfMemory}
+use Rattle.command_words.specs.Grammar.{words_of}
+use Rattle.binder_console.specs.declared.commands.Task.{Task}
+use Rattle.binder_console.specs.declared.commands.Task.TheVariants.{Replay, Check}
 
-abbrev pub command_named : List ℕ → Option Command
-command_named word = if bytes_eq word (codes "replay") then Some Replay else (if bytes_eq word (codes "check") then Some Check else None)
+-- an option that the task does not use has no effect
+abbrev pub task_named : Command → Options → Option Task
+task_named commands.Replay options = Some (Replay options.budget)
+task_named commands.Check options = Some Check
+task_named commands.Run options = None
+task_named commands.Audit options = None
+task_named commands.Gen options = None
 
--- the words after the program's name are one word, that of a command
-abbrev pub command_of : List (String Global) → Option Command
-command_of [] = None
-command_of (word ∷ []) = command_named (string_bytes word)
-command_of (word ∷ more ∷ rest) = None
+abbrev pub task_by : Words → Option Task
+task_by said = task_named said.command said.options
+
+-- what the words after the program's name ask for, if they ask for anything
+abbrev pub task_of : List (String Global) → Option Task
+task_of words = option_and_then task_by (words_of (map string_bytes words))
+
+-- the answer is what the words ask for; want of memory says nothing of them
+abbrev pub Asks : Result Task WordsError → Option Task → Type 0
+Asks (Ok task) asked = asked ≡ Some task
+Asks (Err Usage) asked = asked ≡ None
+Asks (Err OutOfMemory) asked = ⊤

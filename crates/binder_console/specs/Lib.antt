@@ -1,8 +1,5 @@
-pub mod Readings
-pub mod PlainMembers
-pub mod PlainObjects
-pub mod PlainLines
+pub mod Commands
+pub mod Scripts
 pub mod Replays
 pub mod Checks
-pub mod Commands
 pub mod Outcomes

@@ -4,18 +4,17 @@ use Rattle.std.specs.declared.alloc.Global.{Global}
 use Rattle.fault_io.specs.Faults.{Rose}
 use Rattle.fault_io.specs.Reading.{IsLeft, IsLongerThan}
 use Rattle.fault_io.specs.Writing.{Appends, WritesFront}
-use Rattle.kube_types.specs.declared.objects.Object.{Object}
+use Rattle.object_text.specs.Listing.{list_of}
 use Rattle.binder_console.specs.declared.status.Status.{Status}
 use Rattle.binder_console.specs.declared.status.Status.TheVariants.{Done, Usage, Refused, Unsettled, ReadFault, WriteFault, Memory, AuditNo}
-use Rattle.object_text.specs.Listing.{list_of}
 use Rattle.binder_console.specs.declared.answers.Answer.{Answer}
-use Rattle.binder_console.specs.declared.answers.Answer.TheVariants.{Output, Refusal}
-use Rattle.binder_console.specs.declared.commands.Command.{Command}
-use Rattle.binder_console.specs.declared.commands.Command.TheVariants.{Replay, Check}
-use Rattle.binder_console.specs.Commands.{command_of}
+use Rattle.binder_console.specs.declared.answers.Answer.TheVariants as answers
+use Rattle.binder_console.specs.declared.commands.Task.{Task}
+use Rattle.binder_console.specs.declared.commands.Task.TheVariants.{Replay, Check}
 use Rattle.binder_console.specs.Checks.{ChecksList, RefusesList}
-use Rattle.binder_console.specs.PlainLines.{plain_objects}
-use Rattle.binder_console.specs.Replays.{IsReplayText}
+use Rattle.binder_console.specs.Commands.{task_of}
+use Rattle.binder_console.specs.Replays.{Replays}
+use Rattle.binder_console.specs.Scripts.{RefusesScript, replayable}
 
 -- the exit status
 abbrev pub status_number : Status → ℕ
@@ -34,12 +33,6 @@ IsFault ReadFault = ⊤
 IsFault WriteFault = ⊤
 IsFault Memory = ⊤
 IsFault status = ⊥
-
--- the program has no such end yet
-abbrev pub IsLater : Status → Type 0
-IsLater Unsettled = ⊤
-IsLater AuditNo = ⊤
-IsLater status = ⊥
 
 -- 1 MiB
 abbrev pub most_input : ℕ
@@ -61,64 +54,56 @@ usage_text = line (codes "usage: pvbind replay|run|audit|check|gen [--workers N]
 abbrev pub too_long_text : List ℕ
 too_long_text = line (codes "input: TooLong")
 
-abbrev pub unbuilt_text : List ℕ
-unbuilt_text = line (codes "input: Unbuilt")
+-- the task is done of the input with this status, and this is what is written
+abbrev pub Answers : Task → Status → List ℕ → List ℕ → Type 0
+Answers (Replay budget) status input text = Replays budget status input text
+Answers Check status input text = (status ≡ Done) × ChecksList input text
 
--- the input creates objects, and this is the text of their replay
-pub record ReplaysPlain (input text : List ℕ) : Type 0 where
-  pub objects : List Object
-  pub plain : plain_objects input ≡ Some objects
-  pub replayed : IsReplayText objects text
-
--- the command takes the input, and writes this
-abbrev pub Answers : Command → List ℕ → List ℕ → Type 0
-Answers Replay input text = ReplaysPlain input text
-Answers Check input text = ChecksList input text
-
--- the command refuses the input, and writes this
-abbrev pub Refuses : Command → List ℕ → List ℕ → Type 0
-Refuses Replay input text = (plain_objects input ≡ None) × (text ≡ unbuilt_text)
+-- the task is not done of the input, and this is what is written
+abbrev pub Refuses : Task → List ℕ → List ℕ → Type 0
+Refuses (Replay budget) input text = RefusesScript input text
 Refuses Check input text = RefusesList input text
 
--- the input is not one that the command takes
-abbrev pub IsNoInput : Command → List ℕ → Type 0
-IsNoInput Replay input = plain_objects input ≡ None
+-- the task is not done of such an input
+abbrev pub IsNoInput : Task → List ℕ → Type 0
+IsNoInput (Replay budget) input = IsErr (replayable input)
 IsNoInput Check input = IsErr (list_of input)
 
--- the input is refused, with this text: more is left than is read, or the command does not take it
-pub data RefusedWith (command : Command) (left : Option (List ℕ)) (text : List ℕ) : Type 0 where
-  TooLong : IsLongerThan most_input left → text ≡ too_long_text → RefusedWith command left text
-  OfInput : (input : List ℕ) → IsInput left input → Refuses command input text → RefusedWith command left text
+-- the input is refused, with this text: more is left than is read, or the task is not done of it
+pub data RefusedWith (task : Task) (left : Option (List ℕ)) (text : List ℕ) : Type 0 where
+  TooLong : IsLongerThan most_input left → text ≡ too_long_text → RefusedWith task left text
+  OfInput : (input : List ℕ) → IsInput left input → Refuses task input text → RefusedWith task left text
 
--- the command takes the input, and this is what it writes
-pub record AnsweredWith (command : Command) (left : Option (List ℕ)) (text : List ℕ) : Type 0 where
+-- the task is done of the whole input with this status, and this is what is written
+pub record AnsweredWith (task : Task) (status : Status) (left : Option (List ℕ)) (text : List ℕ) : Type 0 where
   pub input : List ℕ
   pub read : IsInput left input
-  pub answered : Answers command input text
+  pub answered : Answers task status input text
 
--- the text that is due: the usage line exactly where the words name no command, else a refusal or what the command writes
+-- the text that is due: the usage line exactly where the words ask for nothing, else a refusal or what the task writes
 pub data IsDueText (words : List (String Global)) (left : Option (List ℕ)) (text : List ℕ) : Type 0 where
-  OfUsage : command_of words ≡ None → text ≡ usage_text → IsDueText words left text
-  OfRefusal : (command : Command) → command_of words ≡ Some command → RefusedWith command left text → IsDueText words left text
-  OfReplay : command_of words ≡ Some Replay → AnsweredWith Replay left text → IsDueText words left text
-  OfCheck : command_of words ≡ Some Check → AnsweredWith Check left text → IsDueText words left text
+  OfUsage : task_of words ≡ None → text ≡ usage_text → IsDueText words left text
+  OfRefusal : (task : Task) → task_of words ≡ Some task → RefusedWith task left text → IsDueText words left text
+  OfTask : (task : Task) (status : Status) → task_of words ≡ Some task → AnsweredWith task status left text → IsDueText words left text
 
 -- ---- the ends
 
--- what the command writes of the input was written
-pub record EndsDone (words : List (String Global)) (left written now : Option (List ℕ)) : Type 0 where
-  pub command : Command
+-- the words ask for a task, it is done of the whole input, with this status, and what it writes of it was written
+pub record EndsWith (status : Status) (words : List (String Global)) (left written now : Option (List ℕ)) : Type 0 where
+  pub task : Task
+  pub input : List ℕ
   pub text : List ℕ
-  pub named : command_of words ≡ Some command
-  pub answered : AnsweredWith command left text
+  pub asked : task_of words ≡ Some task
+  pub read : IsInput left input
+  pub answered : Answers task status input text
   pub appended : Appends written now text
 
 -- the line of a refusal was written
 pub record EndsRefused (words : List (String Global)) (left written now : Option (List ℕ)) : Type 0 where
-  pub command : Command
+  pub task : Task
   pub text : List ℕ
-  pub named : command_of words ≡ Some command
-  pub refused : RefusedWith command left text
+  pub asked : task_of words ≡ Some task
+  pub refused : RefusedWith task left text
   pub appended : Appends written now text
 
 -- a front of the text that was due was written, and not all of it
@@ -127,11 +112,11 @@ pub record EndsCut (words : List (String Global)) (left written now : Option (Li
   pub due : IsDueText words left text
   pub front : WritesFront written now text
 
--- the input is too long or not one that the command takes, where the source tells it
-abbrev pub IsToBeRefused : Option Command → Option (List ℕ) → Type 0
+-- the input is too long or not one of which the task is done, where the source tells it
+abbrev pub IsToBeRefused : Option Task → Option (List ℕ) → Type 0
 IsToBeRefused None left = ⊥
-IsToBeRefused (Some command) None = ⊥
-IsToBeRefused (Some command) (Some input) = (most_input < length input) ⊎ IsNoInput command input
+IsToBeRefused (Some task) None = ⊥
+IsToBeRefused (Some task) (Some input) = (most_input < length input) ⊎ IsNoInput task input
 
 -- the status is this one, or a fault
 abbrev pub IsOrFails : Status → Status → Type 0
@@ -140,9 +125,10 @@ IsOrFails want status = (status ≡ want) ⊎ IsFault status
 -- ---- steps
 
 -- what came of an input that was read whole
-abbrev pub IsAnswer : Command → List ℕ → Answer → Type 0
-IsAnswer command input (Output text) = Answers command input text
-IsAnswer command input (Refusal text) = Refuses command input text
+abbrev pub IsAnswer : Task → List ℕ → Answer → Type 0
+IsAnswer task input (answers.Output text) = Answers task Done input text
+IsAnswer task input (answers.Unsettled text) = Answers task Unsettled input text
+IsAnswer task input (answers.Refusal text) = Refuses task input text
 
 -- the text was written, and the status is this one; or a front of it, and a write failed
 pub data Written (old new : Option (List ℕ)) (faults now : ℕ) (text : List ℕ) (want status : Status) : Type 0 where

@@ -1,25 +1,56 @@
--- What a replay writes: its history, the objects that stand after it, and its numbers. The format is a choice of this project.
-use Rattle.std.specs.Prelude.{ℕ, ◌≡◌, List, length, reverse}
-use Rattle.std.specs.List.{count_by}
-use Rattle.kube_types.specs.declared.objects.Object.{Object}
+-- What a replay promises, and what it writes. The newest entry of a history stands first.
+-- The format is a choice of this project.
+use Rattle.std.specs.Prelude.{ℕ, ◌≡◌, List, Option, length, reverse, Ok}
 use Rattle.call_types.specs.declared.entry.Entry.{Entry}
+use Rattle.call_types.specs.declared.setup.Setup.{Setup}
 use Rattle.binder_model.specs.World.{World, world}
-use Rattle.plain_binder.specs.Calls.{IsReplay, no_setup}
+use Rattle.binder_model.specs.Run.{Run}
+use Rattle.binder_model.specs.Safe.{Safe}
+use Rattle.device_model.specs.Kept.{count_there}
+use Rattle.world_core.specs.declared.drained.Drained.{Drained}
+use Rattle.world_core.specs.declared.drained.Drained.TheVariants.{Settled, Spent}
+use Rattle.history_text.specs.declared.summary.Ending.{Ending}
+use Rattle.history_text.specs.declared.summary.Ending.TheVariants as endings
 use Rattle.history_text.specs.declared.summary.Summary.{Summary}
-use Rattle.history_text.specs.declared.summary.Ending.TheVariants.{Settled}
 use Rattle.history_text.specs.Summaries.{summary_of}
 use Rattle.history_text.specs.Output.{final_lines, history_text, with_lines}
+use Rattle.script_text.specs.declared.script.Script.{Script}
+use Rattle.script_runs.specs.Replays.{IsReplay}
+use Rattle.binder_console.specs.declared.status.Status.{Status}
+use Rattle.binder_console.specs.declared.status.Status.TheVariants.{Done, Unsettled}
+use Rattle.binder_console.specs.Scripts.{replayable}
 
--- the numbers of a settled world
-unfoldable pub settled_summary : World → Summary
-settled_summary w = summary_of w.store.rows w.store.version (length w.devices.mounts) (count_by (λ d. d.there) w.devices.stored) w.devices.calls Settled
+-- ---- what is written
 
--- the text of these entries, the newest first
-unfoldable pub replay_text : List Entry → List ℕ
-replay_text past = with_lines (history_text no_setup (reverse past)) (final_lines (world no_setup past).store.rows (settled_summary (world no_setup past)))
+abbrev pub ending_of : Drained → Ending
+ending_of (Settled made) = endings.Settled
+ending_of (Spent made key due) = endings.Unsettled made key due
 
--- the text is that of a replay of the objects
-pub record IsReplayText (objects : List Object) (text : List ℕ) : Type 0 where
+-- the numbers of the last world, and how its drains ended
+unfoldable pub last_summary : World → Drained → Summary
+last_summary w ending = summary_of w.store.rows w.store.version (length w.devices.mounts) (count_there w.devices.stored) w.devices.calls (ending_of ending)
+
+-- the setup and the entries, the oldest first; then the objects and the numbers of the last world
+unfoldable pub replay_text : Setup → List Entry → Drained → List ℕ
+replay_text setup past ending = with_lines (history_text setup (reverse past)) (final_lines (world setup past).store.rows (last_summary (world setup past) ending))
+
+-- with nothing due, or with the calls of the drains spent and something due
+abbrev pub status_of : Drained → Status
+status_of (Settled made) = Done
+status_of (Spent made key due) = Unsettled
+
+-- ---- the promise
+
+-- The input is a script, and the text is that of one history from the script's setup. The history has the calls of the
+-- script's lines in order, and then of a drain; each reply is the world's, and each controller asked only what it had been
+-- told allowed; it is safe at every point. The status says how the last drain ended.
+pub record Replays (budget : Option ℕ) (status : Status) (input text : List ℕ) : Type 0 where
+  pub script : Script
   pub past : List Entry
-  pub replayed : IsReplay objects past
-  pub printed : text ≡ replay_text past
+  pub ending : Drained
+  pub read : replayable input ≡ Ok script
+  pub calls : IsReplay script budget past ending
+  pub run : Run script.setup past
+  pub safe : Safe script.setup past
+  pub printed : text ≡ replay_text script.setup past ending
+  pub ends : status ≡ status_of ending

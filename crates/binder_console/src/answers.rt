@@ -1,50 +1,38 @@
 //! What comes of an input that was read whole.
 
-ghost use Rattle.std.specs.Prelude.{◌≡◌, None, IfOk, codes};
-ghost use Rattle.binder_console.specs.PlainLines.{plain_objects};
-ghost use Rattle.binder_console.specs.Outcomes.{ReplaysPlain, IsAnswer};
+ghost use Rattle.std.specs.Prelude.{IfOk};
+ghost use Rattle.binder_console.specs.Outcomes.{IsAnswer};
 
 use crate::checking::{checked, print_refusal};
-use crate::commands::Command;
-use crate::errors::{CheckError, PlainError};
-use crate::plain_lines::read_plain;
-use crate::printing::print_replay;
-use plain_binder::replay;
+use crate::commands::Task;
+use crate::errors::{CheckError, ReplayError};
+use crate::replaying::{print_script_refusal, replayed};
 use plain_data::copies::OutOfMemory;
 use plain_data::text::Bytes;
 use std::alloc::Global;
 
-const UNBUILT: &[u8] = b"input: Unbuilt\n";
-
-/// A text to be written, and whether it is a refusal.
+/// A text to be written: what the task writes, with nothing due at the end or with the calls spent; or a refusal.
 #[derive(Debug, Drop)]
 pub enum Answer {
     Output(Bytes),
+    Unsettled(Bytes),
     Refusal(Bytes),
 }
 
-/// The text of the replay of an input.
-fn replayed(alloc: Global, input: &[u8]) -> Result<Bytes, PlainError>
-    ensures ok { IfOk result (λ text. ReplaysPlain input.now text) }
-    ensures unbuilt { result ≡ Err PlainError.Unbuilt → plain_objects input.now ≡ None }
+fn answer_replay(alloc: Global, input: &[u8], budget: Option<u64>) -> Result<Answer, OutOfMemory>
+    ensures { IfOk result (IsAnswer (Task.Replay budget) input.now) }
 {
-    let objects = read_plain(alloc, input)?;
-    let run = replay(alloc, objects.as_slice())?;
-    Ok(print_replay(alloc, &run)?)
-}
-
-fn answer_replay(alloc: Global, input: &[u8]) -> Result<Answer, OutOfMemory>
-    ensures { IfOk result (IsAnswer Command.Replay input.now) }
-{
-    match replayed(alloc, input) {
-        Ok(text) => Ok(Answer::Output(text)),
-        Err(PlainError::Unbuilt) => Ok(Answer::Refusal(Bytes::new(alloc, UNBUILT)?)),
-        Err(PlainError::OutOfMemory) => Err(OutOfMemory),
+    match replayed(alloc, input, budget) {
+        Ok(answer) => Ok(answer),
+        Err(ReplayError::Refused(refusal)) => {
+            Ok(Answer::Refusal(print_script_refusal(alloc, refusal)?))
+        }
+        Err(ReplayError::OutOfMemory) => Err(OutOfMemory),
     }
 }
 
 fn answer_check(alloc: Global, input: &[u8]) -> Result<Answer, OutOfMemory>
-    ensures { IfOk result (IsAnswer Command.Check input.now) }
+    ensures { IfOk result (IsAnswer Task.Check input.now) }
 {
     match checked(alloc, input) {
         Ok(text) => Ok(Answer::Output(text)),
@@ -53,12 +41,12 @@ fn answer_check(alloc: Global, input: &[u8]) -> Result<Answer, OutOfMemory>
     }
 }
 
-/// What the command makes of the input.
-pub fn answer_of(alloc: Global, command: Command, input: &[u8]) -> Result<Answer, OutOfMemory>
-    ensures { IfOk result (IsAnswer command input.now) }
+/// What the task makes of the input.
+pub fn answer_of(alloc: Global, task: Task, input: &[u8]) -> Result<Answer, OutOfMemory>
+    ensures { IfOk result (IsAnswer task input.now) }
 {
-    match command {
-        Command::Replay => answer_replay(alloc, input),
-        Command::Check => answer_check(alloc, input),
+    match task {
+        Task::Replay { budget } => answer_replay(alloc, input, budget),
+        Task::Check => answer_check(alloc, input),
     }
 }

@@ -5,6 +5,7 @@ ghost use Rattle.object_text.specs.Listing.{list_of};
 ghost use Rattle.binder_console.specs.Checks.{with_member, reason_text, refusal_line, check_text, refusal_text, ChecksList, IfRefused};
 
 use crate::errors::CheckError;
+use crate::printing::print_line;
 use history_text::lines::{Lines, push_objects};
 use kube_types::objects::Object;
 use object_text::errors::{ListError, Member, ObjectError};
@@ -83,7 +84,5 @@ pub fn print_refusal(alloc: Global, error: ListError) -> Result<Bytes, OutOfMemo
     ensures { IfOk result (λ text. text ≡ refusal_text error) }
 {
     let line = refusal_line(alloc, error)?;
-    let mut lines = Lines::new(alloc);
-    lines.push(line.as_str().as_bytes())?;
-    Ok(lines.into_bytes())
+    print_line(alloc, line.as_str())
 }

@@ -1,35 +1,41 @@
-//! The commands of the program.
+//! What the words ask for.
 
 ghost use Rattle.std.specs.Prelude.{◌≡◌};
-ghost use Rattle.binder_console.specs.Commands.{command_named, command_of};
+ghost use Rattle.binder_console.specs.Commands.{Asks, task_by, task_of};
+
+use command_words::reading::read_words;
+use command_words::words::{Command, Words, WordsError};
+use std::alloc::Global;
 
 /// What the program is asked to do.
 #[derive(Clone, Copy, Debug, PartialEq, Eq)]
-pub enum Command {
-    /// To replay a list of plain lines.
-    Replay,
+pub enum Task {
+    /// To replay a script. All drains together make at most so many calls; without a number each drain raises it.
+    Replay { budget: Option<u64> },
     /// To print the objects of a manifest or of a list of manifests.
     Check,
 }
 
-fn command_named(word: &str) -> Option<Command>
-    ensures { result ≡ command_named word.now }
+/// The task of a command with its options, if it is built.
+fn task_by(said: Words) -> Option<Task>
+    ensures { result ≡ task_by said }
 {
-    if word == "replay" {
-        Some(Command::Replay)
-    } else if word == "check" {
-        Some(Command::Check)
-    } else {
-        None
+    match said.command {
+        Command::Replay => Some(Task::Replay {
+            budget: said.options.budget,
+        }),
+        Command::Check => Some(Task::Check),
+        Command::Run | Command::Audit | Command::Gen => None,
     }
 }
 
-/// The command that the words after the program's name are, if they are one.
-pub fn command_of(words: &[String]) -> Option<Command>
-    ensures { result ≡ command_of words.now }
+/// What the words after the program's name ask for.
+pub fn read_task(alloc: Global, words: &[String]) -> Result<Task, WordsError>
+    ensures { Asks result (task_of words.now) }
 {
-    match words {
-        [word] => command_named(word.as_str()),
-        _ => None,
+    let said = read_words(alloc, words)?;
+    match task_by(said) {
+        Some(task) => Ok(task),
+        None => Err(WordsError::Usage),
     }
 }

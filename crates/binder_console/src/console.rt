@@ -1,15 +1,16 @@
 //! The top call.
 
-ghost use Rattle.std.specs.Prelude.{◌≡◌, ◌≤◌, ◌⊎◌, [], None};
+ghost use Rattle.std.specs.Prelude.{◌≡◌, ◌≢◌, ◌≤◌, ◌⊎◌, [], None};
 ghost use Rattle.fault_io.specs.Faults.{Rose};
 ghost use Rattle.fault_io.specs.Reading.{IsLeft};
 ghost use Rattle.fault_io.specs.Writing.{Appends, WritesFront};
-ghost use Rattle.binder_console.specs.Commands.{command_of};
-ghost use Rattle.binder_console.specs.Outcomes.{EndsCut, EndsDone, EndsRefused, IsLater, IsOrFails, IsToBeRefused, Written, usage_text, too_long_text};
+ghost use Rattle.binder_console.specs.Commands.{task_of};
+ghost use Rattle.binder_console.specs.Outcomes.{EndsCut, EndsRefused, EndsWith, IsOrFails, IsToBeRefused, Written, usage_text, too_long_text};
 
 use crate::answers::{Answer, answer_of};
-use crate::commands::command_of;
+use crate::commands::read_task;
 use crate::status::Status;
+use command_words::words::WordsError;
 use fault_io::ends::{ReadError, Sink, Source, read_all, write_all};
 use fault_io::gate::Gate;
 use std::alloc::Global;
@@ -35,8 +36,21 @@ fn end_with<K: Sink>(sink: &mut K, text: &[u8], status: Status) -> Status
     }
 }
 
-/// Reads the input, replays or checks it, and writes what came of it. All is computed before the
-/// first write.
+/// Does what the words ask for, of the whole input, and writes what came of it. All is computed before the first write.
+///
+/// - `replay` reads a script, of at most 1 MiB and within the limits of scripts, and does its lines in order and then a
+///   drain. `--budget` says how many calls all drains together may make. An option that a command does not use has no effect.
+/// - `check` prints the canonical line of each manifest.
+///
+/// The promise, with status 0 or 3 under `replay` (`EndsWith`, `Answers`, `Replays`): what was written is the text of one
+/// history and of its last world. Each reply in it is the world's, each controller asked only what it had been told
+/// allowed, and at every point each completed claim names a Bound volume of its own that carries its UID, no Bound volume
+/// and no mounted claim has left, and data were erased only for ended volumes with policy Delete. The history has one entry
+/// for each call of a user, in order, and of each turn and each drain the calls that the script says. With status 0
+/// nothing is due at its end; with 3 the calls of the drains are spent, and the last line names what is due first.
+///
+/// Statuses: 0 done; 1 the usage line; 2 the input was refused, in one line; 3 unsettled; 4 a read failed, nothing is
+/// written; 5 a write failed, a front of what was due is written; 6 memory was wanting, nothing is written.
 ///
 /// The gate is not asked yet, and no thread is started.
 pub fn pvbind<R: Threads + Wait + Sync, S: Source, K: Sink, G: Gate>(
@@ -47,31 +61,34 @@ pub fn pvbind<R: Threads + Wait + Sync, S: Source, K: Sink, G: Gate>(
     sink: &mut K,
     _gate: &G,
 ) -> Status
-    ensures done { result ≡ Status.Done → EndsDone words.now (S.left source.old) (K.written sink.old) (K.written sink.new) }
+    ensures done { result ≡ Status.Done → EndsWith Status.Done words.now (S.left source.old) (K.written sink.old) (K.written sink.new) }
+    ensures unsettled { result ≡ Status.Unsettled → EndsWith Status.Unsettled words.now (S.left source.old) (K.written sink.old) (K.written sink.new) }
     ensures to_the_end { result ≡ Status.Done → IsLeft (S.left source.new) [] }
+    ensures unsettled_to_the_end { result ≡ Status.Unsettled → IsLeft (S.left source.new) [] }
 
-    // Usage exactly where the words name no command, but for a fault of writing; the source is not read then.
+    // Usage exactly where the words ask for nothing, but for want of memory and a fault of writing; the source is not read then.
     ensures usage { result ≡ Status.Usage → Appends (K.written sink.old) (K.written sink.new) usage_text }
-    ensures misused { result ≡ Status.Usage → command_of words.now ≡ None }
-    ensures misuse { command_of words.now ≡ None → (result ≡ Status.Usage) ⊎ (result ≡ Status.WriteFault) }
-    ensures unread { command_of words.now ≡ None → source.new ≡ source.old }
+    ensures misused { result ≡ Status.Usage → task_of words.now ≡ None }
+    ensures misuse { task_of words.now ≡ None → (result ≡ Status.Usage) ⊎ ((result ≡ Status.WriteFault) ⊎ (result ≡ Status.Memory)) }
+    ensures unread { task_of words.now ≡ None → source.new ≡ source.old }
 
-    // Refused exactly where the input is too long or not one that the command takes, but for faults.
+    // Refused exactly where the input is too long or not one of which the task is done, but for want of memory and faults.
     ensures refused { result ≡ Status.Refused → EndsRefused words.now (S.left source.old) (K.written sink.old) (K.written sink.new) }
-    ensures refusal { IsToBeRefused (command_of words.now) (S.left source.old) → IsOrFails Status.Refused result }
+    ensures refusal { IsToBeRefused (task_of words.now) (S.left source.old) → IsOrFails Status.Refused result }
 
     ensures read { result ≡ Status.ReadFault → Rose (S.faults source.old) (S.faults source.new) × (sink.new ≡ sink.old) }
     ensures write { result ≡ Status.WriteFault → Rose (K.faults sink.old) (K.faults sink.new) }
     ensures cut { result ≡ Status.WriteFault → EndsCut words.now (S.left source.old) (K.written sink.old) (K.written sink.new) }
     ensures memory { result ≡ Status.Memory → sink.new ≡ sink.old }
-    ensures never { ¬ (IsLater result) }
+    ensures never { result ≢ Status.AuditNo }
 
     ensures reads_later { S.faults source.old ≤ S.faults source.new }
     ensures writes_later { K.faults sink.old ≤ K.faults sink.new }
 {
-    let command = match command_of(words) {
-        Some(command) => command,
-        None => return end_with(sink, USAGE.as_bytes(), Status::Usage),
+    let task = match read_task(alloc, words) {
+        Ok(task) => task,
+        Err(WordsError::Usage) => return end_with(sink, USAGE.as_bytes(), Status::Usage),
+        Err(WordsError::OutOfMemory) => return Status::Memory,
     };
     let input = match read_all(alloc, source, MOST_INPUT) {
         Ok(input) => input,
@@ -79,8 +96,9 @@ pub fn pvbind<R: Threads + Wait + Sync, S: Source, K: Sink, G: Gate>(
         Err(ReadError::OutOfMemory) => return Status::Memory,
         Err(ReadError::TooLong) => return end_with(sink, TOO_LONG.as_bytes(), Status::Refused),
     };
-    match answer_of(alloc, command, input.as_slice()) {
+    match answer_of(alloc, task, input.as_slice()) {
         Ok(Answer::Output(text)) => end_with(sink, text.as_slice(), Status::Done),
+        Ok(Answer::Unsettled(text)) => end_with(sink, text.as_slice(), Status::Unsettled),
         Ok(Answer::Refusal(text)) => end_with(sink, text.as_slice(), Status::Refused),
         Err(_) => Status::Memory,
     }

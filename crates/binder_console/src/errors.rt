@@ -1,36 +1,47 @@
-//! Why an input is not read.
+//! Why an input is not taken.
 
 use object_text::errors::ListError;
 use plain_data::copies::OutOfMemory;
-use std::alloc::AllocError;
+use script_text::errors::{BadLine, ScriptError};
 
-/// Why a text is no list of plain lines.
+/// Why an input is not replayed.
 #[derive(Clone, Copy, Debug, PartialEq, Eq)]
-pub enum PlainError {
-    /// It is none.
-    Unbuilt,
+pub enum ScriptRefusal {
+    /// A line is at fault, and it is the first.
+    BadLine(BadLine),
+    /// The line of this number, counted from 1, is the first that names an actor that is not built.
+    Unbuilt(u64),
+}
+
+/// Why there is no replay of an input.
+#[derive(Clone, Copy, Debug, PartialEq, Eq)]
+pub enum ReplayError {
+    Refused(ScriptRefusal),
     OutOfMemory,
 }
 
-impl From<OutOfMemory> for PlainError {
+impl From<OutOfMemory> for ReplayError {
     ghost use Rattle.std.specs.Prelude.{◌≡◌};
-    ghost use Rattle.binder_console.specs.declared.errors.PlainError.TheVariants.{OutOfMemory};
+    ghost use Rattle.binder_console.specs.declared.errors.ReplayError.TheVariants.{OutOfMemory};
 
     ghost from_gives = { λ _ e. e ≡ OutOfMemory };
 
-    fn from(_e: OutOfMemory) -> PlainError {
-        PlainError::OutOfMemory
+    fn from(_e: OutOfMemory) -> ReplayError {
+        ReplayError::OutOfMemory
     }
 }
 
-impl From<AllocError> for PlainError {
+impl From<ScriptError> for ReplayError {
     ghost use Rattle.std.specs.Prelude.{◌≡◌};
-    ghost use Rattle.binder_console.specs.declared.errors.PlainError.TheVariants.{OutOfMemory};
+    ghost use Rattle.binder_console.specs.Scripts.{replay_error};
 
-    ghost from_gives = { λ _ e. e ≡ OutOfMemory };
+    ghost from_gives = { λ e f. f ≡ replay_error e };
 
-    fn from(_e: AllocError) -> PlainError {
-        PlainError::OutOfMemory
+    fn from(e: ScriptError) -> ReplayError {
+        match e {
+            ScriptError::OutOfMemory => ReplayError::OutOfMemory,
+            ScriptError::BadLine(bad) => ReplayError::Refused(ScriptRefusal::BadLine(bad)),
+        }
     }
 }
 

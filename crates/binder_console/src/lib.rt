@@ -1,8 +1,8 @@
 //! The program: it reads its words and its input, replays or checks, and prints.
 //!
 //! `console::pvbind` is the one call that `main` makes, and its clauses are the product's promises: which
-//! bytes are written with each status, and what holds of the history that they tell. Not said: that memory
-//! is there, and what standard input and output really do.
+//! bytes are written with each status, and what holds of the history that they tell (`specs/Replays`). Not
+//! said: that memory is there, that a budget is enough, and what standard input and output really do.
 #![tactic(auto)]
 
 pub mod answers;
@@ -10,8 +10,6 @@ pub mod checking;
 pub mod commands;
 pub mod console;
 pub mod errors;
-pub mod plain_lines;
-mod plain_members;
-mod plain_objects;
 mod printing;
+mod replaying;
 pub mod status;

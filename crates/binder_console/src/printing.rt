@@ -1,35 +1,67 @@
 //! The text of a replay.
 
-ghost use Rattle.std.specs.Prelude.{◌≡◌, IfOk};
-ghost use Rattle.binder_model.specs.Devices.{no_devices};
-ghost use Rattle.binder_model.specs.World.{world};
-ghost use Rattle.plain_binder.specs.Calls.{no_setup};
-ghost use Rattle.binder_console.specs.Replays.{replay_text};
+ghost use Rattle.std.specs.Prelude.{◌≡◌, [], IfOk};
+ghost use Rattle.history_text.specs.Output.{with_line};
+ghost use Rattle.binder_model.specs.World.{world as world_of};
+ghost use Rattle.binder_console.specs.Replays.{ending_of, last_summary, replay_text};
 
-use call_types::setup::Setup;
 use history_text::counts::summary_of;
 use history_text::lines::{Lines, push_final, push_history};
-use history_text::summary::Ending;
-use plain_binder::Run;
+use history_text::summary::{Ending, Summary};
+use kube_types::copies::Plain;
 use plain_data::copies::OutOfMemory;
-use plain_data::items::Items;
 use plain_data::text::Bytes;
 use std::alloc::Global;
+use world_core::drained::Drained;
+use world_core::world::World;
 
-/// The history, the objects and the numbers of a run that asked no device.
-#[tactic(auto, unfolding(crate::specs::Replays::replay_text, crate::specs::Replays::settled_summary))]
-pub fn print_replay(alloc: Global, run: &Run) -> Result<Bytes, OutOfMemory>
-    requires { (world no_setup run.now).devices ≡ no_devices }
-    ensures { IfOk result (λ text. text ≡ replay_text run.now) }
+/// A line alone.
+pub fn print_line(alloc: Global, line: &str) -> Result<Bytes, OutOfMemory>
+    ensures { IfOk result (λ text. text ≡ with_line [] line.now) }
 {
-    let setup = Setup {
-        pools: Items::new(alloc),
-        faults: Items::new(alloc),
-        imports: Items::new(alloc),
-    };
-    let summary = summary_of(run.objects(), run.version(), 0, 0, 0, Ending::Settled);
     let mut lines = Lines::new(alloc);
-    push_history(&mut lines, alloc, &setup, run.entries())?;
-    push_final(&mut lines, alloc, run.objects(), &summary)?;
+    lines.push(line.as_bytes())?;
+    Ok(lines.into_bytes())
+}
+
+fn ending_of(alloc: Global, ending: &Drained) -> Result<Ending, OutOfMemory>
+    ensures { IfOk result (λ e. e ≡ ending_of ending.now) }
+{
+    match ending {
+        Drained::Settled { made: _ } => Ok(Ending::Settled),
+        Drained::Spent { made, key, due } => Ok(Ending::Unsettled {
+            calls: *made,
+            key: key.copy(alloc)?,
+            due: *due,
+        }),
+    }
+}
+
+/// The numbers of a world, and how its drains ended.
+#[tactic(auto, unfolding(crate::specs::Replays::last_summary))]
+fn summary(alloc: Global, world: &World, ending: &Drained) -> Result<Summary, OutOfMemory>
+    ensures { IfOk result (λ s. s ≡ last_summary (world_of world.now.setup world.now.past) ending.now) }
+{
+    let counts = world.devices().counts();
+    let ending = ending_of(alloc, ending)?;
+    Ok(summary_of(
+        world.store().objects(),
+        world.store().version(),
+        counts.mounted,
+        counts.stored,
+        counts.calls,
+        ending,
+    ))
+}
+
+/// The history of a world, its objects and its numbers.
+#[tactic(auto, unfolding(crate::specs::Replays::replay_text))]
+pub fn print_replay(alloc: Global, world: &World, ending: &Drained) -> Result<Bytes, OutOfMemory>
+    ensures { IfOk result (λ text. text ≡ replay_text world.now.setup world.now.past ending.now) }
+{
+    let summary = summary(alloc, world, ending)?;
+    let mut lines = Lines::new(alloc);
+    push_history(&mut lines, alloc, world.setup(), world.history())?;
+    push_final(&mut lines, alloc, world.store().objects(), &summary)?;
     Ok(lines.into_bytes())
 }

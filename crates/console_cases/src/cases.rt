@@ -96,18 +96,59 @@ fn shown(alloc: Global, written: &[u8]) -> Result<String, OutOfMemory> {
     }
 }
 
-// The status and the output of the program.
+/// The seat of the entry that a line is; 0 where it is none.
+fn seat_of(line: &str) -> u64 {
+    match line.split_once(",\"seat\":") {
+        Some((_, rest)) => match rest.split_once(',') {
+            Some((seat, _)) => number(seat),
+            None => 0,
+        },
+        None => 0,
+    }
+}
+
+/// The output without the lines from the first entry of this seat, or of a later one, up to those of the objects.
+fn before(alloc: Global, output: &str, seat: u64) -> Result<String, OutOfMemory> {
+    let mut kept = String::new(alloc);
+    let mut keeps = true;
+    for line in output.split('|') {
+        if seat_of(line) >= seat {
+            keeps = false;
+        }
+        if line == "objects" {
+            keeps = true;
+        }
+        if keeps {
+            if !kept.is_empty() {
+                kept.push('|')?;
+            }
+            kept.push_str(line)?;
+        }
+    }
+    Ok(kept)
+}
+
+// The status and the output of the program; a first word of digits is a seat.
 fn run<R: Threads + Wait + Sync>(
     rt: &R,
     alloc: Global,
     case: Case<'_>,
 ) -> Result<String, OutOfMemory> {
-    let words = words_of(alloc, case.words)?;
+    let (seat, asked) = match case.words.split_once('@') {
+        Some((seat, asked)) => (number(seat), asked),
+        None => (0, case.words),
+    };
+    let words = words_of(alloc, asked)?;
     let mut source = source(alloc, case)?;
     let mut sink = MemorySink::new(alloc, case.limit)?;
     let status = pvbind(rt, alloc, &words, &mut source, &mut sink, &NoGate).number();
     let output = shown(alloc, sink.written())?;
-    Ok(format!(in alloc; "{status} {output}")?)
+    let told = if seat > 0 {
+        before(alloc, output.as_str(), seat)?
+    } else {
+        output
+    };
+    Ok(format!(in alloc; "{status} {told}")?)
 }
 
 /// What is written for a line.

@@ -1,0 +1,5 @@
+pub mod AgentEvidences
+pub mod AgentMoves
+pub mod Beginnings
+pub mod Evidences
+pub mod Moves

@@ -1,0 +1,6 @@
+pub mod Allowed
+pub mod Begun
+pub mod Gets
+pub mod Licensed
+pub mod Moves
+pub mod Starts

@@ -1,0 +1,4 @@
+pub mod Agents
+pub mod BeginLaw
+pub mod Evidence
+pub mod StartLaw

@@ -1,0 +1,183 @@
+-- The next call of a machine is allowed by its evidence; and it reads no whole kind.
+use Rattle.std.proofs.Common.{◌≡◌, ◌∙◌, List, [], ◌∷◌, Bool, true, false, true≢false, Option, Some, None, refl, sym, ap, subst, if◌then◌else◌}
+use Rattle.std.specs.Prelude.{◌++◌, ◌||◌, not, bytes_eq, cond, is_some, ⊤}
+use Rattle.std.specs.List.{list_any}
+use Rattle.std.proofs.Common.{ℕ}
+use Rattle.std.proofs.lemmas.List.Folds.{list_any-append}
+use Rattle.std.proofs.lemmas.Slice.Eq.{bytes_eq-Decides}
+use Rattle.kube_types.specs.declared.parts.Kind.TheVariants as kinds
+use Rattle.kube_types.specs.declared.objects.Volume.{Volume as VolumeData}
+use Rattle.kube_types.specs.declared.objects.Claim.{Claim as ClaimData}
+use Rattle.kube_types.specs.declared.objects.Object.{Object}
+use Rattle.kube_types.specs.Bindings.{has_name, is_protected_claim, is_protected_volume, pv_protection, pvc_protection}
+use Rattle.call_types.specs.declared.entry.Entry.{Entry}
+use Rattle.call_types.specs.declared.request.Request.{Request}
+use Rattle.call_types.specs.declared.request.Request.TheVariants.{List as ListOf, Update, Watch}
+use Rattle.call_types.specs.declared.request.SeatKind.TheVariants.{ClaimProtect, VolumeProtect}
+use Rattle.binder_model.specs.At.{IsWrittenAt}
+use Rattle.binder_model.specs.Edits.{without_name}
+use Rattle.binder_model.specs.GuardLicence.{MayUnguardClaim, MayUnguardVolume}
+use Rattle.binder_model.specs.Licence.{AreOfKind, ClaimGuard, ClaimProtectMay, GuardsClaim, GuardsVolume, Licensed, VolumeGuard, VolumeProtectMay}
+use Rattle.binder_model.specs.Reading.{IsDeletingIn}
+use Rattle.binder_model.specs.Told.{ToldClaim, ToldVolume}
+use Rattle.model_laws.proofs.Evidence.{told_claim, told_volume}
+use Rattle.model_laws.proofs.Lists.{none_some, one}
+use Rattle.protect_sync.specs.declared.claims.ClaimGuardOp.{ClaimGuardOp}
+use Rattle.protect_sync.specs.declared.claims.ClaimGuardStep.{ClaimGuardStep}
+use Rattle.protect_sync.specs.declared.claims.ClaimGuardStep.TheVariants as claims
+use Rattle.protect_sync.specs.declared.volumes.VolumeGuardOp.{VolumeGuardOp}
+use Rattle.protect_sync.specs.declared.volumes.VolumeGuardStep.{VolumeGuardStep}
+use Rattle.protect_sync.specs.declared.volumes.VolumeGuardStep.TheVariants as volumes
+use Rattle.protect_sync.specs.BeginLaw.{ClaimCallsReadNoKind, ReadsNoKind, VolumeCallsReadNoKind}
+use Rattle.protect_sync.specs.ClaimGuards as on_claims
+use Rattle.protect_sync.specs.ClaimGuards.{claim_call, guarded_claim, list_call, unguarded_claim}
+use Rattle.protect_sync.specs.Evidence.{ClaimKeeps, ClaimStepKeeps, MayAdd, MayAddVolume, MayDrop, MayDropVolume, MayList, VolumeKeeps, VolumeStepKeeps}
+use Rattle.protect_sync.specs.VolumeGuards as on_volumes
+use Rattle.protect_sync.specs.VolumeGuards.{guarded_volume, unguarded_volume, volume_call}
+
+-- the finalizer stands in what is written, or it does not
+
+or_last : (a b : Bool) → b ≡ true → (a || (b || false)) ≡ true
+or_last true b e = refl
+or_last false true e = refl
+or_last false false e = e
+
+with_it : (name : List ℕ) (names : List (List ℕ)) → has_name name (names ++ name ∷ []) ≡ true
+with_it name names = list_any-append (λ n. bytes_eq n name) names (name ∷ []) ∙ or_last (list_any (λ n. bytes_eq n name) names) (bytes_eq name name) ((bytes_eq-Decides name name).1 refl)
+
+without_it : (name : List ℕ) (names : List (List ℕ)) → has_name name (without_name name names) ≡ false
+without_it name [] = refl
+without_it name (n ∷ names) = by (bytes_eq n name) refl (without_it name names)
+  where
+    by : (b : Bool) → bytes_eq n name ≡ b → has_name name (without_name name names) ≡ false → has_name name (cond (not b) (n ∷ without_name name names) (without_name name names)) ≡ false
+    by true e rest = rest
+    by false e rest = ap (λ x. x || has_name name (without_name name names)) e ∙ rest
+
+-- a claim
+
+claim_answered : (mine : List Entry) (a b : Request) → Some a ≡ Some b → ClaimProtectMay mine a → ClaimProtectMay mine b
+claim_answered mine a b e may = subst (λ r. ClaimProtectMay mine r) (one a b e) may
+
+claim_guard : (mine : List Entry) (new o : ClaimData) (has : Bool) → is_protected_claim new ≡ has → ClaimGuard has mine new o → ClaimGuard (is_protected_claim new) mine new o
+claim_guard mine new o has is row = subst (λ (b : Bool). ClaimGuard b mine new o) (sym is) row
+
+-- a claim is written over the one that was told
+claim_written : (c new : ClaimData) (mine : List Entry) → ToldClaim (λ o. o ≡ c) mine → new.meta.namespace ≡ c.meta.namespace → new.meta.name ≡ c.meta.name → ClaimGuard (is_protected_claim new) mine new c → ClaimProtectMay mine (on_claims.write_over c new)
+claim_written c new mine told placed named row =
+    told_claim (λ o. IsWrittenAt (Some c.meta.version) new.meta.namespace new.meta.name o.meta × ClaimGuard (is_protected_claim new) mine new o) c mine told
+    (record { version = refl; placed = sym placed; named = sym named }, row)
+
+adds : (c : ClaimData) (mine : List Entry) → MayAdd c mine → ClaimProtectMay mine (on_claims.write_over c (guarded_claim c))
+adds c mine kept =
+    let row : GuardsClaim c (guarded_claim c) = record { guard = record { staying = kept.staying; lacks = kept.lacks; change = refl }; rest = refl } in
+    claim_written c (guarded_claim c) mine kept.told refl refl (claim_guard mine (guarded_claim c) c true (with_it pvc_protection c.meta.finalizers) row)
+
+drops : (c : ClaimData) (mine : List Entry) → MayDrop c mine → ClaimProtectMay mine (on_claims.write_over c (unguarded_claim c))
+drops c mine kept =
+    let row : MayUnguardClaim mine c (unguarded_claim c) = record { deleting = kept.deleting; unused = kept.unused; change = refl } in
+    claim_written c (unguarded_claim c) mine kept.told refl refl (claim_guard mine (unguarded_claim c) c false (without_it pvc_protection c.meta.finalizers) row)
+
+lists : (c : ClaimData) (mine : List Entry) (request : Request) → MayList c mine → list_call c ≡ Some request → ClaimProtectMay mine request
+lists c mine request kept = by (is_some c.meta.uid)
+  where
+    by : (b : Bool) → (if b then Some (ListOf kinds.Pod (Some c.meta.namespace)) else None) ≡ Some request → ClaimProtectMay mine request
+    by false e = none_some e
+    by true e = claim_answered mine (ListOf kinds.Pod (Some c.meta.namespace)) request e (told_claim (IsDeletingIn c.meta.namespace) c mine kept.told (record { placed = refl; deleting = kept.deleting }))
+
+claim_row : (step : ClaimGuardStep) (c : ClaimData) (mine : List Entry) (request : Request) → ClaimStepKeeps step c mine → on_claims.call_at step c ≡ Some request → ClaimProtectMay mine request
+claim_row claims.Adds c mine request kept e = claim_answered mine (on_claims.write_over c (guarded_claim c)) request e (adds c mine kept)
+claim_row claims.ListsPods c mine request kept e = lists c mine request kept e
+claim_row claims.Drops c mine request kept e = claim_answered mine (on_claims.write_over c (unguarded_claim c)) request e (drops c mine kept)
+claim_row claims.Done c mine request kept e = none_some e
+claim_row claims.Parked c mine request kept e = none_some e
+
+pub claim_allowed : (op : ClaimGuardOp) (mine : List Entry) (request : Request) → AreOfKind ClaimProtect mine → ClaimKeeps op mine → claim_call op ≡ Some request → Licensed ClaimProtect mine request
+unfolding claim_call
+claim_allowed op mine request own kept e = (own, claim_row op.step op.claim mine request kept e)
+
+-- a volume
+
+volume_answered : (mine : List Entry) (a b : Request) → Some a ≡ Some b → VolumeProtectMay mine a → VolumeProtectMay mine b
+volume_answered mine a b e may = subst (λ r. VolumeProtectMay mine r) (one a b e) may
+
+volume_guard : (new o : VolumeData) (has : Bool) → is_protected_volume new ≡ has → VolumeGuard has new o → VolumeGuard (is_protected_volume new) new o
+volume_guard new o has is row = subst (λ (b : Bool). VolumeGuard b new o) (sym is) row
+
+-- a volume is written over the one that was told
+volume_written : (v new : VolumeData) (mine : List Entry) → ToldVolume (λ o. o ≡ v) mine → new.meta.namespace ≡ v.meta.namespace → new.meta.name ≡ v.meta.name → VolumeGuard (is_protected_volume new) new v → VolumeProtectMay mine (on_volumes.write_over v new)
+volume_written v new mine told placed named row =
+    told_volume (λ o. IsWrittenAt (Some v.meta.version) new.meta.namespace new.meta.name o.meta × VolumeGuard (is_protected_volume new) new o) v mine told
+    (record { version = refl; placed = sym placed; named = sym named }, row)
+
+adds_to_volume : (v : VolumeData) (mine : List Entry) → MayAddVolume v mine → VolumeProtectMay mine (on_volumes.write_over v (guarded_volume v))
+adds_to_volume v mine kept =
+    let row : GuardsVolume v (guarded_volume v) = record { guard = record { staying = kept.staying; lacks = kept.lacks; change = refl }; rest = refl } in
+    volume_written v (guarded_volume v) mine kept.told refl refl (volume_guard (guarded_volume v) v true (with_it pv_protection v.meta.finalizers) row)
+
+drops_from_volume : (v : VolumeData) (mine : List Entry) → MayDropVolume v mine → VolumeProtectMay mine (on_volumes.write_over v (unguarded_volume v))
+drops_from_volume v mine kept =
+    let row : MayUnguardVolume v (unguarded_volume v) = record { deleting = kept.deleting; loose = kept.loose; change = refl } in
+    volume_written v (unguarded_volume v) mine kept.told refl refl (volume_guard (unguarded_volume v) v false (without_it pv_protection v.meta.finalizers) row)
+
+volume_row : (step : VolumeGuardStep) (v : VolumeData) (mine : List Entry) (request : Request) → VolumeStepKeeps step v mine → on_volumes.call_at step v ≡ Some request → VolumeProtectMay mine request
+volume_row volumes.Adds v mine request kept e = volume_answered mine (on_volumes.write_over v (guarded_volume v)) request e (adds_to_volume v mine kept)
+volume_row volumes.Drops v mine request kept e = volume_answered mine (on_volumes.write_over v (unguarded_volume v)) request e (drops_from_volume v mine kept)
+volume_row volumes.Done v mine request kept e = none_some e
+volume_row volumes.Parked v mine request kept e = none_some e
+
+pub volume_allowed : (op : VolumeGuardOp) (mine : List Entry) (request : Request) → AreOfKind VolumeProtect mine → VolumeKeeps op mine → volume_call op ≡ Some request → Licensed VolumeProtect mine request
+unfolding volume_call
+volume_allowed op mine request own kept e = (own, volume_row op.step op.volume mine request kept e)
+
+-- no call reads a whole kind
+
+abbrev ReadsNone : Option Request → Type 0
+ReadsNone None = ⊤
+ReadsNone (Some request) = ReadsNoKind request
+
+abbrev is_list : Request → Bool
+is_list (ListOf kind namespace) = true
+is_list request = false
+
+abbrev is_whole : Request → Bool
+is_whole (ListOf kind None) = true
+is_whole request = false
+
+abbrev is_watch : Request → Bool
+is_watch (Watch kind from) = true
+is_watch request = false
+
+written : (o : Object) (version : Option ℕ) → ReadsNoKind (Update o version)
+written o version = record { lists = λ kind e. true≢false (sym (ap is_list e)); watches = λ kind from e. true≢false (sym (ap is_watch e)) }
+
+listed : (namespace : List ℕ) → ReadsNoKind (ListOf kinds.Pod (Some namespace))
+listed namespace = record { lists = λ kind e. true≢false (sym (ap is_whole e)); watches = λ kind from e. true≢false (ap is_list e) }
+
+reads_none : (x : Option Request) (request : Request) → ReadsNone x → x ≡ Some request → ReadsNoKind request
+reads_none None request h e = none_some e
+reads_none (Some r) request h e = subst ReadsNoKind (one r request e) h
+
+claim_reads_none : (step : ClaimGuardStep) (c : ClaimData) → ReadsNone (on_claims.call_at step c)
+claim_reads_none claims.Adds c = written _ _
+claim_reads_none claims.Drops c = written _ _
+claim_reads_none claims.Done c = tt
+claim_reads_none claims.Parked c = tt
+claim_reads_none claims.ListsPods c = by (is_some c.meta.uid)
+  where
+    by : (b : Bool) → ReadsNone (if b then Some (ListOf kinds.Pod (Some c.meta.namespace)) else None)
+    by true = listed c.meta.namespace
+    by false = tt
+
+pub claim_calls_read_no_kind : ClaimCallsReadNoKind
+unfolding claim_call
+claim_calls_read_no_kind op request e = reads_none (on_claims.call_at op.step op.claim) request (claim_reads_none op.step op.claim) e
+
+volume_reads_none : (step : VolumeGuardStep) (v : VolumeData) → ReadsNone (on_volumes.call_at step v)
+volume_reads_none volumes.Adds v = written _ _
+volume_reads_none volumes.Drops v = written _ _
+volume_reads_none volumes.Done v = tt
+volume_reads_none volumes.Parked v = tt
+
+pub volume_calls_read_no_kind : VolumeCallsReadNoKind
+unfolding volume_call
+volume_calls_read_no_kind op request e = reads_none (on_volumes.call_at op.step op.volume) request (volume_reads_none op.step op.volume) e

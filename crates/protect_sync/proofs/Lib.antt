@@ -1,0 +1,4 @@
+pub mod Allowed
+pub mod Begun
+pub mod Moves
+pub mod Scanning

@@ -1,0 +1,5 @@
+use Rattle.protect_sync.proofs.Begun.{parked_claims_have_ended}
+use Rattle.protect_sync.proofs.laws.parked_claims_have_ended.Goals as goal
+
+pub returns : goal.returns
+returns c = parked_claims_have_ended

@@ -1,0 +1,43 @@
+-- On a look-up whose objects have UIDs each machine that begins has a next call; and no call lists or watches a whole kind, so that none
+-- counts as a read of the actor's own. A choice of this project.
+use Rattle.std.specs.Prelude.{ℕ, ◌≡◌, ◌≢◌, true, List, Option, Some, None, is_some}
+use Rattle.kube_types.specs.declared.key.Key.{Key}
+use Rattle.kube_types.specs.declared.parts.Kind.{Kind}
+use Rattle.kube_types.specs.declared.objects.Object.{Object}
+use Rattle.kube_types.specs.Keys.{meta_of, row_at}
+use Rattle.call_types.specs.declared.request.Request.{Request}
+use Rattle.call_types.specs.declared.request.Request.TheVariants as requests
+use Rattle.protect_sync.specs.declared.claims.ClaimGuardOp.{ClaimGuardOp}
+use Rattle.protect_sync.specs.declared.volumes.VolumeGuardOp.{VolumeGuardOp}
+use Rattle.protect_sync.specs.ClaimGuards.{claim_call, claim_parks}
+use Rattle.protect_sync.specs.Decisions.{claim_begins, volume_begins}
+use Rattle.protect_sync.specs.VolumeGuards.{volume_call, volume_parks}
+
+-- each object has its UID
+abbrev pub AreKnown : List Object → Type 0
+AreKnown rows = (key : Key) (o : Object) → row_at key rows ≡ Some o → is_some (meta_of o).uid ≡ true
+
+abbrev pub BegunClaimsHaveCalls : Type 0
+BegunClaimsHaveCalls = (rows : List Object) (key : Key) (op : ClaimGuardOp) → AreKnown rows → claim_begins rows (row_at key rows) ≡ Some op → is_some (claim_call op) ≡ true
+
+abbrev pub BegunVolumesHaveCalls : Type 0
+BegunVolumesHaveCalls = (row : Option Object) (op : VolumeGuardOp) → volume_begins row ≡ Some op → is_some (volume_call op) ≡ true
+
+-- the request neither lists nor watches a whole kind
+pub record ReadsNoKind (request : Request) : Type 0 where
+  pub lists : (kind : Kind) → request ≢ requests.List kind None
+  pub watches : (kind : Kind) (from : ℕ) → request ≢ requests.Watch kind from
+
+abbrev pub ClaimCallsReadNoKind : Type 0
+ClaimCallsReadNoKind = (op : ClaimGuardOp) (request : Request) → claim_call op ≡ Some request → ReadsNoKind request
+
+abbrev pub VolumeCallsReadNoKind : Type 0
+VolumeCallsReadNoKind = (op : VolumeGuardOp) (request : Request) → volume_call op ≡ Some request → ReadsNoKind request
+
+-- a machine whose key is parked has ended
+
+abbrev pub ParkedClaimsHaveEnded : Type 0
+ParkedClaimsHaveEnded = (op : ClaimGuardOp) → claim_parks op.step ≡ true → claim_call op ≡ None
+
+abbrev pub ParkedVolumesHaveEnded : Type 0
+ParkedVolumesHaveEnded = (op : VolumeGuardOp) → volume_parks op.step ≡ true → volume_call op ≡ None
