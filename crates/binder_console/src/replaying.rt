@@ -38,6 +38,7 @@ fn read_replayable(alloc: Global, input: &[u8]) -> Result<Script, ReplayError>
 }
 
 /// The text of the replay of an input, told apart by how the last drain ended.
+#[tactic(auto, using(fitting_calls::proofs::Turns::actors_give_enough))]
 pub fn replayed(alloc: Global, input: &[u8], budget: Option<u64>) -> Result<Answer, ReplayError>
     ensures ok { IfOk result (IsAnswer (Task.Replay budget) input.now) }
     ensures refused { IfNotReplayed result (λ e. replayable input.now ≡ Err e) }

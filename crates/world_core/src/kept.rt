@@ -85,6 +85,7 @@ impl KeptWorld {
     #[tactic(auto, using(safety_law::proofs::Law::run_implies_safe))]
     pub fn world(&self) -> &World
         ensures value { result.now ≡ self.now }
+        ensures of { IsRunOf self.now.setup self.now.past }
         ensures run { Run self.now.setup self.now.past }
         ensures safe { Safe self.now.setup self.now.past }
     {
