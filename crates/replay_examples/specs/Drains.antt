@@ -8,8 +8,8 @@ use Rattle.script_text.specs.declared.script.Script.{Script}
 use Rattle.model_examples.specs.DueActions.{pending_a}
 use Rattle.model_examples.specs.Samples.{key_a}
 use Rattle.script_runs.specs.Replays.{IsDrain, IsReplay, begun}
-use Rattle.script_examples.specs.Calls.{reads}
-use Rattle.script_examples.specs.Replays.{empty_script}
+use Rattle.replay_examples.specs.Calls.{reads}
+use Rattle.replay_examples.specs.Replays.{empty_script}
 
 -- a world that begins with a volume, which is to become available
 abbrev pub volume_script : Script

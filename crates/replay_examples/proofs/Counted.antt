@@ -13,7 +13,7 @@ use Rattle.script_parts.specs.declared.loss.Fate.TheVariants.{Told}
 use Rattle.script_parts.specs.declared.part.Part.{Part}
 use Rattle.script_parts.specs.Fates.{fate_of}
 use Rattle.script_runs.specs.Calls.{AreCalls, IsCall, IsCallWith, MayEnd, MoreCalls, NoCalls, seat_at}
-use Rattle.script_examples.specs.Calls.{CallExamples, EndExamples, SeatExamples, lists, part, reads, some_key, watches, whole_pass}
+use Rattle.replay_examples.specs.Calls.{CallExamples, EndExamples, SeatExamples, lists, part, reads, some_key, watches, whole_pass}
 
 pub seat_cases : SeatExamples
 seat_cases = record {

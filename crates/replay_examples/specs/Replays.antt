@@ -14,7 +14,7 @@ use Rattle.script_parts.specs.declared.part.Part.{Part}
 use Rattle.script_parts.specs.Examples.{binder_1, script_of}
 use Rattle.script_parts.specs.Parts.{part_of}
 use Rattle.script_runs.specs.Replays.{IsReplay, IsTurn, Progress, and_idle, and_made, begun}
-use Rattle.script_examples.specs.Calls.{reads, some_key, whole_pass}
+use Rattle.replay_examples.specs.Calls.{reads, some_key, whole_pass}
 
 abbrev pub empty_script : Script
 empty_script = script_of [] []

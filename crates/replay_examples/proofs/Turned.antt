@@ -14,9 +14,9 @@ use Rattle.script_parts.specs.declared.part.Part.{Part}
 use Rattle.script_parts.specs.Fates.{fate_of}
 use Rattle.script_runs.specs.Calls.{AreCalls, IsCallWith, MayEnd, MoreCalls, NoCalls, seat_at}
 use Rattle.script_runs.specs.Replays.{IsTurn, Progress, begun}
-use Rattle.script_examples.specs.Calls.{whole_pass, watches}
-use Rattle.script_examples.specs.Replays.{FewerExamples, after_a_pass, plain_part}
-use Rattle.script_examples.proofs.Counted.{end_cases}
+use Rattle.replay_examples.specs.Calls.{whole_pass, watches}
+use Rattle.replay_examples.specs.Replays.{FewerExamples, after_a_pass, plain_part}
+use Rattle.replay_examples.proofs.Counted.{end_cases}
 
 -- ---- calls leave entries
 

@@ -22,9 +22,9 @@ use Rattle.script_parts.specs.Examples.{binder_1}
 use Rattle.script_parts.specs.Parts.{part_of}
 use Rattle.script_runs.specs.Calls.{MayEnd, MoreCalls, NoCalls}
 use Rattle.script_runs.specs.Replays.{AreMoves, IsDrain, IsMove, IsReplay, IsTurn, IsUserCall, MoreMoves, NoMoves, Progress, and_made, begun}
-use Rattle.script_examples.specs.Calls.{reads, some_key}
-use Rattle.script_examples.specs.Replays.{EmptyExamples, TurnExamples, UserExamples, empty_script, turn_script, user_reads, user_script}
-use Rattle.script_examples.proofs.Counted.{LeavesOne, end_cases, none_left, one_call}
+use Rattle.replay_examples.specs.Calls.{reads, some_key}
+use Rattle.replay_examples.specs.Replays.{EmptyExamples, TurnExamples, UserExamples, empty_script, turn_script, user_reads, user_script}
+use Rattle.replay_examples.proofs.Counted.{LeavesOne, end_cases, none_left, one_call}
 
 -- ---- a replay whose last drain has nothing to do
 

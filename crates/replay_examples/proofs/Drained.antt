@@ -25,10 +25,10 @@ use Rattle.worker_threads.specs.Longer.{AreToldOf, IsOneOf}
 use Rattle.script_text.specs.declared.script.Script.{Script}
 use Rattle.script_parts.specs.Parts.{drain_seats}
 use Rattle.script_runs.specs.Replays.{IsDrain, NoMoves, Progress, begun}
-use Rattle.script_examples.specs.Calls.{reads}
-use Rattle.script_examples.specs.Drains.{DrainExamples, Drains, SpentExamples, volume_script}
-use Rattle.script_examples.specs.Replays.{empty_script}
-use Rattle.script_examples.proofs.Replayed.{nothing_due}
+use Rattle.replay_examples.specs.Calls.{reads}
+use Rattle.replay_examples.specs.Drains.{DrainExamples, Drains, SpentExamples, volume_script}
+use Rattle.replay_examples.specs.Replays.{empty_script}
+use Rattle.replay_examples.proofs.Replayed.{nothing_due}
 
 -- ---- what is due in the world that begins with a volume
 

@@ -3,9 +3,9 @@
 //! Each is a function with nothing to do, whose contract has the examples.
 #![tactic(auto)]
 
-ghost use Rattle.script_examples.specs.Calls.{CallExamples, EndExamples, SeatExamples};
-ghost use Rattle.script_examples.specs.Drains.{DrainExamples, SpentExamples};
-ghost use Rattle.script_examples.specs.Replays.{EmptyExamples, FewerExamples, TurnExamples, UserExamples};
+ghost use Rattle.replay_examples.specs.Calls.{CallExamples, EndExamples, SeatExamples};
+ghost use Rattle.replay_examples.specs.Drains.{DrainExamples, SpentExamples};
+ghost use Rattle.replay_examples.specs.Replays.{EmptyExamples, FewerExamples, TurnExamples, UserExamples};
 
 /// Which life of an actor makes a call.
 pub fn seat_examples()
