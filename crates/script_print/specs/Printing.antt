@@ -9,8 +9,8 @@ use Rattle.kube_types.specs.declared.key.Key.{Key}
 use Rattle.call_types.specs.declared.request.Request.{Request}
 use Rattle.call_types.specs.declared.request.Request.TheVariants as asks
 use Rattle.call_types.specs.declared.setup.Pool.{Pool}
-use Rattle.object_text.specs.Printing.Metadata.{uid_data}
-use Rattle.object_text.specs.Printing.Objects.{object_data}
+use Rattle.object_print.specs.Metadata.{uid_data}
+use Rattle.object_print.specs.Objects.{object_data}
 use Rattle.history_text.specs.Requests.{ask_word, argument_pairs, edit_pairs}
 use Rattle.history_text.specs.Replies.{topology_pairs}
 use Rattle.history_text.specs.Output.{with_lines}

@@ -15,7 +15,7 @@ use json_text::member_texts::MemberTexts;
 use json_text::writing::JsonText;
 use kube_types::copies::OutOfMemory;
 use kube_types::key::Key;
-use object_text::printing::members::{MemberSink, put_optional};
+use object_print::members::{MemberSink, put_optional};
 use script_text::actors::Actor;
 use script_text::keys::is_namespaced;
 use script_text::script::Line;

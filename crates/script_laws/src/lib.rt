@@ -1,0 +1,18 @@
+//! Laws of the texts of scripts: what is printed is read again.
+//!
+//! Each is a function with nothing to do, whose contract is the law.
+#![tactic(auto)]
+
+ghost use Rattle.script_laws.specs.Laws.{LineMeansItself, ScriptIsRead};
+
+/// The JSON of a line that a text can give means the line.
+#[tactic(auto, using(crate::proofs::LinesBack::line_means))]
+pub fn line_means_itself()
+    ensures { LineMeansItself }
+{}
+
+/// The text of a script that a text can give gives the script, within the limits of what is read.
+#[tactic(auto, using(crate::proofs::TextsRead::script_is_read))]
+pub fn script_is_read()
+    ensures { ScriptIsRead }
+{}
