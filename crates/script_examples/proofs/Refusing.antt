@@ -1,0 +1,55 @@
+-- Why lines are refused, computed.
+use Rattle.std.proofs.Common.{refl}
+use Rattle.serde_json.proofs.OnLiterals.{serde_json_on_literals}
+use Rattle.object_text.specs.ExtraMembers.{extra_at}
+use Rattle.object_text.specs.KindReaders.{node_of}
+use Rattle.object_text.specs.Listing.{item_of}
+use Rattle.object_text.specs.MetaReaders.{identity_at, marks_at, meta_of}
+use Rattle.object_text.specs.Reading.{kind_at, object_of}
+use Rattle.script_lines.specs.Members.{key_at}
+use Rattle.script_text.specs.Grammar.{and_filled, and_line, own_create, read_numbered_of}
+use Rattle.script_text.specs.LineReaders.{create_line, fault_line, get_line, lose_line, meaning_of, restart_line}
+use Rattle.script_text.specs.Said.{numbered_of}
+use Rattle.script_examples.specs.Refusals.{ReasonExamples, OrderExamples, AgainExamples, PlaceExamples}
+
+pub reason_examples : ReasonExamples
+unfolding meaning_of create_line item_of object_of kind_at node_of meta_of identity_at marks_at extra_at serde_json_on_literals
+reason_examples = record {
+  no_json = refl;
+  no_object = refl;
+  no_verb = refl;
+  null_is_no_verb = refl;
+  verb_of_another_type = refl;
+  another_verb = refl;
+  object_that_is_a_text = refl;
+  object_with_a_part_of_a_number = refl;
+  manifest_of_another_kind = refl;
+  manifest_without_a_name = refl;
+}
+
+pub order_examples : OrderExamples
+unfolding meaning_of get_line lose_line key_at serde_json_on_literals
+order_examples = record {
+  the_last_of_two_verbs_counts = refl;
+  kind_before_namespace = refl;
+  namespace_before_name = refl;
+  name_before_user = refl;
+  actor_before_call = refl;
+  call_before_when = refl;
+}
+
+pub again_examples : AgainExamples
+unfolding meaning_of fault_line lose_line restart_line serde_json_on_literals
+again_examples = record {
+  no_fault_twice = refl;
+  another_fault = refl;
+  no_call_is_lost_twice = refl;
+  a_restart_has_its_own_numbers = refl;
+}
+
+pub place_examples : PlaceExamples
+unfolding meaning_of and_line and_filled own_create read_numbered_of numbered_of serde_json_on_literals
+place_examples = record {
+  blank_lines_count = refl;
+  the_first_line_at_fault = refl;
+}

@@ -1,0 +1,4 @@
+pub mod Samples
+pub mod Lines
+pub mod Refusals
+pub mod Texts
