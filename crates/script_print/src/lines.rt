@@ -3,7 +3,7 @@
 ghost use Rattle.std.specs.Prelude.{◌≡◌, None, OnOk, codes, if◌then◌else◌};
 ghost use Rattle.json_text.specs.Members.{text, with_option, with_options, with_member_text};
 ghost use Rattle.json_text.specs.Writing.{written, with_value};
-ghost use Rattle.script_text.specs.declared.script.Line.TheVariants.{Lose};
+ghost use Rattle.script_text.specs.declared.script.Line.TheVariants.{Call, Lose, Restart, Turn};
 ghost use Rattle.script_lines.specs.Members.{is_namespaced};
 ghost use Rattle.script_print.specs.Printing.{user_pairs, line_key_pairs, call_pairs, when_word, actor_pairs, line_pairs, line_data, pool_pairs, pool_data, fault_data};
 
@@ -21,6 +21,7 @@ use script_text::keys::is_namespaced;
 use script_text::script::Line;
 use std::alloc::Global;
 
+#[tactic(auto, unfolding(json_text::specs::Members::with_option))]
 fn put_user(out: &mut MemberTexts, user: u64) -> Result<(), OutOfMemory>
     ensures ok { OnOk result (out.new ≡ with_options with_member_text (user_pairs user) out.old) }
 {
@@ -31,6 +32,7 @@ fn put_user(out: &mut MemberTexts, user: u64) -> Result<(), OutOfMemory>
     }
 }
 
+#[tactic(auto, unfolding(json_text::specs::Members::with_option))]
 fn put_namespace(out: &mut MemberTexts, key: &Key) -> Result<(), OutOfMemory>
     ensures ok { OnOk result (out.new ≡ with_option with_member_text (codes "namespace") (if is_namespaced key.now.kind then text key.now.namespace else None) out.old) }
 {
@@ -100,26 +102,52 @@ fn put_lose(
     out.put_text("when", when_word(after))
 }
 
+fn put_restart(
+    out: &mut MemberTexts,
+    alloc: Global,
+    actor: &Actor,
+    after: u64,
+) -> Result<(), OutOfMemory>
+    ensures ok { OnOk result (out.new ≡ with_options with_member_text (line_pairs (Restart actor.now after)) out.old) }
+{
+    out.put_text("do", "restart")?;
+    put_actor(out, alloc, actor)?;
+    out.put("after", &after)
+}
+
+fn put_turn(
+    out: &mut MemberTexts,
+    alloc: Global,
+    actor: &Actor,
+    calls: u64,
+) -> Result<(), OutOfMemory>
+    ensures ok { OnOk result (out.new ≡ with_options with_member_text (line_pairs (Turn actor.now calls)) out.old) }
+{
+    out.put_text("do", "turn")?;
+    put_actor(out, alloc, actor)?;
+    out.put("calls", &calls)
+}
+
+fn put_users_call(
+    out: &mut MemberTexts,
+    user: u64,
+    request: &Request,
+) -> Result<(), OutOfMemory>
+    ensures ok { OnOk result (out.new ≡ with_options with_member_text (line_pairs (Call user request.now)) out.old) }
+{
+    out.put_text("do", ask_word(request))?;
+    put_call(out, request)?;
+    put_user(out, user)
+}
+
 fn put_line(out: &mut MemberTexts, alloc: Global, line: &Line) -> Result<(), OutOfMemory>
     ensures ok { OnOk result (out.new ≡ with_options with_member_text (line_pairs line.now) out.old) }
 {
     match line {
-        Line::Call { user, request } => {
-            out.put_text("do", ask_word(request))?;
-            put_call(out, request)?;
-            put_user(out, *user)
-        }
+        Line::Call { user, request } => put_users_call(out, *user, request),
         Line::Lose { actor, call, after } => put_lose(out, alloc, actor, *call, *after),
-        Line::Restart { actor, after } => {
-            out.put_text("do", "restart")?;
-            put_actor(out, alloc, actor)?;
-            out.put("after", after)
-        }
-        Line::Turn { actor, calls } => {
-            out.put_text("do", "turn")?;
-            put_actor(out, alloc, actor)?;
-            out.put("calls", calls)
-        }
+        Line::Restart { actor, after } => put_restart(out, alloc, actor, *after),
+        Line::Turn { actor, calls } => put_turn(out, alloc, actor, *calls),
         Line::Drain => out.put_text("do", "drain"),
     }
 }

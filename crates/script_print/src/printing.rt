@@ -96,7 +96,7 @@ fn push_pools(
 }
 
 /// The text of a script: its pools, its faults and its lines, each a line.
-#[tactic(auto, unfolding(crate::specs::Printing::script_lines))]
+#[tactic(auto, using(history_text::proofs::LineLists::with_lines_append), unfolding(crate::specs::Printing::script_lines))]
 pub fn print_script(alloc: Global, script: &Script) -> Result<Bytes, OutOfMemory>
     ensures { IfOk result (λ b. b ≡ script_text script.now) }
 {
