@@ -1,5 +1,5 @@
 -- A printed line is canonical, and nests one level deeper than its object.
-use Rattle.std.proofs.Common.{ℕ, suc, ◌<◌, ◌≤◌, ◌^◌, ◌==◌, ◌&&◌, nat_le, List, [], ◌∷◌, Bool, true, false, if◌then◌else◌, Option, Some, None, option_map, codes, arith}
+use Rattle.std.proofs.Common.{ℕ, suc, ◌<◌, ◌≤◌, ◌^◌, ◌==◌, ◌&&◌, nat_le, List, [], ◌∷◌, ◌++◌, Bool, true, false, if◌then◌else◌, Option, Some, None, option_map, codes, arith}
 use Rattle.std.specs.Bool.{⊤}
 use Rattle.std.proofs.lemmas.Bool.{and_parts, leb-true}
 use Rattle.serde_json.specs.Data.{Data, boolean, string, depth}
@@ -20,7 +20,7 @@ use Rattle.object_print.specs.Objects.{object_data}
 use Rattle.object_laws.specs.Given.{IsGiven}
 use Rattle.object_laws.proofs.Canonical.{object_good}
 use Rattle.object_laws.proofs.CanonicalParts.{good_object_of, good_option}
-use Rattle.history_text.specs.Requests.{edit_pairs}
+use Rattle.history_text.specs.Requests.{two_texts, edit_pairs}
 use Rattle.history_text.specs.Replies.{topology_pairs}
 use Rattle.script_lines.specs.Members.{is_namespaced, most_call, most_turn}
 use Rattle.script_text.specs.declared.script.Line.{Line}
@@ -69,11 +69,11 @@ good_edit n (edits.AddFinalizer s) = (good_string, tt)
 good_edit n (edits.DropFinalizer s) = (good_string, tt)
 good_edit n (edits.DropLabel s) = (good_string, tt)
 good_edit n (edits.DropAnnotation s) = (good_string, tt)
-good_edit n (edits.SetLabel k v) = (good_object_of n _ (good_string, (good_string, tt)), tt)
-good_edit n (edits.SetAnnotation k v) = (good_object_of n _ (good_string, (good_string, tt)), tt)
+good_edit n (edits.SetLabel k v) = (good_object_of n (two_texts (codes "key") k (codes "value") v) (good_string, (good_string, tt)), tt)
+good_edit n (edits.SetAnnotation k v) = (good_object_of n (two_texts (codes "key") k (codes "value") v) (good_string, (good_string, tt)), tt)
 good_edit n (edits.SetVolumeName s) = (good_string, tt)
 good_edit n (edits.SetPolicy p) = (good_string, tt)
-good_edit n (edits.SetClaimRef a b) = (good_object_of n _ (good_string, (good_string, tt)), tt)
+good_edit n (edits.SetClaimRef namespace name) = (good_object_of n (two_texts (codes "name") name (codes "namespace") namespace) (good_string, (good_string, tt)), tt)
 good_edit n edits.ClearClaimRef = (good_boolean true, tt)
 
 -- ---- lines
@@ -86,7 +86,7 @@ good_call (asks.Create o) is fits = (good_one o is fits.levels, tt)
 good_call (asks.Update o version) is fits = (good_one o is.0 fits.levels, tt)
 good_call (asks.UpdateStatus key status version) is fits = absurd is
 good_call (asks.Edit key edit) is fits = good_append 126 (line_key_pairs key) (edit_pairs edit) (good_key 126 key) (good_edit 125 edit)
-good_call (asks.Delete key uid) is fits = good_append 126 (line_key_pairs key) _ (good_key 126 key) (good_uid 126 uid, tt)
+good_call (asks.Delete key uid) is fits = good_append 126 (line_key_pairs key) ((codes "uid", option_map uid_data uid) ∷ []) (good_key 126 key) (good_uid 126 uid, tt)
 good_call (asks.Get key) is fits = good_key 126 key
 good_call (asks.List kind namespace) is fits = (good_string, (good_option 126 string namespace (λ s. good_string), tt))
 good_call (asks.Watch kind from) is fits = absurd is
@@ -119,4 +119,4 @@ pool_good pool size = good_object_of 126 (pool_pairs pool size) (good_string, (g
 
 pub fault_good : (call : ℕ) → IsCount most_call call → Good 127 (fault_data call)
 unfolding fault_data
-fault_good call is = good_object_of 126 _ (good_count most_call call (omega arith) is, (good_string, tt))
+fault_good call is = good_object_of 126 ((codes "call", whole call) ∷ (codes "do", text (codes "fault")) ∷ []) (good_count most_call call (omega arith) is, (good_string, tt))

@@ -1,22 +1,27 @@
 -- A printed line is read as what it says.
-use Rattle.std.proofs.Common.{◌≡◌, ℕ, ◌≤◌, List, [], ◌∷◌, ◌++◌, length, Bool, true, false, Option, Some, None, Result, Ok, Err, codes, refl, ap, ◌∙◌}
+use Rattle.std.proofs.Common.{◌≡◌, ℕ, ◌≤◌, List, [], ◌∷◌, ◌++◌, length, Bool, true, false, Option, Some, None, Result, Ok, Err, if◌then◌else◌, ◌==◌, ◌||◌, nat_lt, option_and_then, refl, ap, ◌∙◌}
 use Rattle.std.specs.List.{list_all}
 use Rattle.std.specs.Str.{is_utf8}
-use Rattle.std.proofs.lemmas.Bool.{le-ltb}
+use Rattle.std.proofs.lemmas.Bool.{le-ltb, and_parts, eqb-true}
 use Rattle.serde_json.specs.Data.{Data, null, boolean, number, string, array, object}
 use Rattle.serde_json.specs.Written.{compact_text}
+use Rattle.json.specs.Token.{Token}
+use Rattle.json.specs.Lex.{space, class, between, lex, fresh, punctuate}
+use Rattle.json.specs.Json as json
+use Rattle.serde_json.specs.Read.{read, of_json, max_depth}
 use Rattle.serde_json.proofs.OnLiterals.{serde_json_on_literals}
 use Rattle.json_text.specs.Build.{Good}
 use Rattle.json_text.proofs.ReadBack.{read-compact_text}
 use Rattle.plain_data.specs.Pairs.{Pair}
-use Rattle.object_text.specs.Reading.{is_object}
+use Rattle.object_text.specs.Reading.{is_object, value_in}
 use Rattle.script_lines.specs.declared.errors.Reason.{Reason}
-use Rattle.script_lines.specs.Answers.{◌>>=◌}
+use Rattle.script_lines.specs.declared.errors.Reason.TheVariants.{TooLong, NotJson}
+use Rattle.script_lines.specs.Answers.{◌>>=◌, taken}
 use Rattle.script_text.specs.declared.script.Line.{Line}
 use Rattle.script_text.specs.declared.script.Meaning.{Meaning}
 use Rattle.script_text.specs.Said.{Said, and_said}
 use Rattle.script_text.specs.LineReaders.{verb_at, meaning_of}
-use Rattle.script_text.specs.Grammar.{most_line_bytes, most_lines, is_blank, line_value, limit_of, and_filled, and_line, create_by, own_create, node_from}
+use Rattle.script_text.specs.Grammar.{most_line_bytes, most_lines, is_blank, object_value, line_value, limit_of, and_filled, and_line, create_by, own_create, node_from}
 
 -- the text of a value is a line that is read as the value
 pub record IsRead (d : Data) : Type 0 where
@@ -52,6 +57,41 @@ pub none_read : (agents : List Pair) (said : Said) (n : ℕ) → and_line agents
 unfolding and_line
 none_read agents said n = refl
 
-pub none_created : node_from (own_create []) ≡ None
-unfolding own_create serde_json_on_literals
-none_created = refl
+-- ---- a line of blanks creates nothing
+
+blank_space : (x : ℕ) → is_blank x ≡ true → class x ≡ space
+blank_space x e = by (x == 32) (x == 9) refl refl e
+  where
+    by : (a b : Bool) → (x == 32) ≡ a → (x == 9) ≡ b → (a || b) ≡ true → class x ≡ space
+    by true b p q f = let is : x ≡ 32 = eqb-true x 32 p in rw is refl
+    by false true p q f = let is : x ≡ 9 = eqb-true x 9 q in rw is refl
+    by false false p q f = absurd (cc)
+
+blank_lexemes : (xs : List ℕ) → list_all is_blank xs ≡ true → lex between xs ≡ []
+unfolding lex
+blank_lexemes [] e = refl
+blank_lexemes (x ∷ xs) e =
+    let parts = and_parts (is_blank x) (list_all is_blank xs) e in
+    rw (blank_space x parts.0) (blank_lexemes xs parts.1)
+
+no_tokens : option_and_then of_json (option_and_then (λ (p : json.Json × List Token). json.if_last p.0 p.1) (json.value max_depth (punctuate fresh []))) ≡ None
+unfolding serde_json_on_literals
+no_tokens = refl
+
+blank_value : (xs : List ℕ) → list_all is_blank xs ≡ true → read xs ≡ None
+blank_value xs e = ap (λ ls. option_and_then of_json (option_and_then (λ (p : json.Json × List Token). json.if_last p.0 p.1) (json.value max_depth (punctuate fresh ls)))) (blank_lexemes xs e) ∙ no_tokens
+
+blank_line_value : (line : List ℕ) → list_all is_blank line ≡ true → line_value line ≡ Err NotJson
+blank_line_value line e = by (is_utf8 line) (read line) (blank_value line e)
+  where
+    by : (u : Bool) (o : Option Data) → o ≡ None → (taken (value_in (if u then o else None)) >>= λ d. object_value d) ≡ Err NotJson
+    by true o none = rw none refl
+    by false o none = refl
+
+pub blank_node : (line : List ℕ) → list_all is_blank line ≡ true → node_from (own_create line) ≡ None
+unfolding own_create
+blank_node line e = by (nat_lt most_line_bytes (length line))
+  where
+    by : (long : Bool) → node_from ((if long then Err TooLong else Ok line) >>= λ short. line_value short >>= λ value. verb_at value >>= λ verb. create_by verb value) ≡ None
+    by true = refl
+    by false = ap (λ r. node_from (r >>= λ value. verb_at value >>= λ verb. create_by verb value)) (blank_line_value line e)

@@ -36,7 +36,7 @@ use Rattle.script_laws.specs.Scripts.{AreLinesAfter, AreSized, IsScript}
 use Rattle.script_laws.specs.Laws.{IsText, ScriptIsRead}
 use Rattle.script_laws.proofs.LinesBack.{line_means, pool_means, fault_means}
 use Rattle.script_laws.proofs.LinesGood.{line_good, pool_good, fault_good}
-use Rattle.script_laws.proofs.LinesRead.{IsRead, line_read, none_read, none_created}
+use Rattle.script_laws.proofs.LinesRead.{IsRead, line_read, none_read, blank_node}
 use Rattle.script_laws.proofs.Agents.{own_node, pool_node, fault_node}
 
 -- ---- lines that can be read
@@ -128,7 +128,7 @@ abbrev own : ℕ → ℕ
 own m = m
 
 below : (n m : ℕ) → nat_cmp n m ≡ Less → n < m
-below n m e = ranked n m Less e
+below n m e = ranked n m Less (sym e)
 
 after_all : (y : ℕ) (ws : List ℕ) (x : ℕ) (ys : List ℕ) → IsAfter nat_cmp (λ m. m) y (ws ++ x ∷ ys) → nat_cmp y x ≡ Less
 after_all y [] x ys h = h.0
@@ -323,7 +323,7 @@ agents_read s is fits fine =
     pools_beside [] s.setup.pools s.sizes (faults_of s ++ (texts_of s ++ last_part)) is.pools fine.pools
     ∙ faults_beside [] s.setup.faults (texts_of s ++ last_part) is.fault_numbers fine.faults
     ∙ lines_beside (agents_of s.lines) [] [] s.lines last_part is.lines fits.objects fine.texts
-    ∙ ap (and_node (agents_of s.lines)) none_created
+    ∙ ap (and_node (agents_of s.lines)) (blank_node [] refl)
 
 abbrev after_pools : Script → Said
 after_pools s = and_pools 1 nothing_said s.setup.pools s.sizes
@@ -378,7 +378,7 @@ said_read s is fits fine =
     let second = past_is (past 1 s.setup.pools) s.setup.faults in
     let none : length (after_pools s).faults ≡ 0 = ap length one.faults_are in
     let before : (after_faults s).lines ≡ [] = two.lines_are ∙ one.lines_are in
-    pools_read agents s.setup.pools s.sizes (faults_of s ++ (texts_of s ++ last_part)) 1 nothing_said is.pools fine.pools (omega arith) is.few_pools
+    pools_read agents s.setup.pools s.sizes (faults_of s ++ (texts_of s ++ last_part)) 1 nothing_said is.pools fine.pools (omega arith) (omega (arith, is.few_pools))
     ∙ faults_read agents s.setup.faults (texts_of s ++ last_part) (past 1 s.setup.pools) (after_pools s) (rising_behind (after_pools s).faults s.setup.faults one.faults_are is.faults) is.fault_numbers fine.faults (omega arith) (omega (arith, is.few_faults))
     ∙ lines_read agents s.lines last_part (past (past 1 s.setup.pools) s.setup.faults) (after_faults s) (subst (λ (b : List Line). AreLinesAfter agents b s.lines) (sym before) is.lines) fits.objects fine.texts (omega arith)
     ∙ go_on agents (past (past (past 1 s.setup.pools) s.setup.faults) s.lines) [] [] (after_lines s) (after_lines s) (none_read agents (after_lines s) _)
