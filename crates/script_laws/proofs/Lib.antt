@@ -5,3 +5,7 @@ pub mod LinesGood
 pub mod LinesRead
 pub mod Agents
 pub mod TextsRead
+pub mod Values
+pub mod MembersGive
+pub mod LinesGive
+pub mod SetupGives
