@@ -9,3 +9,5 @@ pub mod Values
 pub mod MembersGive
 pub mod LinesGive
 pub mod SetupGives
+pub mod TextsGive
+pub mod Again

@@ -23,3 +23,11 @@ IsText line = is_utf8 line ≡ true
 -- the text of a script gives the script, where each of its lines is UTF-8 and within the limits of what is read
 abbrev pub ScriptIsRead : Type 0
 ScriptIsRead = (s : Script) → IsScript s → ScriptFits s → All IsText (script_lines s) → script_of (script_text s) ≡ Ok s
+
+-- what a text gives is a script that a text can give
+abbrev pub ScriptGives : Type 0
+ScriptGives = (text : List ℕ) (s : Script) → script_of text ≡ Ok s → IsScript s
+
+-- and its printed text gives the script again, within the limits of what is read
+abbrev pub ScriptIsReadAgain : Type 0
+ScriptIsReadAgain = (text : List ℕ) (s : Script) → script_of text ≡ Ok s → ScriptFits s → script_of (script_text s) ≡ Ok s

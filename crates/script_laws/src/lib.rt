@@ -3,7 +3,7 @@
 //! Each is a function with nothing to do, whose contract is the law.
 #![tactic(auto)]
 
-ghost use Rattle.script_laws.specs.Laws.{LineMeansItself, ScriptIsRead};
+ghost use Rattle.script_laws.specs.Laws.{LineMeansItself, ScriptGives, ScriptIsRead, ScriptIsReadAgain};
 
 /// The JSON of a line that a text can give means the line.
 #[tactic(auto, using(crate::proofs::LinesBack::line_means))]
@@ -15,4 +15,15 @@ pub fn line_means_itself()
 #[tactic(auto, using(crate::proofs::TextsRead::script_is_read))]
 pub fn script_is_read()
     ensures { ScriptIsRead }
+{}
+
+/// What a text gives is a script that a text can give.
+pub fn script_gives()
+    ensures { ScriptGives }
+{}
+
+/// What a text gives is printed as it is read again, within the limits of what is read.
+#[tactic(auto, using(crate::proofs::Again::script_is_read_again))]
+pub fn script_is_read_again()
+    ensures { ScriptIsReadAgain }
 {}
