@@ -1,6 +1,10 @@
 -- What lines mean, computed.
 use Rattle.std.proofs.Common.{refl}
+use Rattle.std.specs.Fmt.{digits}
+use Rattle.std.specs.Str.{is_utf8, chars}
 use Rattle.serde_json.proofs.OnLiterals.{serde_json_on_literals}
+use Rattle.quantity_text.specs.Quantity.{amount_of, refuse, unsigned_amount, scale_of, scaled, has_too_many_digits, value_of}
+use Rattle.kube_types.specs.Uids.{uid_of_text}
 use Rattle.object_text.specs.ExtraMembers.{extra_at}
 use Rattle.object_text.specs.KindReaders.{node_of}
 use Rattle.object_text.specs.Listing.{item_of}
@@ -11,7 +15,7 @@ use Rattle.script_text.specs.LineReaders.{create_line, delete_line, edit_line, f
 use Rattle.script_examples.specs.Lines.{CallExamples, EditExamples, SetupExamples, ActorExamples}
 
 pub call_examples : CallExamples
-unfolding meaning_of create_line update_line delete_line get_line list_line time_line key_at item_of object_of kind_at node_of meta_of identity_at marks_at extra_at serde_json_on_literals
+unfolding meaning_of create_line update_line delete_line get_line list_line time_line key_at item_of object_of kind_at node_of meta_of identity_at marks_at extra_at uid_of_text is_utf8 chars serde_json_on_literals
 call_examples = record {
   creates = refl;
   creates_as_user_four = refl;
@@ -33,7 +37,7 @@ call_examples = record {
 }
 
 pub edit_examples : EditExamples
-unfolding meaning_of edit_line key_at edit_at two_texts_in serde_json_on_literals
+unfolding meaning_of edit_line key_at edit_at two_texts_in is_utf8 chars serde_json_on_literals
 edit_examples = record {
   adds_a_finalizer = refl;
   sets_a_label = refl;
@@ -47,7 +51,7 @@ edit_examples = record {
 }
 
 pub setup_examples : SetupExamples
-unfolding meaning_of pool_line fault_line serde_json_on_literals
+unfolding meaning_of pool_line fault_line amount_of refuse unsigned_amount scale_of scaled has_too_many_digits value_of digits is_utf8 chars serde_json_on_literals
 setup_examples = record {
   pools = refl;
   pools_by_a_number = refl;
@@ -59,7 +63,7 @@ setup_examples = record {
 }
 
 pub actor_examples : ActorExamples
-unfolding meaning_of lose_line restart_line turn_line serde_json_on_literals
+unfolding meaning_of lose_line restart_line turn_line is_utf8 chars serde_json_on_literals
 actor_examples = record {
   loses_before = refl;
   loses_after = refl;

@@ -1,5 +1,6 @@
 -- Why lines are refused, computed.
 use Rattle.std.proofs.Common.{refl}
+use Rattle.std.specs.Str.{is_utf8, chars}
 use Rattle.serde_json.proofs.OnLiterals.{serde_json_on_literals}
 use Rattle.object_text.specs.ExtraMembers.{extra_at}
 use Rattle.object_text.specs.KindReaders.{node_of}
@@ -13,7 +14,7 @@ use Rattle.script_text.specs.Said.{numbered_of}
 use Rattle.script_examples.specs.Refusals.{ReasonExamples, OrderExamples, AgainExamples, PlaceExamples}
 
 pub reason_examples : ReasonExamples
-unfolding meaning_of create_line item_of object_of kind_at node_of meta_of identity_at marks_at extra_at serde_json_on_literals
+unfolding meaning_of create_line item_of object_of kind_at node_of meta_of identity_at marks_at extra_at is_utf8 chars serde_json_on_literals
 reason_examples = record {
   no_json = refl;
   no_object = refl;
@@ -28,7 +29,7 @@ reason_examples = record {
 }
 
 pub order_examples : OrderExamples
-unfolding meaning_of get_line lose_line key_at serde_json_on_literals
+unfolding meaning_of get_line lose_line key_at is_utf8 chars serde_json_on_literals
 order_examples = record {
   the_last_of_two_verbs_counts = refl;
   kind_before_namespace = refl;
@@ -39,7 +40,7 @@ order_examples = record {
 }
 
 pub again_examples : AgainExamples
-unfolding meaning_of fault_line lose_line restart_line serde_json_on_literals
+unfolding meaning_of fault_line lose_line restart_line is_utf8 chars serde_json_on_literals
 again_examples = record {
   no_fault_twice = refl;
   another_fault = refl;
@@ -48,7 +49,7 @@ again_examples = record {
 }
 
 pub place_examples : PlaceExamples
-unfolding meaning_of and_line and_filled own_create read_numbered_of numbered_of serde_json_on_literals
+unfolding meaning_of and_line and_filled own_create read_numbered_of numbered_of is_utf8 chars serde_json_on_literals
 place_examples = record {
   blank_lines_count = refl;
   the_first_line_at_fault = refl;
