@@ -19,7 +19,7 @@ use Rattle.script_text.specs.LineReaders.{verb_at, create_line}
 use Rattle.script_text.specs.Grammar.{create_by, own_create, node_from, agents_beside}
 use Rattle.script_print.specs.Printing.{line_pairs, line_data, line_text, pool_pairs, pool_data, pool_text, pool_lines, fault_data, fault_text}
 use Rattle.script_laws.specs.Given.{IsLineAfter}
-use Rattle.script_laws.specs.Limits.{LineFits}
+use Rattle.script_laws.specs.Limits.{LineHasShortObject}
 use Rattle.script_laws.specs.Scripts.{AreLinesAfter, AreSized}
 use Rattle.script_laws.proofs.MembersBack.{has, object_at_back, user_back}
 use Rattle.script_laws.proofs.EditsBack.{edit_line_pairs, no_edits, edit_has}
@@ -34,13 +34,13 @@ own_of d = verb_at d >>= λ verb. create_by verb d
 not_create : (d : Data) (verb : Verb) → verb_at d ≡ Ok verb → node_from (create_by verb d) ≡ None → node_from (own_of d) ≡ None
 not_create d verb e none = ap (λ r. node_from (r >>= λ v. create_by v d)) e ∙ none
 
-call_node : (agents : List Pair) (before : List Line) (user : ℕ) (request : Request) → IsLineAfter agents before (Call user request) → LineFits (Call user request) → node_from (own_of (line_data (Call user request))) ≡ created_node (Call user request)
+call_node : (agents : List Pair) (before : List Line) (user : ℕ) (request : Request) → IsLineAfter agents before (Call user request) → LineHasShortObject (Call user request) → node_from (own_of (line_data (Call user request))) ≡ created_node (Call user request)
 unfolding line_data
 call_node agents before user (asks.Create o) is fits =
     let ps : MemberList = line_pairs (Call user (asks.Create o)) in
     let d : Data = object_of ps in
     ap (λ r. node_from (r >>= λ v. create_by v d)) (verb_back d (codes "create") verbs.Create (has (codes "do") ps) refl)
-    ∙ ap node_from (create_back d user o (object_at_back d o is.1 fits.bytes (has (codes "object") ps)) (user_back d user is.0 (has (codes "user") ps)))
+    ∙ ap node_from (create_back d user o (object_at_back d o is.1.given fits (has (codes "object") ps)) (user_back d user is.0 (has (codes "user") ps)))
 call_node agents before user (asks.Update o version) is fits =
     let ps : MemberList = line_pairs (Call user (asks.Update o version)) in
     not_create (object_of ps) verbs.Update (verb_back (object_of ps) (codes "update") verbs.Update (has (codes "do") ps) refl) refl
@@ -71,7 +71,7 @@ call_node agents before user (asks.SetTime moment) is fits =
     let ps : MemberList = line_pairs (Call user (asks.SetTime moment)) in
     not_create (object_of ps) verbs.Time (verb_back (object_of ps) (codes "time") verbs.Time (has (codes "do") ps) refl) refl
 
-line_node : (agents : List Pair) (before : List Line) (line : Line) → IsLineAfter agents before line → LineFits line → node_from (own_of (line_data line)) ≡ created_node line
+line_node : (agents : List Pair) (before : List Line) (line : Line) → IsLineAfter agents before line → LineHasShortObject line → node_from (own_of (line_data line)) ≡ created_node line
 unfolding line_data
 line_node agents before (Call user request) is fits = call_node agents before user request is fits
 line_node agents before (Lose actor call after) is fits =
@@ -88,7 +88,7 @@ line_node agents before Drain is fits =
     not_create (object_of ps) verbs.Drain (verb_back (object_of ps) (codes "drain") verbs.Drain (has (codes "do") ps) refl) refl
 
 -- with the node of a line that was read
-pub own_node : (agents : List Pair) (before : List Line) (line : Line) → IsLineAfter agents before line → LineFits line → IsRead (line_data line) → node_from (own_create (line_text line)) ≡ created_node line
+pub own_node : (agents : List Pair) (before : List Line) (line : Line) → IsLineAfter agents before line → LineHasShortObject line → IsRead (line_data line) → node_from (own_create (line_text line)) ≡ created_node line
 unfolding line_text
 own_node agents before line is fits read = ap node_from (own_read (line_data line) read) ∙ line_node agents before line is fits
 

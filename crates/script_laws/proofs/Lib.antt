@@ -5,6 +5,8 @@ pub mod LinesGood
 pub mod LinesRead
 pub mod Agents
 pub mod TextsRead
+pub mod Kept
+pub mod Shallow
 pub mod Values
 pub mod MembersGive
 pub mod LinesGive

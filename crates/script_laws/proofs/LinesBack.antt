@@ -33,7 +33,7 @@ use Rattle.script_text.specs.Said.{Said, losses_of, restarts_of}
 use Rattle.script_text.specs.LineReaders.{create_line, update_line, edit_line, delete_line, get_line, list_line, time_line, pool_line, fault_line, lose_line, restart_line, turn_line, verb_from, verb_at, as_line, meaning_by, meaning_of}
 use Rattle.script_print.specs.Printing.{line_pairs, line_data, pool_pairs, pool_data, fault_data}
 use Rattle.script_laws.specs.Given.{IsCount, IsNewCall, IsUsersCall, IsActor, IsLineAfter}
-use Rattle.script_laws.specs.Limits.{ObjectFits, CallFits, LineFits}
+use Rattle.script_laws.specs.Limits.{IsShortObject, HasShortObject, LineHasShortObject}
 use Rattle.script_laws.proofs.MembersBack.{has, text_back, count_back, new_call_back, user_back, key_back, kind_alone_back, condition_back, object_at_back, actor_back, when_back, size_back}
 use Rattle.script_laws.proofs.EditsBack.{edit_line_pairs, edit_back, no_edits, edit_has}
 
@@ -58,21 +58,21 @@ pub create_back : (line : Data) (user : ℕ) (o : Object) → object_at line ≡
 unfolding create_line
 create_back line user o a b = rw (a, b) refl
 
-means_create : (agents : List Pair) (said : Said) (user : ℕ) (o : Object) → IsCount 4 user → IsUsersCall (asks.Create o) → ObjectFits o → Means agents said (Call user (asks.Create o))
+means_create : (agents : List Pair) (said : Said) (user : ℕ) (o : Object) → IsCount 4 user → IsUsersCall (asks.Create o) → IsShortObject o → Means agents said (Call user (asks.Create o))
 unfolding line_data
 means_create agents said user o u is short =
     let ps : MemberList = pairs_of user (asks.Create o) in
     let line : Data = object_of ps in
     meaning_back agents said line (codes "create") verbs.Create (has (codes "do") ps) refl
-    ∙ ap as_line (create_back line user o (object_at_back line o is short.bytes (has (codes "object") ps)) (user_back line user u (has (codes "user") ps)))
+    ∙ ap as_line (create_back line user o (object_at_back line o is.given short (has (codes "object") ps)) (user_back line user u (has (codes "user") ps)))
 
-means_update : (agents : List Pair) (said : Said) (user : ℕ) (o : Object) (version : Option ℕ) → IsCount 4 user → IsUsersCall (asks.Update o version) → ObjectFits o → Means agents said (Call user (asks.Update o version))
+means_update : (agents : List Pair) (said : Said) (user : ℕ) (o : Object) (version : Option ℕ) → IsCount 4 user → IsUsersCall (asks.Update o version) → IsShortObject o → Means agents said (Call user (asks.Update o version))
 unfolding line_data update_line
 means_update agents said user o version u is short =
     let ps : MemberList = pairs_of user (asks.Update o version) in
     let line : Data = object_of ps in
     meaning_back agents said line (codes "update") verbs.Update (has (codes "do") ps) refl
-    ∙ rw (object_at_back line o is.0 short.bytes (has (codes "object") ps), user_back line user u (has (codes "user") ps)) (ap (λ v. Ok (meanings.Line (Call user (asks.Update o v)))) (sym is.1))
+    ∙ rw (object_at_back line o is.0.given short (has (codes "object") ps), user_back line user u (has (codes "user") ps)) (ap (λ v. Ok (meanings.Line (Call user (asks.Update o v)))) (sym is.1))
 
 means_edit : (agents : List Pair) (said : Said) (user : ℕ) (key : Key) (edit : Edit) → IsCount 4 user → IsUsersCall (asks.Edit key edit) → Means agents said (Call user (asks.Edit key edit))
 unfolding line_data edit_line
@@ -114,7 +114,7 @@ means_time agents said user moment u =
     meaning_back agents said line (codes "time") verbs.Time (has (codes "do") ps) refl
     ∙ rw (text_back members.At line moment (has (codes "at") ps), user_back line user u (has (codes "user") ps)) refl
 
-means_call : (agents : List Pair) (said : Said) (user : ℕ) (request : Request) → IsCount 4 user → IsUsersCall request → CallFits request → Means agents said (Call user request)
+means_call : (agents : List Pair) (said : Said) (user : ℕ) (request : Request) → IsCount 4 user → IsUsersCall request → HasShortObject request → Means agents said (Call user request)
 means_call agents said user (asks.Create o) u is short = means_create agents said user o u is short
 means_call agents said user (asks.Update o version) u is short = means_update agents said user o version u is short
 means_call agents said user (asks.UpdateStatus key status version) u is short = absurd is
@@ -164,7 +164,7 @@ unfolding line_data
 means_drain agents said = meaning_back agents said (object_of (line_pairs Drain)) (codes "drain") verbs.Drain (has (codes "do") (line_pairs Drain)) refl
 
 -- the JSON of a line that a text can give means the line
-pub line_means : (agents : List Pair) (said : Said) (line : Line) → IsLineAfter agents said.lines line → LineFits line → Means agents said line
+pub line_means : (agents : List Pair) (said : Said) (line : Line) → IsLineAfter agents said.lines line → LineHasShortObject line → Means agents said line
 line_means agents said (Call user request) is short = means_call agents said user request is.0 is.1 short
 line_means agents said (Lose actor call after) is short = means_lose agents said actor call after is.0 is.1
 line_means agents said (Restart actor after) is short = means_restart agents said actor after is.0 is.1

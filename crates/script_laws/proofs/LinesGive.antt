@@ -145,8 +145,8 @@ edit_utf8 edits.ClearClaimRef h = (IsUtf8-are_ascii _ refl, tt, tt)
 pub object_utf8 : (o : Object) → ObjectGiven o → HasUtf8 (object_data o)
 unfolding object_line
 object_utf8 o h =
-    let good = object_good o h.given in
-    of_ok HasUtf8 (value_of (object_line o)) (object_data o) (value_read_utf8 (object_line o)) (rw (line_utf8 o h.given h.utf8, read-compact_text (object_data o) good.canonical good.shallow) refl)
+    let good = object_good o h.given.given in
+    of_ok HasUtf8 (value_of (object_line o)) (object_data o) (value_read_utf8 (object_line o)) (rw (line_utf8 o h.given.given h.utf8, read-compact_text (object_data o) good.canonical good.shallow) refl)
 
 uid_utf8 : (u : Uid) → HasUtf8 (uid_data u)
 unfolding uid_text

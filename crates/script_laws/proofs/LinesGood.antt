@@ -2,7 +2,7 @@
 use Rattle.std.proofs.Common.{ℕ, suc, ◌<◌, ◌≤◌, ◌^◌, ◌==◌, ◌&&◌, nat_le, List, [], ◌∷◌, ◌++◌, Bool, true, false, if◌then◌else◌, Option, Some, None, option_map, codes, arith}
 use Rattle.std.specs.Bool.{⊤}
 use Rattle.std.proofs.lemmas.Bool.{and_parts, leb-true}
-use Rattle.serde_json.specs.Data.{Data, boolean, string, depth}
+use Rattle.serde_json.specs.Data.{Data, boolean, string}
 use Rattle.json_text.specs.Build.{number_data, Good, GoodOption, GoodPairs}
 use Rattle.json_text.specs.Members.{MemberList, text, whole, object_of}
 use Rattle.json_text.proofs.Good.{good_string}
@@ -17,7 +17,6 @@ use Rattle.call_types.specs.declared.request.Request.TheVariants as asks
 use Rattle.call_types.specs.declared.setup.Pool.{Pool}
 use Rattle.object_print.specs.Metadata.{uid_data}
 use Rattle.object_print.specs.Objects.{object_data}
-use Rattle.object_laws.specs.Given.{IsGiven}
 use Rattle.object_laws.proofs.Canonical.{object_good}
 use Rattle.object_laws.proofs.CanonicalParts.{good_object_of, good_option}
 use Rattle.history_text.specs.Requests.{two_texts, edit_pairs}
@@ -26,8 +25,7 @@ use Rattle.script_lines.specs.Members.{is_namespaced, most_call, most_turn}
 use Rattle.script_text.specs.declared.script.Line.{Line}
 use Rattle.script_text.specs.declared.script.Line.TheVariants.{Call, Lose, Restart, Turn, Drain}
 use Rattle.script_print.specs.Printing.{user_pairs, line_key_pairs, call_pairs, line_pairs, line_data, pool_pairs, pool_data, fault_data}
-use Rattle.script_laws.specs.Given.{IsCount, IsUsersCall, IsLineAfter}
-use Rattle.script_laws.specs.Limits.{CallFits, LineFits}
+use Rattle.script_laws.specs.Given.{IsCount, IsLineObject, IsUsersCall, IsLineAfter}
 
 -- ---- members
 
@@ -78,36 +76,36 @@ good_edit n edits.ClearClaimRef = (good_boolean true, tt)
 
 -- ---- lines
 
-good_one : (o : Object) → IsGiven o → depth (object_data o) ≤ 126 → Good 126 (object_data o)
-good_one o is levels = record { canonical = (object_good o is).canonical; shallow = levels }
+good_one : (o : Object) → IsLineObject o → Good 126 (object_data o)
+good_one o is = record { canonical = (object_good o is.given).canonical; shallow = is.levels }
 
-good_call : (request : Request) → IsUsersCall request → CallFits request → GoodPairs 126 (call_pairs request)
-good_call (asks.Create o) is fits = (good_one o is fits.levels, tt)
-good_call (asks.Update o version) is fits = (good_one o is.0 fits.levels, tt)
-good_call (asks.UpdateStatus key status version) is fits = absurd is
-good_call (asks.Edit key edit) is fits = good_append 126 (line_key_pairs key) (edit_pairs edit) (good_key 126 key) (good_edit 125 edit)
-good_call (asks.Delete key uid) is fits = good_append 126 (line_key_pairs key) ((codes "uid", option_map uid_data uid) ∷ []) (good_key 126 key) (good_uid 126 uid, tt)
-good_call (asks.Get key) is fits = good_key 126 key
-good_call (asks.List kind namespace) is fits = (good_string, (good_option 126 string namespace (λ s. good_string), tt))
-good_call (asks.Watch kind from) is fits = absurd is
-good_call (asks.BindPod key uid node) is fits = absurd is
-good_call (asks.FinishPod key uid node epoch) is fits = absurd is
-good_call (asks.Provision name provisioner bytes labels) is fits = absurd is
-good_call (asks.Erase id) is fits = absurd is
-good_call (asks.TakeNode node) is fits = absurd is
-good_call (asks.Mounts node epoch) is fits = absurd is
-good_call (asks.Mount node epoch pod claims) is fits = absurd is
-good_call (asks.Unmount node epoch pod) is fits = absurd is
-good_call (asks.SetTime moment) is fits = (good_string, tt)
+good_call : (request : Request) → IsUsersCall request → GoodPairs 126 (call_pairs request)
+good_call (asks.Create o) is = (good_one o is, tt)
+good_call (asks.Update o version) is = (good_one o is.0, tt)
+good_call (asks.UpdateStatus key status version) is = absurd is
+good_call (asks.Edit key edit) is = good_append 126 (line_key_pairs key) (edit_pairs edit) (good_key 126 key) (good_edit 125 edit)
+good_call (asks.Delete key uid) is = good_append 126 (line_key_pairs key) ((codes "uid", option_map uid_data uid) ∷ []) (good_key 126 key) (good_uid 126 uid, tt)
+good_call (asks.Get key) is = good_key 126 key
+good_call (asks.List kind namespace) is = (good_string, (good_option 126 string namespace (λ s. good_string), tt))
+good_call (asks.Watch kind from) is = absurd is
+good_call (asks.BindPod key uid node) is = absurd is
+good_call (asks.FinishPod key uid node epoch) is = absurd is
+good_call (asks.Provision name provisioner bytes labels) is = absurd is
+good_call (asks.Erase id) is = absurd is
+good_call (asks.TakeNode node) is = absurd is
+good_call (asks.Mounts node epoch) is = absurd is
+good_call (asks.Mount node epoch pod claims) is = absurd is
+good_call (asks.Unmount node epoch pod) is = absurd is
+good_call (asks.SetTime moment) is = (good_string, tt)
 
-pub line_good : (agents : List Pair) (before : List Line) (line : Line) → IsLineAfter agents before line → LineFits line → Good 127 (line_data line)
+pub line_good : (agents : List Pair) (before : List Line) (line : Line) → IsLineAfter agents before line → Good 127 (line_data line)
 unfolding line_data
-line_good agents before (Call user request) is fits =
-    good_object_of 126 (line_pairs (Call user request)) (good_string, good_append 126 (call_pairs request) (user_pairs user) (good_call request is.1 fits) (good_user 126 user is.0))
-line_good agents before (Lose actor call after) is fits = good_object_of 126 (line_pairs (Lose actor call after)) (good_string, (good_string, (good_count most_call call (omega arith) is.1.counted, (good_string, tt))))
-line_good agents before (Restart actor after) is fits = good_object_of 126 (line_pairs (Restart actor after)) (good_string, (good_string, (good_count most_call after (omega arith) is.1.counted, tt)))
-line_good agents before (Turn actor calls) is fits = good_object_of 126 (line_pairs (Turn actor calls)) (good_string, (good_string, (good_count most_turn calls (omega arith) is.1, tt)))
-line_good agents before Drain is fits = good_object_of 126 (line_pairs Drain) (good_string, tt)
+line_good agents before (Call user request) is =
+    good_object_of 126 (line_pairs (Call user request)) (good_string, good_append 126 (call_pairs request) (user_pairs user) (good_call request is.1) (good_user 126 user is.0))
+line_good agents before (Lose actor call after) is = good_object_of 126 (line_pairs (Lose actor call after)) (good_string, (good_string, (good_count most_call call (omega arith) is.1.counted, (good_string, tt))))
+line_good agents before (Restart actor after) is = good_object_of 126 (line_pairs (Restart actor after)) (good_string, (good_string, (good_count most_call after (omega arith) is.1.counted, tt)))
+line_good agents before (Turn actor calls) is = good_object_of 126 (line_pairs (Turn actor calls)) (good_string, (good_string, (good_count most_turn calls (omega arith) is.1, tt)))
+line_good agents before Drain is = good_object_of 126 (line_pairs Drain) (good_string, tt)
 
 good_topology : (n : ℕ) (t : Option (List ℕ × List ℕ)) → GoodPairs n (topology_pairs t)
 good_topology n None = tt

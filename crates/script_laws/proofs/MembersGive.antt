@@ -41,8 +41,10 @@ use Rattle.script_lines.specs.declared.errors.Reason.TheVariants.{WrongType, Bad
 use Rattle.script_lines.specs.Answers.{◌>>=◌, taken, unless}
 use Rattle.script_lines.specs.Actors.{worker_word, agent_word, actor_word, all_workers, agent_named, worker_or, actor_named}
 use Rattle.script_lines.specs.Members.{at, needed, text_of, text_at, number_in, count_of, count_at, most_call, is_given, new_call_at, user_from, user_at, kind_from, kind_at, is_namespaced, namespace_at, condition_at, key_at, object_taken, object_at, actor_from, actor_at, when_named, when_at}
-use Rattle.script_laws.specs.Given.{IsCount, IsNewCall, IsLineKey, IsActor}
-use Rattle.script_laws.proofs.Values.{step, past, unless_gives, WasRead, sound, at_read, needed_read}
+use Rattle.script_laws.specs.Given.{IsCount, IsNewCall, IsLineObject, IsLineKey, IsActor}
+use Rattle.script_laws.proofs.Values.{step, past, unless_gives, WasRead, sound, sound_less, at_read, needed_read}
+use Rattle.script_laws.proofs.Kept.{KeepsLess, object_keeps}
+use Rattle.script_laws.proofs.Shallow.{object_less}
 
 -- ---- texts and numbers
 
@@ -129,16 +131,18 @@ condition_gives d = taken_gives (λ u. IfSome u IsUid) (uid_at manifests.Uid (So
 -- ---- objects
 
 pub record ObjectGiven (o : Object) : Type 0 where
-  pub given : IsGiven o
+  pub given : IsLineObject o
   pub utf8 : ObjectUtf8 o
 
-both : (r : Result Object ObjectError) → IfOk r IsGiven → IfOk r ObjectUtf8 → IfOk r ObjectGiven
-both (Ok o) h k = record { given = h; utf8 = k }
-both (Err e) h k = tt
+all_known : (r : Result Object ObjectError) → IfOk r IsGiven → IfOk r KeepsLess → IfOk r ObjectUtf8 → IfOk r ObjectGiven
+all_known (Ok o) h k u = let good = object_less o k in record { given = record { given = h; levels = good.shallow }; utf8 = u }
+all_known (Err e) h k u = tt
 
 item_gives : (d : Data) → WasRead 126 d → IfOk (item_of d) ObjectGiven
 unfolding item_of
-item_gives d h = if_ok ObjectGiven (is_long d) (Err TooLong) (object_of d) (λ e. tt) (λ e. both (object_of d) (sound_given d (sound 126 d (omega arith) h)) (object_read_utf8 d h.utf8))
+item_gives d h =
+    if_ok ObjectGiven (is_long d) (Err TooLong) (object_of d) (λ e. tt) (λ e.
+    all_known (object_of d) (sound_given d (sound 126 d (omega arith) h)) (object_keeps d (sound_less d h)) (object_read_utf8 d h.utf8))
 
 object_taken_gives : (r : Result Object ObjectError) → IfOk r ObjectGiven → IfOk (object_taken r) ObjectGiven
 object_taken_gives (Ok o) h = h

@@ -31,7 +31,7 @@ use Rattle.script_text.specs.Steps.Indexed.{AreFaults}
 use Rattle.script_text.specs.Grammar.{most_line_bytes, most_lines, most_pools, most_faults, limit_of, line_limit, passed, and_line, own_create, node_from, agents_beside, agents_in, lines_of, at_line, said_from, said_in, numbered_from, read_numbered_of, script_from, script_of}
 use Rattle.script_print.specs.Printing.{line_data, line_text, pool_data, pool_text, pool_lines, fault_data, fault_text, script_lines, script_text}
 use Rattle.script_laws.specs.Given.{IsCount, IsNewCall, IsLineAfter}
-use Rattle.script_laws.specs.Limits.{IsShort, LineFits, ScriptFits}
+use Rattle.script_laws.specs.Limits.{IsShort, LineHasShortObject, ScriptFits}
 use Rattle.script_laws.specs.Scripts.{AreLinesAfter, AreSized, IsScript}
 use Rattle.script_laws.specs.Laws.{IsText, ScriptIsRead}
 use Rattle.script_laws.proofs.LinesBack.{line_means, pool_means, fault_means}
@@ -66,9 +66,9 @@ fault_is_read : (call : ℕ) → IsCount most_call call → IsFine (fault_text c
 unfolding fault_text fault_data
 fault_is_read call is fine = record { members = refl; good = fault_good call is; utf8 = fine.utf8; short = fine.short }
 
-line_is_read : (agents : List Pair) (before : List Line) (line : Line) → IsLineAfter agents before line → LineFits line → IsFine (line_text line) → IsRead (line_data line)
+line_is_read : (agents : List Pair) (before : List Line) (line : Line) → IsLineAfter agents before line → IsFine (line_text line) → IsRead (line_data line)
 unfolding line_text line_data
-line_is_read agents before line is fits fine = record { members = refl; good = line_good agents before line is fits; utf8 = fine.utf8; short = fine.short }
+line_is_read agents before line is fine = record { members = refl; good = line_good agents before line is; utf8 = fine.utf8; short = fine.short }
 
 -- ---- the number of the next line
 
@@ -189,17 +189,17 @@ abbrev and_lines : ℕ → Said → List Line → Said
 and_lines n said [] = said
 and_lines n said (line ∷ lines) = and_lines (n + 1) (and_said said n (meanings.Line line)) lines
 
-line_step : (agents : List Pair) (said : Said) (n : ℕ) (line : Line) → IsLineAfter agents said.lines line → line_limit (said.lines ++ line ∷ []) line ≡ None → LineFits line → IsFine (line_text line) → n ≤ most_lines
+line_step : (agents : List Pair) (said : Said) (n : ℕ) (line : Line) → IsLineAfter agents said.lines line → line_limit (said.lines ++ line ∷ []) line ≡ None → LineHasShortObject line → IsFine (line_text line) → n ≤ most_lines
     → and_line agents said n (line_text line) ≡ Ok (and_said said n (meanings.Line line))
 unfolding line_text
-line_step agents said n line is limit fits fine few = line_read agents said n (line_data line) (meanings.Line line) (line_is_read agents said.lines line is fits fine) few (line_means agents said line is fits) limit
+line_step agents said n line is limit fits fine few = line_read agents said n (line_data line) (meanings.Line line) (line_is_read agents said.lines line is fine) few (line_means agents said line is fits) limit
 
-lines_read : (agents : List Pair) (lines : List Line) (rest : List (List ℕ)) (n : ℕ) (said : Said) → AreLinesAfter agents said.lines lines → All LineFits lines → All IsFine (map line_text lines) → n + length lines ≤ 4097
+lines_read : (agents : List Pair) (lines : List Line) (rest : List (List ℕ)) (n : ℕ) (said : Said) → AreLinesAfter agents said.lines lines → All LineHasShortObject lines → All IsFine (map line_text lines) → n + length lines ≤ 4097
     → said_from agents n (map line_text lines ++ rest) said ≡ said_from agents (past n lines) rest (and_lines n said lines)
 lines_read agents [] rest n said h fits fine few = refl
 lines_read agents (line ∷ lines) rest n said h fits fine few =
-    go_on agents n (line_text line) (map line_text lines ++ rest) said _ (line_step agents said n line h.0 h.1 (All-head LineFits line lines fits) (All-head IsFine (line_text line) (map line_text lines) fine) (omega arith))
-    ∙ lines_read agents lines rest (n + 1) (and_said said n (meanings.Line line)) h.2 (All-tail LineFits line lines fits) (All-tail IsFine (line_text line) (map line_text lines) fine) (omega arith)
+    go_on agents n (line_text line) (map line_text lines ++ rest) said _ (line_step agents said n line h.0 h.1 (All-head LineHasShortObject line lines fits) (All-head IsFine (line_text line) (map line_text lines) fine) (omega arith))
+    ∙ lines_read agents lines rest (n + 1) (and_said said n (meanings.Line line)) h.2 (All-tail LineHasShortObject line lines fits) (All-tail IsFine (line_text line) (map line_text lines) fine) (omega arith)
 
 record SameLines (a b : Said) (lines : List Line) : Type 0 where
   pub pools_are : b.pools ≡ a.pools
@@ -228,14 +228,14 @@ faults_beside agents (call ∷ calls) rest is fine =
     ap (λ o. agents_beside (and_node agents o) (map fault_text calls ++ rest)) (fault_node call (fault_is_read call (All-head (IsCount most_call) call calls is) (All-head IsFine (fault_text call) (map fault_text calls) fine)))
     ∙ faults_beside agents calls rest (All-tail (IsCount most_call) call calls is) (All-tail IsFine (fault_text call) (map fault_text calls) fine)
 
-lines_beside : (known : List Pair) (agents : List Pair) (before lines : List Line) (rest : List (List ℕ)) → AreLinesAfter known before lines → All LineFits lines → All IsFine (map line_text lines)
+lines_beside : (known : List Pair) (agents : List Pair) (before lines : List Line) (rest : List (List ℕ)) → AreLinesAfter known before lines → All LineHasShortObject lines → All IsFine (map line_text lines)
     → agents_beside agents (map line_text lines ++ rest) ≡ agents_beside (agents_after agents lines) rest
 lines_beside known agents before [] rest h fits fine = refl
 lines_beside known agents before (line ∷ lines) rest h fits fine =
-    let own_fits = All-head LineFits line lines fits in
+    let own_fits = All-head LineHasShortObject line lines fits in
     let own_fine = All-head IsFine (line_text line) (map line_text lines) fine in
-    ap (λ o. agents_beside (and_node agents o) (map line_text lines ++ rest)) (own_node known before line h.0 own_fits (line_is_read known before line h.0 own_fits own_fine))
-    ∙ lines_beside known (and_node agents (created_node line)) (before ++ line ∷ []) lines rest h.2 (All-tail LineFits line lines fits) (All-tail IsFine (line_text line) (map line_text lines) fine)
+    ap (λ o. agents_beside (and_node agents o) (map line_text lines ++ rest)) (own_node known before line h.0 own_fits (line_is_read known before line h.0 own_fine))
+    ∙ lines_beside known (and_node agents (created_node line)) (before ++ line ∷ []) lines rest h.2 (All-tail LineHasShortObject line lines fits) (All-tail IsFine (line_text line) (map line_text lines) fine)
 
 -- ---- lines and line feeds
 
@@ -276,12 +276,12 @@ fault_lines_are_lines (call ∷ calls) h =
     let good = fault_good call (All-head (IsCount most_call) call calls h) in
     All-cons IsLine (fault_text call) (map fault_text calls) (text_line (fault_data call) good.canonical) (fault_lines_are_lines calls (All-tail (IsCount most_call) call calls h))
 
-line_lines_are_lines : (agents : List Pair) (before lines : List Line) → AreLinesAfter agents before lines → All LineFits lines → All IsLine (map line_text lines)
+line_lines_are_lines : (agents : List Pair) (before lines : List Line) → AreLinesAfter agents before lines → All IsLine (map line_text lines)
 unfolding line_text
-line_lines_are_lines agents before [] h fits = All-nil IsLine
-line_lines_are_lines agents before (line ∷ lines) h fits =
-    let good = line_good agents before line h.0 (All-head LineFits line lines fits) in
-    All-cons IsLine (line_text line) (map line_text lines) (text_line (line_data line) good.canonical) (line_lines_are_lines agents (before ++ line ∷ []) lines h.2 (All-tail LineFits line lines fits))
+line_lines_are_lines agents before [] h = All-nil IsLine
+line_lines_are_lines agents before (line ∷ lines) h =
+    let good = line_good agents before line h.0 in
+    All-cons IsLine (line_text line) (map line_text lines) (text_line (line_data line) good.canonical) (line_lines_are_lines agents (before ++ line ∷ []) lines h.2)
 
 -- ---- the script
 
@@ -297,10 +297,10 @@ texts_of s = map line_text s.lines
 abbrev last_part : List (List ℕ)
 last_part = [] ∷ []
 
-parts_of : (s : Script) → IsScript s → ScriptFits s → lines_of (script_text s) ≡ pools_of s ++ (faults_of s ++ (texts_of s ++ last_part))
+parts_of : (s : Script) → IsScript s → lines_of (script_text s) ≡ pools_of s ++ (faults_of s ++ (texts_of s ++ last_part))
 unfolding script_lines
-parts_of s is fits =
-    let all_lines = All-append IsLine (pools_of s) (faults_of s ++ texts_of s) (pool_lines_are_lines s.setup.pools s.sizes is.pools) (All-append IsLine (faults_of s) (texts_of s) (fault_lines_are_lines s.setup.faults is.fault_numbers) (line_lines_are_lines (agents_of s.lines) [] s.lines is.lines fits.objects)) in
+parts_of s is =
+    let all_lines = All-append IsLine (pools_of s) (faults_of s ++ texts_of s) (pool_lines_are_lines s.setup.pools s.sizes is.pools) (All-append IsLine (faults_of s) (texts_of s) (fault_lines_are_lines s.setup.faults is.fault_numbers) (line_lines_are_lines (agents_of s.lines) [] s.lines is.lines)) in
     ap lines_of (with_joined [] (pools_of s ++ (faults_of s ++ texts_of s)))
     ∙ split_joined (pools_of s ++ (faults_of s ++ texts_of s)) all_lines
     ∙ append_assoc (pools_of s) (faults_of s ++ texts_of s) last_part
@@ -387,7 +387,7 @@ pub script_is_read : ScriptIsRead
 unfolding read_numbered_of
 script_is_read s is fits utf8 =
     let fine = all_fine s fits utf8 in
-    ap (λ lines. script_from (numbered_from (said_in lines))) (parts_of s is fits)
+    ap (λ lines. script_from (numbered_from (said_in lines))) (parts_of s is)
     ∙ ap (λ agents. script_from (numbered_from (said_from agents 1 (pools_of s ++ (faults_of s ++ (texts_of s ++ last_part))) nothing_said))) (agents_read s is fits fine)
     ∙ ap (λ r. script_from (numbered_from r)) (said_read s is fits fine)
     ∙ ap Ok (same_script s (after_lines s) is (is_said s is))

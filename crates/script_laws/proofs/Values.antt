@@ -5,7 +5,7 @@ use Rattle.std.specs.declared.cmp.Ordering.{Ordering}
 use Rattle.std.specs.declared.cmp.Ordering.TheVariants.{Less, Equal, Greater}
 use Rattle.std.specs.Ordering.{nat_cmp, match_ordering}
 use Rattle.std.specs.Cmp.Lexicographic.{slice_cmp}
-use Rattle.serde_json.specs.Data.{Data, null, boolean, number, string, array, object, Members, no_members, member}
+use Rattle.serde_json.specs.Data.{Data, null, boolean, number, string, array, object, Members, no_members, member, depth, members_depth}
 use Rattle.serde_json.specs.Find.{get, get_member}
 use Rattle.serde_json.specs.Read.{read}
 use Rattle.serde_json.proofs.Nesting.{depth-read}
@@ -20,6 +20,7 @@ use Rattle.object_laws.proofs.GivesParts.{if_ok}
 use Rattle.object_laws.proofs.Utf8Texts.{HasUtf8, MembersUtf8}
 use Rattle.object_laws.proofs.Utf8Readers.{PlaceUtf8}
 use Rattle.object_laws.proofs.Utf8Kinds.{value_read_utf8}
+use Rattle.script_laws.proofs.Kept.{IsSoundLess}
 use Rattle.script_lines.specs.declared.line_member.LineMember.{LineMember}
 use Rattle.script_lines.specs.declared.errors.Reason.{Reason}
 use Rattle.script_lines.specs.declared.errors.Reason.TheVariants.{NotObject}
@@ -46,9 +47,10 @@ unless_gives P false reason x h = h refl
 
 -- ---- the value of a line
 
--- it was read from UTF-8
+-- it was read from UTF-8, and nests at most so deep
 pub record WasRead (n : ℕ) (d : Data) : Type 0 where
   pub source : IsTaken n d
+  pub shallow : depth d ≤ n
   pub utf8 : HasUtf8 d
 
 pub sound : (n : ℕ) (d : Data) → n ≤ 127 → WasRead n d → IsSound d
@@ -69,7 +71,7 @@ pub line_was_read : (text : List ℕ) → IfOk (line_value text) (WasRead 127)
 line_was_read text = by (value_of text) (taken_value text) (value_read_utf8 text)
   where
     by : (r : Result Data ObjectError) → IfOk r (IsTaken 127) → IfOk r HasUtf8 → IfOk (taken r >>= object_value) (WasRead 127)
-    by (Ok d) t u = if_ok (WasRead 127) (is_object d) (Ok d) (Err NotObject) (λ e. record { source = t; utf8 = u }) (λ e. tt)
+    by (Ok d) t u = if_ok (WasRead 127) (is_object d) (Ok d) (Err NotObject) (λ e. let own = taken_reads 127 d (omega arith) t in record { source = t; shallow = depth-read own.0 d own.1; utf8 = u }) (λ e. tt)
     by (Err e) t u = tt
 
 -- ---- members
@@ -83,20 +85,32 @@ member_utf8 k (member l d ms) h = placed (slice_cmp nat_cmp k l) (member_utf8 k 
     placed Equal rest = h.1
     placed Greater rest = rest
 
-both : (n : ℕ) (o : Option Data) → IfSome o (IsTaken n) → IfSome o HasUtf8 → IfSome o (WasRead n)
-both n None t u = tt
-both n (Some d) t u = record { source = t; utf8 = u }
+abbrev IsShallow : ℕ → Data → Type 0
+IsShallow n d = depth d ≤ n
+
+member_shallow : (n : ℕ) (k : List ℕ) (ms : Members) → members_depth ms ≤ n → IfSome (get_member k ms) (IsShallow n)
+member_shallow n k no_members h = tt
+member_shallow n k (member l d ms) h = placed (slice_cmp nat_cmp k l) (member_shallow n k ms (omega arith))
+  where
+    placed : (o : Ordering) → IfSome (get_member k ms) (IsShallow n) → IfSome (match_ordering o (get_member k ms) (Some d) (get_member k ms)) (IsShallow n)
+    placed Less rest = rest
+    placed Equal rest = omega arith
+    placed Greater rest = rest
+
+all_known : (n : ℕ) (o : Option Data) → IfSome o (IsTaken n) → IfSome o (IsShallow n) → IfSome o HasUtf8 → IfSome o (WasRead n)
+all_known n None t s u = tt
+all_known n (Some d) t s u = record { source = t; shallow = s; utf8 = u }
 
 pub at_read : (n : ℕ) (m : LineMember) (d : Data) → WasRead (suc n) d → IfSome (at m d) (WasRead n)
-at_read n m d h = by d (taken_parts n d h.source) h.utf8
+at_read n m d h = by d (taken_parts n d h.source) h.shallow h.utf8
   where
-    by : (e : Data) → HasTakenParts n e → HasUtf8 e → IfSome (at m e) (WasRead n)
-    by null t u = tt
-    by (boolean b) t u = tt
-    by (number x) t u = tt
-    by (string s) t u = tt
-    by (array ds) t u = tt
-    by (object ms) t u = both n (get_member (line_word m) ms) (taken_member n (line_word m) ms t) (member_utf8 (line_word m) ms u)
+    by : (e : Data) → HasTakenParts n e → depth e ≤ suc n → HasUtf8 e → IfSome (at m e) (WasRead n)
+    by null t s u = tt
+    by (boolean b) t s u = tt
+    by (number x) t s u = tt
+    by (string x) t s u = tt
+    by (array ds) t s u = tt
+    by (object ms) t s u = all_known n (get_member (line_word m) ms) (taken_member n (line_word m) ms t) (member_shallow n (line_word m) ms (omega arith)) (member_utf8 (line_word m) ms u)
 
 pub unless_read : (n : ℕ) (o : Option Data) → IfSome o (WasRead n) → IfSome (unless_null o) (WasRead n)
 unless_read n None h = tt
@@ -113,3 +127,9 @@ needed_read n m d h = by (unless_null (at m d)) (unless_read n (at m d) (at_read
     by : (o : Option Data) → IfSome o (WasRead n) → IfOk (needed_from m o) (WasRead n)
     by None k = tt
     by (Some e) k = k
+
+-- ---- objects in a line
+
+-- an object that nests one level less deep than a line may, where it holds no float
+pub sound_less : (d : Data) → WasRead 126 d → IsSoundLess d
+sound_less d h none = record { canonical = (sound 126 d (omega arith) h none).canonical; shallow = h.shallow }

@@ -1,10 +1,13 @@
 -- Lines that a text can give.
 -- A choice of this project: the script format.
-use Rattle.std.specs.Prelude.{◌≡◌, ℕ, ◌&&◌, nat_le, List, true, false, Option, Some, None, IfSome, ⊤}
+use Rattle.std.specs.Prelude.{◌≡◌, ℕ, ◌≤◌, ◌&&◌, nat_le, List, true, false, Option, Some, None, IfSome, ⊤}
 use Rattle.plain_data.specs.Pairs.{Pair}
+use Rattle.serde_json.specs.Data.{depth}
 use Rattle.kube_types.specs.declared.key.Key.{Key}
+use Rattle.kube_types.specs.declared.objects.Object.{Object}
 use Rattle.call_types.specs.declared.request.Request.{Request}
 use Rattle.call_types.specs.declared.request.Request.TheVariants as asks
+use Rattle.object_print.specs.Objects.{object_data}
 use Rattle.object_laws.specs.Given.{IsGiven, IsNamespace, IsUid}
 use Rattle.script_lines.specs.declared.actors.Actor.{Actor}
 use Rattle.script_lines.specs.Actors.{actor_word, actor_named}
@@ -27,10 +30,15 @@ pub record IsNewCall (given : List ℕ) (n : ℕ) : Type 0 where
 abbrev pub IsLineKey : Key → Type 0
 IsLineKey k = IsNamespace (is_namespaced k.kind) k.namespace
 
+-- an object that a line can give: in the line it stands one level deeper than in a manifest
+pub record IsLineObject (o : Object) : Type 0 where
+  pub given : IsGiven o
+  pub levels : depth (object_data o) ≤ 126
+
 -- the calls that a user has a line for
 abbrev pub IsUsersCall : Request → Type 0
-IsUsersCall (asks.Create object) = IsGiven object
-IsUsersCall (asks.Update object version) = IsGiven object × (version ≡ condition_of object)
+IsUsersCall (asks.Create object) = IsLineObject object
+IsUsersCall (asks.Update object version) = IsLineObject object × (version ≡ condition_of object)
 IsUsersCall (asks.UpdateStatus key status version) = ⊥
 IsUsersCall (asks.Edit key edit) = IsLineKey key
 IsUsersCall (asks.Delete key uid) = IsLineKey key × IfSome uid IsUid

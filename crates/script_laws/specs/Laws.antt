@@ -10,12 +10,12 @@ use Rattle.script_text.specs.LineReaders.{meaning_of}
 use Rattle.script_text.specs.Grammar.{script_of}
 use Rattle.script_print.specs.Printing.{line_data, script_lines, script_text}
 use Rattle.script_laws.specs.Given.{IsLineAfter}
-use Rattle.script_laws.specs.Limits.{LineFits, ScriptFits}
+use Rattle.script_laws.specs.Limits.{LineHasShortObject, ScriptFits}
 use Rattle.script_laws.specs.Scripts.{IsScript}
 
 -- the JSON of a line means the line, after the lines that stand before it
 abbrev pub LineMeansItself : Type 0
-LineMeansItself = (agents : List Pair) (said : Said) (line : Line) → IsLineAfter agents said.lines line → LineFits line → meaning_of agents said (line_data line) ≡ Ok (meanings.Line line)
+LineMeansItself = (agents : List Pair) (said : Said) (line : Line) → IsLineAfter agents said.lines line → LineHasShortObject line → meaning_of agents said (line_data line) ≡ Ok (meanings.Line line)
 
 abbrev pub IsText : List ℕ → Type 0
 IsText line = is_utf8 line ≡ true

@@ -2,11 +2,10 @@
 -- the line that was read did not.
 -- A choice of this project: the script format, and its limits.
 use Rattle.std.specs.Prelude.{ℕ, ◌≤◌, List, length, All, ⊤}
-use Rattle.serde_json.specs.Data.{depth}
 use Rattle.kube_types.specs.declared.objects.Object.{Object}
 use Rattle.call_types.specs.declared.request.Request.{Request}
 use Rattle.call_types.specs.declared.request.Request.TheVariants as asks
-use Rattle.object_print.specs.Objects.{object_data, object_line}
+use Rattle.object_print.specs.Objects.{object_line}
 use Rattle.object_text.specs.Reading.{most_bytes}
 use Rattle.script_text.specs.declared.script.Line.{Line}
 use Rattle.script_text.specs.declared.script.Line.TheVariants.{Call, Lose, Restart, Turn, Drain}
@@ -14,19 +13,18 @@ use Rattle.script_text.specs.declared.script.Script.{Script}
 use Rattle.script_text.specs.Grammar.{most_line_bytes}
 use Rattle.script_print.specs.Printing.{script_lines}
 
--- an object of a line: no longer than a manifest may be, 8 KiB, and one level less deep than a line may be
-pub record ObjectFits (o : Object) : Type 0 where
-  pub bytes : length (object_line o) ≤ most_bytes
-  pub levels : depth (object_data o) ≤ 126
+-- an object of a line: no longer than a manifest may be, 8 KiB
+abbrev pub IsShortObject : Object → Type 0
+IsShortObject o = length (object_line o) ≤ most_bytes
 
-abbrev pub CallFits : Request → Type 0
-CallFits (asks.Create object) = ObjectFits object
-CallFits (asks.Update object version) = ObjectFits object
-CallFits request = ⊤
+abbrev pub HasShortObject : Request → Type 0
+HasShortObject (asks.Create object) = IsShortObject object
+HasShortObject (asks.Update object version) = IsShortObject object
+HasShortObject request = ⊤
 
-abbrev pub LineFits : Line → Type 0
-LineFits (Call user request) = CallFits request
-LineFits line = ⊤
+abbrev pub LineHasShortObject : Line → Type 0
+LineHasShortObject (Call user request) = HasShortObject request
+LineHasShortObject line = ⊤
 
 -- no longer than a line may be: 16 KiB
 abbrev pub IsShort : List ℕ → Type 0
@@ -34,4 +32,4 @@ IsShort text = length text ≤ most_line_bytes
 
 pub record ScriptFits (s : Script) : Type 0 where
   pub lines : All IsShort (script_lines s)
-  pub objects : All LineFits s.lines
+  pub objects : All LineHasShortObject s.lines
