@@ -3,6 +3,7 @@
 //! Each is a function with nothing to do, whose contract has the examples.
 #![tactic(auto)]
 
+ghost use Rattle.script_examples.specs.Limits.{LimitExamples};
 ghost use Rattle.script_examples.specs.Lines.{ActorExamples, CallExamples, EditExamples, SetupExamples};
 ghost use Rattle.script_examples.specs.Refusals.{AgainExamples, OrderExamples, PlaceExamples, ReasonExamples};
 ghost use Rattle.script_examples.specs.Texts.{TextExamples};
@@ -59,4 +60,10 @@ pub fn place_examples()
 #[tactic(auto, using(crate::proofs::Whole::text_examples))]
 pub fn text_examples()
     ensures { TextExamples }
+{}
+
+/// What passes a limit, and what just does not.
+#[tactic(auto, using(crate::proofs::Limiting::limit_examples))]
+pub fn limit_examples()
+    ensures { LimitExamples }
 {}
