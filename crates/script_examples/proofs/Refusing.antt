@@ -3,7 +3,7 @@ use Rattle.std.proofs.Common.{refl}
 use Rattle.std.specs.Str.{is_utf8, chars}
 use Rattle.serde_json.proofs.OnLiterals.{serde_json_on_literals}
 use Rattle.object_text.specs.ExtraMembers.{extra_at}
-use Rattle.object_text.specs.KindReaders.{node_of}
+use Rattle.object_text.specs.KindReaders.{node_of, volume_of, volume_spec_of, volume_shape}
 use Rattle.object_text.specs.Listing.{item_of}
 use Rattle.object_text.specs.MetaReaders.{identity_at, marks_at, meta_of}
 use Rattle.object_text.specs.Reading.{kind_at, object_of}
@@ -11,10 +11,14 @@ use Rattle.script_lines.specs.Members.{key_at}
 use Rattle.script_text.specs.Grammar.{and_filled, and_line, own_create, read_numbered_of}
 use Rattle.script_text.specs.LineReaders.{create_line, fault_line, get_line, lose_line, meaning_of, restart_line}
 use Rattle.script_text.specs.Said.{numbered_of}
-use Rattle.script_examples.specs.Refusals.{ReasonExamples, OrderExamples, AgainExamples, PlaceExamples}
+use Rattle.object_text.specs.PartReaders.{quantity_at}
+use Rattle.quantity_text.specs.Quantity.{amount_of, refuse, unsigned_amount, scale_of}
+use Rattle.std.specs.Fmt.{digits}
+use Rattle.script_lines.specs.Refusals.{refusal_line, reason_text}
+use Rattle.script_examples.specs.Refusals.{PrintedExamples, ReasonExamples, OrderExamples, AgainExamples, PlaceExamples}
 
 pub reason_examples : ReasonExamples
-unfolding meaning_of create_line item_of object_of kind_at node_of meta_of identity_at marks_at extra_at is_utf8 chars serde_json_on_literals
+unfolding meaning_of create_line item_of object_of kind_at node_of volume_of volume_spec_of volume_shape quantity_at amount_of refuse unsigned_amount scale_of meta_of identity_at marks_at extra_at is_utf8 chars serde_json_on_literals
 reason_examples = record {
   no_json = refl;
   no_object = refl;
@@ -25,6 +29,7 @@ reason_examples = record {
   object_that_is_a_text = refl;
   object_with_a_part_of_a_number = refl;
   manifest_of_another_kind = refl;
+  manifest_without_a_size = refl;
   manifest_without_a_name = refl;
 }
 
@@ -53,4 +58,12 @@ unfolding meaning_of and_line and_filled own_create read_numbered_of numbered_of
 place_examples = record {
   blank_lines_count = refl;
   the_first_line_at_fault = refl;
+}
+
+pub printed_examples : PrintedExamples
+unfolding refusal_line reason_text digits
+printed_examples = record {
+  with_its_member = refl;
+  with_none = refl;
+  with_that_of_the_manifest = refl;
 }

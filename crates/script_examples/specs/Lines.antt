@@ -36,12 +36,18 @@ pub record CallExamples : Type 0 where
   pub tells_the_time : means (codes "{\"do\":\"time\",\"at\":\"2001-01-01T00:00:00Z\"}") ≡ IsLine (Call 1 (SetTime (codes "2001-01-01T00:00:00Z")))
   pub tells_no_time : means (codes "{\"do\":\"time\"}") ≡ refuses (reasons.Missing members.At)
 
--- ---- edits of a volume
+-- ---- edits
 
 pub record EditExamples : Type 0 where
   pub adds_a_finalizer : means (codes "{\"do\":\"edit\",\"kind\":\"Node\",\"name\":\"n\",\"addFinalizer\":\"f\"}") ≡ IsLine (Call 1 (Edit (key_of kinds.Node [] (codes "n")) (edits.AddFinalizer (codes "f"))))
   pub sets_a_label : means (codes "{\"do\":\"edit\",\"kind\":\"Node\",\"name\":\"n\",\"setLabel\":{\"key\":\"k\",\"value\":\"v\"}}") ≡ IsLine (Call 1 (Edit (key_of kinds.Node [] (codes "n")) (edits.SetLabel (codes "k") (codes "v"))))
   pub sets_no_half_a_label : means (codes "{\"do\":\"edit\",\"kind\":\"Node\",\"name\":\"n\",\"setLabel\":{\"key\":\"k\"}}") ≡ refuses (reasons.Missing members.Value)
+  pub drops_a_finalizer : means (codes "{\"do\":\"edit\",\"kind\":\"PersistentVolume\",\"name\":\"a\",\"dropFinalizer\":\"f\"}") ≡ IsLine (Call 1 (Edit (key_of kinds.PersistentVolume [] (codes "a")) (edits.DropFinalizer (codes "f"))))
+  pub drops_a_label : means (codes "{\"do\":\"edit\",\"kind\":\"PersistentVolume\",\"name\":\"a\",\"dropLabel\":\"k\"}") ≡ IsLine (Call 1 (Edit (key_of kinds.PersistentVolume [] (codes "a")) (edits.DropLabel (codes "k"))))
+  pub drops_an_annotation : means (codes "{\"do\":\"edit\",\"kind\":\"PersistentVolume\",\"name\":\"a\",\"dropAnnotation\":\"k\"}") ≡ IsLine (Call 1 (Edit (key_of kinds.PersistentVolume [] (codes "a")) (edits.DropAnnotation (codes "k"))))
+  pub sets_an_annotation : means (codes "{\"do\":\"edit\",\"kind\":\"PersistentVolume\",\"name\":\"a\",\"setAnnotation\":{\"key\":\"k\",\"value\":\"v\"}}") ≡ IsLine (Call 1 (Edit (key_of kinds.PersistentVolume [] (codes "a")) (edits.SetAnnotation (codes "k") (codes "v"))))
+  pub sets_a_volume_name : means (codes "{\"do\":\"edit\",\"kind\":\"PersistentVolume\",\"name\":\"a\",\"setVolumeName\":\"v\"}") ≡ IsLine (Call 1 (Edit (key_of kinds.PersistentVolume [] (codes "a")) (edits.SetVolumeName (codes "v"))))
+  pub sets_a_reference : means (codes "{\"do\":\"edit\",\"kind\":\"PersistentVolume\",\"name\":\"a\",\"setClaimRef\":{\"namespace\":\"d\",\"name\":\"c\"}}") ≡ IsLine (Call 1 (Edit (key_of kinds.PersistentVolume [] (codes "a")) (edits.SetClaimRef (codes "d") (codes "c"))))
   pub sets_a_policy : means (codes "{\"do\":\"edit\",\"kind\":\"PersistentVolume\",\"name\":\"a\",\"setPolicy\":\"Recycle\"}") ≡ IsLine (Call 1 (Edit (key_of kinds.PersistentVolume [] (codes "a")) (edits.SetPolicy policies.Recycle)))
   pub sets_no_other_policy : means (codes "{\"do\":\"edit\",\"kind\":\"PersistentVolume\",\"name\":\"a\",\"setPolicy\":\"Keep\"}") ≡ refuses (reasons.WrongType members.SetPolicy)
   pub clears_the_reference : means (codes "{\"do\":\"edit\",\"kind\":\"PersistentVolume\",\"name\":\"a\",\"clearClaimRef\":true}") ≡ IsLine (Call 1 (Edit (key_of kinds.PersistentVolume [] (codes "a")) edits.ClearClaimRef))

@@ -4,6 +4,7 @@ use Rattle.std.specs.Prelude.{◌≡◌, ℕ, [], ◌∷◌, Ok, codes, false}
 use Rattle.object_text.specs.declared.errors.Member.TheVariants as manifests
 use Rattle.script_lines.specs.declared.line_member.LineMember.TheVariants as members
 use Rattle.script_lines.specs.declared.errors.Reason.TheVariants as reasons
+use Rattle.script_lines.specs.Refusals.{refusal_line}
 use Rattle.script_lines.specs.declared.actors.WorkerKind.TheVariants.{Binder}
 use Rattle.script_lines.specs.declared.actors.WorkerNumber.TheVariants.{One}
 use Rattle.script_text.specs.declared.script.Line.TheVariants.{Lose, Restart, Drain}
@@ -24,6 +25,7 @@ pub record ReasonExamples : Type 0 where
   pub object_that_is_a_text : means (codes "{\"do\":\"create\",\"object\":\"n\"}") ≡ refuses (reasons.WrongType members.Object)
   pub object_with_a_part_of_a_number : means (codes "{\"do\":\"create\",\"object\":{\"apiVersion\":\"v1\",\"kind\":\"Node\",\"metadata\":{\"name\":\"n\"},\"spec\":{\"x\":1.5}}}") ≡ refuses reasons.NotWhole
   pub manifest_of_another_kind : means (codes "{\"do\":\"create\",\"object\":{\"apiVersion\":\"v1\",\"kind\":\"Secret\"}}") ≡ refuses reasons.UnknownKind
+  pub manifest_without_a_size : means (codes "{\"do\":\"create\",\"object\":{\"apiVersion\":\"v1\",\"kind\":\"PersistentVolume\",\"metadata\":{\"name\":\"a\"},\"spec\":{\"capacity\":{\"storage\":\"5x\"}}}}") ≡ refuses (reasons.BadQuantity (members.Of manifests.Storage))
   pub manifest_without_a_name : means (codes "{\"do\":\"create\",\"object\":{\"apiVersion\":\"v1\",\"kind\":\"Node\",\"metadata\":{}}}") ≡ refuses (reasons.Missing (members.Of manifests.Name))
 
 -- ---- the first that applies
@@ -55,3 +57,10 @@ pub record AgainExamples : Type 0 where
 pub record PlaceExamples : Type 0 where
   pub blank_lines_count : script_of (codes "{\"do\":\"drain\"}\n \t\n\nx") ≡ at_fault 4 reasons.NotJson
   pub the_first_line_at_fault : script_of (codes "{}\nx\n") ≡ at_fault 1 (reasons.Missing members.Do)
+
+-- ---- what is printed for a line at fault
+
+pub record PrintedExamples : Type 0 where
+  pub with_its_member : refusal_line (record { line = 12; reason = reasons.BadValue members.User }) ≡ codes "line 12: BadValue user"
+  pub with_none : refusal_line (record { line = 4097; reason = reasons.TooManyLines }) ≡ codes "line 4097: TooManyLines"
+  pub with_that_of_the_manifest : refusal_line (record { line = 1; reason = reasons.Missing (members.Of manifests.Source) }) ≡ codes "line 1: Missing source"

@@ -5,7 +5,7 @@
 
 ghost use Rattle.script_examples.specs.Limits.{LimitExamples};
 ghost use Rattle.script_examples.specs.Lines.{ActorExamples, CallExamples, EditExamples, SetupExamples};
-ghost use Rattle.script_examples.specs.Refusals.{AgainExamples, OrderExamples, PlaceExamples, ReasonExamples};
+ghost use Rattle.script_examples.specs.Refusals.{AgainExamples, OrderExamples, PlaceExamples, PrintedExamples, ReasonExamples};
 ghost use Rattle.script_examples.specs.Texts.{TextExamples};
 
 /// Lines of users' calls.
@@ -54,6 +54,12 @@ pub fn again_examples()
 #[tactic(auto, using(crate::proofs::Refusing::place_examples))]
 pub fn place_examples()
     ensures { PlaceExamples }
+{}
+
+/// What is printed for a line at fault.
+#[tactic(auto, using(crate::proofs::Refusing::printed_examples))]
+pub fn printed_examples()
+    ensures { PrintedExamples }
 {}
 
 /// Whole texts.
