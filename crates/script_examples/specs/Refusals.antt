@@ -1,6 +1,6 @@
 -- Why lines are refused: each reason, and which comes first where several apply.
 -- A choice of this project: the script format, and its limits.
-use Rattle.std.specs.Prelude.{◌≡◌, ℕ, [], ◌∷◌, Ok, codes, false}
+use Rattle.std.specs.Prelude.{◌≡◌, [], ◌∷◌, Ok, codes, false}
 use Rattle.object_text.specs.declared.errors.Member.TheVariants as manifests
 use Rattle.script_lines.specs.declared.line_member.LineMember.TheVariants as members
 use Rattle.script_lines.specs.declared.errors.Reason.TheVariants as reasons

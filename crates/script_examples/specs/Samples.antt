@@ -1,8 +1,7 @@
 -- Lines and texts that the examples share, and what they are asked.
 -- A choice of this project: the script format.
-use Rattle.std.specs.Prelude.{ℕ, List, [], Option, Some, None, Ok, Err, codes}
+use Rattle.std.specs.Prelude.{ℕ, List, [], None, Ok, Err, codes}
 use Rattle.std.specs.declared.result.Result.{Result}
-use Rattle.plain_data.specs.Pairs.{Pair}
 use Rattle.kube_types.specs.declared.parts.Kind.{Kind}
 use Rattle.kube_types.specs.declared.key.Key.{Key}
 use Rattle.kube_types.specs.declared.objects.Object.{Object}
@@ -21,7 +20,7 @@ use Rattle.script_text.specs.declared.script.Meaning.TheVariants as meanings
 use Rattle.script_text.specs.declared.script.Script.{Script}
 use Rattle.script_text.specs.Said.{Said, nothing_said}
 use Rattle.script_text.specs.LineReaders.{meaning_of}
-use Rattle.script_text.specs.Grammar.{line_value, script_of}
+use Rattle.script_text.specs.Grammar.{line_value}
 
 -- what a line means after what was said before, in a text that creates the node `n`
 abbrev pub means_after : Said → List ℕ → Result Meaning Reason

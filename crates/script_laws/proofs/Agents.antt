@@ -1,26 +1,23 @@
 -- The agents of a printed script are those of the nodes that its lines create.
-use Rattle.std.proofs.Common.{◌≡◌, ℕ, List, [], ◌∷◌, ◌++◌, map, Option, Some, None, Result, Ok, Err, codes, refl, ap, ◌∙◌}
+use Rattle.std.proofs.Common.{◌≡◌, ℕ, List, [], ◌∷◌, None, Result, Ok, codes, refl, ap, ◌∙◌}
 use Rattle.serde_json.specs.Data.{Data}
-use Rattle.serde_json.specs.Written.{compact_text}
 use Rattle.json_text.specs.Members.{MemberList, text, whole, object_of}
 use Rattle.plain_data.specs.Pairs.{Pair}
 use Rattle.call_types.specs.declared.request.Request.{Request}
 use Rattle.call_types.specs.declared.request.Request.TheVariants as asks
 use Rattle.call_types.specs.declared.setup.Pool.{Pool}
 use Rattle.script_lines.specs.declared.errors.Reason.{Reason}
-use Rattle.script_lines.specs.declared.errors.Reason.TheVariants.{UnknownDo}
 use Rattle.script_lines.specs.declared.verbs.Verb.{Verb}
 use Rattle.script_lines.specs.declared.verbs.Verb.TheVariants as verbs
 use Rattle.script_lines.specs.Answers.{◌>>=◌}
 use Rattle.script_text.specs.declared.script.Line.{Line}
 use Rattle.script_text.specs.declared.script.Line.TheVariants.{Call, Lose, Restart, Turn, Drain}
-use Rattle.script_text.specs.Said.{and_node, created_node, agents_after}
-use Rattle.script_text.specs.LineReaders.{verb_at, create_line}
-use Rattle.script_text.specs.Grammar.{create_by, own_create, node_from, agents_beside}
-use Rattle.script_print.specs.Printing.{line_pairs, line_data, line_text, pool_pairs, pool_data, pool_text, pool_lines, fault_data, fault_text}
+use Rattle.script_text.specs.Said.{created_node}
+use Rattle.script_text.specs.LineReaders.{verb_at}
+use Rattle.script_text.specs.Grammar.{create_by, own_create, node_from}
+use Rattle.script_print.specs.Printing.{line_pairs, line_data, line_text, pool_pairs, pool_data, pool_text, fault_data, fault_text}
 use Rattle.script_laws.specs.Given.{IsLineAfter}
 use Rattle.script_laws.specs.Limits.{LineHasShortObject}
-use Rattle.script_laws.specs.Scripts.{AreLinesAfter, AreSized}
 use Rattle.script_laws.proofs.MembersBack.{has, object_at_back, user_back}
 use Rattle.script_laws.proofs.EditsBack.{edit_line_pairs, no_edits, edit_has}
 use Rattle.script_laws.proofs.LinesBack.{verb_back, create_back, no_topology}

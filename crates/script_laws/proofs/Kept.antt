@@ -1,6 +1,5 @@
 -- The members that an object of a line keeps nest one level less deep than those of a manifest.
-use Rattle.std.proofs.Common.{◌≡◌, ℕ, suc, ◌≤◌, List, [], true, false, if◌then◌else◌, Option, Some, None, Result, Ok, Err, IfOk, refl, arith}
-use Rattle.std.specs.Bool.{⊤}
+use Rattle.std.proofs.Common.{◌≡◌, ℕ, suc, ◌≤◌, List, [], true, false, if◌then◌else◌, Option, Some, None, Ok, Err, IfOk, refl, arith}
 use Rattle.serde_json.specs.Data.{Data, null, boolean, number, string, array, object, Members}
 use Rattle.serde_json.specs.Find.{get_member}
 use Rattle.serde_json.specs.Written.{has_float}
@@ -21,12 +20,10 @@ use Rattle.kube_types.specs.declared.objects.Object.{Object}
 use Rattle.kube_types.specs.declared.objects.Object.TheVariants as objects
 use Rattle.object_text.specs.declared.errors.Member.{Member}
 use Rattle.object_text.specs.declared.errors.Member.TheVariants as members
-use Rattle.object_text.specs.declared.errors.ObjectError.{ObjectError}
 use Rattle.object_text.specs.declared.errors.ObjectError.TheVariants.{NotObject, NotWhole}
 use Rattle.object_text.specs.declared.extra.Listed.{Listed}
 use Rattle.object_text.specs.declared.extra.Listed.TheVariants as listed
 use Rattle.object_text.specs.declared.kind_readers.VolumeSpec.{VolumeSpec}
-use Rattle.object_text.specs.Answers.{◌>>=◌}
 use Rattle.object_text.specs.MemberWords.{member_word}
 use Rattle.object_text.specs.MemberReaders.{at, needed_text, way_from, needed_way, object_at, text_or, pairs_at}
 use Rattle.object_text.specs.MetaReaders.{meta_of}

@@ -1,6 +1,5 @@
 -- What is printed of a line is read as the line.
-use Rattle.std.proofs.Common.{◌≡◌, ℕ, ◌≤◌, List, [], ◌∷◌, ◌++◌, length, Bool, Option, Some, None, Result, Ok, codes, refl, sym, ap, ◌∙◌}
-use Rattle.std.specs.Bool.{⊤}
+use Rattle.std.proofs.Common.{◌≡◌, ℕ, List, [], ◌∷◌, Bool, Option, Some, None, Ok, codes, refl, sym, ap, ◌∙◌}
 use Rattle.serde_json.specs.Data.{Data}
 use Rattle.json_text.specs.Build.{pick}
 use Rattle.json_text.specs.Members.{MemberList, text, whole, object_of}
@@ -18,16 +17,14 @@ use Rattle.object_text.specs.declared.errors.Member.TheVariants as manifests
 use Rattle.history_text.specs.Replies.{topology_pairs}
 use Rattle.script_lines.specs.declared.actors.Actor.{Actor}
 use Rattle.script_lines.specs.declared.line_member.LineMember.TheVariants as members
-use Rattle.script_lines.specs.declared.errors.Reason.{Reason}
 use Rattle.script_lines.specs.declared.verbs.Verb.{Verb}
 use Rattle.script_lines.specs.declared.verbs.Verb.TheVariants as verbs
 use Rattle.script_lines.specs.Answers.{◌>>=◌}
 use Rattle.script_lines.specs.Actors.{actor_word}
-use Rattle.script_lines.specs.Members.{at, most_turn, user_at, object_at, topology_from, topology_at}
+use Rattle.script_lines.specs.Members.{at, most_turn, user_at, object_at, topology_at}
 use Rattle.script_lines.specs.Verbs.{verb_named}
 use Rattle.script_text.specs.declared.script.Line.{Line}
 use Rattle.script_text.specs.declared.script.Line.TheVariants.{Call, Lose, Restart, Turn, Drain}
-use Rattle.script_text.specs.declared.script.Meaning.{Meaning}
 use Rattle.script_text.specs.declared.script.Meaning.TheVariants as meanings
 use Rattle.script_text.specs.Said.{Said, losses_of, restarts_of}
 use Rattle.script_text.specs.LineReaders.{create_line, update_line, edit_line, delete_line, get_line, list_line, time_line, pool_line, fault_line, lose_line, restart_line, turn_line, verb_from, verb_at, as_line, meaning_by, meaning_of}

@@ -1,5 +1,5 @@
 -- What the readers of lines give are lines that a text can give, and their JSON is UTF-8.
-use Rattle.std.proofs.Common.{◌≡◌, ℕ, suc, ◌<◌, ◌≤◌, ◌^◌, ◌==◌, ◌&&◌, nat_le, List, [], ◌∷◌, ◌++◌, Bool, true, false, if◌then◌else◌, Option, Some, None, IfSome, Result, Ok, Err, IfOk, IsUtf8, codes, decimal, option_map, inl, refl, arith}
+use Rattle.std.proofs.Common.{ℕ, ◌<◌, ◌≤◌, ◌^◌, ◌==◌, nat_le, List, [], ◌∷◌, ◌++◌, Bool, true, false, if◌then◌else◌, Option, Some, None, IfSome, Result, Ok, IfOk, IsUtf8, codes, decimal, option_map, inl, refl, arith}
 use Rattle.std.specs.Bool.{⊤}
 use Rattle.std.proofs.lemmas.Bool.{and_parts, leb-true}
 use Rattle.std.proofs.lemmas.Str.{IsUtf8-from_ascii}
@@ -13,8 +13,6 @@ use Rattle.serde_json.specs.Data.{Data, null, boolean, number, string, array, ob
 use Rattle.json_text.specs.Build.{number_data, put_some, put_all}
 use Rattle.json_text.specs.Members.{MemberList, text, whole, object_of}
 use Rattle.plain_data.specs.Pairs.{Pair}
-use Rattle.quantity_text.specs.Quantity.{amount_of}
-use Rattle.quantity_text.specs.declared.errors.AmountError.{AmountError}
 use Rattle.kube_types.specs.Uids.{uid_text}
 use Rattle.kube_types.specs.Named.{policy_named}
 use Rattle.kube_types.specs.Words.{kind_word, policy_word}
@@ -25,12 +23,9 @@ use Rattle.kube_types.specs.declared.parts.Policy.TheVariants as policies
 use Rattle.kube_types.specs.declared.key.Key.{Key}
 use Rattle.kube_types.specs.declared.uid.Uid.{Uid}
 use Rattle.kube_types.specs.declared.objects.Object.{Object}
-use Rattle.kube_types.specs.declared.objects.Amount.{Amount}
 use Rattle.call_types.specs.declared.edit.Edit.{Edit}
 use Rattle.call_types.specs.declared.edit.Edit.TheVariants as edits
-use Rattle.call_types.specs.declared.request.Request.{Request}
 use Rattle.call_types.specs.declared.request.Request.TheVariants as asks
-use Rattle.call_types.specs.declared.setup.Pool.{Pool}
 use Rattle.object_print.specs.Metadata.{uid_data}
 use Rattle.object_print.specs.Objects.{object_data, object_line}
 use Rattle.object_text.specs.declared.errors.Member.TheVariants as manifests
@@ -38,13 +33,11 @@ use Rattle.object_text.specs.Reading.{value_of}
 use Rattle.object_laws.specs.Given.{IsUid}
 use Rattle.object_laws.proofs.GivesParts.{of_ok}
 use Rattle.object_laws.proofs.Utf8Texts.{HasUtf8, MembersUtf8, put_utf8}
-use Rattle.object_laws.proofs.Utf8Objects.{ObjectUtf8, line_utf8}
+use Rattle.object_laws.proofs.Utf8Objects.{line_utf8}
 use Rattle.object_laws.proofs.Utf8Kinds.{value_read_utf8}
 use Rattle.object_laws.proofs.Canonical.{object_good}
 use Rattle.json_text.proofs.ReadBack.{read-compact_text}
 use Rattle.history_text.specs.Requests.{two_texts, edit_pairs}
-use Rattle.history_text.specs.Replies.{topology_pairs}
-use Rattle.script_lines.specs.declared.actors.Actor.{Actor}
 use Rattle.script_lines.specs.declared.errors.Reason.{Reason}
 use Rattle.script_lines.specs.declared.line_member.LineMember.{LineMember}
 use Rattle.script_lines.specs.declared.line_member.LineMember.TheVariants as members

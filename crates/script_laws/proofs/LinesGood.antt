@@ -1,10 +1,9 @@
 -- A printed line is canonical, and nests one level deeper than its object.
-use Rattle.std.proofs.Common.{ℕ, suc, ◌<◌, ◌≤◌, ◌^◌, ◌==◌, ◌&&◌, nat_le, List, [], ◌∷◌, ◌++◌, Bool, true, false, if◌then◌else◌, Option, Some, None, option_map, codes, arith}
-use Rattle.std.specs.Bool.{⊤}
+use Rattle.std.proofs.Common.{ℕ, suc, ◌<◌, ◌≤◌, ◌^◌, ◌==◌, nat_le, List, [], ◌∷◌, ◌++◌, Bool, true, false, if◌then◌else◌, Option, Some, None, option_map, codes, arith}
 use Rattle.std.proofs.lemmas.Bool.{and_parts, leb-true}
-use Rattle.serde_json.specs.Data.{Data, boolean, string}
+use Rattle.serde_json.specs.Data.{boolean, string}
 use Rattle.json_text.specs.Build.{number_data, Good, GoodOption, GoodPairs}
-use Rattle.json_text.specs.Members.{MemberList, text, whole, object_of}
+use Rattle.json_text.specs.Members.{MemberList, text, whole}
 use Rattle.json_text.proofs.Good.{good_string}
 use Rattle.plain_data.specs.Pairs.{Pair}
 use Rattle.kube_types.specs.declared.uid.Uid.{Uid}

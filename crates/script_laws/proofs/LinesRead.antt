@@ -1,5 +1,5 @@
 -- A printed line is read as what it says.
-use Rattle.std.proofs.Common.{◌≡◌, ℕ, ◌≤◌, List, [], ◌∷◌, ◌++◌, length, Bool, true, false, Option, Some, None, Result, Ok, Err, if◌then◌else◌, ◌==◌, ◌||◌, nat_lt, option_and_then, refl, ap, ◌∙◌}
+use Rattle.std.proofs.Common.{◌≡◌, ℕ, ◌≤◌, List, [], ◌∷◌, length, Bool, true, false, Option, None, Ok, Err, if◌then◌else◌, ◌==◌, ◌||◌, nat_lt, option_and_then, refl, ap, ◌∙◌}
 use Rattle.std.specs.List.{list_all}
 use Rattle.std.specs.Str.{is_utf8}
 use Rattle.std.proofs.lemmas.Bool.{le-ltb, and_parts, eqb-true}
@@ -14,10 +14,8 @@ use Rattle.json_text.specs.Build.{Good}
 use Rattle.json_text.proofs.ReadBack.{read-compact_text}
 use Rattle.plain_data.specs.Pairs.{Pair}
 use Rattle.object_text.specs.Reading.{is_object, value_in}
-use Rattle.script_lines.specs.declared.errors.Reason.{Reason}
 use Rattle.script_lines.specs.declared.errors.Reason.TheVariants.{TooLong, NotJson}
 use Rattle.script_lines.specs.Answers.{◌>>=◌, taken}
-use Rattle.script_text.specs.declared.script.Line.{Line}
 use Rattle.script_text.specs.declared.script.Meaning.{Meaning}
 use Rattle.script_text.specs.Said.{Said, and_said}
 use Rattle.script_text.specs.LineReaders.{verb_at, meaning_of}

@@ -1,28 +1,24 @@
 -- What the readers of members give meets what is asked of lines that a text can give.
-use Rattle.std.proofs.Common.{◌≡◌, ℕ, suc, ◌≤◌, ◌&&◌, nat_le, List, [], ◌∷◌, length, Bool, true, false, not, if◌then◌else◌, Option, Some, None, IfSome, Result, Ok, Err, IfOk, IsUtf8, bytes_eq, codes, option_map, refl, sym, ap, ◌∙◌, subst, arith}
+use Rattle.std.proofs.Common.{◌≡◌, ℕ, suc, ◌&&◌, nat_le, List, [], ◌∷◌, Bool, true, false, not, if◌then◌else◌, Option, Some, None, IfSome, Result, Ok, Err, IfOk, IsUtf8, bytes_eq, codes, option_map, refl, sym, ap, ◌∙◌, subst, arith}
 use Rattle.std.proofs.lemmas.Slice.Eq.{bytes_eq-Decides}
 use Rattle.std.proofs.lemmas.Map.Text.{is_eq-slice_cmp}
 use Rattle.std.specs.Bool.{⊤}
 use Rattle.std.specs.Ordering.{is_eq}
-use Rattle.serde_json.specs.Data.{Num, unsigned, negative, float, Data, null, boolean, number, string, array, object}
-use Rattle.serde_json.specs.Written.{has_float}
+use Rattle.serde_json.specs.Data.{unsigned, negative, float, Data, null, boolean, number, string, array, object}
 use Rattle.json.proofs.Printed.Utf8.{IsUtf8-are_ascii}
-use Rattle.plain_data.specs.Pairs.{Pair, text_cmp, pair_key, put_pair, value_at}
+use Rattle.plain_data.specs.Pairs.{Pair, text_cmp, pair_key}
 use Rattle.plain_data.specs.Rows.{find}
 use Rattle.kube_types.specs.Uids.{uid_of_text}
 use Rattle.kube_types.proofs.UidFits.{uid_fits}
-use Rattle.kube_types.specs.Named.{value_named, kind_named}
+use Rattle.kube_types.specs.Named.{value_named}
 use Rattle.kube_types.specs.declared.key.Key.{Key}
 use Rattle.kube_types.specs.declared.uid.Uid.{Uid}
-use Rattle.kube_types.specs.declared.parts.Kind.{Kind}
 use Rattle.kube_types.specs.declared.objects.Object.{Object}
-use Rattle.object_print.specs.Objects.{object_data, object_line}
 use Rattle.object_text.specs.declared.errors.ObjectError.{ObjectError}
 use Rattle.object_text.specs.declared.errors.ObjectError.TheVariants.{TooLong}
 use Rattle.object_text.specs.declared.errors.Member.TheVariants as manifests
 use Rattle.object_text.specs.MemberReaders.{optional_text, text_or, uid_from, uid_named, uid_or_none, uid_at}
-use Rattle.object_text.specs.MetaReaders.{kept_namespace}
-use Rattle.object_text.specs.Reading.{object_of, value_of}
+use Rattle.object_text.specs.Reading.{object_of}
 use Rattle.object_text.specs.Listing.{is_long, item_of}
 use Rattle.object_laws.specs.Given.{IsGiven, IsNamespace, IsUid}
 use Rattle.object_laws.proofs.Gives.{sound_given}
@@ -36,13 +32,12 @@ use Rattle.script_lines.specs.declared.actors.Actor.TheVariants as actors
 use Rattle.script_lines.specs.declared.actors.Worker.{Worker}
 use Rattle.script_lines.specs.declared.line_member.LineMember.{LineMember}
 use Rattle.script_lines.specs.declared.line_member.LineMember.TheVariants as members
-use Rattle.script_lines.specs.declared.errors.Reason.{Reason}
-use Rattle.script_lines.specs.declared.errors.Reason.TheVariants.{WrongType, BadValue, NotWhole}
-use Rattle.script_lines.specs.Answers.{◌>>=◌, taken, unless}
+use Rattle.script_lines.specs.declared.errors.Reason.TheVariants.{BadValue}
+use Rattle.script_lines.specs.Answers.{taken}
 use Rattle.script_lines.specs.Actors.{worker_word, agent_word, actor_word, all_workers, agent_named, worker_or, actor_named}
-use Rattle.script_lines.specs.Members.{at, needed, text_of, text_at, number_in, count_of, count_at, most_call, is_given, new_call_at, user_from, user_at, kind_from, kind_at, is_namespaced, namespace_at, condition_at, key_at, object_taken, object_at, actor_from, actor_at, when_named, when_at}
+use Rattle.script_lines.specs.Members.{at, needed, text_of, text_at, count_of, count_at, most_call, is_given, new_call_at, user_from, user_at, kind_at, is_namespaced, namespace_at, condition_at, key_at, object_taken, object_at, actor_from, actor_at}
 use Rattle.script_laws.specs.Given.{IsCount, IsNewCall, IsLineObject, IsLineKey, IsActor}
-use Rattle.script_laws.proofs.Values.{step, past, unless_gives, WasRead, sound, sound_less, at_read, needed_read}
+use Rattle.script_laws.proofs.Values.{step, past, unless_gives, WasRead, sound, sound_less, needed_read}
 use Rattle.script_laws.proofs.Kept.{KeepsLess, object_keeps}
 use Rattle.script_laws.proofs.Shallow.{object_less}
 

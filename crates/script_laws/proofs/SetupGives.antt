@@ -1,10 +1,8 @@
 -- What the readers of pools and faults give is what a text can give, and its JSON is UTF-8.
-use Rattle.std.proofs.Common.{◌≡◌, ℕ, List, [], ◌∷◌, Option, Some, None, IfSome, Result, Ok, Err, IfOk, IsUtf8, codes, refl, decimal, arith, ◌<◌, ◌^◌}
+use Rattle.std.proofs.Common.{◌≡◌, ℕ, List, Option, Some, None, IfSome, Result, Ok, Err, IfOk, IsUtf8, refl}
 use Rattle.std.specs.Bool.{⊤}
-use Rattle.std.proofs.lemmas.Str.{IsUtf8-from_ascii}
 use Rattle.json.proofs.Printed.Utf8.{IsUtf8-are_ascii}
-use Rattle.serde_json.specs.Data.{Num, unsigned, negative, float, Data, null, boolean, number, string, array, object}
-use Rattle.plain_data.specs.Pairs.{Pair}
+use Rattle.serde_json.specs.Data.{unsigned, negative, float, Data, null, boolean, number, string, array, object}
 use Rattle.quantity_text.specs.Quantity.{amount_of}
 use Rattle.quantity_text.specs.declared.errors.AmountError.{AmountError}
 use Rattle.kube_types.specs.declared.objects.Amount.{Amount}
@@ -16,17 +14,15 @@ use Rattle.object_text.specs.PartReaders.{quantity_text, amount_from, amount_in}
 use Rattle.object_laws.proofs.GivesParts.{step as object_step}
 use Rattle.object_laws.proofs.Utf8Texts.{HasUtf8}
 use Rattle.script_lines.specs.declared.line_member.LineMember.TheVariants as members
-use Rattle.script_lines.specs.declared.errors.Reason.{Reason}
-use Rattle.script_lines.specs.Answers.{◌>>=◌}
-use Rattle.script_lines.specs.Members.{at, needed, text_of, text_at, most_call, new_call_at, size_taken, size_at, value_from, topology_from, topology_at}
+use Rattle.script_lines.specs.Members.{at, needed, text_of, text_at, new_call_at, size_taken, size_at, value_from, topology_from, topology_at}
 use Rattle.script_text.specs.declared.script.Meaning.{Meaning}
 use Rattle.script_text.specs.declared.script.Meaning.TheVariants as meanings
 use Rattle.script_text.specs.LineReaders.{pool_line, fault_line}
 use Rattle.script_print.specs.Printing.{pool_pairs, pool_data}
 use Rattle.script_laws.specs.Given.{IsNewCall}
-use Rattle.script_laws.proofs.Values.{step, past, WasRead, at_read, needed_read}
+use Rattle.script_laws.proofs.Values.{step, WasRead, at_read, needed_read}
 use Rattle.script_laws.proofs.MembersGive.{text_of_gives, text_gives, new_call_gives}
-use Rattle.script_laws.proofs.LinesGive.{object_of_utf8, PairsUtf8, count_utf8}
+use Rattle.script_laws.proofs.LinesGive.{object_of_utf8, PairsUtf8}
 
 -- a pool that a text can give, with its size as it was written, and whose JSON is UTF-8
 pub record PoolGiven (pool : Pool) (size : List ℕ) : Type 0 where

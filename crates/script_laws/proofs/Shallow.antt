@@ -1,6 +1,6 @@
 -- A printed object that keeps members of one level less nests one level less deep.
-use Rattle.std.proofs.Common.{ℕ, ◌≤◌, List, [], ◌∷◌, ◌++◌, false, true, Option, Some, None, codes, arith}
-use Rattle.serde_json.specs.Data.{Members, string}
+use Rattle.std.proofs.Common.{[], ◌∷◌, ◌++◌, false, true, Option, Some, None, codes}
+use Rattle.serde_json.specs.Data.{string}
 use Rattle.json_text.specs.Build.{Good, GoodMembers, GoodOption}
 use Rattle.json_text.proofs.Good.{good_put_all, good_object, good_string}
 use Rattle.kube_types.specs.Words.{mode_words}

@@ -1,8 +1,6 @@
 -- What the text of a script gives is a script that a text can give.
-use Rattle.std.proofs.Common.{◌≡◌, ℕ, suc, ◌+◌, ◌<◌, ◌≤◌, ◌||◌, ◌==◌, nat_lt, List, [], ◌∷◌, ◌++◌, length, map, Bool, true, false, if◌then◌else◌, Option, Some, None, Result, Ok, Err, IfOk, refl, sym, ap, ◌∙◌, subst, append_assoc, append-nil, arith, length-append, eqb}
+use Rattle.std.proofs.Common.{◌≡◌, ℕ, suc, ◌+◌, ◌<◌, ◌≤◌, nat_lt, List, [], ◌∷◌, ◌++◌, length, map, Bool, true, false, Option, Some, None, Result, Ok, Err, IfOk, refl, sym, ap, ◌∙◌, subst, append_assoc, append-nil, arith, length-append}
 use Rattle.std.specs.List.{All, list_all}
-use Rattle.std.specs.Bool.{⊤}
-use Rattle.std.specs.Str.{is_utf8}
 use Rattle.std.specs.Ordering.{nat_cmp, match_ordering}
 use Rattle.std.specs.declared.cmp.Ordering.{Ordering}
 use Rattle.std.specs.declared.cmp.Ordering.TheVariants.{Less, Equal, Greater}
@@ -12,11 +10,10 @@ use Rattle.std.proofs.lemmas.Str.{is_utf8-from_IsUtf8}
 use Rattle.std.proofs.lemmas.List.Elements.{All-nil, All-cons, All-head, All-tail, All-append}
 use Rattle.serde_json.specs.Data.{Data}
 use Rattle.serde_json.specs.Written.{compact_text}
-use Rattle.plain_data.specs.Pairs.{Pair, text_cmp, put_pair}
+use Rattle.plain_data.specs.Pairs.{Pair, text_cmp}
 use Rattle.plain_data.specs.Rows.{put}
 use Rattle.plain_data.proofs.RowFacts.{rising_put}
 use Rattle.quantity_text.specs.Quantity.{amount_of}
-use Rattle.call_types.specs.declared.request.Request.TheVariants as asks
 use Rattle.call_types.specs.declared.setup.Pool.{Pool}
 use Rattle.object_laws.proofs.GivesParts.{if_ok}
 use Rattle.object_laws.proofs.Utf8Texts.{HasUtf8, text_utf8}
@@ -25,7 +22,7 @@ use Rattle.script_lines.specs.declared.errors.Reason.TheVariants.{TooLong, TooMa
 use Rattle.script_lines.specs.declared.errors.BadLine.{BadLine}
 use Rattle.script_lines.specs.declared.verbs.Verb.{Verb}
 use Rattle.script_lines.specs.declared.verbs.Verb.TheVariants as verbs
-use Rattle.script_lines.specs.Answers.{◌>>=◌, taken, unless}
+use Rattle.script_lines.specs.Answers.{◌>>=◌, unless}
 use Rattle.script_lines.specs.Actors.{actor_word, agent_word, with_node}
 use Rattle.script_lines.specs.declared.line_member.LineMember.TheVariants as members
 use Rattle.script_lines.specs.Members.{most_call, most_turn, text_at, count_at, new_call_at, user_at, kind_at, key_at, condition_at, object_at, actor_at, when_at, edit_at}
@@ -36,8 +33,8 @@ use Rattle.script_text.specs.declared.script.Script.{Script}
 use Rattle.script_text.specs.Said.{Said, nothing_said, and_said, and_node, created_node, agents_after, agents_of, losses_of, restarts_of, numbered_of}
 use Rattle.script_text.specs.Steps.Indexed.{AreFaults}
 use Rattle.script_text.specs.LineReaders.{create_line, update_line, edit_line, delete_line, get_line, list_line, time_line, pool_line, fault_line, lose_line, restart_line, turn_line, verb_at, as_line, meaning_by, meaning_of}
-use Rattle.script_text.specs.Grammar.{most_line_bytes, most_lines, most_pools, most_faults, passed, limit_of, line_limit, unless_passed, is_blank, object_value, line_value, and_filled, and_line, create_by, own_create, node_from, agents_beside, agents_in, lines_of, at_line, said_from, said_in, numbered_from, read_numbered_of, script_from, script_of}
-use Rattle.script_print.specs.Printing.{line_data, line_text, pool_data, pool_text, pool_lines, fault_data, fault_text, script_lines}
+use Rattle.script_text.specs.Grammar.{most_line_bytes, most_lines, most_pools, most_faults, passed, limit_of, line_limit, unless_passed, is_blank, line_value, and_filled, and_line, create_by, own_create, node_from, agents_beside, agents_in, lines_of, at_line, said_from, numbered_from, read_numbered_of, script_from, script_of}
+use Rattle.script_print.specs.Printing.{line_data, line_text, pool_data, pool_text, pool_lines}
 use Rattle.script_laws.specs.Given.{IsCount, IsNewCall, IsLineAfter}
 use Rattle.script_laws.specs.Scripts.{AreLinesAfter, AreSized, IsScript}
 use Rattle.script_laws.specs.Laws.{IsText}

@@ -1,36 +1,30 @@
 -- The text of a script is read, line by line, as the script.
-use Rattle.std.proofs.Common.{◌≡◌, ℕ, suc, ◌+◌, ◌<◌, ◌≤◌, List, [], ◌∷◌, ◌++◌, length, map, Bool, true, false, Option, Some, None, Result, Ok, Err, IsTrue, cond, codes, refl, sym, ap, ◌∙◌, subst, append_assoc, append-nil, arith, length-append, eqb}
-use Rattle.std.specs.List.{All, slice_split, list_any}
-use Rattle.std.specs.Str.{is_utf8}
-use Rattle.std.specs.Bool.{⊤}
+use Rattle.std.proofs.Common.{◌≡◌, ℕ, suc, ◌+◌, ◌<◌, ◌≤◌, List, [], ◌∷◌, ◌++◌, length, map, Bool, false, None, Result, Ok, refl, sym, ap, ◌∙◌, subst, append_assoc, append-nil, arith, length-append, eqb}
+use Rattle.std.specs.List.{All}
 use Rattle.std.specs.Ordering.{nat_cmp}
 use Rattle.std.specs.declared.cmp.Ordering.TheVariants.{Less}
 use Rattle.std.proofs.lemmas.Bool.{le-ltb, ne_eqb}
 use Rattle.std.proofs.lemmas.Cmp.{ranked}
 use Rattle.std.proofs.lemmas.List.Elements.{All-nil, All-cons, All-head, All-tail, All-append}
 use Rattle.std.proofs.lemmas.List.Splits.{slice_split_at}
-use Rattle.serde_json.specs.Written.{compact_text}
 use Rattle.json_text.specs.Canonical.{IsLine}
 use Rattle.json_text.proofs.Lines.{text_line}
 use Rattle.plain_data.specs.Pairs.{Pair}
-use Rattle.plain_data.specs.Rows.{put, IsAfter, IsRising}
+use Rattle.plain_data.specs.Rows.{put, IsAfter}
 use Rattle.quantity_text.specs.Quantity.{amount_of}
 use Rattle.kube_types.specs.declared.objects.Object.{Object}
 use Rattle.call_types.specs.declared.setup.Pool.{Pool}
 use Rattle.history_text.specs.Output.{with_line, with_lines}
-use Rattle.script_lines.specs.declared.errors.Reason.{Reason}
-use Rattle.script_lines.specs.declared.errors.Reason.TheVariants.{TooManyPools, TooManyFaults}
 use Rattle.script_lines.specs.declared.errors.BadLine.{BadLine}
 use Rattle.script_lines.specs.Members.{most_call, is_given}
 use Rattle.script_text.specs.declared.script.Line.{Line}
-use Rattle.script_text.specs.declared.script.Meaning.{Meaning}
 use Rattle.script_text.specs.declared.script.Meaning.TheVariants as meanings
 use Rattle.script_text.specs.declared.script.Script.{Script}
 use Rattle.script_text.specs.Said.{Said, nothing_said, and_said, and_node, created_node, agents_after, agents_of, nodes_of, numbered_of}
 use Rattle.script_text.specs.Steps.Indexed.{AreFaults}
-use Rattle.script_text.specs.Grammar.{most_line_bytes, most_lines, most_pools, most_faults, limit_of, line_limit, passed, and_line, own_create, node_from, agents_beside, agents_in, lines_of, at_line, said_from, said_in, numbered_from, read_numbered_of, script_from, script_of}
+use Rattle.script_text.specs.Grammar.{most_lines, most_pools, most_faults, line_limit, and_line, agents_beside, agents_in, lines_of, at_line, said_from, said_in, numbered_from, read_numbered_of, script_from}
 use Rattle.script_print.specs.Printing.{line_data, line_text, pool_data, pool_text, pool_lines, fault_data, fault_text, script_lines, script_text}
-use Rattle.script_laws.specs.Given.{IsCount, IsNewCall, IsLineAfter}
+use Rattle.script_laws.specs.Given.{IsCount, IsLineAfter}
 use Rattle.script_laws.specs.Limits.{IsShort, LineHasShortObject, ScriptFits}
 use Rattle.script_laws.specs.Scripts.{AreLinesAfter, AreSized, IsScript}
 use Rattle.script_laws.specs.Laws.{IsText, ScriptIsRead}

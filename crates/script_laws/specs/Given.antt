@@ -1,6 +1,6 @@
 -- Lines that a text can give.
 -- A choice of this project: the script format.
-use Rattle.std.specs.Prelude.{◌≡◌, ℕ, ◌≤◌, ◌&&◌, nat_le, List, true, false, Option, Some, None, IfSome, ⊤}
+use Rattle.std.specs.Prelude.{◌≡◌, ℕ, ◌≤◌, ◌&&◌, nat_le, List, true, false, Some, None, IfSome, ⊤}
 use Rattle.plain_data.specs.Pairs.{Pair}
 use Rattle.serde_json.specs.Data.{depth}
 use Rattle.kube_types.specs.declared.key.Key.{Key}

@@ -8,7 +8,7 @@ use Rattle.call_types.specs.declared.request.Request.TheVariants as asks
 use Rattle.object_print.specs.Objects.{object_line}
 use Rattle.object_text.specs.Reading.{most_bytes}
 use Rattle.script_text.specs.declared.script.Line.{Line}
-use Rattle.script_text.specs.declared.script.Line.TheVariants.{Call, Lose, Restart, Turn, Drain}
+use Rattle.script_text.specs.declared.script.Line.TheVariants.{Call}
 use Rattle.script_text.specs.declared.script.Script.{Script}
 use Rattle.script_text.specs.Grammar.{most_line_bytes}
 use Rattle.script_print.specs.Printing.{script_lines}

@@ -73,11 +73,7 @@ fn put_call(out: &mut MemberTexts, request: &Request) -> Result<(), OutOfMemory>
 fn when_word(after: bool) -> &'static str
     ensures { result.now ≡ when_word after }
 {
-    if after {
-        "after"
-    } else {
-        "before"
-    }
+    if after { "after" } else { "before" }
 }
 
 fn put_actor(out: &mut MemberTexts, alloc: Global, actor: &Actor) -> Result<(), OutOfMemory>
@@ -128,11 +124,7 @@ fn put_turn(
     out.put("calls", &calls)
 }
 
-fn put_users_call(
-    out: &mut MemberTexts,
-    user: u64,
-    request: &Request,
-) -> Result<(), OutOfMemory>
+fn put_users_call(out: &mut MemberTexts, user: u64, request: &Request) -> Result<(), OutOfMemory>
     ensures ok { OnOk result (out.new ≡ with_options with_member_text (line_pairs (Call user request.now)) out.old) }
 {
     out.put_text("do", ask_word(request))?;

@@ -51,12 +51,7 @@ fn push_faults(lines: &mut Lines, alloc: Global, faults: &[u64]) -> Result<(), O
 }
 
 #[tactic(auto, using(json_text::proofs::Closing::alone), unfolding(crate::specs::Printing::pool_text))]
-fn push_pool(
-    lines: &mut Lines,
-    alloc: Global,
-    pool: &Pool,
-    size: &str,
-) -> Result<(), OutOfMemory>
+fn push_pool(lines: &mut Lines, alloc: Global, pool: &Pool, size: &str) -> Result<(), OutOfMemory>
     ensures ok { OnOk result (lines.new ≡ with_line lines.old (pool_text pool.now size.now)) }
 {
     let mut out = JsonText::new(alloc);
