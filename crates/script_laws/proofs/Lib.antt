@@ -3,6 +3,7 @@ pub mod EditsBack
 pub mod LinesBack
 pub mod LinesGood
 pub mod LinesRead
+pub mod Lengths
 pub mod Agents
 pub mod TextsRead
 pub mod Kept

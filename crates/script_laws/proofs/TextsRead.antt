@@ -31,9 +31,18 @@ use Rattle.script_laws.specs.Laws.{IsText, ScriptIsRead}
 use Rattle.script_laws.proofs.LinesBack.{line_means, pool_means, fault_means}
 use Rattle.script_laws.proofs.LinesGood.{line_good, pool_good, fault_good}
 use Rattle.script_laws.proofs.LinesRead.{IsRead, line_read, none_read, blank_node}
+use Rattle.script_laws.proofs.Lengths.{lines_objects, script_short}
 use Rattle.script_laws.proofs.Agents.{own_node, pool_node, fault_node}
 
 -- ---- lines that can be read
+
+-- within the limits of what is read
+record Fits (s : Script) : Type 0 where
+  pub lines : All IsShort (script_lines s)
+  pub objects : All LineHasShortObject s.lines
+
+fits_all : (s : Script) → IsScript s → ScriptFits s → Fits s
+fits_all s is h = record { lines = script_short s (agents_of s.lines) is.lines is.fault_numbers h; objects = lines_objects s.lines h.lines }
 
 pub record IsFine (text : List ℕ) : Type 0 where
   pub short : IsShort text
@@ -305,14 +314,14 @@ record AllFine (s : Script) : Type 0 where
   pub faults : All IsFine (faults_of s)
   pub texts : All IsFine (texts_of s)
 
-all_fine : (s : Script) → ScriptFits s → All IsText (script_lines s) → AllFine s
+all_fine : (s : Script) → Fits s → All IsText (script_lines s) → AllFine s
 unfolding script_lines
 all_fine s fits utf8 =
     let fine = fine_lines (script_lines s) fits.lines utf8 in
     let rest = fine_second (pools_of s) (faults_of s ++ texts_of s) fine in
     record { pools = fine_first (pools_of s) (faults_of s ++ texts_of s) fine; faults = fine_first (faults_of s) (texts_of s) rest; texts = fine_second (faults_of s) (texts_of s) rest }
 
-agents_read : (s : Script) → IsScript s → ScriptFits s → AllFine s → agents_in (pools_of s ++ (faults_of s ++ (texts_of s ++ last_part))) ≡ agents_of s.lines
+agents_read : (s : Script) → IsScript s → Fits s → AllFine s → agents_in (pools_of s ++ (faults_of s ++ (texts_of s ++ last_part))) ≡ agents_of s.lines
 agents_read s is fits fine =
     pools_beside [] s.setup.pools s.sizes (faults_of s ++ (texts_of s ++ last_part)) is.pools fine.pools
     ∙ faults_beside [] s.setup.faults (texts_of s ++ last_part) is.fault_numbers fine.faults
@@ -362,7 +371,7 @@ same_script s f is said =
     ∙ ap (λ x. made s.setup.pools s.setup.faults x s.lines (nodes_of (agents_of s.lines)) s.sizes) (sym is.imports)
     ∙ ap (λ x. made s.setup.pools s.setup.faults s.setup.imports s.lines x s.sizes) (sym is.nodes)
 
-said_read : (s : Script) → IsScript s → ScriptFits s → AllFine s → said_from (agents_of s.lines) 1 (pools_of s ++ (faults_of s ++ (texts_of s ++ last_part))) nothing_said ≡ Ok (after_lines s)
+said_read : (s : Script) → IsScript s → Fits s → AllFine s → said_from (agents_of s.lines) 1 (pools_of s ++ (faults_of s ++ (texts_of s ++ last_part))) nothing_said ≡ Ok (after_lines s)
 said_read s is fits fine =
     let agents : List Pair = agents_of s.lines in
     let few = is.few_lines in
@@ -379,7 +388,8 @@ said_read s is fits fine =
 
 pub script_is_read : ScriptIsRead
 unfolding read_numbered_of
-script_is_read s is fits utf8 =
+script_is_read s is h utf8 =
+    let fits = fits_all s is h in
     let fine = all_fine s fits utf8 in
     ap (λ lines. script_from (numbered_from (said_in lines))) (parts_of s is)
     ∙ ap (λ agents. script_from (numbered_from (said_from agents 1 (pools_of s ++ (faults_of s ++ (texts_of s ++ last_part))) nothing_said))) (agents_read s is fits fine)

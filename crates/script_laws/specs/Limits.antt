@@ -8,10 +8,10 @@ use Rattle.call_types.specs.declared.request.Request.TheVariants as asks
 use Rattle.object_print.specs.Objects.{object_line}
 use Rattle.object_text.specs.Reading.{most_bytes}
 use Rattle.script_text.specs.declared.script.Line.{Line}
-use Rattle.script_text.specs.declared.script.Line.TheVariants.{Call}
+use Rattle.script_text.specs.declared.script.Line.TheVariants.{Call, Drain}
 use Rattle.script_text.specs.declared.script.Script.{Script}
 use Rattle.script_text.specs.Grammar.{most_line_bytes}
-use Rattle.script_print.specs.Printing.{script_lines}
+use Rattle.script_print.specs.Printing.{line_text, pool_lines}
 
 -- an object of a line: no longer than a manifest may be, 8 KiB
 abbrev pub IsShortObject : Object → Type 0
@@ -30,6 +30,17 @@ LineHasShortObject line = ⊤
 abbrev pub IsShort : List ℕ → Type 0
 IsShort text = length text ≤ most_line_bytes
 
+-- an object that is short makes its line short; other lines of users and of actors may hold texts of any length
+abbrev pub CallFits : ℕ → Request → Type 0
+CallFits user (asks.Create object) = IsShortObject object
+CallFits user (asks.Update object version) = IsShortObject object
+CallFits user request = IsShort (line_text (Call user request))
+
+abbrev pub LineFits : Line → Type 0
+LineFits (Call user request) = CallFits user request
+LineFits Drain = ⊤
+LineFits line = IsShort (line_text line)
+
 pub record ScriptFits (s : Script) : Type 0 where
-  pub lines : All IsShort (script_lines s)
-  pub objects : All LineHasShortObject s.lines
+  pub pools : All IsShort (pool_lines s.setup.pools s.sizes)
+  pub lines : All LineFits s.lines
