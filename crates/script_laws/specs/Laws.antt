@@ -17,6 +17,7 @@ use Rattle.script_laws.specs.Scripts.{IsScript}
 abbrev pub LineMeansItself : Type 0
 LineMeansItself = (agents : List Pair) (said : Said) (line : Line) → IsLineAfter agents said.lines line → LineHasShortObject line → meaning_of agents said (line_data line) ≡ Ok (meanings.Line line)
 
+-- a line in UTF-8
 abbrev pub IsText : List ℕ → Type 0
 IsText line = is_utf8 line ≡ true
 

@@ -17,11 +17,13 @@ use Rattle.script_print.specs.Printing.{line_text, pool_lines}
 abbrev pub IsShortObject : Object → Type 0
 IsShortObject o = length (object_line o) ≤ most_bytes
 
+-- the object of a create or an update
 abbrev pub HasShortObject : Request → Type 0
 HasShortObject (asks.Create object) = IsShortObject object
 HasShortObject (asks.Update object version) = IsShortObject object
 HasShortObject request = ⊤
 
+-- that of a line
 abbrev pub LineHasShortObject : Line → Type 0
 LineHasShortObject (Call user request) = HasShortObject request
 LineHasShortObject line = ⊤
@@ -30,17 +32,19 @@ LineHasShortObject line = ⊤
 abbrev pub IsShort : List ℕ → Type 0
 IsShort text = length text ≤ most_line_bytes
 
--- an object that is short makes its line short; other lines of users and of actors may hold texts of any length
+-- an object that is short makes its line short; other calls may hold texts of any length
 abbrev pub CallFits : ℕ → Request → Type 0
 CallFits user (asks.Create object) = IsShortObject object
 CallFits user (asks.Update object version) = IsShortObject object
 CallFits user request = IsShort (line_text (Call user request))
 
+-- so may lines of actors, whose agents have the names of nodes
 abbrev pub LineFits : Line → Type 0
 LineFits (Call user request) = CallFits user request
 LineFits Drain = ⊤
 LineFits line = IsShort (line_text line)
 
+-- a script within the limits; faults are short
 pub record ScriptFits (s : Script) : Type 0 where
   pub pools : All IsShort (pool_lines s.setup.pools s.sizes)
   pub lines : All LineFits s.lines

@@ -24,6 +24,7 @@ AreSized [] (size ∷ sizes) = ⊥
 AreSized (pool ∷ pools) [] = ⊥
 AreSized (pool ∷ pools) (size ∷ sizes) = (amount_of size ≡ Ok pool.bytes) × AreSized pools sizes
 
+-- what is there from the start, the nodes that lines create, and the lines; no import
 pub record IsScript (s : Script) : Type 0 where
   pub imports : s.setup.imports ≡ []
   pub nodes : s.node_names ≡ nodes_of (agents_of s.lines)

@@ -1,6 +1,7 @@
 //! Laws of the texts of scripts: what is printed is read again.
 //!
-//! Each is a function with nothing to do, whose contract is the law.
+//! Each is a function with nothing to do, whose contract is the law. Not said: that a printed script is short
+//! enough to be read, which `specs/Limits` asks.
 #![tactic(auto)]
 
 ghost use Rattle.script_laws.specs.Laws.{LineMeansItself, ScriptGives, ScriptIsRead, ScriptIsReadAgain};
