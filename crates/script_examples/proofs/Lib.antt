@@ -1,0 +1,4 @@
+pub mod Reading
+pub mod Refusing
+pub mod Whole
+pub mod Limiting

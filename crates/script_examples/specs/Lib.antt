@@ -1,0 +1,5 @@
+pub mod Samples
+pub mod Lines
+pub mod Refusals
+pub mod Texts
+pub mod Limits
