@@ -4,8 +4,8 @@
 //! rule is written that refuses it; the free one answers each call that begins with `free`, and one with `quiet`
 //! without a line. `may` asks whether the seat may make a call after its entries in the free world. `lost` makes a
 //! call whose answer does not come back. `as` names the kind and the seat that call next; `new` begins anew, with
-//! the pools, faults and imports that were named, and writes the setup; `objects` writes those of the kept world.
-//! The calls themselves are written as `plain_calls` reads them.
+//! the pools, faults and imports that were named, and writes the setup; `objects` writes those of the kept world,
+//! and a line of nothing behind them. The calls themselves are written as `plain_calls` reads them.
 #![tactic(auto)]
 
 mod lines;
