@@ -1,32 +1,29 @@
--- A newest told object is a told one, so the reads of single objects go over what was told.
-use Rattle.std.proofs.Common.{◌≡◌, ℕ, ◌↔◌, IsTrue, Bool, List, [], ◌∷◌, Option, sym, subst, inl, inr}
+-- The newest told object of some key is found among what was told; the reads of single objects go by it.
+use Rattle.std.proofs.Common.{◌≡◌, ℕ, ◌↔◌, IsTrue, Bool, List, [], ◌∷◌, Option, true, sym, ◌∙◌, ap, subst, inl, inr}
 use Rattle.kube_types.specs.declared.parts.Kind.{Kind}
 use Rattle.kube_types.specs.declared.key.Key.{Key}
 use Rattle.kube_types.specs.declared.objects.Claim.{Claim as ClaimData}
 use Rattle.kube_types.specs.declared.objects.Volume.{Volume as VolumeData}
 use Rattle.kube_types.specs.declared.objects.Object.{Object}
 use Rattle.kube_types.specs.declared.objects.Object.TheVariants.{Class, Node, Volume, Claim, Pod}
+use Rattle.kube_types.specs.Bindings.{is_completed}
+use Rattle.kube_types.specs.Keys.{key_of}
 use Rattle.call_types.specs.declared.entry.Entry.{Entry}
 use Rattle.binder_model.specs.ObjectKeys.{claim_key, volume_key}
-use Rattle.binder_model.specs.Reading.{AsksForClaim, AsksForVolume}
+use Rattle.binder_model.specs.Reading.{AsksForClaim, AsksForVolume, LacksUid}
 use Rattle.binder_model.specs.Told.{SomeOf, IsClaimWith, IsNewest, IsVolumeWith, TellsObject, ToldClaim, ToldObject, ToldVolume, newest, object_of}
+use Rattle.model_laws.proofs.Lists.{one}
 use Rattle.model_laws.proofs.Newest.{newest_told}
 use Rattle.licence_tests.specs.Keyed.{key_at}
-use Rattle.licence_rows.specs.Asking.{IsAsking, IsNaming}
+use Rattle.licence_tests.proofs.Tried.{told_map}
+use Rattle.licence_rows.specs.Asking.{IsLacking, IsNamingClaim, IsNewestWith, SomeNewest}
+use Rattle.licence_rows.proofs.NewestKeys.{newest_keyed}
 
 -- what was told newest of a key whose parts are these
 pub newest_at : (mine : List Entry) (kind : Kind) (a b x y : List ℕ) → a ≡ b → x ≡ y → object_of (newest mine (key_at kind a x)) ≡ object_of (newest mine (key_at kind b y))
 newest_at mine kind a b x y p q = λ i. object_of (newest mine (key_at kind (p i) (q i)))
 
-pub some_map : {X : Type 0} (P Q : X → Type 0) (xs : List X) → ((x : X) → P x → Q x) → SomeOf P xs → SomeOf Q xs
-some_map P Q [] f h = h
-some_map P Q (x ∷ xs) f (inl p) = inl (f x p)
-some_map P Q (x ∷ xs) f (inr h) = inr (some_map P Q xs f h)
-
-pub told_map : (P Q : Object → Type 0) (mine : List Entry) → ((o : Object) → P o → Q o) → ToldObject P mine → ToldObject Q mine
-told_map P Q mine f h = some_map (TellsObject P) (TellsObject Q) mine (λ e t. (t.0, some_map P Q _ f t.1)) h
-
-pub some_gives : {X : Type 0} (P : X → Type 0) (xs : List X) → SomeOf P xs → (x : X) × P x
+some_gives : {X : Type 0} (P : X → Type 0) (xs : List X) → SomeOf P xs → (x : X) × P x
 some_gives P [] h = elim h [ ]
 some_gives P (x ∷ xs) (inl p) = (x, p)
 some_gives P (x ∷ xs) (inr h) = some_gives P xs h
@@ -54,29 +51,64 @@ volume_told P mine h = let o = told_gives (IsVolumeWith P) mine h in volume_of P
 pub claim_told : (P : ClaimData → Type 0) (mine : List Entry) → ToldClaim P mine → (c : ClaimData) × P c
 claim_told P mine h = let o = told_gives (IsClaimWith P) mine h in claim_of P o.0 o.1
 
-pub newest_volume : (P : VolumeData → Type 0) (mine : List Entry) (key : Key) (v : VolumeData) → IsNewest mine key (Volume v) → P v → ToldVolume P mine
-newest_volume P mine key v is p = told_map (λ o. o ≡ Volume v) (IsVolumeWith P) mine (λ o e. subst (IsVolumeWith P) (sym e) p) (newest_told mine key (Volume v) is)
+-- the newest told of a key is itself told, and stands under it
+pub newest_some : (P Q : Object → Type 0) (mine : List Entry) (told : Bool) → (IsTrue told ↔ ToldObject (λ o. P o × IsNewestWith (λ x. P x × Q x) mine (key_of o)) mine) → (IsTrue told ↔ SomeNewest (λ o. P o × Q o) mine)
+newest_some P Q mine told is = (
+  (λ t. let o = told_gives (λ o. P o × IsNewestWith (λ x. P x × Q x) mine (key_of o)) mine (is.0 t) in there o.0 o.1),
+  (λ s. is.1 (told_map (λ o. o ≡ s.0) (λ o. P o × IsNewestWith (λ x. P x × Q x) mine (key_of o)) mine (λ o e. subst (λ x. P x × IsNewestWith (λ y. P y × Q y) mine (key_of x)) (sym e) (s.1.1.0, (s.0, s.1))) (newest_told mine (key_of s.0) s.0 s.1.0))),
+)
+  where
+    there : (o : Object) → P o × IsNewestWith (λ x. P x × Q x) mine (key_of o) → SomeNewest (λ x. P x × Q x) mine
+    there o p =
+        let x = p.1.0 in
+        let keyed : key_of x ≡ key_of o = newest_keyed mine (key_of o) x p.1.1.0 in
+        (x, (subst (λ k. IsNewest mine k x) (sym keyed) p.1.1.0, p.1.1.1))
 
-pub newest_claim : (P : ClaimData → Type 0) (mine : List Entry) (key : Key) (c : ClaimData) → IsNewest mine key (Claim c) → P c → ToldClaim P mine
-newest_claim P mine key c is p = told_map (λ o. o ≡ Claim c) (IsClaimWith P) mine (λ o e. subst (IsClaimWith P) (sym e) p) (newest_told mine key (Claim c) is)
+-- a claim that is newest, of which both hold
+pub newest_claim : (P Q : ClaimData → Type 0) (mine : List Entry) → SomeNewest (λ o. IsClaimWith P o × IsClaimWith Q o) mine → (c : ClaimData) × (IsNewest mine (claim_key c.meta.namespace c.meta.name) (Claim c) × (P c × Q c))
+newest_claim P Q mine s = by s.0 s.1.0 s.1.1
+  where
+    by : (o : Object) → IsNewest mine (key_of o) o → IsClaimWith P o × IsClaimWith Q o → (c : ClaimData) × (IsNewest mine (claim_key c.meta.namespace c.meta.name) (Claim c) × (P c × Q c))
+    by (Claim c) new p = (c, (new, p))
+    by (Class x) new p = absurd p.0
+    by (Node x) new p = absurd p.0
+    by (Volume x) new p = absurd p.0
+    by (Pod x) new p = absurd p.0
 
-asking : (mine : List Entry) (key : Key) (v : VolumeData) → IsAsking mine key (object_of (newest mine key)) v → AsksForClaim mine key
-asking mine key v a = record { volume = v; newest_volume = a.newest_volume; reference = a.reference; refers = a.refers; named = a.named; uid = a.uid; known = a.known; lacking = a.lacking }
+pub claim_newest : (P Q : ClaimData → Type 0) (mine : List Entry) (c : ClaimData) → IsNewest mine (claim_key c.meta.namespace c.meta.name) (Claim c) → P c → Q c → SomeNewest (λ o. IsClaimWith P o × IsClaimWith Q o) mine
+claim_newest P Q mine c new p q = (Claim c, (new, (p, q)))
 
-pub asks_claim : (mine : List Entry) (key : Key) (found : Option Object) (told : Bool) → found ≡ object_of (newest mine key) → (IsTrue told ↔ ToldVolume (IsAsking mine key found) mine) → (IsTrue told ↔ AsksForClaim mine key)
-asks_claim mine key found told is asks =
-    let at : IsTrue told ↔ ToldVolume (IsAsking mine key (object_of (newest mine key))) mine = subst (λ f. IsTrue told ↔ ToldVolume (IsAsking mine key f) mine) is asks in (
-      (λ t. let v = volume_told (IsAsking mine key (object_of (newest mine key))) mine (at.0 t) in asking mine key v.0 v.1),
-      (λ a. at.1 (newest_volume (IsAsking mine key (object_of (newest mine key))) mine (volume_key a.volume.meta.name) a.volume a.newest_volume
-          (record { newest_volume = a.newest_volume; reference = a.reference; refers = a.refers; named = a.named; uid = a.uid; known = a.known; lacking = a.lacking }))),
-    )
+-- the binder's reads
 
-naming : (mine : List Entry) (key : Key) (c : ClaimData) → IsNaming mine key c → AsksForVolume mine key
-naming mine key c n = record { claim = c; newest_claim = n.newest_claim; completed = n.completed; named = n.named }
+module _ (mine : List Entry) (key : Key) (found : Option Object) (is : found ≡ object_of (newest mine key)) where
+  asking : (o : Object) → IsNewest mine (key_of o) o → IsVolumeWith (IsNamingClaim key) o → IsVolumeWith (IsLacking found) o → AsksForClaim mine key
+  asking (Volume v) new n lacks = record {
+    volume = v;
+    newest_volume = subst (λ namespace. IsNewest mine (record (volume_key v.meta.name) { namespace = namespace }) (Volume v)) n.unplaced new;
+    reference = lacks.reference;
+    refers = lacks.refers;
+    named = subst (λ r. key ≡ claim_key r.namespace r.name) (one n.reference lacks.reference (sym n.refers ∙ lacks.refers)) n.named;
+    uid = lacks.uid;
+    known = lacks.known;
+    lacking = subst (λ f. LacksUid f lacks.uid) is lacks.lacking;
+  }
+  asking (Class x) new n lacks = absurd n
+  asking (Node x) new n lacks = absurd n
+  asking (Claim x) new n lacks = absurd n
+  asking (Pod x) new n lacks = absurd n
 
-pub asks_volume : (mine : List Entry) (key : Key) (told : Bool) → (IsTrue told ↔ ToldClaim (IsNaming mine key) mine) → (IsTrue told ↔ AsksForVolume mine key)
+  asked : AsksForClaim mine key → SomeNewest (λ o. IsVolumeWith (IsNamingClaim key) o × IsVolumeWith (IsLacking found) o) mine
+  asked a =
+      let keyed : key_of (Volume a.volume) ≡ volume_key a.volume.meta.name = newest_keyed mine (volume_key a.volume.meta.name) (Volume a.volume) a.newest_volume in
+      let naming : IsNamingClaim key a.volume = record { unplaced = ap (λ (k : Key). k.namespace) keyed; reference = a.reference; refers = a.refers; named = a.named } in
+      let lacking : IsLacking found a.volume = record { reference = a.reference; refers = a.refers; uid = a.uid; known = a.known; lacking = subst (λ f. LacksUid f a.uid) (sym is) a.lacking } in
+      (Volume a.volume, (subst (λ k. IsNewest mine k (Volume a.volume)) (sym keyed) a.newest_volume, (naming, lacking)))
+
+  pub asks_claim : (told : Bool) → (IsTrue told ↔ SomeNewest (λ o. IsVolumeWith (IsNamingClaim key) o × IsVolumeWith (IsLacking found) o) mine) → (IsTrue told ↔ AsksForClaim mine key)
+  asks_claim told asks = ((λ t. let s = asks.0 t in asking s.0 s.1.0 s.1.1.0 s.1.1.1), (λ a. asks.1 (asked a)))
+
+pub asks_volume : (mine : List Entry) (key : Key) (told : Bool) → (IsTrue told ↔ SomeNewest (λ o. IsClaimWith (λ c. key ≡ volume_key c.volume_name) o × IsClaimWith (λ c. is_completed c ≡ true) o) mine) → (IsTrue told ↔ AsksForVolume mine key)
 asks_volume mine key told is = (
-  (λ t. let c = claim_told (IsNaming mine key) mine (is.0 t) in naming mine key c.0 c.1),
-  (λ a. is.1 (newest_claim (IsNaming mine key) mine (claim_key a.claim.meta.namespace a.claim.meta.name) a.claim a.newest_claim
-      (record { newest_claim = a.newest_claim; completed = a.completed; named = a.named }))),
+  (λ t. let s = newest_claim (λ c. key ≡ volume_key c.volume_name) (λ c. is_completed c ≡ true) mine (is.0 t) in record { claim = s.0; newest_claim = s.1.0; completed = s.1.1.1; named = s.1.1.0 }),
+  (λ a. is.1 (claim_newest (λ c. key ≡ volume_key c.volume_name) (λ c. is_completed c ≡ true) mine a.claim a.newest_claim a.named a.completed)),
 )

@@ -1,4 +1,4 @@
 pub mod Asks
+pub mod NewestKeys
 pub mod Picks
 pub mod Rows
-pub mod Shown

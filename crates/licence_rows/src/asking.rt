@@ -1,14 +1,14 @@
 //! Which single objects a controller may read, by what it was told newest.
 
-ghost use Rattle.std.specs.Prelude.{◌≡◌, ◌↔◌, IsTrue, Some, reverse, true};
+ghost use Rattle.std.specs.Prelude.{◌≡◌, ◌↔◌, IsTrue, reverse, true};
 ghost use Rattle.std.specs.Option.{option_copied};
-ghost use Rattle.kube_types.specs.declared.objects.Object.TheVariants as objects;
 ghost use Rattle.binder_model.specs.ObjectKeys.{claim_key, volume_key};
 ghost use Rattle.binder_model.specs.OpsLicence.{IsToErase};
 ghost use Rattle.binder_model.specs.Reading.{AsksForClaim, AsksForEnded, AsksForVolume, LacksUid};
-ghost use Rattle.binder_model.specs.Told.{IsNewest};
-ghost use Rattle.licence_rows.specs.Asking.{IsAsking, IsNaming};
+ghost use Rattle.kube_types.specs.Bindings.{is_completed};
+ghost use Rattle.licence_rows.specs.Asking.{IsLacking, IsNamingClaim};
 
+use crate::newest::some_newest;
 use crate::parts::{is_delete, is_ended, is_known, ref_uid};
 use call_types::entry::Entry;
 use kube_types::bindings::{is_completed, is_deleting};
@@ -17,48 +17,8 @@ use kube_types::objects::{Claim, Object, Ref, Volume};
 use kube_types::parts::Kind;
 use kube_types::uid::Uid;
 use licence_tests::newest::newest_object;
-use licence_tests::rows::{ClaimTest, VolumeTest, told_claim, told_volume};
+use licence_tests::rows::{ClaimTest, OfClaims, OfVolumes, VolumeTest};
 use plain_data::copies::Plain;
-
-/// Whether the volume is the newest told of its key.
-pub fn is_newest_volume(mine: &[Entry], volume: &Volume) -> bool
-    ensures { IsTrue result ↔ IsNewest (reverse mine.now) (volume_key volume.now.meta.name) (objects.Volume volume.now) }
-{
-    match newest_object(mine, Kind::PersistentVolume, "", volume.meta.name.as_str()) {
-        None => false,
-        Some(object) => is_volume(volume, object),
-    }
-}
-
-fn is_volume(volume: &Volume, object: &Object) -> bool
-    ensures { IsTrue result ↔ (object.now ≡ objects.Volume volume.now) }
-{
-    match object {
-        Object::Volume(other) => other.same(volume),
-        _ => false,
-    }
-}
-
-/// Whether the claim is the newest told of its key.
-pub fn is_newest_claim(mine: &[Entry], claim: &Claim) -> bool
-    ensures { IsTrue result ↔ IsNewest (reverse mine.now) (claim_key claim.now.meta.namespace claim.now.meta.name) (objects.Claim claim.now) }
-{
-    let namespace = claim.meta.namespace.as_str();
-    let name = claim.meta.name.as_str();
-    match newest_object(mine, Kind::PersistentVolumeClaim, namespace, name) {
-        None => false,
-        Some(object) => is_claim(claim, object),
-    }
-}
-
-fn is_claim(claim: &Claim, object: &Object) -> bool
-    ensures { IsTrue result ↔ (object.now ≡ objects.Claim claim.now) }
-{
-    match object {
-        Object::Claim(other) => other.same(claim),
-        _ => false,
-    }
-}
 
 /// Whether the key is that of the claim.
 fn is_claim_key(key: &Key, reference: &Ref) -> bool
@@ -96,31 +56,41 @@ fn lacks_uid(found: Option<&Object>, uid: Uid) -> bool
     }
 }
 
-/// A volume because of which the claim of the key is read.
+/// The volume names the claim of the key.
 #[derive(Drop)]
-struct Asking<'a> {
-    mine: &'a [Entry],
+struct Names<'a> {
     key: &'a Key,
+}
+
+impl<'a> VolumeTest for Names<'a> {
+    ghost allows = { λ t v. IsNamingClaim t.key.now v };
+
+    fn test(&self, volume: &Volume) -> bool {
+        if !volume.meta.namespace.as_str().is_empty() {
+            return false;
+        }
+        match &volume.claim_ref {
+            None => false,
+            Some(reference) => is_claim_key(self.key, reference),
+        }
+    }
+}
+
+/// The volume names a claim with a UID, and what was found is none with this.
+#[derive(Drop)]
+struct Lacks<'a> {
     found: Option<&'a Object>,
 }
 
-impl<'a> VolumeTest for Asking<'a> {
-    ghost allows = { λ t v. IsAsking (reverse t.mine.now) t.key.now (option_copied t.found) v };
+impl<'a> VolumeTest for Lacks<'a> {
+    ghost allows = { λ t v. IsLacking (option_copied t.found) v };
 
     fn test(&self, volume: &Volume) -> bool {
         match &volume.claim_ref {
             None => false,
             Some(reference) => match reference.uid {
                 None => false,
-                Some(uid) => {
-                    if !is_claim_key(self.key, reference) {
-                        return false;
-                    }
-                    if !lacks_uid(self.found, uid) {
-                        return false;
-                    }
-                    is_newest_volume(self.mine, volume)
-                }
+                Some(uid) => lacks_uid(self.found, uid),
             },
         }
     }
@@ -131,28 +101,36 @@ pub fn asks_for_claim(mine: &[Entry], key: &Key) -> bool
     ensures { IsTrue result ↔ AsksForClaim (reverse mine.now) key.now }
 {
     let found = newest_object(mine, key.kind, key.namespace.as_str(), key.name.as_str());
-    let test = Asking { mine, key, found };
-    told_volume(&test, mine)
+    let names = Names { key };
+    let lacks = Lacks { found };
+    let may = OfVolumes { test: &names };
+    let row = OfVolumes { test: &lacks };
+    some_newest(&may, &row, mine)
 }
 
-/// A claim because of which the volume of the key is read.
+/// The claim names the volume of the key.
 #[derive(Drop)]
-struct Naming<'a> {
-    mine: &'a [Entry],
+struct NamesVolume<'a> {
     key: &'a Key,
 }
 
-impl<'a> ClaimTest for Naming<'a> {
-    ghost allows = { λ t c. IsNaming (reverse t.mine.now) t.key.now c };
+impl<'a> ClaimTest for NamesVolume<'a> {
+    ghost allows = { λ t c. t.key.now ≡ volume_key c.volume_name };
 
     fn test(&self, claim: &Claim) -> bool {
-        if !is_completed(claim) {
-            return false;
-        }
-        if !is_volume_key(self.key, claim) {
-            return false;
-        }
-        is_newest_claim(self.mine, claim)
+        is_volume_key(self.key, claim)
+    }
+}
+
+/// The claim is completed.
+#[derive(Drop)]
+struct Completed {}
+
+impl ClaimTest for Completed {
+    ghost allows = { λ t c. is_completed c ≡ true };
+
+    fn test(&self, claim: &Claim) -> bool {
+        is_completed(claim)
     }
 }
 
@@ -160,8 +138,11 @@ impl<'a> ClaimTest for Naming<'a> {
 pub fn asks_for_volume(mine: &[Entry], key: &Key) -> bool
     ensures { IsTrue result ↔ AsksForVolume (reverse mine.now) key.now }
 {
-    let test = Naming { mine, key };
-    told_claim(&test, mine)
+    let names = NamesVolume { key };
+    let completed = Completed {};
+    let may = OfClaims { test: &names };
+    let row = OfClaims { test: &completed };
+    some_newest(&may, &row, mine)
 }
 
 /// Whether the volume has ended with policy Delete, for a claim, and is not deleting.

@@ -1,6 +1,6 @@
-//! The newest told object of each kind, by its name.
+//! The newest told object of each kind, by its name; whether there is one of which something holds.
 
-ghost use Rattle.std.specs.Prelude.{IfNone, IfSome, reverse};
+ghost use Rattle.std.specs.Prelude.{◌≡◌, ◌↔◌, IfNone, IfSome, IsTrue, reverse};
 ghost use Rattle.kube_types.specs.declared.objects.Claim.{Claim as ClaimData};
 ghost use Rattle.kube_types.specs.declared.objects.Class.{Class as ClassData};
 ghost use Rattle.kube_types.specs.declared.objects.Node.{Node as NodeData};
@@ -8,13 +8,18 @@ ghost use Rattle.kube_types.specs.declared.objects.Pod.{Pod as PodData};
 ghost use Rattle.kube_types.specs.declared.objects.Volume.{Volume as VolumeData};
 ghost use Rattle.kube_types.specs.declared.objects.Object.TheVariants as objects;
 ghost use Rattle.binder_model.specs.ObjectKeys.{claim_key, class_key, node_key, pod_key, volume_key};
+ghost use Rattle.kube_types.specs.Keys.{key_of};
 ghost use Rattle.binder_model.specs.Told.{IsNewest};
+ghost use Rattle.licence_rows.specs.Asking.{IsNewestWith, SomeNewest};
 
 use call_types::entry::Entry;
-use kube_types::key::Key;
+use kube_types::key::{Key, kind_of, meta_of};
 use kube_types::objects::{Claim, Class, Node, Object, Pod, Volume};
 use kube_types::parts::Kind;
 use licence_tests::newest::newest_object;
+use licence_tests::shared::{SharedTest, told_shared};
+use licence_tests::told::ObjectTest;
+use plain_data::copies::Plain;
 
 /// The newest told class of the name.
 pub fn newest_class<'a>(mine: &'a [Entry], name: &str) -> Option<&'a Class>
@@ -80,4 +85,71 @@ pub fn newest_pod_named<'a>(mine: &'a [Entry], namespace: &str, name: &str) -> O
         Some(Object::Pod(pod)) => Some(pod),
         _ => None,
     }
+}
+
+/// The newest told of the key is an object of which both conditions hold, where the first holds of one
+/// that was told.
+#[derive(Drop)]
+struct NewestOfKey<'a, T, U> {
+    may: &'a T,
+    row: &'a U,
+    mine: &'a [Entry],
+}
+
+impl<'a, T: ObjectTest, U: ObjectTest> SharedTest for NewestOfKey<'a, T, U> {
+    ghost allows = { λ t o. T.allows t.may.now o };
+
+    ghost pairs = { λ t o x. key_of o ≡ key_of x };
+
+    ghost holds = { λ t o. IsNewestWith (λ x. T.allows t.may.now x × U.allows t.row.now x) (reverse t.mine.now) (key_of o) };
+
+    fn may(&self, object: &Object) -> bool {
+        self.may.test(object)
+    }
+
+    fn alike(&self, object: &Object, other: &Object) -> bool {
+        has_key_of(object, other)
+    }
+
+    fn row(&self, object: &Object) -> bool {
+        let meta = meta_of(object);
+        let namespace = meta.namespace.as_str();
+        match newest_object(self.mine, kind_of(object), namespace, meta.name.as_str()) {
+            None => false,
+            Some(newest) => {
+                if !self.may.test(newest) {
+                    return false;
+                }
+                self.row.test(newest)
+            }
+        }
+    }
+
+    fn shares(&self) {
+        let _mine = self.mine;
+    }
+}
+
+/// Whether both objects stand under one key.
+fn has_key_of(object: &Object, other: &Object) -> bool
+    ensures { IsTrue result ↔ (key_of object.now ≡ key_of other.now) }
+{
+    let meta = meta_of(object);
+    let other_meta = meta_of(other);
+    if !kind_of(object).same(&kind_of(other)) {
+        return false;
+    }
+    if !meta.namespace.same(&other_meta.namespace) {
+        return false;
+    }
+    meta.name.same(&other_meta.name)
+}
+
+/// Whether the newest told of some key is an object of which both conditions hold. The second is asked
+/// of the newest alone, and once for each key of a told object of which the first holds.
+pub fn some_newest<T: ObjectTest, U: ObjectTest>(may: &T, row: &U, mine: &[Entry]) -> bool
+    ensures { IsTrue result ↔ SomeNewest (λ o. T.allows may.now o × U.allows row.now o) (reverse mine.now) }
+{
+    let newest = NewestOfKey { may, row, mine };
+    told_shared(&newest, mine)
 }

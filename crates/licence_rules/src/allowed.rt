@@ -6,22 +6,22 @@ ghost use Rattle.call_types.specs.declared.request.NewStatus.TheVariants as stat
 ghost use Rattle.call_types.specs.declared.request.Request.TheVariants as requests;
 ghost use Rattle.binder_model.specs.Licence.{AgentMay, AtClaimKey, AtVolumeKey, BinderMay, ClaimProtectMay, MayDeleteVolume, OpsMay, RowAllows, SchedulerMay, VolumeProtectMay};
 
-use crate::create::may_create;
-use crate::ops::{ClearNode, Fail, may_delete, may_erase, may_provision};
 use crate::reading::may_read;
+use agent_licence::agent::{is_current, may_finish, may_unmount};
+use agent_licence::mounting::may_mount;
 use call_types::entry::Entry;
 use call_types::request::{NewStatus, Request, SeatKind};
 use kube_types::key::Key;
 use kube_types::objects::{Amount, Claim, Object, Version, Volume};
 use kube_types::parts::{ClaimPhase, Kind, Modes, VolumePhase};
 use kube_types::uid::Uid;
-use licence_rows::agent::{is_current, may_finish, may_unmount};
 use licence_rows::binder::{Bind, Complete, Free, Lose, Release, Show, Take, Unbind};
 use licence_rows::guards::{GuardedClaim, GuardedVolume};
-use licence_rows::mounting::may_mount;
 use licence_rows::parts::ref_uid;
 use licence_rows::scheduler::{SelectNode, may_assign};
 use licence_tests::rows::{ClaimTest, VolumeTest, told_claim_at, told_volume_at};
+use ops_licence::create::may_create;
+use ops_licence::ops::{ClearNode, Fail, may_delete, may_erase, may_provision};
 use plain_data::copies::Plain;
 
 // the binder

@@ -2,10 +2,7 @@
 #![tactic(auto)]
 
 mod allowed;
-mod create;
-mod ids;
 mod licence;
-mod ops;
 mod reading;
 
 pub use licence::licensed;

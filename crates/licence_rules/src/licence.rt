@@ -265,8 +265,9 @@ fn is_user(kind: SeatKind) -> bool
 /// Ok exactly where a seat of this kind may make the request after its own earlier entries, the oldest
 /// first; else the rule that refuses it. Users are bound by the store's guard alone.
 ///
-/// For a list of n entries in which a key and version tell one object it takes a few passes over the
-/// objects told, and for a pod some for each of its claims.
+/// It takes a few passes over the objects told, and for a pod some for each of its claims. What takes a
+/// pass of its own is asked once for all told objects of one key, over one source, on one node or that
+/// are one, and not at each telling.
 pub fn licensed(kind: SeatKind, mine: &[Entry], request: &Request) -> Result<(), LicenceRule>
     ensures { MatchResult result (λ _. Licensed kind (reverse mine.now) request.now) (IsRefusedBy kind (reverse mine.now) request.now) }
 {

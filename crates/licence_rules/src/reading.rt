@@ -2,6 +2,9 @@
 
 ghost use Rattle.std.specs.Prelude.{◌≡◌, ◌↔◌, IsTrue, reverse, true};
 ghost use Rattle.call_types.specs.declared.request.Request.TheVariants as requests;
+ghost use Rattle.kube_types.specs.declared.objects.Object.TheVariants as objects;
+ghost use Rattle.binder_model.specs.Told.{IsPodWith, ToldPod};
+ghost use Rattle.licence_rules.specs.Naming.{AreOnOneNode, IsNaming, IsOnTaken};
 ghost use Rattle.binder_model.specs.Reading.{AsksForMount, FoundNaming, IsDeletingIn, MayGet, MayListNamespace, MayRead, NamesClaim};
 
 use call_types::entry::Entry;
@@ -15,7 +18,8 @@ use licence_rows::asking::{asks_for_claim, asks_for_ended, asks_for_volume, is_v
 use licence_tests::entries::{EntryTest, some_entry};
 use licence_tests::following::{follows, is_from, is_unlisted};
 use licence_tests::lasts::last_epoch;
-use licence_tests::rows::{ClaimTest, PodTest, told_claim, told_pod};
+use licence_tests::rows::{ClaimTest, told_claim};
+use licence_tests::shared::{SharedTest, told_shared};
 use plain_data::copies::Plain;
 use plain_data::text::Text;
 
@@ -79,20 +83,58 @@ struct Names<'a> {
     key: &'a Key,
 }
 
-impl<'a> PodTest for Names<'a> {
-    ghost allows = { λ t p. NamesClaim (reverse t.mine.now) t.key.now p };
+impl<'a> SharedTest for Names<'a> {
+    ghost allows = { λ t o. IsPodWith (IsNaming t.key.now) o };
 
-    fn test(&self, pod: &Pod) -> bool {
-        if !self.key.kind.same(&Kind::PersistentVolumeClaim) {
-            return false;
+    ghost pairs = { λ t o x. AreOnOneNode o x };
+
+    ghost holds = { λ t o. IsPodWith (IsOnTaken (reverse t.mine.now)) o };
+
+    fn may(&self, object: &Object) -> bool {
+        match object {
+            Object::Pod(pod) => is_naming(self.key, pod),
+            _ => false,
         }
-        if !self.key.namespace.same(&pod.meta.namespace) {
-            return false;
+    }
+
+    fn alike(&self, object: &Object, other: &Object) -> bool {
+        match object {
+            Object::Pod(pod) => is_on_node_of(pod, other),
+            _ => false,
         }
-        if !pod.claims.contains(self.key.name.as_str()) {
-            return false;
+    }
+
+    fn row(&self, object: &Object) -> bool {
+        match object {
+            Object::Pod(pod) => last_epoch(self.mine, &pod.node).is_some(),
+            _ => false,
         }
-        last_epoch(self.mine, &pod.node).is_some()
+    }
+
+    fn shares(&self) {
+        let _mine = self.mine;
+    }
+}
+
+fn is_naming(key: &Key, pod: &Pod) -> bool
+    ensures { IsTrue result ↔ IsNaming key.now pod.now }
+{
+    if !key.kind.same(&Kind::PersistentVolumeClaim) {
+        return false;
+    }
+    if !key.namespace.same(&pod.meta.namespace) {
+        return false;
+    }
+    pod.claims.contains(key.name.as_str())
+}
+
+/// Whether the object is a pod on the node of the pod.
+fn is_on_node_of(pod: &Pod, object: &Object) -> bool
+    ensures { IsTrue result ↔ AreOnOneNode (objects.Pod pod.now) object.now }
+{
+    match object {
+        Object::Pod(other) => pod.node.same(&other.node),
+        _ => false,
     }
 }
 
@@ -124,8 +166,15 @@ fn asks_for_mount(mine: &[Entry], key: &Key) -> bool
     if some_entry(&found, mine) {
         return true;
     }
+    is_named(mine, key)
+}
+
+/// Whether a pod on a node that the seat took names the claim of the key.
+fn is_named(mine: &[Entry], key: &Key) -> bool
+    ensures { IsTrue result ↔ ToldPod (NamesClaim (reverse mine.now) key.now) (reverse mine.now) }
+{
     let names = Names { mine, key };
-    told_pod(&names, mine)
+    told_shared(&names, mine)
 }
 
 fn may_get(seat: SeatKind, mine: &[Entry], key: &Key) -> bool

@@ -1,4 +1,5 @@
 pub mod Afters
+pub mod Alikes
 pub mod Fronts
 pub mod Since
 pub mod Tried

@@ -1,5 +1,5 @@
--- One object tried, and the others told at its version; rows of volumes and of claims as rows of objects.
-use Rattle.std.proofs.Common.{◌↔◌, IsTrue, Bool, List, [], ◌∷◌, Option, ℕ, subst, inl, inr}
+-- What holds of something told, and rows of volumes and of claims as rows of objects.
+use Rattle.std.proofs.Common.{◌↔◌, IsTrue, Bool, List, [], ◌∷◌, Option, ℕ, inl, inr}
 use Rattle.kube_types.specs.declared.objects.Claim.{Claim as ClaimData}
 use Rattle.kube_types.specs.declared.objects.Volume.{Volume as VolumeData}
 use Rattle.kube_types.specs.declared.objects.Object.{Object}
@@ -8,28 +8,14 @@ use Rattle.kube_types.specs.Keys.{meta_of}
 use Rattle.call_types.specs.declared.entry.Entry.{Entry}
 use Rattle.binder_model.specs.At.{IsWrittenAt}
 use Rattle.binder_model.specs.Told.{IsClaimWith, IsVolumeWith, SomeOf, TellsObject, ToldClaim, ToldObject, ToldVolume, objects_in}
-use Rattle.licence_tests.specs.Found.{IsOtherAt, IsToldFound}
-use Rattle.licence_tests.proofs.Afters.{told_found}
 
-some_map : {X : Type 0} (P Q : X → Type 0) (xs : List X) → ((x : X) → P x → Q x) → SomeOf P xs → SomeOf Q xs
+pub some_map : {X : Type 0} (P Q : X → Type 0) (xs : List X) → ((x : X) → P x → Q x) → SomeOf P xs → SomeOf Q xs
 some_map P Q [] f h = h
 some_map P Q (x ∷ xs) f (inl p) = inl (f x p)
 some_map P Q (x ∷ xs) f (inr h) = inr (some_map P Q xs f h)
 
 pub told_map : (P Q : Object → Type 0) (mine : List Entry) → ((o : Object) → P o → Q o) → ToldObject P mine → ToldObject Q mine
 told_map P Q mine f h = some_map (TellsObject P) (TellsObject Q) mine (λ e t. (t.0, some_map P Q (objects_in e.reply) f t.1)) h
-
-pub tried_none : (At Row : Object → Type 0) (mine : List Entry) → (ToldObject At mine → ⊥) → ToldObject (λ o. At o × Row o) mine → ⊥
-tried_none At Row mine none h = none (told_map (λ o. At o × Row o) At mine (λ o p. p.0) h)
-
-pub tried_yes : (At Row : Object → Type 0) (mine : List Entry) (tried : Object) → IsToldFound At mine tried → Row tried → ToldObject (λ o. At o × Row o) mine
-tried_yes At Row mine tried found row = told_found (λ o. At o × Row o) mine tried (found.holds, row) found.told
-
-pub tried_other : (At Row : Object → Type 0) (mine : List Entry) (tried : Object) (b : Bool) → (Row tried → ⊥) → (IsTrue b ↔ ToldObject (IsOtherAt At Row tried) mine) → (IsTrue b ↔ ToldObject (λ o. At o × Row o) mine)
-tried_other At Row mine tried b not is = (
-  (λ t. told_map (IsOtherAt At Row tried) (λ o. At o × Row o) mine (λ o p. (p.at, p.row)) (is.0 t)),
-  (λ h. is.1 (told_map (λ o. At o × Row o) (IsOtherAt At Row tried) mine (λ o p. record { at = p.0; other = λ e. not (subst Row e p.1); row = p.1 }) h)),
-)
 
 volume_in : (given : Option ℕ) (namespace name : List ℕ) (R : VolumeData → Type 0) (o : Object) → IsWrittenAt given namespace name (meta_of o) × IsVolumeWith R o → IsVolumeWith (λ v. IsWrittenAt given namespace name v.meta × R v) o
 volume_in given namespace name R (Volume v) p = p

@@ -1,5 +1,5 @@
 -- An object of which a condition holds, found among others or among what a seat was told.
-use Rattle.std.specs.Prelude.{◌≡◌, ◌≢◌, List}
+use Rattle.std.specs.Prelude.{◌≡◌, List}
 use Rattle.kube_types.specs.declared.objects.Object.{Object}
 use Rattle.call_types.specs.declared.entry.Entry.{Entry}
 use Rattle.binder_model.specs.Told.{SomeOf, ToldObject}
@@ -12,8 +12,8 @@ pub record IsToldFound (P : Object → Type 0) (mine : List Entry) (found : Obje
   pub holds : P found
   pub told : ToldObject (λ x. x ≡ found) mine
 
--- the write is at the object, of which the row holds, and it is not the one that was tried
-pub record IsOtherAt (At Row : Object → Type 0) (tried o : Object) : Type 0 where
-  pub at : At o
-  pub other : o ≢ tried
+-- both parts of the condition hold of the object, and the newer entries told none alike of which the first does
+pub record IsFirstAlike (May : Object → Type 0) (Alike : Object → Object → Type 0) (Row : Object → Type 0) (newer : List Entry) (o : Object) : Type 0 where
+  pub may : May o
+  pub first : ToldObject (λ x. May x × Alike o x) newer → ⊥
   pub row : Row o

@@ -10,5 +10,6 @@ pub mod lasts;
 pub mod newest;
 pub mod puts;
 pub mod rows;
+pub mod shared;
 pub mod told;
 pub mod walks;

@@ -1,17 +1,17 @@
 //! Told volumes, claims and pods, and writes at a told object.
 
-ghost use Rattle.std.specs.Prelude.{◌↔◌, IsTrue, reverse};
+ghost use Rattle.std.specs.Prelude.{◌≡◌, ◌↔◌, IsTrue, reverse};
 ghost use Rattle.kube_types.specs.declared.objects.Claim.{Claim as ClaimData};
 ghost use Rattle.kube_types.specs.declared.objects.Object.{Object};
 ghost use Rattle.kube_types.specs.declared.objects.Pod.{Pod as PodData};
 ghost use Rattle.kube_types.specs.declared.objects.Volume.{Volume as VolumeData};
 ghost use Rattle.kube_types.specs.Keys.{meta_of};
 ghost use Rattle.binder_model.specs.At.{IsWrittenAt};
-ghost use Rattle.licence_tests.specs.Found.{IsOtherAt};
 ghost use Rattle.binder_model.specs.Told.{IsClaimWith, IsPodWith, IsVolumeWith, ToldClaim, ToldObject, ToldPod, ToldVolume};
 
 use crate::at::is_written_at;
-use crate::told::{ObjectTest, find_told, told_object};
+use crate::shared::{SharedTest, told_shared};
+use crate::told::{ObjectTest, told_object};
 use call_types::entry::Entry;
 use kube_types::key::meta_of;
 use kube_types::objects::{Claim, Object, Pod, Version, Volume};
@@ -117,48 +117,41 @@ pub fn told_claim<T: ClaimTest>(test: &T, mine: &[Entry]) -> bool
     told_object(&test, mine)
 }
 
-/// The write is at the object.
+/// The write is at the object, and the condition holds of it.
 #[derive(Drop)]
-struct WrittenAt<'a> {
-    given: Option<Version>,
-    namespace: &'a Text,
-    name: &'a Text,
-}
-
-impl<'a> ObjectTest for WrittenAt<'a> {
-    ghost allows = { λ t o. IsWrittenAt t.given t.namespace.now t.name.now (meta_of o) };
-
-    fn test(&self, object: &Object) -> bool {
-        is_written_at(self.given, self.namespace, self.name, meta_of(object))
-    }
-}
-
-/// The write is at the object, which is not the one that was tried, and the condition holds of it.
-#[derive(Drop)]
-struct OtherAt<'a, T> {
+struct WrittenAt<'a, T> {
     given: Option<Version>,
     namespace: &'a Text,
     name: &'a Text,
     row: &'a T,
-    tried: &'a Object,
 }
 
-impl<'a, T: ObjectTest> ObjectTest for OtherAt<'a, T> {
-    ghost allows = { λ t o. IsOtherAt (λ x. IsWrittenAt t.given t.namespace.now t.name.now (meta_of x)) (T.allows t.row.now) t.tried.now o };
+impl<'a, T: ObjectTest> SharedTest for WrittenAt<'a, T> {
+    ghost allows = { λ t o. IsWrittenAt t.given t.namespace.now t.name.now (meta_of o) };
 
-    fn test(&self, object: &Object) -> bool {
-        if !is_written_at(self.given, self.namespace, self.name, meta_of(object)) {
-            return false;
-        }
-        if object.same(self.tried) {
-            return false;
-        }
+    ghost pairs = { λ t o x. o ≡ x };
+
+    ghost holds = { λ t o. T.allows t.row.now o };
+
+    fn may(&self, object: &Object) -> bool {
+        is_written_at(self.given, self.namespace, self.name, meta_of(object))
+    }
+
+    fn alike(&self, object: &Object, other: &Object) -> bool {
+        object.same(other)
+    }
+
+    fn row(&self, object: &Object) -> bool {
         self.row.test(object)
+    }
+
+    fn shares(&self) {
+        let _row = self.row;
     }
 }
 
-/// Whether the write is at a told object of which the condition holds. Where all that was told at the
-/// version is one object, as in every history, the condition is asked once.
+/// Whether the write is at a told object of which the condition holds. Of all told objects that are one,
+/// the condition is asked once.
 fn told_object_at<T: ObjectTest>(
     row: &T,
     mine: &[Entry],
@@ -172,23 +165,9 @@ fn told_object_at<T: ObjectTest>(
         given,
         namespace,
         name,
+        row,
     };
-    match find_told(&at, mine) {
-        None => false,
-        Some(tried) => {
-            if row.test(tried) {
-                return true;
-            }
-            let other = OtherAt {
-                given,
-                namespace,
-                name,
-                row,
-                tried,
-            };
-            told_object(&other, mine)
-        }
-    }
+    told_shared(&at, mine)
 }
 
 /// Whether the write is at a told volume of which the condition holds.

@@ -10,8 +10,9 @@ use call_types::setup::Pool;
 use device_model::devices::{Devices, is_for_devices};
 use history_text::entries::print_entry;
 use kube_types::objects::{Object, Version};
+use plain_calls::lines::text_of;
 use plain_data::copies::{OutOfMemory, Plain};
-use plain_data::text::{Bytes, Text};
+use plain_data::text::Text;
 use std::alloc::Global;
 use version_store::outcome::{Made, is_for_store};
 use version_store::store::Store;
@@ -143,13 +144,6 @@ fn line_of(alloc: Global, entry: &Entry) -> Result<String, OutOfMemory> {
         return Ok(String::from_str(alloc, "not the same")?);
     }
     text_of(alloc, print_entry(alloc, &copy)?)
-}
-
-pub fn text_of(alloc: Global, line: Bytes) -> Result<String, OutOfMemory> {
-    match str::from_utf8(line.as_slice()) {
-        Ok(line) => Ok(String::from_str(alloc, line)?),
-        Err(_) => Ok(String::from_str(alloc, "no text")?),
-    }
 }
 
 // The current epoch of the node of a FinishPod, where the request has another.

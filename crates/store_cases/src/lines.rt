@@ -1,56 +1,13 @@
 //! What a line asks for.
 
 use crate::bench::Bench;
-use crate::keyed::{create, create_in, keyed, list, update};
-use crate::nodes::{of_devices, pool};
 use crate::shown::shown;
-use crate::words::{Named, number, seat, small, text, words_of};
-use call_types::request::Request;
+use plain_calls::lines::{request, split};
+use plain_calls::nodes::pool;
+use plain_calls::words::{number, seat, small, words_of};
 use plain_data::copies::OutOfMemory;
 use std::alloc::Global;
 use watch_log::log::WatchLog;
-
-fn time(alloc: Global, words: &[&str]) -> Result<Option<Request>, OutOfMemory> {
-    match words {
-        [at] => Ok(Some(Request::SetTime {
-            at: text(alloc, at)?,
-        })),
-        _ => Ok(None),
-    }
-}
-
-fn of_words(alloc: Global, verb: &str, words: &[&str]) -> Result<Option<Request>, OutOfMemory> {
-    match verb {
-        "list" => list(alloc, words),
-        "time" => time(alloc, words),
-        "get" | "delete" | "edit" | "status" | "bind" | "finish" => match words {
-            [kind, namespace, name, rest @ ..] => keyed(
-                alloc,
-                verb,
-                Named {
-                    kind,
-                    namespace,
-                    name,
-                },
-                rest,
-            ),
-            _ => Ok(None),
-        },
-        _ => of_devices(alloc, verb, words),
-    }
-}
-
-fn request(alloc: Global, verb: &str, rest: &str) -> Result<Option<Request>, OutOfMemory> {
-    match verb {
-        "create" => Ok(create(alloc, rest)),
-        "update" => Ok(update(alloc, rest)),
-        "create-in" => create_in(alloc, rest),
-        _ => {
-            let words = words_of(alloc, rest)?;
-            of_words(alloc, verb, &words)
-        }
-    }
-}
 
 // Sets up what the words say. True where they set something up.
 fn sets_up(
@@ -141,13 +98,6 @@ fn repeated(
             }
             Ok(None)
         }
-    }
-}
-
-fn split(line: &str) -> (&str, &str) {
-    match line.split_once(' ') {
-        None => (line, ""),
-        Some(parts) => parts,
     }
 }
 

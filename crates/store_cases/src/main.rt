@@ -1,16 +1,11 @@
 //! Cases of the store, its watch log and the devices. A line that is read is one call on those that
-//! stand, and the line of its history entry is written. Words that set something up write nothing.
-//!
-//! A key is three words: `class`, `node`, `volume`, `claim` or `pod`, the namespace and the name; `-`
-//! stands for what is empty or absent, and a number for the id of that serial.
+//! stand, and the line of its history entry is written. Words that set something up write nothing. The
+//! calls are written as `plain_calls` reads them.
 #![tactic(auto)]
 
 mod bench;
-mod keyed;
 mod lines;
-mod nodes;
 mod shown;
-mod words;
 
 use crate::bench::Bench;
 use plain_data::copies::OutOfMemory;

@@ -1,8 +1,6 @@
 //! What the store, the log and the devices show without a request.
 
-use crate::bench::{Bench, text_of};
-use crate::nodes::labels;
-use crate::words::{Named, key, kind, number, text};
+use crate::bench::Bench;
 use call_types::reply::{Refusal, Reply};
 use call_types::request::Request;
 use call_types::setup::Setup;
@@ -10,6 +8,9 @@ use history_text::setups::print_setup;
 use kube_types::key::meta_of;
 use kube_types::lookup::Lookup;
 use kube_types::objects::Object;
+use plain_calls::lines::text_of;
+use plain_calls::nodes::labels;
+use plain_calls::words::{Named, key, kind, number, text};
 use plain_data::copies::{OutOfMemory, Plain, copy_all};
 use plain_data::items::Items;
 use plain_data::text::Text;
