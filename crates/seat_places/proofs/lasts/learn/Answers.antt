@@ -1,0 +1,15 @@
+use Rattle.std.proofs.Common.{◌≡◌, ℕ, List, Option, Some, ap, sym, subst, ◌∙◌, if◌then◌else◌}
+use Rattle.std.proofs.lemmas.Result.{on_ok_weaker}
+use Rattle.seat_places.specs.declared.topics.Topic.{Topic}
+use Rattle.seat_places.specs.declared.lasts.Last.{Last}
+use Rattle.seat_places.specs.Rows.{place_in}
+use Rattle.seat_places.specs.Topics.{is_about}
+use Rattle.seat_places.proofs.Putting.{Puts, lost_lasts, told_lasts}
+use Rattle.seat_places.proofs.lasts.learn.Goals as goal
+
+puts_as : (a b : Option Topic) (place : ℕ) (was is : List Last) → a ≡ b → Puts a place was is → Puts b place was is
+puts_as a b place was is e = subst (λ (o : Option Topic). Puts o place was is) e
+
+pub returns-then-not-entry-clause-ok : goal.returns-then-not-entry-clause-ok
+returns-then-not-entry-clause-ok c = λ mine at all.
+    lost_lasts c.args.entry.now mine c.args.place c.args.rows.now.items c.put_some.new.rows.items c.if-not-entry.true at (puts_as _ _ c.args.place c.args.rows.now.items c.put_some.new.rows.items c.asked_topic.ensures c.in_ok-put_some.ensures.ok) all
