@@ -1,5 +1,5 @@
 -- Rows of topics that get one place more.
-use Rattle.std.proofs.Common.{◌≡◌, ℕ, List, [], ◌∷◌, length, Bool, true, false, Option, Some, None, Result, Ok, Err, IfOk, IfErr, refl, sym, ◌∙◌, ap, subst, if◌then◌else◌}
+use Rattle.std.proofs.Common.{◌≡◌, ℕ, List, ◌∷◌, length, Bool, true, false, Option, Some, refl, sym, ◌∙◌, ap, subst, if◌then◌else◌}
 use Rattle.std.specs.Prelude.{◌||◌, option_map}
 use Rattle.std.specs.declared.cmp.Ordering.{Ordering}
 use Rattle.std.specs.declared.cmp.Ordering.TheVariants.{Less, Equal, Greater}
@@ -8,7 +8,7 @@ use Rattle.plain_data.proofs.RowLookups.{find-put, find-put_other}
 use Rattle.call_types.specs.declared.entry.Entry.{Entry}
 use Rattle.seat_places.specs.declared.topics.Topic.{Topic}
 use Rattle.seat_places.specs.declared.lasts.Last.{Last}
-use Rattle.seat_places.specs.Topics.{asked_topic, found_topic, if_told, is_about, last_of, read_topic, speaks, topic_cmp}
+use Rattle.seat_places.specs.Topics.{asked_topic, found_topic, if_told, is_about, last_of, read_topic, topic_cmp}
 use Rattle.seat_places.specs.Rows.{AreLastsOf, last_row, place_in, place_of, put_last, topic_of}
 use Rattle.seat_places.proofs.Order.{equal_topics, topic_cmp_total}
 

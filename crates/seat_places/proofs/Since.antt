@@ -1,5 +1,5 @@
 -- An entry at a place, and what is known of those after it.
-use Rattle.std.proofs.Common.{◌≡◌, ℕ, zero, suc, ◌+◌, ◌<◌, List, [], ◌∷◌, ◌++◌, length, get_or, reverse, Bool, true, false, true≢false, Option, Some, None, inl, inr, refl, sym, ◌∙◌, ap, arith, subst, if◌then◌else◌}
+use Rattle.std.proofs.Common.{◌≡◌, ℕ, zero, suc, ◌<◌, List, [], ◌∷◌, ◌++◌, length, get_or, reverse, Bool, true, false, true≢false, Option, Some, None, inl, inr, refl, sym, ◌∙◌, ap, arith, subst, if◌then◌else◌}
 use Rattle.std.specs.Bool.{⊤}
 use Rattle.std.specs.Prelude.{◌⊎◌}
 use Rattle.std.proofs.lemmas.List.{reverse-append}
@@ -93,6 +93,7 @@ last_never t q hears (e ∷ mine) is = by (speaks t e) refl is (last_never t q h
     is_there : Option ℕ → Bool
     is_there None = false
     is_there (Some n) = true
+
     by : (b : Bool) → speaks t e ≡ b → (if b then Some (length mine) else last_of t mine) ≡ None → (last_of t mine ≡ None → IsNever q mine) → (q e ≡ false) × IsNever q mine
     by true said none rest = absurd (true≢false (ap is_there none))
     by false said none rest = (is_quiet t q hears e said, rest none)

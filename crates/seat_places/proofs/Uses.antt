@@ -1,19 +1,13 @@
 -- What the places of last entries show of an agent's rows.
-use Rattle.std.proofs.Common.{◌≡◌, ℕ, zero, suc, ◌+◌, ◌<◌, ◌≤◌, List, [], ◌∷◌, ◌++◌, length, Bool, true, false, true≢false, Option, Some, None, inl, inr, refl, sym, ◌∙◌, ap, arith, subst, if◌then◌else◌}
-use Rattle.std.specs.Bool.{⊤}
-use Rattle.std.specs.Prelude.{◌⊎◌, ◌&&◌, ◌||◌, is_some, not}
-use Rattle.std.specs.List.{list_any}
+use Rattle.std.proofs.Common.{◌≡◌, ℕ, suc, ◌<◌, ◌≤◌, List, [], ◌∷◌, ◌++◌, length, true, false, true≢false, Option, Some, None, inl, inr, refl, sym, ap, arith, subst}
+use Rattle.std.specs.Prelude.{◌⊎◌, is_some}
 use Rattle.std.proofs.lemmas.List.{append_assoc}
 use Rattle.kube_types.specs.declared.uid.Uid.{Uid}
 use Rattle.kube_types.specs.declared.key.Key.{Key}
-use Rattle.kube_types.specs.declared.objects.Claim.{Claim as ClaimData}
 use Rattle.kube_types.specs.declared.objects.Pod.{Pod as PodData}
-use Rattle.kube_types.specs.declared.objects.Volume.{Volume as VolumeData}
 use Rattle.kube_types.specs.declared.objects.Object.{Object}
-use Rattle.kube_types.specs.declared.objects.Object.TheVariants.{Claim, Volume, Pod}
+use Rattle.kube_types.specs.declared.objects.Object.TheVariants.{Pod}
 use Rattle.call_types.specs.declared.entry.Entry.{Entry}
-use Rattle.call_types.specs.declared.reply.Reply.{Reply}
-use Rattle.call_types.specs.declared.reply.Reply.TheVariants as replies
 use Rattle.binder_model.specs.Told.{SomeOf, TellsObject, IsPodWith, first_some, objects_in}
 use Rattle.binder_model.specs.AgentLicence.{IsReadyPod, ListedPods, WasShownReady, epoch_in, is_pod_list, last_epoch, last_get, never_finished, since_epoch, since_get}
 use Rattle.seat_places.proofs.Since.{Here, IsNever, Later, Since, StandsAt, since_below, stands_below}
@@ -47,17 +41,17 @@ above_below place mine recent (More {mine = older} {recent = newer} e above) = l
 
 -- the last read of a key behind a place, and what stands behind that read
 
-pub get_above : (key : Key) (mine recent : List Entry) (place read : ℕ) (entry : Entry) → Above place mine recent → Since (gets key) mine read entry → place < read → gets key entry ≡ true → last_get key recent ≡ Some entry.reply
-get_above key mine recent place read entry (Done at) (Here {mine = older} e is) after got = absurd (omega (arith, at, is, after))
-get_above key mine recent place read entry (Done at) (Later {mine = older} e quiet since) after got = let below = since_below (gets key) older read entry since in absurd (omega (arith, at, below, after))
-get_above key mine recent place read entry (More {mine = older} {recent = newer} e above) (Here _ is) after got = rw got refl
-get_above key mine recent place read entry (More {mine = older} {recent = newer} e above) (Later _ quiet since) after got = rw quiet (get_above key older newer place read entry above since after got)
+pub get_above : (key : Key) (place : ℕ) (mine recent : List Entry) (read : ℕ) (entry : Entry) → Above place mine recent → Since (gets key) mine read entry → place < read → gets key entry ≡ true → last_get key recent ≡ Some entry.reply
+get_above key place mine recent read entry (Done at) (Here {mine = older} e is) after got = absurd (omega (arith, at, is, after))
+get_above key place mine recent read entry (Done at) (Later {mine = older} e quiet since) after got = let below = since_below (gets key) older read entry since in absurd (omega (arith, at, below, after))
+get_above key place mine recent read entry (More {mine = older} {recent = newer} e above) (Here _ is) after got = rw got refl
+get_above key place mine recent read entry (More {mine = older} {recent = newer} e above) (Later _ quiet since) after got = rw quiet (get_above key place older newer read entry above since after got)
 
-pub since_above : (key : Key) (mine recent : List Entry) (place read : ℕ) (entry : Entry) → Above place mine recent → Since (gets key) mine read entry → place < read → gets key entry ≡ true → Above read mine (since_get key recent)
-since_above key mine recent place read entry (Done at) (Here {mine = older} e is) after got = absurd (omega (arith, at, is, after))
-since_above key mine recent place read entry (Done at) (Later {mine = older} e quiet since) after got = let below = since_below (gets key) older read entry since in absurd (omega (arith, at, below, after))
-since_above key mine recent place read entry (More {mine = older} {recent = newer} e above) (Here _ is) after got = rw got (Done (ap suc is))
-since_above key mine recent place read entry (More {mine = older} {recent = newer} e above) (Later _ quiet since) after got = rw quiet (More e (since_above key older newer place read entry above since after got))
+pub since_above : (key : Key) (place : ℕ) (mine recent : List Entry) (read : ℕ) (entry : Entry) → Above place mine recent → Since (gets key) mine read entry → place < read → gets key entry ≡ true → Above read mine (since_get key recent)
+since_above key place mine recent read entry (Done at) (Here {mine = older} e is) after got = absurd (omega (arith, at, is, after))
+since_above key place mine recent read entry (Done at) (Later {mine = older} e quiet since) after got = let below = since_below (gets key) older read entry since in absurd (omega (arith, at, below, after))
+since_above key place mine recent read entry (More {mine = older} {recent = newer} e above) (Here _ is) after got = rw got (Done (ap suc is))
+since_above key place mine recent read entry (More {mine = older} {recent = newer} e above) (Later _ quiet since) after got = rw quiet (More e (since_above key place older newer read entry above since after got))
 
 -- a pod that was told at a place
 
