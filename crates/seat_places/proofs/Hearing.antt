@@ -14,10 +14,11 @@ use Rattle.call_types.specs.declared.request.Request.TheVariants as requests
 use Rattle.call_types.specs.declared.reply.Reply.{Reply}
 use Rattle.call_types.specs.declared.reply.Reply.TheVariants as replies
 use Rattle.binder_model.specs.Same.{same_uid}
-use Rattle.binder_model.specs.AgentLicence.{epoch_in, epoch_told, is_finish_of, is_get_of, is_mount_of}
+use Rattle.binder_model.specs.AgentLicence.{epoch_told, is_finish_of, is_get_of, is_mount_of}
 use Rattle.seat_places.specs.declared.topics.Topic.{Topic}
 use Rattle.seat_places.specs.declared.topics.Matter.TheVariants as matters
 use Rattle.seat_places.specs.Topics.{about_key, about_name, about_pod, asked_topic, found_topic, if_told, is_about, read_topic, speaks, topic_cmp}
+use Rattle.seat_places.specs.Places.{finishes, gets, mounts, takes}
 use Rattle.seat_places.proofs.Order.{topic_cmp_total}
 use Rattle.seat_places.proofs.Since.{Hears}
 
@@ -41,10 +42,6 @@ if_true : (b : Bool) (x : Bool) → (b && x) ≡ true → (b ≡ true) × (x ≡
 if_true true x h = (refl, h)
 if_true false x h = absurd (true≢false (sym h))
 
--- a read of the key
-abbrev pub gets : Key → Entry → Bool
-gets key e = e.told && is_get_of key e.request
-
 get_about : (key : Key) (request : Request) (reply : Reply) → is_get_of key request ≡ true → is_about (about_key matters.Read key) (read_topic request reply) ≡ true
 get_about key (requests.Get asked) reply h = itself (about_key matters.Read key) (about_key matters.Read asked) (ap (about_key matters.Read) ((same_key-Decides asked key).0 h))
 get_about key (requests.Create o) reply h = absurd (true≢false (sym h))
@@ -66,10 +63,6 @@ get_about key (requests.SetTime t) reply h = absurd (true≢false (sym h))
 
 pub gets_heard : (key : Key) → Hears (about_key matters.Read key) (gets key)
 gets_heard key e h = let both = if_true e.told _ h in by_read (about_key matters.Read key) e both.0 (get_about key e.request e.reply both.1)
-
--- an epoch of the node
-abbrev pub takes : List ℕ → Entry → Bool
-takes node e = is_some (epoch_in node e)
 
 some_true : (b : Bool) (n : ℕ) → is_some (if b then Some n else None) ≡ true → b ≡ true
 some_true true n h = refl
@@ -110,13 +103,6 @@ take_about node (requests.SetTime t) reply h = absurd (true≢false (sym h))
 
 pub takes_heard : (node : List ℕ) → Hears (about_name matters.Taken node) (takes node)
 takes_heard node e h = let both = told_some e.told _ h in by_read (about_name matters.Taken node) e both.0 (take_about node e.request e.reply both.1)
-
--- a pod that was to be finished, or to be mounted
-abbrev pub finishes : Uid → Entry → Bool
-finishes pod e = is_finish_of pod e.request
-
-abbrev pub mounts : Uid → Entry → Bool
-mounts pod e = is_mount_of pod e.request
 
 one_uid : (u v : Uid) → same_uid u v ≡ true → u ≡ v
 one_uid u v h = let e : u.0 ≡ v.0 = (Decides-eqb u.0 v.0).0 h in λ i. record { 0 = e i }

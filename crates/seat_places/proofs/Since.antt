@@ -1,16 +1,11 @@
 -- An entry at a place, and what is known of those after it.
 use Rattle.std.proofs.Common.{◌≡◌, ℕ, zero, suc, ◌<◌, List, [], ◌∷◌, ◌++◌, length, get_or, reverse, Bool, true, false, true≢false, Option, Some, None, inl, inr, refl, sym, ◌∙◌, ap, arith, subst, if◌then◌else◌}
-use Rattle.std.specs.Bool.{⊤}
 use Rattle.std.specs.Prelude.{◌⊎◌}
 use Rattle.std.proofs.lemmas.List.{reverse-append}
 use Rattle.call_types.specs.declared.entry.Entry.{Entry}
 use Rattle.seat_places.specs.declared.topics.Topic.{Topic}
 use Rattle.seat_places.specs.Topics.{last_of, speaks}
-
--- the entry stands at the place, counted from the oldest. The entries stand newest first
-abbrev pub StandsAt : List Entry → ℕ → Entry → Type 0
-StandsAt [] place entry = ⊥
-StandsAt (e ∷ mine) place entry = ((length mine ≡ place) × (e ≡ entry)) ⊎ StandsAt mine place entry
+use Rattle.seat_places.specs.Places.{Here, IsNever, Later, Since, StandsAt}
 
 pub stands_below : (mine : List Entry) (place : ℕ) (entry : Entry) → StandsAt mine place entry → place < length mine
 stands_below [] place entry h = absurd h
@@ -35,11 +30,6 @@ pub read_stands : (xs : List Entry) (i : ℕ) (d : Entry) → i < length xs → 
 read_stands [] i d h = absurd (omega (arith, h))
 read_stands (x ∷ xs) zero d h = subst (λ ys. StandsAt ys 0 x) (sym (reverse-append (x ∷ []) xs)) (before_all (reverse xs) x)
 read_stands (x ∷ xs) (suc i) d h = subst (λ ys. StandsAt ys (suc i) (get_or xs i d)) (sym (reverse-append (x ∷ []) xs)) (one_more (reverse xs) x i (get_or xs i d) (read_stands xs i d (omega (arith, h))))
-
--- the entry stands at the place, and of none after it the test holds
-pub data Since (q : Entry → Bool) : List Entry → ℕ → Entry → Type 0 where
-  Here : {mine : List Entry} {place : ℕ} (e : Entry) → length mine ≡ place → Since q (e ∷ mine) place e
-  Later : {mine : List Entry} {place : ℕ} {entry : Entry} (e : Entry) → q e ≡ false → Since q mine place entry → Since q (e ∷ mine) place entry
 
 pub since_below : (q : Entry → Bool) (mine : List Entry) (place : ℕ) (entry : Entry) → Since q mine place entry → place < length mine
 since_below q mine place entry (Here {mine = older} e at) = omega (arith, at)
@@ -80,11 +70,6 @@ last_since t q hears (e ∷ mine) place entry is stands = by (speaks t e) refl i
     by true said last (inr h) rest = let at = some_place _ _ last in let below = stands_below mine place entry h in absurd (omega (arith, at, below))
     by false said last (inl h) rest = let below = last_below t mine place last in let at = h.0 in absurd (omega (arith, at, below))
     by false said last (inr h) rest = Later e (is_quiet t q hears e said) (rest last h)
-
--- of no entry the test holds
-abbrev pub IsNever : (Entry → Bool) → List Entry → Type 0
-IsNever q [] = ⊤
-IsNever q (e ∷ mine) = (q e ≡ false) × IsNever q mine
 
 pub last_never : (t : Topic) (q : Entry → Bool) → Hears t q → (mine : List Entry) → last_of t mine ≡ None → IsNever q mine
 last_never t q hears [] is = tt
