@@ -1,5 +1,5 @@
 -- Pages of pods that get one telling more.
-use Rattle.std.proofs.Common.{◌≡◌, ℕ, zero, suc, ◌<◌, List, [], ◌∷◌, ◌++◌, length, get_or, set, arith, refl, sym, ◌∙◌, ap, inr, subst}
+use Rattle.std.proofs.Common.{◌≡◌, ℕ, zero, suc, ◌<◌, List, [], ◌∷◌, ◌++◌, length, get_or, set, arith, sym, inr, subst}
 use Rattle.std.specs.List.{insert}
 use Rattle.kube_types.specs.declared.objects.Object.TheVariants.{Pod}
 use Rattle.call_types.specs.declared.entry.Entry.{Entry}

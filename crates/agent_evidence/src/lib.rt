@@ -6,6 +6,6 @@
 //! each allowed request is shown; who needs to be sure of a refusal reads the entries.
 #![tactic(auto)]
 
-
-
+pub mod agent;
+pub mod index;
 pub mod pods;

@@ -81,7 +81,7 @@ some_map P Q f [] h = elim h [ ]
 some_map P Q f (x ∷ xs) (inl p) = inl (f x p)
 some_map P Q f (x ∷ xs) (inr h) = inr (some_map P Q f xs h)
 
-told_ready : (P : PodData → Type 0) (pod : PodData) (e : Entry) → P pod → TellsObject (λ x. x ≡ Pod pod) e → TellsObject (IsPodWith P) e
+pub told_ready : (P : PodData → Type 0) (pod : PodData) (e : Entry) → P pod → TellsObject (λ x. x ≡ Pod pod) e → TellsObject (IsPodWith P) e
 told_ready P pod e p h = (h.0, some_map (λ x. x ≡ Pod pod) (IsPodWith P) (λ x is. subst (IsPodWith P) (sym is) p) (objects_in e.reply) h.1)
 
 nothing_behind : (xs : List Entry) → xs ++ [] ≡ xs
