@@ -1,5 +1,5 @@
 -- The newest told object of some key is found among what was told; the reads of single objects go by it.
-use Rattle.std.proofs.Common.{◌≡◌, ℕ, ◌↔◌, IsTrue, Bool, List, [], ◌∷◌, Option, Some, true, sym, ◌∙◌, ap, subst, inl, inr}
+use Rattle.std.proofs.Common.{◌≡◌, ℕ, ◌↔◌, IsTrue, Bool, List, [], ◌∷◌, Option, true, sym, ◌∙◌, ap, subst, inl, inr}
 use Rattle.kube_types.specs.declared.parts.Kind.{Kind}
 use Rattle.kube_types.specs.declared.key.Key.{Key}
 use Rattle.kube_types.specs.declared.objects.Claim.{Claim as ClaimData}
