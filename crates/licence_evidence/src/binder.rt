@@ -102,12 +102,7 @@ fn shows_volume_key<T: VolumeTest>(
 }
 
 /// The same for a write of a claim's status.
-fn shows_claim_key<T: ClaimTest>(
-    row: &T,
-    page: &[Entry],
-    key: &Key,
-    given: Option<Version>,
-) -> bool
+fn shows_claim_key<T: ClaimTest>(row: &T, page: &[Entry], key: &Key, given: Option<Version>) -> bool
     ensures { (mine : List Entry) → IsPart (reverse page.now) mine → IsTrue result → AtClaimKey mine key.now given (T.allows row.now) }
 {
     match key.kind {

@@ -9,7 +9,7 @@ ghost use Rattle.binder_model.specs.ObjectKeys.{claim_key, volume_key};
 ghost use Rattle.call_types.specs.declared.entry.Entry.{Entry};
 ghost use Rattle.call_types.specs.declared.request.Request.TheVariants as requests;
 ghost use Rattle.call_types.specs.declared.request.SeatKind.TheVariants as seats;
-ghost use Rattle.binder_model.specs.Reading.{AsksForClaim, AsksForEnded, AsksForVolume, IsFrom, IsUnlisted, MayGet, MayRead, following_of};
+ghost use Rattle.binder_model.specs.Reading.{AsksForClaim, AsksForEnded, AsksForVolume, IsFrom, IsUnlisted, LacksUid, MayGet, MayRead, following_of};
 ghost use Rattle.informer_cache.specs.All.{AllStandFor, all_objects};
 ghost use Rattle.seat_index.specs.Steps.Indexed.{IsIndexOf};
 ghost use Rattle.seat_index.specs.Steps.Parts.{ArePages};
@@ -20,12 +20,15 @@ use call_types::request::{Request, SeatKind};
 use informer_cache::cache::Ask;
 use informer_cache::caches::Caches;
 use kube_types::bindings::is_completed;
+use kube_types::copies::Plain;
 use kube_types::key::Key;
 use kube_types::lookup::Lookup;
-use kube_types::objects::{Claim, Object, Version, Volume};
+use kube_types::objects::{Claim, Object, Ref, Version, Volume};
 use kube_types::parts::Kind;
 use kube_types::text::Text;
-use licence_rows::asking::{is_claim_key, is_to_erase, is_volume_key, lacks_uid};
+use kube_types::uid::Uid;
+use licence_rows::asking::{is_to_erase, is_volume_key};
+use licence_rows::parts::is_known;
 use licence_rules::licensed;
 use licence_tests::following::follows;
 use seat_index::index::Index;
@@ -86,6 +89,29 @@ fn lists_pods(pages: &Pages, namespace: &Text, request: &Request) -> bool
 }
 
 // reads of one key
+
+/// Whether the key is that of the claim.
+fn is_claim_key(key: &Key, reference: &Ref) -> bool
+    ensures { IsTrue result ↔ (key.now ≡ claim_key reference.now.namespace reference.now.name) }
+{
+    if !key.kind.same(&Kind::PersistentVolumeClaim) {
+        return false;
+    }
+    if !key.namespace.same(&reference.namespace) {
+        return false;
+    }
+    key.name.same(&reference.name)
+}
+
+/// Whether what was found is no claim with this id.
+fn lacks_uid(found: Option<&Object>, uid: Uid) -> bool
+    ensures { IsTrue result ↔ LacksUid (option_copied found.entry) uid }
+{
+    match found {
+        Some(Object::Claim(claim)) => !is_known(&claim.meta, uid),
+        _ => true,
+    }
+}
 
 /// Whether the object is the newest told of the volume's key, which is the object's.
 fn is_newest_volume(caches: &Caches, volume: &Volume, object: &Object) -> bool

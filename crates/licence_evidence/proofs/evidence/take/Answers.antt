@@ -1,4 +1,4 @@
-use Rattle.std.proofs.Common.{◌∷◌, [], ◌∙◌, ap, reverse, subst}
+use Rattle.std.proofs.Common.{◌∷◌, [], ◌∙◌, ap, reverse}
 use Rattle.std.proofs.lemmas.List.{reverse-append}
 use Rattle.std.proofs.lemmas.Result.{on_ok_weaker}
 use Rattle.call_types.specs.declared.entry.Entry.{Entry}
