@@ -32,7 +32,7 @@ fn text(alloc: Global, word: &str) -> Result<Text, OutOfMemory> {
 fn uid(word: &str) -> Option<Uid> {
     match word {
         "-" => None,
-        _ => Some(Uid::from_serial(number(word))),
+        _ => Some(Uid(number(word) as u128)),
     }
 }
 

@@ -6,6 +6,7 @@
 //! judgement takes (see `evidence`), and that the entries are those of one seat.
 #![tactic(auto)]
 
+mod agents;
 mod binder;
 pub mod evidence;
 mod guards;

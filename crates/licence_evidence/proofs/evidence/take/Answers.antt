@@ -9,5 +9,10 @@ returns-clause-ok c = on_ok_weaker c.push.result (λ put. ap reverse put ∙ rev
 
 pub returns-clause-index : goal.returns-clause-index
 returns-clause-index c =
-    let first = rw c.as_slice.ensures at c.is_first-first.ensures in
+    let first = rw c.as_slice-noted.ensures at c.is_first-first.ensures in
     on_ok_weaker c.push.result (λ put index. c.in_ok-learn.ensures _ first index) c.push.ensures.ok
+
+pub returns-clause-agents : goal.returns-clause-agents
+returns-clause-agents c =
+    let place = rw c.as_slice-noted.ensures at c.next_place-place.ensures in
+    on_ok_weaker c.push.result (λ put agents. c.in_ok-learn-2.ensures _ place agents) c.push.ensures.ok
