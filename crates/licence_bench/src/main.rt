@@ -2,7 +2,7 @@
 //! and bound. The second word says how often each request is judged before it is noted.
 #![tactic(auto)]
 
-use bind_writes::request::next_write;
+use bind_writes::next_write;
 use call_types::entry::Entry;
 use call_types::reply::{Change, Event, Events, Reply};
 use call_types::request::{NewStatus, Request, SeatKind};
