@@ -1,0 +1,3 @@
+pub mod Pods
+pub mod Seen
+pub mod Steps

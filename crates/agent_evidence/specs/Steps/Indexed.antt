@@ -1,0 +1,11 @@
+-- For proofs alone: what an agent's index is of the entries that it was given, newest first.
+use Rattle.std.specs.Prelude.{List}
+use Rattle.call_types.specs.declared.entry.Entry.{Entry}
+use Rattle.seat_places.specs.Rows.{AreLastsOf}
+use Rattle.agent_evidence.specs.declared.index.AgentIndex.{AgentIndex}
+use Rattle.agent_evidence.specs.Pods.{ArePods}
+
+-- its places are those of the last entries, and its pods were told
+pub record IsAgentIndexOf (x : AgentIndex) (mine : List Entry) : Type 0 where
+  pub lasts : AreLastsOf x.lasts mine
+  pub pods : ArePods x.pods mine

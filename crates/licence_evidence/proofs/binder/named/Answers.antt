@@ -1,0 +1,5 @@
+use Rattle.seat_index.specs.Steps.Parts.{Begins}
+use Rattle.licence_evidence.proofs.binder.named.Goals as goal
+
+pub returns-in-None : goal.returns-in-None
+returns-in-None c = λ mine all. Begins

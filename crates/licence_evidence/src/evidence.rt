@@ -1,0 +1,161 @@
+//! What one seat was told so far.
+
+ghost use Rattle.std.specs.Prelude.{◌≡◌, [], ◌∷◌, IsTrue, MatchResult, OnErr, OnOk, length, reverse, true};
+ghost use Rattle.call_types.specs.declared.entry.Entry.{Entry};
+ghost use Rattle.binder_model.specs.Licence.{IsRefusedBy, Licensed};
+ghost use Rattle.seat_index.specs.Steps.Indexed.{IsIndexOf};
+ghost use Rattle.licence_evidence.specs.Kept.{AreAgentsOf};
+
+use crate::agents::{Agents, agent_shown};
+use crate::shown::is_shown;
+use call_types::entry::Entry;
+use call_types::request::{Request, SeatKind};
+use kube_types::copies::{OutOfMemory, Plain};
+use kube_types::items::Items;
+use kube_types::names::LicenceRule;
+use licence_rules::licensed;
+use seat_index::index::Index;
+use std::alloc::Global;
+use std::marker::Model;
+
+/// The entries of one seat, with an index. Contracts see the list of the entries, the newest first.
+#[derive(Debug)]
+pub struct Evidence {
+    alloc: Global,
+    entries: Items<Entry>,
+    index: Index,
+    agents: Agents,
+}
+
+impl Drop for Evidence {
+    fn drop(self) {
+        let Evidence {
+            alloc: _,
+            entries,
+            index,
+            agents,
+        } = self;
+        drop(entries);
+        drop(index);
+        drop(agents);
+    }
+}
+
+impl Model for Evidence {
+    ghost use Rattle.std.specs.Prelude.{List, reverse};
+    ghost use Rattle.call_types.specs.declared.entry.Entry.{Entry};
+    ghost use Rattle.seat_index.specs.Steps.Indexed.{IsIndexOf};
+    ghost use Rattle.licence_evidence.specs.Kept.{AreAgentsOf};
+
+    ghost Value = { List Entry };
+
+    ghost view = { λ e. reverse e.entries };
+
+    ghost invariant = { λ e. IsIndexOf e.index (reverse e.entries) × AreAgentsOf e.agents (reverse e.entries) };
+}
+
+fn is_first(entries: &[Entry]) -> bool
+    ensures { result ≡ true → reverse entries.now ≡ [] }
+{
+    entries.is_empty()
+}
+
+/// Where the next entry will stand.
+fn next_place(entries: &[Entry]) -> usize
+    ensures { length (reverse entries.now) ≡ result }
+{
+    entries.len()
+}
+
+/// Puts one more entry behind the others and into the index.
+fn take(
+    alloc: Global,
+    entries: &mut Items<Entry>,
+    index: &mut Index,
+    agents: &mut Agents,
+    entry: &Entry,
+) -> Result<(), OutOfMemory>
+    ensures ok { OnOk result (reverse entries.new ≡ entry.now ∷ reverse entries.old) }
+    ensures err { OnErr result (entries.new ≡ entries.old) }
+    ensures index { OnOk result (IsIndexOf index.old (reverse entries.old) → IsIndexOf index.new (entry.now ∷ reverse entries.old)) }
+    ensures agents { OnOk result (AreAgentsOf agents.old (reverse entries.old) → AreAgentsOf agents.new (entry.now ∷ reverse entries.old)) }
+{
+    let kept = entry.copy(alloc)?;
+    let noted = entries.as_slice();
+    let first = is_first(noted);
+    let place = next_place(noted);
+    index.learn(alloc, entry, first)?;
+    agents.learn(alloc, entry, place)?;
+    entries.push(kept)
+}
+
+impl Evidence {
+    /// Evidence of a seat that made no call. It takes no memory.
+    pub fn new(alloc: Global) -> Evidence
+        ensures { result ≡ [] }
+    {
+        Evidence {
+            alloc,
+            entries: Items::new(alloc),
+            index: Index::new(alloc),
+            agents: Agents::new(alloc),
+        }
+    }
+
+    /// Puts one more entry behind the others. Where memory is wanting it is not noted, and later
+    /// judgements read the entries.
+    pub fn note(&mut self, entry: &Entry) -> Result<(), OutOfMemory>
+        ensures ok { OnOk result (self.new ≡ entry.now ∷ self.old) }
+        ensures err { OnErr result (self.new ≡ self.old) }
+    {
+        let alloc = self.alloc;
+        match take(
+            alloc,
+            &mut self.entries,
+            &mut self.index,
+            &mut self.agents,
+            entry,
+        ) {
+            Ok(()) => Ok(()),
+            Err(OutOfMemory) => {
+                self.index = Index::lost(alloc);
+                self.agents = Agents::lost(alloc);
+                Err(OutOfMemory)
+            }
+        }
+    }
+
+    /// Whether the places show that an agent's request is licensed.
+    fn shows_agent(&self, kind: SeatKind, request: &Request) -> bool
+        ensures { IsTrue result → Licensed kind self.now request.now }
+    {
+        agent_shown(
+            &self.agents,
+            &self.index,
+            self.entries.as_slice(),
+            kind,
+            request,
+        )
+    }
+
+    /// Whether the index shows that the request is licensed.
+    fn shows(&self, kind: SeatKind, request: &Request) -> bool
+        ensures { IsTrue result → Licensed kind self.now request.now }
+    {
+        if is_shown(&self.index, kind, request) {
+            return true;
+        }
+        self.shows_agent(kind, request)
+    }
+
+    /// Ok exactly where a seat of this kind may make the request after the entries that were noted; else
+    /// the rule that refuses it.
+    pub fn judge(&self, kind: SeatKind, request: &Request) -> Result<(), LicenceRule>
+        ensures { MatchResult result (λ _. Licensed kind self.now request.now) (IsRefusedBy kind self.now request.now) }
+    {
+        if self.shows(kind, request) {
+            return Ok(());
+        }
+        licensed(kind, self.entries.as_slice(), request)
+    }
+}

@@ -1,0 +1,7 @@
+pub mod Absorbing
+pub mod Growing
+pub mod Licences
+pub mod Paging
+pub mod Reading
+pub mod Rows
+pub mod Telling

@@ -1,0 +1,5 @@
+pub mod Hearing
+pub mod Order
+pub mod Putting
+pub mod Since
+pub mod Uses
