@@ -1,2 +1,2 @@
-pub mod KindFind
+pub mod KindSearch
 pub mod Scans

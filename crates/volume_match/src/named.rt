@@ -4,11 +4,13 @@ ghost use Rattle.std.specs.Prelude.{◌≡◌, true, None, IfSome, IfNone, slice
 ghost use Rattle.std.specs.Option.{option_copied};
 ghost use Rattle.kube_types.specs.Keys.{row_at, rows_of};
 ghost use Rattle.volume_match.specs.Named.{key_at, has_key_at};
+ghost use Rattle.volume_match.specs.Steps.Search.{key_order_at};
 
 use kube_types::key::{kind_index, kind_of, meta_of};
 use kube_types::lookup::Lookup;
 use kube_types::objects::Object;
 use kube_types::parts::Kind;
+use std::cmp::Ordering;
 
 /// The place, among the objects of the kind, of the one with this namespace and name.
 pub fn place_named<L: Lookup>(lookup: &L, kind: Kind, namespace: &str, name: &str) -> Option<usize>
@@ -17,9 +19,15 @@ pub fn place_named<L: Lookup>(lookup: &L, kind: Kind, namespace: &str, name: &st
     ensures there { IfSome result (λ place. has_key_at kind namespace.now name.now (slice_get (rows_of kind (L.rows lookup.now)) place) ≡ true) }
     ensures none { IfNone result (row_at (key_at kind namespace.now name.now) (L.rows lookup.now) ≡ None) }
 {
-    for place in 0..lookup.count(kind) {
-        if is_named(lookup.at(kind, place), kind, namespace, name) {
-            return Some(place);
+    let mut low = 0;
+    let mut high = lookup.count(kind);
+    // The objects of a kind stand in the order of namespace and name: each look leaves half of them.
+    while low < high {
+        let middle = low + (high - low) / 2;
+        match key_order(lookup.at(kind, middle), kind, namespace, name) {
+            Ordering::Less => low = middle + 1,
+            Ordering::Equal => return Some(middle),
+            Ordering::Greater => high = middle,
         }
     }
     None
@@ -40,18 +48,18 @@ pub fn row_named<'a, L: Lookup>(
     }
 }
 
-fn is_named(object: Option<&Object>, kind: Kind, namespace: &str, name: &str) -> bool
-    ensures { result ≡ has_key_at kind namespace.now name.now (option_copied object.entry) }
+/// The order of the object's key and of the key of these parts; past the last object all is after.
+fn key_order(object: Option<&Object>, kind: Kind, namespace: &str, name: &str) -> Ordering
+    ensures { result ≡ key_order_at kind namespace.now name.now (option_copied object.entry) }
 {
     match object {
-        None => false,
+        None => Ordering::Greater,
         Some(object) => {
             let meta = meta_of(object);
             kind_index(kind_of(object))
                 .cmp(&kind_index(kind))
                 .then(meta.namespace.as_str().cmp(namespace))
                 .then(meta.name.as_str().cmp(name))
-                .is_eq()
         }
     }
 }
