@@ -32,6 +32,9 @@ const ONE_WRITER: Modes = Modes {
     rwop: false,
 };
 
+/// More than any run of the bench comes to.
+const MOST_SERIALS: u64 = 1_000_000_000;
+
 /// What the binder was told, the version of the store, and the judgements.
 #[derive(Drop)]
 struct Bench {
@@ -54,10 +57,11 @@ struct Pair {
 }
 
 fn meta(alloc: Global, namespace: &str, name: &str, number: u64) -> Result<Meta, OutOfMemory> {
+    let serial = if number < MOST_SERIALS { number } else { 0 };
     Ok(Meta {
         namespace: Text::new(alloc, namespace)?,
         name: Text::new(alloc, name)?,
-        uid: Some(Uid::from_serial(number)),
+        uid: Some(Uid::from_serial(serial)),
         version: number,
         created: Text::new(alloc, "2026-01-01T08:00:00Z")?,
         deleted: None,
