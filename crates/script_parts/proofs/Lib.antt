@@ -1,0 +1,3 @@
+mod Building
+mod Computed
+pub mod Readable

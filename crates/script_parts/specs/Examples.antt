@@ -1,0 +1,147 @@
+-- Examples of the definitions: cases that hold, and cases beside them that do not. A choice of this project.
+use Rattle.std.specs.Prelude.{ℕ, ◌≡◌, ◌≢◌, true, false, List, [], ◌∷◌, Some, None, codes}
+use Rattle.kube_types.specs.declared.objects.Meta.{Meta}
+use Rattle.kube_types.specs.declared.objects.Object.{Object}
+use Rattle.kube_types.specs.declared.objects.Object.TheVariants.{Node, Pod}
+use Rattle.kube_types.specs.declared.parts.Kind.TheVariants as kinds
+use Rattle.call_types.specs.declared.entry.Entry.{Entry}
+use Rattle.call_types.specs.declared.request.Request.TheVariants as requests
+use Rattle.call_types.specs.declared.request.SeatKind.TheVariants as seats
+use Rattle.script_lines.specs.declared.actors.Actor.{Actor}
+use Rattle.script_lines.specs.declared.actors.Actor.TheVariants.{Worker, Agent}
+use Rattle.script_lines.specs.declared.actors.WorkerKind.{WorkerKind}
+use Rattle.script_lines.specs.declared.actors.WorkerKind.TheVariants as workers
+use Rattle.script_lines.specs.declared.actors.WorkerNumber.{WorkerNumber}
+use Rattle.script_lines.specs.declared.actors.WorkerNumber.TheVariants.{One, Two, Three}
+use Rattle.script_text.specs.declared.script.Line.{Line}
+use Rattle.script_text.specs.declared.script.Line.TheVariants as lines
+use Rattle.script_text.specs.declared.script.Script.{Script}
+use Rattle.script_parts.specs.declared.loss.Fate.TheVariants.{Told, LostBefore, LostAfter}
+use Rattle.script_parts.specs.declared.loss.Loss.{Loss}
+use Rattle.script_parts.specs.Budget.{at_most, faults_ahead, first_budget, most_budget, raise_for, raised, size_of_all}
+use Rattle.script_parts.specs.Fates.{fate_of}
+use Rattle.script_parts.specs.Limits.{AreBuilt, AreWithinLimits, IsReadable, first_unbuilt}
+use Rattle.script_parts.specs.Parts.{drain_seats, kind_of, lives_of, part_of}
+
+abbrev pub worker : WorkerKind → WorkerNumber → Actor
+worker kind number = Worker (record { kind = kind; number = number })
+
+abbrev pub binder_1 : Actor
+binder_1 = worker workers.Binder One
+
+abbrev pub binder_2 : Actor
+binder_2 = worker workers.Binder Two
+
+abbrev pub binder_3 : Actor
+binder_3 = worker workers.Binder Three
+
+abbrev pub ops_1 : Actor
+ops_1 = worker workers.Ops One
+
+abbrev pub script_of : List (List ℕ) → List Line → Script
+script_of nodes ls = record { setup = record { pools = []; faults = []; imports = [] }; lines = ls; node_names = nodes; sizes = [] }
+
+-- ---- what becomes of calls
+
+abbrev pub two_losses : List Loss
+two_losses = record { call = 2; after = true } ∷ record { call = 4; after = false } ∷ []
+
+pub record FateExamples : Type 0 where
+  pub told_before_them : fate_of two_losses 1 ≡ Told
+  pub lost_after : fate_of two_losses 2 ≡ LostAfter
+  pub told_between_them : fate_of two_losses 3 ≡ Told
+  pub lost_before : fate_of two_losses 4 ≡ LostBefore
+  pub not_lost_the_other_way : fate_of two_losses 4 ≢ LostAfter
+
+-- ---- the parts of actors
+
+-- turns of the first binder, which is restarted twice and loses two calls, and of the third, which is restarted once; the
+-- second has no turn, though it is restarted
+abbrev pub two_binders : Script
+two_binders = script_of (codes "n1" ∷ codes "n2" ∷ []) (
+    lines.Turn binder_3 9 ∷ lines.Turn binder_1 5 ∷ lines.Restart binder_1 3 ∷ lines.Lose binder_1 2 true ∷ lines.Restart binder_2 1
+    ∷ lines.Lose binder_1 4 false ∷ lines.Restart binder_3 7 ∷ lines.Restart binder_1 1 ∷ lines.Drain ∷ [])
+
+-- the same, with a turn of a later kind
+abbrev pub with_ops : Script
+with_ops = script_of (codes "n1" ∷ []) (lines.Turn ops_1 1 ∷ lines.Turn binder_1 5 ∷ lines.Restart binder_1 3 ∷ [])
+
+pub record PartExamples : Type 0 where
+  pub the_first_begins_after_the_users : (part_of two_binders binder_1).first ≡ 5
+  pub a_life_more_for_each_restart : lives_of (part_of two_binders binder_1) ≡ 3
+  pub restarts_in_the_order_of_lines : (part_of two_binders binder_1).restarts ≡ 3 ∷ 1 ∷ []
+  pub the_lost_calls : (part_of two_binders binder_1).losses ≡ two_losses
+  pub losses_are_of_one_actor : (part_of two_binders binder_3).losses ≡ []
+  pub without_turns_it_has_no_life : lives_of (part_of two_binders binder_2) ≡ 0
+  pub and_takes_no_seat : (part_of two_binders binder_2).first ≡ 8
+  pub the_next_begins_after_all_lives : (part_of two_binders binder_3).first ≡ 8
+  pub not_after_the_first_life_alone : (part_of two_binders binder_3).first ≢ 6
+  pub not_in_the_order_of_lines : (part_of two_binders binder_3).first ≢ 5
+  pub later_kinds_come_later : (part_of with_ops ops_1).first ≡ 7
+  pub its_kind : (part_of with_ops ops_1).kind ≡ seats.Ops
+  pub agents_have_theirs : kind_of (Agent (codes "n1")) ≡ seats.Agent
+
+pub record SeatExamples : Type 0 where
+  pub drains_come_after_all_lives : drain_seats two_binders ≡ 10 ∷ 11 ∷ 12 ∷ 13 ∷ 14 ∷ 15 ∷ 16 ∷ []
+  pub a_seat_for_each_node : drain_seats (script_of (codes "n1" ∷ []) []) ≡ 5 ∷ 6 ∷ 7 ∷ 8 ∷ 9 ∷ 10 ∷ []
+  pub an_actor_that_is_not_built_counts : drain_seats with_ops ≢ 7 ∷ 8 ∷ 9 ∷ 10 ∷ 11 ∷ 12 ∷ []
+
+-- ---- budgets
+
+abbrev pub some_meta : Meta
+some_meta = record { namespace = []; name = codes "a"; uid = None; version = 0; created = []; deleted = None; labels = []; annotations = []; finalizers = [] }
+
+abbrev pub some_node : Object
+some_node = Node (record { meta = some_meta; extra = [] })
+
+abbrev pub two_claims : Object
+two_claims = Pod (record { meta = some_meta; claims = codes "x" ∷ codes "y" ∷ []; node = []; extra = [] })
+
+abbrev pub no_entries : List Entry
+no_entries = []
+
+abbrev pub with_faults : Script
+with_faults = record (script_of [] []) { setup = record { pools = []; faults = 1 ∷ 2 ∷ []; imports = [] } }
+
+pub record BudgetExamples : Type 0 where
+  pub an_object_counts_one : size_of_all (some_node ∷ []) ≡ 1
+  pub a_pod_counts_its_claims : size_of_all (some_node ∷ two_claims ∷ []) ≡ 4
+  pub each_pod_by_itself : size_of_all (two_claims ∷ two_claims ∷ []) ≢ 4
+  pub faults_behind_do_not_count : faults_ahead 2 (1 ∷ 2 ∷ 3 ∷ []) ≡ 1
+  pub two_objects_and_a_fault : raise_for 2 1 ≡ 4608
+  pub an_empty_world : raised None two_binders.setup no_entries 0 ≡ 2048
+  pub faults_ahead_raise_it : raised None with_faults.setup no_entries 0 ≡ 6144
+  pub it_grows_at_each_drain : raised None two_binders.setup no_entries 2048 ≡ 4096
+  pub never_above_the_most : raised None two_binders.setup no_entries 133000 ≡ 133120
+  pub not_by_the_whole_there : raised None two_binders.setup no_entries 133000 ≢ 135048
+  pub up_to_the_most : at_most most_budget 133120 ≡ 133120
+  pub a_given_one_stays : raised (Some 5) two_binders.setup no_entries 5 ≡ 5
+  pub also_above_the_most : raised (Some 200000) two_binders.setup no_entries 200000 ≡ 200000
+  pub nothing_before_the_first_drain : first_budget None ≡ 0
+  pub but_what_was_given : first_budget (Some 7) ≡ 7
+
+-- ---- the limits
+
+abbrev pub user_line : ℕ → Line
+user_line user = lines.Call user (requests.List kinds.Pod None)
+
+pub record LimitExamples : Type 0 where
+  pub within : IsReadable two_binders
+  pub the_last_user_and_the_most_calls : AreWithinLimits (user_line 4 ∷ lines.Turn binder_1 1000 ∷ [])
+  pub no_fifth_user : AreWithinLimits (lines.Drain ∷ user_line 5 ∷ []) → ⊥
+  pub no_longer_turn : IsReadable (script_of [] (lines.Turn binder_1 1001 ∷ [])) → ⊥
+  pub no_ninth_node : IsReadable (script_of ([] ∷ [] ∷ [] ∷ [] ∷ [] ∷ [] ∷ [] ∷ [] ∷ [] ∷ []) []) → ⊥
+  pub no_imports : IsReadable (record (script_of [] []) { setup = record { pools = []; faults = []; imports = some_node ∷ [] } }) → ⊥
+
+-- ---- which actors are built
+
+pub record BuiltExamples : Type 0 where
+  pub nothing_to_build : first_unbuilt [] ≡ None
+  pub drains_and_binders_are_built : first_unbuilt two_binders.lines ≡ None
+  pub so_are_they : AreBuilt two_binders.lines
+  pub the_first_is_named : first_unbuilt (lines.Drain ∷ lines.Turn ops_1 3 ∷ lines.Turn ops_1 4 ∷ []) ≡ Some 1
+  pub not_the_last : first_unbuilt (lines.Drain ∷ lines.Turn ops_1 3 ∷ lines.Turn ops_1 4 ∷ []) ≢ Some 2
+  pub a_lost_call_counts : first_unbuilt (lines.Lose ops_1 1 true ∷ []) ≡ Some 0
+  pub a_restart_counts : first_unbuilt (lines.Restart ops_1 1 ∷ []) ≡ Some 0
+  pub agents_are_not_built : first_unbuilt (lines.Turn (Agent (codes "n1")) 1 ∷ []) ≡ Some 0
+  pub not_all_built : AreBuilt with_ops.lines → ⊥

@@ -1,0 +1,5 @@
+pub mod Budget
+pub mod Examples
+pub mod Fates
+pub mod Limits
+pub mod Parts

@@ -1,0 +1,59 @@
+-- The scripts that can be replayed: those that keep the limits of the format, and name actors that are built.
+-- A choice of this project.
+use Rattle.std.specs.Prelude.{ℕ, ◌≡◌, ◌≤◌, ◌<◌, ◌+◌, Bool, true, false, List, [], ◌∷◌, Option, Some, None, length, ⊤, if◌then◌else◌}
+use Rattle.script_lines.specs.declared.actors.WorkerKind.{WorkerKind}
+use Rattle.script_lines.specs.declared.actors.WorkerKind.TheVariants as workers
+use Rattle.script_lines.specs.declared.actors.Actor.{Actor}
+use Rattle.script_lines.specs.declared.actors.Actor.TheVariants.{Worker, Agent}
+use Rattle.script_text.specs.declared.script.Line.{Line}
+use Rattle.script_text.specs.declared.script.Line.TheVariants.{Call, Lose, Restart, Turn, Drain}
+use Rattle.script_text.specs.declared.script.Script.{Script}
+
+-- what the reader of scripts gives for every line: users 1 to 4, and turns of at most 1,000 calls
+abbrev pub IsWithinLimits : Line → Type 0
+IsWithinLimits (Call user request) = user < 5
+IsWithinLimits (Turn actor calls) = calls ≤ 1000
+IsWithinLimits line = ⊤
+
+abbrev pub AreWithinLimits : List Line → Type 0
+AreWithinLimits [] = ⊤
+AreWithinLimits (line ∷ lines) = IsWithinLimits line × AreWithinLimits lines
+
+-- what the reader of scripts gives: no imports, at most 4,096 lines, at most 8 nodes
+pub record IsReadable (script : Script) : Type 0 where
+  pub imports : script.setup.imports ≡ []
+  pub lines : AreWithinLimits script.lines
+  pub few : length script.lines ≤ 4096
+  pub nodes : length script.node_names ≤ 8
+
+-- the actors of this kind are built. Each later kind turns its line
+abbrev pub is_kind_built : WorkerKind → Bool
+is_kind_built workers.Binder = true
+is_kind_built workers.Ops = false
+is_kind_built workers.Scheduler = false
+is_kind_built workers.Claims = false
+is_kind_built workers.Volumes = false
+
+abbrev pub is_actor_built : Actor → Bool
+is_actor_built (Worker w) = is_kind_built w.kind
+is_actor_built (Agent node) = false
+
+-- the line names no actor that is not built
+abbrev pub is_line_built : Line → Bool
+is_line_built (Call user request) = true
+is_line_built (Lose actor call after) = is_actor_built actor
+is_line_built (Restart actor after) = is_actor_built actor
+is_line_built (Turn actor calls) = is_actor_built actor
+is_line_built Drain = true
+
+abbrev pub AreBuilt : List Line → Type 0
+AreBuilt [] = ⊤
+AreBuilt (line ∷ lines) = (is_line_built line ≡ true) × AreBuilt lines
+
+-- the place of the first line that names an actor that is not built, the places counted from here on; none where each is
+abbrev pub unbuilt_from : ℕ → List Line → Option ℕ
+unbuilt_from place [] = None
+unbuilt_from place (line ∷ lines) = if is_line_built line then unbuilt_from (place + 1) lines else Some place
+
+abbrev pub first_unbuilt : List Line → Option ℕ
+first_unbuilt lines = unbuilt_from 0 lines

@@ -1,0 +1,11 @@
+mod Beginning
+mod Casting
+mod Calling
+mod Lives
+mod Moving
+mod Needs
+mod Orders
+mod Since
+mod Staging
+mod Stepping
+mod Turning

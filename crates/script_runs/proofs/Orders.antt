@@ -1,0 +1,97 @@
+-- Lists of parts in the order of their seats, with names of their own; and lists of players of which one has moved.
+use Rattle.std.proofs.Common.{◌≡◌, ◌≢◌, ℕ, ◌<◌, ◌≤◌, ◌+◌, zero, suc, List, [], ◌∷◌, length, set, false, Some, refl, sym, ◌∙◌, ap, subst, arith}
+use Rattle.std.specs.Prelude.{bytes_eq, slice_get, ⊤}
+use Rattle.model_laws.proofs.Lists.{none_some, one}
+use Rattle.script_parts.specs.declared.part.Part.{Part}
+use Rattle.script_runs.specs.declared.player.Player.{Player}
+use Rattle.script_runs.specs.Steps.Playing.{IsLife}
+use Rattle.script_parts.specs.Parts.{lives_of}
+use Rattle.script_runs.specs.Steps.Standing.{parts_in}
+
+-- ---- the seats
+
+abbrev pub AreInOrder : ℕ → List Part → ℕ → Type 0
+AreInOrder low [] high = low ≤ high
+AreInOrder low (p ∷ ps) high = (low ≤ p.first) × AreInOrder (p.first + lives_of p) ps high
+
+order_low : (low : ℕ) (ps : List Part) (high : ℕ) → AreInOrder low ps high → low ≤ high
+order_low low [] high order = order
+order_low low (p ∷ ps) high order = let h = order_low (p.first + lives_of p) ps high order.1 in let l = order.0 in omega (arith, h, l)
+
+-- a life's seat is between the ends
+pub life_between : (low : ℕ) (ps : List Part) (high i : ℕ) (p : Part) (seat : ℕ) → AreInOrder low ps high → slice_get ps i ≡ Some p → IsLife p seat → (low ≤ seat) × (seat < high)
+life_between low [] high i p seat order at life = none_some at
+life_between low (x ∷ ps) high zero p seat order at life =
+    let h = order_low (x.first + lives_of x) ps high order.1 in
+    let own : IsLife x seat = subst (λ (y : Part). IsLife y seat) (sym (one x p at)) life in
+    let l = order.0 in
+    let a = own.0 in
+    let b = own.1 in
+    (omega (arith, l, a), omega (arith, h, b))
+life_between low (x ∷ ps) high (suc i) p seat order at life =
+    let rest = life_between (x.first + lives_of x) ps high i p seat order.1 at life in
+    let l = order.0 in
+    let a = rest.0 in
+    (omega (arith, l, a), rest.1)
+
+-- a seat is one of a life of one part alone
+pub one_owner : (low : ℕ) (ps : List Part) (high i j : ℕ) (p q : Part) (seat : ℕ) → AreInOrder low ps high → slice_get ps i ≡ Some p → slice_get ps j ≡ Some q → IsLife p seat → IsLife q seat → i ≡ j
+one_owner low [] high i j p q seat order at there own other = none_some at
+one_owner low (x ∷ ps) high zero zero p q seat order at there own other = refl
+one_owner low (x ∷ ps) high zero (suc j) p q seat order at there own other =
+    let later = (life_between (x.first + lives_of x) ps high j q seat order.1 there other).0 in
+    let mine : IsLife x seat = subst (λ (y : Part). IsLife y seat) (sym (one x p at)) own in
+    let b = mine.1 in
+    absurd (omega (arith, later, b))
+one_owner low (x ∷ ps) high (suc i) zero p q seat order at there own other =
+    let later = (life_between (x.first + lives_of x) ps high i p seat order.1 at own).0 in
+    let mine : IsLife x seat = subst (λ (y : Part). IsLife y seat) (sym (one x q there)) other in
+    let b = mine.1 in
+    absurd (omega (arith, later, b))
+one_owner low (x ∷ ps) high (suc i) (suc j) p q seat order at there own other = ap suc (one_owner (x.first + lives_of x) ps high i j p q seat order.1 at there own other)
+
+-- ---- the names
+
+abbrev pub DiffersFrom : List ℕ → List (List ℕ) → Type 0
+DiffersFrom name [] = ⊤
+DiffersFrom name (other ∷ names) = (bytes_eq name other ≡ false) × (bytes_eq other name ≡ false) × DiffersFrom name names
+
+abbrev pub AllDiffer : List (List ℕ) → Type 0
+AllDiffer [] = ⊤
+AllDiffer (name ∷ names) = DiffersFrom name names × AllDiffer names
+
+differs_at : (name : List ℕ) (names : List (List ℕ)) (i : ℕ) (other : List ℕ) → DiffersFrom name names → slice_get names i ≡ Some other → (bytes_eq name other ≡ false) × (bytes_eq other name ≡ false)
+differs_at name [] i other all at = none_some at
+differs_at name (x ∷ names) zero other all at = subst (λ y. (bytes_eq name y ≡ false) × (bytes_eq y name ≡ false)) (one x other at) (all.0, all.1)
+differs_at name (x ∷ names) (suc i) other all at = differs_at name names i other all.2 at
+
+pub other_name : (names : List (List ℕ)) (i j : ℕ) (a b : List ℕ) → AllDiffer names → slice_get names i ≡ Some a → slice_get names j ≡ Some b → i ≢ j → bytes_eq a b ≡ false
+other_name [] i j a b all at there differs = none_some at
+other_name (x ∷ names) zero zero a b all at there differs = absurd (differs refl)
+other_name (x ∷ names) zero (suc j) a b all at there differs = subst (λ y. bytes_eq y b ≡ false) (one x a at) (differs_at x names j b all.0 there).0
+other_name (x ∷ names) (suc i) zero a b all at there differs = subst (λ y. bytes_eq a y ≡ false) (one x b there) (differs_at x names i a all.0 at).1
+other_name (x ∷ names) (suc i) (suc j) a b all at there differs = other_name names i j a b all.1 at there (λ e. differs (ap suc e))
+
+-- ---- one player in place of another
+
+pub get_set_same : (xs : List Player) (i : ℕ) (x : Player) → i < length xs → slice_get (set xs i x) i ≡ Some x
+get_set_same [] i x lt = absurd (omega (arith, lt))
+get_set_same (y ∷ xs) zero x lt = refl
+get_set_same (y ∷ xs) (suc i) x lt = get_set_same xs i x (omega (arith, lt))
+
+pub get_set_other : (xs : List Player) (i j : ℕ) (x : Player) → j ≢ i → slice_get (set xs i x) j ≡ slice_get xs j
+get_set_other [] i j x other = refl
+get_set_other (y ∷ xs) zero zero x other = absurd (other refl)
+get_set_other (y ∷ xs) zero (suc j) x other = refl
+get_set_other (y ∷ xs) (suc i) zero x other = refl
+get_set_other (y ∷ xs) (suc i) (suc j) x other = get_set_other xs i j x (λ e. other (ap suc e))
+
+pub parts_set : (xs : List Player) (i : ℕ) (x new : Player) → slice_get xs i ≡ Some x → new.part ≡ x.part → parts_in (set xs i new) ≡ parts_in xs
+parts_set [] i x new at same = refl
+parts_set (y ∷ xs) zero x new at same = ap (λ p. p ∷ parts_in xs) (same ∙ ap (λ (z : Player). z.part) (sym (one y x at)))
+parts_set (y ∷ xs) (suc i) x new at same = ap (λ ps. y.part ∷ ps) (parts_set xs i x new at same)
+
+pub part_at_place : (xs : List Player) (i : ℕ) (x : Player) → slice_get xs i ≡ Some x → slice_get (parts_in xs) i ≡ Some x.part
+part_at_place [] i x at = none_some at
+part_at_place (y ∷ xs) zero x at = ap (λ (z : Player). Some z.part) (one y x at)
+part_at_place (y ∷ xs) (suc i) x at = part_at_place xs i x at

@@ -1,0 +1,298 @@
+-- What the moves of a script leave standing.
+use Rattle.std.proofs.Common.{◌≡◌, ◌≢◌, ◌⊎◌, ℕ, ◌<◌, ◌≤◌, ◌+◌, ◌-◌, zero, suc, List, [], ◌∷◌, length, map, set, Bool, true, false, true≢false, Option, Some, inl, inr, refl, sym, ◌∙◌, ap, subst, arith}
+use Rattle.std.specs.Prelude.{◌==◌, bytes_eq, slice_get}
+use Rattle.std.proofs.lemmas.Bool.Decides.{Decides-eqb}
+use Rattle.std.proofs.lemmas.Slice.Eq.{bytes_eq-Decides}
+use Rattle.std.proofs.lemmas.Option.{slice_get_within}
+use Rattle.call_types.specs.declared.entry.Entry.{Entry}
+use Rattle.call_types.specs.declared.request.Request.{Request}
+use Rattle.call_types.specs.declared.request.SeatKind.TheVariants as seats
+use Rattle.call_types.specs.declared.reply.Reply.{Reply}
+use Rattle.binder_model.specs.Told.{own}
+use Rattle.model_laws.proofs.Evidence.{own_other}
+use Rattle.model_laws.proofs.Lists.{none_some, one}
+use Rattle.worker_core.specs.Stands.{StandsFor}
+use Rattle.worker_threads.specs.declared.drainers.Drainer.{Drainer}
+use Rattle.worker_threads.specs.Drainers.{AreStanding, seats_of}
+use Rattle.worker_threads.specs.Longer.{AreToldOf, IsLonger, IsOneOf}
+use Rattle.script_text.specs.declared.script.Line.{Line}
+use Rattle.script_text.specs.declared.script.Script.{Script}
+use Rattle.script_parts.specs.declared.part.Part.{Part}
+use Rattle.script_runs.specs.declared.player.Player.{Player}
+use Rattle.script_runs.specs.declared.stage.Stage.{Stage}
+use Rattle.script_runs.specs.Calls.{AreCalls, seat_at}
+use Rattle.binder_model.specs.World.{world}
+use Rattle.settle_check.specs.SoFar.{IsSettledSoFar}
+use Rattle.script_parts.specs.Budget.{raised}
+use Rattle.script_parts.specs.Parts.{drain_seat, drain_seats}
+use Rattle.script_runs.specs.Replays.{IsDrain, IsTurn, IsUserCall, Progress, and_idle, and_made}
+use Rattle.script_runs.specs.Steps.Playing.{HasMadeAll, HasMadeFewer, HasTurned, IsLife, Plays, StandsSince}
+use Rattle.script_runs.specs.Steps.Standing.{HasMoved, IsBudget, Leads, Stands, parts_from, parts_in, seat_of_drains}
+use Rattle.script_runs.proofs.Lives.{seat_within}
+use Rattle.script_runs.proofs.Orders.{AllDiffer, AreInOrder, get_set_other, get_set_same, life_between, one_owner, other_name, part_at_place, parts_set}
+
+-- ---- the parts of a script
+
+pub in_order : (lines : List Line) → AreInOrder 5 (parts_from lines) (seat_of_drains lines)
+in_order lines = (omega arith, (omega arith, (omega arith, (omega arith, omega arith))))
+
+abbrev names_in : List Part → List (List ℕ)
+names_in ps = map (λ (p : Part). p.name) ps
+
+names_differ : (lines : List Line) → AllDiffer (names_in (parts_from lines))
+names_differ lines = ((refl, refl, (refl, refl, (refl, refl, tt))), ((refl, refl, (refl, refl, tt)), ((refl, refl, tt), (tt, tt))))
+
+name_at : (ps : List Part) (i : ℕ) (p : Part) → slice_get ps i ≡ Some p → slice_get (names_in ps) i ≡ Some p.name
+name_at [] i p at = none_some at
+name_at (x ∷ ps) zero p at = ap (λ (y : Part). Some y.name) (one x p at)
+name_at (x ∷ ps) (suc i) p at = name_at ps i p at
+
+-- ---- entries of other seats
+
+-- the life that a player is at is one of its part
+life_at : (x : Player) (past : List Entry) (idle : ℕ → List Entry) → x.part.named ≡ true → Plays x past idle → IsLife x.part x.seat
+life_at x past idle named plays = let w = seat_within x.part (x.made + 1) named in let r = plays.reached in (plays.first, omega (arith, w, r))
+
+-- entries of other seats leave a player
+pub plays_on : (x : Player) (h later : List Entry) (idle then_idle : ℕ → List Entry) → x.part.named ≡ true → ((seat : ℕ) → IsLife x.part seat → own seat later ≡ own seat h) → ((seat : ℕ) → IsLife x.part seat → then_idle seat ≡ idle seat) → Plays x h idle → Plays x later then_idle
+plays_on x h later idle then_idle named same_own same_idle plays =
+    let at = life_at x h idle named plays in
+    record {
+      first = plays.first;
+      reached = plays.reached;
+      since = subst (λ m. StandsSince x.actor (then_idle x.seat) m) (sym (same_own x.seat at)) (subst (λ m. StandsSince x.actor m (own x.seat h)) (sym (same_idle x.seat at)) plays.since);
+      unborn = λ s after below.
+          let life : IsLife x.part s = (let a = at.0 in omega (arith, a, after), below) in
+          let none = plays.unborn s after below in
+          (same_own s life ∙ none.0, same_idle s life ∙ none.1);
+    }
+
+drainer_seat : (ds : List Drainer) (i : ℕ) (d : Drainer) → slice_get ds i ≡ Some d → IsOneOf (seats_of ds) d.seat
+drainer_seat [] i d at = none_some at
+drainer_seat (x ∷ ds) zero d at = inl (ap (λ (y : Drainer). y.seat) (one x d at))
+drainer_seat (x ∷ ds) (suc i) d at = inr (drainer_seat ds i d at)
+
+-- and the drainers
+pub drainers_on : (ds : List Drainer) (seat : ℕ) (h later : List Entry) → ((s : ℕ) → IsOneOf (seats_of ds) s → s ≡ seat) → own seat later ≡ own seat h → AreStanding ds h → AreStanding ds later
+drainers_on ds seat h later are same stands place d at =
+    let e = are d.seat (drainer_seat ds place d at) in
+    subst (λ s. StandsFor d.actor (own s later)) (sym e) (subst (λ m. StandsFor d.actor m) (sym same) (subst (λ s. StandsFor d.actor (own s h)) e (stands place d at)))
+
+-- ---- a user's call
+
+module _ (script : Script) (option : Option ℕ) (user : ℕ) (request : Request) (reply : Reply) (old new : Stage) where
+  abbrev entry : Entry
+  entry = record { seat = user; kind = seats.User; request = request; reply = reply; told = true }
+
+  pub user_moved : user < 5 → new.world.past ≡ entry ∷ old.world.past → new.world.setup ≡ old.world.setup → new.players ≡ old.players → new.drainers ≡ old.drainers → new.drained ≡ old.drained → new.budget ≡ old.budget
+      → HasMoved script option (IsUserCall user request) old new
+  user_moved low past setup players drainers drained budget p stands = record {
+    after = record p { past = entry ∷ p.past };
+    move = record { reply = reply; is = refl };
+    stands = record {
+      past = past ∙ ap (λ h. entry ∷ h) stands.past;
+      setup = setup ∙ stands.setup;
+      parts = ap (λ (xs : _). parts_in xs.items) players ∙ stands.parts;
+      plays = λ place x at named.
+          let there = ap (λ (xs : _). slice_get xs.items place) (sym players) ∙ at in
+          plays_on x old.world.past new.world.past p.idle p.idle named (λ seat life. others seat (above place x there seat life)) (λ seat life. refl) (stands.plays place x there named);
+      made = λ place x at. stands.made place x (ap (λ (xs : _). slice_get xs.items place) (sym players) ∙ at);
+      drainers = subst (λ ds. AreStanding ds new.world.past) (sym drainers) (drainers_on old.drainers (seat_of_drains script.lines) old.world.past new.world.past stands.seats (others (seat_of_drains script.lines) drains_above) stands.drainers);
+      seats = subst (λ ds. (seat : ℕ) → IsOneOf (seats_of ds) seat → seat ≡ seat_of_drains script.lines) (sym drainers) stands.seats;
+      drained = drained ∙ stands.drained;
+      budget = budget ∙ stands.budget;
+      few = let a = stands.few in omega (arith, a, drained, budget);
+      most = subst (IsBudget option) (sym budget) stands.most;
+    };
+  }
+    where
+      others : (seat : ℕ) → 5 ≤ seat → own seat new.world.past ≡ own seat old.world.past
+      others seat high = ap (own seat) past ∙ own_other entry old.world.past seat (λ e. absurd (omega (arith, e, high, low)))
+
+      above : (place : ℕ) (x : Player) → slice_get old.players.items place ≡ Some x → (seat : ℕ) → IsLife x.part seat → 5 ≤ seat
+      above place x there seat life = (life_between 5 (parts_from script.lines) (seat_of_drains script.lines) place x.part seat (in_order script.lines) (ap (λ ps. slice_get ps place) (sym stands.parts) ∙ part_at_place old.players.items place x there) life).0
+
+      drains_above : 5 ≤ seat_of_drains script.lines
+      drains_above = omega arith
+
+-- ---- an actor's turn
+
+same_or_not : (i j : ℕ) → (i ≡ j) ⊎ (i ≢ j)
+same_or_not i j = by (i == j) refl
+  where
+    by : (b : Bool) → (i == j) ≡ b → (i ≡ j) ⊎ (i ≢ j)
+    by true e = inl ((Decides-eqb i j).0 e)
+    by false e = inr (λ is. true≢false (sym ((Decides-eqb i j).1 is) ∙ e))
+
+-- a player of a list in which one has been put is that one, or stands at another place
+pub set_cases : (xs : List Player) (place : ℕ) (after : Player) (j : ℕ) (y : Player) → place < length xs → slice_get (set xs place after) j ≡ Some y → (after ≡ y) ⊎ ((j ≢ place) × (slice_get xs j ≡ Some y))
+set_cases xs place after j y within here = by (same_or_not j place)
+  where
+    by : (j ≡ place) ⊎ (j ≢ place) → (after ≡ y) ⊎ ((j ≢ place) × (slice_get xs j ≡ Some y))
+    by (inl is) = inl (one after y (sym (get_set_same xs place after within) ∙ ap (slice_get (set xs place after)) (sym is) ∙ here))
+    by (inr differs) = inr (differs, sym (get_set_other xs place j after differs) ∙ here)
+
+not_idle : (seat other : ℕ) (mine : List Entry) (idle : ℕ → List Entry) → other ≢ seat → and_idle seat mine idle other ≡ idle other
+not_idle seat other mine idle differs = by (other == seat) refl
+  where
+    by : (b : Bool) → (other == seat) ≡ b → and_idle seat mine idle other ≡ idle other
+    by true e = absurd (differs ((Decides-eqb other seat).0 e))
+    by false e = rw e refl
+
+own_made : (name : List ℕ) (count : ℕ) (made : List ℕ → ℕ) → and_made name count made name ≡ made name + count
+own_made name count made = let same : bytes_eq name name ≡ true = (bytes_eq-Decides name name).1 refl in rw same refl
+
+other_made : (name other : List ℕ) (count : ℕ) (made : List ℕ → ℕ) → bytes_eq other name ≡ false → and_made name count made other ≡ made other
+other_made name other count made differs = rw differs refl
+
+-- one of the players, at its place, has made calls
+pub record HasPlayed (old new : Stage) (place : ℕ) (x after : Player) : Type 0 where
+  pub there : slice_get old.players.items place ≡ Some x
+  pub named : x.part.named ≡ true
+  pub players : new.players.items ≡ set old.players.items place after
+  pub part : after.part ≡ x.part
+  pub setup : new.world.setup ≡ old.world.setup
+  pub drainers : new.drainers ≡ old.drainers
+  pub drained : new.drained ≡ old.drained
+  pub budget : new.budget ≡ old.budget
+
+module _ (script : Script) (option : Option ℕ) (old new : Stage) (place : ℕ) (x after : Player) (played : HasPlayed old new place x after) (p : Progress) (stands : Stands script option p old) where
+  part_there : (j : ℕ) (y : Player) → slice_get old.players.items j ≡ Some y → slice_get (parts_from script.lines) j ≡ Some y.part
+  part_there j y at = ap (λ ps. slice_get ps j) (sym stands.parts) ∙ part_at_place old.players.items j y at
+
+  -- another's seats are no lives of this one
+  not_mine : (j : ℕ) (y : Player) (seat : ℕ) → slice_get old.players.items j ≡ Some y → j ≢ place → IsLife y.part seat → IsLife x.part seat → ⊥
+  not_mine j y seat at differs other mine = differs (one_owner 5 (parts_from script.lines) (seat_of_drains script.lines) j place y.part x.part seat (in_order script.lines) (part_there j y at) (part_there place x played.there) other mine)
+
+  not_drains : IsLife x.part (seat_of_drains script.lines) → ⊥
+  not_drains life = let b = (life_between 5 (parts_from script.lines) (seat_of_drains script.lines) place x.part (seat_of_drains script.lines) (in_order script.lines) (part_there place x played.there) life).1 in absurd (omega (arith, b))
+
+  -- a player of the new stage is the one that made the calls, or one of the old stage at another place
+  player_at : (j : ℕ) (y : Player) → slice_get new.players.items j ≡ Some y → (after ≡ y) ⊎ ((j ≢ place) × (slice_get old.players.items j ≡ Some y))
+  player_at j y at = set_cases old.players.items place after j y (slice_get_within old.players.items place x played.there) (ap (λ xs. slice_get xs j) (sym played.players) ∙ at)
+
+  stands_on : (count : ℕ) (idle : ℕ → List Entry) → after.made ≡ x.made + count → ((seat : ℕ) → (IsLife x.part seat → ⊥) → own seat new.world.past ≡ own seat old.world.past) → ((seat : ℕ) → (IsLife x.part seat → ⊥) → idle seat ≡ p.idle seat)
+      → Plays after new.world.past idle → Stands script option (record p { past = new.world.past; made = and_made x.part.name count p.made; idle = idle }) new
+  stands_on count idle more others same_idle plays = record {
+    past = refl;
+    setup = played.setup ∙ stands.setup;
+    parts = ap parts_in played.players ∙ parts_set old.players.items place x after played.there played.part ∙ stands.parts;
+    plays = λ j y at named. each_plays j y named (player_at j y at);
+    made = λ j y at. each_made j y (player_at j y at);
+    drainers = subst (λ ds. AreStanding ds new.world.past) (sym played.drainers) (drainers_on old.drainers (seat_of_drains script.lines) old.world.past new.world.past stands.seats (others (seat_of_drains script.lines) not_drains) stands.drainers);
+    seats = subst (λ ds. (seat : ℕ) → IsOneOf (seats_of ds) seat → seat ≡ seat_of_drains script.lines) (sym played.drainers) stands.seats;
+    drained = played.drained ∙ stands.drained;
+    budget = played.budget ∙ stands.budget;
+    few = let a = stands.few in let d = played.drained in let b = played.budget in omega (arith, a, d, b);
+    most = subst (IsBudget option) (sym played.budget) stands.most;
+  }
+    where
+      each_plays : (j : ℕ) (y : Player) → y.part.named ≡ true → (after ≡ y) ⊎ ((j ≢ place) × (slice_get old.players.items j ≡ Some y)) → Plays y new.world.past idle
+      each_plays j y named (inl is) = subst (λ z. Plays z new.world.past idle) is plays
+      each_plays j y named (inr other) = plays_on y old.world.past new.world.past p.idle idle named (λ seat life. others seat (not_mine j y seat other.1 other.0 life)) (λ seat life. same_idle seat (not_mine j y seat other.1 other.0 life)) (stands.plays j y other.1 named)
+
+      each_made : (j : ℕ) (y : Player) → (after ≡ y) ⊎ ((j ≢ place) × (slice_get old.players.items j ≡ Some y)) → y.made ≡ and_made x.part.name count p.made y.part.name
+      each_made j y (inl is) = subst (λ z. z.made ≡ and_made x.part.name count p.made z.part.name) is (more ∙ ap (λ n. n + count) (stands.made place x played.there) ∙ sym (own_made x.part.name count p.made) ∙ ap (λ (q : Part). and_made x.part.name count p.made q.name) (sym played.part))
+      each_made j y (inr other) = stands.made j y other.1 ∙ sym (other_made x.part.name y.part.name count p.made (other_name (names_in (parts_from script.lines)) j place y.part.name x.part.name (names_differ script.lines) (name_at (parts_from script.lines) j y.part (part_there j y other.1)) (name_at (parts_from script.lines) place x.part (part_there place x played.there)) other.0))
+
+  calls_at : (count : ℕ) → AreCalls x.part new.world.past (x.made + 1) count old.world.past → AreCalls x.part new.world.past (p.made x.part.name + 1) count p.past
+  calls_at count calls = subst (λ h. AreCalls x.part new.world.past (p.made x.part.name + 1) count h) stands.past (subst (λ n. AreCalls x.part new.world.past (n + 1) count old.world.past) (stands.made place x played.there) calls)
+
+  turned : (calls : ℕ) → HasTurned calls p.idle old.world.past new.world.past x after → Leads script option (IsTurn x.part calls) p new
+  turned calls t = by t.made
+    where
+      by : HasMadeAll calls p.idle old.world.past new.world.past x after ⊎ HasMadeFewer calls p.idle old.world.past new.world.past x after → Leads script option (IsTurn x.part calls) p new
+      by (inl all) = record {
+        after = record p { past = new.world.past; made = and_made x.part.name calls p.made };
+        move = inl (record { past = new.world.past; made = calls_at calls all.calls_are; is = refl });
+        stands = stands_on calls p.idle all.made t.others (λ seat other. refl) all.plays;
+      }
+      by (inr few) = record {
+        after = record p { past = new.world.past; made = and_made x.part.name few.count p.made; idle = and_idle after.seat (own after.seat new.world.past) p.idle };
+        move = inr (record {
+          count = few.count;
+          few = few.few;
+          past = new.world.past;
+          made = calls_at few.count few.calls_are;
+          seat = after.seat;
+          life = few.life ∙ ap (λ m. seat_at x.part (m + few.count + 1)) (stands.made place x played.there);
+          ends = inl few.quiet;
+          is = refl;
+        });
+        stands = stands_on few.count (and_idle after.seat (own after.seat new.world.past) p.idle) few.made t.others (λ seat other. not_idle after.seat seat (own after.seat new.world.past) p.idle (λ e. other (mine seat e))) few.plays;
+      }
+        where
+          mine : (seat : ℕ) → seat ≡ after.seat → IsLife x.part seat
+          mine seat e = subst (IsLife x.part) (sym e) (subst (λ (q : Part). IsLife q after.seat) played.part (life_at after new.world.past (and_idle after.seat (own after.seat new.world.past) p.idle) (ap (λ (q : Part). q.named) played.part ∙ played.named) few.plays))
+
+pub turn_moved : (script : Script) (option : Option ℕ) (calls : ℕ) (old new : Stage) (place : ℕ) (x after : Player) (part : Part) → part ≡ x.part → HasPlayed old new place x after
+    → ((idle : ℕ → List Entry) → Plays x old.world.past idle → HasTurned calls idle old.world.past new.world.past x after) → HasMoved script option (IsTurn part calls) old new
+turn_moved script option calls old new place x after part is played turns p stands =
+    subst (λ q. Leads script option (IsTurn q calls) p new) (sym is) (turned script option old new place x after played p stands calls (turns p.idle (stands.plays place x played.there played.named)))
+
+-- ---- a drain
+
+widen : (some all : List ℕ) (entries : List Entry) → ((seat : ℕ) → IsOneOf some seat → IsOneOf all seat) → AreToldOf some entries → AreToldOf all entries
+widen some all [] more told = tt
+widen some all (e ∷ entries) more told = (more e.seat told.0, told.1, widen some all entries more told.2)
+
+-- what a drain made, as the stage sees it
+pub record HasDrained (script : Script) (option : Option ℕ) (old new : Stage) (made : ℕ) : Type 0 where
+  pub budget : new.budget ≡ raised option old.world.setup old.world.past old.budget
+  pub entries : IsLonger (seats_of old.drainers) made old.world.past new.world.past
+  pub others : (seat : ℕ) → (IsOneOf (seats_of old.drainers) seat → ⊥) → own seat new.world.past ≡ own seat old.world.past
+  pub few : made ≤ new.budget - old.drained
+  pub ends : IsSettledSoFar new.world.setup (world new.world.setup new.world.past) ⊎ (made ≡ new.budget - old.drained)
+  pub none : IsSettledSoFar old.world.setup (world old.world.setup old.world.past) → new.world.past ≡ old.world.past
+  pub standing : AreStanding new.drainers new.world.past
+  pub seats : seats_of new.drainers ≡ seats_of old.drainers
+  pub setup : new.world.setup ≡ old.world.setup
+  pub players : new.players ≡ old.players
+  pub drained : new.drained ≡ old.drained + made
+  pub room : old.drained ≤ new.budget
+  pub most : IsBudget option new.budget
+
+pub drain_moved : (script : Script) (option : Option ℕ) (old new : Stage) (made : ℕ) → drain_seat script ≡ seat_of_drains script.lines → HasDrained script option old new made → HasMoved script option (IsDrain script option) old new
+drain_moved script option old new made seat d p stands = record {
+  after = record p { past = new.world.past; drained = p.drained + made; budget = new.budget };
+  move = record {
+    past = new.world.past;
+    made = made;
+    budget = new.budget;
+    raises = d.budget ∙ ap (λ s. raised option s old.world.past old.budget) stands.setup ∙ ap (λ h. raised option script.setup h old.budget) stands.past ∙ ap (raised option script.setup p.past) stands.budget;
+    entries = subst (λ h. IsLonger (drain_seats script) made h new.world.past) stands.past (record {
+      added = d.entries.added;
+      are = d.entries.are;
+      count = d.entries.count;
+      of_seats = widen (seats_of old.drainers) (drain_seats script) d.entries.added (λ s own. inl (seat ∙ sym (stands.seats s own))) d.entries.of_seats;
+    });
+    few = let f = d.few in let r = d.room in let e = stands.drained in omega (arith, f, r, e);
+    ends = ends d.ends;
+    none = λ settled. d.none (subst (λ s. IsSettledSoFar s (world s old.world.past)) (sym stands.setup) (subst (λ h. IsSettledSoFar script.setup (world script.setup h)) (sym stands.past) settled)) ∙ stands.past;
+    is = refl;
+  };
+  stands = record {
+    past = refl;
+    setup = d.setup ∙ stands.setup;
+    parts = ap (λ (xs : _). parts_in xs.items) d.players ∙ stands.parts;
+    plays = λ place x at named.
+        let there = ap (λ (xs : _). slice_get xs.items place) (sym d.players) ∙ at in
+        plays_on x old.world.past new.world.past p.idle p.idle named (λ s life. d.others s (λ own. below place x there s life (stands.seats s own))) (λ s life. refl) (stands.plays place x there named);
+    made = λ place x at. stands.made place x (ap (λ (xs : _). slice_get xs.items place) (sym d.players) ∙ at);
+    drainers = d.standing;
+    seats = λ s own. stands.seats s (subst (λ ss. IsOneOf ss s) d.seats own);
+    drained = d.drained ∙ ap (λ n. n + made) stands.drained;
+    budget = refl;
+    few = let f = d.few in let r = d.room in let e = d.drained in omega (arith, f, r, e);
+    most = d.most;
+  };
+}
+  where
+    ends : IsSettledSoFar new.world.setup (world new.world.setup new.world.past) ⊎ (made ≡ new.budget - old.drained) → IsSettledSoFar script.setup (world script.setup new.world.past) ⊎ (p.drained + made ≡ new.budget)
+    ends (inl settled) = inl (subst (λ s. IsSettledSoFar s (world s new.world.past)) (d.setup ∙ stands.setup) settled)
+    ends (inr spent) = inr (let r = d.room in let e = stands.drained in omega (arith, spent, r, e))
+
+    below : (place : ℕ) (x : Player) → slice_get old.players.items place ≡ Some x → (s : ℕ) → IsLife x.part s → s ≡ seat_of_drains script.lines → ⊥
+    below place x there s life is =
+        let b = (life_between 5 (parts_from script.lines) (seat_of_drains script.lines) place x.part s (in_order script.lines) (ap (λ ps. slice_get ps place) (sym stands.parts) ∙ part_at_place old.players.items place x there) life).1 in
+        absurd (omega (arith, b, is))

@@ -1,0 +1,114 @@
+-- Steps of an actor over its lives.
+use Rattle.std.proofs.Common.{◌≡◌, ◌≢◌, ℕ, ◌<◌, ◌≤◌, ◌+◌, List, [], Bool, true, false, refl, sym, ◌∙◌, ap, subst, arith}
+use Rattle.std.specs.Prelude.{nat_lt}
+use Rattle.std.proofs.lemmas.Bool.Decides.{nat_tests}
+use Rattle.call_types.specs.declared.entry.Entry.{Entry}
+use Rattle.call_types.specs.declared.request.SeatKind.{SeatKind}
+use Rattle.call_types.specs.declared.request.SeatKind.TheVariants as seats
+use Rattle.binder_model.specs.Told.{own}
+use Rattle.world_core.specs.Kept.{History}
+use Rattle.worker_core.specs.declared.turn.Next.{Next}
+use Rattle.worker_core.specs.declared.turn.Next.TheVariants as nexts
+use Rattle.worker_core.specs.Stands.{StandsFor}
+use Rattle.worker_core.specs.States.{State}
+use Rattle.worker_core.specs.Turns.{IsTurn}
+use Rattle.worker_threads.proofs.RunFacts.{binder_fresh}
+use Rattle.script_parts.specs.declared.loss.Fate.{Fate}
+use Rattle.script_parts.specs.declared.part.Part.{Part}
+use Rattle.script_runs.specs.declared.player.Player.{Player}
+use Rattle.script_runs.specs.Calls.{IsCallWith, IsQuietSince, seat_at}
+use Rattle.script_parts.specs.Fates.{fate_of}
+use Rattle.script_runs.specs.Steps.Playing.{HasCalled, HasMade, IsLife, IsStill, Plays, StandsSince}
+use Rattle.script_parts.specs.Parts.{lives_of}
+use Rattle.script_runs.proofs.Lives.{seat_more, seat_within}
+use Rattle.script_runs.proofs.Since.{new_since, quiet_since, turn_since}
+
+-- ---- a new life
+
+less : (a b m : ℕ) → a ≤ m → b ≡ m → b ≢ a → a < b
+less a b m le is differs = by (nat_lt a b) refl
+  where
+    by : (t : Bool) → nat_lt a b ≡ t → a < b
+    by true e = grind (arith, nat_tests)
+    by false e = absurd (differs (grind (arith, nat_tests)))
+
+-- a later life begins
+pub next_life : (old new : Player) (past : List Entry) (idle : ℕ → List Entry) → old.part.named ≡ true → new.part ≡ old.part → new.made ≡ old.made → new.seat ≡ seat_at old.part (old.made + 1) → new.seat ≢ old.seat → StandsFor new.actor [] → Plays old past idle → Plays new past idle
+next_life old new past idle named part made seat other stands plays =
+    let within = seat_within old.part (old.made + 1) named in
+    let later : old.seat < new.seat = less old.seat new.seat (seat_at old.part (old.made + 1)) plays.reached seat other in
+    let none = plays.unborn new.seat later (omega (arith, within, seat)) in
+    record {
+      first = subst (λ (x : Part). x.first ≤ new.seat) (sym part) (let f = plays.first in omega (arith, f, later));
+      reached = let e : seat_at new.part (new.made + 1) ≡ seat_at old.part (old.made + 1) = ap (λ (x : Part). seat_at x (new.made + 1)) part ∙ ap (λ m. seat_at old.part (m + 1)) made in omega (arith, e, seat);
+      since = subst (λ m. StandsSince new.actor (idle new.seat) m) (sym none.0) (subst (λ m. StandsSince new.actor m []) (sym none.1) (new_since new.actor stands));
+      unborn = λ s after below. plays.unborn s (omega (arith, later, after)) (subst (λ (x : Part). s < x.first + lives_of x) part below);
+    }
+
+-- ---- a step
+
+-- the actor of a life that makes the next call of its part
+pub record IsReady (old mid : Player) : Type 0 where
+  pub part : mid.part ≡ old.part
+  pub made : mid.made ≡ old.made
+  pub seat : mid.seat ≡ seat_at old.part (old.made + 1)
+
+-- in its turn
+pub record HasTaken (mid new : Player) : Type 0 where
+  pub part : new.part ≡ mid.part
+  pub seat : new.seat ≡ mid.seat
+
+-- another actor of the same life
+with_actor : (mid new : Player) (past : List Entry) (idle : ℕ → List Entry) → HasTaken mid new → new.made ≡ mid.made → StandsSince new.actor (idle mid.seat) (own mid.seat past) → Plays mid past idle → Plays new past idle
+with_actor mid new past idle taken made since plays = record {
+  first = subst (λ s. new.part.first ≤ s) (sym taken.seat) (subst (λ (x : Part). x.first ≤ mid.seat) (sym taken.part) plays.first);
+  reached =
+      let r = plays.reached in
+      let e : seat_at new.part (new.made + 1) ≡ seat_at mid.part (mid.made + 1) = ap (λ (x : Part). seat_at x (new.made + 1)) taken.part ∙ ap (λ m. seat_at mid.part (m + 1)) made in
+      let s = taken.seat in
+      omega (arith, r, e, s);
+  since = subst (λ s. StandsSince new.actor (idle s) (own s past)) (sym taken.seat) since;
+  unborn = λ s later below. plays.unborn s (let e = taken.seat in omega (arith, e, later)) (subst (λ (x : Part). s < x.first + lives_of x) taken.part below);
+}
+
+-- the actor is idle
+pub still : (old mid new : Player) (past : List Entry) (idle : ℕ → List Entry) → IsReady old mid → HasTaken mid new → new.made ≡ mid.made → old.part.kind ≡ seats.Binder → mid.actor.role.kind ≡ seats.Binder
+    → IsTurn mid.actor new.actor nexts.Idle → ((mine : List Entry) → StandsFor mid.actor mine → StandsFor new.actor mine) → Plays mid past idle → IsStill idle past past old new
+still old mid new past idle ready taken made kind binder turn keeps plays = record {
+  made = made ∙ ready.made;
+  past = refl;
+  seat = taken.seat ∙ ready.seat;
+  plays = with_actor mid new past idle taken made (turn_since mid.actor new.actor nexts.Idle (idle mid.seat) (own mid.seat past) turn (keeps (own mid.seat past)) plays.since) plays;
+  quiet = subst (λ s. IsQuietSince old.part.kind (idle s) (own s past)) (sym taken.seat) (subst (λ k. IsQuietSince k (idle mid.seat) (own mid.seat past)) (sym kind)
+      (quiet_since mid.actor new.actor nexts.Idle (idle mid.seat) (own mid.seat past) binder (binder_fresh mid.actor (own mid.seat past) binder plays.since.stands) plays.since turn refl));
+}
+
+-- one call was made
+pub one_made : (old mid new : Player) (given : State) (answer : Next) (before after : History) (idle : ℕ → List Entry) (fate : Fate) (kind : SeatKind)
+    → old.part.named ≡ true → IsReady old mid → HasTaken mid new → new.made ≡ mid.made + 1 → kind ≡ old.part.kind → fate ≡ fate_of mid.part.losses (mid.made + 1)
+    → IsTurn mid.actor given answer → ((mine : List Entry) → StandsFor mid.actor mine → StandsFor given mine)
+    → HasCalled mid.seat (IsCallWith fate mid.seat kind) before after given new.actor → Plays mid before.past idle → HasMade idle before.past after.past old new
+one_made old mid new given answer before after idle fate kind named ready taken made same lost turn keeps called plays = record {
+  made = made ∙ ap (λ m. m + 1) ready.made;
+  call = subst (λ k. IsCallWith (fate_of old.part.losses (old.made + 1)) (seat_at old.part (old.made + 1)) k before.past after.past) same
+      (subst (λ s. IsCallWith (fate_of old.part.losses (old.made + 1)) s kind before.past after.past) ready.seat
+      (subst (λ f. IsCallWith f mid.seat kind before.past after.past) (lost ∙ ap (λ (x : Part). fate_of x.losses (mid.made + 1)) ready.part ∙ ap (λ m. fate_of old.part.losses (m + 1)) ready.made) called.call));
+  plays = record {
+    first = subst (λ s. new.part.first ≤ s) (sym taken.seat) (subst (λ (x : Part). x.first ≤ mid.seat) (sym taken.part) plays.first);
+    reached =
+        let more = seat_more mid.part (mid.made + 1) in
+        let r = plays.reached in
+        let e : seat_at new.part (new.made + 1) ≡ seat_at mid.part (mid.made + 1 + 1) = ap (λ (x : Part). seat_at x (new.made + 1)) taken.part ∙ ap (λ m. seat_at mid.part (m + 1)) made in
+        let s = taken.seat in
+        omega (arith, more, r, e, s);
+    since = subst (λ s. StandsSince new.actor (idle s) (own s after.past)) (sym taken.seat) (called.since (idle mid.seat) (turn_since mid.actor given answer (idle mid.seat) (own mid.seat before.past) turn (keeps (own mid.seat before.past)) plays.since));
+    unborn = λ s later below.
+        let above : mid.seat < s = let e = taken.seat in omega (arith, e, later) in
+        let none = plays.unborn s above (subst (λ (x : Part). s < x.first + lives_of x) taken.part below) in
+        (called.others s (λ e. absurd (omega (arith, e, above))) ∙ none.0, none.1);
+  };
+  others = λ s other. called.others s (λ e. other (is_life s (e ∙ ready.seat)));
+}
+  where
+    is_life : (s : ℕ) → s ≡ seat_at old.part (old.made + 1) → IsLife old.part s
+    is_life s e = let w = seat_within old.part (old.made + 1) named in (omega (arith, e), omega (arith, e, w))

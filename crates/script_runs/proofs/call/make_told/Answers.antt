@@ -1,0 +1,8 @@
+use Rattle.std.proofs.Common.{◌∙◌, sym}
+use Rattle.script_runs.proofs.Calling.{told_called}
+use Rattle.script_runs.proofs.call.make_told.Goals as goal
+
+pub returns-clause-called : goal.returns-clause-called
+returns-clause-called c =
+    told_called c.args.seat c.args.world.now c.call.new.self c.args.actor.now c.absorb.new.self c.args.kind c.args.request.now c.in_ok-reply.reply c.requires.kind c.have_history.ensures
+    (sym c.kind-built.ensures.kind ∙ c.kind-built.ensures.built) c.requires.asked c.in_ok-reply.ensures.entry c.in_ok-absorb.ensures.state c.in_ok-absorb.ensures.told

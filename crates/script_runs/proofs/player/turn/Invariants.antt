@@ -1,0 +1,17 @@
+use Rattle.std.proofs.Common.{◌≡◌, ◌≤◌, ◌+◌, ◌-◌, ℕ, List}
+use Rattle.call_types.specs.declared.entry.Entry.{Entry}
+use Rattle.script_runs.specs.Steps.Playing.{HasGone, Plays, SomePlays}
+use Rattle.script_runs.proofs.player.turn.Given as goal
+
+abbrev pub invariant-loop-made : goal.invariant-loop-made
+invariant-loop-made l = record {
+  few : l.made ≤ l.calls;
+  part : l.player.part ≡ l.initial.player.part;
+  count : l.player.made ≡ l.initial.player.made + l.made;
+  setup : l.world.setup ≡ l.initial.world.setup;
+  some : SomePlays l.player l.world.past;
+  gone : (idle : ℕ → List Entry) → Plays l.initial.player l.initial.world.past idle → HasGone l.made idle l.initial.world.past l.world.past l.initial.player l.player;
+}
+
+abbrev pub decreases-loop-made : goal.decreases-loop-made
+decreases-loop-made l = l.calls - l.made

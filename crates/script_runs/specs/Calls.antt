@@ -1,0 +1,67 @@
+-- The calls of an actor, counted over its lives, lost ones too. The newest entry of a history stands first.
+-- A choice of this project, after what a controller of Kubernetes meets: calls are lost, and it is restarted.
+use Rattle.std.specs.Prelude.{ℕ, ◌≡◌, ◌⊎◌, ◌+◌, nat_lt, Bool, true, false, List, [], ◌∷◌, ◌++◌, if◌then◌else◌}
+use Rattle.kube_types.specs.declared.parts.Kind.{Kind}
+use Rattle.call_types.specs.declared.entry.Entry.{Entry}
+use Rattle.call_types.specs.declared.request.Request.{Request}
+use Rattle.call_types.specs.declared.request.SeatKind.{SeatKind}
+use Rattle.call_types.specs.declared.request.SeatKind.TheVariants as seats
+use Rattle.call_types.specs.declared.reply.Reply.{Reply}
+use Rattle.binder_model.specs.Reading.{follows}
+use Rattle.binder_model.specs.Told.{SomeOf}
+use Rattle.worker_core.specs.Memories.{is_stale_told}
+use Rattle.worker_core.specs.Stands.{HasNoNews}
+use Rattle.script_parts.specs.declared.loss.Fate.{Fate}
+use Rattle.script_parts.specs.declared.loss.Fate.TheVariants.{Told, LostBefore, LostAfter}
+use Rattle.script_parts.specs.Fates.{fate_of}
+use Rattle.script_parts.specs.declared.part.Part.{Part}
+
+-- how many of the restarts come before the call of this number: a restart comes after so many calls
+abbrev pub restarts_before : ℕ → List ℕ → ℕ
+restarts_before n [] = 0
+restarts_before n (after ∷ restarts) = if nat_lt after n then 1 + restarts_before n restarts else restarts_before n restarts
+
+-- the seat of the life that makes the call of this number
+abbrev pub seat_at : Part → ℕ → ℕ
+seat_at part n = part.first + restarts_before n part.restarts
+
+-- the entries are one more: a call of this seat and kind, whose answer was told or not
+pub record IsOneMore (seat : ℕ) (kind : SeatKind) (told : Bool) (past new : List Entry) : Type 0 where
+  pub request : Request
+  pub reply : Reply
+  pub is : new ≡ (record { seat = seat; kind = kind; request = request; reply = reply; told = told }) ∷ past
+
+-- a call with this fate: one that is lost before its effect leaves no entry, one that is lost after it an entry that was
+-- not told
+abbrev pub IsCallWith : Fate → ℕ → SeatKind → List Entry → List Entry → Type 0
+IsCallWith Told seat kind past new = IsOneMore seat kind true past new
+IsCallWith LostAfter seat kind past new = IsOneMore seat kind false past new
+IsCallWith LostBefore seat kind past new = new ≡ past
+
+-- the call of this number
+abbrev pub IsCall : Part → ℕ → List Entry → List Entry → Type 0
+IsCall part n past new = IsCallWith (fate_of part.losses n) (seat_at part n) part.kind past new
+
+-- so many calls from the one of this number on, in order, up to the entries `new`
+pub data AreCalls (part : Part) (new : List Entry) : ℕ → ℕ → List Entry → Type 0 where
+  NoCalls : {n count : ℕ} {past : List Entry} → count ≡ 0 → new ≡ past → AreCalls part new n count past
+  MoreCalls : {n count : ℕ} {past : List Entry} (rest : ℕ) (middle : List Entry) → count ≡ rest + 1 → IsCall part n past middle → AreCalls part new (n + 1) rest middle → AreCalls part new n count past
+
+-- of the kinds that the actor follows there is no news after the earlier ones of its entries: the last told list of the
+-- whole kind or watch of it is a watch without events, and stands after them
+pub record IsQuietSince (kind : SeatKind) (earlier mine : List Entry) : Type 0 where
+  pub recent : List Entry
+  pub are : mine ≡ recent ++ earlier
+  pub quiet : (k : Kind) → follows kind k ≡ true → HasNoNews k recent
+
+abbrev pub TellsStale : Entry → Type 0
+TellsStale e = (e.told ≡ true) × (is_stale_told e.reply ≡ true)
+
+-- an agent was told that its epoch is stale
+abbrev pub WasToldStale : SeatKind → List Entry → Type 0
+WasToldStale kind mine = (kind ≡ seats.Agent) × SomeOf TellsStale mine
+
+-- a turn may give fewer calls than its line says where its life has no news since it was last given fewer, or is an agent's
+-- that was told that its epoch is stale
+abbrev pub MayEnd : SeatKind → List Entry → List Entry → Type 0
+MayEnd kind earlier mine = IsQuietSince kind earlier mine ⊎ WasToldStale kind mine

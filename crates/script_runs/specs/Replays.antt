@@ -1,0 +1,113 @@
+-- Whose calls the history of a replayed script has. The newest entry of a history stands first.
+-- A choice of this project.
+use Rattle.std.specs.Prelude.{ℕ, ◌≡◌, ◌≤◌, ◌<◌, ◌⊎◌, ◌+◌, ◌==◌, true, List, [], ◌∷◌, Option, Some, bytes_eq, if◌then◌else◌}
+use Rattle.call_types.specs.declared.entry.Entry.{Entry}
+use Rattle.call_types.specs.declared.request.Request.{Request}
+use Rattle.call_types.specs.declared.request.SeatKind.TheVariants as seats
+use Rattle.call_types.specs.declared.reply.Reply.{Reply}
+use Rattle.call_types.specs.declared.setup.Setup.{Setup}
+use Rattle.binder_model.specs.Told.{own}
+use Rattle.binder_model.specs.World.{world}
+use Rattle.world_core.specs.declared.drained.Drained.{Drained}
+use Rattle.world_core.specs.declared.drained.Drained.TheVariants.{Settled, Spent}
+use Rattle.settle_check.specs.SoFar.{IsFirstBuiltDue, IsSettledSoFar}
+use Rattle.worker_threads.specs.Longer.{IsLonger}
+use Rattle.script_text.specs.declared.script.Line.{Line}
+use Rattle.script_text.specs.declared.script.Line.TheVariants.{Call, Lose, Restart, Turn, Drain}
+use Rattle.script_text.specs.declared.script.Script.{Script}
+use Rattle.script_parts.specs.declared.part.Part.{Part}
+use Rattle.script_parts.specs.Budget.{first_budget, raised}
+use Rattle.script_runs.specs.Calls.{AreCalls, MayEnd, seat_at}
+use Rattle.script_parts.specs.Parts.{drain_seats, part_of}
+
+-- how far a replay has come
+pub record Progress : Type 0 where
+  pub past : List Entry
+  -- how many calls each actor has made in turns, by its name
+  pub made : List ℕ → ℕ
+  -- the entries that the life of a seat had when a turn last gave it fewer calls than its line says; none at first
+  pub idle : ℕ → List Entry
+  -- the calls of all drains so far, and how many they may make
+  pub drained : ℕ
+  pub budget : ℕ
+
+abbrev pub begun : Option ℕ → Progress
+begun option = record { past = []; made = λ name. 0; idle = λ seat. []; drained = 0; budget = first_budget option }
+
+-- ---- a user's line
+
+pub record IsUserCall (user : ℕ) (request : Request) (before after : Progress) : Type 0 where
+  pub reply : Reply
+  pub is : after ≡ record before { past = (record { seat = user; kind = seats.User; request = request; reply = reply; told = true }) ∷ before.past }
+
+-- ---- a turn line
+
+abbrev pub and_made : List ℕ → ℕ → (List ℕ → ℕ) → List ℕ → ℕ
+and_made name count made other = if bytes_eq other name then made other + count else made other
+
+abbrev pub and_idle : ℕ → List Entry → (ℕ → List Entry) → ℕ → List Entry
+and_idle seat mine idle other = if other == seat then mine else idle other
+
+-- as many calls as the line says
+pub record MakesAll (part : Part) (calls : ℕ) (before after : Progress) : Type 0 where
+  pub past : List Entry
+  pub made : AreCalls part past (before.made part.name + 1) calls before.past
+  pub is : after ≡ record before { past = past; made = and_made part.name calls before.made }
+
+-- fewer, as the life that would make the next one may end its turn
+pub record MakesFewer (part : Part) (calls : ℕ) (before after : Progress) : Type 0 where
+  pub count : ℕ
+  pub few : count < calls
+  pub past : List Entry
+  pub made : AreCalls part past (before.made part.name + 1) count before.past
+  pub seat : ℕ
+  pub life : seat ≡ seat_at part (before.made part.name + count + 1)
+  pub ends : MayEnd part.kind (before.idle seat) (own seat past)
+  pub is : after ≡ record before { past = past; made = and_made part.name count before.made; idle = and_idle seat (own seat past) before.idle }
+
+abbrev pub IsTurn : Part → ℕ → Progress → Progress → Type 0
+IsTurn part calls before after = MakesAll part calls before after ⊎ MakesFewer part calls before after
+
+-- ---- a drain
+
+-- the budget is raised; then come calls of the drains' seats, all told, until the world is settled or the budget is spent
+pub record IsDrain (script : Script) (option : Option ℕ) (before after : Progress) : Type 0 where
+  pub past : List Entry
+  pub made : ℕ
+  pub budget : ℕ
+  pub raises : budget ≡ raised option script.setup before.past before.budget
+  pub entries : IsLonger (drain_seats script) made before.past past
+  pub few : before.drained + made ≤ budget
+  pub ends : IsSettledSoFar script.setup (world script.setup past) ⊎ (before.drained + made ≡ budget)
+  pub none : IsSettledSoFar script.setup (world script.setup before.past) → past ≡ before.past
+  pub is : after ≡ record before { past = past; drained = before.drained + made; budget = budget }
+
+-- ---- the lines
+
+abbrev pub IsMove : Script → Option ℕ → Line → Progress → Progress → Type 0
+IsMove script option (Call user request) before after = IsUserCall user request before after
+IsMove script option (Lose actor call lost) before after = after ≡ before
+IsMove script option (Restart actor calls) before after = after ≡ before
+IsMove script option (Turn actor calls) before after = IsTurn (part_of script actor) calls before after
+IsMove script option Drain before after = IsDrain script option before after
+
+-- the lines in order, up to the progress `end`
+pub data AreMoves (script : Script) (option : Option ℕ) (end : Progress) : List Line → Progress → Type 0 where
+  NoMoves : {lines : List Line} {now : Progress} → lines ≡ [] → end ≡ now → AreMoves script option end lines now
+  MoreMoves : {lines : List Line} {now : Progress} (line : Line) (rest : List Line) (next : Progress) → lines ≡ line ∷ rest → IsMove script option line now next → AreMoves script option end rest next → AreMoves script option end lines now
+
+-- ---- the whole
+
+-- how a replay ends, with the calls that all drains have made: settled, or with the budget spent and the first that is due
+abbrev pub EndsAs : Setup → Progress → Drained → Type 0
+EndsAs setup end (Settled made) = (made ≡ end.drained) × IsSettledSoFar setup (world setup end.past)
+EndsAs setup end (Spent made key due) = (made ≡ end.drained) × (made ≡ end.budget) × IsFirstBuiltDue setup (world setup end.past) (Some (key, due))
+
+-- the lines are done in order, and then one more drain
+pub record IsReplay (script : Script) (option : Option ℕ) (past : List Entry) (ending : Drained) : Type 0 where
+  pub lines_done : Progress
+  pub end : Progress
+  pub moves : AreMoves script option lines_done script.lines (begun option)
+  pub last : IsDrain script option lines_done end
+  pub history : past ≡ end.past
+  pub ends : EndsAs script.setup end ending

@@ -1,0 +1,11 @@
+//! A script replayed on one kept world: whose calls its history has.
+//!
+//! Promises: `replay::replay` goes through the lines of a script in order and then drains; `specs/Replays` says what each
+//! line does to the history, so whose calls it has, and how it ends. The history is a run, and safe at every point. Not said:
+//! that a drain's budget is enough; that an actor does what is due.
+#![tactic(auto)]
+
+mod call;
+mod player;
+pub mod replay;
+mod stage;

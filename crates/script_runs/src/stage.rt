@@ -1,0 +1,305 @@
+//! A world and all who call it, moved by one line of a script at a time.
+
+ghost use Rattle.std.specs.Prelude.{◌≡◌, ◌≤◌, ◌<◌, ◌+◌, ◌-◌, ◌*◌, ◌^◌, true, IfOk, OnOk, Some, length, slice_get};
+ghost use Rattle.call_types.specs.declared.request.SeatKind.TheVariants as seats;
+ghost use Rattle.script_text.specs.declared.script.Line.{Line};
+ghost use Rattle.script_lines.specs.Actors.{actor_word};
+ghost use Rattle.worker_threads.specs.Rounds.{EndsWith, made_of};
+ghost use Rattle.script_parts.specs.Budget.{first_budget};
+ghost use Rattle.script_parts.specs.Limits.{AreBuilt, IsReadable, is_actor_built};
+ghost use Rattle.script_parts.specs.Parts.{is_named, part_at, part_of};
+ghost use Rattle.script_runs.specs.Replays.{IsDrain, IsMove, IsTurn, IsUserCall, Progress, begun};
+ghost use Rattle.script_runs.specs.Steps.Playing.{EachPlayer, IsNewPlayer};
+ghost use Rattle.script_runs.specs.Steps.Standing.{Ended, HasMoved, MadeAtMost, SomeStands, Stands, binder, parts_from, parts_in, place_of, seat_of_drains, with_made};
+
+use crate::player::{Player, turn};
+use call_types::request::{Request, SeatKind};
+use kube_types::copies::{OutOfMemory, Plain};
+use kube_types::text::Text;
+use script_lines::actors::{Actor, Worker, WorkerKind, WorkerNumber};
+use script_parts::budget::raised;
+use script_parts::parts::{part_from, seat_after};
+use script_text::script::{Line, Script};
+use std::alloc::Global;
+use worker_core::actor::Actor as WorkingActor;
+use worker_threads::drain::drain;
+use worker_threads::drainers::Drainers;
+use world_core::drained::Drained;
+use world_core::kept::KeptWorld;
+
+/// Room for the entries that a script within its limits makes where no greater budget is given.
+const MOST_ENTRIES: usize = 165216;
+
+/// The users have the seats before it.
+const FIRST_ACTOR_SEAT: u64 = 5;
+
+/// A world, the actors that turns name, and those of the drains; how many calls all drains have made, and may make.
+pub(crate) struct Stage {
+    pub world: KeptWorld,
+    pub players: Vec<Player>,
+    pub drainers: Drainers,
+    pub drained: u64,
+    pub budget: u64,
+}
+
+impl Drop for Stage {
+    fn drop(self) {
+        let Stage {
+            world,
+            players,
+            drainers,
+            drained: _,
+            budget: _,
+        } = self;
+        drop(world);
+        drop(players);
+        drop(drainers);
+    }
+}
+
+/// The place of a binder among the four.
+fn place_of(actor: &Actor) -> usize
+    ensures { result ≡ place_of actor.now }
+{
+    match actor {
+        Actor::Worker(worker) => match worker.number {
+            WorkerNumber::One => 0,
+            WorkerNumber::Two => 1,
+            WorkerNumber::Three => 2,
+            WorkerNumber::Four => 3,
+        },
+        Actor::Agent { node: _ } => 0,
+    }
+}
+
+impl Stage {
+    /// Makes a user's call.
+    fn call(
+        &mut self,
+        script: &Script,
+        option: Option<u64>,
+        user: u64,
+        request: &Request,
+    ) -> Result<(), OutOfMemory>
+        requires user { user < 5 }
+        requires stands { SomeStands script.now option self.old }
+        ensures moved { OnOk result (HasMoved script.now option (IsUserCall user request.now) self.old self.new) }
+        ensures players { self.new.players ≡ self.old.players }
+    {
+        let _reply = self.world.call(user, SeatKind::User, request, true)?;
+        Ok(())
+    }
+
+    /// Makes an actor's turn.
+    fn turn(
+        &mut self,
+        script: &Script,
+        option: Option<u64>,
+        actor: &Actor,
+        calls: u64,
+        most: u64,
+    ) -> Result<(), OutOfMemory>
+        requires built { is_actor_built actor.now ≡ true }
+        requires named { is_named (actor_word actor.now) script.now.lines ≡ true }
+        requires readable { IsReadable script.now }
+        requires stands { SomeStands script.now option self.old }
+        requires few { calls ≤ 1000 }
+        requires most { most ≤ 4096000 }
+        requires made { MadeAtMost most self.old }
+        ensures moved { OnOk result (HasMoved script.now option (IsTurn (part_of script.now actor.now) calls) self.old self.new) }
+        ensures made { OnOk result (MadeAtMost (most + 1000) self.new) }
+    {
+        let place = place_of(actor);
+        turn(&mut self.world, &mut self.players[place], calls)?;
+        Ok(())
+    }
+
+    /// Raises the budget, and drains.
+    fn drain(&mut self, script: &Script, option: Option<u64>) -> Result<Drained, OutOfMemory>
+        requires built { AreBuilt script.now.lines }
+        requires stands { SomeStands script.now option self.old }
+        ensures moved { OnOk result (HasMoved script.now option (IsDrain script.now option) self.old self.new) }
+        ensures ends { IfOk result (λ d. EndsWith self.new.world.setup self.new.world.past (self.new.budget - (self.new.drained - made_of d)) d) }
+        ensures made { IfOk result (λ d. made_of d ≤ self.new.drained) }
+        ensures players { self.new.players ≡ self.old.players }
+    {
+        let budget = raised(option, self.world.world(), self.budget);
+        let left = budget - self.drained;
+        self.budget = budget;
+        let drained = drain(&mut self.world, &mut self.drainers, left)?;
+        self.drained += made_in(&drained);
+        Ok(drained)
+    }
+
+    /// Does what the line at this place says.
+    pub(crate) fn play(
+        &mut self,
+        script: &Script,
+        option: Option<u64>,
+        place: usize,
+    ) -> Result<(), OutOfMemory>
+        requires readable { IsReadable script.now }
+        requires built { AreBuilt script.now.lines }
+        requires place { place < length script.now.lines }
+        requires stands { SomeStands script.now option self.old }
+        requires made { MadeAtMost (1000 * place) self.old }
+        ensures moved { OnOk result ((line : Line) → slice_get script.now.lines place ≡ Some line → HasMoved script.now option (IsMove script.now option line) self.old self.new) }
+        ensures made { OnOk result (MadeAtMost (1000 * place + 1000) self.new) }
+    {
+        match &script.lines.as_slice()[place] {
+            Line::Call { user, request } => self.call(script, option, *user, request),
+            Line::Turn { actor, calls } => {
+                self.turn(script, option, actor, *calls, 1000 * place as u64)
+            }
+            Line::Drain => {
+                let drained = self.drain(script, option)?;
+                drop(drained);
+                Ok(())
+            }
+            Line::Lose {
+                actor: _,
+                call: _,
+                after: _,
+            }
+            | Line::Restart { actor: _, after: _ } => Ok(()),
+        }
+    }
+
+    /// Drains, and says how all drains ended.
+    pub(crate) fn end(
+        &mut self,
+        alloc: Global,
+        script: &Script,
+        option: Option<u64>,
+    ) -> Result<Drained, OutOfMemory>
+        requires built { AreBuilt script.now.lines }
+        requires stands { SomeStands script.now option self.old }
+        ensures { IfOk result (λ ending. (p : Progress) → Stands script.now option p self.old → Ended script.now option p self.new ending) }
+    {
+        let last = self.drain(script, option)?;
+        ended(alloc, self.drained, &last)
+    }
+
+    /// The world alone.
+    pub(crate) fn into_world(self) -> KeptWorld
+        ensures { result ≡ self.world }
+    {
+        let Stage {
+            world,
+            players,
+            drainers,
+            drained: _,
+            budget: _,
+        } = self;
+        drop(players);
+        drop(drainers);
+        world
+    }
+}
+
+/// How all drains ended: as the last of them, with the calls of all.
+fn ended(alloc: Global, made: u64, drained: &Drained) -> Result<Drained, OutOfMemory>
+    ensures { IfOk result (λ ending. ending ≡ with_made made drained.now) }
+{
+    match drained {
+        Drained::Settled { made: _ } => Ok(Drained::Settled { made }),
+        Drained::Spent { made: _, key, due } => Ok(Drained::Spent {
+            made,
+            key: key.copy(alloc)?,
+            due: *due,
+        }),
+    }
+}
+
+/// How many calls a drain has made.
+fn made_in(drained: &Drained) -> u64
+    ensures { result ≡ made_of drained.now }
+{
+    match drained {
+        Drained::Settled { made } => *made,
+        Drained::Spent {
+            made,
+            key: _,
+            due: _,
+        } => *made,
+    }
+}
+
+/// A binder before its first call, whose first life has this seat.
+fn player(
+    alloc: Global,
+    number: WorkerNumber,
+    first: u64,
+    lines: &[Line],
+) -> Result<Player, OutOfMemory>
+    ensures part { IfOk result (λ x. x.part ≡ part_at (actor_word (binder number)) seats.Binder first lines.now) }
+    ensures new { IfOk result (λ x. IsNewPlayer x) }
+    ensures few { IfOk result (λ x. length x.part.restarts ≤ length lines.now) }
+{
+    let worker = Worker {
+        kind: WorkerKind::Binder,
+        number,
+    };
+    let part = part_from(alloc, worker, first, lines)?;
+    let node = Text::new(alloc, "")?;
+    let actor = WorkingActor::new(alloc, SeatKind::Binder, &node)?;
+    Ok(Player {
+        part,
+        seat: first,
+        made: 0,
+        actor,
+    })
+}
+
+/// The binders before their first calls, and the seat after those of their lives.
+fn players(alloc: Global, lines: &[Line]) -> Result<(Vec<Player>, u64), OutOfMemory>
+    requires { length lines.now ≤ 4096 }
+    ensures parts { IfOk result (λ r. parts_in r.0.items ≡ parts_from lines.now) }
+    ensures new { IfOk result (λ r. EachPlayer IsNewPlayer r.0.items) }
+    ensures seat { IfOk result (λ r. r.1 ≡ seat_of_drains lines.now) }
+    ensures small { IfOk result (λ r. r.1 < 2 ^ 32) }
+{
+    let one = player(alloc, WorkerNumber::One, FIRST_ACTOR_SEAT, lines)?;
+    let two = player(alloc, WorkerNumber::Two, seat_after(&one.part), lines)?;
+    let three = player(alloc, WorkerNumber::Three, seat_after(&two.part), lines)?;
+    let four = player(alloc, WorkerNumber::Four, seat_after(&three.part), lines)?;
+    let end = seat_after(&four.part);
+    let mut players = Vec::new(alloc);
+    players.push(one)?;
+    players.push(two)?;
+    players.push(three)?;
+    players.push(four)?;
+    Ok((players, end))
+}
+
+fn first_budget(option: Option<u64>) -> u64
+    ensures { result ≡ first_budget option }
+{
+    match option {
+        Some(given) => given,
+        None => 0,
+    }
+}
+
+/// A world of the script's setup, and new actors.
+pub(crate) fn begin(
+    alloc: Global,
+    script: &Script,
+    option: Option<u64>,
+) -> Result<Stage, OutOfMemory>
+    requires readable { IsReadable script.now }
+    requires built { AreBuilt script.now.lines }
+    ensures stands { IfOk result (λ s. Stands script.now option (begun option) s) }
+    ensures made { IfOk result (λ s. MadeAtMost 0 s) }
+{
+    let world = KeptWorld::new(alloc, &script.setup, MOST_ENTRIES)?;
+    let (players, first) = players(alloc, script.lines.as_slice())?;
+    let drainers = Drainers::new(alloc, &script.node_names, first)?;
+    Ok(Stage {
+        world,
+        players,
+        drainers,
+        drained: 0,
+        budget: first_budget(option),
+    })
+}
