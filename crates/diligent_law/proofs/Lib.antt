@@ -1,0 +1,5 @@
+mod Dues
+mod Passing
+mod Phases
+mod Queues
+mod Turned
