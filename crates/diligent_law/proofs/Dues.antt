@@ -1,5 +1,5 @@
 -- A key that is due has a row, and no decision drops it; and the rules give no watch.
-use Rattle.std.proofs.Common.{◌≡◌, ◌⊎◌, ℕ, List, [], ◌∷◌, Bool, true, false, true≢false, Option, Some, None, inl, inr, refl, sym, ◌∙◌, ap, subst}
+use Rattle.std.proofs.Common.{◌≡◌, ℕ, List, true, true≢false, Option, Some, None, inl, inr, refl, sym, ◌∙◌, ap, subst}
 use Rattle.std.specs.Prelude.{map, option_map}
 use Rattle.std.specs.List.{list_any}
 use Rattle.kube_types.specs.declared.key.Key.{Key}
@@ -22,7 +22,6 @@ use Rattle.worker_core.specs.declared.task.Task.{Task}
 use Rattle.worker_core.specs.declared.task.Under.{Under}
 use Rattle.worker_core.specs.declared.turn.Next.{Next}
 use Rattle.worker_core.specs.declared.turn.Next.TheVariants as nexts
-use Rattle.worker_core.specs.Memories.{Memory, memory_of}
 use Rattle.worker_core.specs.Roles.{kinds_of}
 use Rattle.worker_core.specs.Rules.{WasCalled, WasDropped}
 use Rattle.worker_core.specs.Stands.{AnyIsUnderWay, StandsFor}

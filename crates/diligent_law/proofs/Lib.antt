@@ -1,4 +1,5 @@
 mod Dues
+mod Following
 mod Passing
 mod Phases
 mod Queues

@@ -1,5 +1,5 @@
 -- How far a life has come since the first of the watches, and how each step goes on.
-use Rattle.std.proofs.Common.{◌≡◌, ◌≢◌, ◌⊎◌, ℕ, zero, suc, ◌+◌, ◌<◌, ◌≤◌, List, [], ◌∷◌, length, Bool, true, false, true≢false, Option, Some, None, inl, inr, refl, sym, ◌∙◌, ap, subst, arith, if◌then◌else◌}
+use Rattle.std.proofs.Common.{◌≡◌, ◌≢◌, ◌⊎◌, ℕ, zero, suc, ◌+◌, ◌<◌, ◌≤◌, List, [], Bool, true, false, true≢false, Some, inl, inr, refl, sym, ◌∙◌, ap, subst, arith, if◌then◌else◌}
 use Rattle.std.specs.Prelude.{map, slice_get}
 use Rattle.std.specs.List.{list_any}
 use Rattle.kube_types.specs.declared.key.Key.{Key}
@@ -9,24 +9,21 @@ use Rattle.kube_types.specs.Keys.{key_of, same_key, same_kind}
 use Rattle.informer_cache.specs.Cache.{objects_of}
 use Rattle.call_types.specs.declared.entry.Entry.{Entry}
 use Rattle.call_types.specs.declared.request.Request.{Request}
-use Rattle.call_types.specs.declared.request.Request.TheVariants as requests
 use Rattle.call_types.specs.declared.request.SeatKind.TheVariants.{Binder}
 use Rattle.informer_cache.specs.All.{AllKnown, cache_of}
 use Rattle.model_laws.proofs.Lists.{IsIn, none_some, one}
-use Rattle.sync_queue.specs.Work.{Work}
 use Rattle.worker_core.specs.declared.role.Role.{Role}
 use Rattle.worker_core.specs.declared.turn.Next.{Next}
 use Rattle.worker_core.specs.declared.turn.Next.TheVariants as nexts
-use Rattle.worker_core.specs.declared.turn.Outcome.{Outcome}
 use Rattle.worker_core.specs.declared.turn.Pass.{Pass}
-use Rattle.worker_core.specs.Absorbs.{absorbed, woken}
-use Rattle.worker_core.specs.Roles.{kind_at, kinds_of}
-use Rattle.worker_core.specs.Rules.{KeepsKeys, WasCalled, WasDropped}
+use Rattle.worker_core.specs.Absorbs.{woken}
+use Rattle.worker_core.specs.Roles.{kinds_of}
+use Rattle.worker_core.specs.Rules.{WasCalled}
 use Rattle.worker_core.specs.Stands.{StandsFor}
 use Rattle.worker_core.specs.States.{State, call_in, waits}
-use Rattle.worker_core.specs.Turns.{IsTurn, passing}
+use Rattle.worker_core.specs.Turns.{IsTurn}
 use Rattle.worker_core.proofs.Answered.{passed, turn_role}
-use Rattle.worker_core.proofs.KeysKept.{absorbed_keys, turn_keys}
+use Rattle.worker_core.proofs.KeysKept.{turn_keys}
 use Rattle.worker_core.proofs.Quiet.{alike, itself}
 use Rattle.diligent_law.specs.Diligence.{IsAskedFor, IsDue, watches_kind}
 use Rattle.diligent_law.proofs.Dues.{IsCached, due_cached, not_dropped, was_asked}

@@ -1,5 +1,5 @@
 -- Which keys are taken after each move of a queue, and that a cached key waits after a wake.
-use Rattle.std.proofs.Common.{◌≡◌, ◌⊎◌, List, [], ◌∷◌, ◌++◌, Bool, true, false, true≢false, Option, Some, None, inl, inr, refl, sym, ◌∙◌, ap, subst, if◌then◌else◌}
+use Rattle.std.proofs.Common.{◌≡◌, List, [], ◌∷◌, ◌++◌, Bool, true, false, true≢false, Option, Some, None, inl, inr, refl, sym, ◌∙◌, ap, subst, if◌then◌else◌}
 use Rattle.std.specs.Prelude.{◌||◌, map}
 use Rattle.std.specs.List.{list_any}
 use Rattle.std.specs.Ordering.{is_eq}
@@ -12,7 +12,7 @@ use Rattle.kube_types.proofs.SameKeys.{same_key_itself}
 use Rattle.informer_cache.specs.Cache.{objects_of}
 use Rattle.informer_cache.specs.All.{AllKnown, cache_of}
 use Rattle.model_laws.proofs.Lists.{IsIn, none_some, one}
-use Rattle.sync_queue.specs.Work.{Taken, Work, added, begin_oldest, begun, done_by, finished, is_of, mark, mark_of, oldest_of, put_off, retry_by}
+use Rattle.sync_queue.specs.Work.{Taken, Work, added, begin_oldest, begun, done_by, finished, is_of, mark, oldest_of, put_off, retry_by}
 use Rattle.sync_queue.proofs.LaneFacts.{any-append}
 use Rattle.worker_core.specs.Absorbs.{all_added, kind_added, kinds_added}
 use Rattle.worker_core.specs.States.{waits}

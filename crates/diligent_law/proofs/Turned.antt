@@ -1,5 +1,5 @@
 -- What a turn, an answer and a wake make of what is taken and of the pass, and what an idle turn leaves.
-use Rattle.std.proofs.Common.{◌≡◌, ◌⊎◌, List, [], ◌∷◌, Bool, true, false, true≢false, Option, Some, None, inl, inr, refl, sym, ◌∙◌, ap, subst, if◌then◌else◌}
+use Rattle.std.proofs.Common.{◌≡◌, List, [], ◌∷◌, Bool, true, false, true≢false, Option, Some, None, inl, inr, refl, sym, ◌∙◌, ap, subst, if◌then◌else◌}
 use Rattle.std.specs.Prelude.{is_some}
 use Rattle.kube_types.specs.declared.key.Key.{Key}
 use Rattle.kube_types.specs.declared.parts.Kind.{Kind}
@@ -11,7 +11,7 @@ use Rattle.call_types.specs.declared.reply.Reply.{Reply}
 use Rattle.informer_cache.specs.Cache.{keys_in}
 use Rattle.informer_cache.specs.All.{AllKnown, all_objects}
 use Rattle.model_laws.proofs.Lists.{none_some, one}
-use Rattle.sync_queue.specs.Work.{Work, added, begun, finished}
+use Rattle.sync_queue.specs.Work.{Work, added, begun}
 use Rattle.worker_core.specs.declared.role.Role.{Role}
 use Rattle.worker_core.specs.declared.task.First.{First}
 use Rattle.worker_core.specs.declared.task.First.TheVariants as firsts
@@ -24,7 +24,7 @@ use Rattle.worker_core.specs.declared.turn.Next.TheVariants as nexts
 use Rattle.worker_core.specs.declared.turn.Outcome.{Outcome}
 use Rattle.worker_core.specs.declared.turn.Outcome.TheVariants as outcomes
 use Rattle.worker_core.specs.declared.turn.Pass.{Pass}
-use Rattle.worker_core.specs.Absorbs.{absorbed, all_added, ended_work, given_told, learned, lost_given, lost_under, task_told, woken}
+use Rattle.worker_core.specs.Absorbs.{absorbed, ended_work, given_told, learned, lost_given, lost_under, task_told, woken}
 use Rattle.worker_core.specs.Memories.{Memory, memory_after, memory_of, no_memory, remembers}
 use Rattle.worker_core.specs.Roles.{kinds_of}
 use Rattle.worker_core.specs.States.{State, call_in, start_call}

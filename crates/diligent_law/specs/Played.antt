@@ -1,7 +1,7 @@
 -- How a life of an actor is played: each call is one that its turn gave, and was told, or was lost before or after its
 -- effect; and where a turn gave none the actor is woken. Each step is what the calls of an actor promise.
 -- A choice of this project.
-use Rattle.std.specs.Prelude.{ℕ, ◌≡◌, false, List, [], ◌∷◌, Option, Some, None}
+use Rattle.std.specs.Prelude.{◌≡◌, false, List, [], ◌∷◌, Some, None}
 use Rattle.call_types.specs.declared.entry.Entry.{Entry}
 use Rattle.call_types.specs.declared.request.Request.{Request}
 use Rattle.call_types.specs.declared.reply.Reply.{Reply}
