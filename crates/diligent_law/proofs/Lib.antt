@@ -1,0 +1,6 @@
+mod Dues
+mod Following
+mod Passing
+mod Phases
+mod Queues
+mod Turned

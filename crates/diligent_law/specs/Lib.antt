@@ -1,0 +1,2 @@
+pub mod Diligence
+pub mod Played

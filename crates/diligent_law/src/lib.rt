@@ -1,0 +1,21 @@
+//! A binder's life is diligent.
+//!
+//! `specs/Diligence` says it on the calls of a life alone: of four told watches of one kind, between which the life was told
+//! nothing new, lost nothing and only read, each key for which the rules give a call at every point was called for.
+//! `specs/Played` says how a life is played by an actor. `played_is_diligent` promises the one of the other.
+#![tactic(auto)]
+
+ghost use Rattle.kube_types.specs.Keys.{AreRows};
+ghost use Rattle.diligent_law.specs.Diligence.{AnyRows};
+ghost use Rattle.diligent_law.specs.Played.{PlayedIsDiligent};
+
+/// A binder's life that is played by the turns, answers, losses and wakes of an actor is diligent, whatever rows show what
+/// it was told.
+pub fn played_is_diligent()
+    ensures { PlayedIsDiligent AnyRows }
+{}
+
+/// The same on rows in order, where the rows of the caches are known to stand so at each turn.
+pub fn played_in_order_is_diligent()
+    ensures { PlayedIsDiligent AreRows }
+{}
