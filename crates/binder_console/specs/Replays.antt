@@ -15,6 +15,7 @@ use Rattle.history_text.specs.declared.summary.Summary.{Summary}
 use Rattle.history_text.specs.Summaries.{summary_of}
 use Rattle.history_text.specs.Output.{final_lines, history_text, with_lines}
 use Rattle.script_text.specs.declared.script.Script.{Script}
+use Rattle.script_runs.specs.Diligent.{IsDiligentReplay}
 use Rattle.script_runs.specs.Replays.{IsReplay}
 use Rattle.fitting_law.specs.Enough.{GetEnoughThroughout}
 use Rattle.binder_console.specs.declared.status.Status.{Status}
@@ -52,6 +53,8 @@ pub record Replays (budget : Option ℕ) (status : Status) (input text : List �
   pub ending : Drained
   pub read : replayable input ≡ Ok script
   pub calls : IsReplay script budget past ending
+  -- and each actor that a turn line names was diligent in each of its lives
+  pub diligent : IsDiligentReplay script budget past ending
   pub run : Run script.setup past
   pub safe : Safe script.setup past
   -- no claim got less than it asked for, but where users bound a volume and a claim by hand

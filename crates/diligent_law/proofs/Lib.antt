@@ -1,6 +1,6 @@
-mod Dues
-mod Following
-mod Passing
-mod Phases
-mod Queues
-mod Turned
+pub mod Dues
+pub mod Following
+pub mod Passing
+pub mod Phases
+pub mod Queues
+pub mod Turned

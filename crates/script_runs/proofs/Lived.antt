@@ -173,11 +173,11 @@ lives_on x h later at same lives = record {
 
 none_before : (restarts : List ℕ) → restarts_before 0 restarts ≡ 0
 none_before [] = refl
-none_before (after ∷ restarts) = by (nat_lt after 0) refl
+none_before (after ∷ restarts) = by (nat_lt after 0) refl (none_before restarts)
   where
-    by : (b : Bool) → nat_lt after 0 ≡ b → restarts_before 0 (after ∷ restarts) ≡ 0
-    by true e = absurd (grind (arith, nat_tests))
-    by false e = rw e (none_before restarts)
+    by : (b : Bool) → nat_lt after 0 ≡ b → restarts_before 0 restarts ≡ 0 → restarts_before 0 (after ∷ restarts) ≡ 0
+    by true e h = absurd (grind (arith, nat_tests))
+    by false e h = rw e h
 
 pub new_lives : (x : Player) → IsNewPlayer x → Lives x []
 new_lives x is = record {
