@@ -18,7 +18,7 @@ use Rattle.script_runs.specs.declared.stage.Stage.{Stage}
 use Rattle.script_runs.specs.Diligent.{AreDiligent, IsDiligentLife, IsDiligentReplay, role_of}
 use Rattle.script_runs.specs.Replays.{NoMoves, Progress}
 use Rattle.script_runs.specs.Steps.Living.{binder_role}
-use Rattle.script_runs.specs.Steps.Standing.{Ended, SoFar, Stands, parts_from, parts_in, place_of}
+use Rattle.script_runs.specs.Steps.Standing.{Ended, SoFar, SomeStands, Stands, parts_from, parts_in, place_of}
 use Rattle.script_runs.proofs.Casting.{built_at, named_at, part_of_built}
 use Rattle.script_runs.proofs.Lived.{each_life}
 use Rattle.script_runs.proofs.Needs.{its_name, its_part, kind_by}
@@ -42,7 +42,7 @@ module _ (script : Script) (option : Option ℕ) (end : Progress) (s : Stage) (s
     where
       of_player : (x : Player) → slice_get s.players.items (place_of actor) ≡ Some x → IsDiligentLife (role_of actor) (part_of script actor) seat (end.made (part_of script actor).name) end.past
       of_player x at =
-          let some = record { progress = end; stands = stands } in
+          let some : SomeStands script option s = record { progress = end; stands = stands } in
           let part : part_of script actor ≡ x.part = its_part script option actor s built some x at in
           let its : x.part.named ≡ true = its_name script option actor s built some x at named in
           let life = each_life x s.world.past end.idle (stands.plays (place_of actor) x at its) (stands.lives (place_of actor) x at its) seat
