@@ -1,9 +1,9 @@
 -- At the end of a replay each life of each actor that a turn line names was diligent.
-use Rattle.std.proofs.Common.{◌≡◌, ℕ, zero, suc, ◌<◌, ◌≤◌, ◌+◌, List, [], ◌∷◌, length, true, true≢false, Option, Some, refl, sym, ◌∙◌, ap, subst, arith}
+use Rattle.std.proofs.Common.{◌≡◌, ℕ, zero, suc, ◌<◌, ◌≤◌, ◌+◌, List, [], ◌∷◌, length, true, true≢false, Option, Some, refl, sym, ◌∙◌, ap, subst}
 use Rattle.std.specs.Prelude.{slice_get}
 use Rattle.std.proofs.lemmas.List.{drop_all}
 use Rattle.call_types.specs.declared.entry.Entry.{Entry}
-use Rattle.model_laws.proofs.Lists.{none_some, one}
+use Rattle.model_laws.proofs.Lists.{none_some}
 use Rattle.world_core.specs.declared.drained.Drained.{Drained}
 use Rattle.script_lines.specs.declared.actors.Actor.{Actor}
 use Rattle.script_lines.specs.declared.actors.Actor.TheVariants.{Worker, Agent}
@@ -18,7 +18,7 @@ use Rattle.script_runs.specs.declared.stage.Stage.{Stage}
 use Rattle.script_runs.specs.Diligent.{AreDiligent, IsDiligentLife, IsDiligentReplay, role_of}
 use Rattle.script_runs.specs.Replays.{NoMoves, Progress}
 use Rattle.script_runs.specs.Steps.Living.{binder_role}
-use Rattle.script_runs.specs.Steps.Standing.{Ended, SoFar, SomeStands, Stands, parts_from, parts_in, place_of}
+use Rattle.script_runs.specs.Steps.Standing.{Ended, SoFar, SomeStands, Stands, parts_in, place_of}
 use Rattle.script_runs.proofs.Casting.{built_at, named_at, part_of_built}
 use Rattle.script_runs.proofs.Lived.{each_life}
 use Rattle.script_runs.proofs.Needs.{its_name, its_part, kind_by}
@@ -46,7 +46,7 @@ module _ (script : Script) (option : Option ℕ) (end : Progress) (s : Stage) (s
           let part : part_of script actor ≡ x.part = its_part script option actor s built some x at in
           let its : x.part.named ≡ true = its_name script option actor s built some x at named in
           let life = each_life x s.world.past end.idle (stands.plays (place_of actor) x at its) (stands.lives (place_of actor) x at its) seat
-              (subst (λ (p : Part). p.first ≤ seat) part low) (subst (λ (p : Part). seat < p.first + lives_of p) part high) in
+          (subst (λ (p : Part). p.first ≤ seat) part low) (subst (λ (p : Part). seat < p.first + lives_of p) part high) in
           subst (λ role. IsDiligentLife role (part_of script actor) seat (end.made (part_of script actor).name) end.past) (sym (role_built actor built))
           (subst (λ h. IsDiligentLife binder_role (part_of script actor) seat (end.made (part_of script actor).name) h) stands.past
           (subst (λ (p : Part). IsDiligentLife binder_role p seat (end.made p.name) s.world.past) (sym part)

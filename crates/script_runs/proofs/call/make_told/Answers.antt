@@ -1,4 +1,4 @@
-use Rattle.std.proofs.Common.{◌∙◌, refl, sym}
+use Rattle.std.proofs.Common.{◌∙◌, sym}
 use Rattle.worker_threads.proofs.RunFacts.{by_actor}
 use Rattle.script_runs.proofs.Calling.{told_called, told_goes}
 use Rattle.script_runs.proofs.call.make_told.Goals as goal
