@@ -1,5 +1,5 @@
 -- The examples of lives compute.
-use Rattle.std.proofs.Common.{◌≡◌, ℕ, zero, suc, ◌<◌, ◌≤◌, ◌+◌, List, [], ◌∷◌, ◌++◌, length, length-append, Bool, true, false, true≢false, Some, None, refl, sym, ◌∙◌, ap, subst, arith}
+use Rattle.std.proofs.Common.{◌≡◌, ℕ, zero, suc, ◌<◌, ◌≤◌, ◌+◌, List, [], ◌∷◌, ◌++◌, length, length-append, Bool, true, false, true≢false, Some, refl, sym, ap, subst, arith}
 use Rattle.std.specs.Prelude.{slice_get}
 use Rattle.call_types.specs.declared.entry.Entry.{Entry}
 use Rattle.diligent_law.specs.Diligence.{AnyRows, Call, IsDiligent}

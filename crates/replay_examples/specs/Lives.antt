@@ -1,5 +1,5 @@
 -- The calls of one life of an actor: cases that hold, and cases beside them that do not. A choice of this project.
-use Rattle.std.specs.Prelude.{ℕ, ◌≡◌, Bool, true, false, List, [], ◌∷◌, Some, None}
+use Rattle.std.specs.Prelude.{ℕ, ◌≡◌, true, false, List, [], ◌∷◌, Some, None}
 use Rattle.call_types.specs.declared.entry.Entry.{Entry}
 use Rattle.diligent_law.specs.Diligence.{Call}
 use Rattle.world_core.specs.declared.drained.Drained.TheVariants.{Settled}
