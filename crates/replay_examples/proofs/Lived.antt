@@ -1,8 +1,8 @@
 -- The examples of lives compute.
-use Rattle.std.proofs.Common.{◌≡◌, ℕ, zero, suc, ◌<◌, ◌≤◌, ◌+◌, List, [], ◌∷◌, ◌++◌, length, length-append, Bool, true, false, true≢false, Some, refl, sym, ap, subst, arith}
-use Rattle.std.specs.Prelude.{slice_get}
+use Rattle.std.proofs.Common.{◌≡◌, ℕ, zero, suc, ◌<◌, ◌≤◌, ◌+◌, List, [], ◌∷◌, ◌++◌, length, length-append, map, Bool, true, false, true≢false, Some, None, refl, sym, ◌∙◌, ap, subst, arith}
+use Rattle.std.specs.Prelude.{is_some, slice_get}
 use Rattle.call_types.specs.declared.entry.Entry.{Entry}
-use Rattle.diligent_law.specs.Diligence.{AnyRows, Call, IsDiligent}
+use Rattle.diligent_law.specs.Diligence.{AnyRows, Call, IsDiligent, entries}
 use Rattle.model_laws.proofs.Lists.{none_some, one}
 use Rattle.worker_core.specs.declared.role.Role.{Role}
 use Rattle.script_lines.specs.declared.actors.Actor.{Actor}
@@ -42,6 +42,27 @@ lives end made past zero actor calls at seat low high =
     let last : seat < 5 + 1 = subst (λ a. seat < (part_of turn_script a).first + lives_of (part_of turn_script a)) (sym is) high in
     subst (λ a. IsDiligentLife (role_of a) (part_of turn_script a) seat (end.made (part_of turn_script a).name) end.past) is (its_life end made past seat (omega (arith, first, last)))
 
+abbrev head_of : List Bool → Bool
+head_of [] = true
+head_of (b ∷ bs) = b
+
+abbrev tail_of : List Bool → List Bool
+tail_of [] = []
+tail_of (b ∷ bs) = bs
+
+-- the entries and the places of the lost calls say all
+same_calls : (calls others : List Call) → entries calls ≡ entries others → map is_some calls ≡ map is_some others → calls ≡ others
+same_calls [] [] are left = refl
+same_calls [] (other ∷ others) are left = absurd (cc)
+same_calls (call ∷ calls) [] are left = absurd (cc)
+same_calls (None ∷ calls) (None ∷ others) are left = ap (λ xs. None ∷ xs) (same_calls calls others are (ap tail_of left))
+same_calls (None ∷ calls) (Some other ∷ others) are left = absurd (true≢false (sym (ap head_of left)))
+same_calls (Some call ∷ calls) (None ∷ others) are left = absurd (true≢false (ap head_of left))
+same_calls (Some call ∷ calls) (Some other ∷ others) are left =
+    let first : call ≡ other = cc in
+    let later : entries calls ≡ entries others = cc in
+    ap (λ x. Some x ∷ calls) first ∙ ap (λ xs. Some other ∷ xs) (same_calls calls others later (ap tail_of left))
+
 abbrev third_told : List Entry → Bool
 third_told (first ∷ second ∷ third ∷ entries) = third.told
 third_told entries = true
@@ -59,6 +80,7 @@ life_cases = record {
   a_life_between_two_restarts = record { of_seat = refl; left = refl };
   the_life_after_them = record { of_seat = refl; left = refl };
   a_loss_is_of_one_life = λ h. let e : false ∷ true ∷ true ∷ [] ≡ true ∷ true ∷ [] = h.left in absurd (cc);
+  no_other_calls = λ p seat made past calls others own other. same_calls calls others (own.of_seat ∙ sym other.of_seat) (own.left ∙ sym other.left);
   a_turn_of_one_call = record {
     calls = turn_replay;
     diligent = lives turn_replay.end refl refl;

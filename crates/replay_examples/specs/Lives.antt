@@ -41,4 +41,5 @@ pub record LifeExamples : Type 0 where
   pub a_life_between_two_restarts : AreOfLife part 6 5 three_lives (told 6 ∷ untold 6 ∷ [])
   pub the_life_after_them : AreOfLife part 7 5 three_lives (told 7 ∷ None ∷ [])
   pub a_loss_is_of_one_life : AreOfLife part 6 5 three_lives (None ∷ told 6 ∷ untold 6 ∷ []) → ⊥
+  pub no_other_calls : (p : Part) (seat made : ℕ) (past : List Entry) (calls others : List Call) → AreOfLife p seat made past calls → AreOfLife p seat made past others → calls ≡ others
   pub a_turn_of_one_call : IsDiligentReplay turn_script None (reads 5 true ∷ []) (Settled 0)
