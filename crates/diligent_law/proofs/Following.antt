@@ -50,7 +50,7 @@ no_list x xs e = none_some (ap head_in e)
 
 -- what holds after each step
 
-stands_now : (Kept : List Object → Type 0) (role : Role) (s : State) (calls : List Call) → IsPlayed Kept role s calls → StandsFor s (entries calls)
+pub stands_now : (Kept : List Object → Type 0) (role : Role) (s : State) (calls : List Call) → IsPlayed Kept role s calls → StandsFor s (entries calls)
 stands_now Kept role s calls (Begins none new stands) = subst (λ c. StandsFor s (entries c)) (sym none) stands
 stands_now Kept role s calls (Told old before e request reply played is told gives stands) = stands
 stands_now Kept role s calls (LostBefore old before request played is gives stands) = stands
@@ -81,7 +81,7 @@ one_taken Kept role s calls (LostBefore old before request played is gives stand
 one_taken Kept role s calls (LostAfter old before e request played is lost own gives stands) = (came Kept old s request _ _ gives).taken (one_taken Kept role old before played)
 one_taken Kept role s calls (Wakes old turned played turns wakes stands) = (woke Kept old turned s _ turns wakes).taken (one_taken Kept role old calls played)
 
-same_role : (Kept : List Object → Type 0) (role : Role) (s : State) (calls : List Call) → IsPlayed Kept role s calls → s.role ≡ role
+pub same_role : (Kept : List Object → Type 0) (role : Role) (s : State) (calls : List Call) → IsPlayed Kept role s calls → s.role ≡ role
 same_role Kept role s calls (Begins none new stands) = new.is
 same_role Kept role s calls (Told old before e request reply played is told gives stands) = (came Kept old s request _ _ gives).role ∙ same_role Kept role old before played
 same_role Kept role s calls (LostBefore old before request played is gives stands) = (came Kept old s request _ _ gives).role ∙ same_role Kept role old before played
@@ -164,7 +164,7 @@ last_step Kept role s calls (LostAfter old b x request played is lost own gives 
 last_step Kept role s calls (Wakes old turned played turns wakes stands) e before told at = last_step Kept role old calls played e before told at
 
 -- the key is due now
-due_now : (Kept : List Object → Type 0) (role : Role) (key : Key) (before since : List Call) → IsDueThroughout Kept role key before since → IsDue Kept role key (entries (since ++ before))
+pub due_now : (Kept : List Object → Type 0) (role : Role) (key : Key) (before since : List Call) → IsDueThroughout Kept role key before since → IsDue Kept role key (entries (since ++ before))
 due_now Kept role key before [] due = due
 due_now Kept role key before (c ∷ since) due = due.0
 

@@ -1,5 +1,5 @@
-mod Dues
-mod Following
+pub mod Dues
+pub mod Following
 mod Passing
 mod Phases
 mod Queues
