@@ -3,4 +3,5 @@ pub mod Following
 mod Passing
 mod Phases
 mod Queues
+pub mod Stepping
 mod Turned

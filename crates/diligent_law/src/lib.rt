@@ -5,6 +5,8 @@
 //! `specs/Played` says how a life is played by an actor. `played_is_diligent` promises the one of the other.
 #![tactic(auto)]
 
+pub mod steps;
+
 ghost use Rattle.kube_types.specs.Keys.{AreRows};
 ghost use Rattle.diligent_law.specs.Diligence.{AnyRows};
 ghost use Rattle.diligent_law.specs.Played.{PlayedIsDiligent};
