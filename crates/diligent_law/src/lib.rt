@@ -10,6 +10,7 @@ pub mod steps;
 ghost use Rattle.kube_types.specs.Keys.{AreRows};
 ghost use Rattle.diligent_law.specs.Diligence.{AnyRows};
 ghost use Rattle.diligent_law.specs.Played.{PlayedIsDiligent};
+ghost use Rattle.diligent_law.specs.Showing.{OneShowingIsEnough};
 
 /// A binder's life that is played by the turns, answers, losses and wakes of an actor is diligent, whatever rows show what
 /// it was told.
@@ -20,4 +21,9 @@ pub fn played_is_diligent()
 /// The same on rows in order, where the rows of the caches are known to stand so at each turn.
 pub fn played_in_order_is_diligent()
     ensures { PlayedIsDiligent AreRows }
+{}
+
+/// For a volume's key, and for that of a claim that is completed or names its volume, one list of rows tells that it is due.
+pub fn one_showing_is_enough()
+    ensures { OneShowingIsEnough }
 {}
