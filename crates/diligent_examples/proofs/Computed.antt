@@ -36,7 +36,7 @@ use Rattle.worker_core.specs.Stands.{AreLicensed}
 use Rattle.worker_core.specs.States.{State}
 use Rattle.worker_core.specs.Tasks.{IsDecision}
 use Rattle.worker_core.proofs.Begins.{begins}
-use Rattle.diligent_law.specs.Diligence.{AnyRows, BeginsCall, Call, GivesFor, IsAskedFor, IsDiligent, IsDue, IsQuiet, Shows, WasAskedSince, entries}
+use Rattle.diligent_law.specs.Diligence.{AnyRows, BeginsCall, Call, IsAskedFor, IsDiligent, IsDue, IsQuiet, Shows, WasAskedSince, entries}
 use Rattle.diligent_law.specs.Played.{Begins, IsPlayed}
 use Rattle.diligent_law.proofs.Dues.{asked_no_watch}
 use Rattle.diligent_law.proofs.Following.{due_now, played_is_diligent, same_role, stands_now}
@@ -86,34 +86,39 @@ abbrev machine_in : BinderFirst → Option Machine
 machine_in (binder_firsts.Begins m) = Some m
 machine_in first = None
 
-module _ (v : VolumeData) (m : Machine) (request : Request) (asks : call_of m ≡ Some request) (mine : List Entry) (there : object_of (newest mine key_a) ≡ Some (Volume v))
+module _ (v : VolumeData) (m : Machine) (request : Request) (asks : call_of m ≡ Some request) (mine : List Entry) (shown : (key : Key) → row_at key (rows v) ≡ object_of (newest mine key)) (there : row_at key_a (rows v) ≡ Some (Volume v))
     (decides : (rs : List Object) → Shows AnyRows mine rs → volume_first v (volume_decision rs v NotAsked) ≡ binder_firsts.Begins m) where
+  row : (rs : List Object) → Shows AnyRows mine rs → row_at key_a rs ≡ Some (Volume v)
+  row rs shows = shows.shown key_a ∙ sym (shown key_a) ∙ there
+
+  is : (rs : List Object) → Shows AnyRows mine rs → (first : BinderFirst) → IsFirst rs (row_at key_a rs) first → first ≡ binder_firsts.Begins m
+  is rs shows first d = subst (λ r. IsFirst rs r first) (row rs shows) d ∙ decides rs shows
+
+  only_ : (rs : List Object) → Shows AnyRows mine rs → (first : First) → IsDecision binder (memory_of binder mine) rs key_a first → BeginsCall first
+  only_ rs shows firsts.Drops d = none_some (ap machine_in (is rs shows binder_firsts.Drops d))
+  only_ rs shows (firsts.Queues other) d = none_some (ap machine_in (is rs shows (binder_firsts.Queues other) d))
+  only_ rs shows (firsts.Begins (tasks.Binder n)) d = record { task = tasks.Binder n; request = request; begins = refl; call = ap call_of (one n m (ap machine_in (is rs shows (binder_firsts.Begins n) d))) ∙ asks }
+
+  showing : Shows AnyRows mine (rows v)
+  showing = record { shown = shown; kept = tt }
+
   due_by : IsDue AnyRows binder key_a mine
-  due_by rs shows = record {
+  due_by = record {
+    rows = rows v;
+    shows = showing;
     under = record { key = key_a; task = tasks.Binder m; call = request };
     own = refl;
-    gives = record { decided = subst (λ r. IsFirst rs r (binder_firsts.Begins m)) (sym row) (sym (decides rs shows)); call = asks };
+    gives = record { decided = subst (λ r. IsFirst (rows v) r (binder_firsts.Begins m)) (sym (row (rows v) showing)) (sym (decides (rows v) showing)); call = asks };
     only = only_;
   }
-    where
-      row : row_at key_a rs ≡ Some (Volume v)
-      row = shows.shown key_a ∙ there
-
-      is : (first : BinderFirst) → IsFirst rs (row_at key_a rs) first → first ≡ binder_firsts.Begins m
-      is first d = subst (λ r. IsFirst rs r first) row d ∙ decides rs shows
-
-      only_ : (first : First) → IsDecision binder (memory_of binder mine) rs key_a first → BeginsCall first
-      only_ firsts.Drops d = none_some (ap machine_in (is binder_firsts.Drops d))
-      only_ (firsts.Queues other) d = none_some (ap machine_in (is (binder_firsts.Queues other) d))
-      only_ (firsts.Begins (tasks.Binder n)) d = record { task = tasks.Binder n; request = request; begins = refl; call = ap call_of (one n m (ap machine_in (is (binder_firsts.Begins n) d))) ∙ asks }
 
 frees_asks : (v : VolumeData) → v.meta.namespace ≡ [] → call_of (Frees v) ≡ Some (write_phase v volumes.Available)
 unfolding call_of
 frees_asks v none = ap (λ n. if is_empty n then Some (write_phase v volumes.Available) else None) none
 
-pending_due : (mine : List Entry) → object_of (newest mine key_a) ≡ Some (Volume pending_a) → IsDue AnyRows binder key_a mine
+pending_due : (mine : List Entry) → ((key : Key) → row_at key (rows pending_a) ≡ object_of (newest mine key)) → IsDue AnyRows binder key_a mine
 unfolding volume_decision
-pending_due mine there = due_by pending_a (Frees pending_a) (write_phase pending_a volumes.Available) (frees_asks pending_a refl) mine there (λ rs shows. refl)
+pending_due mine shown = due_by pending_a (Frees pending_a) (write_phase pending_a volumes.Available) (frees_asks pending_a refl) mine shown refl (λ rs shows. refl)
 
 reads_asks : call_of (ReadsClaim taken_a) ≡ Some (requests.Get key_c)
 unfolding call_of
@@ -124,13 +129,13 @@ reads_unseen : (rs : List Object) → row_at key_c rs ≡ None → volume_first 
 unfolding volume_decision claim_with
 reads_unseen rs none = rw none refl
 
-taken_due : (mine : List Entry) → object_of (newest mine key_a) ≡ Some (Volume taken_a) → object_of (newest mine key_c) ≡ None → IsDue AnyRows binder key_a mine
-taken_due mine there lacks = due_by taken_a (ReadsClaim taken_a) (requests.Get key_c) reads_asks mine there (λ rs shows. reads_unseen rs (shows.shown key_c ∙ lacks))
+taken_due : (mine : List Entry) → ((key : Key) → row_at key (rows taken_a) ≡ object_of (newest mine key)) → IsDue AnyRows binder key_a mine
+taken_due mine shown = due_by taken_a (ReadsClaim taken_a) (requests.Get key_c) reads_asks mine shown refl (λ rs shows. reads_unseen rs (shows.shown key_c ∙ sym (shown key_c)))
 
 -- a key whose decision drops it is not due
 
 not_due : (key : Key) (mine : List Entry) (rs : List Object) → Shows AnyRows mine rs → IsFirst rs (row_at key rs) binder_firsts.Drops → IsDue AnyRows binder key mine → ⊥
-not_due key mine rs shows drops due = none_some (ap task_in ((due rs shows).only firsts.Drops drops).begins)
+not_due key mine rs shows drops due = none_some (ap task_in (due.only rs shows firsts.Drops drops).begins)
   where
     task_in : First → Option Task
     task_in (firsts.Begins task) = Some task
@@ -157,12 +162,12 @@ other_drops v key other = subst (λ r. IsFirst (rows v) r binder_firsts.Drops) (
 
 pub due_examples : DueExamples
 due_examples = record {
-  pending_volume = pending_due _ refl;
-  still_after_a_watch = pending_due _ refl;
+  pending_volume = pending_due _ (shown_one pending_a);
+  still_after_a_watch = pending_due _ (shown_one pending_a);
   not_another_key = not_due key_c _ (rows pending_a) (record { shown = shown_one pending_a; kept = tt }) (other_drops pending_a key_c refl);
   not_an_available_volume = available_none _ (shown_one a) key_a;
   not_before_it_was_told = none_due key_a;
-  reference_without_its_claim = taken_due _ refl refl;
+  reference_without_its_claim = taken_due _ (shown_one taken_a);
 }
 
 -- whole lives
@@ -195,9 +200,8 @@ diligent_where_none calls never kind first fourth earlier between later e four k
     absurd (never_before calls (later ++ Some fourth ∷ []) (between ++ Some first ∷ earlier) never (e ∙ appended later between (Some first ∷ earlier) (Some fourth)) key (due_now AnyRows binder key (Some first ∷ earlier) between due))
 
 -- four watches with nothing between leave a due key
-left : (v : VolumeData) → ((mine : List Entry) → object_of (newest mine key_a) ≡ Some (Volume v) → object_of (newest mine key_c) ≡ None → IsDue AnyRows binder key_a mine)
-    → object_of (newest (seat_of seats.Binder (tells_volume v ∷ [])) key_a) ≡ Some (Volume v) → IsDiligent AnyRows binder (watched v) → ⊥
-left v due there diligent = none (diligent kinds.PersistentVolume (entry watch) (entry watch) (call (tells_volume v) ∷ []) (call watch ∷ call watch ∷ []) [] refl watch_examples.four key_a (due _ there refl, (due _ there refl, due _ there refl)))
+left : (v : VolumeData) → ((mine : List Entry) → ((key : Key) → row_at key (rows v) ≡ object_of (newest mine key)) → IsDue AnyRows binder key_a mine) → IsDiligent AnyRows binder (watched v) → ⊥
+left v due diligent = none (diligent kinds.PersistentVolume (entry watch) (entry watch) (call (tells_volume v) ∷ []) (call watch ∷ call watch ∷ []) [] refl watch_examples.four key_a (due _ (shown_one v), (due _ (shown_one v), due _ (shown_one v))))
   where
     watches_none : (mine : List Entry) → IsAskedFor AnyRows binder key_a mine watch.request → ⊥
     watches_none mine = asked_no_watch AnyRows binder key_a mine kinds.PersistentVolume 4
@@ -208,32 +212,29 @@ left v due there diligent = none (diligent kinds.PersistentVolume (entry watch) 
     none (inr (inr h)) = h
 
 pub pending_left : IsDiligent AnyRows binder (watched pending_a) → ⊥
-pending_left = left pending_a (λ mine there lacks. pending_due mine there) refl
+pending_left = left pending_a pending_due
 
 -- the calls that the rules give for one told volume
 
 asked_read : IsAskedFor AnyRows binder key_a (entries (call watch ∷ call watch ∷ call (tells_volume taken_a) ∷ [])) (requests.Get key_c)
 unfolding taken_due due_by
 asked_read = record {
-  rows = rows taken_a;
-  shows = shows;
-  under = given.under;
-  own = given.own;
-  gives = given.gives;
+  rows = due.rows;
+  shows = due.shows;
+  under = due.under;
+  own = due.own;
+  gives = due.gives;
   call = refl;
 }
   where
-    shows : Shows AnyRows (entries (call watch ∷ call watch ∷ call (tells_volume taken_a) ∷ [])) (rows taken_a)
-    shows = record { shown = shown_one taken_a; kept = tt }
-
-    given : GivesFor binder (entries (call watch ∷ call watch ∷ call (tells_volume taken_a) ∷ [])) key_a (rows taken_a)
-    given = taken_due _ refl refl (rows taken_a) shows
+    due : IsDue AnyRows binder key_a (entries (call watch ∷ call watch ∷ call (tells_volume taken_a) ∷ []))
+    due = taken_due _ (shown_one taken_a)
 
 pub life_examples : LifeExamples
 life_examples = record {
   nothing_is_due = diligent_where_none (watched a) nothing;
   not_where_a_due_key_is_left = pending_left;
-  not_where_the_claim_is_not_read = left taken_a taken_due refl;
+  not_where_the_claim_is_not_read = left taken_a taken_due;
   the_claim_was_read = inr (inl asked_read);
 }
   where

@@ -12,7 +12,6 @@ use Rattle.kube_types.specs.declared.objects.Claim.{Claim as ClaimData}
 use Rattle.kube_types.specs.declared.uid.Uid.{Uid}
 use Rattle.kube_types.specs.Bindings.{is_completed, is_deleting, is_empty}
 use Rattle.kube_types.specs.Keys.{row_at, rows_of}
-use Rattle.kube_types.proofs.RowPlaces.{place_of_row}
 use Rattle.binder_model.specs.Matching.{has_match}
 use Rattle.binder_model.specs.BinderDue.{claim_with}
 use Rattle.binder_model.specs.ObjectKeys.{claim_key, volume_key}
@@ -37,7 +36,7 @@ use Rattle.worker_core.specs.declared.task.Task.TheVariants as tasks
 use Rattle.worker_core.specs.declared.task.Under.{Under}
 use Rattle.worker_core.specs.Memories.{memory_of}
 use Rattle.worker_core.specs.Tasks.{GivesCall, IsBinderFirst, IsDecision, IsFirstOf, task_call}
-use Rattle.diligent_law.specs.Diligence.{AnyRows, BeginsCall, GivesFor, IsDue, Shows}
+use Rattle.diligent_law.specs.Diligence.{AnyRows, BeginsCall, IsDue, Shows}
 use Rattle.diligent_law.specs.Showing.{IsLookedUp, OneShowingIsEnough}
 
 module _ (rows other : List Object) (same : (key : Key) → row_at key other ≡ row_at key rows) where
@@ -83,20 +82,6 @@ module _ (rows other : List Object) (same : (key : Key) → row_at key other ≡
   -- what begins
 
   -- the volume that the claim names is the same on both
-  binding_moves : (c : ClaimData) (first : BinderFirst) → is_empty c.volume_name ≡ false → IsBindingTo rows c first → IsBindingTo other c first
-  binding_moves c first named b =
-      let key = volume_key c.volume_name in
-      let chosen : IsChoice false rows c (Some b.place) = subst (λ e. IsChoice e rows c (Some b.place)) named b.choice in
-      let found : row_at key other ≡ Some (Volume b.volume) = same key ∙ sym chosen ∙ b.there in
-      let place = place_of_row kinds.PersistentVolume key (Volume b.volume) other refl found in
-      record {
-        place = place.0;
-        choice = subst (λ e. IsChoice e other c (Some place.0)) (sym named) (place.1 ∙ sym found);
-        volume = b.volume;
-        there = place.1;
-        begins = b.begins;
-      }
-
   binding_same : (c : ClaimData) (f g : BinderFirst) → is_empty c.volume_name ≡ false → IsBindingTo rows c f → IsBindingTo other c g → g ≡ f
   binding_same c f g named b d =
       let key = volume_key c.volume_name in
@@ -104,10 +89,6 @@ module _ (rows other : List Object) (same : (key : Key) → row_at key other ≡
       let chosen_d : IsChoice false other c (Some d.place) = subst (λ e. IsChoice e other c (Some d.place)) named d.choice in
       let volumes : Some (Volume d.volume) ≡ Some (Volume b.volume) = sym d.there ∙ chosen_d ∙ same key ∙ sym chosen_b ∙ b.there in
       d.begins ∙ ap (λ v. binder_firsts.Begins (Binds v c)) (one d.volume b.volume (ap as_volume volumes)) ∙ sym b.begins
-
-  claim_moves : (c : ClaimData) (step : ClaimStep) (first : BinderFirst) → (step ≡ steps.Bind → is_empty c.volume_name ≡ false) → IsClaimFirst rows c step first → IsClaimFirst other c step first
-  claim_moves c steps.Bind first named d = binding_moves c first (named refl) d
-  claim_moves c _ first named d = d
 
   claim_same : (c : ClaimData) (step : ClaimStep) (f g : BinderFirst) → (step ≡ steps.Bind → is_empty c.volume_name ≡ false) → IsClaimFirst rows c step f → IsClaimFirst other c step g → g ≡ f
   claim_same c steps.Bind f g named d e = binding_same c f g (named refl) d e
@@ -129,14 +110,6 @@ module _ (rows other : List Object) (same : (key : Key) → row_at key other ≡
           let lost : steps.Lost ≡ steps.Bind = rw (completed, e) at decides in
           absurd (true≢false (sym (ap is_bind lost)))
 
-  first_moves : (row : Option Object) (first : BinderFirst) → IsLookedUp row → IsFirst rows row first → IsFirst other row first
-  first_moves (Some (Volume v)) first looked d = d ∙ ap (volume_first v) (sym (same_volume_decision v))
-  first_moves (Some (Claim c)) first looked d = subst (λ s. IsClaimFirst other c s first) (sym (same_claim_decision c looked)) (claim_moves c (claim_decision rows c NotAsked) first (binds_named c looked) d)
-  first_moves (Some (Class x)) first looked d = absurd looked
-  first_moves (Some (Node x)) first looked d = absurd looked
-  first_moves (Some (Pod x)) first looked d = absurd looked
-  first_moves None first looked d = absurd looked
-
   first_same : (row : Option Object) (f g : BinderFirst) → IsLookedUp row → IsFirst rows row f → IsFirst other row g → g ≡ f
   first_same (Some (Volume v)) f g looked d e = e ∙ ap (volume_first v) (same_volume_decision v) ∙ sym d
   first_same (Some (Claim c)) f g looked d e = claim_same c (claim_decision rows c NotAsked) f g (binds_named c looked) d (subst (λ s. IsClaimFirst other c s g) (same_claim_decision c looked) e)
@@ -154,40 +127,33 @@ begins_binder : (rows : List Object) (key : Key) (task : Task) → IsBinderFirst
 begins_binder rows key (tasks.Binder m) d = (m, (refl, d))
 
 pub one_showing : OneShowingIsEnough
-one_showing role key mine rows u binder shows looked own gives other others = record {
+one_showing role key mine rows u binder shows looked own gives = record {
+  rows = rows;
+  shows = shows;
   under = u;
   own = own;
-  gives = record { decided = to_role u.key (firsts.Begins u.task) moved; call = gives.call };
-  only = λ first d. only_ first (of_role key first d);
+  gives = gives;
+  only = λ other others first d. only_ other others first (of_role other key first d);
 }
   where
-    of_role_on : (rs : List Object) (k : Key) (first : First) → IsFirstOf role.kind rs k first → IsBinderFirst rs k first
-    of_role_on rs k first d = subst (λ x. IsFirstOf x rs k first) binder d
+    of_role : (rs : List Object) (k : Key) (first : First) → IsFirstOf role.kind rs k first → IsBinderFirst rs k first
+    of_role rs k first d = subst (λ x. IsFirstOf x rs k first) binder d
 
-    of_role : (k : Key) (first : First) → IsFirstOf role.kind other k first → IsBinderFirst other k first
-    of_role k first d = of_role_on other k first d
-
-    to_role : (k : Key) (first : First) → IsBinderFirst other k first → IsFirstOf role.kind other k first
-    to_role k first d = subst (λ x. IsFirstOf x other k first) (sym binder) d
-
-    same : (k : Key) → row_at k other ≡ row_at k rows
-    same k = others.shown k ∙ sym (shows.shown k)
+    same : (other : List Object) → Shows AnyRows mine other → (k : Key) → row_at k other ≡ row_at k rows
+    same other others k = others.shown k ∙ sym (shows.shown k)
 
     begun : (m : Machine) × ((u.task ≡ tasks.Binder m) × IsFirst rows (row_at key rows) (binder_firsts.Begins m))
-    begun = begins_binder rows key u.task (subst (λ k. IsBinderFirst rows k (firsts.Begins u.task)) own (of_role_on rows u.key (firsts.Begins u.task) gives.decided))
+    begun = begins_binder rows key u.task (subst (λ k. IsBinderFirst rows k (firsts.Begins u.task)) own (of_role rows u.key (firsts.Begins u.task) gives.decided))
 
-    there : IsFirst other (row_at key other) (binder_firsts.Begins begun.0)
-    there = subst (λ r. IsFirst other r (binder_firsts.Begins begun.0)) (sym (same key)) (first_moves rows other same (row_at key rows) (binder_firsts.Begins begun.0) looked begun.1.1)
+    only_ : (other : List Object) → Shows AnyRows mine other → (first : First) → IsBinderFirst other key first → BeginsCall first
+    only_ other others = by
+      where
+        is : (g : BinderFirst) → IsFirst other (row_at key other) g → g ≡ binder_firsts.Begins begun.0
+        is g d = first_same rows other (same other others) (row_at key rows) (binder_firsts.Begins begun.0) g looked begun.1.1 (subst (λ r. IsFirst other r g) (same other others key) d)
 
-    moved : IsBinderFirst other u.key (firsts.Begins u.task)
-    moved = subst (λ k. IsBinderFirst other k (firsts.Begins u.task)) (sym own) (subst (λ t. IsBinderFirst other key (firsts.Begins t)) (sym begun.1.0) there)
-
-    is : (g : BinderFirst) → IsFirst other (row_at key other) g → g ≡ binder_firsts.Begins begun.0
-    is g d = first_same rows other same (row_at key rows) (binder_firsts.Begins begun.0) g looked begun.1.1 (subst (λ r. IsFirst other r g) (same key) d)
-
-    only_ : (first : First) → IsBinderFirst other key first → BeginsCall first
-    only_ firsts.Drops d = none_some (ap machine_in (is binder_firsts.Drops d))
-    only_ (firsts.Queues k) d = none_some (ap machine_in (is (binder_firsts.Queues k) d))
-    only_ (firsts.Begins (tasks.Binder n)) d =
-        let same_task : u.task ≡ tasks.Binder n = begun.1.0 ∙ ap (λ m. tasks.Binder m) (sym (one n begun.0 (ap machine_in (is (binder_firsts.Begins n) d)))) in
-        record { task = tasks.Binder n; request = u.call; begins = refl; call = sym (ap task_call same_task) ∙ gives.call }
+        by : (first : First) → IsBinderFirst other key first → BeginsCall first
+        by firsts.Drops d = none_some (ap machine_in (is binder_firsts.Drops d))
+        by (firsts.Queues k) d = none_some (ap machine_in (is (binder_firsts.Queues k) d))
+        by (firsts.Begins (tasks.Binder n)) d =
+            let same_task : u.task ≡ tasks.Binder n = begun.1.0 ∙ ap (λ m. tasks.Binder m) (sym (one n begun.0 (ap machine_in (is (binder_firsts.Begins n) d)))) in
+            record { task = tasks.Binder n; request = u.call; begins = refl; call = sym (ap task_call same_task) ∙ gives.call }

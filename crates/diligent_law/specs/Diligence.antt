@@ -52,16 +52,15 @@ pub record BeginsCall (first : First) : Type 0 where
   pub begins : first ≡ firsts.Begins task
   pub call : task_call task ≡ Some request
 
--- on these rows the rules give a call for the key, and decide nothing else of it
-pub record GivesFor (role : Role) (mine : List Entry) (key : Key) (rows : List Object) : Type 0 where
+-- after these entries the rules give the life a call for the key: on some rows that show the newest told they give one, and
+-- on no such rows they decide anything else
+pub record IsDue (Kept : List Object → Type 0) (role : Role) (key : Key) (mine : List Entry) : Type 0 where
+  pub rows : List Object
+  pub shows : Shows Kept mine rows
   pub under : Under
   pub own : under.key ≡ key
   pub gives : GivesCall role (memory_of role mine) rows under
-  pub only : (first : First) → IsDecision role (memory_of role mine) rows key first → BeginsCall first
-
--- after these entries the rules give the life a call for the key, on whatever rows show the newest told
-abbrev pub IsDue : (List Object → Type 0) → Role → Key → List Entry → Type 0
-IsDue Kept role key mine = (rows : List Object) → Shows Kept mine rows → GivesFor role mine key rows
+  pub only : (other : List Object) → Shows Kept mine other → (first : First) → IsDecision role (memory_of role mine) other key first → BeginsCall first
 
 -- the request is a call that the rules give for the key after these entries
 pub record IsAskedFor (Kept : List Object → Type 0) (role : Role) (key : Key) (mine : List Entry) (request : Request) : Type 0 where
