@@ -118,12 +118,12 @@ module _ (rows other : List Object) (same : (key : Key) → row_at key other ≡
   first_same (Some (Pod x)) f g looked d e = absurd looked
   first_same None f g looked d e = absurd looked
 
-abbrev machine_in : BinderFirst → Option Machine
+abbrev pub machine_in : BinderFirst → Option Machine
 machine_in (binder_firsts.Begins m) = Some m
 machine_in first = None
 
 -- the decision of the actor is that of the binder
-begins_binder : (rows : List Object) (key : Key) (task : Task) → IsBinderFirst rows key (firsts.Begins task) → (m : Machine) × ((task ≡ tasks.Binder m) × IsFirst rows (row_at key rows) (binder_firsts.Begins m))
+pub begins_binder : (rows : List Object) (key : Key) (task : Task) → IsBinderFirst rows key (firsts.Begins task) → (m : Machine) × ((task ≡ tasks.Binder m) × IsFirst rows (row_at key rows) (binder_firsts.Begins m))
 begins_binder rows key (tasks.Binder m) d = (m, (refl, d))
 
 pub one_showing : OneShowingIsEnough

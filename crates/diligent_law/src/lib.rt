@@ -10,7 +10,7 @@ pub mod steps;
 ghost use Rattle.kube_types.specs.Keys.{AreRows};
 ghost use Rattle.diligent_law.specs.Diligence.{AnyRows};
 ghost use Rattle.diligent_law.specs.Played.{PlayedIsDiligent};
-ghost use Rattle.diligent_law.specs.Showing.{OneShowingIsEnough};
+ghost use Rattle.diligent_law.specs.Showing.{OneShowingIsEnough, RowsInOrderAreEnough};
 
 /// A binder's life that is played by the turns, answers, losses and wakes of an actor is diligent, whatever rows show what
 /// it was told.
@@ -26,4 +26,10 @@ pub fn played_in_order_is_diligent()
 /// For a volume's key, and for that of a claim that is completed or names its volume, one list of rows tells that it is due.
 pub fn one_showing_is_enough()
     ensures { OneShowingIsEnough }
+{}
+
+/// A key is due, whatever rows are looked at, where the rules give a call for it on the rows in order and no volume of them
+/// stands in a namespace.
+pub fn rows_in_order_are_enough()
+    ensures { RowsInOrderAreEnough }
 {}
