@@ -1,5 +1,5 @@
 -- Rows in order are enough to know that a key is due.
-use Rattle.std.proofs.Common.{◌≡◌, ◌⊎◌, ℕ, List, [], ◌∷◌, Bool, true, false, true≢false, Option, Some, None, inl, inr, refl, sym, ◌∙◌, ap, subst, slice_get, is_some, arith, if◌then◌else◌}
+use Rattle.std.proofs.Common.{◌≡◌, ◌⊎◌, ℕ, List, [], ◌∷◌, ◌++◌, Bool, true, false, true≢false, Option, Some, None, inl, inr, refl, sym, ◌∙◌, ap, subst, slice_get, is_some, arith, if◌then◌else◌}
 use Rattle.std.specs.Prelude.{◌&&◌, ◌||◌, is_none, bytes_eq}
 use Rattle.kube_types.specs.declared.key.Key.{Key}
 use Rattle.kube_types.specs.declared.lookup.Live.TheVariants.{NotAsked}
@@ -38,8 +38,9 @@ use Rattle.worker_core.specs.declared.task.Task.TheVariants as tasks
 use Rattle.worker_core.specs.declared.task.Under.{Under}
 use Rattle.worker_core.specs.Memories.{memory_of}
 use Rattle.worker_core.specs.Tasks.{GivesCall, IsBinderFirst, IsDecision, IsFirstOf, task_call}
-use Rattle.diligent_law.specs.Diligence.{AnyRows, BeginsCall, IsDue, Shows}
-use Rattle.diligent_law.specs.Showing.{HaveNoNamespace, IsLookedUp, RowsInOrderAreEnough}
+use Rattle.diligent_law.specs.Diligence.{AnyRows, BeginsCall, Call, IsDue, IsDueThroughout, Shows, entries}
+use Rattle.diligent_law.specs.Showing.{HaveNoNamespace, IsDueInOrder, IsDueInOrderThroughout, IsLookedUp, PlayedIsDiligentInOrder, RowsInOrderAreEnough}
+use Rattle.diligent_law.proofs.Following.{played_is_diligent}
 use Rattle.diligent_law.proofs.Seeking.{Serves, binds, found_any, placed_row, serves}
 use Rattle.diligent_law.proofs.Showings.{begins_binder, machine_in, one_showing}
 
@@ -154,8 +155,8 @@ module _ (rows : List Object) (order : AreRows rows) (spaceless : HaveNoNamespac
         by (firsts.Queues k) h = none_some (ap machine_in (on (binder_firsts.Queues k) h).is)
         by (firsts.Begins (tasks.Binder n)) h = begins_by n (on (binder_firsts.Begins n) h)
 
-pub rows_in_order : RowsInOrderAreEnough
-rows_in_order role key mine rows u binder shows spaceless own gives = by (row_at key rows) refl
+in_order : (role : Role) (key : Key) (mine : List Entry) (rows : List Object) (u : Under) → role.kind ≡ Binder → Shows AreRows mine rows → HaveNoNamespace rows → u.key ≡ key → GivesCall role (memory_of role mine) rows u → IsDue AnyRows role key mine
+in_order role key mine rows u binder shows spaceless own gives = by (row_at key rows) refl
   where
     any : Shows AnyRows mine rows
     any = record { shown = shows.shown; kept = tt }
@@ -196,3 +197,15 @@ rows_in_order role key mine rows u binder shows spaceless own gives = by (row_at
     by (Some (Pod x)) e = nothing (at (Some (Pod x)) e)
     by (Some (Volume v)) e = looked (subst (λ r. IsLookedUp r) (sym e) tt)
     by (Some (Claim c)) e = claim c e (is_completed c) (is_empty c.volume_name) refl refl
+
+pub rows_in_order : RowsInOrderAreEnough
+rows_in_order role key mine binder due = in_order role key mine due.rows due.under binder due.shows due.spaceless due.own due.gives
+
+-- lives
+
+throughout : (role : Role) (key : Key) (before since : List Call) → role.kind ≡ Binder → IsDueInOrderThroughout role key before since → IsDueThroughout AnyRows role key before since
+throughout role key before [] binder due = rows_in_order role key (entries before) binder due
+throughout role key before (c ∷ since) binder due = (rows_in_order role key (entries (c ∷ since ++ before)) binder due.0, throughout role key before since binder due.1)
+
+pub played_in_order : PlayedIsDiligentInOrder
+played_in_order role s calls binder played kind first fourth earlier between later e four key due = played_is_diligent AnyRows role s calls binder played kind first fourth earlier between later e four key (throughout role key (Some first ∷ earlier) between binder due)

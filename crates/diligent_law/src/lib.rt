@@ -7,20 +7,18 @@
 
 pub mod steps;
 
-ghost use Rattle.kube_types.specs.Keys.{AreRows};
 ghost use Rattle.diligent_law.specs.Diligence.{AnyRows};
 ghost use Rattle.diligent_law.specs.Played.{PlayedIsDiligent};
-ghost use Rattle.diligent_law.specs.Showing.{OneShowingIsEnough, RowsInOrderAreEnough};
+ghost use Rattle.diligent_law.specs.Showing.{OneShowingIsEnough, PlayedIsDiligentInOrder, RowsInOrderAreEnough};
 
-/// A binder's life that is played by the turns, answers, losses and wakes of an actor is diligent, whatever rows show what
-/// it was told.
+/// A binder's life that is played by the turns, answers, losses and wakes of an actor is diligent.
 pub fn played_is_diligent()
     ensures { PlayedIsDiligent AnyRows }
 {}
 
-/// The same on rows in order, where the rows of the caches are known to stand so at each turn.
-pub fn played_in_order_is_diligent()
-    ensures { PlayedIsDiligent AreRows }
+/// The same where what is due is read on the rows in order, and no volume of them stands in a namespace.
+pub fn played_is_diligent_in_order()
+    ensures { PlayedIsDiligentInOrder }
 {}
 
 /// For a volume's key, and for that of a claim that is completed or names its volume, one list of rows tells that it is due.
