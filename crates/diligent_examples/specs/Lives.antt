@@ -19,7 +19,7 @@ use Rattle.model_examples.specs.Samples.{Exchange, a, entry_of, finds_none, hear
 use Rattle.worker_core.specs.declared.role.Role.{Role}
 use Rattle.worker_core.specs.States.{State}
 use Rattle.worker_core.specs.Stands.{IsNew}
-use Rattle.diligent_law.specs.Diligence.{AnyRows, AreFourWatches, Call, IsDiligent, IsDue, WasAskedSince}
+use Rattle.diligent_law.specs.Diligence.{AreFourWatches, Call, IsDiligent, IsDue, WasAskedSince}
 use Rattle.diligent_law.specs.Played.{IsPlayed}
 
 abbrev pub binder : Role
@@ -69,7 +69,7 @@ abbrev pub pending_a : VolumeData
 pending_a = in_phase volumes.Pending a
 
 abbrev pub Due : Key → List Exchange → Type 0
-Due key xs = IsDue AnyRows binder key (seat_of seats.Binder xs)
+Due key xs = IsDue binder key (seat_of seats.Binder xs)
 
 pub record DueExamples : Type 0 where
   pub pending_volume : Due key_a (tells_volume pending_a ∷ [])
@@ -86,15 +86,15 @@ abbrev pub watched : VolumeData → List Call
 watched v = call watch ∷ call watch ∷ call watch ∷ call watch ∷ call (tells_volume v) ∷ []
 
 pub record LifeExamples : Type 0 where
-  pub nothing_is_due : IsDiligent AnyRows binder (watched a)
-  pub not_where_a_due_key_is_left : IsDiligent AnyRows binder (watched pending_a) → ⊥
-  pub not_where_the_claim_is_not_read : IsDiligent AnyRows binder (watched taken_a) → ⊥
-  pub the_claim_was_read : WasAskedSince AnyRows binder key_a (call watch ∷ call (tells_volume taken_a) ∷ []) (call watch ∷ call (finds_none key_c) ∷ call watch ∷ [])
+  pub nothing_is_due : IsDiligent binder (watched a)
+  pub not_where_a_due_key_is_left : IsDiligent binder (watched pending_a) → ⊥
+  pub not_where_the_claim_is_not_read : IsDiligent binder (watched taken_a) → ⊥
+  pub the_claim_was_read : WasAskedSince binder key_a (call watch ∷ call (tells_volume taken_a) ∷ []) (call watch ∷ call (finds_none key_c) ∷ call watch ∷ [])
 
 -- how a life is played
 
 pub record PlayedExamples : Type 0 where
-  pub a_new_life : (s : State) → IsNew binder s → IsPlayed AnyRows binder s []
-  pub not_with_a_watch_before_a_list : (s : State) → IsPlayed AnyRows binder s (call watch ∷ []) → ⊥
-  pub not_with_a_write_of_what_was_not_told : (s : State) → IsPlayed AnyRows binder s (call (frees a) ∷ []) → ⊥
-  pub not_where_a_due_key_is_left : (s : State) → IsPlayed AnyRows binder s (watched pending_a) → ⊥
+  pub a_new_life : (s : State) → IsNew binder s → IsPlayed binder s []
+  pub not_with_a_watch_before_a_list : (s : State) → IsPlayed binder s (call watch ∷ []) → ⊥
+  pub not_with_a_write_of_what_was_not_told : (s : State) → IsPlayed binder s (call (frees a) ∷ []) → ⊥
+  pub not_where_a_due_key_is_left : (s : State) → IsPlayed binder s (watched pending_a) → ⊥

@@ -1,9 +1,8 @@
 -- Rows in order are enough to know that a key is due.
-use Rattle.std.proofs.Common.{◌≡◌, ◌⊎◌, ℕ, List, [], ◌∷◌, ◌++◌, Bool, true, false, true≢false, Option, Some, None, inl, inr, refl, sym, ◌∙◌, ap, subst, slice_get, is_some, arith, if◌then◌else◌}
+use Rattle.std.proofs.Common.{◌≡◌, ℕ, List, [], ◌∷◌, ◌++◌, Bool, true, false, true≢false, Option, Some, None, inl, inr, refl, sym, ◌∙◌, ap, subst, slice_get, is_some, arith, if◌then◌else◌}
 use Rattle.std.specs.Prelude.{◌&&◌, ◌||◌, is_none, bytes_eq}
 use Rattle.kube_types.specs.declared.key.Key.{Key}
 use Rattle.kube_types.specs.declared.lookup.Live.TheVariants.{NotAsked}
-use Rattle.kube_types.specs.declared.parts.Kind.{Kind}
 use Rattle.kube_types.specs.declared.parts.Kind.TheVariants as kinds
 use Rattle.kube_types.specs.declared.objects.Object.{Object}
 use Rattle.kube_types.specs.declared.objects.Object.TheVariants.{Class, Node, Volume, Claim, Pod}
@@ -33,15 +32,14 @@ use Rattle.model_laws.proofs.Lists.{none_some, one}
 use Rattle.worker_core.specs.declared.role.Role.{Role}
 use Rattle.worker_core.specs.declared.task.First.{First}
 use Rattle.worker_core.specs.declared.task.First.TheVariants as firsts
-use Rattle.worker_core.specs.declared.task.Task.{Task}
 use Rattle.worker_core.specs.declared.task.Task.TheVariants as tasks
 use Rattle.worker_core.specs.declared.task.Under.{Under}
 use Rattle.worker_core.specs.Memories.{memory_of}
-use Rattle.worker_core.specs.Tasks.{GivesCall, IsBinderFirst, IsDecision, IsFirstOf, task_call}
-use Rattle.diligent_law.specs.Diligence.{AnyRows, BeginsCall, Call, IsDue, IsDueThroughout, Shows, entries}
-use Rattle.diligent_law.specs.Showing.{HaveNoNamespace, IsDueInOrder, IsDueInOrderThroughout, IsLookedUp, PlayedIsDiligentInOrder, RowsInOrderAreEnough}
+use Rattle.worker_core.specs.Tasks.{GivesCall, IsBinderFirst, IsFirstOf, task_call}
+use Rattle.diligent_law.specs.Diligence.{BeginsCall, Call, IsDue, IsDueThroughout, Shows, entries}
+use Rattle.diligent_law.specs.Showing.{HaveNoNamespace, IsDueInOrderThroughout, IsLookedUp, PlayedIsDiligentInOrder, RowsInOrderAreEnough}
 use Rattle.diligent_law.proofs.Following.{played_is_diligent}
-use Rattle.diligent_law.proofs.Seeking.{Serves, binds, found_any, placed_row, serves}
+use Rattle.diligent_law.proofs.Seeking.{binds, found_any, placed_row, serves}
 use Rattle.diligent_law.proofs.Showings.{begins_binder, machine_in, one_showing}
 
 bind_is : (v : VolumeData) (c : ClaimData) → call_of (Binds v c) ≡ bind_call v c
@@ -155,42 +153,39 @@ module _ (rows : List Object) (order : AreRows rows) (spaceless : HaveNoNamespac
         by (firsts.Queues k) h = none_some (ap machine_in (on (binder_firsts.Queues k) h).is)
         by (firsts.Begins (tasks.Binder n)) h = begins_by n (on (binder_firsts.Begins n) h)
 
-in_order : (role : Role) (key : Key) (mine : List Entry) (rows : List Object) (u : Under) → role.kind ≡ Binder → Shows AreRows mine rows → HaveNoNamespace rows → u.key ≡ key → GivesCall role (memory_of role mine) rows u → IsDue AnyRows role key mine
-in_order role key mine rows u binder shows spaceless own gives = by (row_at key rows) refl
+in_order : (role : Role) (key : Key) (mine : List Entry) (rows : List Object) (u : Under) → role.kind ≡ Binder → Shows mine rows → AreRows rows → HaveNoNamespace rows → u.key ≡ key → GivesCall role (memory_of role mine) rows u → IsDue role key mine
+in_order role key mine rows u binder shows order spaceless own gives = by (row_at key rows) refl
   where
-    any : Shows AnyRows mine rows
-    any = record { shown = shows.shown; kept = tt }
-
-    looked : IsLookedUp (row_at key rows) → IsDue AnyRows role key mine
-    looked l = one_showing role key mine rows u binder any l own gives
+    looked : IsLookedUp (row_at key rows) → IsDue role key mine
+    looked l = one_showing role key mine rows u binder shows l own gives
 
     begun : (m : Machine) × ((u.task ≡ tasks.Binder m) × IsFirst rows (row_at key rows) (binder_firsts.Begins m))
     begun = begins_binder rows key u.task (subst (λ k. IsBinderFirst rows k (firsts.Begins u.task)) own (subst (λ x. IsFirstOf x rows u.key (firsts.Begins u.task)) binder gives.decided))
 
-    nothing : binder_firsts.Begins begun.0 ≡ binder_firsts.Drops → IsDue AnyRows role key mine
+    nothing : binder_firsts.Begins begun.0 ≡ binder_firsts.Drops → IsDue role key mine
     nothing e = none_some (sym (ap machine_in e))
 
     at : (r : Option Object) → row_at key rows ≡ r → IsFirst rows r (binder_firsts.Begins begun.0)
     at r e = subst (λ x. IsFirst rows x (binder_firsts.Begins begun.0)) e begun.1.1
 
-    seeks : (c : ClaimData) → row_at key rows ≡ Some (Claim c) → is_completed c ≡ false → is_empty c.volume_name ≡ true → IsDue AnyRows role key mine
+    seeks : (c : ClaimData) → row_at key rows ≡ Some (Claim c) → is_completed c ≡ false → is_empty c.volume_name ≡ true → IsDue role key mine
     seeks c e open_ unnamed = record {
       rows = rows;
-      shows = any;
+      shows = shows;
       under = u;
       own = own;
       gives = gives;
       only = λ other others first d.
-          begins_call rows shows.kept spaceless c open_ unnamed begun.0 u.call (ap task_call (sym begun.1.0) ∙ gives.call) (at (Some (Claim c)) e) other (λ k. others.shown k ∙ sym (shows.shown k)) first key
+          begins_call rows order spaceless c open_ unnamed begun.0 u.call (ap task_call (sym begun.1.0) ∙ gives.call) (at (Some (Claim c)) e) other (λ k. others.shown k ∙ sym (shows.shown k)) first key
           (others.shown key ∙ sym (shows.shown key) ∙ e) (subst (λ x. IsFirstOf x other key first) binder d);
     }
 
-    claim : (c : ClaimData) → row_at key rows ≡ Some (Claim c) → (a b : Bool) → is_completed c ≡ a → is_empty c.volume_name ≡ b → IsDue AnyRows role key mine
+    claim : (c : ClaimData) → row_at key rows ≡ Some (Claim c) → (a b : Bool) → is_completed c ≡ a → is_empty c.volume_name ≡ b → IsDue role key mine
     claim c e true b ea eb = looked (subst (λ r. IsLookedUp r) (sym e) (inl ea))
     claim c e false false ea eb = looked (subst (λ r. IsLookedUp r) (sym e) (inr eb))
     claim c e false true ea eb = seeks c e ea eb
 
-    by : (r : Option Object) → row_at key rows ≡ r → IsDue AnyRows role key mine
+    by : (r : Option Object) → row_at key rows ≡ r → IsDue role key mine
     by None e = nothing (at None e)
     by (Some (Class x)) e = nothing (at (Some (Class x)) e)
     by (Some (Node x)) e = nothing (at (Some (Node x)) e)
@@ -199,13 +194,13 @@ in_order role key mine rows u binder shows spaceless own gives = by (row_at key 
     by (Some (Claim c)) e = claim c e (is_completed c) (is_empty c.volume_name) refl refl
 
 pub rows_in_order : RowsInOrderAreEnough
-rows_in_order role key mine binder due = in_order role key mine due.rows due.under binder due.shows due.spaceless due.own due.gives
+rows_in_order role key mine binder due = in_order role key mine due.rows due.under binder due.shows due.order due.spaceless due.own due.gives
 
 -- lives
 
-throughout : (role : Role) (key : Key) (before since : List Call) → role.kind ≡ Binder → IsDueInOrderThroughout role key before since → IsDueThroughout AnyRows role key before since
+throughout : (role : Role) (key : Key) (before since : List Call) → role.kind ≡ Binder → IsDueInOrderThroughout role key before since → IsDueThroughout role key before since
 throughout role key before [] binder due = rows_in_order role key (entries before) binder due
 throughout role key before (c ∷ since) binder due = (rows_in_order role key (entries (c ∷ since ++ before)) binder due.0, throughout role key before since binder due.1)
 
 pub played_in_order : PlayedIsDiligentInOrder
-played_in_order role s calls binder played kind first fourth earlier between later e four key due = played_is_diligent AnyRows role s calls binder played kind first fourth earlier between later e four key (throughout role key (Some first ∷ earlier) between binder due)
+played_in_order role s calls binder played kind first fourth earlier between later e four key due = played_is_diligent role s calls binder played kind first fourth earlier between later e four key (throughout role key (Some first ∷ earlier) between binder due)

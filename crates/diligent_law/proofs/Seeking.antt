@@ -1,27 +1,20 @@
 -- A claim for which a volume is sought gets a call on all rows that show the same as rows in order.
-use Rattle.std.proofs.Common.{◌≡◌, ◌⊎◌, ℕ, zero, suc, List, [], ◌∷◌, Bool, true, false, true≢false, Option, Some, None, inl, inr, refl, sym, ◌∙◌, ap, subst, filter, slice_get, is_some, if◌then◌else◌}
+use Rattle.std.proofs.Common.{◌≡◌, ◌⊎◌, ℕ, zero, suc, List, [], ◌∷◌, Bool, true, false, true≢false, Some, None, inl, inr, refl, sym, ◌∙◌, ap, slice_get, is_some, if◌then◌else◌}
 use Rattle.std.specs.Prelude.{◌&&◌, ◌||◌, not, is_none, bytes_eq}
 use Rattle.std.specs.List.{list_any}
 use Rattle.std.specs.Ordering.{is_eq}
 use Rattle.kube_types.specs.declared.key.Key.{Key}
-use Rattle.kube_types.specs.declared.lookup.Live.TheVariants.{NotAsked}
 use Rattle.kube_types.specs.declared.parts.Kind.{Kind}
-use Rattle.kube_types.specs.declared.parts.Kind.TheVariants as kinds
 use Rattle.kube_types.specs.declared.parts.VolumePhase.{VolumePhase}
 use Rattle.kube_types.specs.declared.parts.VolumePhase.TheVariants as phases
 use Rattle.kube_types.specs.declared.objects.Object.{Object}
-use Rattle.kube_types.specs.declared.objects.Object.TheVariants.{Class, Node, Volume, Claim, Pod}
 use Rattle.kube_types.specs.declared.objects.Volume.{Volume as VolumeData}
 use Rattle.kube_types.specs.declared.objects.Claim.{Claim as ClaimData}
 use Rattle.kube_types.specs.Bindings.{carries, is_available, is_bound, is_completed, is_deleting, is_empty, is_ended, is_for, is_protected_volume}
-use Rattle.kube_types.specs.Keys.{AreRows, is_of_kind, key_cmp, key_of, kind_of, row_at, rows_of, same_key}
-use Rattle.kube_types.proofs.KeyOrder.{row_at_key}
-use Rattle.kube_types.proofs.RowPlaces.{row_at_place}
+use Rattle.kube_types.specs.Keys.{is_of_kind, key_cmp, key_of, row_at, rows_of, same_key}
 use Rattle.kube_types.proofs.SameKeys.{same_key_itself, same_key_ordered}
-use Rattle.call_types.specs.declared.request.Request.{Request}
-use Rattle.binder_model.specs.BindWrites.{claim_write, is_completed_with, next_write, shows_bound, write_bound, write_claim_status, write_completion, write_reference}
-use Rattle.binder_model.specs.Matching.{IsBestAt, binder_takes, eligible, fits, has_match, is_admitted_on, is_selected, may_serve, only_own_passes, waits_for_pod}
-use Rattle.binder_model.specs.ObjectKeys.{volume_key}
+use Rattle.binder_model.specs.BindWrites.{claim_write, next_write, shows_bound, write_bound, write_claim_status, write_completion, write_reference}
+use Rattle.binder_model.specs.Matching.{eligible, fits, is_admitted_on, is_selected, may_serve}
 use Rattle.binder_machines.specs.Machines.{bind_call, may_bind}
 use Rattle.model_laws.proofs.Lists.{none_some, one}
 

@@ -1,9 +1,7 @@
 -- Decisions by look-ups alone are the same on all rows that show the same.
 use Rattle.std.proofs.Common.{◌≡◌, ◌⊎◌, List, Bool, true, false, true≢false, Option, Some, None, inl, inr, refl, sym, ◌∙◌, ap, subst, if◌then◌else◌}
-use Rattle.std.specs.Prelude.{slice_get}
 use Rattle.kube_types.specs.declared.key.Key.{Key}
 use Rattle.kube_types.specs.declared.lookup.Live.TheVariants.{NotAsked}
-use Rattle.kube_types.specs.declared.parts.Kind.TheVariants as kinds
 use Rattle.kube_types.specs.declared.objects.Object.{Object}
 use Rattle.kube_types.specs.declared.objects.Object.TheVariants.{Class, Node, Volume, Claim, Pod}
 use Rattle.kube_types.specs.declared.objects.Ref.{Ref}
@@ -11,7 +9,7 @@ use Rattle.kube_types.specs.declared.objects.Volume.{Volume as VolumeData}
 use Rattle.kube_types.specs.declared.objects.Claim.{Claim as ClaimData}
 use Rattle.kube_types.specs.declared.uid.Uid.{Uid}
 use Rattle.kube_types.specs.Bindings.{is_completed, is_deleting, is_empty}
-use Rattle.kube_types.specs.Keys.{row_at, rows_of}
+use Rattle.kube_types.specs.Keys.{row_at}
 use Rattle.binder_model.specs.Matching.{has_match}
 use Rattle.binder_model.specs.BinderDue.{claim_with}
 use Rattle.binder_model.specs.ObjectKeys.{claim_key, volume_key}
@@ -19,24 +17,19 @@ use Rattle.volume_match.specs.Volumes.{as_volume}
 use Rattle.claim_sync.specs.ClaimDecision.{IsChoice, claim_decision, completed_step, named_step, named_volume}
 use Rattle.claim_sync.specs.declared.action.ClaimStep.{ClaimStep}
 use Rattle.claim_sync.specs.declared.action.ClaimStep.TheVariants as steps
-use Rattle.volume_sync.specs.VolumeDecision.{claim_by_reference, claim_by_uid, free_action, has_uid, or_else, live_claim, seen_claim, volume_decision}
+use Rattle.volume_sync.specs.VolumeDecision.{claim_by_reference, claim_by_uid, or_else, live_claim, seen_claim, volume_decision}
 use Rattle.binder_machines.specs.declared.decide.First.{First as BinderFirst}
 use Rattle.binder_machines.specs.declared.decide.First.TheVariants as binder_firsts
 use Rattle.binder_machines.specs.declared.machine.Machine.{Machine}
 use Rattle.binder_machines.specs.declared.machine.Machine.TheVariants.{Binds}
 use Rattle.binder_machines.specs.FirstSteps.{IsBindingTo, IsClaimFirst, IsFirst, volume_first}
-use Rattle.call_types.specs.declared.entry.Entry.{Entry}
-use Rattle.call_types.specs.declared.request.SeatKind.TheVariants.{Binder}
 use Rattle.model_laws.proofs.Lists.{none_some, one}
-use Rattle.worker_core.specs.declared.role.Role.{Role}
 use Rattle.worker_core.specs.declared.task.First.{First}
 use Rattle.worker_core.specs.declared.task.First.TheVariants as firsts
 use Rattle.worker_core.specs.declared.task.Task.{Task}
 use Rattle.worker_core.specs.declared.task.Task.TheVariants as tasks
-use Rattle.worker_core.specs.declared.task.Under.{Under}
-use Rattle.worker_core.specs.Memories.{memory_of}
-use Rattle.worker_core.specs.Tasks.{GivesCall, IsBinderFirst, IsDecision, IsFirstOf, task_call}
-use Rattle.diligent_law.specs.Diligence.{AnyRows, BeginsCall, IsDue, Shows}
+use Rattle.worker_core.specs.Tasks.{IsBinderFirst, IsFirstOf, task_call}
+use Rattle.diligent_law.specs.Diligence.{BeginsCall, Shows}
 use Rattle.diligent_law.specs.Showing.{IsLookedUp, OneShowingIsEnough}
 
 module _ (rows other : List Object) (same : (key : Key) → row_at key other ≡ row_at key rows) where
@@ -139,13 +132,13 @@ one_showing role key mine rows u binder shows looked own gives = record {
     of_role : (rs : List Object) (k : Key) (first : First) → IsFirstOf role.kind rs k first → IsBinderFirst rs k first
     of_role rs k first d = subst (λ x. IsFirstOf x rs k first) binder d
 
-    same : (other : List Object) → Shows AnyRows mine other → (k : Key) → row_at k other ≡ row_at k rows
+    same : (other : List Object) → Shows mine other → (k : Key) → row_at k other ≡ row_at k rows
     same other others k = others.shown k ∙ sym (shows.shown k)
 
     begun : (m : Machine) × ((u.task ≡ tasks.Binder m) × IsFirst rows (row_at key rows) (binder_firsts.Begins m))
     begun = begins_binder rows key u.task (subst (λ k. IsBinderFirst rows k (firsts.Begins u.task)) own (of_role rows u.key (firsts.Begins u.task) gives.decided))
 
-    only_ : (other : List Object) → Shows AnyRows mine other → (first : First) → IsBinderFirst other key first → BeginsCall first
+    only_ : (other : List Object) → Shows mine other → (first : First) → IsBinderFirst other key first → BeginsCall first
     only_ other others = by
       where
         is : (g : BinderFirst) → IsFirst other (row_at key other) g → g ≡ binder_firsts.Begins begun.0

@@ -7,13 +7,12 @@
 
 pub mod steps;
 
-ghost use Rattle.diligent_law.specs.Diligence.{AnyRows};
 ghost use Rattle.diligent_law.specs.Played.{PlayedIsDiligent};
 ghost use Rattle.diligent_law.specs.Showing.{OneShowingIsEnough, PlayedIsDiligentInOrder, RowsInOrderAreEnough};
 
 /// A binder's life that is played by the turns, answers, losses and wakes of an actor is diligent.
 pub fn played_is_diligent()
-    ensures { PlayedIsDiligent AnyRows }
+    ensures { PlayedIsDiligent }
 {}
 
 /// The same where what is due is read on the rows in order, and no volume of them stands in a namespace.
