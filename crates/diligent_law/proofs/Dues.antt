@@ -22,6 +22,7 @@ use Rattle.worker_core.specs.declared.task.Task.{Task}
 use Rattle.worker_core.specs.declared.task.Under.{Under}
 use Rattle.worker_core.specs.declared.turn.Next.{Next}
 use Rattle.worker_core.specs.declared.turn.Next.TheVariants as nexts
+use Rattle.worker_core.specs.Memories.{memory_of}
 use Rattle.worker_core.specs.Roles.{kinds_of}
 use Rattle.worker_core.specs.Rules.{WasCalled, WasDropped}
 use Rattle.worker_core.specs.Stands.{AnyIsUnderWay, StandsFor}
@@ -29,7 +30,7 @@ use Rattle.worker_core.specs.States.{State, call_under}
 use Rattle.worker_core.specs.Tasks.{GivesCall, IsBinderFirst, IsDecision, IsFirstOf, task_call}
 use Rattle.worker_core.proofs.Machines.{keeps_under, task_reads_none}
 use Rattle.worker_core.proofs.Quiet.{itself}
-use Rattle.diligent_law.specs.Diligence.{BeginsCall, GivesFor, IsAskedFor, IsDue, Shows}
+use Rattle.diligent_law.specs.Diligence.{BeginsCall, IsAskedFor, IsDue, Shows}
 
 abbrev task_in : First → Option Task
 task_in (firsts.Begins task) = Some task
@@ -44,12 +45,12 @@ pub record IsCached (key : Key) (c : AllKnown) : Type 0 where
   pub followed : IsIn key.kind (kinds_of Binder)
   pub there : list_any (same_key key) (map key_of (objects_of (cache_of key.kind c))) ≡ true
 
-module _ (Kept : List Object → Type 0) (role : Role) (mine : List Entry) (key : Key) (binder : role.kind ≡ Binder) (due : IsDue Kept role key mine) where
-  pub due_cached : (c : AllKnown) → AllStandFor c mine → Kept (all_objects c) → ((k : Key) (o : Object) → row_at k (objects_of (cache_of k.kind c)) ≡ Some o → list_any (same_key k) (map key_of (objects_of (cache_of k.kind c))) ≡ true) → IsCached key c
-  due_cached c stand kept there = by (row_at key (all_objects c)) refl
+module _ (role : Role) (mine : List Entry) (key : Key) (binder : role.kind ≡ Binder) (due : IsDue role key mine) where
+  pub due_cached : (c : AllKnown) → AllStandFor c mine → ((k : Key) (o : Object) → row_at k (objects_of (cache_of k.kind c)) ≡ Some o → list_any (same_key k) (map key_of (objects_of (cache_of k.kind c))) ≡ true) → IsCached key c
+  due_cached c stand there = by (row_at key (all_objects c)) refl
     where
-      gives : GivesFor role mine key (all_objects c)
-      gives = due (all_objects c) (record { shown = stand.rows; kept = kept })
+      begins : (first : First) → IsDecision role (memory_of role mine) (all_objects c) key first → BeginsCall first
+      begins = due.only (all_objects c) (record { shown = stand.rows })
 
       cached : (o : Object) → row_at key (all_objects c) ≡ Some o → list_any (same_key key) (map key_of (objects_of (cache_of key.kind c))) ≡ true
       cached o e = there key o ((stand.each key.kind).rows key (sym (stand.kinds key.kind)) ∙ sym (stand.rows key) ∙ e)
@@ -58,7 +59,7 @@ module _ (Kept : List Object → Type 0) (role : Role) (mine : List Entry) (key 
       own_kind o e = ap (λ (k : Key). k.kind) (row_at_key key o (all_objects c) e)
 
       drops : IsBinderFirst (all_objects c) key firsts.Drops → ⊥
-      drops d = no_drop (gives.only firsts.Drops (subst (λ k. IsFirstOf k (all_objects c) key firsts.Drops) (sym binder) d))
+      drops d = no_drop (begins firsts.Drops (subst (λ k. IsFirstOf k (all_objects c) key firsts.Drops) (sym binder) d))
 
       by : (row : Option Object) → row_at key (all_objects c) ≡ row → IsCached key c
       by None e = absurd (drops (rw e refl))
@@ -70,16 +71,16 @@ module _ (Kept : List Object → Type 0) (role : Role) (mine : List Entry) (key 
 
 -- in an actor that stands for the entries
 
-module _ (Kept : List Object → Type 0) (s : State) (mine : List Entry) (key : Key) (stands : StandsFor s mine) (kept : Kept (all_objects s.caches)) where
-  shows : Shows Kept mine (all_objects s.caches)
-  shows = record { shown = stands.caches.rows; kept = kept }
+module _ (s : State) (mine : List Entry) (key : Key) (stands : StandsFor s mine) where
+  shows : Shows mine (all_objects s.caches)
+  shows = record { shown = stands.caches.rows }
 
-  pub not_dropped : IsDue Kept s.role key mine → WasDropped s key → ⊥
+  pub not_dropped : IsDue s.role key mine → WasDropped s key → ⊥
   not_dropped due dropped =
-      let b = (due (all_objects s.caches) shows).only dropped.first (subst (λ m. IsDecision s.role m (all_objects s.caches) key dropped.first) stands.memory dropped.none.decided) in
+      let b = due.only (all_objects s.caches) shows dropped.first (subst (λ m. IsDecision s.role m (all_objects s.caches) key dropped.first) stands.memory dropped.none.decided) in
       none_some (sym (dropped.none.none b.task b.begins) ∙ b.call)
 
-  pub was_asked : (request : Request) → WasCalled s (nexts.Call request) key → IsAskedFor Kept s.role key mine request
+  pub was_asked : (request : Request) → WasCalled s (nexts.Call request) key → IsAskedFor s.role key mine request
   was_asked request called = record {
     rows = all_objects s.caches;
     shows = shows;
@@ -101,8 +102,8 @@ module _ (Kept : List Object → Type 0) (s : State) (mine : List Entry) (key : 
 task_watches : (t : Task) (kind : Kind) (from : ℕ) → task_call t ≡ Some (requests.Watch kind from) → ⊥
 task_watches t kind from e = true≢false (sym (itself kind) ∙ task_reads_none t (requests.Watch kind from) kind e)
 
-pub asked_no_watch : (Kept : List Object → Type 0) (role : Role) (key : Key) (mine : List Entry) (kind : Kind) (from : ℕ) → IsAskedFor Kept role key mine (requests.Watch kind from) → ⊥
-asked_no_watch Kept role key mine kind from a = task_watches a.under.task kind from (a.gives.call ∙ ap Some (sym a.call))
+pub asked_no_watch : (role : Role) (key : Key) (mine : List Entry) (kind : Kind) (from : ℕ) → IsAskedFor role key mine (requests.Watch kind from) → ⊥
+asked_no_watch role key mine kind from a = task_watches a.under.task kind from (a.gives.call ∙ ap Some (sym a.call))
 
 pub under_no_watch : (role : Role) (under : Option Under) (mine : List Entry) (kind : Kind) (from : ℕ) → role.kind ≡ Binder → AnyIsUnderWay role under mine → option_map call_under under ≡ Some (requests.Watch kind from) → ⊥
 under_no_watch role None mine kind from is way e = none_some e

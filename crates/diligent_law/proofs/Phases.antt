@@ -5,13 +5,12 @@ use Rattle.std.specs.List.{list_any}
 use Rattle.kube_types.specs.declared.key.Key.{Key}
 use Rattle.kube_types.specs.declared.parts.Kind.{Kind}
 use Rattle.kube_types.specs.declared.parts.Kind.TheVariants as kinds
-use Rattle.kube_types.specs.declared.objects.Object.{Object}
 use Rattle.kube_types.specs.Keys.{key_of, same_key, same_kind}
 use Rattle.informer_cache.specs.Cache.{objects_of}
 use Rattle.call_types.specs.declared.entry.Entry.{Entry}
 use Rattle.call_types.specs.declared.request.Request.{Request}
 use Rattle.call_types.specs.declared.request.SeatKind.TheVariants.{Binder}
-use Rattle.informer_cache.specs.All.{AllKnown, all_objects, cache_of}
+use Rattle.informer_cache.specs.All.{AllKnown, cache_of}
 use Rattle.model_laws.proofs.Lists.{IsIn, none_some, one}
 use Rattle.worker_core.specs.declared.role.Role.{Role}
 use Rattle.worker_core.specs.declared.turn.Next.{Next}
@@ -87,7 +86,7 @@ same_phase place key s new n same stays (Waits is past quiet there) = Waits is (
 
 -- a turn
 
-module _ (Kept : List Object → Type 0) (key : Key) (s turned : State) (mine : List Entry) (stands : StandsFor s mine) (kept : Kept (all_objects s.caches)) (due : IsDue Kept s.role key mine) where
+module _ (key : Key) (s turned : State) (mine : List Entry) (stands : StandsFor s mine) (due : IsDue s.role key mine) where
   -- in a turn a key that is due goes on waiting, or is called for
   goes_on_waiting : (answer : Next) → IsTurn s turned answer → (WasCalled s answer key → ⊥) → waits key s.work ≡ true → waits key turned.work ≡ true
   goes_on_waiting answer turn no_call there = by (waits key turned.work) refl
@@ -96,18 +95,18 @@ module _ (Kept : List Object → Type 0) (key : Key) (s turned : State) (mine : 
       by true e = e
       by false e = elim ((turn_keys s turned answer turn).stops key there e) [
         | inl called ↦ absurd (no_call called)
-        | inr dropped ↦ absurd (not_dropped Kept s mine key stands kept due dropped)
+        | inr dropped ↦ absurd (not_dropped s mine key stands due dropped)
       ]
 
-  pub called_or_waits : (request : Request) → IsTurn s turned (nexts.Call request) → IsAskedFor Kept s.role key mine request ⊎ (waits key s.work ≡ true → waits key turned.work ≡ true)
+  pub called_or_waits : (request : Request) → IsTurn s turned (nexts.Call request) → IsAskedFor s.role key mine request ⊎ (waits key s.work ≡ true → waits key turned.work ≡ true)
   called_or_waits request turn = by (waits key s.work) (waits key turned.work) refl refl
     where
-      by : (a b : Bool) → waits key s.work ≡ a → waits key turned.work ≡ b → IsAskedFor Kept s.role key mine request ⊎ (waits key s.work ≡ true → waits key turned.work ≡ true)
+      by : (a b : Bool) → waits key s.work ≡ a → waits key turned.work ≡ b → IsAskedFor s.role key mine request ⊎ (waits key s.work ≡ true → waits key turned.work ≡ true)
       by a true ea eb = inr (λ e. eb)
       by false false ea eb = inr (λ e. absurd (true≢false (sym e ∙ ea)))
       by true false ea eb = elim ((turn_keys s turned (nexts.Call request) turn).stops key ea eb) [
-        | inl called ↦ inl (was_asked Kept s mine key stands kept request called)
-        | inr dropped ↦ absurd (not_dropped Kept s mine key stands kept due dropped)
+        | inl called ↦ inl (was_asked s mine key stands request called)
+        | inr dropped ↦ absurd (not_dropped s mine key stands due dropped)
       ]
 
 renewed : (place : ℕ) (key : Key) (s turned : State) (n : ℕ) → s.pass.event ≡ true → turned.pass ≡ record { behind = 0; event = false } → Phase place key s n → Phase place key turned n
@@ -177,8 +176,8 @@ same_place kind i j ei ej = place_is i kind ei ∙ sym (place_is j kind ej)
 
 -- an idle turn and a wake
 
-module _ (Kept : List Object → Type 0) (kind : Kind) (place : ℕ) (at : slice_get (kinds_of Binder) place ≡ Some kind) (key : Key) (s turned new : State) (mine : List Entry) (n : ℕ) (binder : s.role.kind ≡ Binder)
-    (stands : StandsFor s mine) (kept : Kept (all_objects s.caches)) (due : IsDue Kept s.role key mine) (own : OneTaken s) (turn : IsTurn s turned nexts.Idle) (wakes : new ≡ woken turned) where
+module _ (kind : Kind) (place : ℕ) (at : slice_get (kinds_of Binder) place ≡ Some kind) (key : Key) (s turned new : State) (mine : List Entry) (n : ℕ) (binder : s.role.kind ≡ Binder)
+    (stands : StandsFor s mine) (due : IsDue s.role key mine) (own : OneTaken s) (turn : IsTurn s turned nexts.Idle) (wakes : new ≡ woken turned) where
   fresh : s.memory.stale ≡ false
   fresh = ap (λ m. m.stale) (stands.memory ∙ nothing_remembered s.role mine binder)
 
@@ -203,7 +202,7 @@ module _ (Kept : List Object → Type 0) (kind : Kind) (place : ℕ) (at : slice
   waits_now = ap (λ (x : State). waits key x.work) wakes ∙ cached_self turned.caches (kinds_of turned.role.kind) key.kind key turned.work followed there none
     where
       cached : IsCached key s.caches
-      cached = due_cached Kept s.role mine key binder due s.caches stands.caches kept (λ k o e. row_any k o _ e)
+      cached = due_cached s.role mine key binder due s.caches stands.caches (λ k o e. row_any k o _ e)
 
       same_kinds : kinds_of turned.role.kind ≡ kinds_of Binder
       same_kinds = ap (λ (r : Role). kinds_of r.kind) (turn_role s turned nexts.Idle turn) ∙ ap kinds_of binder
@@ -220,7 +219,7 @@ module _ (Kept : List Object → Type 0) (kind : Kind) (place : ℕ) (at : slice
   -- a key that waits is decided before the life is idle
   decided : waits key s.work ≡ true → ⊥
   decided there =
-      let still = goes_on_waiting Kept key s turned mine stands kept due nexts.Idle turn (λ called. none_some (ap call_in called.call)) there in
+      let still = goes_on_waiting key s turned mine stands due nexts.Idle turn (λ called. none_some (ap call_in called.call)) there in
       let gone : waits key turned.work ≡ false = ap (λ ks. list_any (same_key key) ks) rests.empty in
       true≢false (sym still ∙ gone)
 

@@ -34,16 +34,11 @@ entries [] = []
 entries (None ∷ calls) = entries calls
 entries (Some e ∷ calls) = e ∷ entries calls
 
--- what the rules give. `Kept` says what else is known of the rows on which keys are decided
+-- what the rules give
 
--- nothing else is known
-abbrev pub AnyRows : List Object → Type 0
-AnyRows rows = ⊤
-
--- the rows show of each key the newest that was told
-pub record Shows (Kept : List Object → Type 0) (mine : List Entry) (rows : List Object) : Type 0 where
+-- the rows show of each key the newest that was told, in whatever order they stand
+pub record Shows (mine : List Entry) (rows : List Object) : Type 0 where
   pub shown : (key : Key) → row_at key rows ≡ object_of (newest mine key)
-  pub kept : Kept rows
 
 -- the decision begins with a call
 pub record BeginsCall (first : First) : Type 0 where
@@ -52,21 +47,20 @@ pub record BeginsCall (first : First) : Type 0 where
   pub begins : first ≡ firsts.Begins task
   pub call : task_call task ≡ Some request
 
--- on these rows the rules give a call for the key, and decide nothing else of it
-pub record GivesFor (role : Role) (mine : List Entry) (key : Key) (rows : List Object) : Type 0 where
+-- after these entries the rules give the life a call for the key: on some rows that show the newest told they give one, and
+-- on no such rows they decide anything else
+pub record IsDue (role : Role) (key : Key) (mine : List Entry) : Type 0 where
+  pub rows : List Object
+  pub shows : Shows mine rows
   pub under : Under
   pub own : under.key ≡ key
   pub gives : GivesCall role (memory_of role mine) rows under
-  pub only : (first : First) → IsDecision role (memory_of role mine) rows key first → BeginsCall first
-
--- after these entries the rules give the life a call for the key, on whatever rows show the newest told
-abbrev pub IsDue : (List Object → Type 0) → Role → Key → List Entry → Type 0
-IsDue Kept role key mine = (rows : List Object) → Shows Kept mine rows → GivesFor role mine key rows
+  pub only : (other : List Object) → Shows mine other → (first : First) → IsDecision role (memory_of role mine) other key first → BeginsCall first
 
 -- the request is a call that the rules give for the key after these entries
-pub record IsAskedFor (Kept : List Object → Type 0) (role : Role) (key : Key) (mine : List Entry) (request : Request) : Type 0 where
+pub record IsAskedFor (role : Role) (key : Key) (mine : List Entry) (request : Request) : Type 0 where
   pub rows : List Object
-  pub shows : Shows Kept mine rows
+  pub shows : Shows mine rows
   pub under : Under
   pub own : under.key ≡ key
   pub gives : GivesCall role (memory_of role mine) rows under
@@ -116,15 +110,15 @@ watches kind (Some e ∷ calls) = if watches_kind kind e.request then watches ki
 -- the rule
 
 -- the key is due at each point from the calls `before` on, up to those that came since
-abbrev pub IsDueThroughout : (List Object → Type 0) → Role → Key → List Call → List Call → Type 0
-IsDueThroughout Kept role key before [] = IsDue Kept role key (entries before)
-IsDueThroughout Kept role key before (call ∷ since) = IsDue Kept role key (entries (call ∷ since ++ before)) × IsDueThroughout Kept role key before since
+abbrev pub IsDueThroughout : Role → Key → List Call → List Call → Type 0
+IsDueThroughout role key before [] = IsDue role key (entries before)
+IsDueThroughout role key before (call ∷ since) = IsDue role key (entries (call ∷ since ++ before)) × IsDueThroughout role key before since
 
 -- a call that the rules give for the key was asked since
-abbrev pub WasAskedSince : (List Object → Type 0) → Role → Key → List Call → List Call → Type 0
-WasAskedSince Kept role key before [] = ⊥
-WasAskedSince Kept role key before (None ∷ since) = WasAskedSince Kept role key before since
-WasAskedSince Kept role key before (Some e ∷ since) = IsAskedFor Kept role key (entries (since ++ before)) e.request ⊎ WasAskedSince Kept role key before since
+abbrev pub WasAskedSince : Role → Key → List Call → List Call → Type 0
+WasAskedSince role key before [] = ⊥
+WasAskedSince role key before (None ∷ since) = WasAskedSince role key before since
+WasAskedSince role key before (Some e ∷ since) = IsAskedFor role key (entries (since ++ before)) e.request ⊎ WasAskedSince role key before since
 
 -- four watches of a kind among the calls: a first and a fourth, and at least two between them. From the first to the fourth
 -- each call is quiet
@@ -137,6 +131,6 @@ pub record AreFourWatches (kind : Kind) (first fourth : Entry) (between : List C
 -- where there are four such watches, a key that is due at each point between them was called for between them. Four, since
 -- the first may end a pass that had events; before the third the life was idle and was woken; before the fourth it decided
 -- each key
-abbrev pub IsDiligent : (List Object → Type 0) → Role → List Call → Type 0
-IsDiligent Kept role calls = (kind : Kind) (first fourth : Entry) (earlier between later : List Call) → calls ≡ later ++ (Some fourth ∷ between ++ Some first ∷ earlier)
-    → AreFourWatches kind first fourth between → (key : Key) → IsDueThroughout Kept role key (Some first ∷ earlier) between → WasAskedSince Kept role key (Some first ∷ earlier) between
+abbrev pub IsDiligent : Role → List Call → Type 0
+IsDiligent role calls = (kind : Kind) (first fourth : Entry) (earlier between later : List Call) → calls ≡ later ++ (Some fourth ∷ between ++ Some first ∷ earlier)
+    → AreFourWatches kind first fourth between → (key : Key) → IsDueThroughout role key (Some first ∷ earlier) between → WasAskedSince role key (Some first ∷ earlier) between

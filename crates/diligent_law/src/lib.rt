@@ -5,17 +5,28 @@
 //! `specs/Played` says how a life is played by an actor. `played_is_diligent` promises the one of the other.
 #![tactic(auto)]
 
-ghost use Rattle.kube_types.specs.Keys.{AreRows};
-ghost use Rattle.diligent_law.specs.Diligence.{AnyRows};
-ghost use Rattle.diligent_law.specs.Played.{PlayedIsDiligent};
+pub mod steps;
 
-/// A binder's life that is played by the turns, answers, losses and wakes of an actor is diligent, whatever rows show what
-/// it was told.
+ghost use Rattle.diligent_law.specs.Played.{PlayedIsDiligent};
+ghost use Rattle.diligent_law.specs.Showing.{OneShowingIsEnough, PlayedIsDiligentInOrder, RowsInOrderAreEnough};
+
+/// A binder's life that is played by the turns, answers, losses and wakes of an actor is diligent.
 pub fn played_is_diligent()
-    ensures { PlayedIsDiligent AnyRows }
+    ensures { PlayedIsDiligent }
 {}
 
-/// The same on rows in order, where the rows of the caches are known to stand so at each turn.
-pub fn played_in_order_is_diligent()
-    ensures { PlayedIsDiligent AreRows }
+/// The same where what is due is read on the rows in order, and no volume of them stands in a namespace.
+pub fn played_is_diligent_in_order()
+    ensures { PlayedIsDiligentInOrder }
+{}
+
+/// For a volume's key, and for that of a claim that is completed or names its volume, one list of rows tells that it is due.
+pub fn one_showing_is_enough()
+    ensures { OneShowingIsEnough }
+{}
+
+/// A key is due, whatever rows are looked at, where the rules give a call for it on the rows in order and no volume of them
+/// stands in a namespace.
+pub fn rows_in_order_are_enough()
+    ensures { RowsInOrderAreEnough }
 {}

@@ -2,7 +2,7 @@
 use Rattle.std.proofs.Common.{◌≡◌, ℕ, zero, suc, ◌<◌, ◌≤◌, ◌+◌, List, [], ◌∷◌, ◌++◌, length, length-append, map, Bool, true, false, true≢false, Some, None, refl, sym, ◌∙◌, ap, subst, arith}
 use Rattle.std.specs.Prelude.{is_some, slice_get}
 use Rattle.call_types.specs.declared.entry.Entry.{Entry}
-use Rattle.diligent_law.specs.Diligence.{AnyRows, Call, IsDiligent, entries}
+use Rattle.diligent_law.specs.Diligence.{Call, IsDiligent, entries}
 use Rattle.model_laws.proofs.Lists.{none_some, one}
 use Rattle.worker_core.specs.declared.role.Role.{Role}
 use Rattle.script_lines.specs.declared.actors.Actor.{Actor}
@@ -17,7 +17,7 @@ use Rattle.replay_examples.specs.Replays.{turn_script}
 use Rattle.replay_examples.proofs.Replayed.{turn_replay}
 
 -- one call has no four watches
-one_diligent : (role : Role) (call : Call) → IsDiligent AnyRows role (call ∷ [])
+one_diligent : (role : Role) (call : Call) → IsDiligent role (call ∷ [])
 one_diligent role call kind first fourth earlier between later is four key due =
     let all : 1 ≡ length (later ++ Some fourth ∷ (between ++ Some first ∷ earlier)) = ap length is in
     let long = length-append later (Some fourth ∷ (between ++ Some first ∷ earlier)) in

@@ -5,7 +5,7 @@ use Rattle.std.proofs.lemmas.Bool.Decides.{Decides-eqb, nat_tests}
 use Rattle.call_types.specs.declared.entry.Entry.{Entry}
 use Rattle.call_types.specs.declared.request.Request.{Request}
 use Rattle.binder_model.specs.Told.{own}
-use Rattle.diligent_law.specs.Diligence.{AnyRows, Call, IsDiligent, entries}
+use Rattle.diligent_law.specs.Diligence.{Call, IsDiligent, entries}
 use Rattle.diligent_law.specs.Played.{Begins, Wakes}
 use Rattle.diligent_law.proofs.Following.{played_is_diligent, same_role, stands_now}
 use Rattle.world_core.specs.Kept.{History}
@@ -61,7 +61,7 @@ no_calls : (later rest : List Call) (call : Call) → [] ≡ later ++ call ∷ r
 no_calls [] rest call is = absurd (cc)
 no_calls (x ∷ later) rest call is = absurd (cc)
 
-none_diligent : (role : Role) → IsDiligent AnyRows role []
+none_diligent : (role : Role) → IsDiligent role []
 none_diligent role kind first fourth earlier between later is four key due = absurd (no_calls later (between ++ Some first ∷ earlier) (Some fourth) is)
 
 -- a life without calls
@@ -69,7 +69,7 @@ no_life : (part : Part) (seat made : ℕ) (past : List Entry) → own seat past 
 no_life part seat made past none before = record { of_seat = sym none; left = sym (left_none part seat made before) }
 
 ended_life : (part : Part) (seat made : ℕ) (past : List Entry) (s : State) → Living part seat made past s → IsDiligentLife binder_role part seat made past
-ended_life part seat made past s living = record { calls = living.calls; are = living.are; diligent = played_is_diligent AnyRows binder_role s living.calls refl living.played }
+ended_life part seat made past s living = record { calls = living.calls; are = living.are; diligent = played_is_diligent binder_role s living.calls refl living.played }
 
 -- what others do leaves it
 kept_life : (part : Part) (seat made then_made : ℕ) (past later : List Entry) → own seat later ≡ own seat past → left_by part seat then_made ≡ left_by part seat made → IsDiligentLife binder_role part seat made past → IsDiligentLife binder_role part seat then_made later
@@ -102,7 +102,7 @@ next_lives old seat actor past idle named is other new stands plays lives =
     let within = seat_within old.part (old.made + 1) named in
     let later : old.seat < seat = less old.seat seat (seat_at old.part (old.made + 1)) plays.reached is other in
     let none = plays.unborn seat later (omega (arith, within, is)) in
-    let role : old.actor.role ≡ binder_role = same_role AnyRows binder_role old.actor lives.living.calls lives.living.played in
+    let role : old.actor.role ≡ binder_role = same_role binder_role old.actor lives.living.calls lives.living.played in
     record {
       began = let more = seat_more old.part old.made in omega (arith, more, is);
       living = record {
@@ -119,8 +119,8 @@ pub made_lives : (mid : Player) (given actor : State) (request : Request) (fate 
     → ((other : ℕ) → other ≢ mid.seat → own other after.past ≡ own other before.past) → Lives mid before.past → Lives (record mid { made = mid.made + 1; actor = actor }) after.past
 made_lives mid given actor request fate before after is lost turn keeps goes others lives =
     let living = lives.living in
-    let stands = stands_now AnyRows binder_role mid.actor living.calls living.played in
-    let went = goes binder_role mid.actor living.calls living.played (record { turn = turn; kept = tt; stands = keeps (entries living.calls) stands }) living.are.of_seat in
+    let stands = stands_now binder_role mid.actor living.calls living.played in
+    let went = goes binder_role mid.actor living.calls living.played (record { turn = turn; stands = keeps (entries living.calls) stands }) living.are.of_seat in
     record {
       began = omega (arith, is);
       living = record {
@@ -139,11 +139,11 @@ made_lives mid given actor request fate before after is lost turn keeps goes oth
 pub idle_lives : (mid : Player) (given : State) (past : List Entry) → IsTurn mid.actor given nexts.Idle → ((mine : List Entry) → StandsFor mid.actor mine → StandsFor given mine) → Lives mid past → LivesIdle (record mid { actor = given }) past
 idle_lives mid given past turn keeps lives =
     let living = lives.living in
-    let stands = stands_now AnyRows binder_role mid.actor living.calls living.played in
+    let stands = stands_now binder_role mid.actor living.calls living.played in
     record {
       before = mid.actor;
       lives = lives;
-      turns = record { turn = turn; kept = tt; stands = subst (StandsFor given) living.are.of_seat (keeps (entries living.calls) stands) };
+      turns = record { turn = turn; stands = subst (StandsFor given) living.are.of_seat (keeps (entries living.calls) stands) };
     }
 
 -- and the actor is woken
@@ -156,7 +156,7 @@ woken_lives p actor past is keeps idle =
       living = record {
         calls = living.calls;
         are = living.are;
-        played = Wakes idle.before p.actor living.played (record { turn = idle.turns.turn; kept = tt; stands = stands }) is (keeps (entries living.calls) stands);
+        played = Wakes idle.before p.actor living.played (record { turn = idle.turns.turn; stands = stands }) is (keeps (entries living.calls) stands);
       };
       ended = idle.lives.ended;
     }

@@ -5,7 +5,7 @@ use Rattle.std.specs.Prelude.{ℕ, zero, suc, ◌≡◌, ◌≤◌, ◌<◌, ◌
 use Rattle.call_types.specs.declared.entry.Entry.{Entry}
 use Rattle.call_types.specs.declared.request.SeatKind.TheVariants as seats
 use Rattle.binder_model.specs.Told.{own}
-use Rattle.diligent_law.specs.Diligence.{AnyRows, Call, IsDiligent, entries}
+use Rattle.diligent_law.specs.Diligence.{Call, IsDiligent, entries}
 use Rattle.worker_core.specs.declared.role.Role.{Role}
 use Rattle.world_core.specs.declared.drained.Drained.{Drained}
 use Rattle.script_lines.specs.declared.actors.Actor.{Actor}
@@ -41,7 +41,7 @@ pub record AreOfLife (part : Part) (seat made : ℕ) (past : List Entry) (calls 
 pub record IsDiligentLife (role : Role) (part : Part) (seat made : ℕ) (past : List Entry) : Type 0 where
   pub calls : List Call
   pub are : AreOfLife part seat made past calls
-  pub diligent : IsDiligent AnyRows role calls
+  pub diligent : IsDiligent role calls
 
 -- the role of an actor: an agent has its node
 abbrev pub role_of : Actor → Role

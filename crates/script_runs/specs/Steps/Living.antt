@@ -5,7 +5,7 @@ use Rattle.call_types.specs.declared.entry.Entry.{Entry}
 use Rattle.call_types.specs.declared.request.Request.{Request}
 use Rattle.call_types.specs.declared.request.SeatKind.TheVariants as seats
 use Rattle.binder_model.specs.Told.{own}
-use Rattle.diligent_law.specs.Diligence.{AnyRows, Call, entries}
+use Rattle.diligent_law.specs.Diligence.{Call, entries}
 use Rattle.diligent_law.specs.Played.{IsPlayed, Turns}
 use Rattle.worker_core.specs.declared.role.Role.{Role}
 use Rattle.worker_core.specs.declared.turn.Next.TheVariants as nexts
@@ -27,11 +27,11 @@ pub record WentOn (role : Role) (fate : Fate) (new : State) (calls : List Call) 
   pub call : Call
   pub left : is_some call ≡ leaves_entry fate
   pub own : entries (call ∷ calls) ≡ mine
-  pub played : IsPlayed AnyRows role new (call ∷ calls)
+  pub played : IsPlayed role new (call ∷ calls)
 
 -- the call that the turn of a played actor gave has this fate
 abbrev pub GoesOn : ℕ → Fate → Request → History → History → State → State → Type 0
-GoesOn seat fate request before after old new = (role : Role) (s : State) (calls : List Call) → IsPlayed AnyRows role s calls → Turns AnyRows s old (nexts.Call request) (entries calls) → entries calls ≡ own seat before.past
+GoesOn seat fate request before after old new = (role : Role) (s : State) (calls : List Call) → IsPlayed role s calls → Turns s old (nexts.Call request) (entries calls) → entries calls ≡ own seat before.past
     → WentOn role fate new calls (own seat after.past)
 
 -- ---- the lives of a part
@@ -40,7 +40,7 @@ GoesOn seat fate request before after old new = (role : Role) (s : State) (calls
 pub record Living (part : Part) (seat made : ℕ) (past : List Entry) (s : State) : Type 0 where
   pub calls : List Call
   pub are : AreOfLife part seat made past calls
-  pub played : IsPlayed AnyRows binder_role s calls
+  pub played : IsPlayed binder_role s calls
 
 -- the life of the player, and those before it
 pub record Lives (p : Player) (past : List Entry) : Type 0 where
@@ -52,7 +52,7 @@ pub record Lives (p : Player) (past : List Entry) : Type 0 where
 pub record LivesIdle (p : Player) (past : List Entry) : Type 0 where
   pub before : State
   pub lives : Lives (record p { actor = before }) past
-  pub turns : Turns AnyRows before p.actor nexts.Idle (own p.seat past)
+  pub turns : Turns before p.actor nexts.Idle (own p.seat past)
 
 -- after a step, in which a call was made or none
 abbrev pub HasLived : List Entry → Player → Bool → Type 0

@@ -1,6 +1,0 @@
-use Rattle.kube_types.specs.Keys.{AreRows}
-use Rattle.diligent_law.proofs.Following.{played_is_diligent}
-use Rattle.diligent_law.proofs.played_in_order_is_diligent.Goals as goal
-
-pub returns : goal.returns
-returns c = played_is_diligent AreRows
