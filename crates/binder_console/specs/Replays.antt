@@ -15,6 +15,7 @@ use Rattle.history_text.specs.declared.summary.Summary.{Summary}
 use Rattle.history_text.specs.Summaries.{summary_of}
 use Rattle.history_text.specs.Output.{final_lines, history_text, with_lines}
 use Rattle.script_text.specs.declared.script.Script.{Script}
+use Rattle.script_runs.specs.Diligent.{IsDiligentReplay}
 use Rattle.script_runs.specs.Replays.{IsReplay}
 use Rattle.fitting_law.specs.Enough.{GetEnoughThroughout}
 use Rattle.binder_console.specs.declared.status.Status.{Status}
@@ -44,14 +45,15 @@ status_of (Spent made key due) = Unsettled
 
 -- The input is a script, and the text is that of one history from the script's setup. The history has the calls of the
 -- script's lines in order, and then of a drain; each reply is the world's, and each controller asked only what it had been
--- told allowed; it is safe at every point, and each completed claim has what it asked for. The status says how the last drain
--- ended.
+-- told allowed; each actor that a turn line names was diligent in each of its lives; it is safe at every point, and each
+-- completed claim has what it asked for. The status says how the last drain ended.
 pub record Replays (budget : Option ℕ) (status : Status) (input text : List ℕ) : Type 0 where
   pub script : Script
   pub past : List Entry
   pub ending : Drained
   pub read : replayable input ≡ Ok script
   pub calls : IsReplay script budget past ending
+  pub diligent : IsDiligentReplay script budget past ending
   pub run : Run script.setup past
   pub safe : Safe script.setup past
   -- no claim got less than it asked for, but where users bound a volume and a claim by hand

@@ -46,8 +46,9 @@ fn end_with<K: Sink>(sink: &mut K, text: &[u8], status: Status) -> Status
 /// history and of its last world. Each reply in it is the world's, each controller asked only what it had been told
 /// allowed, and at every point each completed claim names a Bound volume of its own that carries its UID, no Bound volume
 /// and no mounted claim has left, and data were erased only for ended volumes with policy Delete. The history has one entry
-/// for each call of a user, in order, and of each turn and each drain the calls that the script says. With status 0
-/// nothing is due at its end; with 3 the calls of the drains are spent, and the last line names what is due first.
+/// for each call of a user, in order, and of each turn and each drain the calls that the script says; each actor that a
+/// turn line names is diligent in each of its lives. With status 0 nothing is due at its end; with 3 the calls of the
+/// drains are spent, and the last line names what is due first.
 ///
 /// Statuses: 0 done; 1 the usage line; 2 the input was refused, in one line; 3 unsettled; 4 a read failed, nothing is
 /// written; 5 a write failed, a front of what was due is written; 6 memory was wanting, nothing is written.

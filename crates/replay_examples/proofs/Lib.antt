@@ -1,4 +1,5 @@
 mod Counted
 mod Drained
+mod Lived
 mod Replayed
 mod Turned

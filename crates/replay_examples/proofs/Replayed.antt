@@ -28,7 +28,7 @@ use Rattle.replay_examples.proofs.Counted.{LeavesOne, end_cases, none_left, one_
 
 -- ---- a replay whose last drain has nothing to do
 
-settled_replay : (script : Script) (past : List Entry) (made : List ℕ → ℕ) → AreMoves script None (record (begun None) { past = past; made = made }) script.lines (begun None) → 2048 ≡ raised None script.setup past 0 → IsSettledSoFar script.setup (world script.setup past) → IsReplay script None past (Settled 0)
+abbrev pub settled_replay : (script : Script) (past : List Entry) (made : List ℕ → ℕ) → AreMoves script None (record (begun None) { past = past; made = made }) script.lines (begun None) → 2048 ≡ raised None script.setup past 0 → IsSettledSoFar script.setup (world script.setup past) → IsReplay script None past (Settled 0)
 settled_replay script past made moves budget settled = record {
   lines_done = record (begun None) { past = past; made = made };
   end = record (begun None) { past = past; made = made; budget = 2048 };
@@ -199,20 +199,24 @@ turn_moved next (inr fewer) =
 turn_begins : (past : List Entry) (ending : Drained) → IsReplay turn_script None past ending → BeginsWith 5 past
 turn_begins past ending r = begins_with turn_script 5 past ending (λ done moves. one_move turn_script 5 (lines.Turn binder_1 1) done (begun None) turn_script.lines refl refl turn_moved moves) r
 
-nothing_due_in_turn : IsSettledSoFar turn_script.setup (world turn_script.setup (reads 5 true ∷ []))
+pub nothing_due_in_turn : IsSettledSoFar turn_script.setup (world turn_script.setup (reads 5 true ∷ []))
 unfolding world_after effect on_devices device_answer after outcome get
 nothing_due_in_turn key o there = absurd (cc)
 
-budget_after_turn : 2048 ≡ raised None turn_script.setup (reads 5 true ∷ []) 0
+pub budget_after_turn : 2048 ≡ raised None turn_script.setup (reads 5 true ∷ []) 0
 unfolding world_after effect on_devices device_answer after outcome get
 budget_after_turn = refl
 
+abbrev pub turn_replay : IsReplay turn_script None (reads 5 true ∷ []) (Settled 0)
+turn_replay =
+    settled_replay turn_script (reads 5 true ∷ []) (and_made binder_part.name 1 (λ name. 0))
+    (MoreMoves (lines.Turn binder_1 1) [] _ refl
+    (inl (record { past = reads 5 true ∷ []; made = MoreCalls 0 (reads 5 true ∷ []) refl (record { request = Get some_key; reply = Refused NotFound; is = refl }) (NoCalls refl refl); is = refl }))
+    (NoMoves refl refl)) budget_after_turn nothing_due_in_turn
+
 pub turn_cases : TurnExamples
 turn_cases = record {
-  its_call_is_made = settled_replay turn_script (reads 5 true ∷ []) (and_made binder_part.name 1 (λ name. 0))
-      (MoreMoves (lines.Turn binder_1 1) [] _ refl
-      (inl (record { past = reads 5 true ∷ []; made = MoreCalls 0 (reads 5 true ∷ []) refl (record { request = Get some_key; reply = Refused NotFound; is = refl }) (NoCalls refl refl); is = refl }))
-      (NoMoves refl refl)) budget_after_turn nothing_due_in_turn;
+  its_call_is_made = turn_replay;
   not_by_another_seat = λ r. let e : 6 ≡ 5 = its_seat 5 (reads 6 true) (turn_begins (reads 6 true ∷ []) (Settled 0) r) in absurd (omega (arith, e));
   not_without_its_answer = λ r. absurd (true≢false (sym (its_answer 5 (reads 5 false) (turn_begins (reads 5 false ∷ []) (Settled 0) r))));
   it_does_not_end_at_once = λ r. not_empty 5 (turn_begins [] (Settled 0) r);

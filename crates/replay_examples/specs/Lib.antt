@@ -1,3 +1,4 @@
 pub mod Calls
 pub mod Drains
+pub mod Lives
 pub mod Replays

@@ -5,6 +5,7 @@
 
 ghost use Rattle.replay_examples.specs.Calls.{CallExamples, EndExamples, SeatExamples};
 ghost use Rattle.replay_examples.specs.Drains.{DrainExamples, SpentExamples};
+ghost use Rattle.replay_examples.specs.Lives.{LifeExamples};
 ghost use Rattle.replay_examples.specs.Replays.{EmptyExamples, FewerExamples, TurnExamples, UserExamples};
 
 /// Which life of an actor makes a call.
@@ -15,6 +16,11 @@ pub fn seat_examples()
 /// Calls that are told, and calls that are lost.
 pub fn call_examples()
     ensures { CallExamples }
+{}
+
+/// The calls of one life.
+pub fn life_examples()
+    ensures { LifeExamples }
 {}
 
 /// How a turn may give fewer calls than its line says.

@@ -22,9 +22,11 @@ use Rattle.script_parts.specs.declared.part.Part.{Part}
 use Rattle.script_parts.specs.Budget.{first_budget}
 use Rattle.script_parts.specs.Parts.{first_actor_seat}
 use Rattle.script_runs.specs.Replays.{EndsAs, IsDrain, IsMove, IsReplay, MoreMoves, NoMoves, Progress, begun}
+use Rattle.script_runs.specs.Steps.Living.{Lives}
 use Rattle.script_runs.specs.Steps.Playing.{EachPlayer, IsNewPlayer, Plays}
 use Rattle.script_runs.specs.Steps.Standing.{Ended, HasMoved, IsBudget, SoFar, Stands, end_of, fourth_seat, part_from, parts_from, parts_in, seat_of_drains, second_seat, third_seat, with_made}
 use Rattle.script_runs.proofs.Casting.{small_seats}
+use Rattle.script_runs.proofs.Lived.{new_lives}
 use Rattle.script_runs.proofs.Since.{new_since}
 
 -- ---- the beginning
@@ -59,6 +61,7 @@ begins script option s first past setup parts new are seat stand drained budget 
   setup = setup;
   parts = parts;
   plays = λ place x at named. subst (λ h. Plays x h (λ seat. [])) (sym past) (new_plays x (new place x at));
+  lives = λ place x at named. subst (Lives x) (sym past) (new_lives x (new place x at));
   made = λ place x at. (new place x at).made;
   drainers = subst (AreStanding s.drainers) (sym past) (stand [] (none_yet (seats_of s.drainers)));
   seats = λ other own. new_seats first s.drainers are other own ∙ seat;

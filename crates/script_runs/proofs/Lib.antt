@@ -1,6 +1,8 @@
 mod Beginning
 mod Casting
 mod Calling
+mod Ending
+mod Lived
 mod Lives
 mod Moving
 mod Needs

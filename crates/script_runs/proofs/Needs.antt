@@ -22,6 +22,7 @@ use Rattle.script_parts.specs.Parts.{first_actor_seat, is_named, kind_of, kind_o
 use Rattle.script_runs.specs.declared.player.Player.{Player}
 use Rattle.script_runs.specs.declared.stage.Stage.{Stage}
 use Rattle.script_runs.specs.Replays.{IsTurn}
+use Rattle.script_runs.specs.Steps.Living.{Lives}
 use Rattle.script_runs.specs.Steps.Playing.{EachPlayer, HasMadeAll, HasMadeFewer, HasTurned, IsLife, Plays, SomePlays}
 use Rattle.script_runs.specs.Steps.Standing.{HasMoved, MadeAtMost, SomeStands, fourth_seat, part_from, parts_from, parts_in, place_of, seat_of_drains, second_seat, third_seat}
 use Rattle.script_runs.proofs.Casting.{part_of_built}
@@ -30,7 +31,7 @@ use Rattle.script_runs.proofs.Staging.{HasPlayed, in_order, set_cases, turn_move
 
 -- ---- the actors that are built
 
-kind_by : (k : WorkerKind) → is_kind_built k ≡ true → kind_of_worker k ≡ seats.Binder
+pub kind_by : (k : WorkerKind) → is_kind_built k ≡ true → kind_of_worker k ≡ seats.Binder
 kind_by workers.Binder built = refl
 kind_by workers.Ops built = absurd (true≢false (sym built))
 kind_by workers.Scheduler built = absurd (true≢false (sym built))
@@ -127,7 +128,7 @@ turned_made calls idle before after old new t = by t.made
 module _ (script : Script) (option : Option ℕ) (actor : Actor) (calls : ℕ) (old new : Stage) (place : ℕ) (x after : Player) (built : is_actor_built actor ≡ true) (named : is_named (actor_word actor) script.lines ≡ true)
     (some : SomeStands script option old) (is : place ≡ place_of actor) (read : x ≡ get_or old.players.items place x) (players : new.players.items ≡ set old.players.items place after) (part : after.part ≡ x.part)
     (setup : new.world.setup ≡ old.world.setup) (drainers : new.drainers ≡ old.drainers) (drained : new.drained ≡ old.drained) (budget : new.budget ≡ old.budget)
-    (turns : (idle : ℕ → List Entry) → Plays x old.world.past idle → HasTurned calls idle old.world.past new.world.past x after) where
+    (turns : (idle : ℕ → List Entry) → Plays x old.world.past idle → HasTurned calls idle old.world.past new.world.past x after) (lives : Lives x old.world.past → Lives after new.world.past) where
   at : slice_get old.players.items (place_of actor) ≡ Some x
   at = player_there script option actor old built some place x is read
 
@@ -144,7 +145,7 @@ module _ (script : Script) (option : Option ℕ) (actor : Actor) (calls : ℕ) (
   }
 
   pub turn_made : HasMoved script option (IsTurn (part_of script actor) calls) old new
-  turn_made = turn_moved script option calls old new place x after (part_of script actor) (its_part script option actor old built some x at) played turns
+  turn_made = turn_moved script option calls old new place x after (part_of script actor) (its_part script option actor old built some x at) played turns lives
 
 -- no player has then made more than 1,000 calls more
 pub made_after : (script : Script) (option : Option ℕ) (actor : Actor) (calls most : ℕ) (old : Stage) (past : List Entry) (place : ℕ) (x after : Player) → is_actor_built actor ≡ true → is_named (actor_word actor) script.lines ≡ true

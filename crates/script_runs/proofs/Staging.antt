@@ -26,8 +26,10 @@ use Rattle.settle_check.specs.SoFar.{IsSettledSoFar}
 use Rattle.script_parts.specs.Budget.{raised}
 use Rattle.script_parts.specs.Parts.{drain_seat, drain_seats}
 use Rattle.script_runs.specs.Replays.{IsDrain, IsTurn, IsUserCall, Progress, and_idle, and_made}
+use Rattle.script_runs.specs.Steps.Living.{Lives}
 use Rattle.script_runs.specs.Steps.Playing.{HasMadeAll, HasMadeFewer, HasTurned, IsLife, Plays, StandsSince}
 use Rattle.script_runs.specs.Steps.Standing.{HasMoved, IsBudget, Leads, Stands, parts_from, parts_in, seat_of_drains}
+use Rattle.script_runs.proofs.Lived.{lives_on}
 use Rattle.script_runs.proofs.Lives.{seat_within}
 use Rattle.script_runs.proofs.Orders.{AllDiffer, AreInOrder, get_set_other, get_set_same, life_between, one_owner, other_name, part_at_place, parts_set}
 
@@ -96,6 +98,9 @@ module _ (script : Script) (option : Option ℕ) (user : ℕ) (request : Request
       plays = λ place x at named.
           let there = ap (λ (xs : _). slice_get xs.items place) (sym players) ∙ at in
           plays_on x old.world.past new.world.past p.idle p.idle named (λ seat life. others seat (above place x there seat life)) (λ seat life. refl) (stands.plays place x there named);
+      lives = λ place x at named.
+          let there = ap (λ (xs : _). slice_get xs.items place) (sym players) ∙ at in
+          lives_on x old.world.past new.world.past (life_at x old.world.past p.idle named (stands.plays place x there named)) (λ seat life. others seat (above place x there seat life)) (stands.lives place x there named);
       made = λ place x at. stands.made place x (ap (λ (xs : _). slice_get xs.items place) (sym players) ∙ at);
       drainers = subst (λ ds. AreStanding ds new.world.past) (sym drainers) (drainers_on old.drainers (seat_of_drains script.lines) old.world.past new.world.past stands.seats (others (seat_of_drains script.lines) drains_above) stands.drainers);
       seats = subst (λ ds. (seat : ℕ) → IsOneOf (seats_of ds) seat → seat ≡ seat_of_drains script.lines) (sym drainers) stands.seats;
@@ -172,12 +177,13 @@ module _ (script : Script) (option : Option ℕ) (old new : Stage) (place : ℕ)
   player_at j y at = set_cases old.players.items place after j y (slice_get_within old.players.items place x played.there) (ap (λ xs. slice_get xs j) (sym played.players) ∙ at)
 
   stands_on : (count : ℕ) (idle : ℕ → List Entry) → after.made ≡ x.made + count → ((seat : ℕ) → (IsLife x.part seat → ⊥) → own seat new.world.past ≡ own seat old.world.past) → ((seat : ℕ) → (IsLife x.part seat → ⊥) → idle seat ≡ p.idle seat)
-      → Plays after new.world.past idle → Stands script option (record p { past = new.world.past; made = and_made x.part.name count p.made; idle = idle }) new
-  stands_on count idle more others same_idle plays = record {
+      → Plays after new.world.past idle → Lives after new.world.past → Stands script option (record p { past = new.world.past; made = and_made x.part.name count p.made; idle = idle }) new
+  stands_on count idle more others same_idle plays lives = record {
     past = refl;
     setup = played.setup ∙ stands.setup;
     parts = ap parts_in played.players ∙ parts_set old.players.items place x after played.there played.part ∙ stands.parts;
     plays = λ j y at named. each_plays j y named (player_at j y at);
+    lives = λ j y at named. each_lives j y named (player_at j y at);
     made = λ j y at. each_made j y (player_at j y at);
     drainers = subst (λ ds. AreStanding ds new.world.past) (sym played.drainers) (drainers_on old.drainers (seat_of_drains script.lines) old.world.past new.world.past stands.seats (others (seat_of_drains script.lines) not_drains) stands.drainers);
     seats = subst (λ ds. (seat : ℕ) → IsOneOf (seats_of ds) seat → seat ≡ seat_of_drains script.lines) (sym played.drainers) stands.seats;
@@ -191,6 +197,10 @@ module _ (script : Script) (option : Option ℕ) (old new : Stage) (place : ℕ)
       each_plays j y named (inl is) = subst (λ z. Plays z new.world.past idle) is plays
       each_plays j y named (inr other) = plays_on y old.world.past new.world.past p.idle idle named (λ seat life. others seat (not_mine j y seat other.1 other.0 life)) (λ seat life. same_idle seat (not_mine j y seat other.1 other.0 life)) (stands.plays j y other.1 named)
 
+      each_lives : (j : ℕ) (y : Player) → y.part.named ≡ true → (after ≡ y) ⊎ ((j ≢ place) × (slice_get old.players.items j ≡ Some y)) → Lives y new.world.past
+      each_lives j y named (inl is) = subst (λ z. Lives z new.world.past) is lives
+      each_lives j y named (inr other) = lives_on y old.world.past new.world.past (life_at y old.world.past p.idle named (stands.plays j y other.1 named)) (λ seat life. others seat (not_mine j y seat other.1 other.0 life)) (stands.lives j y other.1 named)
+
       each_made : (j : ℕ) (y : Player) → (after ≡ y) ⊎ ((j ≢ place) × (slice_get old.players.items j ≡ Some y)) → y.made ≡ and_made x.part.name count p.made y.part.name
       each_made j y (inl is) = subst (λ z. z.made ≡ and_made x.part.name count p.made z.part.name) is (more ∙ ap (λ n. n + count) (stands.made place x played.there) ∙ sym (own_made x.part.name count p.made) ∙ ap (λ (q : Part). and_made x.part.name count p.made q.name) (sym played.part))
       each_made j y (inr other) = stands.made j y other.1 ∙ sym (other_made x.part.name y.part.name count p.made (other_name (names_in (parts_from script.lines)) j place y.part.name x.part.name (names_differ script.lines) (name_at (parts_from script.lines) j y.part (part_there j y other.1)) (name_at (parts_from script.lines) place x.part (part_there place x played.there)) other.0))
@@ -198,14 +208,14 @@ module _ (script : Script) (option : Option ℕ) (old new : Stage) (place : ℕ)
   calls_at : (count : ℕ) → AreCalls x.part new.world.past (x.made + 1) count old.world.past → AreCalls x.part new.world.past (p.made x.part.name + 1) count p.past
   calls_at count calls = subst (λ h. AreCalls x.part new.world.past (p.made x.part.name + 1) count h) stands.past (subst (λ n. AreCalls x.part new.world.past (n + 1) count old.world.past) (stands.made place x played.there) calls)
 
-  turned : (calls : ℕ) → HasTurned calls p.idle old.world.past new.world.past x after → Leads script option (IsTurn x.part calls) p new
-  turned calls t = by t.made
+  turned : (calls : ℕ) → HasTurned calls p.idle old.world.past new.world.past x after → Lives after new.world.past → Leads script option (IsTurn x.part calls) p new
+  turned calls t lives = by t.made
     where
       by : HasMadeAll calls p.idle old.world.past new.world.past x after ⊎ HasMadeFewer calls p.idle old.world.past new.world.past x after → Leads script option (IsTurn x.part calls) p new
       by (inl all) = record {
         after = record p { past = new.world.past; made = and_made x.part.name calls p.made };
         move = inl (record { past = new.world.past; made = calls_at calls all.calls_are; is = refl });
-        stands = stands_on calls p.idle all.made t.others (λ seat other. refl) all.plays;
+        stands = stands_on calls p.idle all.made t.others (λ seat other. refl) all.plays lives;
       }
       by (inr few) = record {
         after = record p { past = new.world.past; made = and_made x.part.name few.count p.made; idle = and_idle after.seat (own after.seat new.world.past) p.idle };
@@ -219,16 +229,16 @@ module _ (script : Script) (option : Option ℕ) (old new : Stage) (place : ℕ)
           ends = inl few.quiet;
           is = refl;
         });
-        stands = stands_on few.count (and_idle after.seat (own after.seat new.world.past) p.idle) few.made t.others (λ seat other. not_idle after.seat seat (own after.seat new.world.past) p.idle (λ e. other (mine seat e))) few.plays;
+        stands = stands_on few.count (and_idle after.seat (own after.seat new.world.past) p.idle) few.made t.others (λ seat other. not_idle after.seat seat (own after.seat new.world.past) p.idle (λ e. other (mine seat e))) few.plays lives;
       }
         where
           mine : (seat : ℕ) → seat ≡ after.seat → IsLife x.part seat
           mine seat e = subst (IsLife x.part) (sym e) (subst (λ (q : Part). IsLife q after.seat) played.part (life_at after new.world.past (and_idle after.seat (own after.seat new.world.past) p.idle) (ap (λ (q : Part). q.named) played.part ∙ played.named) few.plays))
 
 pub turn_moved : (script : Script) (option : Option ℕ) (calls : ℕ) (old new : Stage) (place : ℕ) (x after : Player) (part : Part) → part ≡ x.part → HasPlayed old new place x after
-    → ((idle : ℕ → List Entry) → Plays x old.world.past idle → HasTurned calls idle old.world.past new.world.past x after) → HasMoved script option (IsTurn part calls) old new
-turn_moved script option calls old new place x after part is played turns p stands =
-    subst (λ q. Leads script option (IsTurn q calls) p new) (sym is) (turned script option old new place x after played p stands calls (turns p.idle (stands.plays place x played.there played.named)))
+    → ((idle : ℕ → List Entry) → Plays x old.world.past idle → HasTurned calls idle old.world.past new.world.past x after) → (Lives x old.world.past → Lives after new.world.past) → HasMoved script option (IsTurn part calls) old new
+turn_moved script option calls old new place x after part is played turns lives p stands =
+    subst (λ q. Leads script option (IsTurn q calls) p new) (sym is) (turned script option old new place x after played p stands calls (turns p.idle (stands.plays place x played.there played.named)) (lives (stands.lives place x played.there played.named)))
 
 -- ---- a drain
 
@@ -278,6 +288,9 @@ drain_moved script option old new made seat d p stands = record {
     plays = λ place x at named.
         let there = ap (λ (xs : _). slice_get xs.items place) (sym d.players) ∙ at in
         plays_on x old.world.past new.world.past p.idle p.idle named (λ s life. d.others s (λ own. below place x there s life (stands.seats s own))) (λ s life. refl) (stands.plays place x there named);
+    lives = λ place x at named.
+        let there = ap (λ (xs : _). slice_get xs.items place) (sym d.players) ∙ at in
+        lives_on x old.world.past new.world.past (life_at x old.world.past p.idle named (stands.plays place x there named)) (λ s life. d.others s (λ own. below place x there s life (stands.seats s own))) (stands.lives place x there named);
     made = λ place x at. stands.made place x (ap (λ (xs : _). slice_get xs.items place) (sym d.players) ∙ at);
     drainers = d.standing;
     seats = λ s own. stands.seats s (subst (λ ss. IsOneOf ss s) d.seats own);

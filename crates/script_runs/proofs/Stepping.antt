@@ -25,7 +25,7 @@ use Rattle.script_runs.proofs.Since.{new_since, quiet_since, turn_since}
 
 -- ---- a new life
 
-less : (a b m : ℕ) → a ≤ m → b ≡ m → b ≢ a → a < b
+pub less : (a b m : ℕ) → a ≤ m → b ≡ m → b ≢ a → a < b
 less a b m le is differs = by (nat_lt a b) refl
   where
     by : (t : Bool) → nat_lt a b ≡ t → a < b

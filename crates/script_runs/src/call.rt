@@ -9,6 +9,7 @@ ghost use Rattle.worker_core.specs.States.{asked};
 ghost use Rattle.fitting_calls.specs.Calls.{AreByActors};
 ghost use Rattle.script_parts.specs.declared.loss.Fate.TheVariants.{Told, LostAfter, LostBefore};
 ghost use Rattle.script_runs.specs.Calls.{IsCallWith};
+ghost use Rattle.script_runs.specs.Steps.Living.{GoesOn};
 ghost use Rattle.script_runs.specs.Steps.Playing.{HasCalled};
 
 use call_types::request::{Request, SeatKind};
@@ -37,6 +38,7 @@ fn make_told(
     requires asked { asked actor.old ≡ Some request.now }
     requires licensed { Licensed kind (own seat world.old.past) request.now }
     ensures called { OnOk result (HasCalled seat (IsCallWith Told seat kind) world.old world.new actor.old actor.new) }
+    ensures goes { OnOk result (GoesOn seat Told request.now world.old world.new actor.old actor.new) }
     ensures actors { OnOk result (StandsFor actor.old (own seat world.old.past) → AreByActors world.old.past → AreByActors world.new.past) }
     ensures setup { world.new.setup ≡ world.old.setup }
 {
@@ -59,6 +61,7 @@ fn make_untold(
     requires asked { asked actor.old ≡ Some request.now }
     requires licensed { Licensed kind (own seat world.old.past) request.now }
     ensures called { OnOk result (HasCalled seat (IsCallWith LostAfter seat kind) world.old world.new actor.old actor.new) }
+    ensures goes { OnOk result (GoesOn seat LostAfter request.now world.old world.new actor.old actor.new) }
     ensures actors { OnOk result (StandsFor actor.old (own seat world.old.past) → AreByActors world.old.past → AreByActors world.new.past) }
     ensures setup { world.new.setup ≡ world.old.setup }
 {
@@ -79,7 +82,8 @@ fn make_none(
 ) -> Result<(), OutOfMemory>
     requires kind { kind ≡ actor.old.role.kind }
     requires asked { asked actor.old ≡ Some request.now }
-    ensures { OnOk result (HasCalled seat (IsCallWith LostBefore seat kind) world.now world.now actor.old actor.new) }
+    ensures called { OnOk result (HasCalled seat (IsCallWith LostBefore seat kind) world.now world.now actor.old actor.new) }
+    ensures goes { OnOk result (GoesOn seat LostBefore request.now world.now world.now actor.old actor.new) }
 {
     let _built = actor.kind();
     actor.absorb(request, Outcome::Lost)?;
@@ -99,6 +103,7 @@ pub(crate) fn make(
     requires asked { asked actor.old ≡ Some request.now }
     requires licensed { Licensed kind (own seat world.old.past) request.now }
     ensures called { OnOk result (HasCalled seat (IsCallWith fate seat kind) world.old world.new actor.old actor.new) }
+    ensures goes { OnOk result (GoesOn seat fate request.now world.old world.new actor.old actor.new) }
     ensures actors { OnOk result (StandsFor actor.old (own seat world.old.past) → AreByActors world.old.past → AreByActors world.new.past) }
     ensures setup { world.new.setup ≡ world.old.setup }
 {

@@ -1,8 +1,9 @@
 //! A script replayed on one kept world: whose calls its history has.
 //!
 //! Promises: `replay::replay` goes through the lines of a script in order and then drains; `specs/Replays` says what each
-//! line does to the history, so whose calls it has, and how it ends. The history is a run, and safe at every point. Not said:
-//! that a drain's budget is enough; that an actor does what is due.
+//! line does to the history, so whose calls it has, and how it ends. The history is a run, and safe at every point. Each
+//! life of each actor that a turn line names is diligent (`specs/Diligent`). Not said: that a drain's budget is enough; that
+//! the actors of drains are diligent.
 #![tactic(auto)]
 
 mod call;

@@ -3,6 +3,7 @@
 ghost use Rattle.std.specs.Prelude.{◌≡◌, IfOk};
 ghost use Rattle.script_parts.specs.Limits.{AreBuilt, IsReadable};
 ghost use Rattle.fitting_calls.specs.Calls.{AreByActors};
+ghost use Rattle.script_runs.specs.Diligent.{IsDiligentReplay};
 ghost use Rattle.script_runs.specs.Replays.{IsReplay};
 
 use crate::stage::begin;
@@ -32,6 +33,7 @@ pub fn replay(alloc: Global, script: &Script, budget: Option<u64>) -> Result<Rep
     requires readable { IsReadable script.now }
     requires built { AreBuilt script.now.lines }
     ensures replay { IfOk result (λ r. IsReplay script.now budget r.world.past r.ending) }
+    ensures diligent { IfOk result (λ r. IsDiligentReplay script.now budget r.world.past r.ending) }
     ensures actors { IfOk result (λ r. AreByActors r.world.past) }
     ensures setup { IfOk result (λ r. r.world.setup ≡ script.now.setup) }
 {

@@ -19,6 +19,7 @@ use Rattle.script_parts.specs.Parts.{first_actor_seat, lives_of, part_at}
 use Rattle.script_lines.specs.Actors.{actor_word}
 use Rattle.call_types.specs.declared.request.SeatKind.TheVariants as seats
 use Rattle.script_runs.specs.Replays.{AreMoves, EndsAs, IsDrain, Progress, begun}
+use Rattle.script_runs.specs.Steps.Living.{Lives}
 use Rattle.script_runs.specs.Steps.Playing.{EachPlayer, Plays}
 
 -- the place of a binder among the four
@@ -70,6 +71,7 @@ pub record Stands (script : Script) (option : Option ℕ) (p : Progress) (s : St
   pub setup : s.world.setup ≡ script.setup
   pub parts : parts_in s.players.items ≡ parts_from script.lines
   pub plays : EachPlayer (λ x. x.part.named ≡ true → Plays x s.world.past p.idle) s.players.items
+  pub lives : EachPlayer (λ x. x.part.named ≡ true → Lives x s.world.past) s.players.items
   pub made : EachPlayer (λ x. x.made ≡ p.made x.part.name) s.players.items
   pub drainers : AreStanding s.drainers s.world.past
   pub seats : (seat : ℕ) → IsOneOf (seats_of s.drainers) seat → seat ≡ seat_of_drains script.lines

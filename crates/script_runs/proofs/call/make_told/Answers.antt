@@ -1,6 +1,6 @@
-use Rattle.std.proofs.Common.{◌∙◌, refl, sym}
+use Rattle.std.proofs.Common.{◌∙◌, sym}
 use Rattle.worker_threads.proofs.RunFacts.{by_actor}
-use Rattle.script_runs.proofs.Calling.{told_called}
+use Rattle.script_runs.proofs.Calling.{told_called, told_goes}
 use Rattle.script_runs.proofs.call.make_told.Goals as goal
 
 pub returns-clause-called : goal.returns-clause-called
@@ -11,3 +11,8 @@ returns-clause-called c =
 pub returns-clause-actors : goal.returns-clause-actors
 returns-clause-actors c = λ stands before.
     by_actor c.args.actor.now c.args.world.now.past c.call.new.self.past _ c.in_ok-reply.ensures.entry (sym c.kind-built.ensures.kind ∙ c.kind-built.ensures.built) c.requires.kind stands c.requires.asked before
+
+pub returns-clause-goes : goal.returns-clause-goes
+returns-clause-goes c =
+    told_goes c.args.seat c.args.world.now c.call.new.self c.args.actor.now c.absorb.new.self c.args.kind c.args.request.now c.in_ok-reply.reply c.requires.kind c.have_history.ensures
+    c.in_ok-reply.ensures.entry c.in_ok-absorb.ensures.state c.in_ok-absorb.ensures.told

@@ -7,6 +7,9 @@ use Rattle.script_parts.specs.Fates.{fate_of}
 use Rattle.worker_core.specs.declared.turn.Next.{Next}
 use Rattle.worker_core.specs.Stands.{IsLicensedAnswer}
 use Rattle.worker_core.specs.Turns.{IsTurn}
+use Rattle.script_parts.specs.declared.part.Part.{Part}
+use Rattle.script_runs.specs.Calls.{seat_at}
+use Rattle.script_runs.proofs.Lived.{idle_lives, made_lives}
 use Rattle.script_runs.proofs.Stepping.{one_made, still}
 use Rattle.script_runs.proofs.player.step.Goals as goal
 
@@ -46,3 +49,23 @@ returns-clause-actors c = λ before.
     let some = c.requires.plays in
     let plays = c.begin_life.ensures.plays past some.idle c.requires.named some.plays in
     c.in_ok-make-in-Call.ensures.actors (c.in_ok-answer.ensures.stands (own c.begin_life.new.player.seat past) plays.since.stands) before
+
+pub returns-in-Idle-clause-lived : goal.returns-in-Idle-clause-lived
+returns-in-Idle-clause-lived c = λ lives.
+    let mid = c.begin_life.new.player in
+    let past = c.args.world.now.past in
+    let some = c.requires.plays in
+    idle_lives mid c.next.new.self past (subst (λ (a : Next). IsTurn mid.actor c.next.new.self a) c.in-Idle.is c.in_ok-answer.ensures.turn) c.in_ok-answer.ensures.stands
+    (c.begin_life.ensures.lives past some.idle c.requires.named some.plays lives)
+
+pub returns-clause-lived : goal.returns-clause-lived
+returns-clause-lived c = λ lives.
+    let mid = c.begin_life.new.player in
+    let past = c.args.world.now.past in
+    let some = c.requires.plays in
+    let called = c.in_ok-make-in-Call.ensures.called in
+    let life : mid.seat ≡ seat_at mid.part (mid.made + 1) = c.begin_life.ensures.seat ∙ sym (ap (λ (p : Part). seat_at p (mid.made + 1)) c.begin_life.ensures.part ∙ ap (λ m. seat_at c.args.player.now.part (m + 1)) c.begin_life.ensures.made) in
+    made_lives mid c.next.new.self c.make.new.actor c.in-Call.request c.fate_of-fate.result c.args.world.now c.make.new.world life
+    (c.fate_of-fate.ensures ∙ ap (λ (losses : List Loss). fate_of losses (mid.made + 1)) c.as_slice.ensures)
+    (subst (λ (a : Next). IsTurn mid.actor c.next.new.self a) c.in-Call.is c.in_ok-answer.ensures.turn) c.in_ok-answer.ensures.stands c.in_ok-make-in-Call.ensures.goes called.others
+    (c.begin_life.ensures.lives past some.idle c.requires.named some.plays lives)

@@ -45,7 +45,7 @@ turn-requires-clause-plays c =
 pub returns-clause-moved : goal.returns-clause-moved
 returns-clause-moved c =
     turn_made c.args.script.now c.args.option c.args.actor.now c.args.calls c.args.self.now _ c.place_of-place.result c.index_mut.result.now c.turn.new.player c.requires.built c.requires.named c.requires.stands
-    c.place_of-place.ensures c.index_mut.ensures.value refl c.turn.ensures.part c.turn.ensures.setup refl refl refl c.in_ok-turn.ensures.turned
+    c.place_of-place.ensures c.index_mut.ensures.value refl c.turn.ensures.part c.turn.ensures.setup refl refl refl c.in_ok-turn.ensures.turned c.in_ok-turn.ensures.lives
 
 pub returns-clause-made : goal.returns-clause-made
 returns-clause-made c =

@@ -1,0 +1,26 @@
+//! Computed examples of diligent lives and of played ones.
+//!
+//! Each is a function with nothing to do, whose contract has the examples.
+#![tactic(auto)]
+
+ghost use Rattle.diligent_examples.specs.Lives.{DueExamples, LifeExamples, PlayedExamples, WatchExamples};
+
+/// Which calls are four watches without news between.
+pub fn watch_examples()
+    ensures { WatchExamples }
+{}
+
+/// For which keys the rules give a call.
+pub fn due_examples()
+    ensures { DueExamples }
+{}
+
+/// Which lives are diligent.
+pub fn life_examples()
+    ensures { LifeExamples }
+{}
+
+/// Which calls an actor can have made.
+pub fn played_examples()
+    ensures { PlayedExamples }
+{}

@@ -1,0 +1,110 @@
+-- A key that is due has a row, and no decision drops it; and the rules give no watch.
+use Rattle.std.proofs.Common.{◌≡◌, ℕ, List, true, true≢false, Option, Some, None, inl, inr, refl, sym, ◌∙◌, ap, subst}
+use Rattle.std.specs.Prelude.{map, option_map}
+use Rattle.std.specs.List.{list_any}
+use Rattle.kube_types.specs.declared.key.Key.{Key}
+use Rattle.kube_types.specs.declared.parts.Kind.{Kind}
+use Rattle.kube_types.specs.declared.objects.Object.{Object}
+use Rattle.kube_types.specs.declared.objects.Object.TheVariants.{Class, Node, Volume, Claim, Pod}
+use Rattle.kube_types.specs.Keys.{key_of, kind_of, row_at, same_key}
+use Rattle.kube_types.proofs.KeyOrder.{row_at_key}
+use Rattle.call_types.specs.declared.entry.Entry.{Entry}
+use Rattle.call_types.specs.declared.request.Request.{Request}
+use Rattle.call_types.specs.declared.request.Request.TheVariants as requests
+use Rattle.call_types.specs.declared.request.SeatKind.TheVariants.{Binder}
+use Rattle.informer_cache.specs.Cache.{objects_of}
+use Rattle.informer_cache.specs.All.{AllKnown, AllStandFor, all_objects, cache_of}
+use Rattle.model_laws.proofs.Lists.{IsIn, none_some, one}
+use Rattle.worker_core.specs.declared.role.Role.{Role}
+use Rattle.worker_core.specs.declared.task.First.{First}
+use Rattle.worker_core.specs.declared.task.First.TheVariants as firsts
+use Rattle.worker_core.specs.declared.task.Task.{Task}
+use Rattle.worker_core.specs.declared.task.Under.{Under}
+use Rattle.worker_core.specs.declared.turn.Next.{Next}
+use Rattle.worker_core.specs.declared.turn.Next.TheVariants as nexts
+use Rattle.worker_core.specs.Memories.{memory_of}
+use Rattle.worker_core.specs.Roles.{kinds_of}
+use Rattle.worker_core.specs.Rules.{WasCalled, WasDropped}
+use Rattle.worker_core.specs.Stands.{AnyIsUnderWay, StandsFor}
+use Rattle.worker_core.specs.States.{State, call_under}
+use Rattle.worker_core.specs.Tasks.{GivesCall, IsBinderFirst, IsDecision, IsFirstOf, task_call}
+use Rattle.worker_core.proofs.Machines.{keeps_under, task_reads_none}
+use Rattle.worker_core.proofs.Quiet.{itself}
+use Rattle.diligent_law.specs.Diligence.{BeginsCall, IsAskedFor, IsDue, Shows}
+
+abbrev task_in : First → Option Task
+task_in (firsts.Begins task) = Some task
+task_in first = None
+
+-- to drop a key is not to begin a call
+no_drop : BeginsCall firsts.Drops → ⊥
+no_drop b = none_some (ap task_in b.begins)
+
+-- a key that is due has a row of a kind that the binder follows
+pub record IsCached (key : Key) (c : AllKnown) : Type 0 where
+  pub followed : IsIn key.kind (kinds_of Binder)
+  pub there : list_any (same_key key) (map key_of (objects_of (cache_of key.kind c))) ≡ true
+
+module _ (role : Role) (mine : List Entry) (key : Key) (binder : role.kind ≡ Binder) (due : IsDue role key mine) where
+  pub due_cached : (c : AllKnown) → AllStandFor c mine → ((k : Key) (o : Object) → row_at k (objects_of (cache_of k.kind c)) ≡ Some o → list_any (same_key k) (map key_of (objects_of (cache_of k.kind c))) ≡ true) → IsCached key c
+  due_cached c stand there = by (row_at key (all_objects c)) refl
+    where
+      begins : (first : First) → IsDecision role (memory_of role mine) (all_objects c) key first → BeginsCall first
+      begins = due.only (all_objects c) (record { shown = stand.rows })
+
+      cached : (o : Object) → row_at key (all_objects c) ≡ Some o → list_any (same_key key) (map key_of (objects_of (cache_of key.kind c))) ≡ true
+      cached o e = there key o ((stand.each key.kind).rows key (sym (stand.kinds key.kind)) ∙ sym (stand.rows key) ∙ e)
+
+      own_kind : (o : Object) → row_at key (all_objects c) ≡ Some o → kind_of o ≡ key.kind
+      own_kind o e = ap (λ (k : Key). k.kind) (row_at_key key o (all_objects c) e)
+
+      drops : IsBinderFirst (all_objects c) key firsts.Drops → ⊥
+      drops d = no_drop (begins firsts.Drops (subst (λ k. IsFirstOf k (all_objects c) key firsts.Drops) (sym binder) d))
+
+      by : (row : Option Object) → row_at key (all_objects c) ≡ row → IsCached key c
+      by None e = absurd (drops (rw e refl))
+      by (Some (Class x)) e = absurd (drops (rw e refl))
+      by (Some (Node x)) e = absurd (drops (rw e refl))
+      by (Some (Pod x)) e = absurd (drops (rw e refl))
+      by (Some (Volume x)) e = record { followed = inl (own_kind (Volume x) e); there = cached (Volume x) e }
+      by (Some (Claim x)) e = record { followed = inr (inl (own_kind (Claim x) e)); there = cached (Claim x) e }
+
+-- in an actor that stands for the entries
+
+module _ (s : State) (mine : List Entry) (key : Key) (stands : StandsFor s mine) where
+  shows : Shows mine (all_objects s.caches)
+  shows = record { shown = stands.caches.rows }
+
+  pub not_dropped : IsDue s.role key mine → WasDropped s key → ⊥
+  not_dropped due dropped =
+      let b = due.only (all_objects s.caches) shows dropped.first (subst (λ m. IsDecision s.role m (all_objects s.caches) key dropped.first) stands.memory dropped.none.decided) in
+      none_some (sym (dropped.none.none b.task b.begins) ∙ b.call)
+
+  pub was_asked : (request : Request) → WasCalled s (nexts.Call request) key → IsAskedFor s.role key mine request
+  was_asked request called = record {
+    rows = all_objects s.caches;
+    shows = shows;
+    under = called.under;
+    own = called.own;
+    gives = subst (λ m. GivesCall s.role m (all_objects s.caches) called.under) stands.memory called.decided;
+    call = asked called.call;
+  }
+    where
+      asked : nexts.Call request ≡ nexts.Call called.under.call → request ≡ called.under.call
+      asked e = one _ _ (ap call_of e)
+        where
+          call_of : Next → Option Request
+          call_of (nexts.Call r) = Some r
+          call_of nexts.Idle = None
+
+-- no machine watches
+
+task_watches : (t : Task) (kind : Kind) (from : ℕ) → task_call t ≡ Some (requests.Watch kind from) → ⊥
+task_watches t kind from e = true≢false (sym (itself kind) ∙ task_reads_none t (requests.Watch kind from) kind e)
+
+pub asked_no_watch : (role : Role) (key : Key) (mine : List Entry) (kind : Kind) (from : ℕ) → IsAskedFor role key mine (requests.Watch kind from) → ⊥
+asked_no_watch role key mine kind from a = task_watches a.under.task kind from (a.gives.call ∙ ap Some (sym a.call))
+
+pub under_no_watch : (role : Role) (under : Option Under) (mine : List Entry) (kind : Kind) (from : ℕ) → role.kind ≡ Binder → AnyIsUnderWay role under mine → option_map call_under under ≡ Some (requests.Watch kind from) → ⊥
+under_no_watch role None mine kind from is way e = none_some e
+under_no_watch role (Some u) mine kind from is way e = task_watches u.task kind from ((keeps_under role u mine is way).call ∙ e)

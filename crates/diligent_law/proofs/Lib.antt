@@ -1,0 +1,10 @@
+pub mod Dues
+pub mod Following
+pub mod Ordered
+pub mod Passing
+pub mod Phases
+pub mod Queues
+pub mod Seeking
+pub mod Showings
+pub mod Stepping
+pub mod Turned

@@ -1,0 +1,152 @@
+-- Decisions by look-ups alone are the same on all rows that show the same.
+use Rattle.std.proofs.Common.{◌≡◌, ◌⊎◌, List, Bool, true, false, true≢false, Option, Some, None, inl, inr, refl, sym, ◌∙◌, ap, subst, if◌then◌else◌}
+use Rattle.kube_types.specs.declared.key.Key.{Key}
+use Rattle.kube_types.specs.declared.lookup.Live.TheVariants.{NotAsked}
+use Rattle.kube_types.specs.declared.objects.Object.{Object}
+use Rattle.kube_types.specs.declared.objects.Object.TheVariants.{Class, Node, Volume, Claim, Pod}
+use Rattle.kube_types.specs.declared.objects.Ref.{Ref}
+use Rattle.kube_types.specs.declared.objects.Volume.{Volume as VolumeData}
+use Rattle.kube_types.specs.declared.objects.Claim.{Claim as ClaimData}
+use Rattle.kube_types.specs.declared.uid.Uid.{Uid}
+use Rattle.kube_types.specs.Bindings.{is_completed, is_deleting, is_empty}
+use Rattle.kube_types.specs.Keys.{row_at}
+use Rattle.binder_model.specs.Matching.{has_match}
+use Rattle.binder_model.specs.BinderDue.{claim_with}
+use Rattle.binder_model.specs.ObjectKeys.{claim_key, volume_key}
+use Rattle.volume_match.specs.Volumes.{as_volume}
+use Rattle.claim_sync.specs.ClaimDecision.{IsChoice, claim_decision, completed_step, named_step, named_volume}
+use Rattle.claim_sync.specs.declared.action.ClaimStep.{ClaimStep}
+use Rattle.claim_sync.specs.declared.action.ClaimStep.TheVariants as steps
+use Rattle.volume_sync.specs.VolumeDecision.{claim_by_reference, claim_by_uid, or_else, live_claim, seen_claim, volume_decision}
+use Rattle.binder_machines.specs.declared.decide.First.{First as BinderFirst}
+use Rattle.binder_machines.specs.declared.decide.First.TheVariants as binder_firsts
+use Rattle.binder_machines.specs.declared.machine.Machine.{Machine}
+use Rattle.binder_machines.specs.declared.machine.Machine.TheVariants.{Binds}
+use Rattle.binder_machines.specs.FirstSteps.{IsBindingTo, IsClaimFirst, IsFirst, volume_first}
+use Rattle.model_laws.proofs.Lists.{none_some, one}
+use Rattle.worker_core.specs.declared.task.First.{First}
+use Rattle.worker_core.specs.declared.task.First.TheVariants as firsts
+use Rattle.worker_core.specs.declared.task.Task.{Task}
+use Rattle.worker_core.specs.declared.task.Task.TheVariants as tasks
+use Rattle.worker_core.specs.Tasks.{IsBinderFirst, IsFirstOf, task_call}
+use Rattle.diligent_law.specs.Diligence.{BeginsCall, Shows}
+use Rattle.diligent_law.specs.Showing.{IsLookedUp, OneShowingIsEnough}
+
+module _ (rows other : List Object) (same : (key : Key) → row_at key other ≡ row_at key rows) where
+  -- volumes
+
+  same_claim : (v : VolumeData) → seen_claim other v NotAsked ≡ seen_claim rows v NotAsked
+  same_claim v = by v.claim_ref
+    where
+      by_uid : (r : Ref) (uid : Option Uid) → claim_by_uid other r uid NotAsked ≡ claim_by_uid rows r uid NotAsked
+      by_uid r None = refl
+      by_uid r (Some uid) = ap (λ o. or_else (claim_with uid o) (live_claim uid NotAsked)) (same (claim_key r.namespace r.name))
+
+      by : (r : Option Ref) → claim_by_reference other r NotAsked ≡ claim_by_reference rows r NotAsked
+      by None = refl
+      by (Some r) = by_uid r r.uid
+
+  same_volume_decision : (v : VolumeData) → volume_decision other v NotAsked ≡ volume_decision rows v NotAsked
+  unfolding volume_decision
+  same_volume_decision v = rw (same_claim v) refl
+
+  -- claims
+
+  same_named : (c : ClaimData) → named_volume other c ≡ named_volume rows c
+  same_named c = ap as_volume (same (volume_key c.volume_name))
+
+  same_claim_decision : (c : ClaimData) → (is_completed c ≡ true) ⊎ (is_empty c.volume_name ≡ false) → claim_decision other c NotAsked ≡ claim_decision rows c NotAsked
+  unfolding claim_decision
+  same_claim_decision c which = by (is_completed c) (is_empty c.volume_name) refl refl which
+    where
+      step : List Object → Bool → Bool → ClaimStep
+      step rs completed unnamed =
+          if completed then (if unnamed then steps.Lost else completed_step c NotAsked (named_volume rs c))
+          else if is_deleting c.meta then steps.Nothing
+          else if unnamed then (if has_match rs c then steps.Bind else steps.Nothing)
+          else named_step c (named_volume rs c)
+
+      by : (a b : Bool) → is_completed c ≡ a → is_empty c.volume_name ≡ b → (is_completed c ≡ true) ⊎ (is_empty c.volume_name ≡ false) → step other (is_completed c) (is_empty c.volume_name) ≡ step rows (is_completed c) (is_empty c.volume_name)
+      by true b ea eb w = rw (ea, same_named c) refl
+      by false false ea eb w = rw (ea, eb, same_named c) refl
+      by false true ea eb (inl e) = absurd (true≢false (sym e ∙ ea))
+      by false true ea eb (inr e) = absurd (true≢false (sym eb ∙ e))
+
+  -- what begins
+
+  -- the volume that the claim names is the same on both
+  binding_same : (c : ClaimData) (f g : BinderFirst) → is_empty c.volume_name ≡ false → IsBindingTo rows c f → IsBindingTo other c g → g ≡ f
+  binding_same c f g named b d =
+      let key = volume_key c.volume_name in
+      let chosen_b : IsChoice false rows c (Some b.place) = subst (λ e. IsChoice e rows c (Some b.place)) named b.choice in
+      let chosen_d : IsChoice false other c (Some d.place) = subst (λ e. IsChoice e other c (Some d.place)) named d.choice in
+      let volumes : Some (Volume d.volume) ≡ Some (Volume b.volume) = sym d.there ∙ chosen_d ∙ same key ∙ sym chosen_b ∙ b.there in
+      d.begins ∙ ap (λ v. binder_firsts.Begins (Binds v c)) (one d.volume b.volume (ap as_volume volumes)) ∙ sym b.begins
+
+  claim_same : (c : ClaimData) (step : ClaimStep) (f g : BinderFirst) → (step ≡ steps.Bind → is_empty c.volume_name ≡ false) → IsClaimFirst rows c step f → IsClaimFirst other c step g → g ≡ f
+  claim_same c steps.Bind f g named d e = binding_same c f g (named refl) d e
+  claim_same c _ f g named d e = e ∙ sym d
+
+  abbrev is_bind : ClaimStep → Bool
+  is_bind steps.Bind = true
+  is_bind step = false
+
+  -- a claim that is completed or names its volume is bound to the one that it names
+  binds_named : (c : ClaimData) → (is_completed c ≡ true) ⊎ (is_empty c.volume_name ≡ false) → claim_decision rows c NotAsked ≡ steps.Bind → is_empty c.volume_name ≡ false
+  unfolding claim_decision
+  binds_named c (inr named) decides = named
+  binds_named c (inl completed) decides = by (is_empty c.volume_name) refl
+    where
+      by : (b : Bool) → is_empty c.volume_name ≡ b → is_empty c.volume_name ≡ false
+      by false e = e
+      by true e =
+          let lost : steps.Lost ≡ steps.Bind = rw (completed, e) at decides in
+          absurd (true≢false (sym (ap is_bind lost)))
+
+  first_same : (row : Option Object) (f g : BinderFirst) → IsLookedUp row → IsFirst rows row f → IsFirst other row g → g ≡ f
+  first_same (Some (Volume v)) f g looked d e = e ∙ ap (volume_first v) (same_volume_decision v) ∙ sym d
+  first_same (Some (Claim c)) f g looked d e = claim_same c (claim_decision rows c NotAsked) f g (binds_named c looked) d (subst (λ s. IsClaimFirst other c s g) (same_claim_decision c looked) e)
+  first_same (Some (Class x)) f g looked d e = absurd looked
+  first_same (Some (Node x)) f g looked d e = absurd looked
+  first_same (Some (Pod x)) f g looked d e = absurd looked
+  first_same None f g looked d e = absurd looked
+
+abbrev pub machine_in : BinderFirst → Option Machine
+machine_in (binder_firsts.Begins m) = Some m
+machine_in first = None
+
+-- the decision of the actor is that of the binder
+pub begins_binder : (rows : List Object) (key : Key) (task : Task) → IsBinderFirst rows key (firsts.Begins task) → (m : Machine) × ((task ≡ tasks.Binder m) × IsFirst rows (row_at key rows) (binder_firsts.Begins m))
+begins_binder rows key (tasks.Binder m) d = (m, (refl, d))
+
+pub one_showing : OneShowingIsEnough
+one_showing role key mine rows u binder shows looked own gives = record {
+  rows = rows;
+  shows = shows;
+  under = u;
+  own = own;
+  gives = gives;
+  only = λ other others first d. only_ other others first (of_role other key first d);
+}
+  where
+    of_role : (rs : List Object) (k : Key) (first : First) → IsFirstOf role.kind rs k first → IsBinderFirst rs k first
+    of_role rs k first d = subst (λ x. IsFirstOf x rs k first) binder d
+
+    same : (other : List Object) → Shows mine other → (k : Key) → row_at k other ≡ row_at k rows
+    same other others k = others.shown k ∙ sym (shows.shown k)
+
+    begun : (m : Machine) × ((u.task ≡ tasks.Binder m) × IsFirst rows (row_at key rows) (binder_firsts.Begins m))
+    begun = begins_binder rows key u.task (subst (λ k. IsBinderFirst rows k (firsts.Begins u.task)) own (of_role rows u.key (firsts.Begins u.task) gives.decided))
+
+    only_ : (other : List Object) → Shows mine other → (first : First) → IsBinderFirst other key first → BeginsCall first
+    only_ other others = by
+      where
+        is : (g : BinderFirst) → IsFirst other (row_at key other) g → g ≡ binder_firsts.Begins begun.0
+        is g d = first_same rows other (same other others) (row_at key rows) (binder_firsts.Begins begun.0) g looked begun.1.1 (subst (λ r. IsFirst other r g) (same other others key) d)
+
+        by : (first : First) → IsBinderFirst other key first → BeginsCall first
+        by firsts.Drops d = none_some (ap machine_in (is binder_firsts.Drops d))
+        by (firsts.Queues k) d = none_some (ap machine_in (is (binder_firsts.Queues k) d))
+        by (firsts.Begins (tasks.Binder n)) d =
+            let same_task : u.task ≡ tasks.Binder n = begun.1.0 ∙ ap (λ m. tasks.Binder m) (sym (one n begun.0 (ap machine_in (is (binder_firsts.Begins n) d)))) in
+            record { task = tasks.Binder n; request = u.call; begins = refl; call = sym (ap task_call same_task) ∙ gives.call }

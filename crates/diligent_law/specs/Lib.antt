@@ -1,0 +1,3 @@
+pub mod Diligence
+pub mod Played
+pub mod Showing

@@ -1,0 +1,61 @@
+-- Diligent lives on rows in order, and where one list of rows is enough to know that a key is due. A choice of this project.
+use Rattle.std.specs.Prelude.{◌≡◌, ◌⊎◌, true, false, List, [], ◌∷◌, ◌++◌, Option, Some, ⊤}
+use Rattle.kube_types.specs.declared.key.Key.{Key}
+use Rattle.kube_types.specs.declared.parts.Kind.{Kind}
+use Rattle.kube_types.specs.declared.objects.Object.{Object}
+use Rattle.kube_types.specs.declared.objects.Object.TheVariants.{Volume, Claim}
+use Rattle.kube_types.specs.declared.objects.Volume.{Volume as VolumeData}
+use Rattle.kube_types.specs.Bindings.{is_completed, is_empty}
+use Rattle.kube_types.specs.Keys.{AreRows, row_at}
+use Rattle.call_types.specs.declared.entry.Entry.{Entry}
+use Rattle.call_types.specs.declared.request.SeatKind.TheVariants.{Binder}
+use Rattle.worker_core.specs.declared.role.Role.{Role}
+use Rattle.worker_core.specs.declared.task.Under.{Under}
+use Rattle.worker_core.specs.Memories.{memory_of}
+use Rattle.worker_core.specs.Tasks.{GivesCall}
+use Rattle.worker_core.specs.States.{State}
+use Rattle.diligent_law.specs.Diligence.{AreFourWatches, Call, IsDue, Shows, WasAskedSince, entries}
+use Rattle.diligent_law.specs.Played.{IsPlayed}
+
+-- the decision on the row is one by look-ups of keys alone: all but that on a claim for which a volume is sought
+abbrev pub IsLookedUp : Option Object → Type 0
+IsLookedUp (Some (Volume v)) = ⊤
+IsLookedUp (Some (Claim c)) = (is_completed c ≡ true) ⊎ (is_empty c.volume_name ≡ false)
+IsLookedUp row = ⊥
+
+-- where the rules give a call for such a key on some rows that show the newest told, the key is due
+abbrev pub OneShowingIsEnough : Type 0
+OneShowingIsEnough = (role : Role) (key : Key) (mine : List Entry) (rows : List Object) (u : Under) → role.kind ≡ Binder → Shows mine rows → IsLookedUp (row_at key rows) → u.key ≡ key → GivesCall role (memory_of role mine) rows u → IsDue role key mine
+
+-- no volume of the rows stands in a namespace: no store takes one that does
+abbrev pub HaveNoNamespace : List Object → Type 0
+HaveNoNamespace rows = (key : Key) (v : VolumeData) → row_at key rows ≡ Some (Volume v) → v.meta.namespace ≡ []
+
+-- on the rows in order that show of each key the newest that was told, the rules give a call for the key
+pub record IsDueInOrder (role : Role) (key : Key) (mine : List Entry) : Type 0 where
+  pub rows : List Object
+  pub shows : Shows mine rows
+  pub order : AreRows rows
+  pub spaceless : HaveNoNamespace rows
+  pub under : Under
+  pub own : under.key ≡ key
+  pub gives : GivesCall role (memory_of role mine) rows under
+
+-- such a key is due, whatever rows are looked at
+abbrev pub RowsInOrderAreEnough : Type 0
+RowsInOrderAreEnough = (role : Role) (key : Key) (mine : List Entry) → role.kind ≡ Binder → IsDueInOrder role key mine → IsDue role key mine
+
+-- at each point from the calls `before` on, up to those that came since
+abbrev pub IsDueInOrderThroughout : Role → Key → List Call → List Call → Type 0
+IsDueInOrderThroughout role key before [] = IsDueInOrder role key (entries before)
+IsDueInOrderThroughout role key before (call ∷ since) = IsDueInOrder role key (entries (call ∷ since ++ before)) × IsDueInOrderThroughout role key before since
+
+-- of four watches of a kind without news, a loss or a write from the first to the fourth: a key for which the rules give a
+-- call at each point between them was called for between them
+abbrev pub IsDiligentInOrder : Role → List Call → Type 0
+IsDiligentInOrder role calls = (kind : Kind) (first fourth : Entry) (earlier between later : List Call) → calls ≡ later ++ (Some fourth ∷ between ++ Some first ∷ earlier)
+    → AreFourWatches kind first fourth between → (key : Key) → IsDueInOrderThroughout role key (Some first ∷ earlier) between → WasAskedSince role key (Some first ∷ earlier) between
+
+-- a binder's life that is played is so
+abbrev pub PlayedIsDiligentInOrder : Type 0
+PlayedIsDiligentInOrder = (role : Role) (s : State) (calls : List Call) → role.kind ≡ Binder → IsPlayed role s calls → IsDiligentInOrder role calls

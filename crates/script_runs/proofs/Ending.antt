@@ -1,0 +1,73 @@
+-- At the end of a replay each life of each actor that a turn line names was diligent.
+use Rattle.std.proofs.Common.{◌≡◌, ℕ, zero, suc, ◌<◌, ◌≤◌, ◌+◌, List, [], ◌∷◌, length, true, true≢false, Option, Some, refl, sym, ◌∙◌, ap, subst}
+use Rattle.std.specs.Prelude.{slice_get}
+use Rattle.std.proofs.lemmas.List.{drop_all}
+use Rattle.call_types.specs.declared.entry.Entry.{Entry}
+use Rattle.model_laws.proofs.Lists.{none_some}
+use Rattle.world_core.specs.declared.drained.Drained.{Drained}
+use Rattle.script_lines.specs.declared.actors.Actor.{Actor}
+use Rattle.script_lines.specs.declared.actors.Actor.TheVariants.{Worker, Agent}
+use Rattle.script_lines.specs.Actors.{actor_word}
+use Rattle.script_text.specs.declared.script.Line.TheVariants as kinds_of_line
+use Rattle.script_text.specs.declared.script.Script.{Script}
+use Rattle.script_parts.specs.declared.part.Part.{Part}
+use Rattle.script_parts.specs.Limits.{AreBuilt, is_actor_built}
+use Rattle.script_parts.specs.Parts.{is_named, lives_of, part_of}
+use Rattle.script_runs.specs.declared.player.Player.{Player}
+use Rattle.script_runs.specs.declared.stage.Stage.{Stage}
+use Rattle.script_runs.specs.Diligent.{AreDiligent, IsDiligentLife, IsDiligentReplay, role_of}
+use Rattle.script_runs.specs.Replays.{NoMoves, Progress}
+use Rattle.script_runs.specs.Steps.Living.{binder_role}
+use Rattle.script_runs.specs.Steps.Standing.{Ended, SoFar, SomeStands, Stands, parts_in, place_of}
+use Rattle.script_runs.proofs.Casting.{built_at, named_at, part_of_built}
+use Rattle.script_runs.proofs.Lived.{each_life}
+use Rattle.script_runs.proofs.Needs.{its_name, its_part, kind_by}
+
+-- a part at a place is one of a player
+player_of : (xs : List Player) (place : ℕ) (part : Part) → slice_get (parts_in xs) place ≡ Some part → (x : Player) × (slice_get xs place ≡ Some x)
+player_of [] place part at = none_some at
+player_of (x ∷ xs) zero part at = (x, refl)
+player_of (x ∷ xs) (suc place) part at = player_of xs place part at
+
+role_built : (actor : Actor) → is_actor_built actor ≡ true → role_of actor ≡ binder_role
+role_built (Agent node) built = absurd (true≢false (sym built))
+role_built (Worker w) built = ap (λ k. record { kind = k; node = [] }) (kind_by w.kind built)
+
+module _ (script : Script) (option : Option ℕ) (end : Progress) (s : Stage) (stands : Stands script option end s) where
+  diligent_actor : (actor : Actor) → is_actor_built actor ≡ true → is_named (actor_word actor) script.lines ≡ true → (seat : ℕ) → (part_of script actor).first ≤ seat → seat < (part_of script actor).first + lives_of (part_of script actor)
+      → IsDiligentLife (role_of actor) (part_of script actor) seat (end.made (part_of script actor).name) end.past
+  diligent_actor actor built named seat low high =
+      let found = player_of s.players.items (place_of actor) (part_of script actor) (ap (λ ps. slice_get ps (place_of actor)) stands.parts ∙ part_of_built script actor built) in
+      of_player found.0 found.1
+    where
+      of_player : (x : Player) → slice_get s.players.items (place_of actor) ≡ Some x → IsDiligentLife (role_of actor) (part_of script actor) seat (end.made (part_of script actor).name) end.past
+      of_player x at =
+          let some : SomeStands script option s = record { progress = end; stands = stands } in
+          let part : part_of script actor ≡ x.part = its_part script option actor s built some x at in
+          let its : x.part.named ≡ true = its_name script option actor s built some x at named in
+          let life = each_life x s.world.past end.idle (stands.plays (place_of actor) x at its) (stands.lives (place_of actor) x at its) seat
+          (subst (λ (p : Part). p.first ≤ seat) part low) (subst (λ (p : Part). seat < p.first + lives_of p) part high) in
+          subst (λ role. IsDiligentLife role (part_of script actor) seat (end.made (part_of script actor).name) end.past) (sym (role_built actor built))
+          (subst (λ h. IsDiligentLife binder_role (part_of script actor) seat (end.made (part_of script actor).name) h) stands.past
+          (subst (λ (p : Part). IsDiligentLife binder_role p seat (end.made p.name) s.world.past) (sym part)
+          (subst (λ made. IsDiligentLife binder_role x.part seat made s.world.past) (stands.made (place_of actor) x at) life)))
+
+  pub are_diligent : AreBuilt script.lines → AreDiligent script end
+  are_diligent all place actor calls at seat low high =
+      diligent_actor actor (built_at script.lines place (kinds_of_line.Turn actor calls) all at) (named_at script.lines place actor calls at) seat low high
+
+pub diligent_replay : (script : Script) (option : Option ℕ) (place : ℕ) (before after : Stage) (past : List Entry) (ending : Drained) → AreBuilt script.lines → length script.lines ≤ place → SoFar script option place before
+    → ((p : Progress) → Stands script option p before → Ended script option p after ending) → past ≡ after.world.past → IsDiligentReplay script option past ending
+diligent_replay script option place before after past ending built all so ended is =
+    let e = ended so.progress so.stands in
+    record {
+      calls = record {
+        lines_done = so.progress;
+        end = e.after;
+        moves = so.moves so.progress (NoMoves (drop_all place script.lines all) refl);
+        last = e.move;
+        history = is ∙ e.stands.past;
+        ends = e.ends;
+      };
+      diligent = are_diligent script option e.after after e.stands built;
+    }
