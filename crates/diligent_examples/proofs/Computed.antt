@@ -38,6 +38,7 @@ use Rattle.worker_core.specs.Tasks.{IsDecision}
 use Rattle.worker_core.proofs.Begins.{begins}
 use Rattle.diligent_law.specs.Diligence.{BeginsCall, Call, IsAskedFor, IsDiligent, IsDue, IsQuiet, Shows, WasAskedSince, entries}
 use Rattle.diligent_law.specs.Played.{Begins, IsPlayed}
+use Rattle.diligent_law.specs.Showing.{IsDueInOrder}
 use Rattle.diligent_law.proofs.Dues.{asked_no_watch}
 use Rattle.diligent_law.proofs.Following.{due_now, played_is_diligent, same_role, stands_now}
 use Rattle.diligent_examples.specs.Lives.{DueExamples, LifeExamples, PlayedExamples, WatchExamples, binder, call, entry, frees, pending_a, watch, watched}
@@ -200,8 +201,8 @@ diligent_where_none calls never kind first fourth earlier between later e four k
     absurd (never_before calls (later ++ Some fourth ∷ []) (between ++ Some first ∷ earlier) never (e ∙ appended later between (Some first ∷ earlier) (Some fourth)) key (due_now binder key (Some first ∷ earlier) between due))
 
 -- four watches with nothing between leave a due key
-left : (v : VolumeData) → ((mine : List Entry) → ((key : Key) → row_at key (rows v) ≡ object_of (newest mine key)) → IsDue binder key_a mine) → IsDiligent binder (watched v) → ⊥
-left v due diligent = none (diligent kinds.PersistentVolume (entry watch) (entry watch) (call (tells_volume v) ∷ []) (call watch ∷ call watch ∷ []) [] refl watch_examples.four key_a (due _ (shown_one v), (due _ (shown_one v), due _ (shown_one v))))
+none_asked : (v : VolumeData) → WasAskedSince binder key_a (call watch ∷ call (tells_volume v) ∷ []) (call watch ∷ call watch ∷ []) → ⊥
+none_asked v = none
   where
     watches_none : (mine : List Entry) → IsAskedFor binder key_a mine watch.request → ⊥
     watches_none mine = asked_no_watch binder key_a mine kinds.PersistentVolume 4
@@ -210,6 +211,9 @@ left v due diligent = none (diligent kinds.PersistentVolume (entry watch) (entry
     none (inl asked) = watches_none _ asked
     none (inr (inl asked)) = watches_none _ asked
     none (inr (inr h)) = h
+
+left : (v : VolumeData) → ((mine : List Entry) → ((key : Key) → row_at key (rows v) ≡ object_of (newest mine key)) → IsDue binder key_a mine) → IsDiligent binder (watched v) → ⊥
+left v due diligent = none_asked v (diligent kinds.PersistentVolume (entry watch) (entry watch) (call (tells_volume v) ∷ []) (call watch ∷ call watch ∷ []) [] refl watch_examples.four key_a (due _ (shown_one v), (due _ (shown_one v), due _ (shown_one v))))
 
 pub pending_left : IsDiligent binder (watched pending_a) → ⊥
 pending_left = left pending_a pending_due
@@ -230,10 +234,35 @@ asked_read = record {
     due : IsDue binder key_a (entries (call watch ∷ call watch ∷ call (tells_volume taken_a) ∷ []))
     due = taken_due _ (shown_one taken_a)
 
+-- the rows of one volume stand in order
+pending_in_order : (mine : List Entry) → ((key : Key) → row_at key (rows pending_a) ≡ object_of (newest mine key)) → IsDueInOrder binder key_a mine
+unfolding pending_due due_by
+pending_in_order mine shown = record {
+  rows = rows pending_a;
+  shows = record { shown = shown };
+  order = (tt, tt);
+  spaceless = spaceless;
+  under = (pending_due mine shown).under;
+  own = (pending_due mine shown).own;
+  gives = (pending_due mine shown).gives;
+}
+  where
+    namespace_of : Option Object → List ℕ
+    namespace_of (Some (Volume v)) = v.meta.namespace
+    namespace_of row = []
+
+    spaceless : (key : Key) (v : VolumeData) → row_at key (rows pending_a) ≡ Some (Volume v) → v.meta.namespace ≡ []
+    spaceless key v e = sym (ap namespace_of (sym (row_at-put (Volume pending_a) [] key) ∙ e)) ∙ by (same_key (key_of (Volume pending_a)) key)
+      where
+        by : (b : Bool) → namespace_of (if b then Some (Volume pending_a) else None) ≡ []
+        by true = refl
+        by false = refl
+
 pub life_examples : LifeExamples
 life_examples = record {
   nothing_is_due = diligent_where_none (watched a) nothing;
   not_where_a_due_key_is_left = pending_left;
+  nor_in_order = λ diligent. none_asked pending_a (diligent kinds.PersistentVolume (entry watch) (entry watch) (call (tells_volume pending_a) ∷ []) (call watch ∷ call watch ∷ []) [] refl watch_examples.four key_a (pending_in_order _ (shown_one pending_a), (pending_in_order _ (shown_one pending_a), pending_in_order _ (shown_one pending_a))));
   not_where_the_claim_is_not_read = left taken_a taken_due;
   the_claim_was_read = inr (inl asked_read);
 }

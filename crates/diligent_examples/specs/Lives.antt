@@ -21,6 +21,7 @@ use Rattle.worker_core.specs.States.{State}
 use Rattle.worker_core.specs.Stands.{IsNew}
 use Rattle.diligent_law.specs.Diligence.{AreFourWatches, Call, IsDiligent, IsDue, WasAskedSince}
 use Rattle.diligent_law.specs.Played.{IsPlayed}
+use Rattle.diligent_law.specs.Showing.{IsDiligentInOrder}
 
 abbrev pub binder : Role
 binder = record { kind = seats.Binder; node = [] }
@@ -88,6 +89,7 @@ watched v = call watch ∷ call watch ∷ call watch ∷ call watch ∷ call (te
 pub record LifeExamples : Type 0 where
   pub nothing_is_due : IsDiligent binder (watched a)
   pub not_where_a_due_key_is_left : IsDiligent binder (watched pending_a) → ⊥
+  pub nor_in_order : IsDiligentInOrder binder (watched pending_a) → ⊥
   pub not_where_the_claim_is_not_read : IsDiligent binder (watched taken_a) → ⊥
   pub the_claim_was_read : WasAskedSince binder key_a (call watch ∷ call (tells_volume taken_a) ∷ []) (call watch ∷ call (finds_none key_c) ∷ call watch ∷ [])
 

@@ -18,7 +18,7 @@ use Rattle.worker_core.specs.Turns.{IsTurn}
 use Rattle.call_types.specs.declared.request.SeatKind.TheVariants.{Binder}
 use Rattle.diligent_law.specs.Diligence.{Call, IsDiligent, entries}
 
--- a turn, after which the actor stands for the same entries; and what else is known of the rows of the caches
+-- a turn, after which the actor stands for the same entries
 pub record Turns (s turned : State) (answer : Next) (mine : List Entry) : Type 0 where
   pub turn : IsTurn s turned answer
   pub stands : StandsFor turned mine
