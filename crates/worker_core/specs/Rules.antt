@@ -10,7 +10,6 @@ use Rattle.call_types.specs.declared.reply.Refusal.TheVariants.{Gone}
 use Rattle.call_types.specs.declared.reply.Reply.{Reply}
 use Rattle.call_types.specs.declared.reply.Reply.TheVariants as replies
 use Rattle.call_types.specs.declared.entry.Entry.{Entry}
-use Rattle.call_types.specs.declared.request.SeatKind.TheVariants.{Binder}
 use Rattle.informer_cache.specs.Cache.{IsTold}
 use Rattle.binder_model.specs.Watching.{most_events}
 use Rattle.informer_cache.specs.All.{AllKnown, all_objects}
@@ -23,6 +22,7 @@ use Rattle.worker_core.specs.declared.turn.Outcome.{Outcome}
 use Rattle.worker_core.specs.declared.turn.Outcome.TheVariants as outcomes
 use Rattle.worker_core.specs.declared.turn.Pass.{Pass}
 use Rattle.worker_core.specs.Absorbs.{absorbed, woken}
+use Rattle.worker_core.specs.Roles.{IsBuiltKind}
 use Rattle.worker_core.specs.Stands.{AreOwn, StandsFor}
 use Rattle.worker_core.specs.States.{State, asked, is_parked, waits}
 use Rattle.worker_core.specs.Tasks.{GivesCall, GivesNone, task_parks}
@@ -107,7 +107,7 @@ IsWatchAnswer (replies.Refused (Gone oldest)) = ⊤
 IsWatchAnswer reply = ⊥
 
 abbrev pub WatchesAreAnswered : Type 0
-WatchesAreAnswered = (s : State) (mine : List Entry) (kind : Kind) (from : ℕ) (e : Entry) (reply : Reply) → s.role.kind ≡ Binder → StandsFor s mine → asked s ≡ Some (requests.Watch kind from)
+WatchesAreAnswered = (s : State) (mine : List Entry) (kind : Kind) (from : ℕ) (e : Entry) (reply : Reply) → IsBuiltKind s.role.kind → StandsFor s mine → asked s ≡ Some (requests.Watch kind from)
     → IsTold e (requests.Watch kind from) reply → AreOwn (e ∷ mine) → IsWatchAnswer reply
 
 -- once its kind was watched a pass goes on to the next kind, unless the watch has to be made again
