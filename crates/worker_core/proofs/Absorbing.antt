@@ -1,10 +1,9 @@
 -- What an actor stands for after an answer, after a call that was lost, and after a wake.
-use Rattle.std.proofs.Common.{◌≡◌, ℕ, ◌<◌, List, [], ◌∷◌, Bool, true, false, true≢false, Option, Some, None, refl, sym, ◌∙◌, ap, subst, arith, if◌then◌else◌, Result, Ok, Err}
+use Rattle.std.proofs.Common.{◌≡◌, List, ◌∷◌, Bool, true, false, true≢false, Option, Some, None, refl, sym, ◌∙◌, ap, subst, arith, if◌then◌else◌, Result, Ok, Err}
 use Rattle.std.specs.Prelude.{option_map, OnOk}
 use Rattle.kube_types.specs.declared.parts.Kind.{Kind}
 use Rattle.call_types.specs.declared.entry.Entry.{Entry}
 use Rattle.call_types.specs.declared.request.Request.{Request}
-use Rattle.call_types.specs.declared.request.Request.TheVariants as requests
 use Rattle.call_types.specs.declared.reply.Reply.{Reply}
 use Rattle.binder_model.specs.Licence.{Licensed}
 use Rattle.binder_model.specs.Told.{later, newest, object_of, tells_of}
@@ -12,22 +11,21 @@ use Rattle.binder_model.specs.Reading.{Following, Unlisted, ListedAt, following_
 use Rattle.informer_cache.specs.declared.cache.Ask.{Ask}
 use Rattle.informer_cache.specs.declared.cache.Ask.TheVariants as asks
 use Rattle.informer_cache.specs.Cache.{IsTold, ask_from, ask_of, kind_known, watch_from}
-use Rattle.informer_cache.specs.All.{AllKnown, AllStandFor, AreCaches, all_objects, cache_of}
-use Rattle.informer_cache.proofs.Stands.{all_stand, quiet_stands, untold_quiet}
+use Rattle.informer_cache.specs.All.{AllKnown, AllStandFor, cache_of}
+use Rattle.informer_cache.proofs.Stands.{quiet_stands, untold_quiet}
 use Rattle.model_laws.proofs.Lists.{one, none_some}
-use Rattle.sync_queue.specs.Work.{Work}
 use Rattle.worker_core.specs.declared.role.Role.{Role}
 use Rattle.worker_core.specs.declared.task.Under.{Under}
 use Rattle.worker_core.specs.declared.turn.Given.{Given}
 use Rattle.worker_core.specs.declared.turn.Given.TheVariants as givens
 use Rattle.worker_core.specs.declared.turn.Outcome.{Outcome}
 use Rattle.worker_core.specs.declared.turn.Outcome.TheVariants as outcomes
-use Rattle.worker_core.specs.Absorbs.{absorbed, given_told, is_passing, learned, lost_given, lost_to, lost_under, pass_after, read_told, task_told, told_to, woken}
-use Rattle.worker_core.specs.Memories.{Memory, memory_after, memory_of}
+use Rattle.worker_core.specs.Absorbs.{absorbed, given_told, is_passing, learned, lost_given, lost_to, lost_under, pass_after, task_told, told_to, woken}
+use Rattle.worker_core.specs.Memories.{memory_after, memory_of}
 use Rattle.binder_machines.specs.KindLaw.{reads_kind}
 use Rattle.worker_core.specs.Roles.{IsBuiltKind}
 use Rattle.worker_core.specs.Stands.{AnyIsUnderWay, AreLicensed, AreOwn, GivenStands, IsUnderWay, PassStands, StandsFor, WentOn}
-use Rattle.worker_core.specs.States.{State, asked, call_under, given_call, read_of_kind, read_request}
+use Rattle.worker_core.specs.States.{State, asked, call_under, given_call, read_request}
 use Rattle.worker_core.specs.Tasks.{under_after}
 use Rattle.worker_core.specs.Turns.{passing}
 use Rattle.worker_core.proofs.ByKind.{start_reads_none}

@@ -1,5 +1,5 @@
 -- What holds by the kind of the actor: its start, what it remembers, the kinds that it follows, and the row of its licence.
-use Rattle.std.proofs.Common.{◌≡◌, ◌≢◌, ℕ, ◌<◌, zero, suc, List, [], ◌∷◌, length, Bool, true, false, true≢false, Option, Some, None, refl, sym, ◌∙◌, ap, subst, arith, if◌then◌else◌}
+use Rattle.std.proofs.Common.{◌≡◌, ◌≢◌, ℕ, ◌<◌, List, [], ◌∷◌, length, Bool, true, false, true≢false, Option, Some, None, refl, sym, ◌∙◌, ap, subst, arith, if◌then◌else◌}
 use Rattle.std.specs.Prelude.{slice_get}
 use Rattle.kube_types.specs.declared.parts.Kind.{Kind}
 use Rattle.kube_types.specs.declared.parts.Kind.TheVariants as kinds
@@ -19,7 +19,7 @@ use Rattle.worker_core.specs.declared.role.Role.{Role}
 use Rattle.worker_core.specs.Memories.{Memory, memory_after, memory_of, no_memory, remembers}
 use Rattle.worker_core.specs.Roles.{IsBuiltKind, kinds_of}
 use Rattle.worker_core.specs.Stands.{StandsFor}
-use Rattle.worker_core.specs.States.{State, agent_start, read_request, start_call, start_of}
+use Rattle.worker_core.specs.States.{State, agent_start, read_request, start_of}
 
 -- a user is no actor
 pub no_user : (kind : SeatKind) → IsBuiltKind kind → kind ≢ seats.User

@@ -1,6 +1,6 @@
 -- What is known of the machines of each kind of actor, whatever they are: their calls are allowed by their evidence, the evidence
 -- goes on, decisions give it, no call of theirs reads a whole kind, and a key that queues another is a volume's.
-use Rattle.std.proofs.Common.{◌≡◌, ℕ, List, ◌∷◌, Bool, true, false, Option, Some, None, refl, sym, ◌∙◌, ap, subst}
+use Rattle.std.proofs.Common.{◌≡◌, List, ◌∷◌, true, false, Option, Some, None, refl, sym, ◌∙◌, ap, subst}
 use Rattle.std.specs.Prelude.{option_map}
 use Rattle.kube_types.specs.declared.key.Key.{Key}
 use Rattle.kube_types.specs.declared.parts.Kind.{Kind}
@@ -36,11 +36,11 @@ use Rattle.worker_core.specs.declared.task.First.TheVariants as firsts
 use Rattle.worker_core.specs.declared.task.Task.{Task}
 use Rattle.worker_core.specs.declared.task.Task.TheVariants as tasks
 use Rattle.worker_core.specs.declared.task.Under.{Under}
-use Rattle.worker_core.specs.Memories.{Memory, memory_of}
+use Rattle.worker_core.specs.Memories.{Memory}
 use Rattle.binder_machines.specs.KindLaw.{reads_kind}
 use Rattle.worker_core.specs.Stands.{Begun, IsUnderWay, WentOn}
 use Rattle.worker_core.specs.Steps.Evidence.{TaskKeeps, task_kind}
-use Rattle.worker_core.specs.Tasks.{GivesCall, IsDecision, IsFirstOf, claim_first, task_call, task_moved, under_after, volume_first, with_call, with_task}
+use Rattle.worker_core.specs.Tasks.{IsDecision, IsFirstOf, claim_first, task_call, task_moved, under_after, volume_first, with_call, with_task}
 
 pub task_allowed : (t : Task) (mine : List Entry) (r : Request) → AreOfKind (task_kind t) mine → TaskKeeps t mine → task_call t ≡ Some r → RowAllows (task_kind t) mine r
 task_allowed (tasks.Binder m) mine r own kept call = row_allows m mine r kept call

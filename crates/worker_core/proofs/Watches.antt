@@ -1,6 +1,6 @@
 -- In a history a watch that the seat may make is answered by events, or is gone: it is never ahead of the store.
-use Rattle.std.proofs.Common.{◌≡◌, ◌⊎◌, ◌<◌, ◌≤◌, ℕ, List, [], ◌∷◌, ◌++◌, length, Bool, true, false, true≢false, Option, Some, None, inl, inr, refl, sym, ◌∙◌, ap, subst, arith, if◌then◌else◌}
-use Rattle.std.specs.Prelude.{◌==◌, nat_lt, take, reverse, filter, is_some, ⊤}
+use Rattle.std.proofs.Common.{◌≡◌, ◌⊎◌, ◌≤◌, ℕ, List, [], ◌∷◌, length, Bool, true, false, true≢false, Option, Some, None, inl, inr, refl, sym, ◌∙◌, ap, subst, arith, if◌then◌else◌}
+use Rattle.std.specs.Prelude.{◌==◌, nat_lt, take, filter}
 use Rattle.std.proofs.lemmas.Bool.Decides.{nat_tests}
 use Rattle.kube_types.specs.declared.parts.Kind.{Kind}
 use Rattle.kube_types.specs.Keys.{same_kind}
@@ -18,9 +18,8 @@ use Rattle.call_types.specs.declared.reply.Reply.TheVariants as replies
 use Rattle.binder_model.specs.Answers.{reply_of}
 use Rattle.binder_model.specs.Reading.{Following, Unlisted, ListedAt, IsFrom, follow_on, following_of, reached_on}
 use Rattle.binder_model.specs.Told.{SomeOf, own}
-use Rattle.binder_model.specs.Watching.{events_after, is_later, last_version, most_events, oldest, reached_version, told_events}
+use Rattle.binder_model.specs.Watching.{events_after, is_later, last_version, most_events, oldest, told_events}
 use Rattle.binder_model.specs.World.{IsHistory, World, base, effect, reply_to, watch, world}
-use Rattle.informer_cache.specs.Cache.{IsTold}
 use Rattle.model_laws.proofs.Histories.{rows_stand_in_order}
 use Rattle.model_laws.proofs.Lists.{none_some, one, some_filter, some_reverse, some_take}
 use Rattle.model_laws.proofs.Readings.{lists_tell_what_stands}
@@ -28,7 +27,7 @@ use Rattle.model_laws.proofs.Uids.{rises}
 use Rattle.model_laws.proofs.Watched.{AreBetween, logs}
 use Rattle.worker_core.specs.Rules.{IsWatchAnswer, WatchesAreAnswered}
 use Rattle.worker_core.specs.Roles.{IsBuiltKind}
-use Rattle.worker_core.specs.Stands.{AreOwn, StandsFor}
+use Rattle.worker_core.specs.Stands.{StandsFor}
 use Rattle.worker_core.specs.States.{State, asked}
 use Rattle.worker_core.proofs.ByKind.{watch_row}
 use Rattle.worker_core.proofs.Licensed.{given_allowed}

@@ -1,11 +1,10 @@
 -- What the turns and the answers make of waiting and parked keys and of passes: rules that follow from how they are defined.
 -- A choice of this project.
-use Rattle.std.specs.Prelude.{ℕ, ◌≡◌, ◌≢◌, ◌⊎◌, ◌+◌, Bool, true, false, List, [], ◌∷◌, Option, Some, None, length, ⊤}
+use Rattle.std.specs.Prelude.{ℕ, ◌≡◌, ◌≢◌, ◌⊎◌, ◌+◌, true, false, List, [], ◌∷◌, Some, None, length, ⊤}
 use Rattle.kube_types.specs.declared.key.Key.{Key}
 use Rattle.kube_types.specs.declared.parts.Kind.{Kind}
 use Rattle.call_types.specs.declared.request.Request.{Request}
 use Rattle.call_types.specs.declared.request.Request.TheVariants as requests
-use Rattle.call_types.specs.declared.reply.Event.{Event}
 use Rattle.call_types.specs.declared.reply.Refusal.TheVariants.{Gone}
 use Rattle.call_types.specs.declared.reply.Reply.{Reply}
 use Rattle.call_types.specs.declared.reply.Reply.TheVariants as replies
@@ -20,7 +19,6 @@ use Rattle.worker_core.specs.declared.turn.Next.{Next}
 use Rattle.worker_core.specs.declared.turn.Next.TheVariants as nexts
 use Rattle.worker_core.specs.declared.turn.Outcome.{Outcome}
 use Rattle.worker_core.specs.declared.turn.Outcome.TheVariants as outcomes
-use Rattle.worker_core.specs.declared.turn.Pass.{Pass}
 use Rattle.worker_core.specs.Absorbs.{absorbed, woken}
 use Rattle.worker_core.specs.Roles.{IsBuiltKind}
 use Rattle.worker_core.specs.Stands.{AreOwn, StandsFor}

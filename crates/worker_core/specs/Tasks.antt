@@ -1,7 +1,7 @@
 -- What an actor has under way for one key: its next call, what an answer makes of it, and the decision that begins it. Each
 -- kind of actor has its own machines; here they are one type.
 -- A choice of this project, after the workers of a controller in client-go.
-use Rattle.std.specs.Prelude.{◌≡◌, Bool, List, Option, Some, None, is_some, option_map}
+use Rattle.std.specs.Prelude.{◌≡◌, Bool, List, Option, Some, None, option_map}
 use Rattle.kube_types.specs.declared.key.Key.{Key}
 use Rattle.kube_types.specs.declared.objects.Object.{Object}
 use Rattle.kube_types.specs.Keys.{row_at}

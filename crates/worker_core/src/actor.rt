@@ -134,11 +134,13 @@ impl Actor {
         self.caches.stand_together();
     }
 
-    /// No answer changes what the actor remembers. It does nothing, as the one before.
+    /// No answer changes what the actor remembers. It does nothing either.
     #[tactic(auto, using(crate::proofs::ByKind::learns_nothing))]
     fn stay(&self, _request: &Request, _reply: &Reply)
         ensures { memory_after self.now.role _request.now _reply.now self.now.memory ≡ self.now.memory }
-    {}
+    {
+        let _ = &self.alloc;
+    }
 
     /// The turn.
     fn turn(&mut self) -> Result<Next, OutOfMemory>
