@@ -1,6 +1,6 @@
 -- Each call that a turn of a binder gives, gives a volume only to a claim that it suits.
 use Rattle.std.proofs.Common.{◌≡◌, ℕ, List, [], ◌∷◌, Bool, true, false, true≢false, Option, Some, None, inl, inr, refl, sym, ◌∙◌, ap, subst, if◌then◌else◌}
-use Rattle.std.specs.Prelude.{◌==◌, option_map}
+use Rattle.std.specs.Prelude.{◌==◌, option_map, ⊤}
 use Rattle.kube_types.specs.declared.key.Key.{Key}
 use Rattle.kube_types.specs.declared.parts.Kind.{Kind}
 use Rattle.kube_types.specs.declared.objects.Object.{Object}
@@ -30,12 +30,13 @@ use Rattle.worker_core.specs.declared.turn.Given.TheVariants as givens
 use Rattle.worker_core.specs.declared.turn.Next.TheVariants as nexts
 use Rattle.worker_core.specs.Memories.{Memory, memory_of}
 use Rattle.worker_core.specs.Stands.{AnyIsUnderWay, AreOwn, Begun, IsUnderWay, StandsFor, WentOn}
-use Rattle.worker_core.specs.States.{State, asked, call_in, call_under, given_call, read_of_kind, read_request, start_call}
-use Rattle.worker_core.specs.Steps.Evidence.{TaskKeeps}
+use Rattle.worker_core.specs.States.{State, asked, call_in, call_under, given_call, read_of_kind, read_request, start_call, start_of}
+use Rattle.worker_core.specs.Steps.Evidence.{TaskKeeps, task_kind}
 use Rattle.worker_core.specs.Tasks.{IsDecision, IsFirstOf, task_call, task_moved, under_after, with_call, with_task}
 use Rattle.worker_core.specs.Turns.{AfterKeys, IsTurn, TurnBy, passing, unlisted}
-use Rattle.worker_core.proofs.Licensed.{no_start}
 use Rattle.worker_core.proofs.Machines.{KeepsUnder, keeps_under}
+use Rattle.protect_sync.specs.ClaimGuards.{claim_moved}
+use Rattle.protect_sync.specs.VolumeGuards.{volume_moved}
 use Rattle.fitting_law.specs.Fitting.{GivesFitting, GivesSo}
 use Rattle.fitting_law.proofs.Law.{runs_get_enough}
 use Rattle.fitting_calls.specs.Calls.{CallsGiveFitting, AskedGiveFitting, IsByActor, ActorsAreFitting, ActorsGiveEnough}
@@ -81,19 +82,24 @@ answered_of e before o = own_split o.setup o.past o.seat e before o.history (sym
 
 abbrev TaskSuits : Task → Type 0
 TaskSuits (tasks.Binder machine) = MachineSuits machine
+TaskSuits task = ⊤
 
 task_begins : (role : Role) (memory : Memory) (rows : List Object) (key : Key) (t : Task) → role.kind ≡ Binder → IsDecision role memory rows key (firsts.Begins t) → TaskSuits t
+task_begins role memory rows key (tasks.ClaimProtect op) is first = tt
+task_begins role memory rows key (tasks.VolumeProtect op) is first = tt
 task_begins role memory rows key (tasks.Binder m) is first = begun_suits rows _ m (subst (λ k. IsFirstOf k rows key (firsts.Begins (tasks.Binder m))) is first)
 
 task_goes : (t next : Task) (e : Entry) (before : List Entry) → IsAnswered e before → TaskKeeps t before → task_call t ≡ Some e.request → task_moved t e.reply ≡ Some next → TaskSuits next
+task_goes (tasks.ClaimProtect op) next e before a kept call is = subst TaskSuits (one (tasks.ClaimProtect (claim_moved op e.reply)) next is) tt
+task_goes (tasks.VolumeProtect op) next e before a kept call is = subst TaskSuits (one (tasks.VolumeProtect (volume_moved op e.reply)) next is) tt
 task_goes (tasks.Binder m) next e before a kept call is = by (binder.moved m e.reply) refl is
   where
     by : (x : Option Machine) → binder.moved m e.reply ≡ x → option_map (λ k. tasks.Binder k) x ≡ Some next → TaskSuits next
     by None at h = none_some h
     by (Some k) at h = subst TaskSuits (one (tasks.Binder k) next h) (goes_on_suits m k e before a kept call at)
 
-under_goes : (u next : Under) (e : Entry) (before : List Entry) → IsAnswered e before → KeepsUnder u before → e.request ≡ u.call → under_after u e.reply ≡ Some next → TaskSuits next.task
-under_goes u next e before a kept asked is = by_task (task_moved u.task e.reply) refl is
+under_goes : (role : Role) (u next : Under) (e : Entry) (before : List Entry) → IsAnswered e before → KeepsUnder role u before → e.request ≡ u.call → under_after u e.reply ≡ Some next → TaskSuits next.task
+under_goes role u next e before a kept asked is = by_task (task_moved u.task e.reply) refl is
   where
     by_call : (t : Task) (c : Option Request) → TaskSuits t → with_call u.key t c ≡ Some next → TaskSuits next.task
     by_call t None suits h = none_some h
@@ -107,19 +113,26 @@ under_suits : (role : Role) (u : Under) (mine : List Entry) → role.kind ≡ Bi
 under_suits role u mine is o (Begun c stand order gives) = task_begins role (memory_of role mine) (all_objects c) u.key u.task is gives.decided
 under_suits role u mine is o (WentOn before e past split way told asked moves) =
     let a = answered_of e past (subst AreOwn split o) in
-    under_goes before u e past a (keeps_under role before past is way) asked moves
+    under_goes role before u e past a (keeps_under role before past way) asked moves
 
 -- the call that was given
 
-task_gives : (t : Task) (mine : List Entry) (r : Request) → TaskKeeps t mine → TaskSuits t → task_call t ≡ Some r → GivesSo mine r
-task_gives (tasks.Binder m) mine r kept suits call = call_gives m mine r kept suits call
+abbrev is_binder : SeatKind → Bool
+is_binder seats.Binder = true
+is_binder kind = false
+
+-- a binder has no other task than its own
+task_gives : (t : Task) (mine : List Entry) (r : Request) → task_kind t ≡ Binder → TaskKeeps t mine → TaskSuits t → task_call t ≡ Some r → GivesSo mine r
+task_gives (tasks.Binder m) mine r of_kind kept suits call = call_gives m mine r kept suits call
+task_gives (tasks.ClaimProtect op) mine r of_kind kept suits call = absurd (true≢false (sym (ap is_binder of_kind)))
+task_gives (tasks.VolumeProtect op) mine r of_kind kept suits call = absurd (true≢false (sym (ap is_binder of_kind)))
 
 under_gives : (role : Role) (under : Option Under) (mine : List Entry) (r : Request) → role.kind ≡ Binder → AreOwn mine → AnyIsUnderWay role under mine
     → option_map call_under under ≡ Some r → GivesSo mine r
 under_gives role None mine r is o way e = none_some e
 under_gives role (Some u) mine r is o way e =
-    let k = keeps_under role u mine is way in
-    task_gives u.task mine r k.keeps (under_suits role u mine is o way) (k.call ∙ e)
+    let k = keeps_under role u mine way in
+    task_gives u.task mine r (k.of_kind ∙ is) k.keeps (under_suits role u mine is o way) (k.call ∙ e)
 
 read_gives : (kind : Kind) (a : Ask) (mine : List Entry) → GivesSo mine (read_request kind a)
 read_gives kind asks.List mine = tt
@@ -131,7 +144,7 @@ asked_gives s mine r is stands = by s.given
     by : (g : Option Given) → given_call s g ≡ Some r → GivesSo mine r
     by None e = none_some e
     by (Some givens.Task) e = under_gives s.role s.under mine r is stands.own stands.under_way e
-    by (Some givens.Start) e = absurd (no_start s.role s.memory r is e)
+    by (Some givens.Start) e = none_some (sym (ap (λ k. start_of k s.role.node s.memory) is) ∙ e)
     by (Some (givens.Read kind)) e = subst (λ q. GivesSo mine q) (one _ r e) (read_gives kind (ask_of (cache_of kind s.caches)) mine)
 
 -- a turn

@@ -33,6 +33,7 @@ use Rattle.script_runs.proofs.Since.{new_since}
 
 new_plays : (x : Player) → IsNewPlayer x → Plays x [] (λ seat. [])
 new_plays x is = record {
+  kind = is.kind;
   first = let s = is.seat in omega (arith, s);
   reached = let s = is.seat in omega (arith, s);
   since = new_since x.actor is.stands;

@@ -1,9 +1,8 @@
 -- What one call of an actor makes of the history, and of what the actor stands for.
-use Rattle.std.proofs.Common.{◌≡◌, ◌≢◌, ℕ, List, ◌∷◌, Bool, true, false, Some, None, refl, sym, ◌∙◌, ap, subst}
+use Rattle.std.proofs.Common.{◌≡◌, ◌≢◌, ℕ, List, ◌∷◌, Bool, true, false, Option, Some, None, refl, sym, ◌∙◌, ap, subst}
 use Rattle.call_types.specs.declared.entry.Entry.{Entry}
 use Rattle.call_types.specs.declared.request.Request.{Request}
 use Rattle.call_types.specs.declared.request.SeatKind.{SeatKind}
-use Rattle.call_types.specs.declared.request.SeatKind.TheVariants as seats
 use Rattle.call_types.specs.declared.reply.Reply.{Reply}
 use Rattle.binder_model.specs.Told.{own}
 use Rattle.binder_model.specs.World.{IsHistory}
@@ -12,18 +11,37 @@ use Rattle.diligent_law.specs.Played.{LostAfter as PlayedLostAfter, LostBefore a
 use Rattle.informer_cache.specs.Cache.{IsTold}
 use Rattle.model_laws.proofs.Evidence.{own_mine, own_other}
 use Rattle.world_core.specs.Kept.{History}
+use Rattle.worker_core.specs.declared.task.Under.{Under}
+use Rattle.worker_core.specs.declared.turn.Given.{Given}
+use Rattle.worker_core.specs.declared.turn.Given.TheVariants as givens
 use Rattle.worker_core.specs.declared.turn.Outcome.TheVariants as outcomes
-use Rattle.worker_core.specs.Absorbs.{absorbed}
+use Rattle.worker_core.specs.Absorbs.{absorbed, lost_given, lost_to, lost_under}
+use Rattle.worker_core.specs.Roles.{IsBuiltKind}
 use Rattle.worker_core.specs.Stands.{AreOwn, StandsFor}
 use Rattle.worker_core.specs.States.{State, asked}
 use Rattle.script_parts.specs.declared.loss.Fate.TheVariants.{Told, LostBefore, LostAfter}
 use Rattle.script_runs.specs.Calls.{IsCallWith}
 use Rattle.script_runs.specs.Steps.Living.{GoesOn}
 use Rattle.script_runs.specs.Steps.Playing.{HasCalled, StandsSince}
+use Rattle.worker_threads.proofs.RunFacts.{told_role}
 use Rattle.script_runs.proofs.Since.{lost_since, none_since, told_since}
 
 abbrev entry_of : ℕ → SeatKind → Request → Reply → Bool → Entry
 entry_of seat kind request reply told = record { seat = seat; kind = kind; request = request; reply = reply; told = told }
+
+-- a call that was lost leaves the actor what it is
+lost_role : (s : State) → (lost_to s).role ≡ s.role
+lost_role s = by s.given
+  where
+    under : (u : Option Under) → (lost_under s u).role ≡ s.role
+    under None = refl
+    under (Some u) = refl
+
+    by : (g : Option Given) → (lost_given s g).role ≡ s.role
+    by (Some givens.Task) = under s.under
+    by (Some (givens.Read kind)) = refl
+    by (Some givens.Start) = refl
+    by None = refl
 
 module _ (seat : ℕ) (before after : History) (old new : State) (kind : SeatKind) (request : Request) (reply : Reply) (of : kind ≡ old.role.kind) (history : IsHistory after.setup after.past) where
   others : (told : Bool) → after.past ≡ entry_of seat kind request reply told ∷ before.past → (other : ℕ) → other ≢ seat → own other after.past ≡ own other before.past
@@ -35,13 +53,14 @@ module _ (seat : ℕ) (before after : History) (old new : State) (kind : SeatKin
   are_own : (told : Bool) → after.past ≡ entry_of seat kind request reply told ∷ before.past → AreOwn (entry_of seat kind request reply told ∷ own seat before.past)
   are_own told is = record { setup = after.setup; past = after.past; seat = seat; history = history; own = sym (front told is) }
 
-  pub told_called : old.role.kind ≡ seats.Binder → asked old ≡ Some request → after.past ≡ entry_of seat kind request reply true ∷ before.past
+  pub told_called : IsBuiltKind old.role.kind → asked old ≡ Some request → after.past ≡ entry_of seat kind request reply true ∷ before.past
       → new ≡ absorbed old new.caches request (outcomes.Told reply)
       → ((mine : List Entry) (e : Entry) (r : Reply) → outcomes.Told reply ≡ outcomes.Told r → IsTold e request r → e.kind ≡ old.role.kind → AreOwn (e ∷ mine) → StandsFor old mine → StandsFor new (e ∷ mine))
       → HasCalled seat (IsCallWith Told seat kind) before after old new
-  told_called binder ask is state absorbs = record {
+  told_called built ask is state absorbs = record {
     call = record { request = request; reply = reply; is = is };
-    since = λ earlier since. subst (StandsSince new earlier) (sym (front true is)) (told_since old new earlier (own seat before.past) (entry_of seat kind request reply true) request reply binder ask answered state (absorbs (own seat before.past) (entry_of seat kind request reply true) reply refl answered of (are_own true is)) since);
+    role = ap (λ (x : State). x.role) state ∙ told_role old new.caches request reply;
+    since = λ earlier since. subst (StandsSince new earlier) (sym (front true is)) (told_since old new earlier (own seat before.past) (entry_of seat kind request reply true) request reply built ask answered state (absorbs (own seat before.past) (entry_of seat kind request reply true) reply refl answered of (are_own true is)) since);
     others = others true is;
   }
     where
@@ -54,6 +73,7 @@ module _ (seat : ℕ) (before after : History) (old new : State) (kind : SeatKin
       → HasCalled seat (IsCallWith LostAfter seat kind) before after old new
   untold_called is state absorbs = record {
     call = record { request = request; reply = reply; is = is };
+    role = ap (λ (x : State). x.role) state ∙ lost_role old;
     since = λ earlier since. subst (StandsSince new earlier) (sym (front false is)) (lost_since old new earlier (own seat before.past) (entry_of seat kind request reply false) request refl state (absorbs (own seat before.past) (entry_of seat kind request reply false) refl refl refl of (are_own false is)) since);
     others = others false is;
   }
@@ -100,6 +120,7 @@ pub lost_called : (seat : ℕ) (world : History) (old new : State) (kind : SeatK
     → ((mine : List Entry) → outcomes.Lost ≡ outcomes.Lost → StandsFor old mine → StandsFor new mine) → HasCalled seat (IsCallWith LostBefore seat kind) world world old new
 lost_called seat world old new kind request state absorbs = record {
   call = refl;
+  role = ap (λ (x : State). x.role) state ∙ lost_role old;
   since = λ earlier since. none_since old new earlier (own seat world.past) request state (absorbs (own seat world.past) refl) since;
   others = λ other differs. refl;
 }

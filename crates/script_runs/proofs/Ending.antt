@@ -3,16 +3,19 @@ use Rattle.std.proofs.Common.{◌≡◌, ℕ, zero, suc, ◌<◌, ◌≤◌, ◌
 use Rattle.std.specs.Prelude.{slice_get}
 use Rattle.std.proofs.lemmas.List.{drop_all}
 use Rattle.call_types.specs.declared.entry.Entry.{Entry}
+use Rattle.call_types.specs.declared.request.SeatKind.TheVariants as seats
 use Rattle.model_laws.proofs.Lists.{none_some}
 use Rattle.world_core.specs.declared.drained.Drained.{Drained}
 use Rattle.script_lines.specs.declared.actors.Actor.{Actor}
 use Rattle.script_lines.specs.declared.actors.Actor.TheVariants.{Worker, Agent}
+use Rattle.script_lines.specs.declared.actors.WorkerKind.{WorkerKind}
+use Rattle.script_lines.specs.declared.actors.WorkerKind.TheVariants as workers
 use Rattle.script_lines.specs.Actors.{actor_word}
 use Rattle.script_text.specs.declared.script.Line.TheVariants as kinds_of_line
 use Rattle.script_text.specs.declared.script.Script.{Script}
 use Rattle.script_parts.specs.declared.part.Part.{Part}
-use Rattle.script_parts.specs.Limits.{AreBuilt, is_actor_built}
-use Rattle.script_parts.specs.Parts.{is_named, lives_of, part_of}
+use Rattle.script_parts.specs.Limits.{AreBuilt, is_actor_built, is_kind_built}
+use Rattle.script_parts.specs.Parts.{is_named, kind_of_worker, lives_of, part_of}
 use Rattle.script_runs.specs.declared.player.Player.{Player}
 use Rattle.script_runs.specs.declared.stage.Stage.{Stage}
 use Rattle.script_runs.specs.Diligent.{AreDiligent, IsDiligentLife, IsDiligentReplay, role_of}
@@ -21,13 +24,20 @@ use Rattle.script_runs.specs.Steps.Living.{binder_role}
 use Rattle.script_runs.specs.Steps.Standing.{Ended, SoFar, SomeStands, Stands, parts_in, place_of}
 use Rattle.script_runs.proofs.Casting.{built_at, named_at, part_of_built}
 use Rattle.script_runs.proofs.Lived.{each_life}
-use Rattle.script_runs.proofs.Needs.{its_name, its_part, kind_by}
+use Rattle.script_runs.proofs.Needs.{its_name, its_part}
 
 -- a part at a place is one of a player
 player_of : (xs : List Player) (place : ℕ) (part : Part) → slice_get (parts_in xs) place ≡ Some part → (x : Player) × (slice_get xs place ≡ Some x)
 player_of [] place part at = none_some at
 player_of (x ∷ xs) zero part at = (x, refl)
 player_of (x ∷ xs) (suc place) part at = player_of xs place part at
+
+kind_by : (k : WorkerKind) → is_kind_built k ≡ true → kind_of_worker k ≡ seats.Binder
+kind_by workers.Binder built = refl
+kind_by workers.Ops built = absurd (true≢false (sym built))
+kind_by workers.Scheduler built = absurd (true≢false (sym built))
+kind_by workers.Claims built = absurd (true≢false (sym built))
+kind_by workers.Volumes built = absurd (true≢false (sym built))
 
 role_built : (actor : Actor) → is_actor_built actor ≡ true → role_of actor ≡ binder_role
 role_built (Agent node) built = absurd (true≢false (sym built))

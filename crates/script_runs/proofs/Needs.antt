@@ -1,15 +1,11 @@
 -- What a turn needs of its player, and what it leaves of the counts of calls.
-use Rattle.std.proofs.Common.{◌≡◌, ◌≢◌, ◌⊎◌, ℕ, ◌<◌, ◌≤◌, ◌+◌, ◌^◌, List, [], ◌∷◌, ◌++◌, length, get_or, set, Bool, true, false, true≢false, Option, Some, inl, inr, refl, sym, ◌∙◌, ap, subst, arith, length-append, if◌then◌else◌}
+use Rattle.std.proofs.Common.{◌≡◌, ◌≢◌, ◌⊎◌, ℕ, ◌<◌, ◌≤◌, ◌+◌, ◌^◌, List, [], ◌∷◌, ◌++◌, length, get_or, set, Bool, true, false, Option, Some, inl, inr, refl, sym, ◌∙◌, ap, subst, arith, length-append, if◌then◌else◌}
 use Rattle.std.specs.Prelude.{bytes_eq, slice_get}
 use Rattle.std.proofs.lemmas.List.{length-map}
 use Rattle.std.proofs.lemmas.Option.{slice_get_read, slice_get_within}
 use Rattle.call_types.specs.declared.entry.Entry.{Entry}
-use Rattle.call_types.specs.declared.request.SeatKind.TheVariants as seats
 use Rattle.model_laws.proofs.Lists.{one}
 use Rattle.script_lines.specs.declared.actors.Actor.{Actor}
-use Rattle.script_lines.specs.declared.actors.Actor.TheVariants.{Worker, Agent}
-use Rattle.script_lines.specs.declared.actors.WorkerKind.{WorkerKind}
-use Rattle.script_lines.specs.declared.actors.WorkerKind.TheVariants as workers
 use Rattle.script_lines.specs.declared.actors.WorkerNumber.TheVariants.{One, Two, Three, Four}
 use Rattle.script_lines.specs.Actors.{actor_word}
 use Rattle.script_text.specs.declared.script.Line.{Line}
@@ -17,8 +13,8 @@ use Rattle.script_text.specs.declared.script.Line.TheVariants as kinds_of_line
 use Rattle.script_text.specs.declared.script.Script.{Script}
 use Rattle.script_text.specs.Said.{restart_of, restarts_of}
 use Rattle.script_parts.specs.declared.part.Part.{Part}
-use Rattle.script_parts.specs.Limits.{IsReadable, is_actor_built, is_kind_built}
-use Rattle.script_parts.specs.Parts.{first_actor_seat, is_named, kind_of, kind_of_worker, lives_by, lives_of, part_of}
+use Rattle.script_parts.specs.Limits.{IsReadable, is_actor_built}
+use Rattle.script_parts.specs.Parts.{first_actor_seat, is_named, lives_by, lives_of, part_of}
 use Rattle.script_runs.specs.declared.player.Player.{Player}
 use Rattle.script_runs.specs.declared.stage.Stage.{Stage}
 use Rattle.script_runs.specs.Replays.{IsTurn}
@@ -28,19 +24,6 @@ use Rattle.script_runs.specs.Steps.Standing.{HasMoved, MadeAtMost, SomeStands, f
 use Rattle.script_runs.proofs.Casting.{part_of_built}
 use Rattle.script_runs.proofs.Orders.{life_between, part_at_place}
 use Rattle.script_runs.proofs.Staging.{HasPlayed, in_order, set_cases, turn_moved}
-
--- ---- the actors that are built
-
-pub kind_by : (k : WorkerKind) → is_kind_built k ≡ true → kind_of_worker k ≡ seats.Binder
-kind_by workers.Binder built = refl
-kind_by workers.Ops built = absurd (true≢false (sym built))
-kind_by workers.Scheduler built = absurd (true≢false (sym built))
-kind_by workers.Claims built = absurd (true≢false (sym built))
-kind_by workers.Volumes built = absurd (true≢false (sym built))
-
-kind_built : (actor : Actor) → is_actor_built actor ≡ true → kind_of actor ≡ seats.Binder
-kind_built (Agent node) built = absurd (true≢false (sym built))
-kind_built (Worker w) built = kind_by w.kind built
 
 -- ---- the numbers of a part are small
 
@@ -104,9 +87,6 @@ module _ (script : Script) (option : Option ℕ) (actor : Actor) (s : Stage) (bu
 
   pub its_name : (x : Player) → slice_get s.players.items (place_of actor) ≡ Some x → is_named (actor_word actor) script.lines ≡ true → x.part.named ≡ true
   its_name x at named = ap (λ (p : Part). p.named) (sym (its_part x at)) ∙ named
-
-  pub its_kind : (x : Player) → slice_get s.players.items (place_of actor) ≡ Some x → x.part.kind ≡ seats.Binder
-  its_kind x at = ap (λ (p : Part). p.kind) (sym (its_part x at)) ∙ kind_built actor built
 
   pub its_seats : (x : Player) → slice_get s.players.items (place_of actor) ≡ Some x → is_named (actor_word actor) script.lines ≡ true → IsReadable script → x.part.first + length x.part.restarts < 2 ^ 32
   its_seats x at named readable = subst (λ (p : Part). p.first + length p.restarts < 2 ^ 32) (its_part x at) (part_small script actor built named readable.few)

@@ -1,14 +1,13 @@
 -- What an actor's pass stands for after some of its entries: turns, answers, lost calls and wakes keep it, and where the
 -- actor is idle there is no news since.
-use Rattle.std.proofs.Common.{◌≡◌, ℕ, ◌≤◌, ◌++◌, List, [], ◌∷◌, Bool, true, false, true≢false, Option, Some, None, inl, inr, refl, sym, ◌∙◌, ap, subst, arith}
-use Rattle.std.specs.Prelude.{slice_get, ◌&&◌, option_map}
+use Rattle.std.proofs.Common.{◌≡◌, ℕ, ◌≤◌, ◌++◌, List, [], ◌∷◌, length, Bool, true, false, true≢false, Option, Some, None, inl, inr, refl, sym, ◌∙◌, ap, subst, arith}
+use Rattle.std.specs.Prelude.{◌&&◌, option_map}
 use Rattle.kube_types.specs.declared.parts.Kind.{Kind}
-use Rattle.kube_types.specs.declared.parts.Kind.TheVariants as kinds
 use Rattle.kube_types.specs.Keys.{same_kind}
 use Rattle.call_types.specs.declared.entry.Entry.{Entry}
 use Rattle.call_types.specs.declared.request.Request.{Request}
 use Rattle.call_types.specs.declared.request.Request.TheVariants as requests
-use Rattle.call_types.specs.declared.request.SeatKind.TheVariants as seats
+use Rattle.call_types.specs.declared.request.SeatKind.{SeatKind}
 use Rattle.call_types.specs.declared.reply.Reply.{Reply}
 use Rattle.binder_model.specs.Reading.{Following, Unlisted, ListedAt, following_of, follows}
 use Rattle.binder_machines.specs.KindLaw.{reads_kind}
@@ -27,12 +26,12 @@ use Rattle.worker_core.specs.declared.turn.Next.TheVariants as nexts
 use Rattle.worker_core.specs.declared.turn.Outcome.TheVariants as outcomes
 use Rattle.worker_core.specs.declared.turn.Pass.{Pass}
 use Rattle.worker_core.specs.Absorbs.{absorbed, given_told, is_passing, learned, lost_given, lost_to, lost_under, pass_after, task_told, told_to, woken}
-use Rattle.worker_core.specs.Roles.{kind_at, kinds_of}
+use Rattle.worker_core.specs.Roles.{IsBuiltKind, kind_at, kinds_of}
 use Rattle.worker_core.specs.Stands.{AnyIsUnderWay, AreLicensed, GivenStands, HasNoNews, PassStands, StandsFor}
 use Rattle.worker_core.specs.States.{State, asked, call_in, call_under, given_call, read_request, start_call}
 use Rattle.worker_core.specs.Turns.{AfterKeys, IsTurn, TurnBy, passing, unlisted}
 use Rattle.worker_core.proofs.Answered.{passed}
-use Rattle.worker_core.proofs.Licensed.{no_start}
+use Rattle.worker_core.proofs.ByKind.{placed, start_reads_none}
 use Rattle.worker_core.proofs.Machines.{keeps_under, task_reads_none}
 use Rattle.worker_core.proofs.Passes.{kept_pass, untold_pass, watch_pass}
 use Rattle.worker_core.proofs.Quiet.{alike, quiet_listed, quiet_on, unread}
@@ -78,30 +77,30 @@ list_unlisted (ListedAt version None) e = absurd (true≢false (sym (ap is_list 
 list_unlisted (ListedAt version (Some upto)) e = absurd (true≢false (sym (ap is_list e)))
 
 -- a list of a kind that is not listed
-list_recent : (role : Role) (pass : Pass) (recent earlier : List Entry) (e : Entry) (kind : Kind) → PassStands role pass recent → AreLicensed seats.Binder (recent ++ earlier) → following_of (recent ++ earlier) kind ≡ Unlisted → e.request ≡ requests.List kind None → PassStands role pass (e ∷ recent)
-list_recent role pass recent earlier e kind stands l none is = λ quiet place k lt at. by k (same_kind kind k) refl (stands quiet place k lt at)
+list_recent : (role : Role) (pass : Pass) (recent earlier : List Entry) (e : Entry) (kind : Kind) → IsBuiltKind role.kind → PassStands role pass recent → AreLicensed role.kind (recent ++ earlier) → following_of (recent ++ earlier) kind ≡ Unlisted → e.request ≡ requests.List kind None → PassStands role pass (e ∷ recent)
+list_recent role pass recent earlier e kind built stands l none is = λ quiet place k lt at. by k (same_kind kind k) refl (stands quiet place k lt at)
   where
     by : (k : Kind) (b : Bool) → same_kind kind k ≡ b → HasNoNews k recent → HasNoNews k (e ∷ recent)
-    by k true same q = absurd (quiet_listed kind (recent ++ earlier) l (subst (λ x. HasNoNews x (recent ++ earlier)) (sym (alike kind k same)) (no_news k recent earlier q)) none)
+    by k true same q = absurd (quiet_listed role.kind kind (recent ++ earlier) built l (subst (λ x. HasNoNews x (recent ++ earlier)) (sym (alike kind k same)) (no_news k recent earlier q)) none)
     by k false same q = quiet_on k recent e (unread k e (ap (reads_kind k) is ∙ same)) q
 
 -- the pass of a state stands for entries
 abbrev Passes : List Entry → State → Type 0
 Passes recent x = PassStands x.role x.pass recent
 
-module _ (s : State) (earlier recent : List Entry) (e : Entry) (request : Request) (binder : s.role.kind ≡ seats.Binder) (stands : StandsFor s (recent ++ earlier)) (pass : Passes recent s) (ask : asked s ≡ Some request) where
+module _ (s : State) (earlier recent : List Entry) (e : Entry) (request : Request) (built : IsBuiltKind s.role.kind) (stands : StandsFor s (recent ++ earlier)) (pass : Passes recent s) (ask : asked s ≡ Some request) where
   told_pass : (caches : AllKnown) (reply : Reply) → IsTold e request reply → Passes (e ∷ recent) (told_to s caches request reply)
   told_pass caches reply is = by s.given stands.given refl
     where
       under : (u : Option Under) → AnyIsUnderWay s.role u (recent ++ earlier) → option_map call_under u ≡ Some request → Passes (e ∷ recent) (task_told (learned s caches request reply) reply u)
       under None way c = none_some c
-      under (Some u) way c = kept_pass s.role s.pass recent e pass (λ kind. task_reads_none u.task e.request kind ((keeps_under s.role u (recent ++ earlier) binder way).call ∙ ap Some (one u.call request c ∙ sym is.asked)))
+      under (Some u) way c = kept_pass s.role s.pass recent e pass (λ kind. task_reads_none u.task e.request kind ((keeps_under s.role u (recent ++ earlier) way).call ∙ ap Some (one u.call request c ∙ sym is.asked)))
 
       read : (k : Kind) (a : Ask) → ask_of (cache_of k s.caches) ≡ a → read_request k a ≡ request → PassStands s.role (pass_after s.pass (is_passing (passing s) k) request reply) (e ∷ recent)
       read k asks.List at r =
           let from = (stands.caches.each k).from ∙ ap (λ x. watch_from (following_of (recent ++ earlier) x)) (stands.caches.kinds k) in
           subst (λ q. PassStands s.role (pass_after s.pass (is_passing (passing s) k) q reply) (e ∷ recent)) r
-          (list_recent s.role s.pass recent earlier e k pass (subst (λ x. AreLicensed x (recent ++ earlier)) binder stands.licensed) (list_unlisted (following_of (recent ++ earlier) k) (sym (ap ask_from from) ∙ at)) (is.asked ∙ sym r))
+          (list_recent s.role s.pass recent earlier e k built pass stands.licensed (list_unlisted (following_of (recent ++ earlier) k) (sym (ap ask_from from) ∙ at)) (is.asked ∙ sym r))
       read k (asks.Watch from) at r =
           subst (λ q. PassStands s.role (pass_after s.pass (is_passing (passing s) k) q reply) (e ∷ recent)) r
           (watch_pass s.role s.pass recent e pass k from is.told (is.asked ∙ sym r) reply is.answered)
@@ -109,7 +108,7 @@ module _ (s : State) (earlier recent : List Entry) (e : Entry) (request : Reques
       by : (g : Option Given) → GivenStands s.role g s.under → s.given ≡ g → Passes (e ∷ recent) (given_told (learned s caches request reply) request reply g)
       by None f eg = none_some (ap (given_call s) (sym eg) ∙ ask)
       by (Some givens.Task) f eg = under s.under stands.under_way (ap (given_call s) (sym eg) ∙ ask)
-      by (Some givens.Start) f eg = absurd (no_start s.role s.memory request binder (ap (given_call s) (sym eg) ∙ ask))
+      by (Some givens.Start) f eg = kept_pass s.role s.pass recent e pass (λ kind. start_reads_none s.role.kind s.role.node s.memory e.request kind (ap (given_call s) (sym eg) ∙ ask ∙ ap Some (sym is.asked)))
       by (Some (givens.Read k)) f eg = read k (ask_of (cache_of k s.caches)) refl (one _ request (ap (given_call s) (sym eg) ∙ ask))
 
 -- a call that was lost leaves the pass
@@ -129,13 +128,13 @@ lost_pass s recent pass = by s.given
 -- ---- the whole
 
 -- an answer that was told
-pub told_since : (old new : State) (earlier mine : List Entry) (e : Entry) (request : Request) (reply : Reply) → old.role.kind ≡ seats.Binder → asked old ≡ Some request → IsTold e request reply
+pub told_since : (old new : State) (earlier mine : List Entry) (e : Entry) (request : Request) (reply : Reply) → IsBuiltKind old.role.kind → asked old ≡ Some request → IsTold e request reply
     → new ≡ absorbed old new.caches request (outcomes.Told reply) → (StandsFor old mine → StandsFor new (e ∷ mine)) → StandsSince old earlier mine → StandsSince new earlier (e ∷ mine)
-told_since old new earlier mine e request reply binder ask is state absorbs since = record {
+told_since old new earlier mine e request reply built ask is state absorbs since = record {
   stands = absorbs since.stands;
   recent = e ∷ since.recent;
   are = ap (λ m. e ∷ m) since.are;
-  pass = subst (Passes (e ∷ since.recent)) (sym state) (told_pass old earlier since.recent e request binder (subst (StandsFor old) since.are since.stands) since.pass ask new.caches reply is);
+  pass = subst (Passes (e ∷ since.recent)) (sym state) (told_pass old earlier since.recent e request built (subst (StandsFor old) since.are since.stands) since.pass ask new.caches reply is);
 }
 
 -- a call that was lost after its effect
@@ -179,39 +178,32 @@ woken_since old new mine state stands = record {
 pub new_since : (s : State) → StandsFor s [] → StandsSince s [] []
 new_since s stands = record { stands = stands; recent = []; are = refl; pass = stands.pass }
 
-abbrev AreQuiet : List Entry → Type 0
-AreQuiet recent = (k : Kind) → follows seats.Binder k ≡ true → HasNoNews k recent
+abbrev AreQuiet : SeatKind → List Entry → Type 0
+AreQuiet kind recent = (k : Kind) → follows kind k ≡ true → HasNoNews k recent
 
 -- where an actor is idle its kinds have no news since
-pub quiet_since : (s new : State) (answer : Next) (earlier mine : List Entry) → s.role.kind ≡ seats.Binder → s.memory.stale ≡ false → StandsSince s earlier mine → IsTurn s new answer → answer ≡ nexts.Idle → IsQuietSince seats.Binder earlier mine
-quiet_since s new answer earlier mine is fresh since turn idle = record {
+pub quiet_since : (s new : State) (answer : Next) (earlier mine : List Entry) → s.memory.stale ≡ false → StandsSince s earlier mine → IsTurn s new answer → answer ≡ nexts.Idle → IsQuietSince s.role.kind earlier mine
+quiet_since s new answer earlier mine fresh since turn idle = record {
   recent = since.recent;
   are = since.are;
   quiet = by s.memory.stale s.under (start_call s.role s.memory) (unlisted s) (passing s) refl refl turn;
 }
   where
-    at_kind : (place : ℕ) (kind : Kind) → slice_get (kinds_of seats.Binder) place ≡ Some kind → kind_at s.role place ≡ Some kind
-    at_kind place kind e = ap (λ k. slice_get (kinds_of k) place) is ∙ e
+    each : s.pass.event ≡ false → length (kinds_of s.role.kind) ≤ s.pass.behind → (k : Kind) → follows s.role.kind k ≡ true → HasNoNews k since.recent
+    each quiet past k f = let p = placed s.role.kind k f in let within = p.within in since.pass quiet p.place k (omega (arith, within, past)) p.at
 
-    each : s.pass.event ≡ false → 3 ≤ s.pass.behind → (k : Kind) → follows seats.Binder k ≡ true → HasNoNews k since.recent
-    each quiet past kinds.PersistentVolume f = since.pass quiet 0 kinds.PersistentVolume (omega (arith, past)) (at_kind 0 kinds.PersistentVolume refl)
-    each quiet past kinds.PersistentVolumeClaim f = since.pass quiet 1 kinds.PersistentVolumeClaim (omega (arith, past)) (at_kind 1 kinds.PersistentVolumeClaim refl)
-    each quiet past kinds.StorageClass f = since.pass quiet 2 kinds.StorageClass (omega (arith, past)) (at_kind 2 kinds.StorageClass refl)
-    each quiet past kinds.Node f = absurd (true≢false (sym f))
-    each quiet past kinds.Pod f = absurd (true≢false (sym f))
-
-    no_call : (r : Request) → answer ≡ nexts.Call r → AreQuiet since.recent
+    no_call : (r : Request) → answer ≡ nexts.Call r → AreQuiet s.role.kind since.recent
     no_call r e = none_some (ap call_in (sym idle ∙ e))
 
-    keys : (w : Work) (under : Option Under) → 3 ≤ s.pass.behind → AfterKeys s new answer w under → AreQuiet since.recent
+    keys : (w : Work) (under : Option Under) → length (kinds_of s.role.kind) ≤ s.pass.behind → AfterKeys s new answer w under → AreQuiet s.role.kind since.recent
     keys w (Some u) past b = no_call _ b.call
     keys w None past (inl b) = no_call _ b.call
     keys w None past (inr b) = each b.quiet past
 
-    by : (stale : Bool) (u : Option Under) (start : Option Request) (l p : Option Kind) → s.memory.stale ≡ stale → passing s ≡ p → TurnBy s new answer stale u start l p → AreQuiet since.recent
+    by : (stale : Bool) (u : Option Under) (start : Option Request) (l p : Option Kind) → s.memory.stale ≡ stale → passing s ≡ p → TurnBy s new answer stale u start l p → AreQuiet s.role.kind since.recent
     by true u start l p at ep t = absurd (true≢false (sym at ∙ fresh))
     by false (Some u) start l p at ep t = no_call _ t.call
     by false None (Some request) l p at ep t = no_call _ t.call
     by false None None (Some kind) p at ep t = no_call _ t.call
     by false None None None (Some kind) at ep t = no_call _ t.call
-    by false None None None None at ep t = keys t.work t.under (passed (kinds_of seats.Binder) s.pass.behind (ap (λ k. slice_get (kinds_of k) s.pass.behind) (sym is) ∙ ep)) t.then_
+    by false None None None None at ep t = keys t.work t.under (passed (kinds_of s.role.kind) s.pass.behind ep) t.then_

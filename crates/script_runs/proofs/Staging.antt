@@ -60,6 +60,7 @@ pub plays_on : (x : Player) (h later : List Entry) (idle then_idle : ℕ → Lis
 plays_on x h later idle then_idle named same_own same_idle plays =
     let at = life_at x h idle named plays in
     record {
+      kind = plays.kind;
       first = plays.first;
       reached = plays.reached;
       since = subst (λ m. StandsSince x.actor (then_idle x.seat) m) (sym (same_own x.seat at)) (subst (λ m. StandsSince x.actor m (own x.seat h)) (sym (same_idle x.seat at)) plays.since);

@@ -4,15 +4,17 @@ use Rattle.std.specs.Prelude.{nat_lt}
 use Rattle.std.proofs.lemmas.Bool.Decides.{nat_tests}
 use Rattle.call_types.specs.declared.entry.Entry.{Entry}
 use Rattle.call_types.specs.declared.request.SeatKind.{SeatKind}
-use Rattle.call_types.specs.declared.request.SeatKind.TheVariants as seats
 use Rattle.binder_model.specs.Told.{own}
 use Rattle.world_core.specs.Kept.{History}
 use Rattle.worker_core.specs.declared.turn.Next.{Next}
 use Rattle.worker_core.specs.declared.turn.Next.TheVariants as nexts
-use Rattle.worker_core.specs.Stands.{StandsFor}
+use Rattle.worker_core.specs.declared.role.Role.{Role}
+use Rattle.worker_core.specs.Roles.{IsBuiltKind}
+use Rattle.worker_core.specs.Stands.{IsNew, StandsFor}
 use Rattle.worker_core.specs.States.{State}
 use Rattle.worker_core.specs.Turns.{IsTurn}
-use Rattle.worker_threads.proofs.RunFacts.{binder_fresh}
+use Rattle.worker_core.proofs.Answered.{turn_role}
+use Rattle.worker_core.proofs.ByKind.{built_fresh}
 use Rattle.script_parts.specs.declared.loss.Fate.{Fate}
 use Rattle.script_parts.specs.declared.part.Part.{Part}
 use Rattle.script_runs.specs.declared.player.Player.{Player}
@@ -33,12 +35,13 @@ less a b m le is differs = by (nat_lt a b) refl
     by false e = absurd (differs (grind (arith, nat_tests)))
 
 -- a later life begins
-pub next_life : (old new : Player) (past : List Entry) (idle : ℕ → List Entry) → old.part.named ≡ true → new.part ≡ old.part → new.made ≡ old.made → new.seat ≡ seat_at old.part (old.made + 1) → new.seat ≢ old.seat → StandsFor new.actor [] → Plays old past idle → Plays new past idle
-next_life old new past idle named part made seat other stands plays =
+pub next_life : (old new : Player) (past : List Entry) (idle : ℕ → List Entry) → old.part.named ≡ true → new.part ≡ old.part → new.made ≡ old.made → new.seat ≡ seat_at old.part (old.made + 1) → new.seat ≢ old.seat → IsNew old.actor.role new.actor → StandsFor new.actor [] → Plays old past idle → Plays new past idle
+next_life old new past idle named part made seat other new_actor stands plays =
     let within = seat_within old.part (old.made + 1) named in
     let later : old.seat < new.seat = less old.seat new.seat (seat_at old.part (old.made + 1)) plays.reached seat other in
     let none = plays.unborn new.seat later (omega (arith, within, seat)) in
     record {
+      kind = ap (λ (r : Role). r.kind) new_actor.is ∙ plays.kind ∙ ap (λ (x : Part). x.kind) (sym part);
       first = subst (λ (x : Part). x.first ≤ new.seat) (sym part) (let f = plays.first in omega (arith, f, later));
       reached = let e : seat_at new.part (new.made + 1) ≡ seat_at old.part (old.made + 1) = ap (λ (x : Part). seat_at x (new.made + 1)) part ∙ ap (λ m. seat_at old.part (m + 1)) made in omega (arith, e, seat);
       since = subst (λ m. StandsSince new.actor (idle new.seat) m) (sym none.0) (subst (λ m. StandsSince new.actor m []) (sym none.1) (new_since new.actor stands));
@@ -59,8 +62,9 @@ pub record HasTaken (mid new : Player) : Type 0 where
   pub seat : new.seat ≡ mid.seat
 
 -- another actor of the same life
-with_actor : (mid new : Player) (past : List Entry) (idle : ℕ → List Entry) → HasTaken mid new → new.made ≡ mid.made → StandsSince new.actor (idle mid.seat) (own mid.seat past) → Plays mid past idle → Plays new past idle
-with_actor mid new past idle taken made since plays = record {
+with_actor : (mid new : Player) (past : List Entry) (idle : ℕ → List Entry) → HasTaken mid new → new.made ≡ mid.made → new.actor.role ≡ mid.actor.role → StandsSince new.actor (idle mid.seat) (own mid.seat past) → Plays mid past idle → Plays new past idle
+with_actor mid new past idle taken made role since plays = record {
+  kind = ap (λ (r : Role). r.kind) role ∙ plays.kind ∙ ap (λ (x : Part). x.kind) (sym taken.part);
   first = subst (λ s. new.part.first ≤ s) (sym taken.seat) (subst (λ (x : Part). x.first ≤ mid.seat) (sym taken.part) plays.first);
   reached =
       let r = plays.reached in
@@ -72,28 +76,29 @@ with_actor mid new past idle taken made since plays = record {
 }
 
 -- the actor is idle
-pub still : (old mid new : Player) (past : List Entry) (idle : ℕ → List Entry) → IsReady old mid → HasTaken mid new → new.made ≡ mid.made → old.part.kind ≡ seats.Binder → mid.actor.role.kind ≡ seats.Binder
+pub still : (old mid new : Player) (past : List Entry) (idle : ℕ → List Entry) → IsReady old mid → HasTaken mid new → new.made ≡ mid.made → IsBuiltKind mid.actor.role.kind
     → IsTurn mid.actor new.actor nexts.Idle → ((mine : List Entry) → StandsFor mid.actor mine → StandsFor new.actor mine) → Plays mid past idle → IsStill idle past past old new
-still old mid new past idle ready taken made kind binder turn keeps plays = record {
+still old mid new past idle ready taken made built turn keeps plays = record {
   made = made ∙ ready.made;
   past = refl;
   seat = taken.seat ∙ ready.seat;
-  plays = with_actor mid new past idle taken made (turn_since mid.actor new.actor nexts.Idle (idle mid.seat) (own mid.seat past) turn (keeps (own mid.seat past)) plays.since) plays;
-  quiet = subst (λ s. IsQuietSince old.part.kind (idle s) (own s past)) (sym taken.seat) (subst (λ k. IsQuietSince k (idle mid.seat) (own mid.seat past)) (sym kind)
-      (quiet_since mid.actor new.actor nexts.Idle (idle mid.seat) (own mid.seat past) binder (binder_fresh mid.actor (own mid.seat past) binder plays.since.stands) plays.since turn refl));
+  plays = with_actor mid new past idle taken made (turn_role mid.actor new.actor nexts.Idle turn) (turn_since mid.actor new.actor nexts.Idle (idle mid.seat) (own mid.seat past) turn (keeps (own mid.seat past)) plays.since) plays;
+  quiet = subst (λ s. IsQuietSince old.part.kind (idle s) (own s past)) (sym taken.seat) (subst (λ k. IsQuietSince k (idle mid.seat) (own mid.seat past)) (plays.kind ∙ ap (λ (x : Part). x.kind) ready.part)
+      (quiet_since mid.actor new.actor nexts.Idle (idle mid.seat) (own mid.seat past) (built_fresh mid.actor (own mid.seat past) built plays.since.stands) plays.since turn refl));
 }
 
 -- one call was made
 pub one_made : (old mid new : Player) (given : State) (answer : Next) (before after : History) (idle : ℕ → List Entry) (fate : Fate) (kind : SeatKind)
-    → old.part.named ≡ true → IsReady old mid → HasTaken mid new → new.made ≡ mid.made + 1 → kind ≡ old.part.kind → fate ≡ fate_of mid.part.losses (mid.made + 1)
+    → old.part.named ≡ true → IsReady old mid → HasTaken mid new → new.made ≡ mid.made + 1 → kind ≡ mid.actor.role.kind → fate ≡ fate_of mid.part.losses (mid.made + 1)
     → IsTurn mid.actor given answer → ((mine : List Entry) → StandsFor mid.actor mine → StandsFor given mine)
     → HasCalled mid.seat (IsCallWith fate mid.seat kind) before after given new.actor → Plays mid before.past idle → HasMade idle before.past after.past old new
 one_made old mid new given answer before after idle fate kind named ready taken made same lost turn keeps called plays = record {
   made = made ∙ ap (λ m. m + 1) ready.made;
-  call = subst (λ k. IsCallWith (fate_of old.part.losses (old.made + 1)) (seat_at old.part (old.made + 1)) k before.past after.past) same
+  call = subst (λ k. IsCallWith (fate_of old.part.losses (old.made + 1)) (seat_at old.part (old.made + 1)) k before.past after.past) (same ∙ plays.kind ∙ ap (λ (x : Part). x.kind) ready.part)
       (subst (λ s. IsCallWith (fate_of old.part.losses (old.made + 1)) s kind before.past after.past) ready.seat
       (subst (λ f. IsCallWith f mid.seat kind before.past after.past) (lost ∙ ap (λ (x : Part). fate_of x.losses (mid.made + 1)) ready.part ∙ ap (λ m. fate_of old.part.losses (m + 1)) ready.made) called.call));
   plays = record {
+    kind = ap (λ (r : Role). r.kind) (called.role ∙ turn_role mid.actor given answer turn) ∙ plays.kind ∙ ap (λ (x : Part). x.kind) (sym taken.part);
     first = subst (λ s. new.part.first ≤ s) (sym taken.seat) (subst (λ (x : Part). x.first ≤ mid.seat) (sym taken.part) plays.first);
     reached =
         let more = seat_more mid.part (mid.made + 1) in

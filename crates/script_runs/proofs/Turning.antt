@@ -4,6 +4,7 @@ use Rattle.std.specs.Prelude.{◌==◌}
 use Rattle.std.proofs.lemmas.Bool.Decides.{Decides-eqb}
 use Rattle.call_types.specs.declared.entry.Entry.{Entry}
 use Rattle.binder_model.specs.Told.{own}
+use Rattle.worker_core.specs.declared.role.Role.{Role}
 use Rattle.worker_core.specs.Stands.{StandsFor}
 use Rattle.script_parts.specs.declared.part.Part.{Part}
 use Rattle.script_runs.specs.declared.player.Player.{Player}
@@ -61,10 +62,10 @@ at_other seat other mine idle lt = by (other == seat) refl
 -- the actor was idle, and is woken
 pub turned_few : (made calls : ℕ) (idle : ℕ → List Entry) (first before after : List Entry) (start old mid new : Player) → made < calls → old.part ≡ start.part → old.made ≡ start.made + made
     → HasGone made idle first before start old → IsStill idle before after old mid
-    → new.part ≡ mid.part → new.made ≡ mid.made → new.seat ≡ mid.seat → mid.part ≡ old.part
+    → new.part ≡ mid.part → new.made ≡ mid.made → new.seat ≡ mid.seat → mid.part ≡ old.part → new.actor.role ≡ mid.actor.role
     → ((mine : List Entry) → StandsFor mid.actor mine → StandsSince new.actor mine mine)
     → HasTurned calls idle first after start new
-turned_few made calls idle first before after start old mid new few part count gone step same_part same_made same_seat mid_part wakes = record {
+turned_few made calls idle first before after start old mid new few part count gone step same_part same_made same_seat mid_part role wakes = record {
   others = λ seat other. ap (own seat) step.past ∙ gone.others seat other;
   made = inr (record {
     count = made;
@@ -82,6 +83,7 @@ turned_few made calls idle first before after start old mid new few part count g
 
     plays : Plays new after (and_idle new.seat (own new.seat after) idle)
     plays = record {
+      kind = ap (λ (r : Role). r.kind) role ∙ step.plays.kind ∙ ap (λ (x : Part). x.kind) (sym whole);
       first = subst (λ s. new.part.first ≤ s) (sym same_seat) (subst (λ (x : Part). x.first ≤ mid.seat) (sym whole) step.plays.first);
       reached =
           let r = step.plays.reached in

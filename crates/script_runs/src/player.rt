@@ -2,7 +2,6 @@
 
 ghost use Rattle.std.specs.Prelude.{◌≡◌, ◌<◌, ◌+◌, ◌^◌, ℕ, List, true, IfOk, OnOk, length};
 ghost use Rattle.call_types.specs.declared.entry.Entry.{Entry};
-ghost use Rattle.call_types.specs.declared.request.SeatKind.TheVariants as seats;
 ghost use Rattle.fitting_calls.specs.Calls.{AreByActors};
 ghost use Rattle.script_runs.specs.Calls.{restarts_before, seat_at};
 ghost use Rattle.script_runs.specs.Steps.Living.{HasLived, Lives};
@@ -79,7 +78,6 @@ fn begin_life(player: &mut Player)
 /// Makes the next call; false where the life that would make it is idle.
 fn step(world: &mut KeptWorld, player: &mut Player) -> Result<bool, OutOfMemory>
     requires named { player.old.part.named ≡ true }
-    requires binder { player.old.part.kind ≡ seats.Binder }
     requires small { IsSmall player.old }
     requires plays { SomePlays player.old world.old.past }
     ensures part { player.new.part ≡ player.old.part }
@@ -110,7 +108,6 @@ pub(crate) fn turn(
     calls: u64,
 ) -> Result<(), OutOfMemory>
     requires named { player.old.part.named ≡ true }
-    requires binder { player.old.part.kind ≡ seats.Binder }
     requires seats { player.old.part.first + length player.old.part.restarts < 2 ^ 32 }
     requires made { player.old.made + calls < 2 ^ 32 }
     requires plays { SomePlays player.old world.old.past }

@@ -1,11 +1,9 @@
 -- What an actor stands for after an answer, after a call that was lost, and after a wake.
-use Rattle.std.proofs.Common.{◌≡◌, ℕ, ◌<◌, List, [], ◌∷◌, Bool, true, false, true≢false, Option, Some, None, refl, sym, ◌∙◌, ap, subst, arith, if◌then◌else◌, Result, Ok, Err}
+use Rattle.std.proofs.Common.{◌≡◌, List, ◌∷◌, Bool, true, false, true≢false, Option, Some, None, refl, sym, ◌∙◌, ap, subst, arith, if◌then◌else◌, Result, Ok, Err}
 use Rattle.std.specs.Prelude.{option_map, OnOk}
 use Rattle.kube_types.specs.declared.parts.Kind.{Kind}
 use Rattle.call_types.specs.declared.entry.Entry.{Entry}
 use Rattle.call_types.specs.declared.request.Request.{Request}
-use Rattle.call_types.specs.declared.request.Request.TheVariants as requests
-use Rattle.call_types.specs.declared.request.SeatKind.TheVariants.{Binder}
 use Rattle.call_types.specs.declared.reply.Reply.{Reply}
 use Rattle.binder_model.specs.Licence.{Licensed}
 use Rattle.binder_model.specs.Told.{later, newest, object_of, tells_of}
@@ -13,25 +11,26 @@ use Rattle.binder_model.specs.Reading.{Following, Unlisted, ListedAt, following_
 use Rattle.informer_cache.specs.declared.cache.Ask.{Ask}
 use Rattle.informer_cache.specs.declared.cache.Ask.TheVariants as asks
 use Rattle.informer_cache.specs.Cache.{IsTold, ask_from, ask_of, kind_known, watch_from}
-use Rattle.informer_cache.specs.All.{AllKnown, AllStandFor, AreCaches, all_objects, cache_of}
-use Rattle.informer_cache.proofs.Stands.{all_stand, quiet_stands, untold_quiet}
+use Rattle.informer_cache.specs.All.{AllKnown, AllStandFor, cache_of}
+use Rattle.informer_cache.proofs.Stands.{quiet_stands, untold_quiet}
 use Rattle.model_laws.proofs.Lists.{one, none_some}
-use Rattle.sync_queue.specs.Work.{Work}
 use Rattle.worker_core.specs.declared.role.Role.{Role}
 use Rattle.worker_core.specs.declared.task.Under.{Under}
 use Rattle.worker_core.specs.declared.turn.Given.{Given}
 use Rattle.worker_core.specs.declared.turn.Given.TheVariants as givens
 use Rattle.worker_core.specs.declared.turn.Outcome.{Outcome}
 use Rattle.worker_core.specs.declared.turn.Outcome.TheVariants as outcomes
-use Rattle.worker_core.specs.Absorbs.{absorbed, given_told, is_passing, learned, lost_given, lost_to, lost_under, pass_after, read_told, task_told, told_to, woken}
-use Rattle.worker_core.specs.Memories.{Memory, memory_after, memory_of}
+use Rattle.worker_core.specs.Absorbs.{absorbed, given_told, is_passing, learned, lost_given, lost_to, lost_under, pass_after, task_told, told_to, woken}
+use Rattle.worker_core.specs.Memories.{memory_after, memory_of}
 use Rattle.binder_machines.specs.KindLaw.{reads_kind}
+use Rattle.worker_core.specs.Roles.{IsBuiltKind}
 use Rattle.worker_core.specs.Stands.{AnyIsUnderWay, AreLicensed, AreOwn, GivenStands, IsUnderWay, PassStands, StandsFor, WentOn}
-use Rattle.worker_core.specs.States.{State, asked, call_under, given_call, read_of_kind, read_request}
+use Rattle.worker_core.specs.States.{State, asked, call_under, given_call, read_request}
 use Rattle.worker_core.specs.Tasks.{under_after}
 use Rattle.worker_core.specs.Turns.{passing}
-use Rattle.worker_core.proofs.Licensed.{licensed, no_start}
-use Rattle.worker_core.proofs.Machines.{KeepsUnder, keeps_under, task_reads_none}
+use Rattle.worker_core.proofs.ByKind.{start_reads_none}
+use Rattle.worker_core.proofs.Licensed.{licensed}
+use Rattle.worker_core.proofs.Machines.{keeps_under, task_reads_none}
 use Rattle.worker_core.proofs.Passes.{kept_pass, list_pass, untold_pass, watch_pass}
 
 -- what is under way
@@ -43,8 +42,8 @@ goes_on role u mine e reply way call told answered = by (under_after u reply) re
     by None is = tt
     by (Some next) is = WentOn u e mine refl way told (sym call) (ap (under_after u) answered ∙ is)
 
-call_reads_none : (role : Role) (u : Under) (mine : List Entry) (e : Entry) → role.kind ≡ Binder → IsUnderWay role u mine → u.call ≡ e.request → (kind : Kind) → reads_kind kind e.request ≡ false
-call_reads_none role u mine e is way call kind = task_reads_none u.task e.request kind ((keeps_under role u mine is way).call ∙ ap Some call)
+call_reads_none : (role : Role) (u : Under) (mine : List Entry) (e : Entry) → IsUnderWay role u mine → u.call ≡ e.request → (kind : Kind) → reads_kind kind e.request ≡ false
+call_reads_none role u mine e way call kind = task_reads_none u.task e.request kind ((keeps_under role u mine way).call ∙ ap Some call)
 
 -- the memory
 
@@ -69,9 +68,9 @@ list_unlisted Unlisted e = refl
 list_unlisted (ListedAt version None) e = absurd (true≢false (sym (ap is_list e)))
 list_unlisted (ListedAt version (Some upto)) e = absurd (true≢false (sym (ap is_list e)))
 
-module _ (s : State) (mine : List Entry) (e : Entry) (request : Request) (binder : s.role.kind ≡ Binder) (stands : StandsFor s mine) (ask : asked s ≡ Some request) (asks_it : e.request ≡ request) (kind : e.kind ≡ s.role.kind) (own : AreOwn (e ∷ mine)) where
+module _ (s : State) (mine : List Entry) (e : Entry) (request : Request) (built : IsBuiltKind s.role.kind) (stands : StandsFor s mine) (ask : asked s ≡ Some request) (asks_it : e.request ≡ request) (kind : e.kind ≡ s.role.kind) (own : AreOwn (e ∷ mine)) where
   all_licensed : AreLicensed s.role.kind (e ∷ mine)
-  all_licensed = (stands.licensed, kind, subst (λ r. Licensed s.role.kind mine r) (sym asks_it) (licensed s mine request binder stands ask))
+  all_licensed = (stands.licensed, kind, subst (λ r. Licensed s.role.kind mine r) (sym asks_it) (licensed s mine request built stands ask))
 
   pub told_stands : (caches : AllKnown) (reply : Reply) → IsTold e request reply → AllStandFor caches (e ∷ mine) → StandsFor (told_to s caches request reply) (e ∷ mine)
   told_stands caches reply is after = by s.given stands.given refl
@@ -86,21 +85,22 @@ module _ (s : State) (mine : List Entry) (e : Entry) (request : Request) (binder
           record {
             caches = after;
             under_way = goes_on s.role u mine e reply way call is.told is.answered;
-            pass = kept_pass s.role s.pass mine e stands.pass (call_reads_none s.role u mine e binder way call);
+            pass = kept_pass s.role s.pass mine e stands.pass (call_reads_none s.role u mine e way call);
             memory = memory;
             licensed = all_licensed;
             own = own;
             given = tt;
           }
 
-      start : s.under ≡ None → s.given ≡ Some givens.Start → ⊥
-      start none eg = no_start s.role s.memory request binder (ap (given_call s) (sym eg) ∙ ask)
+      -- a call of the start
+      start_read : s.given ≡ Some givens.Start → (k : Kind) → reads_kind k e.request ≡ false
+      start_read eg k = start_reads_none s.role.kind s.role.node s.memory e.request k (ap (given_call s) (sym eg) ∙ ask ∙ ap Some (sym asks_it))
 
       read : (k : Kind) (ask : Ask) → ask_of (cache_of k s.caches) ≡ ask → read_request k ask ≡ request → PassStands s.role (pass_after s.pass (is_passing (passing s) k) request reply) (e ∷ mine)
       read k asks.List at r =
           let from = (stands.caches.each k).from ∙ ap (λ x. watch_from (following_of mine x)) (stands.caches.kinds k) in
           subst (λ q. PassStands s.role (pass_after s.pass (is_passing (passing s) k) q reply) (e ∷ mine)) r
-          (list_pass s.role s.pass mine e stands.pass k (subst (λ x. AreLicensed x mine) binder stands.licensed) (list_unlisted (following_of mine k) (sym (ap ask_from from) ∙ at)) (asks_it ∙ sym r))
+          (list_pass s.role s.pass mine e stands.pass k built stands.licensed (list_unlisted (following_of mine k) (sym (ap ask_from from) ∙ at)) (asks_it ∙ sym r))
       read k (asks.Watch from) at r =
           subst (λ q. PassStands s.role (pass_after s.pass (is_passing (passing s) k) q reply) (e ∷ mine)) r
           (watch_pass s.role s.pass mine e stands.pass k from is.told (asks_it ∙ sym r) reply is.answered)
@@ -108,7 +108,15 @@ module _ (s : State) (mine : List Entry) (e : Entry) (request : Request) (binder
       by : (g : Option Given) → GivenStands s.role g s.under → s.given ≡ g → StandsFor (given_told (learned s caches request reply) request reply g) (e ∷ mine)
       by None f eg = none_some (ap (given_call s) (sym eg) ∙ ask)
       by (Some givens.Task) f eg = under s.under refl stands.under_way (ap (given_call s) (sym eg) ∙ ask)
-      by (Some givens.Start) f eg = absurd (start f eg)
+      by (Some givens.Start) f eg = record {
+        caches = after;
+        under_way = subst (λ u. AnyIsUnderWay s.role u (e ∷ mine)) (sym f) tt;
+        pass = kept_pass s.role s.pass mine e stands.pass (start_read eg);
+        memory = memory;
+        licensed = all_licensed;
+        own = own;
+        given = tt;
+      }
       by (Some (givens.Read k)) f eg = record {
         caches = after;
         under_way = subst (λ u. AnyIsUnderWay s.role u (e ∷ mine)) (sym f.1) tt;
@@ -189,13 +197,13 @@ pub take_caches : (outcome : Outcome) (given : Reply) (request : Request) (befor
 take_caches outcome given request before after was learn mine e reply is told stands =
     learn mine e (record { told = told.told; asked = told.asked; answered = told.answered ∙ one reply given (ap reply_in (sym is ∙ was)) }) stands
 
-module _ (old new : State) (request : Request) (outcome : Outcome) (binder : old.role.kind ≡ Binder) (ask : asked old ≡ Some request) (state : new ≡ absorbed old new.caches request outcome) where
+module _ (old new : State) (request : Request) (outcome : Outcome) (built : IsBuiltKind old.role.kind) (ask : asked old ≡ Some request) (state : new ≡ absorbed old new.caches request outcome) where
   pub told_by : ((mine : List Entry) (e : Entry) (reply : Reply) → outcome ≡ outcomes.Told reply → IsTold e request reply → AllStandFor old.caches mine → AllStandFor new.caches (e ∷ mine))
       → (mine : List Entry) (e : Entry) (reply : Reply) → outcome ≡ outcomes.Told reply → IsTold e request reply → e.kind ≡ old.role.kind → AreOwn (e ∷ mine) → StandsFor old mine → StandsFor new (e ∷ mine)
   told_by caches mine e reply is told kind own stands =
       subst (λ x. StandsFor x (e ∷ mine)) (sym (state ∙ ap (absorbed old new.caches request) is))
-      (told_stands old mine e request binder stands ask told.asked kind own new.caches reply told (caches mine e reply is told stands.caches))
+      (told_stands old mine e request built stands ask told.asked kind own new.caches reply told (caches mine e reply is told stands.caches))
 
   pub lost_by : (mine : List Entry) (e : Entry) → outcome ≡ outcomes.Lost → e.told ≡ false → e.request ≡ request → e.kind ≡ old.role.kind → AreOwn (e ∷ mine) → StandsFor old mine → StandsFor new (e ∷ mine)
   lost_by mine e is lost asks_it kind own stands =
-      subst (λ x. StandsFor x (e ∷ mine)) (sym (state ∙ ap (absorbed old new.caches request) is)) (lost_after old mine e request binder stands ask asks_it kind own lost)
+      subst (λ x. StandsFor x (e ∷ mine)) (sym (state ∙ ap (absorbed old new.caches request) is)) (lost_after old mine e request built stands ask asks_it kind own lost)

@@ -1,6 +1,5 @@
 -- An actor that was told nothing stands for no entries.
-use Rattle.std.proofs.Common.{◌≡◌, ℕ, List, [], true, false, true≢false, refl, sym, ap, ◌∙◌, Option, Some, None, subst}
-use Rattle.call_types.specs.declared.setup.Setup.{Setup}
+use Rattle.std.proofs.Common.{[], true≢false, refl, sym, ap, ◌∙◌, Option, subst}
 use Rattle.worker_core.specs.declared.role.Role.{Role}
 use Rattle.worker_core.specs.declared.turn.Given.{Given}
 use Rattle.worker_core.specs.declared.turn.Pass.{Pass}

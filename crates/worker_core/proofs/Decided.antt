@@ -4,7 +4,6 @@ use Rattle.kube_types.specs.declared.key.Key.{Key}
 use Rattle.kube_types.specs.declared.objects.Object.{Object}
 use Rattle.kube_types.specs.Keys.{kind_index}
 use Rattle.call_types.specs.declared.request.Request.{Request}
-use Rattle.call_types.specs.declared.request.SeatKind.TheVariants.{Binder}
 use Rattle.sync_queue.specs.Work.{Work, Taken, StandsOnce, added, begun, finished, oldest_of}
 use Rattle.model_laws.proofs.Lists.{one, none_some}
 use Rattle.worker_core.specs.declared.role.Role.{Role}
@@ -24,16 +23,16 @@ task_in (firsts.Begins task) = Some task
 task_in _ = None
 
 module _ (role : Role) (memory : Memory) (rows : List Object) where
-  less_at : (ws : List Key) (taken : List Taken) (parked : List Key) (key : Key) (first : First) → role.kind ≡ Binder → StandsOnce (record { waiting = ws; taken = taken; parked = parked }) → oldest_of ws ≡ Some key
+  less_at : (ws : List Key) (taken : List Taken) (parked : List Key) (key : Key) (first : First) → StandsOnce (record { waiting = ws; taken = taken; parked = parked }) → oldest_of ws ≡ Some key
       → IsDecision role memory rows key first → weight (dropped first key (record { waiting = ws; taken = taken; parked = parked })).waiting < weight ws
-  less_at [] taken parked key first binder once old decided = none_some old
-  less_at (k ∷ ks) taken parked key first binder once old decided = by first (one k key old) decided
+  less_at [] taken parked key first once old decided = none_some old
+  less_at (k ∷ ks) taken parked key first once old decided = by first (one k key old) decided
     where
       by : (f : First) → k ≡ key → IsDecision role memory rows key f → weight (dropped f key (record { waiting = k ∷ ks; taken = taken; parked = parked })).waiting < weight (k ∷ ks)
       by firsts.Drops is d = subst (λ (j : Key). weight (finished j (begun (record { waiting = k ∷ ks; taken = taken; parked = parked }))).waiting < weight (k ∷ ks)) is (drops_one k ks taken parked once)
       by (firsts.Begins task) is d = subst (λ (j : Key). weight (finished j (begun (record { waiting = k ∷ ks; taken = taken; parked = parked }))).waiting < weight (k ∷ ks)) is (drops_one k ks taken parked once)
       by (firsts.Queues other) is d =
-          let q = queued_kinds role memory rows key other binder d in
+          let q = queued_kinds role memory rows key other d in
           let from : kind_index k.kind ≡ 2 = ap (λ (j : Key). kind_index j.kind) is ∙ q.0 in
           subst (λ (j : Key). weight (finished j (added other (begun (record { waiting = k ∷ ks; taken = taken; parked = parked })))).waiting < weight (k ∷ ks)) is (queues_one k ks taken parked once other from q.1)
 
@@ -97,8 +96,8 @@ module _ (role : Role) (memory : Memory) (rows : List Object) where
       is = is ∙ d ∙ ap (finished key) begins;
     }
 
-  pub less_by : (w queue : Work) → role.kind ≡ Binder → StandsOnce w → Dropped w queue → weight queue.waiting < weight w.waiting
-  less_by w queue binder once d = subst (λ (q : Work). weight q.waiting < weight w.waiting) (sym d.is) (less_at w.waiting w.taken w.parked d.key d.first binder once (sym d.old) d.none.decided)
+  pub less_by : (w queue : Work) → StandsOnce w → Dropped w queue → weight queue.waiting < weight w.waiting
+  less_by w queue once d = subst (λ (q : Work). weight q.waiting < weight w.waiting) (sym d.is) (less_at w.waiting w.taken w.parked d.key d.first once (sym d.old) d.none.decided)
 
   pub on_by : (w queue : Work) → Dropped w queue → (after : Work) (under : Option Under) → Decides role memory rows after under queue → Decides role memory rows after under w
   on_by w queue d after under rest = Drops d.key d.first (sym d.old) d.none (subst (λ (q : Work). Decides role memory rows after under q) d.is rest)

@@ -1,5 +1,5 @@
 -- What turns, answers and wakes make of waiting and parked keys.
-use Rattle.std.proofs.Common.{◌≡◌, ◌⊎◌, List, [], ◌∷◌, Bool, true, false, true≢false, Option, Some, None, inl, inr, refl, sym, ◌∙◌, ap, subst, if◌then◌else◌}
+use Rattle.std.proofs.Common.{◌≡◌, List, Bool, true, false, true≢false, Option, Some, None, inl, inr, refl, sym, ◌∙◌, ap, subst, if◌then◌else◌}
 use Rattle.std.specs.Prelude.{is_some}
 use Rattle.kube_types.specs.declared.key.Key.{Key}
 use Rattle.kube_types.specs.declared.parts.Kind.{Kind}
@@ -22,7 +22,7 @@ use Rattle.worker_core.specs.declared.turn.Outcome.TheVariants as outcomes
 use Rattle.worker_core.specs.Absorbs.{absorbed, all_added, ended_work, given_told, learned, lost_given, lost_under, task_told, woken}
 use Rattle.worker_core.specs.Memories.{Memory}
 use Rattle.worker_core.specs.Roles.{kinds_of}
-use Rattle.worker_core.specs.Rules.{AnswersKeepKeys, KeepsKeys, KeepsWaiting, Parks, TurnsKeepKeys, WakesKeepKeys, WakesKeys, WasCalled, WasDropped, WasParked}
+use Rattle.worker_core.specs.Rules.{AnswersKeepKeys, KeepsKeys, KeepsWaiting, Parks, TurnsKeepKeys, WakesKeepKeys, WakesKeys}
 use Rattle.worker_core.specs.States.{State, is_parked, start_call, waits}
 use Rattle.worker_core.specs.Tasks.{GivesCall, GivesNone, task_parks, under_after}
 use Rattle.worker_core.specs.Turns.{AfterKeys, Decides, Nothing, Begins, Drops, IsTurn, TurnBy, passing, unlisted}

@@ -1,6 +1,7 @@
 pub mod Absorbing
 pub mod Answered
 pub mod Begins
+pub mod ByKind
 pub mod Decided
 pub mod KeyMoves
 pub mod KeysKept

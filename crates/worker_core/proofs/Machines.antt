@@ -1,16 +1,18 @@
 -- What is known of the machines of each kind of actor, whatever they are: their calls are allowed by their evidence, the evidence
 -- goes on, decisions give it, no call of theirs reads a whole kind, and a key that queues another is a volume's.
-use Rattle.std.proofs.Common.{◌≡◌, ℕ, List, ◌∷◌, Bool, true, false, Option, Some, None, refl, sym, ◌∙◌, ap, subst}
+use Rattle.std.proofs.Common.{◌≡◌, List, ◌∷◌, true, false, Option, Some, None, refl, sym, ◌∙◌, ap, subst}
 use Rattle.std.specs.Prelude.{option_map}
 use Rattle.kube_types.specs.declared.key.Key.{Key}
 use Rattle.kube_types.specs.declared.parts.Kind.{Kind}
 use Rattle.kube_types.specs.declared.objects.Object.{Object}
-use Rattle.kube_types.specs.Keys.{AreRows, kind_index}
+use Rattle.kube_types.specs.Keys.{AreRows, kind_index, row_at}
 use Rattle.call_types.specs.declared.entry.Entry.{Entry}
 use Rattle.call_types.specs.declared.request.Request.{Request}
-use Rattle.call_types.specs.declared.request.SeatKind.TheVariants.{Binder}
+use Rattle.call_types.specs.declared.request.Request.TheVariants as requests
+use Rattle.call_types.specs.declared.request.SeatKind.{SeatKind}
+use Rattle.call_types.specs.declared.request.SeatKind.TheVariants as seats
 use Rattle.call_types.specs.declared.reply.Reply.{Reply}
-use Rattle.binder_model.specs.Licence.{BinderMay}
+use Rattle.binder_model.specs.Licence.{AreOfKind, RowAllows}
 use Rattle.informer_cache.specs.All.{AllKnown, AllStandFor, all_objects}
 use Rattle.binder_machines.specs.declared.machine.Machine.{Machine}
 use Rattle.binder_machines.specs.Machines as binder
@@ -19,55 +21,147 @@ use Rattle.binder_machines.proofs.Begun.{keep}
 use Rattle.binder_machines.proofs.Reaching.{calls_read_no_kind, volumes_queue_claims}
 use Rattle.binder_machines.proofs.Moves.{keeps_on}
 use Rattle.model_laws.proofs.Lists.{one, none_some}
+use Rattle.protect_sync.specs.declared.claims.ClaimGuardOp.{ClaimGuardOp}
+use Rattle.protect_sync.specs.declared.volumes.VolumeGuardOp.{VolumeGuardOp}
+use Rattle.protect_sync.specs.BeginLaw.{ReadsNoKind}
+use Rattle.protect_sync.specs.ClaimGuards.{claim_moved}
+use Rattle.protect_sync.specs.Decisions.{claim_begins, volume_begins}
+use Rattle.protect_sync.specs.VolumeGuards.{volume_moved}
+use Rattle.protect_sync.proofs.Allowed.{claim_allowed, claim_calls_read_no_kind, volume_allowed, volume_calls_read_no_kind}
+use Rattle.protect_sync.proofs.Begun.{claim_decisions, volume_decisions}
+use Rattle.protect_sync.proofs.Moves.{claim_goes_on, volume_goes_on}
 use Rattle.worker_core.specs.declared.role.Role.{Role}
+use Rattle.worker_core.specs.declared.task.First.{First}
 use Rattle.worker_core.specs.declared.task.First.TheVariants as firsts
 use Rattle.worker_core.specs.declared.task.Task.{Task}
 use Rattle.worker_core.specs.declared.task.Task.TheVariants as tasks
 use Rattle.worker_core.specs.declared.task.Under.{Under}
-use Rattle.worker_core.specs.Memories.{Memory, memory_of}
+use Rattle.worker_core.specs.Memories.{Memory}
 use Rattle.binder_machines.specs.KindLaw.{reads_kind}
 use Rattle.worker_core.specs.Stands.{Begun, IsUnderWay, WentOn}
-use Rattle.worker_core.specs.Steps.Evidence.{TaskKeeps}
-use Rattle.worker_core.specs.Tasks.{GivesCall, IsDecision, IsFirstOf, task_call, task_moved, under_after, with_call, with_task}
+use Rattle.worker_core.specs.Steps.Evidence.{TaskKeeps, task_kind}
+use Rattle.worker_core.specs.Tasks.{IsDecision, IsFirstOf, claim_first, task_call, task_moved, under_after, volume_first, with_call, with_task}
 
-pub task_allowed : (t : Task) (mine : List Entry) (r : Request) → TaskKeeps t mine → task_call t ≡ Some r → BinderMay mine r
-task_allowed (tasks.Binder m) mine r kept call = row_allows m mine r kept call
+pub task_allowed : (t : Task) (mine : List Entry) (r : Request) → AreOfKind (task_kind t) mine → TaskKeeps t mine → task_call t ≡ Some r → RowAllows (task_kind t) mine r
+task_allowed (tasks.Binder m) mine r own kept call = row_allows m mine r kept call
+task_allowed (tasks.ClaimProtect op) mine r own kept call = (claim_allowed op mine r own kept call).1
+task_allowed (tasks.VolumeProtect op) mine r own kept call = (volume_allowed op mine r own kept call).1
 
 task_goes : (t next : Task) (mine : List Entry) (e : Entry) → TaskKeeps t mine → task_call t ≡ Some e.request → e.told ≡ true → task_moved t e.reply ≡ Some next → TaskKeeps next (e ∷ mine)
+task_goes (tasks.ClaimProtect op) next mine e kept call told is = subst (λ t. TaskKeeps t (e ∷ mine)) (one (tasks.ClaimProtect (claim_moved op e.reply)) next is) (claim_goes_on op mine e kept call told)
+task_goes (tasks.VolumeProtect op) next mine e kept call told is = subst (λ t. TaskKeeps t (e ∷ mine)) (one (tasks.VolumeProtect (volume_moved op e.reply)) next is) (volume_goes_on op mine e kept call told)
 task_goes (tasks.Binder m) next mine e kept call told is = by (binder.moved m e.reply) refl is
   where
     by : (x : Option Machine) → binder.moved m e.reply ≡ x → option_map (λ k. tasks.Binder k) x ≡ Some next → TaskKeeps next (e ∷ mine)
     by None at h = none_some h
     by (Some k) at h = subst (λ t. TaskKeeps t (e ∷ mine)) (one (tasks.Binder k) next h) (keeps_on m k mine e kept call told at)
 
+-- a task stays one of its kind
+task_stays : (t next : Task) (reply : Reply) → task_moved t reply ≡ Some next → task_kind next ≡ task_kind t
+task_stays (tasks.ClaimProtect op) next reply is = ap task_kind (sym (one (tasks.ClaimProtect (claim_moved op reply)) next is))
+task_stays (tasks.VolumeProtect op) next reply is = ap task_kind (sym (one (tasks.VolumeProtect (volume_moved op reply)) next is))
+task_stays (tasks.Binder m) next reply is = by (binder.moved m reply) is
+  where
+    by : (x : Option Machine) → option_map (λ k. tasks.Binder k) x ≡ Some next → task_kind next ≡ seats.Binder
+    by None h = none_some h
+    by (Some k) h = ap task_kind (sym (one (tasks.Binder k) next h))
+
+-- what lists and watches no whole kind reads none
+no_read : (r : Request) (kind : Kind) → ReadsNoKind r → reads_kind kind r ≡ false
+no_read (requests.List k None) kind none = absurd (none.lists k refl)
+no_read (requests.Watch k from) kind none = absurd (none.watches k from refl)
+no_read (requests.List k (Some namespace)) kind none = refl
+no_read _ kind none = refl
+
 pub task_reads_none : (t : Task) (r : Request) (kind : Kind) → task_call t ≡ Some r → reads_kind kind r ≡ false
 task_reads_none (tasks.Binder m) r kind call = calls_read_no_kind m r kind call
+task_reads_none (tasks.ClaimProtect op) r kind call = no_read r kind (claim_calls_read_no_kind op r call)
+task_reads_none (tasks.VolumeProtect op) r kind call = no_read r kind (volume_calls_read_no_kind op r call)
 
-task_begins : (role : Role) (memory : Memory) (c : AllKnown) (mine : List Entry) (key : Key) (t : Task) → role.kind ≡ Binder → AllStandFor c mine → AreRows (all_objects c) → IsDecision role memory (all_objects c) key (firsts.Begins t) → TaskKeeps t mine
-task_begins role memory c mine key (tasks.Binder m) is stand order first = keep c mine key m stand order (subst (λ k. IsFirstOf k (all_objects c) key (firsts.Begins (tasks.Binder m))) is first)
+-- what a decision begins
 
-pub queued_kinds : (role : Role) (memory : Memory) (rows : List Object) (key other : Key) → role.kind ≡ Binder → IsDecision role memory rows key (firsts.Queues other) → (kind_index key.kind ≡ 2) × (kind_index other.kind ≡ 3)
-queued_kinds role memory rows key other is first =
-    let q = volumes_queue_claims rows key other (subst (λ k. IsFirstOf k rows key (firsts.Queues other)) is first) in
+abbrev task_in : First → Option Task
+task_in (firsts.Begins task) = Some task
+task_in first = None
+
+abbrev queued_in : First → Option Key
+queued_in (firsts.Queues other) = Some other
+queued_in first = None
+
+-- a task that a decision begins is one of the actor's kind, and has its evidence
+record BeginsTask (kind : SeatKind) (t : Task) (mine : List Entry) : Type 0 where
+  of_kind : task_kind t ≡ kind
+  keeps : TaskKeeps t mine
+
+claim_begun : (c : AllKnown) (mine : List Entry) (key : Key) (t : Task) → AllStandFor c mine → (x : Option ClaimGuardOp) → claim_begins (all_objects c) (row_at key (all_objects c)) ≡ x
+    → firsts.Begins t ≡ claim_first x → BeginsTask seats.ClaimProtect t mine
+claim_begun c mine key t stand None is first = none_some (sym (ap task_in first))
+claim_begun c mine key t stand (Some op) is first =
+    let same : tasks.ClaimProtect op ≡ t = one (tasks.ClaimProtect op) t (sym (ap task_in first)) in
+    subst (λ x. BeginsTask seats.ClaimProtect x mine) same (record { of_kind = refl; keeps = claim_decisions c mine key op stand is })
+
+volume_begun : (c : AllKnown) (mine : List Entry) (key : Key) (t : Task) → AllStandFor c mine → (x : Option VolumeGuardOp) → volume_begins (row_at key (all_objects c)) ≡ x
+    → firsts.Begins t ≡ volume_first x → BeginsTask seats.VolumeProtect t mine
+volume_begun c mine key t stand None is first = none_some (sym (ap task_in first))
+volume_begun c mine key t stand (Some op) is first =
+    let same : tasks.VolumeProtect op ≡ t = one (tasks.VolumeProtect op) t (sym (ap task_in first)) in
+    subst (λ x. BeginsTask seats.VolumeProtect x mine) same (record { of_kind = refl; keeps = volume_decisions c mine key op stand is })
+
+begun : (kind : SeatKind) (c : AllKnown) (mine : List Entry) (key : Key) (t : Task) → AllStandFor c mine → AreRows (all_objects c) → IsFirstOf kind (all_objects c) key (firsts.Begins t) → BeginsTask kind t mine
+begun seats.Binder c mine key (tasks.Binder m) stand order first = record { of_kind = refl; keeps = keep c mine key m stand order first }
+begun seats.Binder c mine key (tasks.ClaimProtect op) stand order first = absurd first
+begun seats.Binder c mine key (tasks.VolumeProtect op) stand order first = absurd first
+begun seats.ClaimProtect c mine key t stand order first = claim_begun c mine key t stand _ refl first
+begun seats.VolumeProtect c mine key t stand order first = volume_begun c mine key t stand _ refl first
+begun seats.User c mine key t stand order first = absurd first
+begun seats.Ops c mine key t stand order first = absurd first
+begun seats.Scheduler c mine key t stand order first = absurd first
+begun seats.Agent c mine key t stand order first = absurd first
+
+-- a key that queues another is a volume's, and the other a claim's
+
+claims_queue_none : {G : Type 0} (other : Key) (x : Option ClaimGuardOp) → firsts.Queues other ≡ claim_first x → G
+claims_queue_none other None first = none_some (sym (ap queued_in first))
+claims_queue_none other (Some op) first = none_some (sym (ap queued_in first))
+
+volumes_queue_none : {G : Type 0} (other : Key) (x : Option VolumeGuardOp) → firsts.Queues other ≡ volume_first x → G
+volumes_queue_none other None first = none_some (sym (ap queued_in first))
+volumes_queue_none other (Some op) first = none_some (sym (ap queued_in first))
+
+queued_by : (kind : SeatKind) (rows : List Object) (key other : Key) → IsFirstOf kind rows key (firsts.Queues other) → (kind_index key.kind ≡ 2) × (kind_index other.kind ≡ 3)
+queued_by seats.Binder rows key other first =
+    let q = volumes_queue_claims rows key other first in
     (ap kind_index q.0, ap kind_index q.1)
+queued_by seats.ClaimProtect rows key other first = claims_queue_none other (claim_begins rows (row_at key rows)) first
+queued_by seats.VolumeProtect rows key other first = volumes_queue_none other (volume_begins (row_at key rows)) first
+queued_by seats.User rows key other first = absurd first
+queued_by seats.Ops rows key other first = absurd first
+queued_by seats.Scheduler rows key other first = absurd first
+queued_by seats.Agent rows key other first = absurd first
 
--- what is under way keeps its evidence, and its call is its next one
-pub record KeepsUnder (u : Under) (mine : List Entry) : Type 0 where
+pub queued_kinds : (role : Role) (memory : Memory) (rows : List Object) (key other : Key) → IsDecision role memory rows key (firsts.Queues other) → (kind_index key.kind ≡ 2) × (kind_index other.kind ≡ 3)
+queued_kinds role memory rows key other first = queued_by role.kind rows key other first
+
+-- what is under way keeps its evidence, its call is its next one, and its task is one of the actor's kind
+pub record KeepsUnder (role : Role) (u : Under) (mine : List Entry) : Type 0 where
+  pub of_kind : task_kind u.task ≡ role.kind
   pub keeps : TaskKeeps u.task mine
   pub call : task_call u.task ≡ Some u.call
 
-goes_on : (u next : Under) (mine : List Entry) (e : Entry) → KeepsUnder u mine → e.told ≡ true → e.request ≡ u.call → under_after u e.reply ≡ Some next → KeepsUnder next (e ∷ mine)
-goes_on u next mine e kept told asked is = by_task (task_moved u.task e.reply) refl is
+goes_on : (role : Role) (u next : Under) (mine : List Entry) (e : Entry) → KeepsUnder role u mine → e.told ≡ true → e.request ≡ u.call → under_after u e.reply ≡ Some next → KeepsUnder role next (e ∷ mine)
+goes_on role u next mine e kept told asked is = by_task (task_moved u.task e.reply) refl is
   where
-    by_call : (t : Task) (c : Option Request) → task_call t ≡ c → TaskKeeps t (e ∷ mine) → with_call u.key t c ≡ Some next → KeepsUnder next (e ∷ mine)
-    by_call t None at keeps h = none_some h
-    by_call t (Some c) at keeps h = subst (λ n. KeepsUnder n (e ∷ mine)) (one _ next h) (record { keeps = keeps; call = at })
+    by_call : (t : Task) (c : Option Request) → task_call t ≡ c → task_kind t ≡ role.kind → TaskKeeps t (e ∷ mine) → with_call u.key t c ≡ Some next → KeepsUnder role next (e ∷ mine)
+    by_call t None at kind keeps h = none_some h
+    by_call t (Some c) at kind keeps h = subst (λ n. KeepsUnder role n (e ∷ mine)) (one _ next h) (record { of_kind = kind; keeps = keeps; call = at })
 
-    by_task : (x : Option Task) → task_moved u.task e.reply ≡ x → with_task u.key x ≡ Some next → KeepsUnder next (e ∷ mine)
+    by_task : (x : Option Task) → task_moved u.task e.reply ≡ x → with_task u.key x ≡ Some next → KeepsUnder role next (e ∷ mine)
     by_task None at h = none_some h
-    by_task (Some t) at h = by_call t (task_call t) refl (task_goes u.task t mine e kept.keeps (kept.call ∙ ap Some (sym asked)) told at) h
+    by_task (Some t) at h = by_call t (task_call t) refl (task_stays u.task t e.reply at ∙ kept.of_kind) (task_goes u.task t mine e kept.keeps (kept.call ∙ ap Some (sym asked)) told at) h
 
-pub keeps_under : (role : Role) (u : Under) (mine : List Entry) → role.kind ≡ Binder → IsUnderWay role u mine → KeepsUnder u mine
-keeps_under role u mine is (Begun c stand order gives) = record { keeps = task_begins role (memory_of role mine) c mine u.key u.task is stand order gives.decided; call = gives.call }
-keeps_under role u mine is (WentOn before e past split way told asked moves) =
-    subst (λ m. KeepsUnder u m) (sym split) (goes_on before u past e (keeps_under role before past is way) told asked moves)
+pub keeps_under : (role : Role) (u : Under) (mine : List Entry) → IsUnderWay role u mine → KeepsUnder role u mine
+keeps_under role u mine (Begun c stand order gives) =
+    let b = begun role.kind c mine u.key u.task stand order gives.decided in
+    record { of_kind = b.of_kind; keeps = b.keeps; call = gives.call }
+keeps_under role u mine (WentOn before e past split way told asked moves) =
+    subst (λ m. KeepsUnder role u m) (sym split) (goes_on role before u past e (keeps_under role before past way) told asked moves)

@@ -18,15 +18,13 @@ use Rattle.worker_core.specs.declared.turn.Given.{Given}
 use Rattle.worker_core.specs.declared.turn.Given.TheVariants as givens
 use Rattle.worker_core.specs.declared.turn.Next.{Next}
 use Rattle.worker_core.specs.declared.turn.Next.TheVariants as nexts
-use Rattle.worker_core.specs.declared.turn.Outcome.{Outcome}
 use Rattle.worker_core.specs.declared.turn.Outcome.TheVariants as outcomes
 use Rattle.worker_core.specs.declared.turn.Pass.{Pass}
 use Rattle.worker_core.specs.Absorbs.{absorbed, given_told, is_none_of, is_passing, learned, lost_given, lost_under, pass_after, task_told, woken}
 use Rattle.worker_core.specs.Roles.{kind_at, kinds_of}
-use Rattle.worker_core.specs.Rules.{BroughtEvent, EventsAreBrought, IsAskedAgain, PassesBegin, PassesGoOn, WatchesFollowThePass, WokenIsBusy}
+use Rattle.worker_core.specs.Rules.{BroughtEvent, EventsAreBrought, PassesBegin, PassesGoOn, WatchesFollowThePass, WokenIsBusy}
 use Rattle.worker_core.specs.States.{State, call_in, read_of_kind, read_request, start_call}
 use Rattle.worker_core.specs.Turns.{AfterKeys, IsTurn, TurnBy, first_unlisted, is_listed, passing, unlisted}
-use Rattle.worker_core.proofs.Passes.{or_false}
 use Rattle.worker_core.proofs.Quiet.{itself}
 
 abbrev pass_of : State → Pass

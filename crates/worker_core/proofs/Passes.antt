@@ -1,14 +1,12 @@
 -- What a pass stands for after an entry.
-use Rattle.std.proofs.Common.{◌≡◌, ◌⊎◌, ℕ, ◌<◌, ◌+◌, List, [], ◌∷◌, length, Bool, true, false, true≢false, Option, Some, None, inl, inr, refl, sym, ◌∙◌, ap, subst, arith, if◌then◌else◌}
+use Rattle.std.proofs.Common.{◌≡◌, ◌⊎◌, ℕ, ◌<◌, ◌+◌, List, [], ◌∷◌, length, Bool, true, false, true≢false, Some, None, inl, inr, refl, sym, ◌∙◌, ap, subst, arith, if◌then◌else◌}
 use Rattle.std.specs.Prelude.{◌==◌, ◌&&◌, ◌||◌, nat_lt, not}
 use Rattle.std.proofs.lemmas.Bool.Decides.{nat_tests}
 use Rattle.kube_types.specs.declared.parts.Kind.{Kind}
 use Rattle.kube_types.specs.Keys.{same_kind}
 use Rattle.call_types.specs.declared.entry.Entry.{Entry}
 use Rattle.call_types.specs.declared.reply.Event.{Event}
-use Rattle.call_types.specs.declared.request.Request.{Request}
 use Rattle.call_types.specs.declared.request.Request.TheVariants as requests
-use Rattle.call_types.specs.declared.request.SeatKind.TheVariants.{Binder}
 use Rattle.call_types.specs.declared.reply.Reply.{Reply}
 use Rattle.call_types.specs.declared.reply.Reply.TheVariants as replies
 use Rattle.binder_model.specs.Reading.{Unlisted, following_of}
@@ -16,7 +14,7 @@ use Rattle.binder_model.specs.Watching.{most_events}
 use Rattle.worker_core.specs.declared.role.Role.{Role}
 use Rattle.worker_core.specs.declared.turn.Pass.{Pass}
 use Rattle.worker_core.specs.Absorbs.{is_none_of, is_passing, pass_after}
-use Rattle.worker_core.specs.Roles.{kind_at}
+use Rattle.worker_core.specs.Roles.{IsBuiltKind, kind_at}
 use Rattle.binder_machines.specs.KindLaw.{reads_kind}
 use Rattle.worker_core.specs.Stands.{AreLicensed, HasNoNews, IsEmptyWatch, PassStands}
 use Rattle.worker_core.proofs.Quiet.{alike, itself, quiet_listed, quiet_now, quiet_on, unread}
@@ -49,11 +47,11 @@ module _ (role : Role) (pass : Pass) (mine : List Entry) (e : Entry) (stands : P
   untold_pass lost = λ quiet place kind lt at. quiet_on kind mine e (ap (λ t. t && reads_kind kind e.request) lost) (stands quiet place kind lt at)
 
   -- a list of a kind that is not listed
-  pub list_pass : (kind : Kind) → AreLicensed Binder mine → following_of mine kind ≡ Unlisted → e.request ≡ requests.List kind None → PassStands role pass (e ∷ mine)
-  list_pass kind l none is = λ quiet place k lt at. by k (same_kind kind k) refl (stands quiet place k lt at)
+  pub list_pass : (kind : Kind) → IsBuiltKind role.kind → AreLicensed role.kind mine → following_of mine kind ≡ Unlisted → e.request ≡ requests.List kind None → PassStands role pass (e ∷ mine)
+  list_pass kind built l none is = λ quiet place k lt at. by k (same_kind kind k) refl (stands quiet place k lt at)
     where
       by : (k : Kind) (b : Bool) → same_kind kind k ≡ b → HasNoNews k mine → HasNoNews k (e ∷ mine)
-      by k true same q = absurd (quiet_listed kind mine l (subst (λ x. HasNoNews x mine) (sym (alike kind k same)) q) none)
+      by k true same q = absurd (quiet_listed role.kind kind mine built l (subst (λ x. HasNoNews x mine) (sym (alike kind k same)) q) none)
       by k false same q = quiet_on k mine e (unread k e (ap (reads_kind k) is ∙ same)) q
 
   -- a watch

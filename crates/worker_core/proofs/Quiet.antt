@@ -1,5 +1,5 @@
 -- Kinds without news.
-use Rattle.std.proofs.Common.{◌≡◌, ℕ, List, [], ◌∷◌, Bool, true, false, true≢false, Option, Some, None, refl, sym, ◌∙◌, ap, subst}
+use Rattle.std.proofs.Common.{◌≡◌, ℕ, List, [], ◌∷◌, Bool, true, false, true≢false, Some, None, refl, sym, ◌∙◌, ap, subst}
 use Rattle.std.specs.Prelude.{◌&&◌}
 use Rattle.kube_types.specs.declared.parts.Kind.{Kind}
 use Rattle.kube_types.specs.Keys.{same_kind}
@@ -7,14 +7,16 @@ use Rattle.kube_types.proofs.SameKeys.{same_kind-Decides}
 use Rattle.call_types.specs.declared.entry.Entry.{Entry}
 use Rattle.call_types.specs.declared.request.Request.{Request}
 use Rattle.call_types.specs.declared.request.Request.TheVariants as requests
-use Rattle.call_types.specs.declared.request.SeatKind.TheVariants.{Binder}
+use Rattle.call_types.specs.declared.request.SeatKind.{SeatKind}
 use Rattle.call_types.specs.declared.reply.Refusal.TheVariants as refusals
 use Rattle.call_types.specs.declared.reply.Reply.{Reply}
 use Rattle.call_types.specs.declared.reply.Reply.TheVariants as replies
-use Rattle.binder_model.specs.Licence.{BinderMay}
+use Rattle.binder_model.specs.Licence.{Licensed}
 use Rattle.binder_model.specs.Reading.{Following, Unlisted, ListedAt, IsFrom, follow_on, following_of}
 use Rattle.binder_machines.specs.KindLaw.{reads_kind}
+use Rattle.worker_core.specs.Roles.{IsBuiltKind}
 use Rattle.worker_core.specs.Stands.{AreLicensed, HasNoNews, IsEmptyWatch}
+use Rattle.worker_core.proofs.ByKind.{watch_licensed}
 
 -- an entry that is no read of the kind, or was not told, brings no news of it
 pub quiet_on : (kind : Kind) (mine : List Entry) (e : Entry) → (e.told && reads_kind kind e.request) ≡ false → HasNoNews kind mine → HasNoNews kind (e ∷ mine)
@@ -61,20 +63,20 @@ watch_listed kind k from (replies.Events events) (ListedAt version reached) same
     true≢false (ap stands_listed h)
 watch_listed kind k from _ f same at empty e = empty
 
-empty_listed : (kind : Kind) (mine : List Entry) (request : Request) (reply : Reply) → reads_kind kind request ≡ true → BinderMay mine request → IsEmptyWatch request reply → follow_on request reply kind (following_of mine kind) ≡ Unlisted → ⊥
-empty_listed kind mine (requests.Watch k from) reply own may empty e = watch_listed kind k from reply (following_of mine kind) own (subst (λ x. IsFrom from (following_of mine x)) (alike k kind own) may.1) empty e
-empty_listed kind mine _ reply own may empty e = empty
+empty_listed : (seat : SeatKind) (kind : Kind) (mine : List Entry) (request : Request) (reply : Reply) → IsBuiltKind seat → reads_kind kind request ≡ true → Licensed seat mine request → IsEmptyWatch request reply → follow_on request reply kind (following_of mine kind) ≡ Unlisted → ⊥
+empty_listed seat kind mine (requests.Watch k from) reply built own may empty e = watch_listed kind k from reply (following_of mine kind) own (subst (λ x. IsFrom from (following_of mine x)) (alike k kind own) (watch_licensed seat mine k from built may)) empty e
+empty_listed seat kind mine _ reply built own may empty e = empty
 
 -- a kind without news is listed
-pub quiet_listed : (kind : Kind) (mine : List Entry) → AreLicensed Binder mine → HasNoNews kind mine → following_of mine kind ≡ Unlisted → ⊥
-quiet_listed kind [] l q e = q
-quiet_listed kind (x ∷ mine) l q e = by x.told (reads_kind kind x.request) refl refl (quiet_listed kind mine l.0)
+pub quiet_listed : (seat : SeatKind) (kind : Kind) (mine : List Entry) → IsBuiltKind seat → AreLicensed seat mine → HasNoNews kind mine → following_of mine kind ≡ Unlisted → ⊥
+quiet_listed seat kind [] built l q e = q
+quiet_listed seat kind (x ∷ mine) built l q e = by x.told (reads_kind kind x.request) refl refl (quiet_listed seat kind mine built l.0)
   where
     by : (t r : Bool) → x.told ≡ t → reads_kind kind x.request ≡ r → (HasNoNews kind mine → following_of mine kind ≡ Unlisted → ⊥) → ⊥
     by true true told own before =
         let q2 : IsEmptyWatch x.request x.reply = rw (told, own) at q in
         let e2 : follow_on x.request x.reply kind (following_of mine kind) ≡ Unlisted = rw told at e in
-        empty_listed kind mine x.request x.reply own l.2.1 q2 e2
+        empty_listed seat kind mine x.request x.reply built own l.2 q2 e2
     by true false told own before =
         let q2 : HasNoNews kind mine = rw (told, own) at q in
         let e2 : follow_on x.request x.reply kind (following_of mine kind) ≡ Unlisted = rw told at e in

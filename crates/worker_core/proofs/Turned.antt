@@ -1,6 +1,5 @@
 -- What comes after the waiting keys were decided.
 use Rattle.std.proofs.Common.{◌≡◌, true, false, Option, Some, None, inl, inr, refl, ap, subst}
-use Rattle.std.specs.Prelude.{slice_get}
 use Rattle.kube_types.specs.declared.parts.Kind.{Kind}
 use Rattle.call_types.specs.declared.request.Request.{Request}
 use Rattle.informer_cache.specs.All.{all_objects}
@@ -9,7 +8,7 @@ use Rattle.worker_core.specs.declared.task.Under.{Under}
 use Rattle.worker_core.specs.declared.turn.Given.TheVariants as givens
 use Rattle.worker_core.specs.declared.turn.Next.{Next}
 use Rattle.worker_core.specs.declared.turn.Next.TheVariants as nexts
-use Rattle.worker_core.specs.Roles.{kind_at, kinds_of}
+use Rattle.worker_core.specs.Roles.{kind_at}
 use Rattle.worker_core.specs.States.{State}
 use Rattle.worker_core.specs.Turns.{Decides, DecidesKeys, GivesRead}
 

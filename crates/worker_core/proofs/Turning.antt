@@ -1,5 +1,5 @@
 -- A turn keeps what an actor stands for.
-use Rattle.std.proofs.Common.{◌≡◌, ℕ, ◌<◌, zero, suc, List, [], ◌∷◌, Bool, true, false, Option, Some, None, inl, inr, refl, sym, ◌∙◌, ap, subst, arith, if◌then◌else◌}
+use Rattle.std.proofs.Common.{◌≡◌, ℕ, zero, suc, List, [], ◌∷◌, Bool, true, false, Option, Some, None, inl, inr, refl, sym, subst, arith, if◌then◌else◌}
 use Rattle.std.specs.Prelude.{slice_get, ⊤}
 use Rattle.kube_types.specs.declared.parts.Kind.{Kind}
 use Rattle.kube_types.specs.Keys.{AreRows}
@@ -18,7 +18,7 @@ use Rattle.worker_core.specs.declared.turn.Given.TheVariants as givens
 use Rattle.worker_core.specs.declared.turn.Next.{Next}
 use Rattle.worker_core.specs.Memories.{Memory, memory_of}
 use Rattle.worker_core.specs.Roles.{kind_at, kinds_of}
-use Rattle.worker_core.specs.Stands.{AnyIsUnderWay, Begun, GivenStands, PassStands, StandsFor}
+use Rattle.worker_core.specs.Stands.{AnyIsUnderWay, Begun, GivenStands, StandsFor}
 use Rattle.worker_core.specs.States.{State, start_call}
 use Rattle.worker_core.specs.Tasks.{GivesCall}
 use Rattle.worker_core.specs.Turns.{AfterKeys, Decides, Nothing, Begins, Drops, IsTurn, TurnBy, first_unlisted, is_listed, passing, unlisted}

@@ -1,6 +1,6 @@
 -- In a history a watch that the seat may make is answered by events, or is gone: it is never ahead of the store.
-use Rattle.std.proofs.Common.{◌≡◌, ◌⊎◌, ◌<◌, ◌≤◌, ℕ, List, [], ◌∷◌, ◌++◌, length, Bool, true, false, true≢false, Option, Some, None, inl, inr, refl, sym, ◌∙◌, ap, subst, arith, if◌then◌else◌}
-use Rattle.std.specs.Prelude.{◌==◌, nat_lt, take, reverse, filter, is_some, ⊤}
+use Rattle.std.proofs.Common.{◌≡◌, ◌⊎◌, ◌≤◌, ℕ, List, [], ◌∷◌, length, Bool, true, false, true≢false, Option, Some, None, inl, inr, refl, sym, ◌∙◌, ap, subst, arith, if◌then◌else◌}
+use Rattle.std.specs.Prelude.{◌==◌, nat_lt, take, filter}
 use Rattle.std.proofs.lemmas.Bool.Decides.{nat_tests}
 use Rattle.kube_types.specs.declared.parts.Kind.{Kind}
 use Rattle.kube_types.specs.Keys.{same_kind}
@@ -9,7 +9,6 @@ use Rattle.call_types.specs.declared.setup.Setup.{Setup}
 use Rattle.call_types.specs.declared.request.Request.{Request}
 use Rattle.call_types.specs.declared.request.Request.TheVariants as requests
 use Rattle.call_types.specs.declared.request.SeatKind.{SeatKind}
-use Rattle.call_types.specs.declared.request.SeatKind.TheVariants.{Binder}
 use Rattle.call_types.specs.declared.reply.Event.{Event}
 use Rattle.kube_types.specs.declared.names.Field.TheVariants as fields
 use Rattle.call_types.specs.declared.reply.Refusal.{Refusal}
@@ -19,17 +18,18 @@ use Rattle.call_types.specs.declared.reply.Reply.TheVariants as replies
 use Rattle.binder_model.specs.Answers.{reply_of}
 use Rattle.binder_model.specs.Reading.{Following, Unlisted, ListedAt, IsFrom, follow_on, following_of, reached_on}
 use Rattle.binder_model.specs.Told.{SomeOf, own}
-use Rattle.binder_model.specs.Watching.{events_after, is_later, last_version, most_events, oldest, reached_version, told_events}
+use Rattle.binder_model.specs.Watching.{events_after, is_later, last_version, most_events, oldest, told_events}
 use Rattle.binder_model.specs.World.{IsHistory, World, base, effect, reply_to, watch, world}
-use Rattle.informer_cache.specs.Cache.{IsTold}
 use Rattle.model_laws.proofs.Histories.{rows_stand_in_order}
 use Rattle.model_laws.proofs.Lists.{none_some, one, some_filter, some_reverse, some_take}
 use Rattle.model_laws.proofs.Readings.{lists_tell_what_stands}
 use Rattle.model_laws.proofs.Uids.{rises}
 use Rattle.model_laws.proofs.Watched.{AreBetween, logs}
 use Rattle.worker_core.specs.Rules.{IsWatchAnswer, WatchesAreAnswered}
-use Rattle.worker_core.specs.Stands.{AreOwn, StandsFor}
+use Rattle.worker_core.specs.Roles.{IsBuiltKind}
+use Rattle.worker_core.specs.Stands.{StandsFor}
 use Rattle.worker_core.specs.States.{State, asked}
+use Rattle.worker_core.proofs.ByKind.{watch_row}
 use Rattle.worker_core.proofs.Licensed.{given_allowed}
 
 -- what a watch is answered
@@ -183,13 +183,13 @@ newest_own setup (x ∷ past) seat e mine history is = by (x.seat == seat) refl 
         record { past = past; seat = seat; history = subst (λ y. IsHistory setup (y ∷ past)) (sym (ap (head_of e) front)) history; own_before = ap tail_of front }
     by false at more = more (is ∙ ap (λ b. if b then x ∷ own seat past else own seat past) at)
 
-watch_from_is : (s : State) (mine : List Entry) (kind : Kind) (from : ℕ) → s.role.kind ≡ Binder → StandsFor s mine → asked s ≡ Some (requests.Watch kind from) → IsFrom from (following_of mine kind)
-watch_from_is s mine kind from is stands ask = (given_allowed s mine (requests.Watch kind from) is stands ask).1
+watch_from_is : (s : State) (mine : List Entry) (kind : Kind) (from : ℕ) → IsBuiltKind s.role.kind → StandsFor s mine → asked s ≡ Some (requests.Watch kind from) → IsFrom from (following_of mine kind)
+watch_from_is s mine kind from built stands ask = watch_row s.role.kind mine kind from built (given_allowed s mine (requests.Watch kind from) built stands ask)
 
 pub watches_are_answered : WatchesAreAnswered
-watches_are_answered s mine kind from e reply is stands ask told own_all =
+watches_are_answered s mine kind from e reply built stands ask told own_all =
     let n = newest_own own_all.setup own_all.past own_all.seat e mine own_all.history own_all.own in
-    let may : IsFrom from (following_of (own n.seat n.past) kind) = subst (λ m. IsFrom from (following_of m kind)) n.own_before (watch_from_is s mine kind from is stands ask) in
+    let may : IsFrom from (following_of (own n.seat n.past) kind) = subst (λ m. IsFrom from (following_of m kind)) n.own_before (watch_from_is s mine kind from built stands ask) in
     let low = from_below own_all.setup n.past n.seat kind from n.history.0 may in
     let w = world own_all.setup n.past in
     let same : reply ≡ reply_to (effect own_all.setup w e.kind (requests.Watch kind from)) = sym told.answered ∙ n.history.1 ∙ ap (λ r. reply_to (effect own_all.setup w e.kind r)) told.asked in

@@ -1,7 +1,7 @@
 -- What an actor remembers beside its caches: an agent its epoch, its mounts and whether it was told that its epoch is
 -- stale, a scheduler the nodes that were refused for a claim. It is what the entries of its seat tell.
 -- A choice of this project, after the volume manager of kubelet and the scheduler's volume binding plugin.
-use Rattle.std.specs.Prelude.{ℕ, ◌==◌, Bool, true, false, not, ◌&&◌, ◌||◌, List, [], ◌∷◌, Option, Some, None, is_none, bytes_eq, filter, if◌then◌else◌}
+use Rattle.std.specs.Prelude.{ℕ, Bool, true, false, not, ◌||◌, List, [], ◌∷◌, Option, Some, None, is_none, bytes_eq, filter, if◌then◌else◌}
 use Rattle.plain_data.specs.Pairs.{value_at}
 use Rattle.kube_types.specs.declared.uid.Uid.{Uid}
 use Rattle.kube_types.specs.declared.objects.Claim.{Claim as ClaimData}

@@ -1,6 +1,7 @@
--- What an actor is: the kind of its seat, and the node that an agent serves; and the kinds of objects that it follows.
+-- What an actor is: the kind of its seat, and the node that an agent serves; the kinds of objects that it follows; and which
+-- kinds of actors are built.
 -- Source: the informers of each controller in Kubernetes. The order of the kinds is a choice of this project.
-use Rattle.std.specs.Prelude.{ℕ, List, [], ◌∷◌, Option, slice_get}
+use Rattle.std.specs.Prelude.{ℕ, List, [], ◌∷◌, Option, slice_get, ⊤}
 use Rattle.kube_types.specs.declared.parts.Kind.{Kind}
 use Rattle.kube_types.specs.declared.parts.Kind.TheVariants as kinds
 use Rattle.call_types.specs.declared.request.SeatKind.{SeatKind}
@@ -16,6 +17,16 @@ kinds_of seats.Scheduler = kinds.PersistentVolume ∷ kinds.PersistentVolumeClai
 kinds_of seats.ClaimProtect = kinds.PersistentVolumeClaim ∷ kinds.Pod ∷ []
 kinds_of seats.VolumeProtect = kinds.PersistentVolume ∷ []
 kinds_of seats.Agent = kinds.Pod ∷ []
+
+-- the kinds of actors that are built
+abbrev pub IsBuiltKind : SeatKind → Type 0
+IsBuiltKind seats.User = ⊥
+IsBuiltKind seats.Binder = ⊤
+IsBuiltKind seats.Ops = ⊥
+IsBuiltKind seats.Scheduler = ⊥
+IsBuiltKind seats.ClaimProtect = ⊤
+IsBuiltKind seats.VolumeProtect = ⊤
+IsBuiltKind seats.Agent = ⊥
 
 -- the kind at a place of this order
 abbrev pub kind_at : Role → ℕ → Option Kind

@@ -1,16 +1,14 @@
 -- What the turns and the answers make of waiting and parked keys and of passes: rules that follow from how they are defined.
 -- A choice of this project.
-use Rattle.std.specs.Prelude.{ℕ, ◌≡◌, ◌≢◌, ◌⊎◌, ◌+◌, Bool, true, false, List, [], ◌∷◌, Option, Some, None, length, ⊤}
+use Rattle.std.specs.Prelude.{ℕ, ◌≡◌, ◌≢◌, ◌⊎◌, ◌+◌, true, false, List, [], ◌∷◌, Some, None, length, ⊤}
 use Rattle.kube_types.specs.declared.key.Key.{Key}
 use Rattle.kube_types.specs.declared.parts.Kind.{Kind}
 use Rattle.call_types.specs.declared.request.Request.{Request}
 use Rattle.call_types.specs.declared.request.Request.TheVariants as requests
-use Rattle.call_types.specs.declared.reply.Event.{Event}
 use Rattle.call_types.specs.declared.reply.Refusal.TheVariants.{Gone}
 use Rattle.call_types.specs.declared.reply.Reply.{Reply}
 use Rattle.call_types.specs.declared.reply.Reply.TheVariants as replies
 use Rattle.call_types.specs.declared.entry.Entry.{Entry}
-use Rattle.call_types.specs.declared.request.SeatKind.TheVariants.{Binder}
 use Rattle.informer_cache.specs.Cache.{IsTold}
 use Rattle.binder_model.specs.Watching.{most_events}
 use Rattle.informer_cache.specs.All.{AllKnown, all_objects}
@@ -21,8 +19,8 @@ use Rattle.worker_core.specs.declared.turn.Next.{Next}
 use Rattle.worker_core.specs.declared.turn.Next.TheVariants as nexts
 use Rattle.worker_core.specs.declared.turn.Outcome.{Outcome}
 use Rattle.worker_core.specs.declared.turn.Outcome.TheVariants as outcomes
-use Rattle.worker_core.specs.declared.turn.Pass.{Pass}
 use Rattle.worker_core.specs.Absorbs.{absorbed, woken}
+use Rattle.worker_core.specs.Roles.{IsBuiltKind}
 use Rattle.worker_core.specs.Stands.{AreOwn, StandsFor}
 use Rattle.worker_core.specs.States.{State, asked, is_parked, waits}
 use Rattle.worker_core.specs.Tasks.{GivesCall, GivesNone, task_parks}
@@ -107,7 +105,7 @@ IsWatchAnswer (replies.Refused (Gone oldest)) = ⊤
 IsWatchAnswer reply = ⊥
 
 abbrev pub WatchesAreAnswered : Type 0
-WatchesAreAnswered = (s : State) (mine : List Entry) (kind : Kind) (from : ℕ) (e : Entry) (reply : Reply) → s.role.kind ≡ Binder → StandsFor s mine → asked s ≡ Some (requests.Watch kind from)
+WatchesAreAnswered = (s : State) (mine : List Entry) (kind : Kind) (from : ℕ) (e : Entry) (reply : Reply) → IsBuiltKind s.role.kind → StandsFor s mine → asked s ≡ Some (requests.Watch kind from)
     → IsTold e (requests.Watch kind from) reply → AreOwn (e ∷ mine) → IsWatchAnswer reply
 
 -- once its kind was watched a pass goes on to the next kind, unless the watch has to be made again

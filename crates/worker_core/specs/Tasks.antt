@@ -1,7 +1,7 @@
 -- What an actor has under way for one key: its next call, what an answer makes of it, and the decision that begins it. Each
 -- kind of actor has its own machines; here they are one type.
 -- A choice of this project, after the workers of a controller in client-go.
-use Rattle.std.specs.Prelude.{◌≡◌, Bool, List, Option, Some, None, is_some, option_map}
+use Rattle.std.specs.Prelude.{◌≡◌, Bool, List, Option, Some, None, option_map}
 use Rattle.kube_types.specs.declared.key.Key.{Key}
 use Rattle.kube_types.specs.declared.objects.Object.{Object}
 use Rattle.kube_types.specs.Keys.{row_at}
@@ -12,6 +12,11 @@ use Rattle.call_types.specs.declared.reply.Reply.{Reply}
 use Rattle.binder_machines.specs.declared.decide.First.TheVariants as binder_firsts
 use Rattle.binder_machines.specs.FirstSteps.{IsFirst}
 use Rattle.binder_machines.specs.Machines as binder
+use Rattle.protect_sync.specs.declared.claims.ClaimGuardOp.{ClaimGuardOp}
+use Rattle.protect_sync.specs.declared.volumes.VolumeGuardOp.{VolumeGuardOp}
+use Rattle.protect_sync.specs.ClaimGuards.{claim_call, claim_moved, claim_parks}
+use Rattle.protect_sync.specs.Decisions.{claim_begins, volume_begins}
+use Rattle.protect_sync.specs.VolumeGuards.{volume_call, volume_moved, volume_parks}
 use Rattle.worker_core.specs.declared.role.Role.{Role}
 use Rattle.worker_core.specs.declared.task.Task.{Task}
 use Rattle.worker_core.specs.declared.task.Task.TheVariants as tasks
@@ -23,14 +28,21 @@ use Rattle.worker_core.specs.Memories.{Memory}
 -- the next call, or none where nothing is left to be asked
 abbrev pub task_call : Task → Option Request
 task_call (tasks.Binder machine) = binder.call_of machine
+task_call (tasks.ClaimProtect op) = claim_call op
+task_call (tasks.VolumeProtect op) = volume_call op
 
--- what the answer to the next call makes of the task, or none where it has ended
+-- what the answer to the next call makes of the task, or none where it has ended. A machine of protection that has ended has
+-- no next call
 abbrev pub task_moved : Task → Reply → Option Task
 task_moved (tasks.Binder machine) reply = option_map (λ m. tasks.Binder m) (binder.moved machine reply)
+task_moved (tasks.ClaimProtect op) reply = Some (tasks.ClaimProtect (claim_moved op reply))
+task_moved (tasks.VolumeProtect op) reply = Some (tasks.VolumeProtect (volume_moved op reply))
 
 -- the task has ended at this answer, and its key is to be parked: a refusal that it does not take as an answer
 abbrev pub task_parks : Task → Reply → Bool
 task_parks (tasks.Binder machine) reply = binder.parks_at machine reply
+task_parks (tasks.ClaimProtect op) reply = claim_parks (claim_moved op reply).step
+task_parks (tasks.VolumeProtect op) reply = volume_parks (volume_moved op reply).step
 
 -- the decision on a key
 
@@ -38,9 +50,22 @@ abbrev pub IsBinderFirst : List Object → Key → First → Type 0
 IsBinderFirst rows key firsts.Drops = IsFirst rows (row_at key rows) binder_firsts.Drops
 IsBinderFirst rows key (firsts.Queues other) = IsFirst rows (row_at key rows) (binder_firsts.Queues other)
 IsBinderFirst rows key (firsts.Begins (tasks.Binder machine)) = IsFirst rows (row_at key rows) (binder_firsts.Begins machine)
+IsBinderFirst rows key (firsts.Begins task) = ⊥
+
+-- protection begins a machine or drops the key, and queues no other
+
+abbrev pub claim_first : Option ClaimGuardOp → First
+claim_first None = firsts.Drops
+claim_first (Some op) = firsts.Begins (tasks.ClaimProtect op)
+
+abbrev pub volume_first : Option VolumeGuardOp → First
+volume_first None = firsts.Drops
+volume_first (Some op) = firsts.Begins (tasks.VolumeProtect op)
 
 abbrev pub IsFirstOf : SeatKind → List Object → Key → First → Type 0
 IsFirstOf seats.Binder rows key first = IsBinderFirst rows key first
+IsFirstOf seats.ClaimProtect rows key first = first ≡ claim_first (claim_begins rows (row_at key rows))
+IsFirstOf seats.VolumeProtect rows key first = first ≡ volume_first (volume_begins (row_at key rows))
 IsFirstOf _ rows key first = ⊥
 
 -- what the decision on the key, by what the actor remembers and by these rows, comes to

@@ -1,7 +1,7 @@
 -- How an actor's next call comes: of what is under way, then of its start, of the kinds that are not listed, of the pass, of
 -- the oldest key that gives one. Where there is none it is idle, or a new pass begins.
 -- A choice of this project, after the loop of a controller in client-go.
-use Rattle.std.specs.Prelude.{ℕ, ◌≡◌, ◌⊎◌, Bool, true, false, List, [], ◌∷◌, Option, Some, None, is_some, if◌then◌else◌}
+use Rattle.std.specs.Prelude.{◌≡◌, ◌⊎◌, Bool, true, false, List, [], ◌∷◌, Option, Some, None, is_some, if◌then◌else◌}
 use Rattle.kube_types.specs.declared.key.Key.{Key}
 use Rattle.kube_types.specs.declared.parts.Kind.{Kind}
 use Rattle.call_types.specs.declared.request.Request.{Request}

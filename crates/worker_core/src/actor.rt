@@ -4,15 +4,14 @@ ghost use Rattle.std.specs.Prelude.{◌≡◌, List, [], ◌∷◌, Some, None, 
 ghost use Rattle.kube_types.specs.declared.parts.Kind.{Kind};
 ghost use Rattle.call_types.specs.declared.entry.Entry.{Entry};
 ghost use Rattle.call_types.specs.declared.reply.Reply.{Reply};
-ghost use Rattle.call_types.specs.declared.request.SeatKind.TheVariants as seats;
 ghost use Rattle.informer_cache.specs.All.{AllStandFor, all_objects};
 ghost use Rattle.kube_types.specs.Keys.{AreRows};
 ghost use Rattle.informer_cache.specs.Cache.{IsTold, keys_in};
 ghost use Rattle.worker_core.specs.declared.turn.Next.TheVariants as nexts;
 ghost use Rattle.worker_core.specs.declared.turn.Outcome.TheVariants as outcomes;
 ghost use Rattle.worker_core.specs.Absorbs.{absorbed, all_added, is_passing, lost_to, lost_under, pass_after, task_told, told_to, woken};
-ghost use Rattle.worker_core.specs.Memories.{no_memory};
-ghost use Rattle.worker_core.specs.Roles.{kinds_of};
+ghost use Rattle.worker_core.specs.Memories.{memory_after};
+ghost use Rattle.worker_core.specs.Roles.{IsBuiltKind, kinds_of};
 ghost use Rattle.worker_core.specs.Rules.{KeepsKeys, KeepsWaiting, WakesKeys, WokenIsBusy};
 ghost use Rattle.worker_core.specs.Stands.{AreOwn, IsLicensedAnswer, IsNew, MayBeIdle, StandsFor};
 ghost use Rattle.worker_core.specs.States.{asked, call_in, start_call};
@@ -50,22 +49,21 @@ pub struct Actor {
 }
 
 impl Model for Actor {
-    ghost use Rattle.std.specs.Prelude.{◌≡◌};
-    ghost use Rattle.call_types.specs.declared.request.SeatKind.TheVariants as seats;
     ghost use Rattle.worker_core.specs.Memories.{no_memory};
+    ghost use Rattle.worker_core.specs.Roles.{IsBuiltKind};
     ghost use Rattle.worker_core.specs.States.{State};
 
     ghost Value = { State };
 
     ghost view = { λ a. record { role = a.role; caches = a.caches; work = a.queue; pass = a.pass; memory = no_memory; under = a.under; given = a.given } };
 
-    ghost invariant = { λ a. a.role.kind ≡ seats.Binder };
+    ghost invariant = { λ a. IsBuiltKind a.role.kind };
 }
 
 impl Actor {
-    /// An actor that was told nothing. The binder is the only kind that is built.
+    /// An actor that was told nothing. The binder, claim protection and volume protection are the kinds that are built.
     pub fn new(alloc: Global, kind: SeatKind, node: &Text) -> Result<Actor, OutOfMemory>
-        requires { kind ≡ seats.Binder }
+        requires { IsBuiltKind kind }
         ensures is { IfOk result (λ actor. IsNew (record { kind = kind; node = node.now }) actor) }
         ensures stands { IfOk result (λ actor. StandsFor actor []) }
     {
@@ -77,7 +75,7 @@ impl Actor {
     }
 
     fn begun(alloc: Global, role: Role) -> Actor
-        requires { role.kind ≡ seats.Binder }
+        requires { IsBuiltKind role.kind }
         ensures is { IsNew role result }
         ensures stands { StandsFor result [] }
     {
@@ -85,7 +83,7 @@ impl Actor {
     }
 
     fn of(alloc: Global, role: Role) -> Actor
-        requires { role.kind ≡ seats.Binder }
+        requires { IsBuiltKind role.kind }
         ensures { IsNew role result }
     {
         let behind = kinds_of(role.kind).len();
@@ -106,7 +104,7 @@ impl Actor {
     /// The kind of the actor's seat.
     pub fn kind(&self) -> SeatKind
         ensures kind { result ≡ self.now.role.kind }
-        ensures built { result ≡ seats.Binder }
+        ensures built { IsBuiltKind result }
     {
         self.role.kind
     }
@@ -127,12 +125,21 @@ impl Actor {
 
     /// The rows of the caches stand in order, and the actor is of a kind that is built. It does nothing: its contract is
     /// what is known of the actor.
+    #[tactic(auto, using(crate::proofs::ByKind::starts_fresh))]
     fn stand(&self)
         ensures order { AreRows (all_objects self.now.caches) }
-        ensures built { self.now.role.kind ≡ seats.Binder }
+        ensures built { IsBuiltKind self.now.role.kind }
         ensures fresh { start_call self.now.role self.now.memory ≡ None }
     {
         self.caches.stand_together();
+    }
+
+    /// No answer changes what the actor remembers. It does nothing either.
+    #[tactic(auto, using(crate::proofs::ByKind::learns_nothing))]
+    fn stay(&self, _request: &Request, _reply: &Reply)
+        ensures { memory_after self.now.role _request.now _reply.now self.now.memory ≡ self.now.memory }
+    {
+        let _ = &self.alloc;
     }
 
     /// The turn.
@@ -164,6 +171,7 @@ impl Actor {
     }
 
     /// Decides the waiting keys, and where none gives a call begins a pass or is idle.
+    #[tactic(auto, using(crate::proofs::ByKind::no_user))]
     fn after_keys(&mut self) -> Result<Next, OutOfMemory>
         requires { self.old.under ≡ None }
         ensures { IfOk result (λ answer. DecidesKeys self.old self.new answer) }
@@ -232,6 +240,7 @@ impl Actor {
         ensures state { OnOk result (self.new ≡ told_to self.old self.old.caches request.now reply.now) }
         ensures caches { OnOk result (self.new.caches ≡ self.old.caches) }
     {
+        self.stay(request, reply);
         match self.given {
             None | Some(Given::Start) => {}
             Some(Given::Task) => self.told_task(reply)?,

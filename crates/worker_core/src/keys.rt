@@ -6,12 +6,13 @@ ghost use Rattle.informer_cache.specs.All.{all_objects, cache_of};
 ghost use Rattle.sync_queue.specs.Work.{begun, oldest_of};
 ghost use Rattle.worker_core.specs.Absorbs.{all_added, kind_added, kinds_added};
 ghost use Rattle.worker_core.specs.Memories.{no_memory};
+ghost use Rattle.worker_core.specs.Roles.{IsBuiltKind};
 ghost use Rattle.worker_core.specs.Tasks.{IsDecision};
 ghost use Rattle.worker_core.specs.Turns.{Decides};
-ghost use Rattle.call_types.specs.declared.request.SeatKind.TheVariants as seats;
 
 use crate::role::Role;
-use crate::task::{First, Under, first_of_binder};
+use crate::task::{First, Under, first_of_binder, first_of_claims, first_of_volumes};
+use call_types::request::SeatKind;
 use informer_cache::caches::Caches;
 use kube_types::copies::{OutOfMemory, Plain};
 use kube_types::key::{Key, key_of};
@@ -33,11 +34,15 @@ fn take(alloc: Global, queue: &mut Queue) -> Result<Option<Key>, OutOfMemory>
 
 /// What the decision on the key comes to.
 fn first_for(alloc: Global, role: &Role, caches: &Caches, key: &Key) -> Result<First, OutOfMemory>
-    requires { role.now.kind ≡ seats.Binder }
+    requires { IsBuiltKind role.now.kind }
     ensures { IfOk result (λ first. IsDecision role.now no_memory (all_objects caches.now) key.now first) }
 {
-    let _ = role;
-    first_of_binder(alloc, caches, key)
+    match role.kind {
+        SeatKind::Binder => first_of_binder(alloc, caches, key),
+        SeatKind::ClaimProtect => first_of_claims(alloc, caches, key),
+        SeatKind::VolumeProtect => first_of_volumes(alloc, caches, key),
+        SeatKind::User | SeatKind::Ops | SeatKind::Scheduler | SeatKind::Agent => Ok(First::Drops),
+    }
 }
 
 /// The waiting keys are decided, the oldest first, until one gives a call or none is left.
@@ -47,7 +52,7 @@ pub(crate) fn decide_keys(
     caches: &Caches,
     queue: &mut Queue,
 ) -> Result<Option<Under>, OutOfMemory>
-    requires { role.now.kind ≡ seats.Binder }
+    requires { IsBuiltKind role.now.kind }
     ensures { IfOk result (λ under. Decides role.now no_memory (all_objects caches.now) queue.new under queue.old) }
 {
     loop {

@@ -3,7 +3,8 @@
 //! `actor::Actor` gives one call at a time and takes what came of it. Promises: each call is licensed by the entries of
 //! the actor's seat; an actor is idle only where no kind that it follows has news; the next call, an answer, a loss and a
 //! wake are exactly those of `specs/Turns` and `specs/Absorbs`; no key stops waiting undecided. Those are clauses of its
-//! methods, and `laws` has what follows from the definitions alone. The binder is the only kind that is built.
+//! methods, and `laws` has what follows from the definitions alone. The kinds that are built are the binder,
+//! claim protection and volume protection.
 //! Not said: that a call is ever answered, or that any key is ever decided.
 #![tactic(auto)]
 

@@ -1,5 +1,5 @@
 -- What follows from how an actor was run.
-use Rattle.std.proofs.Common.{◌≡◌, ◌∙◌, ◌+◌, ◌-◌, ◌≤◌, ◌<◌, ℕ, List, [], ◌∷◌, Bool, true, false, true≢false, Option, Some, None, refl, sym, ap, subst, inl, inr, arith, if◌then◌else◌, Result, Ok, Err, IfOk}
+use Rattle.std.proofs.Common.{◌≡◌, ◌∙◌, ◌+◌, ◌-◌, ◌≤◌, ◌<◌, ℕ, List, [], ◌∷◌, Bool, true, false, true≢false, Option, Some, None, refl, sym, ap, subst, inl, inr, arith, Result, Ok, Err, IfOk}
 use Rattle.kube_types.specs.declared.parts.Kind.{Kind}
 use Rattle.call_types.specs.declared.entry.Entry.{Entry}
 use Rattle.call_types.specs.declared.reply.Reply.{Reply}
@@ -20,7 +20,8 @@ use Rattle.worker_core.specs.declared.turn.Next.{Next}
 use Rattle.worker_core.specs.declared.turn.Next.TheVariants.{Idle}
 use Rattle.worker_core.specs.declared.turn.Outcome.TheVariants.{Told}
 use Rattle.worker_core.specs.Absorbs.{absorbed, given_told, learned, task_told}
-use Rattle.worker_core.specs.Memories.{Memory, memory_after, memory_of, no_memory, remembers}
+use Rattle.worker_core.specs.Memories.{Memory}
+use Rattle.worker_core.specs.Roles.{IsBuiltKind}
 use Rattle.worker_core.specs.Rules.{WokenIsBusy}
 use Rattle.worker_core.specs.Stands.{AreOwn, MayBeIdle, StandsFor}
 use Rattle.worker_core.specs.States.{State, asked, start_call}
@@ -126,19 +127,6 @@ pub entry_told : (seat : ℕ) (kind : SeatKind) (given : State) (request : Reque
     → past ≡ (record { seat = seat; kind = kind; request = request; reply = reply; told = true }) ∷ h → past ≡ told_entry seat given request reply ∷ h
 entry_told seat kind given request reply h past same is = is ∙ ap (λ (k : SeatKind). (record { seat = seat; kind = k; request = request; reply = reply; told = true }) ∷ h) same
 
--- a binder is never told that its epoch is stale
-
-binder_forgets : (role : Role) → role.kind ≡ seats.Binder → (mine : List Entry) → memory_of role mine ≡ no_memory
-binder_forgets role binder [] = refl
-binder_forgets role binder (e ∷ mine) = by e.told (binder_forgets role binder mine)
-  where
-    by : (told : Bool) → memory_of role mine ≡ no_memory → (if told then memory_after role e.request e.reply (memory_of role mine) else memory_of role mine) ≡ no_memory
-    by true rest = ap (λ kind. remembers kind role.node e.request e.reply (memory_of role mine)) binder ∙ rest
-    by false rest = rest
-
-pub binder_fresh : (s : State) (mine : List Entry) → s.role.kind ≡ seats.Binder → StandsFor s mine → s.memory.stale ≡ false
-binder_fresh s mine binder stands = ap (λ (m : Memory). m.stale) (stands.memory ∙ binder_forgets s.role binder mine)
-
 -- a call that was made and told
 pub stands_on : (given after : State) (setup : Setup) (h past : List Entry) (seat : ℕ) (e : Entry) → past ≡ e ∷ h → e.seat ≡ seat → IsHistory setup past
     → ((mine : List Entry) → AreOwn (e ∷ mine) → StandsFor given mine → StandsFor after (e ∷ mine))
@@ -154,9 +142,15 @@ pub ran_busy : {E : Type 0} (seat : ℕ) (after s : State) (past h : List Entry)
 ran_busy seat after s past h b (Ok ran) runs busy fresh = run_busy seat after past ran.left ran.idle s h b runs busy fresh
 ran_busy seat after s past h b (Err e) runs busy fresh = tt
 
--- a call that a binder gave is one more of an actor
-pub by_actor : (given : State) (h past : List Entry) (e : Entry) → past ≡ e ∷ h → given.role.kind ≡ seats.Binder → e.kind ≡ given.role.kind → StandsFor given (own e.seat h) → asked given ≡ Some e.request → AreByActors h → AreByActors past
-by_actor given h past e is binder kind stands asks before = subst AreByActors (sym is) (before, by e.kind (kind ∙ binder))
+-- a call that an actor gave is one more of an actor
+pub by_actor : (given : State) (h past : List Entry) (e : Entry) → past ≡ e ∷ h → IsBuiltKind given.role.kind → e.kind ≡ given.role.kind → StandsFor given (own e.seat h) → asked given ≡ Some e.request → AreByActors h → AreByActors past
+by_actor given h past e is built kind stands asks before = subst AreByActors (sym is) (before, by e.kind (sym kind) (subst IsBuiltKind (sym kind) built))
   where
-    by : (k : SeatKind) → k ≡ seats.Binder → IsByActor k (own e.seat h) e.request
-    by k same = subst (λ (x : SeatKind). IsByActor x (own e.seat h) e.request) (sym same) (record { actor = given; binder = binder; stands = stands; asks = asks })
+    by : (k : SeatKind) → given.role.kind ≡ k → IsBuiltKind k → IsByActor k (own e.seat h) e.request
+    by seats.Binder same built = record { actor = given; binder = same; stands = stands; asks = asks }
+    by seats.ClaimProtect same built = tt
+    by seats.VolumeProtect same built = tt
+    by seats.User same built = absurd built
+    by seats.Ops same built = absurd built
+    by seats.Scheduler same built = absurd built
+    by seats.Agent same built = absurd built

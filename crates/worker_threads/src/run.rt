@@ -4,8 +4,8 @@ ghost use Rattle.std.specs.Prelude.{◌≡◌, ◌≤◌, ◌<◌, ◌-◌, true
 ghost use Rattle.binder_model.specs.Licence.{Licensed};
 ghost use Rattle.binder_model.specs.Told.{own};
 ghost use Rattle.binder_model.specs.World.{IsHistory};
+ghost use Rattle.worker_core.specs.Roles.{IsBuiltKind};
 ghost use Rattle.worker_core.specs.Stands.{MayBeIdle, StandsFor};
-ghost use Rattle.call_types.specs.declared.request.SeatKind.TheVariants as seats;
 ghost use Rattle.fitting_calls.specs.Calls.{AreByActors};
 ghost use Rattle.worker_threads.specs.Longer.{IsLonger, HasGrown};
 ghost use Rattle.worker_threads.specs.Rounds.{Runs};
@@ -33,7 +33,7 @@ pub(crate) fn run(
     budget: u64,
 ) -> Result<Ran, OutOfMemory>
     requires kind { kind ≡ actor.old.role.kind }
-    requires binder { kind ≡ seats.Binder }
+    requires built { IsBuiltKind kind }
     requires stands { StandsFor actor.old (own seat world.old.past) }
     ensures runs { IfOk result (λ ran. Runs seat actor.new world.new.past ran.left ran.idle actor.old world.old.past budget) }
     ensures stands { OnOk result (StandsFor actor.new (own seat world.new.past)) }

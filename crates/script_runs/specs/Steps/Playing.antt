@@ -22,6 +22,7 @@ pub record StandsSince (s : State) (earlier mine : List Entry) : Type 0 where
 
 -- the actor of a part that turns name, at the seat of its life; later lives have no entries yet
 pub record Plays (p : Player) (past : List Entry) (idle : ℕ → List Entry) : Type 0 where
+  pub kind : p.actor.role.kind ≡ p.part.kind
   pub first : p.part.first ≤ p.seat
   pub reached : p.seat ≤ seat_at p.part (p.made + 1)
   pub since : StandsSince p.actor (idle p.seat) (own p.seat past)
@@ -35,6 +36,7 @@ pub record IsSmall (p : Player) : Type 0 where
 -- one call was made at the seat
 pub record HasCalled (seat : ℕ) (fate_is : List Entry → List Entry → Type 0) (before after : History) (old new : State) : Type 0 where
   pub call : fate_is before.past after.past
+  pub role : new.role ≡ old.role
   pub since : (earlier : List Entry) → StandsSince old earlier (own seat before.past) → StandsSince new earlier (own seat after.past)
   pub others : (other : ℕ) → other ≢ seat → own other after.past ≡ own other before.past
 
@@ -103,5 +105,6 @@ EachPlayer Q players = (place : ℕ) (x : Player) → slice_get players place �
 pub record IsNewPlayer (x : Player) : Type 0 where
   pub seat : x.seat ≡ x.part.first
   pub made : x.made ≡ 0
+  pub kind : x.actor.role.kind ≡ x.part.kind
   pub new : IsNew binder_role x.actor
   pub stands : StandsFor x.actor []

@@ -1,4 +1,5 @@
-use Rattle.std.proofs.Common.{◌∙◌, sym}
+use Rattle.std.proofs.Common.{subst}
+use Rattle.worker_core.specs.Roles.{IsBuiltKind}
 use Rattle.worker_threads.proofs.RunFacts.{by_actor}
 use Rattle.script_runs.proofs.Calling.{told_called, told_goes}
 use Rattle.script_runs.proofs.call.make_told.Goals as goal
@@ -6,11 +7,11 @@ use Rattle.script_runs.proofs.call.make_told.Goals as goal
 pub returns-clause-called : goal.returns-clause-called
 returns-clause-called c =
     told_called c.args.seat c.args.world.now c.call.new.self c.args.actor.now c.absorb.new.self c.args.kind c.args.request.now c.in_ok-reply.reply c.requires.kind c.have_history.ensures
-    (sym c.kind-built.ensures.kind ∙ c.kind-built.ensures.built) c.requires.asked c.in_ok-reply.ensures.entry c.in_ok-absorb.ensures.state c.in_ok-absorb.ensures.told
+    (subst IsBuiltKind c.kind-built.ensures.kind c.kind-built.ensures.built) c.requires.asked c.in_ok-reply.ensures.entry c.in_ok-absorb.ensures.state c.in_ok-absorb.ensures.told
 
 pub returns-clause-actors : goal.returns-clause-actors
 returns-clause-actors c = λ stands before.
-    by_actor c.args.actor.now c.args.world.now.past c.call.new.self.past _ c.in_ok-reply.ensures.entry (sym c.kind-built.ensures.kind ∙ c.kind-built.ensures.built) c.requires.kind stands c.requires.asked before
+    by_actor c.args.actor.now c.args.world.now.past c.call.new.self.past _ c.in_ok-reply.ensures.entry (subst IsBuiltKind c.kind-built.ensures.kind c.kind-built.ensures.built) c.requires.kind stands c.requires.asked before
 
 pub returns-clause-goes : goal.returns-clause-goes
 returns-clause-goes c =

@@ -1,4 +1,5 @@
-use Rattle.std.proofs.Common.{◌∙◌, sym}
+use Rattle.std.proofs.Common.{subst}
+use Rattle.worker_core.specs.Roles.{IsBuiltKind}
 use Rattle.worker_threads.proofs.RunFacts.{by_actor}
 use Rattle.script_runs.proofs.Calling.{untold_called, untold_goes}
 use Rattle.script_runs.proofs.call.make_untold.Goals as goal
@@ -10,7 +11,7 @@ returns-clause-called c =
 
 pub returns-clause-actors : goal.returns-clause-actors
 returns-clause-actors c = λ stands before.
-    by_actor c.args.actor.now c.args.world.now.past c.call.new.self.past _ c.in_ok-_reply.ensures.entry (sym c.kind-built.ensures.kind ∙ c.kind-built.ensures.built) c.requires.kind stands c.requires.asked before
+    by_actor c.args.actor.now c.args.world.now.past c.call.new.self.past _ c.in_ok-_reply.ensures.entry (subst IsBuiltKind c.kind-built.ensures.kind c.kind-built.ensures.built) c.requires.kind stands c.requires.asked before
 
 pub returns-clause-goes : goal.returns-clause-goes
 returns-clause-goes c =

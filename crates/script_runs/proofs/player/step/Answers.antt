@@ -5,11 +5,14 @@ use Rattle.binder_model.specs.Told.{own}
 use Rattle.script_parts.specs.declared.loss.Loss.{Loss}
 use Rattle.script_parts.specs.Fates.{fate_of}
 use Rattle.worker_core.specs.declared.turn.Next.{Next}
+use Rattle.worker_core.specs.declared.role.Role.{Role}
+use Rattle.worker_core.specs.Roles.{IsBuiltKind}
 use Rattle.worker_core.specs.Stands.{IsLicensedAnswer}
 use Rattle.worker_core.specs.Turns.{IsTurn}
 use Rattle.script_parts.specs.declared.part.Part.{Part}
 use Rattle.script_runs.specs.Calls.{seat_at}
 use Rattle.script_runs.proofs.Lived.{idle_lives, made_lives}
+use Rattle.worker_core.proofs.Answered.{turn_role}
 use Rattle.script_runs.proofs.Stepping.{one_made, still}
 use Rattle.script_runs.proofs.player.step.Goals as goal
 
@@ -17,8 +20,8 @@ pub returns-in-Idle-clause-stepped : goal.returns-in-Idle-clause-stepped
 returns-in-Idle-clause-stepped c = λ idle plays.
     let mid = c.begin_life.new.player in
     still c.args.player.now mid (record mid { actor = c.next.new.self }) c.args.world.now.past idle
-    (record { part = c.begin_life.ensures.part; made = c.begin_life.ensures.made; seat = c.begin_life.ensures.seat }) (record { part = refl; seat = refl }) refl c.requires.binder
-    (sym c.kind-kind.ensures.kind ∙ c.kind-kind.ensures.built)
+    (record { part = c.begin_life.ensures.part; made = c.begin_life.ensures.made; seat = c.begin_life.ensures.seat }) (record { part = refl; seat = refl }) refl
+    (subst IsBuiltKind c.kind-kind.ensures.kind c.kind-kind.ensures.built)
     (subst (λ (a : Next). IsTurn mid.actor c.next.new.self a) c.in-Idle.is c.in_ok-answer.ensures.turn) c.in_ok-answer.ensures.stands
     (c.begin_life.ensures.plays c.args.world.now.past idle c.requires.named plays)
 
@@ -29,7 +32,7 @@ make-requires-clause-licensed c =
     let some = c.requires.plays in
     let mine = own mid.seat past in
     let plays = c.begin_life.ensures.plays past some.idle c.requires.named some.plays in
-    let kind : mid.actor.role.kind ≡ c.kind-kind-2.result = sym c.kind-kind.ensures.kind ∙ c.kind-kind.ensures.built ∙ sym c.kind-kind-2.ensures.built in
+    let kind : mid.actor.role.kind ≡ c.kind-kind-2.result = sym (c.kind-kind-2.ensures.kind ∙ ap (λ (r : Role). r.kind) (turn_role mid.actor c.next.new.self c.in_ok-answer.answer c.in_ok-answer.ensures.turn)) in
     subst (λ (k : SeatKind). Licensed k mine c.in-Call.request) kind
     (subst (λ (a : Next). IsLicensedAnswer mid.actor.role.kind mine a) c.in-Call.is (c.in_ok-answer.ensures.licensed mine plays.since.stands))
 
@@ -38,7 +41,7 @@ returns-clause-stepped c = λ idle plays.
     let mid = c.begin_life.new.player in
     one_made c.args.player.now mid (record mid { made = mid.made + 1; actor = c.make.new.actor }) c.next.new.self c.in_ok-answer.answer c.args.world.now c.make.new.world idle c.fate_of-fate.result c.kind-kind-2.result
     c.requires.named (record { part = c.begin_life.ensures.part; made = c.begin_life.ensures.made; seat = c.begin_life.ensures.seat }) (record { part = refl; seat = refl }) refl
-    (c.kind-kind-2.ensures.built ∙ sym c.requires.binder)
+    (c.kind-kind-2.ensures.kind ∙ ap (λ (r : Role). r.kind) (turn_role mid.actor c.next.new.self c.in_ok-answer.answer c.in_ok-answer.ensures.turn))
     (c.fate_of-fate.ensures ∙ ap (λ (losses : List Loss). fate_of losses (mid.made + 1)) c.as_slice.ensures)
     c.in_ok-answer.ensures.turn c.in_ok-answer.ensures.stands c.in_ok-make-in-Call.ensures.called
     (c.begin_life.ensures.plays c.args.world.now.past idle c.requires.named plays)

@@ -2,6 +2,7 @@ use Rattle.std.proofs.Common.{◌∙◌, ◌+◌, ◌<◌, ◌^◌, ap, refl, su
 use Rattle.call_types.specs.declared.entry.Entry.{Entry}
 use Rattle.script_parts.specs.declared.part.Part.{Part}
 use Rattle.script_runs.specs.Steps.Living.{HasLived}
+use Rattle.worker_core.specs.States.{State}
 use Rattle.script_runs.specs.Steps.Playing.{HasStepped, Plays}
 use Rattle.script_runs.proofs.Lived.{woken_lives}
 use Rattle.script_runs.proofs.Since.{woken_since}
@@ -23,9 +24,6 @@ loop-made-init c = record {
 pub step-requires-clause-named : goal.step-requires-clause-named
 step-requires-clause-named c = ap (λ (p : Part). p.named) c.loop-made.invariant.part ∙ c.requires.named
 
-pub step-requires-clause-binder : goal.step-requires-clause-binder
-step-requires-clause-binder c = ap (λ (p : Part). p.kind) c.loop-made.invariant.part ∙ c.requires.binder
-
 pub step-requires-clause-small : goal.step-requires-clause-small
 step-requires-clause-small c =
     let i = c.loop-made.invariant in
@@ -46,7 +44,7 @@ returns-then-not-branch-clause-turned c = λ idle plays.
     let h = c.loop-made.world.past in
     let after = c.step.new.world.past in
     turned_few c.loop-made.made c.args.calls idle c.args.world.now.past h after c.args.player.now old mid (record mid { actor = c.wake.new.self }) c.loop-made-test.true i.part i.count gone
-    (subst (λ (b : Bool). HasStepped idle h after old mid b) c.if-not-branch.true (c.in_ok-step.ensures.stepped idle gone.plays)) refl refl refl c.step.ensures.part
+    (subst (λ (b : Bool). HasStepped idle h after old mid b) c.if-not-branch.true (c.in_ok-step.ensures.stepped idle gone.plays)) refl refl refl c.step.ensures.part (ap (λ (x : State). x.role) c.in_ok-wake.ensures.state)
     (λ mine stands. woken_since mid.actor c.wake.new.self mine c.in_ok-wake.ensures.state (c.in_ok-wake.ensures.stands mine stands))
 
 pub loop-made-preserved : goal.loop-made-preserved

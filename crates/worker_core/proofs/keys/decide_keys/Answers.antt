@@ -33,4 +33,4 @@ loop-key-smaller c =
       | in-Queues+in_ok-add-in-Queues w ↦ queues c.args.role.now no_memory (all_objects c.args.caches.now) c.loop-key.queue _ _ _ _ _ _ c.in_ok-take.ensures.oldest c.in-Some.is c.in_ok-take.ensures.after c.in_ok-first_for.ensures w.queue-is _ _ w.in-Queues.is w.in_ok-add-in-Queues.ensures.ok w.done-in-Queues.ensures
       | in-Begins+in_ok-next-in-Begins+in-None-2 w ↦ gives_none c.args.role.now no_memory (all_objects c.args.caches.now) c.loop-key.queue _ _ _ _ _ _ c.in_ok-take.ensures.oldest c.in-Some.is c.in_ok-take.ensures.after c.in_ok-first_for.ensures w.queue-is _ _ w.in-Begins.is w.in_ok-next-in-Begins.ensures w.in-None-2.is w.done-in-None-2.ensures
     ] in
-    less_by c.args.role.now no_memory (all_objects c.args.caches.now) c.loop-key.queue c.match-branch-4.queue c.requires c.len.ensures.once step
+    less_by c.args.role.now no_memory (all_objects c.args.caches.now) c.loop-key.queue c.match-branch-4.queue c.len.ensures.once step

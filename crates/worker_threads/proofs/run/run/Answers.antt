@@ -2,6 +2,7 @@ use Rattle.std.proofs.Common.{◌≡◌, ◌∙◌, ◌-◌, ap, sym, subst, ref
 use Rattle.call_types.specs.declared.entry.Entry.{Entry}
 use Rattle.binder_model.specs.Told.{own}
 use Rattle.worker_core.specs.declared.turn.Next.{Next}
+use Rattle.worker_core.specs.Roles.{IsBuiltKind}
 use Rattle.worker_core.specs.States.{call_in}
 use Rattle.worker_core.specs.Turns.{IsTurn}
 use Rattle.worker_threads.specs.Rounds.{Asks, IsIdle, IsSpent, Runs, told_entry}
@@ -30,7 +31,7 @@ returns-in_err-absorb-in-Call-clause-actors c = λ before.
     let h = c.loop-left.world.past in
     let kinds = turn_kind c.args.kind s given _ i.kind c.in_ok-next.ensures.turn in
     let entry = entry_told c.args.seat c.args.kind given c.in-Call.request c.in_ok-reply-in-Call.reply h c.ask.new.world.past kinds c.in_ok-reply-in-Call.ensures.entry in
-    by_actor given h c.ask.new.world.past (told_entry c.args.seat given c.in-Call.request c.in_ok-reply-in-Call.reply) entry (sym kinds ∙ c.requires.binder) refl (c.in_ok-next.ensures.stands (own c.args.seat h) i.stands) (sym c.in_ok-next.ensures.asked ∙ ap call_in c.in-Call.is) (i.actors before)
+    by_actor given h c.ask.new.world.past (told_entry c.args.seat given c.in-Call.request c.in_ok-reply-in-Call.reply) entry (subst IsBuiltKind kinds c.requires.built) refl (c.in_ok-next.ensures.stands (own c.args.seat h) i.stands) (sym c.in_ok-next.ensures.asked ∙ ap call_in c.in-Call.is) (i.actors before)
 
 pub loop-left-preserved-in_ok-absorb-in-Call : goal.loop-left-preserved-in_ok-absorb-in-Call
 loop-left-preserved-in_ok-absorb-in-Call c =
@@ -57,7 +58,7 @@ loop-left-preserved-in_ok-absorb-in-Call c =
       history = c.in_ok-reply-in-Call.ensures.history;
       setup = c.ask.ensures.setup ∙ i.setup;
       grown = grown_more c.args.seat _ h new e i.grown entry refl refl;
-      actors = λ before. by_actor given h new e entry (sym kinds.0 ∙ c.requires.binder) refl (c.in_ok-next.ensures.stands mine i.stands) (sym c.in_ok-next.ensures.asked ∙ ap call_in c.in-Call.is) (i.actors before);
+      actors = λ before. by_actor given h new e entry (subst IsBuiltKind kinds.0 c.requires.built) refl (c.in_ok-next.ensures.stands mine i.stands) (sym c.in_ok-next.ensures.asked ∙ ap call_in c.in-Call.is) (i.actors before);
     }
 
 pub returns-clause-runs : goal.returns-clause-runs

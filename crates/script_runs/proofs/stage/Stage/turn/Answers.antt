@@ -1,5 +1,5 @@
 use Rattle.std.proofs.Common.{refl, arith}
-use Rattle.script_runs.proofs.Needs.{it_plays, its_kind, its_name, its_seats, made_after, place_within, player_there, turn_made}
+use Rattle.script_runs.proofs.Needs.{it_plays, its_name, its_seats, made_after, place_within, player_there, turn_made}
 use Rattle.script_runs.proofs.stage.Stage.turn.Goals as goal
 
 pub index_mut-requires : goal.index_mut-requires
@@ -13,13 +13,6 @@ turn-requires-clause-named c =
     let x = c.index_mut.result.now in
     let at = player_there c.args.script.now c.args.option c.args.actor.now s c.requires.built c.requires.stands c.place_of-place.result x c.place_of-place.ensures c.index_mut.ensures.value in
     its_name c.args.script.now c.args.option c.args.actor.now s c.requires.built c.requires.stands x at c.requires.named
-
-pub turn-requires-clause-binder : goal.turn-requires-clause-binder
-turn-requires-clause-binder c =
-    let s = c.args.self.now in
-    let x = c.index_mut.result.now in
-    let at = player_there c.args.script.now c.args.option c.args.actor.now s c.requires.built c.requires.stands c.place_of-place.result x c.place_of-place.ensures c.index_mut.ensures.value in
-    its_kind c.args.script.now c.args.option c.args.actor.now s c.requires.built c.requires.stands x at
 
 pub turn-requires-clause-seats : goal.turn-requires-clause-seats
 turn-requires-clause-seats c =

@@ -10,7 +10,7 @@ pub returns-clause-licensed : goal.returns-clause-licensed
 returns-clause-licensed c = λ mine stands. answer_licensed _ _ _ mine c.stand.ensures.built c.stand.ensures.order stands c.in_ok-answer.ensures
 
 pub returns-clause-idle : goal.returns-clause-idle
-returns-clause-idle c = λ mine stands. idle_quiet _ _ _ mine c.stand.ensures.built stands c.in_ok-answer.ensures
+returns-clause-idle c = λ mine stands. idle_quiet _ _ _ mine stands c.in_ok-answer.ensures
 
 pub returns-clause-keys : goal.returns-clause-keys
 returns-clause-keys c = turns_keep_keys _ _ _ c.in_ok-answer.ensures

@@ -1,0 +1,171 @@
+-- What holds by the kind of the actor: its start, what it remembers, the kinds that it follows, and the row of its licence.
+use Rattle.std.proofs.Common.{◌≡◌, ◌≢◌, ℕ, ◌<◌, List, [], ◌∷◌, length, Bool, true, false, true≢false, Option, Some, None, refl, sym, ◌∙◌, ap, subst, arith, if◌then◌else◌}
+use Rattle.std.specs.Prelude.{slice_get}
+use Rattle.kube_types.specs.declared.parts.Kind.{Kind}
+use Rattle.kube_types.specs.declared.parts.Kind.TheVariants as kinds
+use Rattle.call_types.specs.declared.entry.Entry.{Entry}
+use Rattle.call_types.specs.declared.request.Request.{Request}
+use Rattle.call_types.specs.declared.request.Request.TheVariants as requests
+use Rattle.call_types.specs.declared.request.SeatKind.{SeatKind}
+use Rattle.call_types.specs.declared.request.SeatKind.TheVariants as seats
+use Rattle.call_types.specs.declared.reply.Reply.{Reply}
+use Rattle.binder_machines.specs.KindLaw.{reads_kind}
+use Rattle.binder_model.specs.Licence.{AreOfKind, Licensed, RowAllows}
+use Rattle.binder_model.specs.Reading.{IsFrom, MayRead, following_of, follows}
+use Rattle.informer_cache.specs.declared.cache.Ask.{Ask}
+use Rattle.informer_cache.specs.declared.cache.Ask.TheVariants as asks
+use Rattle.model_laws.proofs.Lists.{none_some, one}
+use Rattle.worker_core.specs.declared.role.Role.{Role}
+use Rattle.worker_core.specs.Memories.{Memory, memory_after, memory_of, no_memory, remembers}
+use Rattle.worker_core.specs.Roles.{IsBuiltKind, kinds_of}
+use Rattle.worker_core.specs.Stands.{StandsFor}
+use Rattle.worker_core.specs.States.{State, agent_start, read_request, start_of}
+
+-- a user is no actor
+pub no_user : (kind : SeatKind) → IsBuiltKind kind → kind ≢ seats.User
+no_user kind built is = subst IsBuiltKind is built
+
+-- the start
+
+-- a call of the start that is to be made is allowed. No kind that is built has one
+pub start_allowed : (kind : SeatKind) (node : List ℕ) (m : Memory) (mine : List Entry) (r : Request) → IsBuiltKind kind → start_of kind node m ≡ Some r → RowAllows kind mine r
+start_allowed seats.Binder node m mine r built e = none_some e
+start_allowed seats.ClaimProtect node m mine r built e = none_some e
+start_allowed seats.VolumeProtect node m mine r built e = none_some e
+start_allowed seats.User node m mine r built e = absurd built
+start_allowed seats.Ops node m mine r built e = absurd built
+start_allowed seats.Scheduler node m mine r built e = absurd built
+start_allowed seats.Agent node m mine r built e = absurd built
+
+agent_reads_none : (node : List ℕ) (epoch : Option ℕ) (told : Bool) (r : Request) (k : Kind) → agent_start node epoch told ≡ Some r → reads_kind k r ≡ false
+agent_reads_none node None told r k e = ap (reads_kind k) (sym (one _ r e))
+agent_reads_none node (Some epoch) false r k e = ap (reads_kind k) (sym (one _ r e))
+agent_reads_none node (Some epoch) true r k e = none_some e
+
+-- no call of the start reads a whole kind
+pub start_reads_none : (kind : SeatKind) (node : List ℕ) (m : Memory) (r : Request) (k : Kind) → start_of kind node m ≡ Some r → reads_kind k r ≡ false
+start_reads_none seats.Agent node m r k e = agent_reads_none node m.epoch _ r k e
+start_reads_none seats.Binder node m r k e = none_some e
+start_reads_none seats.ClaimProtect node m r k e = none_some e
+start_reads_none seats.VolumeProtect node m r k e = none_some e
+start_reads_none seats.User node m r k e = none_some e
+start_reads_none seats.Ops node m r k e = none_some e
+start_reads_none seats.Scheduler node m r k e = none_some e
+
+-- what the kinds that are built remember
+
+pub starts_fresh : (kind : SeatKind) (node : List ℕ) → IsBuiltKind kind → start_of kind node no_memory ≡ None
+starts_fresh seats.Binder node built = refl
+starts_fresh seats.ClaimProtect node built = refl
+starts_fresh seats.VolumeProtect node built = refl
+starts_fresh seats.User node built = absurd built
+starts_fresh seats.Ops node built = absurd built
+starts_fresh seats.Scheduler node built = absurd built
+starts_fresh seats.Agent node built = absurd built
+
+pub learns_nothing : (kind : SeatKind) (node : List ℕ) (request : Request) (reply : Reply) (m : Memory) → IsBuiltKind kind → remembers kind node request reply m ≡ m
+learns_nothing seats.Binder node request reply m built = refl
+learns_nothing seats.ClaimProtect node request reply m built = refl
+learns_nothing seats.VolumeProtect node request reply m built = refl
+learns_nothing seats.User node request reply m built = absurd built
+learns_nothing seats.Ops node request reply m built = absurd built
+learns_nothing seats.Scheduler node request reply m built = absurd built
+learns_nothing seats.Agent node request reply m built = absurd built
+
+forgets : (role : Role) (mine : List Entry) → IsBuiltKind role.kind → memory_of role mine ≡ no_memory
+forgets role [] built = refl
+forgets role (e ∷ mine) built = by e.told (forgets role mine built)
+  where
+    by : (told : Bool) → memory_of role mine ≡ no_memory → (if told then memory_after role e.request e.reply (memory_of role mine) else memory_of role mine) ≡ no_memory
+    by true rest = learns_nothing role.kind role.node e.request e.reply (memory_of role mine) built ∙ rest
+    by false rest = rest
+
+-- such an actor is never told that its epoch is stale
+pub built_fresh : (s : State) (mine : List Entry) → IsBuiltKind s.role.kind → StandsFor s mine → s.memory.stale ≡ false
+built_fresh s mine built stands = ap (λ (m : Memory). m.stale) (stands.memory ∙ forgets s.role mine built)
+
+-- the licence
+
+pub licensed_by : (kind : SeatKind) (mine : List Entry) (r : Request) → AreOfKind kind mine → RowAllows kind mine r → Licensed kind mine r
+licensed_by seats.User mine r own row = tt
+licensed_by seats.Binder mine r own row = (own, row)
+licensed_by seats.Ops mine r own row = (own, row)
+licensed_by seats.Scheduler mine r own row = (own, row)
+licensed_by seats.ClaimProtect mine r own row = (own, row)
+licensed_by seats.VolumeProtect mine r own row = (own, row)
+licensed_by seats.Agent mine r own row = (own, row)
+
+-- the row of a read
+pub read_row : (kind : SeatKind) (mine : List Entry) (k : Kind) (ask : Ask) → MayRead kind mine (read_request k ask) → RowAllows kind mine (read_request k ask)
+read_row seats.User mine k ask may = tt
+read_row seats.Binder mine k asks.List may = may
+read_row seats.Binder mine k (asks.Watch from) may = may
+read_row seats.Ops mine k asks.List may = may
+read_row seats.Ops mine k (asks.Watch from) may = may
+read_row seats.Scheduler mine k asks.List may = may
+read_row seats.Scheduler mine k (asks.Watch from) may = may
+read_row seats.ClaimProtect mine k asks.List may = may
+read_row seats.ClaimProtect mine k (asks.Watch from) may = may
+read_row seats.VolumeProtect mine k asks.List may = may
+read_row seats.VolumeProtect mine k (asks.Watch from) may = may
+read_row seats.Agent mine k asks.List may = may
+read_row seats.Agent mine k (asks.Watch from) may = may
+
+-- a watch that is allowed is from a version that the seat reached
+pub watch_row : (kind : SeatKind) (mine : List Entry) (k : Kind) (from : ℕ) → IsBuiltKind kind → RowAllows kind mine (requests.Watch k from) → IsFrom from (following_of mine k)
+watch_row seats.Binder mine k from built row = row.1
+watch_row seats.ClaimProtect mine k from built row = row.1
+watch_row seats.VolumeProtect mine k from built row = row.1
+watch_row seats.User mine k from built row = absurd built
+watch_row seats.Ops mine k from built row = absurd built
+watch_row seats.Scheduler mine k from built row = absurd built
+watch_row seats.Agent mine k from built row = absurd built
+
+pub watch_licensed : (kind : SeatKind) (mine : List Entry) (k : Kind) (from : ℕ) → IsBuiltKind kind → Licensed kind mine (requests.Watch k from) → IsFrom from (following_of mine k)
+watch_licensed seats.Binder mine k from built l = l.1.1
+watch_licensed seats.ClaimProtect mine k from built l = l.1.1
+watch_licensed seats.VolumeProtect mine k from built l = l.1.1
+watch_licensed seats.User mine k from built l = absurd built
+watch_licensed seats.Ops mine k from built l = absurd built
+watch_licensed seats.Scheduler mine k from built l = absurd built
+watch_licensed seats.Agent mine k from built l = absurd built
+
+-- each kind that is followed has its place in a pass
+
+pub record IsPlaced (kind : SeatKind) (k : Kind) : Type 0 where
+  pub place : ℕ
+  pub within : place < length (kinds_of kind)
+  pub at : slice_get (kinds_of kind) place ≡ Some k
+
+pub placed : (kind : SeatKind) (k : Kind) → follows kind k ≡ true → IsPlaced kind k
+placed seats.Binder kinds.PersistentVolume f = record { place = 0; within = omega arith; at = refl }
+placed seats.Binder kinds.PersistentVolumeClaim f = record { place = 1; within = omega arith; at = refl }
+placed seats.Binder kinds.StorageClass f = record { place = 2; within = omega arith; at = refl }
+placed seats.Binder kinds.Node f = absurd (true≢false (sym f))
+placed seats.Binder kinds.Pod f = absurd (true≢false (sym f))
+placed seats.Ops kinds.PersistentVolume f = record { place = 0; within = omega arith; at = refl }
+placed seats.Ops kinds.PersistentVolumeClaim f = record { place = 1; within = omega arith; at = refl }
+placed seats.Ops kinds.StorageClass f = record { place = 2; within = omega arith; at = refl }
+placed seats.Ops kinds.Node f = record { place = 3; within = omega arith; at = refl }
+placed seats.Ops kinds.Pod f = absurd (true≢false (sym f))
+placed seats.Scheduler kinds.PersistentVolume f = record { place = 0; within = omega arith; at = refl }
+placed seats.Scheduler kinds.PersistentVolumeClaim f = record { place = 1; within = omega arith; at = refl }
+placed seats.Scheduler kinds.StorageClass f = record { place = 2; within = omega arith; at = refl }
+placed seats.Scheduler kinds.Node f = record { place = 3; within = omega arith; at = refl }
+placed seats.Scheduler kinds.Pod f = record { place = 4; within = omega arith; at = refl }
+placed seats.ClaimProtect kinds.PersistentVolumeClaim f = record { place = 0; within = omega arith; at = refl }
+placed seats.ClaimProtect kinds.Pod f = record { place = 1; within = omega arith; at = refl }
+placed seats.ClaimProtect kinds.PersistentVolume f = absurd (true≢false (sym f))
+placed seats.ClaimProtect kinds.StorageClass f = absurd (true≢false (sym f))
+placed seats.ClaimProtect kinds.Node f = absurd (true≢false (sym f))
+placed seats.VolumeProtect kinds.PersistentVolume f = record { place = 0; within = omega arith; at = refl }
+placed seats.VolumeProtect kinds.PersistentVolumeClaim f = absurd (true≢false (sym f))
+placed seats.VolumeProtect kinds.StorageClass f = absurd (true≢false (sym f))
+placed seats.VolumeProtect kinds.Node f = absurd (true≢false (sym f))
+placed seats.VolumeProtect kinds.Pod f = absurd (true≢false (sym f))
+placed seats.Agent kinds.Pod f = record { place = 0; within = omega arith; at = refl }
+placed seats.Agent kinds.PersistentVolume f = absurd (true≢false (sym f))
+placed seats.Agent kinds.PersistentVolumeClaim f = absurd (true≢false (sym f))
+placed seats.Agent kinds.StorageClass f = absurd (true≢false (sym f))
+placed seats.Agent kinds.Node f = absurd (true≢false (sym f))
+placed seats.User k f = absurd (true≢false (sym f))
