@@ -98,6 +98,8 @@ module _ (v : VolumeData) (m : Machine) (request : Request) (asks : call_of m �
   only_ : (rs : List Object) → Shows mine rs → (first : First) → IsDecision binder (memory_of binder mine) rs key_a first → BeginsCall first
   only_ rs shows firsts.Drops d = none_some (ap machine_in (is rs shows binder_firsts.Drops d))
   only_ rs shows (firsts.Queues other) d = none_some (ap machine_in (is rs shows (binder_firsts.Queues other) d))
+  only_ rs shows (firsts.Begins (tasks.ClaimProtect op)) d = absurd d
+  only_ rs shows (firsts.Begins (tasks.VolumeProtect op)) d = absurd d
   only_ rs shows (firsts.Begins (tasks.Binder n)) d = record { task = tasks.Binder n; request = request; begins = refl; call = ap call_of (one n m (ap machine_in (is rs shows (binder_firsts.Begins n) d))) ∙ asks }
 
   showing : Shows mine (rows v)
@@ -281,5 +283,5 @@ played_examples = record {
   a_new_life = λ s new. Begins refl new (begins binder s new);
   not_with_a_watch_before_a_list = λ s played. (licensed s (call watch) played).2.1.1;
   not_with_a_write_of_what_was_not_told = λ s played. (licensed s (call (frees a)) played).2.1.1;
-  not_where_a_due_key_is_left = λ s played. pending_left (played_is_diligent binder s (watched pending_a) refl played);
+  not_where_a_due_key_is_left = λ s played. pending_left (played_is_diligent binder s (watched pending_a) tt played);
 }

@@ -1,5 +1,5 @@
 -- A key that is due has a row, and no decision drops it; and the rules give no watch.
-use Rattle.std.proofs.Common.{◌≡◌, ℕ, List, true, true≢false, Option, Some, None, inl, inr, refl, sym, ◌∙◌, ap, subst}
+use Rattle.std.proofs.Common.{◌≡◌, ◌⊎◌, ℕ, List, true, true≢false, Option, Some, None, inl, inr, refl, sym, ◌∙◌, ap, subst}
 use Rattle.std.specs.Prelude.{map, option_map}
 use Rattle.std.specs.List.{list_any}
 use Rattle.kube_types.specs.declared.key.Key.{Key}
@@ -11,7 +11,8 @@ use Rattle.kube_types.proofs.KeyOrder.{row_at_key}
 use Rattle.call_types.specs.declared.entry.Entry.{Entry}
 use Rattle.call_types.specs.declared.request.Request.{Request}
 use Rattle.call_types.specs.declared.request.Request.TheVariants as requests
-use Rattle.call_types.specs.declared.request.SeatKind.TheVariants.{Binder}
+use Rattle.call_types.specs.declared.request.SeatKind.{SeatKind}
+use Rattle.call_types.specs.declared.request.SeatKind.TheVariants as seats
 use Rattle.informer_cache.specs.Cache.{objects_of}
 use Rattle.informer_cache.specs.All.{AllKnown, AllStandFor, all_objects, cache_of}
 use Rattle.model_laws.proofs.Lists.{IsIn, none_some, one}
@@ -23,11 +24,11 @@ use Rattle.worker_core.specs.declared.task.Under.{Under}
 use Rattle.worker_core.specs.declared.turn.Next.{Next}
 use Rattle.worker_core.specs.declared.turn.Next.TheVariants as nexts
 use Rattle.worker_core.specs.Memories.{memory_of}
-use Rattle.worker_core.specs.Roles.{kinds_of}
+use Rattle.worker_core.specs.Roles.{IsBuiltKind, kinds_of}
 use Rattle.worker_core.specs.Rules.{WasCalled, WasDropped}
 use Rattle.worker_core.specs.Stands.{AnyIsUnderWay, StandsFor}
 use Rattle.worker_core.specs.States.{State, call_under}
-use Rattle.worker_core.specs.Tasks.{GivesCall, IsBinderFirst, IsDecision, IsFirstOf, task_call}
+use Rattle.worker_core.specs.Tasks.{GivesCall, IsDecision, IsFirstOf, task_call}
 use Rattle.worker_core.proofs.Machines.{keeps_under, task_reads_none}
 use Rattle.worker_core.proofs.Quiet.{itself}
 use Rattle.diligent_law.specs.Diligence.{BeginsCall, IsAskedFor, IsDue, Shows}
@@ -40,34 +41,62 @@ task_in first = None
 no_drop : BeginsCall firsts.Drops → ⊥
 no_drop b = none_some (ap task_in b.begins)
 
--- a key that is due has a row of a kind that the binder follows
-pub record IsCached (key : Key) (c : AllKnown) : Type 0 where
-  pub followed : IsIn key.kind (kinds_of Binder)
+-- without a row the key is dropped
+none_dropped : (seat : SeatKind) (rows : List Object) (key : Key) → IsBuiltKind seat → row_at key rows ≡ None → IsFirstOf seat rows key firsts.Drops
+none_dropped seats.Binder rows key built e = rw e refl
+none_dropped seats.ClaimProtect rows key built e = rw e refl
+none_dropped seats.VolumeProtect rows key built e = rw e refl
+none_dropped seats.User rows key built e = absurd built
+none_dropped seats.Ops rows key built e = absurd built
+none_dropped seats.Scheduler rows key built e = absurd built
+none_dropped seats.Agent rows key built e = absurd built
+
+-- a row is of a kind that the actor follows, or its key is dropped
+followed_or_dropped : (seat : SeatKind) (rows : List Object) (key : Key) (o : Object) → IsBuiltKind seat → row_at key rows ≡ Some o → IsIn (kind_of o) (kinds_of seat) ⊎ IsFirstOf seat rows key firsts.Drops
+followed_or_dropped seats.Binder rows key (Volume v) built e = inl (inl refl)
+followed_or_dropped seats.Binder rows key (Claim c) built e = inl (inr (inl refl))
+followed_or_dropped seats.Binder rows key (Class x) built e = inr (rw e refl)
+followed_or_dropped seats.Binder rows key (Node n) built e = inr (rw e refl)
+followed_or_dropped seats.Binder rows key (Pod p) built e = inr (rw e refl)
+followed_or_dropped seats.ClaimProtect rows key (Claim c) built e = inl (inl refl)
+followed_or_dropped seats.ClaimProtect rows key (Volume v) built e = inr (rw e refl)
+followed_or_dropped seats.ClaimProtect rows key (Class x) built e = inr (rw e refl)
+followed_or_dropped seats.ClaimProtect rows key (Node n) built e = inr (rw e refl)
+followed_or_dropped seats.ClaimProtect rows key (Pod p) built e = inr (rw e refl)
+followed_or_dropped seats.VolumeProtect rows key (Volume v) built e = inl (inl refl)
+followed_or_dropped seats.VolumeProtect rows key (Claim c) built e = inr (rw e refl)
+followed_or_dropped seats.VolumeProtect rows key (Class x) built e = inr (rw e refl)
+followed_or_dropped seats.VolumeProtect rows key (Node n) built e = inr (rw e refl)
+followed_or_dropped seats.VolumeProtect rows key (Pod p) built e = inr (rw e refl)
+followed_or_dropped seats.User rows key o built e = absurd built
+followed_or_dropped seats.Ops rows key o built e = absurd built
+followed_or_dropped seats.Scheduler rows key o built e = absurd built
+followed_or_dropped seats.Agent rows key o built e = absurd built
+
+-- a key that is due has a row of a kind that the actor follows
+pub record IsCached (seat : SeatKind) (key : Key) (c : AllKnown) : Type 0 where
+  pub followed : IsIn key.kind (kinds_of seat)
   pub there : list_any (same_key key) (map key_of (objects_of (cache_of key.kind c))) ≡ true
 
-module _ (role : Role) (mine : List Entry) (key : Key) (binder : role.kind ≡ Binder) (due : IsDue role key mine) where
-  pub due_cached : (c : AllKnown) → AllStandFor c mine → ((k : Key) (o : Object) → row_at k (objects_of (cache_of k.kind c)) ≡ Some o → list_any (same_key k) (map key_of (objects_of (cache_of k.kind c))) ≡ true) → IsCached key c
+module _ (role : Role) (mine : List Entry) (key : Key) (built : IsBuiltKind role.kind) (due : IsDue role key mine) where
+  pub due_cached : (c : AllKnown) → AllStandFor c mine → ((k : Key) (o : Object) → row_at k (objects_of (cache_of k.kind c)) ≡ Some o → list_any (same_key k) (map key_of (objects_of (cache_of k.kind c))) ≡ true) → IsCached role.kind key c
   due_cached c stand there = by (row_at key (all_objects c)) refl
     where
-      begins : (first : First) → IsDecision role (memory_of role mine) (all_objects c) key first → BeginsCall first
-      begins = due.only (all_objects c) (record { shown = stand.rows })
-
       cached : (o : Object) → row_at key (all_objects c) ≡ Some o → list_any (same_key key) (map key_of (objects_of (cache_of key.kind c))) ≡ true
       cached o e = there key o ((stand.each key.kind).rows key (sym (stand.kinds key.kind)) ∙ sym (stand.rows key) ∙ e)
 
       own_kind : (o : Object) → row_at key (all_objects c) ≡ Some o → kind_of o ≡ key.kind
       own_kind o e = ap (λ (k : Key). k.kind) (row_at_key key o (all_objects c) e)
 
-      drops : IsBinderFirst (all_objects c) key firsts.Drops → ⊥
-      drops d = no_drop (begins firsts.Drops (subst (λ k. IsFirstOf k (all_objects c) key firsts.Drops) (sym binder) d))
+      drops : IsFirstOf role.kind (all_objects c) key firsts.Drops → ⊥
+      drops d = no_drop (due.only (all_objects c) (record { shown = stand.rows }) firsts.Drops d)
 
-      by : (row : Option Object) → row_at key (all_objects c) ≡ row → IsCached key c
-      by None e = absurd (drops (rw e refl))
-      by (Some (Class x)) e = absurd (drops (rw e refl))
-      by (Some (Node x)) e = absurd (drops (rw e refl))
-      by (Some (Pod x)) e = absurd (drops (rw e refl))
-      by (Some (Volume x)) e = record { followed = inl (own_kind (Volume x) e); there = cached (Volume x) e }
-      by (Some (Claim x)) e = record { followed = inr (inl (own_kind (Claim x) e)); there = cached (Claim x) e }
+      by : (row : Option Object) → row_at key (all_objects c) ≡ row → IsCached role.kind key c
+      by None e = absurd (drops (none_dropped role.kind (all_objects c) key built e))
+      by (Some o) e = elim (followed_or_dropped role.kind (all_objects c) key o built e) [
+        | inl follows ↦ record { followed = subst (λ k. IsIn k (kinds_of role.kind)) (own_kind o e) follows; there = cached o e }
+        | inr d ↦ absurd (drops d)
+      ]
 
 -- in an actor that stands for the entries
 
@@ -105,6 +134,6 @@ task_watches t kind from e = true≢false (sym (itself kind) ∙ task_reads_none
 pub asked_no_watch : (role : Role) (key : Key) (mine : List Entry) (kind : Kind) (from : ℕ) → IsAskedFor role key mine (requests.Watch kind from) → ⊥
 asked_no_watch role key mine kind from a = task_watches a.under.task kind from (a.gives.call ∙ ap Some (sym a.call))
 
-pub under_no_watch : (role : Role) (under : Option Under) (mine : List Entry) (kind : Kind) (from : ℕ) → role.kind ≡ Binder → AnyIsUnderWay role under mine → option_map call_under under ≡ Some (requests.Watch kind from) → ⊥
-under_no_watch role None mine kind from is way e = none_some e
-under_no_watch role (Some u) mine kind from is way e = task_watches u.task kind from ((keeps_under role u mine is way).call ∙ e)
+pub under_no_watch : (role : Role) (under : Option Under) (mine : List Entry) (kind : Kind) (from : ℕ) → AnyIsUnderWay role under mine → option_map call_under under ≡ Some (requests.Watch kind from) → ⊥
+under_no_watch role None mine kind from way e = none_some e
+under_no_watch role (Some u) mine kind from way e = task_watches u.task kind from ((keeps_under role u mine way).call ∙ e)

@@ -6,7 +6,6 @@ use Rattle.kube_types.specs.declared.parts.Kind.{Kind}
 use Rattle.call_types.specs.declared.entry.Entry.{Entry}
 use Rattle.call_types.specs.declared.request.Request.{Request}
 use Rattle.call_types.specs.declared.request.Request.TheVariants as requests
-use Rattle.call_types.specs.declared.request.SeatKind.TheVariants.{Binder}
 use Rattle.call_types.specs.declared.reply.Reply.{Reply}
 use Rattle.informer_cache.specs.Cache.{IsTold}
 use Rattle.model_laws.proofs.Lists.{none_some, one}
@@ -15,7 +14,7 @@ use Rattle.worker_core.specs.declared.turn.Next.TheVariants as nexts
 use Rattle.worker_core.specs.declared.turn.Outcome.{Outcome}
 use Rattle.worker_core.specs.declared.turn.Outcome.TheVariants as outcomes
 use Rattle.worker_core.specs.Absorbs.{woken}
-use Rattle.worker_core.specs.Roles.{kinds_of}
+use Rattle.worker_core.specs.Roles.{IsBuiltKind, kinds_of}
 use Rattle.worker_core.specs.Stands.{StandsFor}
 use Rattle.worker_core.specs.States.{State, waits}
 use Rattle.worker_core.proofs.Answered.{turn_role}
@@ -118,24 +117,21 @@ told_step role s new calls before x e request reply played is told gives stands 
     }))
 
 -- a step that brought no news
-module _ (role : Role) (binder : role.kind ≡ Binder) (e : Entry) (before : List Call) (s new : State) (quiet : IsQuiet e) (step : ToldStep role e before s new) where
-  binder_then : s.role.kind ≡ Binder
-  binder_then = ap (λ (r : Role). r.kind) (same_role role s before step.played) ∙ binder
-
-  binder_turned : step.gives.turned.role.kind ≡ Binder
-  binder_turned = ap (λ (r : Role). r.kind) (turn_role s step.gives.turned (nexts.Call e.request) step.gives.turns.turn) ∙ binder_then
+module _ (role : Role) (built : IsBuiltKind role.kind) (e : Entry) (before : List Call) (s new : State) (quiet : IsQuiet e) (step : ToldStep role e before s new) where
+  kind_turned : step.gives.turned.role.kind ≡ role.kind
+  kind_turned = ap (λ (r : Role). r.kind) (turn_role s step.gives.turned (nexts.Call e.request) step.gives.turns.turn ∙ same_role role s before step.played)
 
   goes : Goes step.gives.turned new e.request
-  goes = told_goes s step.gives.turned new (entries before) e e.request e.reply binder_turned step.gives.turns.turn step.gives.turns.stands (record { told = quiet.told; asked = refl; answered = refl }) step.stands.own quiet step.gives.takes
+  goes = told_goes s step.gives.turned new (entries before) e e.request e.reply (subst IsBuiltKind (sym kind_turned) built) step.gives.turns.turn step.gives.turns.stands (record { told = quiet.told; asked = refl; answered = refl }) step.stands.own quiet step.gives.takes
 
-  first_phase : (kind : Kind) (key : Key) → watches_kind kind e.request ≡ true → (slice_get (kinds_of Binder) step.gives.turned.pass.behind ≡ Some kind) × Phase step.gives.turned.pass.behind key new 0
-  first_phase kind key watch = opens kind key step.gives.turned new e.request binder_turned watch goes
+  first_phase : (kind : Kind) (key : Key) → watches_kind kind e.request ≡ true → (slice_get (kinds_of role.kind) step.gives.turned.pass.behind ≡ Some kind) × Phase step.gives.turned.pass.behind key new 0
+  first_phase kind key watch = opens role.kind kind key step.gives.turned new e.request kind_turned watch goes
 
-  next_phase : (kind : Kind) (place : ℕ) → slice_get (kinds_of Binder) place ≡ Some kind → (key : Key) (n : ℕ) → IsDue role key (entries before) → Phase place key s n
+  next_phase : (kind : Kind) (place : ℕ) → slice_get (kinds_of role.kind) place ≡ Some kind → (key : Key) (n : ℕ) → IsDue role key (entries before) → Phase place key s n
       → IsAskedFor role key (entries before) e.request ⊎ Phase place key new (if watches_kind kind e.request then n + 1 else n)
   next_phase kind place at key n due phase = elim called [
     | inl asked ↦ inl (subst (λ r. IsAskedFor r key (entries before) e.request) own asked)
-    | inr stays ↦ inr (answer_phase kind place at key step.gives.turned new n kept e.request binder_turned goes (turn_phase place key s step.gives.turned (nexts.Call e.request) n step.gives.turns.turn stays phase))
+    | inr stays ↦ inr (answer_phase role.kind built kind place at key step.gives.turned new n kept e.request kind_turned goes (turn_phase place key s step.gives.turned (nexts.Call e.request) n step.gives.turns.turn stays phase))
   ]
     where
       own : s.role ≡ role
@@ -169,7 +165,7 @@ due_now role key before (c ∷ since) due = due.0
 
 -- the life is followed from the first watch on
 
-module _ (role : Role) (binder : role.kind ≡ Binder) (kind : Kind) (place : ℕ) (at : slice_get (kinds_of Binder) place ≡ Some kind) (key : Key) (first : Entry) (earlier : List Call)
+module _ (role : Role) (built : IsBuiltKind role.kind) (kind : Kind) (place : ℕ) (at : slice_get (kinds_of role.kind) place ≡ Some kind) (key : Key) (first : Entry) (earlier : List Call)
     (watch : watches_kind kind first.request ≡ true) (quiet_first : IsQuiet first) where
   abbrev start : List Call
   start = Some first ∷ earlier
@@ -182,15 +178,15 @@ module _ (role : Role) (binder : role.kind ≡ Binder) (kind : Kind) (place : �
       → ((rest : List Call) → before ≡ rest ++ start → AreQuiet rest → IsDueThroughout role key start rest → Followed s rest) → Followed new since
   told_on s new calls before x request reply played is told gives stands [] e quiet due earlier_on =
       let step = told_step role s new calls before x first request reply played is told gives stands earlier e in
-      let open_ = first_phase role binder first earlier s new quiet_first step kind key watch in
-      inr (subst (λ i. Phase i key new 0) (same_place kind _ place open_.0 at) open_.1)
+      let open_ = first_phase role built first earlier s new quiet_first step kind key watch in
+      inr (subst (λ i. Phase i key new 0) (same_place role.kind kind _ place built open_.0 at) open_.1)
   told_on s new calls before x request reply played is told gives stands (None ∷ rest) e quiet due earlier_on = absurd quiet
   told_on s new calls before x request reply played is told gives stands (Some y ∷ rest) e quiet due earlier_on =
       let step = told_step role s new calls before x y request reply played is told gives stands (rest ++ start) e in
       let so_far = earlier_on rest (same_tail _ _ _ _ (sym is ∙ e)) quiet.1 due.1 in
       elim so_far [
         | inl asked ↦ inl (inr asked)
-        | inr phase ↦ elim (next_phase role binder y (rest ++ start) s new quiet.0 step kind place at key (watches kind rest) (due_now role key start rest due.1) phase) [
+        | inr phase ↦ elim (next_phase role built y (rest ++ start) s new quiet.0 step kind place at key (watches kind rest) (due_now role key start rest due.1) phase) [
           | inl now ↦ inl (inl now)
           | inr on ↦ inr on
         ]
@@ -215,7 +211,7 @@ module _ (role : Role) (binder : role.kind ≡ Binder) (kind : Kind) (place : �
     | inr phase ↦
         let own : old.role ≡ role = same_role role old calls played in
         let due_here : IsDue old.role key (entries calls) = subst (λ c. IsDue old.role key (entries c)) (sym e) (subst (λ r. IsDue r key (entries (since ++ start))) (sym own) (due_now role key start since due)) in
-        inr (wake_phase kind place at key old turned s (entries calls) (watches kind since) (ap (λ (r : Role). r.kind) own ∙ binder) (stands_now role old calls played) due_here (one_taken role old calls played) turns.turn wakes phase)
+        inr (wake_phase role.kind built kind place at key old turned s (entries calls) (watches kind since) (ap (λ (r : Role). r.kind) own) (stands_now role old calls played) due_here (one_taken role old calls played) turns.turn wakes phase)
   ]
 
 -- the quiet calls between, and the first
@@ -226,9 +222,9 @@ quiet_between (None ∷ between) first q = absurd q
 quiet_between (Some e ∷ between) first q = let h = quiet_between between first q.1 in ((q.0, h.0), h.1)
 
 pub played_is_diligent : PlayedIsDiligent
-played_is_diligent role s calls binder played kind first fourth earlier between later e four key due = elim followed [
+played_is_diligent role s calls built played kind first fourth earlier between later e four key due = elim followed [
   | inl asked ↦ asked
-  | inr phase ↦ elim (next_phase role binder fourth (between ++ Some first ∷ earlier) last.old last.new four.quiet.0 last.step kind place at key (watches kind between) (due_now role key (Some first ∷ earlier) between due) phase) [
+  | inr phase ↦ elim (next_phase role built fourth (between ++ Some first ∷ earlier) last.old last.new four.quiet.0 last.step kind place at key (watches kind between) (due_now role key (Some first ∷ earlier) between due) phase) [
     | inl asked ↦ absurd (never asked)
     | inr more ↦
         let counted : (if watches_kind kind fourth.request then watches kind between + 1 else watches kind between) ≡ watches kind between + 1 = ap (λ b. if b then watches kind between + 1 else watches kind between) four.closes in
@@ -256,11 +252,11 @@ played_is_diligent role s calls binder played kind first fourth earlier between 
     place : ℕ
     place = opening.step.gives.turned.pass.behind
 
-    at : slice_get (kinds_of Binder) place ≡ Some kind
-    at = (first_phase role binder first earlier opening.old opening.new quiet.1 opening.step kind key four.opens).0
+    at : slice_get (kinds_of role.kind) place ≡ Some kind
+    at = (first_phase role built first earlier opening.old opening.new quiet.1 opening.step kind key four.opens).0
 
     followed : WasAskedSince role key (Some first ∷ earlier) between ⊎ Phase place key last.old (watches kind between)
-    followed = follow role binder kind place at key first earlier four.opens quiet.1 last.old _ last.step.played between refl quiet.0 due
+    followed = follow role built kind place at key first earlier four.opens quiet.1 last.old _ last.step.played between refl quiet.0 due
 
     never : IsAskedFor role key (entries (between ++ Some first ∷ earlier)) fourth.request → ⊥
     never asked = by fourth.request refl

@@ -35,6 +35,7 @@ use Rattle.worker_core.specs.declared.task.First.TheVariants as firsts
 use Rattle.worker_core.specs.declared.task.Task.TheVariants as tasks
 use Rattle.worker_core.specs.declared.task.Under.{Under}
 use Rattle.worker_core.specs.Memories.{memory_of}
+use Rattle.worker_core.specs.Roles.{IsBuiltKind}
 use Rattle.worker_core.specs.Tasks.{GivesCall, IsBinderFirst, IsFirstOf, task_call}
 use Rattle.diligent_law.specs.Diligence.{BeginsCall, Call, IsDue, IsDueThroughout, Shows, entries}
 use Rattle.diligent_law.specs.Showing.{HaveNoNamespace, IsDueInOrderThroughout, IsLookedUp, PlayedIsDiligentInOrder, RowsInOrderAreEnough}
@@ -152,12 +153,14 @@ module _ (rows : List Object) (order : AreRows rows) (spaceless : HaveNoNamespac
         by firsts.Drops h = none_some (ap machine_in (on binder_firsts.Drops h).is)
         by (firsts.Queues k) h = none_some (ap machine_in (on (binder_firsts.Queues k) h).is)
         by (firsts.Begins (tasks.Binder n)) h = begins_by n (on (binder_firsts.Begins n) h)
+        by (firsts.Begins (tasks.ClaimProtect op)) h = absurd h
+        by (firsts.Begins (tasks.VolumeProtect op)) h = absurd h
 
 in_order : (role : Role) (key : Key) (mine : List Entry) (rows : List Object) (u : Under) → role.kind ≡ Binder → Shows mine rows → AreRows rows → HaveNoNamespace rows → u.key ≡ key → GivesCall role (memory_of role mine) rows u → IsDue role key mine
 in_order role key mine rows u binder shows order spaceless own gives = by (row_at key rows) refl
   where
-    looked : IsLookedUp (row_at key rows) → IsDue role key mine
-    looked l = one_showing role key mine rows u binder shows l own gives
+    looked : IsLookedUp Binder (row_at key rows) → IsDue role key mine
+    looked l = one_showing role key mine rows u (subst IsBuiltKind (sym binder) tt) shows (subst (λ seat. IsLookedUp seat (row_at key rows)) (sym binder) l) own gives
 
     begun : (m : Machine) × ((u.task ≡ tasks.Binder m) × IsFirst rows (row_at key rows) (binder_firsts.Begins m))
     begun = begins_binder rows key u.task (subst (λ k. IsBinderFirst rows k (firsts.Begins u.task)) own (subst (λ x. IsFirstOf x rows u.key (firsts.Begins u.task)) binder gives.decided))
@@ -181,8 +184,8 @@ in_order role key mine rows u binder shows order spaceless own gives = by (row_a
     }
 
     claim : (c : ClaimData) → row_at key rows ≡ Some (Claim c) → (a b : Bool) → is_completed c ≡ a → is_empty c.volume_name ≡ b → IsDue role key mine
-    claim c e true b ea eb = looked (subst (λ r. IsLookedUp r) (sym e) (inl ea))
-    claim c e false false ea eb = looked (subst (λ r. IsLookedUp r) (sym e) (inr eb))
+    claim c e true b ea eb = looked (subst (λ r. IsLookedUp Binder r) (sym e) (inl ea))
+    claim c e false false ea eb = looked (subst (λ r. IsLookedUp Binder r) (sym e) (inr eb))
     claim c e false true ea eb = seeks c e ea eb
 
     by : (r : Option Object) → row_at key rows ≡ r → IsDue role key mine
@@ -190,7 +193,7 @@ in_order role key mine rows u binder shows order spaceless own gives = by (row_a
     by (Some (Class x)) e = nothing (at (Some (Class x)) e)
     by (Some (Node x)) e = nothing (at (Some (Node x)) e)
     by (Some (Pod x)) e = nothing (at (Some (Pod x)) e)
-    by (Some (Volume v)) e = looked (subst (λ r. IsLookedUp r) (sym e) tt)
+    by (Some (Volume v)) e = looked (subst (λ r. IsLookedUp Binder r) (sym e) tt)
     by (Some (Claim c)) e = claim c e (is_completed c) (is_empty c.volume_name) refl refl
 
 pub rows_in_order : RowsInOrderAreEnough
@@ -203,4 +206,4 @@ throughout role key before [] binder due = rows_in_order role key (entries befor
 throughout role key before (c ∷ since) binder due = (rows_in_order role key (entries (c ∷ since ++ before)) binder due.0, throughout role key before since binder due.1)
 
 pub played_in_order : PlayedIsDiligentInOrder
-played_in_order role s calls binder played kind first fourth earlier between later e four key due = played_is_diligent role s calls binder played kind first fourth earlier between later e four key (throughout role key (Some first ∷ earlier) between binder due)
+played_in_order role s calls binder played kind first fourth earlier between later e four key due = played_is_diligent role s calls (subst IsBuiltKind (sym binder) tt) played kind first fourth earlier between later e four key (throughout role key (Some first ∷ earlier) between binder due)

@@ -4,7 +4,6 @@ use Rattle.kube_types.specs.declared.parts.Kind.{Kind}
 use Rattle.call_types.specs.declared.entry.Entry.{Entry}
 use Rattle.call_types.specs.declared.request.Request.{Request}
 use Rattle.call_types.specs.declared.request.Request.TheVariants as requests
-use Rattle.call_types.specs.declared.request.SeatKind.TheVariants.{Binder}
 use Rattle.call_types.specs.declared.reply.Refusal.TheVariants.{Gone}
 use Rattle.call_types.specs.declared.reply.Reply.{Reply}
 use Rattle.call_types.specs.declared.reply.Reply.TheVariants as replies
@@ -20,14 +19,16 @@ use Rattle.worker_core.specs.declared.turn.Next.TheVariants as nexts
 use Rattle.worker_core.specs.declared.turn.Outcome.TheVariants as outcomes
 use Rattle.worker_core.specs.declared.turn.Pass.{Pass}
 use Rattle.worker_core.specs.Absorbs.{absorbed, given_told, learned, pass_after, task_told}
+use Rattle.worker_core.specs.Roles.{IsBuiltKind}
 use Rattle.worker_core.specs.Rules.{BroughtEvent, IsAskedAgain, IsWatchAnswer}
 use Rattle.worker_core.specs.Stands.{AreOwn, StandsFor}
 use Rattle.worker_core.specs.States.{State, asked, given_call, read_request}
 use Rattle.worker_core.specs.Turns.{IsTurn, passing}
 use Rattle.worker_core.proofs.Answered.{gives_asked}
-use Rattle.worker_core.proofs.Licensed.{no_start}
+use Rattle.worker_core.proofs.ByKind.{start_reads_none}
 use Rattle.worker_core.proofs.Passes.{none_of, not_false}
 use Rattle.worker_core.proofs.PassRules.{events_are_brought, passes_go_on, watches_follow}
+use Rattle.worker_core.proofs.Quiet.{itself}
 use Rattle.worker_core.proofs.Watches.{watches_are_answered}
 use Rattle.diligent_law.specs.Diligence.{IsQuiet, is_news, watches_kind}
 use Rattle.diligent_law.proofs.Dues.{under_no_watch}
@@ -38,7 +39,7 @@ pub data Goes (s new : State) (request : Request) : Type 0 where
   GoesOn : (kind : Kind) (from : ℕ) → request ≡ requests.Watch kind from → passing s ≡ Some kind → new.pass.behind ≡ s.pass.behind + 1 → (s.pass.event ≡ false → new.pass.event ≡ false) → Goes s new request
 
 -- the call that is asked is a read of the kind
-module _ (s : State) (mine : List Entry) (kind : Kind) (from : ℕ) (binder : s.role.kind ≡ Binder) (stands : StandsFor s mine) where
+module _ (s : State) (mine : List Entry) (kind : Kind) (from : ℕ) (stands : StandsFor s mine) where
   abbrev kind_watched : Request → Option Kind
   kind_watched (requests.Watch k f) = Some k
   kind_watched r = None
@@ -52,8 +53,8 @@ module _ (s : State) (mine : List Entry) (kind : Kind) (from : ℕ) (binder : s.
     where
       by : (g : Option Given) → s.given ≡ g → given_call s g ≡ Some (requests.Watch kind from) → s.given ≡ Some (givens.Read kind)
       by None at e = none_some e
-      by (Some givens.Task) at e = absurd (under_no_watch s.role s.under mine kind from binder stands.under_way e)
-      by (Some givens.Start) at e = absurd (no_start s.role s.memory (requests.Watch kind from) binder e)
+      by (Some givens.Task) at e = absurd (under_no_watch s.role s.under mine kind from stands.under_way e)
+      by (Some givens.Start) at e = absurd (true≢false (sym (itself kind) ∙ start_reads_none s.role.kind s.role.node s.memory (requests.Watch kind from) kind e))
       by (Some (givens.Read k)) at e = at ∙ ap (λ x. Some (givens.Read x)) (read_kind k (ask_of (cache_of k s.caches)) e)
 
 abbrev is_watch : Request → Bool
@@ -82,7 +83,7 @@ module _ (s : State) (caches : AllKnown) (request : Request) (reply : Reply) (ot
       by (Some givens.Start) = refl
       by (Some (givens.Read kind)) = pass_stays s.pass _
 
-module _ (s turned new : State) (mine : List Entry) (e : Entry) (request : Request) (reply : Reply) (binder : turned.role.kind ≡ Binder) (turn : IsTurn s turned (nexts.Call request)) (stands : StandsFor turned mine)
+module _ (s turned new : State) (mine : List Entry) (e : Entry) (request : Request) (reply : Reply) (built : IsBuiltKind turned.role.kind) (turn : IsTurn s turned (nexts.Call request)) (stands : StandsFor turned mine)
     (told : IsTold e request reply) (own : AreOwn (e ∷ mine)) (quiet : IsQuiet e) (takes : new ≡ absorbed turned new.caches request (outcomes.Told reply)) where
   is_asked : asked turned ≡ Some request
   is_asked = sym (gives_asked s turned (nexts.Call request) turn)
@@ -120,13 +121,13 @@ module _ (s turned new : State) (mine : List Entry) (e : Entry) (request : Reque
       at = is_asked ∙ ap Some is
 
       given : turned.given ≡ Some (givens.Read kind)
-      given = given_read turned mine kind from binder stands at
+      given = given_read turned mine kind from stands at
 
       follows : passing turned ≡ Some kind
       follows = watches_follow s turned (nexts.Call request) kind from turn given (ap (λ r. nexts.Call r) is)
 
       answered : IsWatchAnswer reply
-      answered = watches_are_answered turned mine kind from e reply binder stands at (subst (λ r. IsTold e r reply) is told) own
+      answered = watches_are_answered turned mine kind from e reply built stands at (subst (λ r. IsTold e r reply) is told) own
 
       taken : new ≡ absorbed turned new.caches (requests.Watch kind from) (outcomes.Told reply)
       taken = takes ∙ ap (λ r. absorbed turned new.caches r (outcomes.Told reply)) is

@@ -1,7 +1,8 @@
 -- How far a life has come since the first of the watches, and how each step goes on.
-use Rattle.std.proofs.Common.{◌≡◌, ◌≢◌, ◌⊎◌, ℕ, zero, suc, ◌+◌, ◌<◌, ◌≤◌, List, [], Bool, true, false, true≢false, Some, inl, inr, refl, sym, ◌∙◌, ap, subst, arith, if◌then◌else◌}
+use Rattle.std.proofs.Common.{◌≡◌, ◌≢◌, ◌⊎◌, ℕ, zero, suc, ◌+◌, ◌<◌, ◌≤◌, List, [], length, Bool, true, false, true≢false, Some, inl, inr, refl, sym, ◌∙◌, ap, subst, arith, if◌then◌else◌}
 use Rattle.std.specs.Prelude.{map, slice_get}
 use Rattle.std.specs.List.{list_any}
+use Rattle.std.proofs.lemmas.Option.{slice_get_within}
 use Rattle.kube_types.specs.declared.key.Key.{Key}
 use Rattle.kube_types.specs.declared.parts.Kind.{Kind}
 use Rattle.kube_types.specs.declared.parts.Kind.TheVariants as kinds
@@ -9,7 +10,8 @@ use Rattle.kube_types.specs.Keys.{key_of, same_key, same_kind}
 use Rattle.informer_cache.specs.Cache.{objects_of}
 use Rattle.call_types.specs.declared.entry.Entry.{Entry}
 use Rattle.call_types.specs.declared.request.Request.{Request}
-use Rattle.call_types.specs.declared.request.SeatKind.TheVariants.{Binder}
+use Rattle.call_types.specs.declared.request.SeatKind.{SeatKind}
+use Rattle.call_types.specs.declared.request.SeatKind.TheVariants as seats
 use Rattle.informer_cache.specs.All.{AllKnown, cache_of}
 use Rattle.model_laws.proofs.Lists.{IsIn, none_some, one}
 use Rattle.worker_core.specs.declared.role.Role.{Role}
@@ -17,38 +19,45 @@ use Rattle.worker_core.specs.declared.turn.Next.{Next}
 use Rattle.worker_core.specs.declared.turn.Next.TheVariants as nexts
 use Rattle.worker_core.specs.declared.turn.Pass.{Pass}
 use Rattle.worker_core.specs.Absorbs.{woken}
-use Rattle.worker_core.specs.Roles.{kinds_of}
+use Rattle.worker_core.specs.Roles.{IsBuiltKind, kinds_of}
 use Rattle.worker_core.specs.Rules.{WasCalled}
 use Rattle.worker_core.specs.Stands.{StandsFor}
 use Rattle.worker_core.specs.States.{State, call_in, waits}
 use Rattle.worker_core.specs.Turns.{IsTurn}
 use Rattle.worker_core.proofs.Answered.{passed, turn_role}
+use Rattle.worker_core.proofs.ByKind.{built_fresh}
 use Rattle.worker_core.proofs.KeysKept.{turn_keys}
 use Rattle.worker_core.proofs.Quiet.{alike, itself}
 use Rattle.diligent_law.specs.Diligence.{IsAskedFor, IsDue, watches_kind}
 use Rattle.diligent_law.proofs.Dues.{IsCached, due_cached, not_dropped, was_asked}
 use Rattle.diligent_law.proofs.Passing.{Goes, GoesOn, Stays}
 use Rattle.diligent_law.proofs.Queues.{cached_self, row_any, taken_keys}
-use Rattle.diligent_law.proofs.Turned.{Kept, OneTaken, PassAfter, Renewed, Rests, idle_rests, nothing_remembered, turn_pass, turn_taken, under_keys}
+use Rattle.diligent_law.proofs.Turned.{Kept, OneTaken, PassAfter, Renewed, Rests, idle_rests, turn_pass, turn_taken, under_keys}
 
--- a kind's place among the kinds of a binder
+-- a kind's place among the kinds that an actor follows
 
-abbrev place_of : Kind → ℕ
-place_of kinds.PersistentVolume = 0
-place_of kinds.PersistentVolumeClaim = 1
-place_of kind = 2
+abbrev place_of : SeatKind → Kind → ℕ
+place_of seats.Binder kinds.PersistentVolume = 0
+place_of seats.Binder kinds.PersistentVolumeClaim = 1
+place_of seats.Binder kind = 2
+place_of seats.ClaimProtect kinds.PersistentVolumeClaim = 0
+place_of seats.ClaimProtect kind = 1
+place_of seat kind = 0
 
-place_is : (i : ℕ) (kind : Kind) → slice_get (kinds_of Binder) i ≡ Some kind → i ≡ place_of kind
-place_is zero kind e = ap place_of (one kinds.PersistentVolume kind e)
-place_is (suc zero) kind e = ap place_of (one kinds.PersistentVolumeClaim kind e)
-place_is (suc (suc zero)) kind e = ap place_of (one kinds.StorageClass kind e)
-place_is (suc (suc (suc i))) kind e = none_some e
-
-place_low : (i : ℕ) (kind : Kind) → slice_get (kinds_of Binder) i ≡ Some kind → i < 3
-place_low zero kind e = omega arith
-place_low (suc zero) kind e = omega arith
-place_low (suc (suc zero)) kind e = omega arith
-place_low (suc (suc (suc i))) kind e = none_some e
+place_is : (seat : SeatKind) (i : ℕ) (kind : Kind) → IsBuiltKind seat → slice_get (kinds_of seat) i ≡ Some kind → i ≡ place_of seat kind
+place_is seats.Binder zero kind built e = ap (place_of seats.Binder) (one kinds.PersistentVolume kind e)
+place_is seats.Binder (suc zero) kind built e = ap (place_of seats.Binder) (one kinds.PersistentVolumeClaim kind e)
+place_is seats.Binder (suc (suc zero)) kind built e = ap (place_of seats.Binder) (one kinds.StorageClass kind e)
+place_is seats.Binder (suc (suc (suc i))) kind built e = none_some e
+place_is seats.ClaimProtect zero kind built e = ap (place_of seats.ClaimProtect) (one kinds.PersistentVolumeClaim kind e)
+place_is seats.ClaimProtect (suc zero) kind built e = ap (place_of seats.ClaimProtect) (one kinds.Pod kind e)
+place_is seats.ClaimProtect (suc (suc i)) kind built e = none_some e
+place_is seats.VolumeProtect zero kind built e = refl
+place_is seats.VolumeProtect (suc i) kind built e = none_some e
+place_is seats.User i kind built e = absurd built
+place_is seats.Ops i kind built e = absurd built
+place_is seats.Scheduler i kind built e = absurd built
+place_is seats.Agent i kind built e = absurd built
 
 -- the phases: how many watches of the kind, at this place of the pass, came since the first; whether the pass has the kind
 -- behind it; and whether the key waits
@@ -125,7 +134,7 @@ turn_phase place key s turned answer n turn stays phase = by (turn_pass s turned
 
 -- an answer
 
-module _ (kind : Kind) (place : ℕ) (at : slice_get (kinds_of Binder) place ≡ Some kind) (key : Key) (s new : State) (n : ℕ) (stays : waits key s.work ≡ true → waits key new.work ≡ true) where
+module _ (seat : SeatKind) (built : IsBuiltKind seat) (kind : Kind) (place : ℕ) (at : slice_get (kinds_of seat) place ≡ Some kind) (key : Key) (s new : State) (n : ℕ) (stays : waits key s.work ≡ true → waits key new.work ≡ true) where
   -- the kind itself was watched
   own_watch : s.pass.behind ≡ place → new.pass.behind ≡ s.pass.behind + 1 → (s.pass.event ≡ false → new.pass.event ≡ false) → Phase place key s n → Phase place key new (n + 1)
   own_watch own on still (Opened is past) = absurd (omega (arith, own, past))
@@ -142,44 +151,47 @@ module _ (kind : Kind) (place : ℕ) (at : slice_get (kinds_of Binder) place ≡
   other_watch differs on still (Woken is before quiet there) = Woken is (omega (arith, differs, before, on)) (still quiet) (stays there)
   other_watch differs on still (Waits is past quiet there) = Waits is (omega (arith, past, on)) (still quiet) (stays there)
 
-  pub answer_phase : (request : Request) → s.role.kind ≡ Binder → Goes s new request → Phase place key s n → Phase place key new (if watches_kind kind request then n + 1 else n)
-  answer_phase request binder (Stays none same) phase = subst (λ b. Phase place key new (if b then n + 1 else n)) (sym (none kind)) (same_phase place key s new n same stays phase)
-  answer_phase request binder (GoesOn k from is follows on still) phase = by (same_kind k kind) refl
+  pub answer_phase : (request : Request) → s.role.kind ≡ seat → Goes s new request → Phase place key s n → Phase place key new (if watches_kind kind request then n + 1 else n)
+  answer_phase request of_seat (Stays none same) phase = subst (λ b. Phase place key new (if b then n + 1 else n)) (sym (none kind)) (same_phase place key s new n same stays phase)
+  answer_phase request of_seat (GoesOn k from is follows on still) phase = by (same_kind k kind) refl
     where
-      follows_at : slice_get (kinds_of Binder) s.pass.behind ≡ Some k
-      follows_at = ap (λ x. slice_get (kinds_of x) s.pass.behind) (sym binder) ∙ follows
+      follows_at : slice_get (kinds_of seat) s.pass.behind ≡ Some k
+      follows_at = ap (λ x. slice_get (kinds_of x) s.pass.behind) (sym of_seat) ∙ follows
 
       counts : (b : Bool) → same_kind k kind ≡ b → Phase place key new (if b then n + 1 else n) → Phase place key new (if watches_kind kind request then n + 1 else n)
       counts b e p = subst (λ c. Phase place key new (if c then n + 1 else n)) (sym (ap (watches_kind kind) is ∙ e)) p
 
       by : (b : Bool) → same_kind k kind ≡ b → Phase place key new (if watches_kind kind request then n + 1 else n)
       by true e =
-          let own : s.pass.behind ≡ place = place_is s.pass.behind k follows_at ∙ ap place_of (alike k kind e) ∙ sym (place_is place kind at) in
+          let own : s.pass.behind ≡ place = place_is seat s.pass.behind k built follows_at ∙ ap (place_of seat) (alike k kind e) ∙ sym (place_is seat place kind built at) in
           counts true e (own_watch own on still phase)
       by false e = counts false e (other_watch differs on still phase)
         where
           differs : s.pass.behind ≢ place
           differs own =
-              let same : k ≡ kind = one k kind (sym follows_at ∙ ap (λ i. slice_get (kinds_of Binder) i) own ∙ at) in
+              let same : k ≡ kind = one k kind (sym follows_at ∙ ap (λ i. slice_get (kinds_of seat) i) own ∙ at) in
               true≢false (sym (itself kind) ∙ subst (λ x. same_kind x kind ≡ false) same e)
 
 -- the first watch
-pub opens : (kind : Kind) (key : Key) (s new : State) (request : Request) → s.role.kind ≡ Binder → watches_kind kind request ≡ true → Goes s new request → (slice_get (kinds_of Binder) s.pass.behind ≡ Some kind) × Phase s.pass.behind key new 0
-opens kind key s new request binder watch (Stays none same) = absurd (true≢false (sym watch ∙ none kind))
-opens kind key s new request binder watch (GoesOn k from is follows on still) =
+pub opens : (seat : SeatKind) (kind : Kind) (key : Key) (s new : State) (request : Request) → s.role.kind ≡ seat → watches_kind kind request ≡ true → Goes s new request → (slice_get (kinds_of seat) s.pass.behind ≡ Some kind) × Phase s.pass.behind key new 0
+opens seat kind key s new request of_seat watch (Stays none same) = absurd (true≢false (sym watch ∙ none kind))
+opens seat kind key s new request of_seat watch (GoesOn k from is follows on still) =
     let same : k ≡ kind = alike k kind (sym (ap (watches_kind kind) is) ∙ watch) in
-    (ap (λ x. slice_get (kinds_of x) s.pass.behind) (sym binder) ∙ follows ∙ ap Some same, Opened refl (omega (arith, on)))
+    (ap (λ x. slice_get (kinds_of x) s.pass.behind) (sym of_seat) ∙ follows ∙ ap Some same, Opened refl (omega (arith, on)))
 
 -- the place of a kind does not depend on the pass
-pub same_place : (kind : Kind) (i j : ℕ) → slice_get (kinds_of Binder) i ≡ Some kind → slice_get (kinds_of Binder) j ≡ Some kind → i ≡ j
-same_place kind i j ei ej = place_is i kind ei ∙ sym (place_is j kind ej)
+pub same_place : (seat : SeatKind) (kind : Kind) (i j : ℕ) → IsBuiltKind seat → slice_get (kinds_of seat) i ≡ Some kind → slice_get (kinds_of seat) j ≡ Some kind → i ≡ j
+same_place seat kind i j built ei ej = place_is seat i kind built ei ∙ sym (place_is seat j kind built ej)
 
 -- an idle turn and a wake
 
-module _ (kind : Kind) (place : ℕ) (at : slice_get (kinds_of Binder) place ≡ Some kind) (key : Key) (s turned new : State) (mine : List Entry) (n : ℕ) (binder : s.role.kind ≡ Binder)
+module _ (seat : SeatKind) (built : IsBuiltKind seat) (kind : Kind) (place : ℕ) (at : slice_get (kinds_of seat) place ≡ Some kind) (key : Key) (s turned new : State) (mine : List Entry) (n : ℕ) (of_seat : s.role.kind ≡ seat)
     (stands : StandsFor s mine) (due : IsDue s.role key mine) (own : OneTaken s) (turn : IsTurn s turned nexts.Idle) (wakes : new ≡ woken turned) where
+  built_now : IsBuiltKind s.role.kind
+  built_now = subst IsBuiltKind (sym of_seat) built
+
   fresh : s.memory.stale ≡ false
-  fresh = ap (λ m. m.stale) (stands.memory ∙ nothing_remembered s.role mine binder)
+  fresh = built_fresh s mine built_now stands
 
   rests : Rests s turned
   rests = idle_rests s turned turn fresh
@@ -187,8 +199,8 @@ module _ (kind : Kind) (place : ℕ) (at : slice_get (kinds_of Binder) place ≡
   -- the pass has each kind behind it
   past_it : place < s.pass.behind
   past_it =
-      let all : 3 ≤ s.pass.behind = passed (kinds_of Binder) s.pass.behind (ap (λ k. slice_get (kinds_of k) s.pass.behind) (sym binder) ∙ rests.passed) in
-      let low = place_low place kind at in
+      let all : length (kinds_of seat) ≤ s.pass.behind = passed (kinds_of seat) s.pass.behind (ap (λ k. slice_get (kinds_of k) s.pass.behind) (sym of_seat) ∙ rests.passed) in
+      let low : place < length (kinds_of seat) = slice_get_within (kinds_of seat) place kind at in
       omega (arith, all, low)
 
   pass_now : new.pass ≡ record { behind = 0; event = false }
@@ -201,11 +213,11 @@ module _ (kind : Kind) (place : ℕ) (at : slice_get (kinds_of Binder) place ≡
   waits_now : waits key new.work ≡ true
   waits_now = ap (λ (x : State). waits key x.work) wakes ∙ cached_self turned.caches (kinds_of turned.role.kind) key.kind key turned.work followed there none
     where
-      cached : IsCached key s.caches
-      cached = due_cached s.role mine key binder due s.caches stands.caches (λ k o e. row_any k o _ e)
+      cached : IsCached s.role.kind key s.caches
+      cached = due_cached s.role mine key built_now due s.caches stands.caches (λ k o e. row_any k o _ e)
 
-      same_kinds : kinds_of turned.role.kind ≡ kinds_of Binder
-      same_kinds = ap (λ (r : Role). kinds_of r.kind) (turn_role s turned nexts.Idle turn) ∙ ap kinds_of binder
+      same_kinds : kinds_of turned.role.kind ≡ kinds_of s.role.kind
+      same_kinds = ap (λ (r : Role). kinds_of r.kind) (turn_role s turned nexts.Idle turn)
 
       followed : IsIn key.kind (kinds_of turned.role.kind)
       followed = subst (λ ks. IsIn key.kind ks) (sym same_kinds) cached.followed

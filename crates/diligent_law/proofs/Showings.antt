@@ -1,5 +1,6 @@
 -- Decisions by look-ups alone are the same on all rows that show the same.
 use Rattle.std.proofs.Common.{◌≡◌, ◌⊎◌, List, Bool, true, false, true≢false, Option, Some, None, inl, inr, refl, sym, ◌∙◌, ap, subst, if◌then◌else◌}
+use Rattle.std.specs.List.{list_any}
 use Rattle.kube_types.specs.declared.key.Key.{Key}
 use Rattle.kube_types.specs.declared.lookup.Live.TheVariants.{NotAsked}
 use Rattle.kube_types.specs.declared.objects.Object.{Object}
@@ -8,8 +9,12 @@ use Rattle.kube_types.specs.declared.objects.Ref.{Ref}
 use Rattle.kube_types.specs.declared.objects.Volume.{Volume as VolumeData}
 use Rattle.kube_types.specs.declared.objects.Claim.{Claim as ClaimData}
 use Rattle.kube_types.specs.declared.uid.Uid.{Uid}
-use Rattle.kube_types.specs.Bindings.{is_completed, is_deleting, is_empty}
+use Rattle.kube_types.specs.Bindings.{is_completed, is_deleting, is_empty, is_protected_claim}
 use Rattle.kube_types.specs.Keys.{row_at}
+use Rattle.call_types.specs.declared.request.SeatKind.{SeatKind}
+use Rattle.call_types.specs.declared.request.SeatKind.TheVariants as seats
+use Rattle.binder_model.specs.Due.{claim_guard_due, guard_due}
+use Rattle.binder_model.specs.GuardLicence.{uses}
 use Rattle.binder_model.specs.Matching.{has_match}
 use Rattle.binder_model.specs.BinderDue.{claim_with}
 use Rattle.binder_model.specs.ObjectKeys.{claim_key, volume_key}
@@ -24,11 +29,13 @@ use Rattle.binder_machines.specs.declared.machine.Machine.{Machine}
 use Rattle.binder_machines.specs.declared.machine.Machine.TheVariants.{Binds}
 use Rattle.binder_machines.specs.FirstSteps.{IsBindingTo, IsClaimFirst, IsFirst, volume_first}
 use Rattle.model_laws.proofs.Lists.{none_some, one}
+use Rattle.protect_sync.specs.Decisions.{claim_begins, claim_for, volume_begins}
 use Rattle.worker_core.specs.declared.task.First.{First}
 use Rattle.worker_core.specs.declared.task.First.TheVariants as firsts
 use Rattle.worker_core.specs.declared.task.Task.{Task}
 use Rattle.worker_core.specs.declared.task.Task.TheVariants as tasks
-use Rattle.worker_core.specs.Tasks.{IsBinderFirst, IsFirstOf, task_call}
+use Rattle.worker_core.specs.declared.task.Under.{Under}
+use Rattle.worker_core.specs.Tasks.{IsBinderFirst, IsFirstOf, claim_first, task_call, volume_first as volume_first_of}
 use Rattle.diligent_law.specs.Diligence.{BeginsCall, Shows}
 use Rattle.diligent_law.specs.Showing.{IsLookedUp, OneShowingIsEnough}
 
@@ -103,7 +110,7 @@ module _ (rows other : List Object) (same : (key : Key) → row_at key other ≡
           let lost : steps.Lost ≡ steps.Bind = rw (completed, e) at decides in
           absurd (true≢false (sym (ap is_bind lost)))
 
-  first_same : (row : Option Object) (f g : BinderFirst) → IsLookedUp row → IsFirst rows row f → IsFirst other row g → g ≡ f
+  first_same : (row : Option Object) (f g : BinderFirst) → IsLookedUp seats.Binder row → IsFirst rows row f → IsFirst other row g → g ≡ f
   first_same (Some (Volume v)) f g looked d e = e ∙ ap (volume_first v) (same_volume_decision v) ∙ sym d
   first_same (Some (Claim c)) f g looked d e = claim_same c (claim_decision rows c NotAsked) f g (binds_named c looked) d (subst (λ s. IsClaimFirst other c s g) (same_claim_decision c looked) e)
   first_same (Some (Class x)) f g looked d e = absurd looked
@@ -115,38 +122,71 @@ abbrev pub machine_in : BinderFirst → Option Machine
 machine_in (binder_firsts.Begins m) = Some m
 machine_in first = None
 
--- the decision of the actor is that of the binder
+-- the decision of a binder is that of its tables
 pub begins_binder : (rows : List Object) (key : Key) (task : Task) → IsBinderFirst rows key (firsts.Begins task) → (m : Machine) × ((task ≡ tasks.Binder m) × IsFirst rows (row_at key rows) (binder_firsts.Begins m))
 begins_binder rows key (tasks.Binder m) d = (m, (refl, d))
+begins_binder rows key (tasks.ClaimProtect op) d = absurd d
+begins_binder rows key (tasks.VolumeProtect op) d = absurd d
+
+-- where the decision is the same on other rows, it begins with a call there too
+same_begins : (u : Under) (first : First) → task_call u.task ≡ Some u.call → first ≡ firsts.Begins u.task → BeginsCall first
+same_begins u first call e = record { task = u.task; request = u.call; begins = e; call = call }
+
+-- claim protection, on a claim that stays
+guard_of_staying : (guarded needed other : Bool) → guard_due false guarded needed ≡ guard_due false guarded other
+guard_of_staying true needed other = refl
+guard_of_staying false needed other = refl
+
+same_guard : (rows other : List Object) (c : ClaimData) → is_deleting c.meta ≡ false → claim_guard_due other c ≡ claim_guard_due rows c
+same_guard rows other c staying = on other ∙ guard_of_staying (is_protected_claim c) (list_any (uses c) other) (list_any (uses c) rows) ∙ sym (on rows)
+  where
+    on : (rs : List Object) → claim_guard_due rs c ≡ guard_due false (is_protected_claim c) (list_any (uses c) rs)
+    on rs = ap (λ deleting. guard_due deleting (is_protected_claim c) (list_any (uses c) rs)) staying
+
+same_claim_guard : (rows other : List Object) (row : Option Object) → IsLookedUp seats.ClaimProtect row → claim_begins other row ≡ claim_begins rows row
+same_claim_guard rows other (Some (Claim c)) looked = ap (claim_for c) (same_guard rows other c looked)
+same_claim_guard rows other (Some (Volume v)) looked = absurd looked
+same_claim_guard rows other (Some (Class x)) looked = absurd looked
+same_claim_guard rows other (Some (Node n)) looked = absurd looked
+same_claim_guard rows other (Some (Pod p)) looked = absurd looked
+same_claim_guard rows other None looked = absurd looked
+
+module _ (key : Key) (rows other : List Object) (u : Under) (same : (k : Key) → row_at k other ≡ row_at k rows) (call : task_call u.task ≡ Some u.call) where
+  binder_only : IsLookedUp seats.Binder (row_at key rows) → IsBinderFirst rows key (firsts.Begins u.task) → (first : First) → IsBinderFirst other key first → BeginsCall first
+  binder_only looked decided = by
+    where
+      begun : (m : Machine) × ((u.task ≡ tasks.Binder m) × IsFirst rows (row_at key rows) (binder_firsts.Begins m))
+      begun = begins_binder rows key u.task decided
+
+      is : (g : BinderFirst) → IsFirst other (row_at key other) g → g ≡ binder_firsts.Begins begun.0
+      is g d = first_same rows other same (row_at key rows) (binder_firsts.Begins begun.0) g looked begun.1.1 (subst (λ r. IsFirst other r g) (same key) d)
+
+      by : (first : First) → IsBinderFirst other key first → BeginsCall first
+      by firsts.Drops d = none_some (ap machine_in (is binder_firsts.Drops d))
+      by (firsts.Queues k) d = none_some (ap machine_in (is (binder_firsts.Queues k) d))
+      by (firsts.Begins (tasks.Binder n)) d =
+          let same_task : u.task ≡ tasks.Binder n = begun.1.0 ∙ ap (λ m. tasks.Binder m) (sym (one n begun.0 (ap machine_in (is (binder_firsts.Begins n) d)))) in
+          record { task = tasks.Binder n; request = u.call; begins = refl; call = sym (ap task_call same_task) ∙ call }
+      by (firsts.Begins (tasks.ClaimProtect op)) d = absurd d
+      by (firsts.Begins (tasks.VolumeProtect op)) d = absurd d
+
+  only_of : (seat : SeatKind) → IsLookedUp seat (row_at key rows) → IsFirstOf seat rows key (firsts.Begins u.task) → (first : First) → IsFirstOf seat other key first → BeginsCall first
+  only_of seats.Binder looked decided first d = binder_only looked decided first d
+  only_of seats.ClaimProtect looked decided first d =
+      let own : claim_begins other (row_at key other) ≡ claim_begins rows (row_at key rows) = ap (claim_begins other) (same key) ∙ same_claim_guard rows other (row_at key rows) looked in
+      same_begins u first call (d ∙ ap claim_first own ∙ sym decided)
+  only_of seats.VolumeProtect looked decided first d = same_begins u first call (d ∙ ap (λ r. volume_first_of (volume_begins r)) (same key) ∙ sym decided)
+  only_of seats.User looked decided first d = absurd decided
+  only_of seats.Ops looked decided first d = absurd decided
+  only_of seats.Scheduler looked decided first d = absurd decided
+  only_of seats.Agent looked decided first d = absurd decided
 
 pub one_showing : OneShowingIsEnough
-one_showing role key mine rows u binder shows looked own gives = record {
+one_showing role key mine rows u built shows looked own gives = record {
   rows = rows;
   shows = shows;
   under = u;
   own = own;
   gives = gives;
-  only = λ other others first d. only_ other others first (of_role other key first d);
+  only = λ other others first d. only_of key rows other u (λ k. others.shown k ∙ sym (shows.shown k)) gives.call role.kind looked (subst (λ k. IsFirstOf role.kind rows k (firsts.Begins u.task)) own gives.decided) first d;
 }
-  where
-    of_role : (rs : List Object) (k : Key) (first : First) → IsFirstOf role.kind rs k first → IsBinderFirst rs k first
-    of_role rs k first d = subst (λ x. IsFirstOf x rs k first) binder d
-
-    same : (other : List Object) → Shows mine other → (k : Key) → row_at k other ≡ row_at k rows
-    same other others k = others.shown k ∙ sym (shows.shown k)
-
-    begun : (m : Machine) × ((u.task ≡ tasks.Binder m) × IsFirst rows (row_at key rows) (binder_firsts.Begins m))
-    begun = begins_binder rows key u.task (subst (λ k. IsBinderFirst rows k (firsts.Begins u.task)) own (of_role rows u.key (firsts.Begins u.task) gives.decided))
-
-    only_ : (other : List Object) → Shows mine other → (first : First) → IsBinderFirst other key first → BeginsCall first
-    only_ other others = by
-      where
-        is : (g : BinderFirst) → IsFirst other (row_at key other) g → g ≡ binder_firsts.Begins begun.0
-        is g d = first_same rows other (same other others) (row_at key rows) (binder_firsts.Begins begun.0) g looked begun.1.1 (subst (λ r. IsFirst other r g) (same other others key) d)
-
-        by : (first : First) → IsBinderFirst other key first → BeginsCall first
-        by firsts.Drops d = none_some (ap machine_in (is binder_firsts.Drops d))
-        by (firsts.Queues k) d = none_some (ap machine_in (is (binder_firsts.Queues k) d))
-        by (firsts.Begins (tasks.Binder n)) d =
-            let same_task : u.task ≡ tasks.Binder n = begun.1.0 ∙ ap (λ m. tasks.Binder m) (sym (one n begun.0 (ap machine_in (is (binder_firsts.Begins n) d)))) in
-            record { task = tasks.Binder n; request = u.call; begins = refl; call = sym (ap task_call same_task) ∙ gives.call }

@@ -6,7 +6,6 @@ use Rattle.kube_types.specs.declared.parts.Kind.{Kind}
 use Rattle.kube_types.specs.declared.objects.Object.{Object}
 use Rattle.call_types.specs.declared.entry.Entry.{Entry}
 use Rattle.call_types.specs.declared.request.Request.{Request}
-use Rattle.call_types.specs.declared.request.SeatKind.TheVariants.{Binder}
 use Rattle.call_types.specs.declared.reply.Reply.{Reply}
 use Rattle.informer_cache.specs.Cache.{keys_in}
 use Rattle.informer_cache.specs.All.{AllKnown, all_objects}
@@ -25,7 +24,7 @@ use Rattle.worker_core.specs.declared.turn.Outcome.{Outcome}
 use Rattle.worker_core.specs.declared.turn.Outcome.TheVariants as outcomes
 use Rattle.worker_core.specs.declared.turn.Pass.{Pass}
 use Rattle.worker_core.specs.Absorbs.{absorbed, ended_work, given_told, learned, lost_given, lost_under, task_told, woken}
-use Rattle.worker_core.specs.Memories.{Memory, memory_after, memory_of, no_memory, remembers}
+use Rattle.worker_core.specs.Memories.{Memory}
 use Rattle.worker_core.specs.Roles.{kinds_of}
 use Rattle.worker_core.specs.States.{State, call_in, start_call}
 use Rattle.worker_core.specs.Tasks.{task_call, task_moved, task_parks, under_after, with_call, with_task}
@@ -215,12 +214,3 @@ answer_role s caches request outcomes.Lost = by s.given
     by (Some givens.Task) = task s.under
     by (Some givens.Start) = refl
     by (Some (givens.Read kind)) = refl
-
--- a binder remembers nothing
-pub nothing_remembered : (role : Role) (mine : List Entry) → role.kind ≡ Binder → memory_of role mine ≡ no_memory
-nothing_remembered role [] is = refl
-nothing_remembered role (e ∷ mine) is = by e.told (nothing_remembered role mine is)
-  where
-    by : (told : Bool) → memory_of role mine ≡ no_memory → (if told then memory_after role e.request e.reply (memory_of role mine) else memory_of role mine) ≡ no_memory
-    by true before = ap (λ k. remembers k role.node e.request e.reply (memory_of role mine)) is ∙ before
-    by false before = before

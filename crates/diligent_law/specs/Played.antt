@@ -12,10 +12,10 @@ use Rattle.worker_core.specs.declared.turn.Next.TheVariants as nexts
 use Rattle.worker_core.specs.declared.turn.Outcome.{Outcome}
 use Rattle.worker_core.specs.declared.turn.Outcome.TheVariants as outcomes
 use Rattle.worker_core.specs.Absorbs.{absorbed, woken}
+use Rattle.worker_core.specs.Roles.{IsBuiltKind}
 use Rattle.worker_core.specs.Stands.{IsNew, StandsFor}
 use Rattle.worker_core.specs.States.{State}
 use Rattle.worker_core.specs.Turns.{IsTurn}
-use Rattle.call_types.specs.declared.request.SeatKind.TheVariants.{Binder}
 use Rattle.diligent_law.specs.Diligence.{Call, IsDiligent, entries}
 
 -- a turn, after which the actor stands for the same entries
@@ -40,6 +40,6 @@ pub data IsPlayed (role : Role) : State → List Call → Type 0 where
       → Gives s new request outcomes.Lost (entries before) → StandsFor new (entries calls) → IsPlayed role new calls
   Wakes : {new : State} {calls : List Call} (s turned : State) → IsPlayed role s calls → Turns s turned nexts.Idle (entries calls) → new ≡ woken turned → StandsFor new (entries calls) → IsPlayed role new calls
 
--- a binder's life that is played so is diligent
+-- a life that is played so is diligent, of each kind of actor that is built
 abbrev pub PlayedIsDiligent : Type 0
-PlayedIsDiligent = (role : Role) (s : State) (calls : List Call) → role.kind ≡ Binder → IsPlayed role s calls → IsDiligent role calls
+PlayedIsDiligent = (role : Role) (s : State) (calls : List Call) → IsBuiltKind role.kind → IsPlayed role s calls → IsDiligent role calls

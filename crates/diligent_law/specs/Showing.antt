@@ -5,27 +5,32 @@ use Rattle.kube_types.specs.declared.parts.Kind.{Kind}
 use Rattle.kube_types.specs.declared.objects.Object.{Object}
 use Rattle.kube_types.specs.declared.objects.Object.TheVariants.{Volume, Claim}
 use Rattle.kube_types.specs.declared.objects.Volume.{Volume as VolumeData}
-use Rattle.kube_types.specs.Bindings.{is_completed, is_empty}
+use Rattle.kube_types.specs.Bindings.{is_completed, is_deleting, is_empty}
 use Rattle.kube_types.specs.Keys.{AreRows, row_at}
 use Rattle.call_types.specs.declared.entry.Entry.{Entry}
-use Rattle.call_types.specs.declared.request.SeatKind.TheVariants.{Binder}
+use Rattle.call_types.specs.declared.request.SeatKind.{SeatKind}
+use Rattle.call_types.specs.declared.request.SeatKind.TheVariants as seats
 use Rattle.worker_core.specs.declared.role.Role.{Role}
 use Rattle.worker_core.specs.declared.task.Under.{Under}
 use Rattle.worker_core.specs.Memories.{memory_of}
+use Rattle.worker_core.specs.Roles.{IsBuiltKind}
 use Rattle.worker_core.specs.Tasks.{GivesCall}
 use Rattle.worker_core.specs.States.{State}
 use Rattle.diligent_law.specs.Diligence.{AreFourWatches, Call, IsDue, Shows, WasAskedSince, entries}
 use Rattle.diligent_law.specs.Played.{IsPlayed}
 
--- the decision on the row is one by look-ups of keys alone: all but that on a claim for which a volume is sought
-abbrev pub IsLookedUp : Option Object → Type 0
-IsLookedUp (Some (Volume v)) = ⊤
-IsLookedUp (Some (Claim c)) = (is_completed c ≡ true) ⊎ (is_empty c.volume_name ≡ false)
-IsLookedUp row = ⊥
+-- the decision on the row is one by look-ups of keys alone: of a binder all but that on a claim for which a volume is
+-- sought, of claim protection that on a claim that stays, of volume protection each
+abbrev pub IsLookedUp : SeatKind → Option Object → Type 0
+IsLookedUp seats.Binder (Some (Volume v)) = ⊤
+IsLookedUp seats.Binder (Some (Claim c)) = (is_completed c ≡ true) ⊎ (is_empty c.volume_name ≡ false)
+IsLookedUp seats.ClaimProtect (Some (Claim c)) = is_deleting c.meta ≡ false
+IsLookedUp seats.VolumeProtect row = ⊤
+IsLookedUp seat row = ⊥
 
 -- where the rules give a call for such a key on some rows that show the newest told, the key is due
 abbrev pub OneShowingIsEnough : Type 0
-OneShowingIsEnough = (role : Role) (key : Key) (mine : List Entry) (rows : List Object) (u : Under) → role.kind ≡ Binder → Shows mine rows → IsLookedUp (row_at key rows) → u.key ≡ key → GivesCall role (memory_of role mine) rows u → IsDue role key mine
+OneShowingIsEnough = (role : Role) (key : Key) (mine : List Entry) (rows : List Object) (u : Under) → IsBuiltKind role.kind → Shows mine rows → IsLookedUp role.kind (row_at key rows) → u.key ≡ key → GivesCall role (memory_of role mine) rows u → IsDue role key mine
 
 -- no volume of the rows stands in a namespace: no store takes one that does
 abbrev pub HaveNoNamespace : List Object → Type 0
@@ -41,9 +46,9 @@ pub record IsDueInOrder (role : Role) (key : Key) (mine : List Entry) : Type 0 w
   pub own : under.key ≡ key
   pub gives : GivesCall role (memory_of role mine) rows under
 
--- such a key is due, whatever rows are looked at
+-- such a key of a binder is due, whatever rows are looked at
 abbrev pub RowsInOrderAreEnough : Type 0
-RowsInOrderAreEnough = (role : Role) (key : Key) (mine : List Entry) → role.kind ≡ Binder → IsDueInOrder role key mine → IsDue role key mine
+RowsInOrderAreEnough = (role : Role) (key : Key) (mine : List Entry) → role.kind ≡ seats.Binder → IsDueInOrder role key mine → IsDue role key mine
 
 -- at each point from the calls `before` on, up to those that came since
 abbrev pub IsDueInOrderThroughout : Role → Key → List Call → List Call → Type 0
@@ -58,4 +63,4 @@ IsDiligentInOrder role calls = (kind : Kind) (first fourth : Entry) (earlier bet
 
 -- a binder's life that is played is so
 abbrev pub PlayedIsDiligentInOrder : Type 0
-PlayedIsDiligentInOrder = (role : Role) (s : State) (calls : List Call) → role.kind ≡ Binder → IsPlayed role s calls → IsDiligentInOrder role calls
+PlayedIsDiligentInOrder = (role : Role) (s : State) (calls : List Call) → role.kind ≡ seats.Binder → IsPlayed role s calls → IsDiligentInOrder role calls

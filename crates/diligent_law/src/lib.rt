@@ -1,4 +1,4 @@
-//! A binder's life is diligent.
+//! A life of an actor is diligent, of each kind that is built.
 //!
 //! `specs/Diligence` says it on the calls of a life alone: of four told watches of one kind, between which the life was told
 //! nothing new, lost nothing and only read, each key for which the rules give a call at every point was called for.
@@ -12,23 +12,23 @@ pub mod steps;
 ghost use Rattle.diligent_law.specs.Played.{PlayedIsDiligent};
 ghost use Rattle.diligent_law.specs.Showing.{OneShowingIsEnough, PlayedIsDiligentInOrder, RowsInOrderAreEnough};
 
-/// A binder's life that is played by the turns, answers, losses and wakes of an actor is diligent.
+/// A life that is played by the turns, answers, losses and wakes of an actor is diligent.
 pub fn played_is_diligent()
     ensures { PlayedIsDiligent }
 {}
 
-/// The same where what is due is read on the rows in order, and no volume of them stands in a namespace.
+/// The same of a binder, where what is due is read on the rows in order and no volume of them stands in a namespace.
 pub fn played_is_diligent_in_order()
     ensures { PlayedIsDiligentInOrder }
 {}
 
-/// For a volume's key, and for that of a claim that is completed or names its volume, one list of rows tells that it is due.
+/// Where the decision is one by look-ups of keys alone, one list of rows tells that the key is due.
 pub fn one_showing_is_enough()
     ensures { OneShowingIsEnough }
 {}
 
-/// A key is due, whatever rows are looked at, where the rules give a call for it on the rows in order and no volume of them
-/// stands in a namespace.
+/// A binder's key is due, whatever rows are looked at, where the rules give a call for it on the rows in order and no volume
+/// of them stands in a namespace.
 pub fn rows_in_order_are_enough()
     ensures { RowsInOrderAreEnough }
 {}

@@ -2,10 +2,10 @@
 
 ghost use Rattle.std.specs.Prelude.{◌≡◌, List, [], ◌∷◌, Some, None, IfOk, OnOk, false};
 ghost use Rattle.call_types.specs.declared.entry.Entry.{Entry};
-ghost use Rattle.call_types.specs.declared.request.SeatKind.TheVariants as seats;
 ghost use Rattle.informer_cache.specs.Cache.{IsTold};
 ghost use Rattle.worker_core.specs.declared.role.Role.{Role};
 ghost use Rattle.worker_core.specs.declared.turn.Next.TheVariants as nexts;
+ghost use Rattle.worker_core.specs.Roles.{IsBuiltKind};
 ghost use Rattle.worker_core.specs.Stands.{AreOwn, StandsFor};
 ghost use Rattle.worker_core.specs.States.{State, asked};
 ghost use Rattle.diligent_law.specs.Diligence.{Call, entries};
@@ -19,11 +19,12 @@ use std::alloc::Global;
 use worker_core::actor::Actor;
 use worker_core::turn::{Next, Outcome};
 
-/// A binder at the beginning of its first life.
-pub fn begin(alloc: Global, node: &Text) -> Result<Actor, OutOfMemory>
-    ensures { IfOk result (λ actor. IsPlayed (record { kind = seats.Binder; node = node.now }) actor []) }
+/// An actor at the beginning of its first life.
+pub fn begin(alloc: Global, kind: SeatKind, node: &Text) -> Result<Actor, OutOfMemory>
+    requires { IsBuiltKind kind }
+    ensures { IfOk result (λ actor. IsPlayed (record { kind = kind; node = node.now }) actor []) }
 {
-    Actor::new(alloc, SeatKind::Binder, node)
+    Actor::new(alloc, kind, node)
 }
 
 /// The actor at the beginning of a new life.

@@ -69,7 +69,7 @@ no_life : (part : Part) (seat made : ℕ) (past : List Entry) → own seat past 
 no_life part seat made past none before = record { of_seat = sym none; left = sym (left_none part seat made before) }
 
 ended_life : (part : Part) (seat made : ℕ) (past : List Entry) (s : State) → Living part seat made past s → IsDiligentLife binder_role part seat made past
-ended_life part seat made past s living = record { calls = living.calls; are = living.are; diligent = played_is_diligent binder_role s living.calls refl living.played }
+ended_life part seat made past s living = record { calls = living.calls; are = living.are; diligent = played_is_diligent binder_role s living.calls tt living.played }
 
 -- what others do leaves it
 kept_life : (part : Part) (seat made then_made : ℕ) (past later : List Entry) → own seat later ≡ own seat past → left_by part seat then_made ≡ left_by part seat made → IsDiligentLife binder_role part seat made past → IsDiligentLife binder_role part seat then_made later
