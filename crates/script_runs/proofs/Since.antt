@@ -1,6 +1,6 @@
 -- What an actor's pass stands for after some of its entries: turns, answers, lost calls and wakes keep it, and where the
 -- actor is idle there is no news since.
-use Rattle.std.proofs.Common.{◌≡◌, ℕ, ◌≤◌, ◌++◌, List, [], ◌∷◌, length, Bool, true, false, true≢false, Option, Some, None, inl, inr, refl, sym, ◌∙◌, ap, subst, arith}
+use Rattle.std.proofs.Common.{◌≡◌, ◌≤◌, ◌++◌, List, [], ◌∷◌, length, Bool, true, false, true≢false, Option, Some, None, inl, inr, refl, sym, ◌∙◌, ap, subst, arith}
 use Rattle.std.specs.Prelude.{◌&&◌, option_map}
 use Rattle.kube_types.specs.declared.parts.Kind.{Kind}
 use Rattle.kube_types.specs.Keys.{same_kind}
@@ -26,7 +26,7 @@ use Rattle.worker_core.specs.declared.turn.Next.TheVariants as nexts
 use Rattle.worker_core.specs.declared.turn.Outcome.TheVariants as outcomes
 use Rattle.worker_core.specs.declared.turn.Pass.{Pass}
 use Rattle.worker_core.specs.Absorbs.{absorbed, given_told, is_passing, learned, lost_given, lost_to, lost_under, pass_after, task_told, told_to, woken}
-use Rattle.worker_core.specs.Roles.{IsBuiltKind, kind_at, kinds_of}
+use Rattle.worker_core.specs.Roles.{IsBuiltKind, kinds_of}
 use Rattle.worker_core.specs.Stands.{AnyIsUnderWay, AreLicensed, GivenStands, HasNoNews, PassStands, StandsFor}
 use Rattle.worker_core.specs.States.{State, asked, call_in, call_under, given_call, read_request, start_call}
 use Rattle.worker_core.specs.Turns.{AfterKeys, IsTurn, TurnBy, passing, unlisted}
