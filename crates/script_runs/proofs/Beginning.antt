@@ -23,6 +23,7 @@ use Rattle.script_parts.specs.Budget.{first_budget}
 use Rattle.script_parts.specs.Parts.{first_actor_seat}
 use Rattle.script_runs.specs.Replays.{EndsAs, IsDrain, IsMove, IsReplay, MoreMoves, NoMoves, Progress, begun}
 use Rattle.script_runs.specs.Steps.Living.{Lives}
+use Rattle.worker_core.specs.declared.role.Role.{Role}
 use Rattle.script_runs.specs.Steps.Playing.{EachPlayer, IsNewPlayer, Plays}
 use Rattle.script_runs.specs.Steps.Standing.{Ended, HasMoved, IsBudget, SoFar, Stands, end_of, fourth_seat, part_from, parts_from, parts_in, seat_of_drains, second_seat, third_seat, with_made}
 use Rattle.script_runs.proofs.Casting.{small_seats}
@@ -33,7 +34,7 @@ use Rattle.script_runs.proofs.Since.{new_since}
 
 new_plays : (x : Player) → IsNewPlayer x → Plays x [] (λ seat. [])
 new_plays x is = record {
-  kind = is.kind;
+  kind = ap (λ (r : Role). r.kind) is.new.is;
   first = let s = is.seat in omega (arith, s);
   reached = let s = is.seat in omega (arith, s);
   since = new_since x.actor is.stands;

@@ -3,24 +3,21 @@ use Rattle.std.proofs.Common.{◌≡◌, ℕ, zero, suc, ◌<◌, ◌≤◌, ◌
 use Rattle.std.specs.Prelude.{slice_get}
 use Rattle.std.proofs.lemmas.List.{drop_all}
 use Rattle.call_types.specs.declared.entry.Entry.{Entry}
-use Rattle.call_types.specs.declared.request.SeatKind.TheVariants as seats
 use Rattle.model_laws.proofs.Lists.{none_some}
 use Rattle.world_core.specs.declared.drained.Drained.{Drained}
 use Rattle.script_lines.specs.declared.actors.Actor.{Actor}
 use Rattle.script_lines.specs.declared.actors.Actor.TheVariants.{Worker, Agent}
-use Rattle.script_lines.specs.declared.actors.WorkerKind.{WorkerKind}
-use Rattle.script_lines.specs.declared.actors.WorkerKind.TheVariants as workers
 use Rattle.script_lines.specs.Actors.{actor_word}
 use Rattle.script_text.specs.declared.script.Line.TheVariants as kinds_of_line
 use Rattle.script_text.specs.declared.script.Script.{Script}
 use Rattle.script_parts.specs.declared.part.Part.{Part}
-use Rattle.script_parts.specs.Limits.{AreBuilt, is_actor_built, is_kind_built}
-use Rattle.script_parts.specs.Parts.{is_named, kind_of_worker, lives_of, part_of}
+use Rattle.script_parts.specs.Limits.{AreBuilt, is_actor_built}
+use Rattle.script_parts.specs.Parts.{is_named, lives_of, part_of}
 use Rattle.script_runs.specs.declared.player.Player.{Player}
 use Rattle.script_runs.specs.declared.stage.Stage.{Stage}
 use Rattle.script_runs.specs.Diligent.{AreDiligent, IsDiligentLife, IsDiligentReplay, role_of}
 use Rattle.script_runs.specs.Replays.{NoMoves, Progress}
-use Rattle.script_runs.specs.Steps.Living.{binder_role}
+use Rattle.script_runs.specs.Steps.Living.{role_of_part}
 use Rattle.script_runs.specs.Steps.Standing.{Ended, SoFar, SomeStands, Stands, parts_in, place_of}
 use Rattle.script_runs.proofs.Casting.{built_at, named_at, part_of_built}
 use Rattle.script_runs.proofs.Lived.{each_life}
@@ -32,16 +29,9 @@ player_of [] place part at = none_some at
 player_of (x ∷ xs) zero part at = (x, refl)
 player_of (x ∷ xs) (suc place) part at = player_of xs place part at
 
-kind_by : (k : WorkerKind) → is_kind_built k ≡ true → kind_of_worker k ≡ seats.Binder
-kind_by workers.Binder built = refl
-kind_by workers.Ops built = absurd (true≢false (sym built))
-kind_by workers.Scheduler built = absurd (true≢false (sym built))
-kind_by workers.Claims built = absurd (true≢false (sym built))
-kind_by workers.Volumes built = absurd (true≢false (sym built))
-
-role_built : (actor : Actor) → is_actor_built actor ≡ true → role_of actor ≡ binder_role
-role_built (Agent node) built = absurd (true≢false (sym built))
-role_built (Worker w) built = ap (λ k. record { kind = k; node = [] }) (kind_by w.kind built)
+role_built : (script : Script) (actor : Actor) → is_actor_built actor ≡ true → role_of actor ≡ role_of_part (part_of script actor)
+role_built script (Agent node) built = absurd (true≢false (sym built))
+role_built script (Worker w) built = refl
 
 module _ (script : Script) (option : Option ℕ) (end : Progress) (s : Stage) (stands : Stands script option end s) where
   diligent_actor : (actor : Actor) → is_actor_built actor ≡ true → is_named (actor_word actor) script.lines ≡ true → (seat : ℕ) → (part_of script actor).first ≤ seat → seat < (part_of script actor).first + lives_of (part_of script actor)
@@ -57,10 +47,10 @@ module _ (script : Script) (option : Option ℕ) (end : Progress) (s : Stage) (s
           let its : x.part.named ≡ true = its_name script option actor s built some x at named in
           let life = each_life x s.world.past end.idle (stands.plays (place_of actor) x at its) (stands.lives (place_of actor) x at its) seat
           (subst (λ (p : Part). p.first ≤ seat) part low) (subst (λ (p : Part). seat < p.first + lives_of p) part high) in
-          subst (λ role. IsDiligentLife role (part_of script actor) seat (end.made (part_of script actor).name) end.past) (sym (role_built actor built))
-          (subst (λ h. IsDiligentLife binder_role (part_of script actor) seat (end.made (part_of script actor).name) h) stands.past
-          (subst (λ (p : Part). IsDiligentLife binder_role p seat (end.made p.name) s.world.past) (sym part)
-          (subst (λ made. IsDiligentLife binder_role x.part seat made s.world.past) (stands.made (place_of actor) x at) life)))
+          subst (λ role. IsDiligentLife role (part_of script actor) seat (end.made (part_of script actor).name) end.past) (sym (role_built script actor built))
+          (subst (λ h. IsDiligentLife (role_of_part (part_of script actor)) (part_of script actor) seat (end.made (part_of script actor).name) h) stands.past
+          (subst (λ (p : Part). IsDiligentLife (role_of_part p) p seat (end.made p.name) s.world.past) (sym part)
+          (subst (λ made. IsDiligentLife (role_of_part x.part) x.part seat made s.world.past) (stands.made (place_of actor) x at) life)))
 
   pub are_diligent : AreBuilt script.lines → AreDiligent script end
   are_diligent all place actor calls at seat low high =

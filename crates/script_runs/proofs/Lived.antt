@@ -12,6 +12,7 @@ use Rattle.world_core.specs.Kept.{History}
 use Rattle.worker_core.specs.declared.role.Role.{Role}
 use Rattle.worker_core.specs.declared.turn.Next.TheVariants as nexts
 use Rattle.worker_core.specs.Absorbs.{woken}
+use Rattle.worker_core.specs.Roles.{IsBuiltKind}
 use Rattle.worker_core.specs.Stands.{IsNew, StandsFor}
 use Rattle.worker_core.specs.States.{State}
 use Rattle.worker_core.specs.Turns.{IsTurn}
@@ -22,7 +23,7 @@ use Rattle.script_parts.specs.Parts.{lives_of}
 use Rattle.script_runs.specs.declared.player.Player.{Player}
 use Rattle.script_runs.specs.Calls.{restarts_before, seat_at}
 use Rattle.script_runs.specs.Diligent.{AreOfLife, IsDiligentLife, leaves_entry, left_by}
-use Rattle.script_runs.specs.Steps.Living.{GoesOn, Lives, LivesIdle, Living, binder_role}
+use Rattle.script_runs.specs.Steps.Living.{GoesOn, Lives, LivesIdle, Living, role_of_part}
 use Rattle.script_runs.specs.Steps.Playing.{IsLife, IsNewPlayer, Plays}
 use Rattle.script_runs.proofs.Lives.{seat_more, seat_within}
 use Rattle.script_runs.proofs.Stepping.{less}
@@ -68,11 +69,11 @@ none_diligent role kind first fourth earlier between later is four key due = abs
 no_life : (part : Part) (seat made : ℕ) (past : List Entry) → own seat past ≡ [] → seat_at part made < seat → AreOfLife part seat made past []
 no_life part seat made past none before = record { of_seat = sym none; left = sym (left_none part seat made before) }
 
-ended_life : (part : Part) (seat made : ℕ) (past : List Entry) (s : State) → Living part seat made past s → IsDiligentLife binder_role part seat made past
-ended_life part seat made past s living = record { calls = living.calls; are = living.are; diligent = played_is_diligent binder_role s living.calls tt living.played }
+ended_life : (part : Part) (seat made : ℕ) (past : List Entry) (s : State) → IsBuiltKind part.kind → Living part seat made past s → IsDiligentLife (role_of_part part) part seat made past
+ended_life part seat made past s built living = record { calls = living.calls; are = living.are; diligent = played_is_diligent (role_of_part part) s living.calls built living.played }
 
 -- what others do leaves it
-kept_life : (part : Part) (seat made then_made : ℕ) (past later : List Entry) → own seat later ≡ own seat past → left_by part seat then_made ≡ left_by part seat made → IsDiligentLife binder_role part seat made past → IsDiligentLife binder_role part seat then_made later
+kept_life : (part : Part) (seat made then_made : ℕ) (past later : List Entry) → own seat later ≡ own seat past → left_by part seat then_made ≡ left_by part seat made → IsDiligentLife (role_of_part part) part seat made past → IsDiligentLife (role_of_part part) part seat then_made later
 kept_life part seat made then_made past later same left life = record {
   calls = life.calls;
   are = record { of_seat = life.are.of_seat ∙ sym same; left = life.are.left ∙ sym left };
@@ -80,18 +81,18 @@ kept_life part seat made then_made past later same left life = record {
 }
 
 -- each life so far, and each later one
-pub each_life : (x : Player) (past : List Entry) (idle : ℕ → List Entry) → Plays x past idle → Lives x past → (seat : ℕ) → x.part.first ≤ seat → seat < x.part.first + lives_of x.part → IsDiligentLife binder_role x.part seat x.made past
+pub each_life : (x : Player) (past : List Entry) (idle : ℕ → List Entry) → Plays x past idle → Lives x past → (seat : ℕ) → x.part.first ≤ seat → seat < x.part.first + lives_of x.part → IsDiligentLife (role_of_part x.part) x.part seat x.made past
 each_life x past idle plays lives seat low high = by (nat_lt seat x.seat) (nat_lt x.seat seat) refl refl
   where
-    by : (b a : Bool) → nat_lt seat x.seat ≡ b → nat_lt x.seat seat ≡ a → IsDiligentLife binder_role x.part seat x.made past
+    by : (b a : Bool) → nat_lt seat x.seat ≡ b → nat_lt x.seat seat ≡ a → IsDiligentLife (role_of_part x.part) x.part seat x.made past
     by true a eb ea = lives.ended seat low (grind (arith, nat_tests))
     by false true eb ea =
         let after : x.seat < seat = grind (arith, nat_tests) in
         let began = lives.began in
-        record { calls = []; are = no_life x.part seat x.made past (plays.unborn seat after high).0 (omega (arith, began, after)); diligent = none_diligent binder_role }
+        record { calls = []; are = no_life x.part seat x.made past (plays.unborn seat after high).0 (omega (arith, began, after)); diligent = none_diligent (role_of_part x.part) }
     by false false eb ea =
         let same : x.seat ≡ seat = grind (arith, nat_tests) in
-        subst (λ s. IsDiligentLife binder_role x.part s x.made past) same (ended_life x.part x.seat x.made past x.actor lives.living)
+        subst (λ s. IsDiligentLife (role_of_part x.part) x.part s x.made past) same (ended_life x.part x.seat x.made past x.actor lives.built lives.living)
 
 -- ---- steps
 
@@ -102,8 +103,9 @@ next_lives old seat actor past idle named is other new stands plays lives =
     let within = seat_within old.part (old.made + 1) named in
     let later : old.seat < seat = less old.seat seat (seat_at old.part (old.made + 1)) plays.reached is other in
     let none = plays.unborn seat later (omega (arith, within, is)) in
-    let role : old.actor.role ≡ binder_role = same_role binder_role old.actor lives.living.calls lives.living.played in
+    let role : old.actor.role ≡ role_of_part old.part = same_role (role_of_part old.part) old.actor lives.living.calls lives.living.played in
     record {
+      built = lives.built;
       began = let more = seat_more old.part old.made in omega (arith, more, is);
       living = record {
         calls = [];
@@ -119,9 +121,10 @@ pub made_lives : (mid : Player) (given actor : State) (request : Request) (fate 
     → ((other : ℕ) → other ≢ mid.seat → own other after.past ≡ own other before.past) → Lives mid before.past → Lives (record mid { made = mid.made + 1; actor = actor }) after.past
 made_lives mid given actor request fate before after is lost turn keeps goes others lives =
     let living = lives.living in
-    let stands = stands_now binder_role mid.actor living.calls living.played in
-    let went = goes binder_role mid.actor living.calls living.played (record { turn = turn; stands = keeps (entries living.calls) stands }) living.are.of_seat in
+    let stands = stands_now (role_of_part mid.part) mid.actor living.calls living.played in
+    let went = goes (role_of_part mid.part) mid.actor living.calls living.played (record { turn = turn; stands = keeps (entries living.calls) stands }) living.are.of_seat in
     record {
+      built = lives.built;
       began = omega (arith, is);
       living = record {
         calls = went.call ∷ living.calls;
@@ -139,7 +142,7 @@ made_lives mid given actor request fate before after is lost turn keeps goes oth
 pub idle_lives : (mid : Player) (given : State) (past : List Entry) → IsTurn mid.actor given nexts.Idle → ((mine : List Entry) → StandsFor mid.actor mine → StandsFor given mine) → Lives mid past → LivesIdle (record mid { actor = given }) past
 idle_lives mid given past turn keeps lives =
     let living = lives.living in
-    let stands = stands_now binder_role mid.actor living.calls living.played in
+    let stands = stands_now (role_of_part mid.part) mid.actor living.calls living.played in
     record {
       before = mid.actor;
       lives = lives;
@@ -152,6 +155,7 @@ woken_lives p actor past is keeps idle =
     let living = idle.lives.living in
     let stands : StandsFor p.actor (entries living.calls) = subst (StandsFor p.actor) (sym living.are.of_seat) idle.turns.stands in
     record {
+      built = idle.lives.built;
       began = idle.lives.began;
       living = record {
         calls = living.calls;
@@ -164,6 +168,7 @@ woken_lives p actor past is keeps idle =
 -- entries of other seats leave the lives
 pub lives_on : (x : Player) (h later : List Entry) → IsLife x.part x.seat → ((seat : ℕ) → IsLife x.part seat → own seat later ≡ own seat h) → Lives x h → Lives x later
 lives_on x h later at same lives = record {
+  built = lives.built;
   began = lives.began;
   living = record { calls = lives.living.calls; are = record { of_seat = lives.living.are.of_seat ∙ sym (same x.seat at); left = lives.living.are.left }; played = lives.living.played };
   ended = λ seat low below. let high = at.1 in kept_life x.part seat x.made x.made h later (same seat (low, omega (arith, below, high))) refl (lives.ended seat low below);
@@ -181,6 +186,7 @@ none_before (after ∷ restarts) = by (nat_lt after 0) refl (none_before restart
 
 pub new_lives : (x : Player) → IsNewPlayer x → Lives x []
 new_lives x is = record {
+  built = is.built;
   began = let first : seat_at x.part x.made ≡ x.part.first + 0 = ap (seat_at x.part) is.made ∙ ap (λ n. x.part.first + n) (none_before x.part.restarts) in let s = is.seat in omega (arith, first, s);
   living = record { calls = []; are = record { of_seat = refl; left = sym (ap (left_by x.part x.seat) is.made) }; played = Begins refl is.new is.stands };
   ended = λ seat low below. absurd (let s = is.seat in omega (arith, s, low, below));

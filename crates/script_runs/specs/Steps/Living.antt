@@ -3,12 +3,12 @@
 use Rattle.std.specs.Prelude.{ℕ, ◌≡◌, ◌≤◌, ◌<◌, Bool, true, false, List, [], ◌∷◌, is_some}
 use Rattle.call_types.specs.declared.entry.Entry.{Entry}
 use Rattle.call_types.specs.declared.request.Request.{Request}
-use Rattle.call_types.specs.declared.request.SeatKind.TheVariants as seats
 use Rattle.binder_model.specs.Told.{own}
 use Rattle.diligent_law.specs.Diligence.{Call, entries}
 use Rattle.diligent_law.specs.Played.{IsPlayed, Turns}
 use Rattle.worker_core.specs.declared.role.Role.{Role}
 use Rattle.worker_core.specs.declared.turn.Next.TheVariants as nexts
+use Rattle.worker_core.specs.Roles.{IsBuiltKind}
 use Rattle.worker_core.specs.States.{State}
 use Rattle.world_core.specs.Kept.{History}
 use Rattle.script_parts.specs.declared.loss.Fate.{Fate}
@@ -17,8 +17,9 @@ use Rattle.script_runs.specs.declared.player.Player.{Player}
 use Rattle.script_runs.specs.Calls.{seat_at}
 use Rattle.script_runs.specs.Diligent.{AreOfLife, IsDiligentLife, leaves_entry}
 
-abbrev pub binder_role : Role
-binder_role = record { kind = seats.Binder; node = [] }
+-- the role of a worker
+abbrev pub role_of_part : Part → Role
+role_of_part part = record { kind = part.kind; node = [] }
 
 -- ---- a call
 
@@ -40,13 +41,14 @@ GoesOn seat fate request before after old new = (role : Role) (s : State) (calls
 pub record Living (part : Part) (seat made : ℕ) (past : List Entry) (s : State) : Type 0 where
   pub calls : List Call
   pub are : AreOfLife part seat made past calls
-  pub played : IsPlayed binder_role s calls
+  pub played : IsPlayed (role_of_part part) s calls
 
 -- the life of the player, and those before it
 pub record Lives (p : Player) (past : List Entry) : Type 0 where
+  pub built : IsBuiltKind p.part.kind
   pub began : seat_at p.part p.made ≤ p.seat
   pub living : Living p.part p.seat p.made past p.actor
-  pub ended : (seat : ℕ) → p.part.first ≤ seat → seat < p.seat → IsDiligentLife binder_role p.part seat p.made past
+  pub ended : (seat : ℕ) → p.part.first ≤ seat → seat < p.seat → IsDiligentLife (role_of_part p.part) p.part seat p.made past
 
 -- the turn of the player has given no call
 pub record LivesIdle (p : Player) (past : List Entry) : Type 0 where

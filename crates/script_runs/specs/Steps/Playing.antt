@@ -4,6 +4,7 @@ use Rattle.std.specs.Prelude.{ℕ, ◌≡◌, ◌≢◌, ◌≤◌, ◌<◌, ◌
 use Rattle.call_types.specs.declared.entry.Entry.{Entry}
 use Rattle.binder_model.specs.Told.{own}
 use Rattle.world_core.specs.Kept.{History}
+use Rattle.worker_core.specs.Roles.{IsBuiltKind}
 use Rattle.worker_core.specs.Stands.{IsNew, PassStands, StandsFor}
 use Rattle.worker_core.specs.States.{State}
 use Rattle.script_parts.specs.declared.part.Part.{Part}
@@ -11,7 +12,7 @@ use Rattle.script_runs.specs.declared.player.Player.{Player}
 use Rattle.script_runs.specs.Calls.{AreCalls, IsCall, IsQuietSince, seat_at}
 use Rattle.script_parts.specs.Parts.{lives_of}
 use Rattle.script_runs.specs.Replays.{and_idle}
-use Rattle.script_runs.specs.Steps.Living.{binder_role}
+use Rattle.script_runs.specs.Steps.Living.{role_of_part}
 
 -- the actor stands for its entries, and its pass for those after the earlier ones
 pub record StandsSince (s : State) (earlier mine : List Entry) : Type 0 where
@@ -105,6 +106,6 @@ EachPlayer Q players = (place : ℕ) (x : Player) → slice_get players place �
 pub record IsNewPlayer (x : Player) : Type 0 where
   pub seat : x.seat ≡ x.part.first
   pub made : x.made ≡ 0
-  pub kind : x.actor.role.kind ≡ x.part.kind
-  pub new : IsNew binder_role x.actor
+  pub built : IsBuiltKind x.part.kind
+  pub new : IsNew (role_of_part x.part) x.actor
   pub stands : StandsFor x.actor []
