@@ -256,13 +256,13 @@ module _ (setup : Setup) (w : World) where
 
 without_second : (x y z : Option Due) → Stays x → Goes y → Stays z → or_due (counted is_built x) (or_due (counted is_built y) (counted is_built z)) ≡ or_due x z
 unfolding or_due
-without_second None y z s t u = rw (s, t, u) refl
+without_second None y z s t u = rw (t, u) refl
 without_second (Some x) y z s t u = rw s refl
 
 without_third : (x y z : Option Due) → Stays x → Stays y → Goes z → or_due (counted is_built x) (or_due (counted is_built y) (counted is_built z)) ≡ or_due x y
 unfolding or_due
-without_third None None z s t u = rw (s, t, u) refl
-without_third None (Some y) z s t u = rw (s, t) refl
+without_third None None z s t u = u
+without_third None (Some y) z s t u = rw t refl
 without_third (Some x) y z s t u = rw s refl
 
 pub binder_and_protection_are_built : BinderAndProtectionAreBuilt
