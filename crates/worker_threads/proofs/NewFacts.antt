@@ -43,7 +43,7 @@ pub new_differ : (first : ℕ) (ds : List Drainer) → AreNew first ds → AreSe
 new_differ first ds new = subst AreSeats (sym (new_seats first ds new)) (record { some = omega arith; differ = differ_at first })
 
 -- drainers that stand for nothing
-AllStand : List Drainer → Type 0
+abbrev AllStand : List Drainer → Type 0
 AllStand ds = (place : ℕ) (d : Drainer) → slice_get ds place ≡ Some d → StandsFor d.actor []
 
 new_stand : (ds : List Drainer) → AllStand ds → (past : List Entry) → HaveNoEntries (seats_of ds) past → AreStanding ds past

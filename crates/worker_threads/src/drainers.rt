@@ -60,7 +60,7 @@ const CLAIMS: u64 = 3;
 const VOLUMES: u64 = 4;
 
 /// A new actor of the kind, at the seat.
-fn drainer(alloc: Global, kind: SeatKind, seat: u64) -> Result<Drainer, OutOfMemory>
+fn new_drainer(alloc: Global, kind: SeatKind, seat: u64) -> Result<Drainer, OutOfMemory>
     requires { IsBuiltKind kind }
     ensures at { IfOk result (λ d. IsNewAt kind seat d) }
     ensures stands { IfOk result (λ d. StandsFor d.actor []) }
@@ -77,9 +77,9 @@ impl Drainers {
         ensures are { IfOk result (λ drainers. AreNew first_seat drainers) }
         ensures stand { IfOk result (λ drainers. (past : List Entry) → HaveNoEntries (seats_of drainers) past → AreStanding drainers past) }
     {
-        let binder = drainer(alloc, SeatKind::Binder, first_seat + BINDER)?;
-        let claims = drainer(alloc, SeatKind::ClaimProtect, first_seat + CLAIMS)?;
-        let volumes = drainer(alloc, SeatKind::VolumeProtect, first_seat + VOLUMES)?;
+        let binder = new_drainer(alloc, SeatKind::Binder, first_seat + BINDER)?;
+        let claims = new_drainer(alloc, SeatKind::ClaimProtect, first_seat + CLAIMS)?;
+        let volumes = new_drainer(alloc, SeatKind::VolumeProtect, first_seat + VOLUMES)?;
         let mut list = Vec::new(alloc);
         list.push(binder)?;
         list.push(claims)?;
