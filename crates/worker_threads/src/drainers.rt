@@ -56,7 +56,9 @@ impl Model for Drainers {
 /// The seats of the actors, counted from the first one on: binder, ops, scheduler, claim protection, volume protection, and
 /// then the agents. An actor that is not built keeps its number.
 const BINDER: u64 = 0;
+
 const CLAIMS: u64 = 3;
+
 const VOLUMES: u64 = 4;
 
 /// A new actor of the kind, at the seat.
