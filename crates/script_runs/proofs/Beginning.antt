@@ -9,9 +9,7 @@ use Rattle.model_laws.proofs.Lists.{none_some, one}
 use Rattle.settle_check.specs.SoFar.{IsFirstBuiltDue, IsSettledSoFar}
 use Rattle.world_core.specs.declared.drained.Drained.{Drained}
 use Rattle.world_core.specs.declared.drained.Drained.TheVariants.{Settled, Spent}
-use Rattle.worker_threads.specs.declared.drainers.Drainer.{Drainer}
 use Rattle.worker_threads.specs.Drainers.{AreNew, AreStanding, HaveNoEntries, seats_of}
-use Rattle.worker_threads.specs.Longer.{IsOneOf}
 use Rattle.worker_threads.specs.Rounds.{EndsWith, made_of}
 use Rattle.script_text.specs.declared.script.Line.{Line}
 use Rattle.script_text.specs.declared.script.Script.{Script}
