@@ -87,10 +87,6 @@ drop_at [] place x at = none_some at
 drop_at (y ∷ xs) zero x at = ap (λ z. z ∷ xs) (one y x at)
 drop_at (y ∷ xs) (suc place) x at = let e : suc (place + 1) ≡ suc place + 1 = omega arith in subst (λ n. drop (suc place) (y ∷ xs) ≡ x ∷ drop n (y ∷ xs)) e (drop_at xs place x at)
 
-append_none : (ps : List Part) → ps ++ [] ≡ ps
-append_none [] = refl
-append_none (p ∷ ps) = ap (λ rest. p ∷ rest) (append_none ps)
-
 appended : (ps qs rs : List Part) → (ps ++ qs) ++ rs ≡ ps ++ (qs ++ rs)
 appended [] qs rs = refl
 appended (p ∷ ps) qs rs = ap (λ rest. p ∷ rest) (appended ps qs rs)
@@ -111,6 +107,9 @@ and_then : (ps : List Part) (p : Part) (qs : List Part) → (ps ++ p ∷ []) ++ 
 and_then [] p qs = refl
 and_then (q ∷ ps) p qs = ap (λ rest. q ∷ rest) (and_then ps p qs)
 
+pub no_players : EachPlayer IsNewPlayer []
+no_players place x at = none_some at
+
 -- a player, pushed after others that are new
 pub each_more : (xs : List Player) (x : Player) → EachPlayer IsNewPlayer xs → IsNewPlayer x → EachPlayer IsNewPlayer (xs ++ x ∷ [])
 each_more [] x all own zero y at = subst IsNewPlayer (one x y at) own
@@ -123,9 +122,9 @@ module _ (lines : List Line) (kind : WorkerKind) (numbers : List WorkerNumber) (
   abbrev worker : WorkerData
   worker = record { kind = kind; number = number }
 
-  pub adds_part : (first seat next : ℕ) (before after : List Player) (added : Player) (all : List Part) → added.part ≡ part_from lines worker seat → next ≡ end_of added.part → after ≡ before ++ added ∷ []
+  pub adds_part : (seat next : ℕ) (before after : List Player) (added : Player) (all : List Part) → added.part ≡ part_from lines worker seat → next ≡ end_of added.part → after ≡ before ++ added ∷ []
       → parts_in before ++ parts_from lines (workers_of kind (drop index numbers)) seat ≡ all → parts_in after ++ parts_from lines (workers_of kind (drop (index + 1) numbers)) next ≡ all
-  adds_part first seat next before after added all part ends pushed so_far =
+  adds_part seat next before after added all part ends pushed so_far =
       let rest : workers_of kind (drop index numbers) ≡ worker ∷ workers_of kind (drop (index + 1) numbers) = ap (workers_of kind) (drop_at numbers index number here) in
       let seats : next ≡ end_of (part_from lines worker seat) = ends ∙ ap end_of part in
       let later = parts_from lines (workers_of kind (drop (index + 1) numbers)) next in
@@ -138,13 +137,6 @@ module _ (lines : List Line) (kind : WorkerKind) (numbers : List WorkerNumber) (
       let rest : workers_of kind (drop index numbers) ≡ worker ∷ workers_of kind (drop (index + 1) numbers) = ap (workers_of kind) (drop_at numbers index number here) in
       let seats : next ≡ end_of (part_from lines worker seat) = ends ∙ ap end_of part in
       ap (seat_past lines (workers_of kind (drop (index + 1) numbers))) seats ∙ ap (λ ws. seat_past lines ws seat) (sym rest) ∙ so_far
-
--- where all were added
-pub all_added : (lines : List Line) (kind : WorkerKind) (numbers : List WorkerNumber) (index seat : ℕ) (players : List Player) (all : List Part) → length numbers ≤ index → parts_in players ++ parts_from lines (workers_of kind (drop index numbers)) seat ≡ all → parts_in players ≡ all
-all_added lines kind numbers index seat players all over so_far = sym (append_none (parts_in players)) ∙ ap (λ (ns : List WorkerNumber). parts_in players ++ parts_from lines (workers_of kind ns) seat) (sym (drop_all index numbers over)) ∙ so_far
-
-pub all_past : (lines : List Line) (kind : WorkerKind) (numbers : List WorkerNumber) (index seat end : ℕ) → length numbers ≤ index → seat_past lines (workers_of kind (drop index numbers)) seat ≡ end → seat ≡ end
-all_past lines kind numbers index seat end over so_far = ap (λ (ns : List WorkerNumber). seat_past lines (workers_of kind ns) seat) (sym (drop_all index numbers over)) ∙ so_far
 
 -- the workers of three kinds, added after each other
 parts_of_three : (lines : List Line) (bs cs vs : List WorkerData) (first second third : ℕ) (ones two three : List Part) → ones ≡ parts_from lines bs first → second ≡ seat_past lines bs first → two ≡ ones ++ parts_from lines cs second → third ≡ seat_past lines cs second

@@ -3,7 +3,6 @@ use Rattle.std.proofs.Common.{◌≡◌, ℕ, ◌+◌, ◌*◌, ◌≤◌, zero,
 use Rattle.std.specs.Prelude.{bytes_eq, slice_get, ◌||◌}
 use Rattle.std.proofs.lemmas.Slice.Eq.{bytes_eq-Decides}
 use Rattle.model_laws.proofs.Lists.{none_some, one}
-use Rattle.worker_core.specs.Roles.{IsBuiltKind}
 use Rattle.script_lines.specs.declared.actors.WorkerKind.{WorkerKind}
 use Rattle.script_lines.specs.declared.actors.WorkerKind.TheVariants as workers
 use Rattle.script_lines.specs.declared.actors.WorkerNumber.{WorkerNumber}
@@ -18,18 +17,9 @@ use Rattle.script_lines.specs.Actors.{actor_word, agent_word, four, kind_prefix,
 use Rattle.script_text.specs.Said.{restart_of, restarts_of}
 use Rattle.script_parts.specs.declared.part.Part.{Part}
 use Rattle.script_parts.specs.Limits.{AreBuilt, AreWithinLimits, IsWithinLimits, is_actor_built, is_kind_built, is_line_built}
-use Rattle.script_parts.specs.Parts.{all_actors, all_lives, drain_seat, first_actor_seat, is_named, is_turn_of, kind_of_worker, lives_before, lives_by, lives_in, part_of}
+use Rattle.script_parts.specs.Parts.{all_actors, all_lives, drain_seat, first_actor_seat, is_named, is_turn_of, lives_before, lives_by, lives_in, part_of}
 use Rattle.script_runs.specs.Steps.Standing.{built_parts, built_workers, end_of, part_from, parts_from, place_of, place_of_kind, place_of_number, seat_of_drains, seat_past}
 use Rattle.script_runs.proofs.Orders.{AreInOrder, all_differ, differs_at, differs_from, first_differs, flipped}
-
--- ---- the kinds that are built
-
-pub built_kind : (kind : WorkerKind) → is_kind_built kind ≡ true → IsBuiltKind (kind_of_worker kind)
-built_kind workers.Binder built = tt
-built_kind workers.Ops built = absurd (true≢false (sym built))
-built_kind workers.Scheduler built = absurd (true≢false (sym built))
-built_kind workers.Claims built = tt
-built_kind workers.Volumes built = tt
 
 -- ---- names
 
@@ -173,6 +163,9 @@ if_other false lives differs = refl
 add_none : (first n : ℕ) → n ≡ 0 → first ≡ first + n
 add_none first n none = omega (arith, none)
 
+add_skip : (first lives rest n : ℕ) → n ≡ lives + rest → lives ≡ 0 → first + rest ≡ first + n
+add_skip first lives rest n is none = omega (arith, is, none)
+
 add_more : (first lives rest n : ℕ) → n ≡ lives + rest → first + lives + rest ≡ first + n
 add_more first lives rest n is = omega (arith, is)
 
@@ -204,7 +197,7 @@ part_there lines (actor ∷ actors) w all built first i differ at = by (built_on
         let not = not_one actor none in
         let passed = before_other lines actor actors w (flipped (worker_word w) (actor_word actor) (other_word (Worker w) actor built not)) in
         let here = no_lives actor lines not all in
-        let sum : first + lives_before (worker_word w) actors lines ≡ first + lives_before (worker_word w) (actor ∷ actors) lines = ap (λ n. first + n) (sym (passed ∙ ap (λ n. n + lives_before (worker_word w) actors lines) here)) in
+        let sum : first + lives_before (worker_word w) actors lines ≡ first + lives_before (worker_word w) (actor ∷ actors) lines = add_skip first (lives_in (actor_word actor) lines) (lives_before (worker_word w) actors lines) _ passed here in
         next first i differ at ∙ ap (λ n. Some (part_from lines w n)) sum
     by (Some v) is zero differ at next =
         let same = one v w at in
@@ -275,7 +268,7 @@ few_lives : (named : Bool) (restarts : ℕ) → lives_by named restarts ≤ 1 + 
 few_lives true restarts = omega arith
 few_lives false restarts = omega arith
 
-few_end : (lines : List Line) (w : WorkerData) (first : ℕ) → length lines ≤ 4096 → end_of (part_from lines w first) ≤ first + 4097
+pub few_end : (lines : List Line) (w : WorkerData) (first : ℕ) → length lines ≤ 4096 → end_of (part_from lines w first) ≤ first + 4097
 few_end lines w first few =
     let lives = few_lives (is_named (worker_word w) lines) (length (restarts_of (worker_word w) lines)) in
     let restarts = few_restarts (worker_word w) lines in

@@ -1,7 +1,7 @@
 use Rattle.std.proofs.Common.{◌≤◌, length, subst, sym}
 use Rattle.script_parts.specs.declared.part.Part.{Part}
 use Rattle.script_lines.specs.Actors.{worker_word}
-use Rattle.script_runs.proofs.Casting.{built_kind, few_restarts}
+use Rattle.script_runs.proofs.Casting.{few_restarts}
 use Rattle.script_runs.proofs.stage.player.Goals as goal
 
 pub returns-clause-few : goal.returns-clause-few
