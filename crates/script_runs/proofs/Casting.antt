@@ -19,7 +19,7 @@ use Rattle.script_parts.specs.declared.part.Part.{Part}
 use Rattle.script_parts.specs.Limits.{AreBuilt, AreWithinLimits, IsWithinLimits, is_actor_built, is_kind_built, is_line_built}
 use Rattle.script_parts.specs.Parts.{all_actors, all_lives, drain_seat, first_actor_seat, is_named, is_turn_of, lives_before, lives_by, lives_in, part_of}
 use Rattle.script_runs.specs.Steps.Standing.{built_parts, built_workers, end_of, part_from, parts_from, place_of, place_of_kind, place_of_number, seat_of_drains, seat_past}
-use Rattle.script_runs.proofs.Orders.{AreInOrder, all_differ, differs_at, differs_from, first_differs, flipped}
+use Rattle.script_runs.proofs.Orders.{AreInOrder, all_differ, differs_at, first_differs, flipped}
 
 -- ---- names
 
@@ -211,7 +211,7 @@ part_there lines (actor ∷ actors) w all built first i differ at = by (built_on
         let passed = before_other lines actor actors w (ap (λ name. bytes_eq name (worker_word w)) its ∙ other) in
         let lives : lives_in (actor_word actor) lines ≡ lives_in (worker_word v) lines = ap (λ name. lives_in name lines) its in
         let sum : end_of (part_from lines v first) + lives_before (worker_word w) actors lines ≡ first + lives_before (worker_word w) (actor ∷ actors) lines
-                = add_more first (lives_in (worker_word v) lines) (lives_before (worker_word w) actors lines) _ (passed ∙ ap (λ n. n + lives_before (worker_word w) actors lines) lives) in
+        = add_more first (lives_in (worker_word v) lines) (lives_before (worker_word w) actors lines) _ (passed ∙ ap (λ n. n + lives_before (worker_word w) actors lines) lives) in
         next (end_of (part_from lines v first)) i names.1 at ∙ ap (λ n. Some (part_from lines w n)) sum
 
 pub part_of_built : (script : Script) (actor : Actor) → AreBuilt script.lines → is_actor_built actor ≡ true → slice_get (built_parts script.lines) (place_of actor) ≡ Some (part_of script actor)

@@ -252,12 +252,7 @@ fn made_in(drained: &Drained) -> u64
 }
 
 /// A worker before its first call, whose first life has this seat.
-fn player(
-    alloc: Global,
-    worker: Worker,
-    first: u64,
-    lines: &[Line],
-) -> Result<Player, OutOfMemory>
+fn player(alloc: Global, worker: Worker, first: u64, lines: &[Line]) -> Result<Player, OutOfMemory>
     requires { is_kind_built worker.kind ≡ true }
     ensures part { IfOk result (λ x. x.part ≡ part_from lines.now worker first) }
     ensures new { IfOk result (λ x. IsNewPlayer x) }
@@ -335,22 +330,8 @@ fn players(alloc: Global, lines: &[Line]) -> Result<(Vec<Player>, u64), OutOfMem
         FIRST_ACTOR_SEAT,
         lines,
     )?;
-    let third = add_players(
-        alloc,
-        &mut players,
-        WorkerKind::Claims,
-        four,
-        second,
-        lines,
-    )?;
-    let end = add_players(
-        alloc,
-        &mut players,
-        WorkerKind::Volumes,
-        four,
-        third,
-        lines,
-    )?;
+    let third = add_players(alloc, &mut players, WorkerKind::Claims, four, second, lines)?;
+    let end = add_players(alloc, &mut players, WorkerKind::Volumes, four, third, lines)?;
     Ok((players, end))
 }
 

@@ -1,4 +1,4 @@
-use Rattle.std.proofs.Common.{ap, ◌∙◌, sym, subst}
+use Rattle.std.proofs.Common.{ap, sym, subst}
 use Rattle.script_runs.specs.Steps.Playing.{EachPlayer, IsNewPlayer}
 use Rattle.script_runs.specs.Steps.Standing.{parts_in}
 use Rattle.script_runs.proofs.Beginning.{no_players, three_parts, three_past}
