@@ -19,6 +19,10 @@ parts = record {
   not_in_the_order_of_lines = λ e. absurd (cc);
   later_kinds_come_later = refl;
   its_kind = refl;
+  claims_come_after_binders = refl;
+  they_protect_claims = refl;
+  volumes_come_after_claims = refl;
+  not_before_them = λ e. absurd (cc);
   agents_have_theirs = refl;
 }
 
@@ -59,6 +63,7 @@ built = record {
   nothing_to_build = refl;
   drains_and_binders_are_built = refl;
   so_are_they = (refl, (refl, (refl, (refl, (refl, (refl, (refl, (refl, (refl, tt)))))))));
+  so_is_protection = refl;
   the_first_is_named = refl;
   not_the_last = λ e. absurd (cc);
   a_lost_call_counts = refl;

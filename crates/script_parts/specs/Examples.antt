@@ -12,7 +12,7 @@ use Rattle.script_lines.specs.declared.actors.Actor.TheVariants.{Worker, Agent}
 use Rattle.script_lines.specs.declared.actors.WorkerKind.{WorkerKind}
 use Rattle.script_lines.specs.declared.actors.WorkerKind.TheVariants as workers
 use Rattle.script_lines.specs.declared.actors.WorkerNumber.{WorkerNumber}
-use Rattle.script_lines.specs.declared.actors.WorkerNumber.TheVariants.{One, Two, Three}
+use Rattle.script_lines.specs.declared.actors.WorkerNumber.TheVariants.{One, Two, Three, Four}
 use Rattle.script_text.specs.declared.script.Line.{Line}
 use Rattle.script_text.specs.declared.script.Line.TheVariants as lines
 use Rattle.script_text.specs.declared.script.Script.{Script}
@@ -37,6 +37,12 @@ binder_3 = worker workers.Binder Three
 
 abbrev pub ops_1 : Actor
 ops_1 = worker workers.Ops One
+
+abbrev pub claims_1 : Actor
+claims_1 = worker workers.Claims One
+
+abbrev pub volumes_4 : Actor
+volumes_4 = worker workers.Volumes Four
 
 abbrev pub script_of : List (List ℕ) → List Line → Script
 script_of nodes ls = record { setup = record { pools = []; faults = []; imports = [] }; lines = ls; node_names = nodes; sizes = [] }
@@ -66,6 +72,10 @@ two_binders = script_of (codes "n1" ∷ codes "n2" ∷ []) (
 abbrev pub with_ops : Script
 with_ops = script_of (codes "n1" ∷ []) (lines.Turn ops_1 1 ∷ lines.Turn binder_1 5 ∷ lines.Restart binder_1 3 ∷ [])
 
+-- turns of each kind that is built
+abbrev pub with_protection : Script
+with_protection = script_of [] (lines.Turn volumes_4 1 ∷ lines.Restart claims_1 2 ∷ lines.Turn claims_1 5 ∷ lines.Turn binder_1 5 ∷ [])
+
 pub record PartExamples : Type 0 where
   pub the_first_begins_after_the_users : (part_of two_binders binder_1).first ≡ 5
   pub a_life_more_for_each_restart : lives_of (part_of two_binders binder_1) ≡ 3
@@ -79,6 +89,10 @@ pub record PartExamples : Type 0 where
   pub not_in_the_order_of_lines : (part_of two_binders binder_3).first ≢ 5
   pub later_kinds_come_later : (part_of with_ops ops_1).first ≡ 7
   pub its_kind : (part_of with_ops ops_1).kind ≡ seats.Ops
+  pub claims_come_after_binders : (part_of with_protection claims_1).first ≡ 6
+  pub they_protect_claims : (part_of with_protection claims_1).kind ≡ seats.ClaimProtect
+  pub volumes_come_after_claims : (part_of with_protection volumes_4).first ≡ 8
+  pub not_before_them : (part_of with_protection volumes_4).first ≢ 6
   pub agents_have_theirs : kind_of (Agent (codes "n1")) ≡ seats.Agent
 
 pub record SeatExamples : Type 0 where
@@ -139,6 +153,7 @@ pub record BuiltExamples : Type 0 where
   pub nothing_to_build : first_unbuilt [] ≡ None
   pub drains_and_binders_are_built : first_unbuilt two_binders.lines ≡ None
   pub so_are_they : AreBuilt two_binders.lines
+  pub so_is_protection : first_unbuilt with_protection.lines ≡ None
   pub the_first_is_named : first_unbuilt (lines.Drain ∷ lines.Turn ops_1 3 ∷ lines.Turn ops_1 4 ∷ []) ≡ Some 1
   pub not_the_last : first_unbuilt (lines.Drain ∷ lines.Turn ops_1 3 ∷ lines.Turn ops_1 4 ∷ []) ≢ Some 2
   pub a_lost_call_counts : first_unbuilt (lines.Lose ops_1 1 true ∷ []) ≡ Some 0

@@ -41,8 +41,8 @@ abbrev pub is_kind_built : WorkerKind → Bool
 is_kind_built workers.Binder = true
 is_kind_built workers.Ops = false
 is_kind_built workers.Scheduler = false
-is_kind_built workers.Claims = false
-is_kind_built workers.Volumes = false
+is_kind_built workers.Claims = true
+is_kind_built workers.Volumes = true
 
 abbrev pub is_actor_built : Actor → Bool
 is_actor_built (Worker w) = is_kind_built w.kind

@@ -10,8 +10,8 @@ fn is_kind_built(kind: WorkerKind) -> bool
     ensures { result ≡ is_kind_built kind }
 {
     match kind {
-        WorkerKind::Binder => true,
-        WorkerKind::Ops | WorkerKind::Scheduler | WorkerKind::Claims | WorkerKind::Volumes => false,
+        WorkerKind::Binder | WorkerKind::Claims | WorkerKind::Volumes => true,
+        WorkerKind::Ops | WorkerKind::Scheduler => false,
     }
 }
 

@@ -1,10 +1,9 @@
 //! The parts of a script's actors.
 
 ghost use Rattle.std.specs.Prelude.{◌≡◌, ◌<◌, ◌+◌, ◌^◌, IfOk, bytes_eq, length};
-ghost use Rattle.call_types.specs.declared.request.SeatKind.TheVariants as seats;
 ghost use Rattle.script_lines.specs.Actors.{actor_word, worker_word};
 ghost use Rattle.script_text.specs.Said.{restarts_of};
-ghost use Rattle.script_parts.specs.Parts.{is_named, lives_of, lost_calls, part_at};
+ghost use Rattle.script_parts.specs.Parts.{is_named, kind_of_worker, lives_of, lost_calls, part_at};
 
 use crate::loss::Loss;
 use crate::part::Part;
@@ -13,7 +12,7 @@ use kube_types::copies::OutOfMemory;
 use kube_types::items::Items;
 use kube_types::text::Text;
 use kube_types::words::Worded;
-use script_lines::actors::{Actor, Worker};
+use script_lines::actors::{Actor, Worker, WorkerKind};
 use script_text::script::Line;
 use std::alloc::Global;
 
@@ -72,14 +71,27 @@ fn restarts_in(alloc: Global, name: &Text, lines: &[Line]) -> Result<Items<u64>,
     Ok(restarts)
 }
 
-/// The part of a binder whose first life has this seat.
+/// The kind of the seats of a worker.
+fn kind_of(kind: WorkerKind) -> SeatKind
+    ensures { result ≡ kind_of_worker kind }
+{
+    match kind {
+        WorkerKind::Binder => SeatKind::Binder,
+        WorkerKind::Ops => SeatKind::Ops,
+        WorkerKind::Scheduler => SeatKind::Scheduler,
+        WorkerKind::Claims => SeatKind::ClaimProtect,
+        WorkerKind::Volumes => SeatKind::VolumeProtect,
+    }
+}
+
+/// The part of a worker whose first life has this seat.
 pub fn part_from(
     alloc: Global,
     worker: Worker,
     first: u64,
     lines: &[Line],
 ) -> Result<Part, OutOfMemory>
-    ensures { IfOk result (λ part. part ≡ part_at (worker_word worker) seats.Binder first lines.now) }
+    ensures { IfOk result (λ part. part ≡ part_at (worker_word worker) (kind_of_worker worker.kind) first lines.now) }
 {
     let name = Text::new(alloc, worker.word())?;
     let named = is_named(alloc, &name, lines)?;
@@ -87,7 +99,7 @@ pub fn part_from(
     let restarts = restarts_in(alloc, &name, lines)?;
     Ok(Part {
         name,
-        kind: SeatKind::Binder,
+        kind: kind_of(worker.kind),
         named,
         first,
         losses,

@@ -9,23 +9,28 @@ use Rattle.model_laws.proofs.Lists.{none_some, one}
 use Rattle.settle_check.specs.SoFar.{IsFirstBuiltDue, IsSettledSoFar}
 use Rattle.world_core.specs.declared.drained.Drained.{Drained}
 use Rattle.world_core.specs.declared.drained.Drained.TheVariants.{Settled, Spent}
+use Rattle.worker_threads.specs.declared.drainers.Drainer.{Drainer}
 use Rattle.worker_threads.specs.Drainers.{AreNew, AreStanding, HaveNoEntries, seats_of}
+use Rattle.worker_threads.specs.Longer.{IsOneOf}
+use Rattle.worker_threads.proofs.NewFacts.{new_seats as seats_of_new}
 use Rattle.worker_threads.specs.Rounds.{EndsWith, made_of}
 use Rattle.script_text.specs.declared.script.Line.{Line}
 use Rattle.script_text.specs.declared.script.Script.{Script}
 use Rattle.script_runs.specs.declared.player.Player.{Player}
 use Rattle.script_runs.specs.declared.stage.Stage.{Stage}
+use Rattle.script_lines.specs.declared.actors.Worker.{Worker as WorkerData}
+use Rattle.script_lines.specs.declared.actors.WorkerKind.{WorkerKind}
+use Rattle.script_lines.specs.declared.actors.WorkerKind.TheVariants as workers
+use Rattle.script_lines.specs.declared.actors.WorkerNumber.{WorkerNumber}
 use Rattle.script_lines.specs.declared.actors.WorkerNumber.TheVariants.{One, Two, Three, Four}
 use Rattle.script_parts.specs.declared.part.Part.{Part}
 use Rattle.script_parts.specs.Budget.{first_budget}
-use Rattle.script_parts.specs.Parts.{first_actor_seat}
+use Rattle.script_parts.specs.Parts.{drain_seat, drain_seats, first_actor_seat}
 use Rattle.script_runs.specs.Replays.{EndsAs, IsDrain, IsMove, IsReplay, MoreMoves, NoMoves, Progress, begun}
 use Rattle.script_runs.specs.Steps.Living.{Lives}
 use Rattle.worker_core.specs.declared.role.Role.{Role}
 use Rattle.script_runs.specs.Steps.Playing.{EachPlayer, IsNewPlayer, Plays}
-use Rattle.script_runs.specs.Steps.Standing.{Ended, HasMoved, IsBudget, SoFar, Stands, drainer_seats, end_of, fourth_seat, part_from, parts_from, parts_in, seat_of_drains, second_seat, third_seat, with_made}
-use Rattle.worker_threads.proofs.NewFacts.{new_seats}
-use Rattle.script_runs.proofs.Casting.{small_seats}
+use Rattle.script_runs.specs.Steps.Standing.{Ended, HasMoved, IsBudget, SoFar, Stands, built_parts, built_workers, end_of, part_from, parts_from, parts_in, seat_of_drains, seat_past, with_made, workers_of}
 use Rattle.script_runs.proofs.Lived.{new_lives}
 use Rattle.script_runs.proofs.Since.{new_since}
 
@@ -48,8 +53,18 @@ first_most : (option : Option ℕ) → IsBudget option (first_budget option)
 first_most (Some given) = refl
 first_most None = omega arith
 
-pub begins : (script : Script) (option : Option ℕ) (s : Stage) (first : ℕ) → s.world.past ≡ [] → s.world.setup ≡ script.setup → parts_in s.players.items ≡ parts_from script.lines → EachPlayer IsNewPlayer s.players.items
-    → AreNew first s.drainers → first ≡ seat_of_drains script.lines → ((past : List Entry) → HaveNoEntries (seats_of s.drainers) past → AreStanding s.drainers past) → s.drained ≡ 0 → s.budget ≡ first_budget option → Stands script option (begun option) s
+-- the new drainers have seats of the drains
+new_seats : (script : Script) (first : ℕ) (ds : List Drainer) → AreNew first ds → first ≡ drain_seat script → (seat : ℕ) → IsOneOf (seats_of ds) seat → IsOneOf (drain_seats script) seat
+new_seats script first ds new is seat own = by (subst (λ xs. IsOneOf xs seat) (seats_of_new first ds new) own)
+  where
+    by : IsOneOf (first ∷ (first + 3) ∷ (first + 4) ∷ []) seat → IsOneOf (drain_seats script) seat
+    by (inl at) = inl (sym is ∙ at)
+    by (inr (inl at)) = inr (inr (inr (inl (ap (λ n. n + 3) (sym is) ∙ at))))
+    by (inr (inr (inl at))) = inr (inr (inr (inr (inl (ap (λ n. n + 4) (sym is) ∙ at)))))
+    by (inr (inr (inr none))) = elim none [ ]
+
+pub begins : (script : Script) (option : Option ℕ) (s : Stage) (first : ℕ) → s.world.past ≡ [] → s.world.setup ≡ script.setup → parts_in s.players.items ≡ built_parts script.lines → EachPlayer IsNewPlayer s.players.items
+    → AreNew first s.drainers → first ≡ drain_seat script → ((past : List Entry) → HaveNoEntries (seats_of s.drainers) past → AreStanding s.drainers past) → s.drained ≡ 0 → s.budget ≡ first_budget option → Stands script option (begun option) s
 begins script option s first past setup parts new are seat stand drained budget = record {
   past = past;
   setup = setup;
@@ -58,7 +73,7 @@ begins script option s first past setup parts new are seat stand drained budget 
   lives = λ place x at named. subst (Lives x) (sym past) (new_lives x (new place x at));
   made = λ place x at. (new place x at).made;
   drainers = subst (AreStanding s.drainers) (sym past) (stand [] (none_yet (seats_of s.drainers)));
-  seats = new_seats first s.drainers are ∙ ap drainer_seats seat;
+  seats = new_seats script first s.drainers are seat;
   drained = drained;
   budget = budget;
   few = omega (arith, drained);
@@ -68,62 +83,90 @@ begins script option s first past setup parts new are seat stand drained budget 
 pub new_made : (players : List Player) → EachPlayer IsNewPlayer players → EachPlayer (λ x. x.made ≤ 0) players
 new_made players new place x at = let m = (new place x at).made in omega (arith, m)
 
--- ---- the four binders
-
-pub each_of_four : (a b c d : Player) → IsNewPlayer a → IsNewPlayer b → IsNewPlayer c → IsNewPlayer d → (place : ℕ) (x : Player) → slice_get (a ∷ b ∷ c ∷ d ∷ []) place ≡ Some x → IsNewPlayer x
-each_of_four a b c d first second third fourth zero x at = subst IsNewPlayer (one a x at) first
-each_of_four a b c d first second third fourth (suc zero) x at = subst IsNewPlayer (one b x at) second
-each_of_four a b c d first second third fourth (suc (suc zero)) x at = subst IsNewPlayer (one c x at) third
-each_of_four a b c d first second third fourth (suc (suc (suc zero))) x at = subst IsNewPlayer (one d x at) fourth
-each_of_four a b c d first second third fourth (suc (suc (suc (suc place)))) x at = none_some at
-
--- each part begins where the one before it ends
-pub record AreFour (lines : List Line) (a b c d : Part) : Type 0 where
-  pub first : a ≡ part_from lines One first_actor_seat
-  pub second : b ≡ part_from lines Two (second_seat lines)
-  pub third : c ≡ part_from lines Three (third_seat lines)
-  pub fourth : d ≡ part_from lines Four (fourth_seat lines)
-
-pub four_parts : (lines : List Line) (a b c d : Part) → a ≡ part_from lines One first_actor_seat → b ≡ part_from lines Two (end_of a) → c ≡ part_from lines Three (end_of b) → d ≡ part_from lines Four (end_of c) → AreFour lines a b c d
-four_parts lines a b c d is_a is_b is_c is_d =
-    let second : b ≡ part_from lines Two (second_seat lines) = is_b ∙ ap (λ x. part_from lines Two (end_of x)) is_a in
-    let third : c ≡ part_from lines Three (third_seat lines) = is_c ∙ ap (λ x. part_from lines Three (end_of x)) second in
-    record { first = is_a; second = second; third = third; fourth = is_d ∙ ap (λ x. part_from lines Four (end_of x)) third }
-
-pub third_first : (lines : List Line) (a b c : Part) → length lines ≤ 4096 → a ≡ part_from lines One first_actor_seat → b ≡ part_from lines Two (end_of a) → c ≡ part_from lines Three (end_of b) → c.first ≤ 8199
-third_first lines a b c few is_a is_b is_c =
-    let second : b ≡ part_from lines Two (second_seat lines) = is_b ∙ ap (λ x. part_from lines Two (end_of x)) is_a in
-    let third : c ≡ part_from lines Three (third_seat lines) = is_c ∙ ap (λ x. part_from lines Three (end_of x)) second in
-    let first : c.first ≡ third_seat lines = ap (λ (x : Part). x.first) third in
-    let small = (small_seats lines few).third in
-    omega (arith, first, small)
-
-pub fourth_first : (lines : List Line) (a b c d : Part) → length lines ≤ 4096 → AreFour lines a b c d → d.first ≤ 12296
-fourth_first lines a b c d few are =
-    let first : d.first ≡ fourth_seat lines = ap (λ (x : Part). x.first) are.fourth in
-    let small = (small_seats lines few).fourth in
-    omega (arith, first, small)
-
-pub last_end : (lines : List Line) (a b c d : Part) → length lines ≤ 4096 → AreFour lines a b c d → end_of d ≤ 16393
-last_end lines a b c d few are =
-    let last : end_of d ≡ seat_of_drains lines = ap end_of are.fourth in
-    let small = (small_seats lines few).drains in
-    omega (arith, last, small)
-
--- the players, each pushed after those before it
-pub four_items : (a b c d : Player) (none ones two three four : List Player) → none ≡ [] → ones ≡ none ++ a ∷ [] → two ≡ ones ++ b ∷ [] → three ≡ two ++ c ∷ [] → four ≡ three ++ d ∷ [] → four ≡ a ∷ b ∷ c ∷ d ∷ []
-four_items a b c d none ones two three four is_none is_one is_two is_three is_four =
-    let first : ones ≡ a ∷ [] = is_one ∙ ap (λ xs. xs ++ a ∷ []) is_none in
-    let second : two ≡ a ∷ b ∷ [] = is_two ∙ ap (λ xs. xs ++ b ∷ []) first in
-    let third : three ≡ a ∷ b ∷ c ∷ [] = is_three ∙ ap (λ xs. xs ++ c ∷ []) second in
-    is_four ∙ ap (λ xs. xs ++ d ∷ []) third
-
--- ---- the lines
+-- ---- the players
 
 drop_at : {X : Type 0} (xs : List X) (place : ℕ) (x : X) → slice_get xs place ≡ Some x → drop place xs ≡ x ∷ drop (place + 1) xs
 drop_at [] place x at = none_some at
 drop_at (y ∷ xs) zero x at = ap (λ z. z ∷ xs) (one y x at)
 drop_at (y ∷ xs) (suc place) x at = let e : suc (place + 1) ≡ suc place + 1 = omega arith in subst (λ n. drop (suc place) (y ∷ xs) ≡ x ∷ drop n (y ∷ xs)) e (drop_at xs place x at)
+
+appended : (ps qs rs : List Part) → (ps ++ qs) ++ rs ≡ ps ++ (qs ++ rs)
+appended [] qs rs = refl
+appended (p ∷ ps) qs rs = ap (λ rest. p ∷ rest) (appended ps qs rs)
+
+parts_more : (lines : List Line) (ws vs : List WorkerData) (first : ℕ) → parts_from lines (ws ++ vs) first ≡ parts_from lines ws first ++ parts_from lines vs (seat_past lines ws first)
+parts_more lines [] vs first = refl
+parts_more lines (w ∷ ws) vs first = ap (λ ps. part_from lines w first ∷ ps) (parts_more lines ws vs (end_of (part_from lines w first)))
+
+past_more : (lines : List Line) (ws vs : List WorkerData) (first : ℕ) → seat_past lines (ws ++ vs) first ≡ seat_past lines vs (seat_past lines ws first)
+past_more lines [] vs first = refl
+past_more lines (w ∷ ws) vs first = past_more lines ws vs (end_of (part_from lines w first))
+
+parts_in_more : (xs : List Player) (x : Player) → parts_in (xs ++ x ∷ []) ≡ parts_in xs ++ x.part ∷ []
+parts_in_more [] x = refl
+parts_in_more (y ∷ xs) x = ap (λ ps. y.part ∷ ps) (parts_in_more xs x)
+
+and_then : (ps : List Part) (p : Part) (qs : List Part) → (ps ++ p ∷ []) ++ qs ≡ ps ++ p ∷ qs
+and_then [] p qs = refl
+and_then (q ∷ ps) p qs = ap (λ rest. q ∷ rest) (and_then ps p qs)
+
+pub no_players : EachPlayer IsNewPlayer []
+no_players place x at = none_some at
+
+-- a player, pushed after others that are new
+pub each_more : (xs : List Player) (x : Player) → EachPlayer IsNewPlayer xs → IsNewPlayer x → EachPlayer IsNewPlayer (xs ++ x ∷ [])
+each_more [] x all own zero y at = subst IsNewPlayer (one x y at) own
+each_more [] x all own (suc place) y at = none_some at
+each_more (z ∷ xs) x all own zero y at = all zero y at
+each_more (z ∷ xs) x all own (suc place) y at = each_more xs x (λ p w there. all (suc p) w there) own place y at
+
+-- the players of a kind are added one by one
+module _ (lines : List Line) (kind : WorkerKind) (numbers : List WorkerNumber) (index : ℕ) (number : WorkerNumber) (here : slice_get numbers index ≡ Some number) where
+  abbrev worker : WorkerData
+  worker = record { kind = kind; number = number }
+
+  pub adds_part : (seat next : ℕ) (before after : List Player) (added : Player) (all : List Part) → added.part ≡ part_from lines worker seat → next ≡ end_of added.part → after ≡ before ++ added ∷ []
+      → parts_in before ++ parts_from lines (workers_of kind (drop index numbers)) seat ≡ all → parts_in after ++ parts_from lines (workers_of kind (drop (index + 1) numbers)) next ≡ all
+  adds_part seat next before after added all part ends pushed so_far =
+      let rest : workers_of kind (drop index numbers) ≡ worker ∷ workers_of kind (drop (index + 1) numbers) = ap (workers_of kind) (drop_at numbers index number here) in
+      let seats : next ≡ end_of (part_from lines worker seat) = ends ∙ ap end_of part in
+      let later = parts_from lines (workers_of kind (drop (index + 1) numbers)) next in
+      ap (λ xs. parts_in xs ++ later) pushed ∙ ap (λ ps. ps ++ later) (parts_in_more before added) ∙ and_then (parts_in before) added.part later
+      ∙ ap (λ p. parts_in before ++ p ∷ later) part ∙ ap (λ n. parts_in before ++ part_from lines worker seat ∷ parts_from lines (workers_of kind (drop (index + 1) numbers)) n) seats
+      ∙ ap (λ ws. parts_in before ++ parts_from lines ws seat) (sym rest) ∙ so_far
+
+  pub adds_seat : (seat next end : ℕ) (added : Part) → added ≡ part_from lines worker seat → next ≡ end_of added → seat_past lines (workers_of kind (drop index numbers)) seat ≡ end → seat_past lines (workers_of kind (drop (index + 1) numbers)) next ≡ end
+  adds_seat seat next end added part ends so_far =
+      let rest : workers_of kind (drop index numbers) ≡ worker ∷ workers_of kind (drop (index + 1) numbers) = ap (workers_of kind) (drop_at numbers index number here) in
+      let seats : next ≡ end_of (part_from lines worker seat) = ends ∙ ap end_of part in
+      ap (seat_past lines (workers_of kind (drop (index + 1) numbers))) seats ∙ ap (λ ws. seat_past lines ws seat) (sym rest) ∙ so_far
+
+-- the workers of three kinds, added after each other
+parts_of_three : (lines : List Line) (bs cs vs : List WorkerData) (first second third : ℕ) (ones two three : List Part) → ones ≡ parts_from lines bs first → second ≡ seat_past lines bs first → two ≡ ones ++ parts_from lines cs second → third ≡ seat_past lines cs second
+    → three ≡ two ++ parts_from lines vs third → three ≡ parts_from lines (bs ++ (cs ++ vs)) first
+parts_of_three lines bs cs vs first second third ones two three is_one is_second is_two is_third is_three =
+    is_three ∙ ap (λ ps. ps ++ parts_from lines vs third) is_two ∙ appended ones (parts_from lines cs second) (parts_from lines vs third)
+    ∙ ap (λ n. ones ++ (parts_from lines cs second ++ parts_from lines vs n)) is_third ∙ ap (λ ps. ones ++ ps) (sym (parts_more lines cs vs second))
+    ∙ ap (λ n. ones ++ parts_from lines (cs ++ vs) n) is_second ∙ ap (λ ps. ps ++ parts_from lines (cs ++ vs) (seat_past lines bs first)) is_one ∙ sym (parts_more lines bs (cs ++ vs) first)
+
+pub three_parts : (lines : List Line) (numbers : List WorkerNumber) (second third : ℕ) (none ones two three : List Part) → numbers ≡ One ∷ Two ∷ Three ∷ Four ∷ [] → none ≡ []
+    → ones ≡ none ++ parts_from lines (workers_of workers.Binder numbers) first_actor_seat → second ≡ seat_past lines (workers_of workers.Binder numbers) first_actor_seat
+    → two ≡ ones ++ parts_from lines (workers_of workers.Claims numbers) second → third ≡ seat_past lines (workers_of workers.Claims numbers) second → three ≡ two ++ parts_from lines (workers_of workers.Volumes numbers) third → three ≡ built_parts lines
+unfolding built_workers
+three_parts lines numbers second third none ones two three all is_none is_one is_second is_two is_third is_three =
+    parts_of_three lines (workers_of workers.Binder numbers) (workers_of workers.Claims numbers) (workers_of workers.Volumes numbers) first_actor_seat second third ones two three
+    (is_one ∙ ap (λ ps. ps ++ parts_from lines (workers_of workers.Binder numbers) first_actor_seat) is_none) is_second is_two is_third is_three
+    ∙ ap (λ (ns : List WorkerNumber). parts_from lines (workers_of workers.Binder ns ++ (workers_of workers.Claims ns ++ workers_of workers.Volumes ns)) first_actor_seat) all
+
+pub three_past : (lines : List Line) (numbers : List WorkerNumber) (second third end : ℕ) → numbers ≡ One ∷ Two ∷ Three ∷ Four ∷ [] → second ≡ seat_past lines (workers_of workers.Binder numbers) first_actor_seat
+    → third ≡ seat_past lines (workers_of workers.Claims numbers) second → end ≡ seat_past lines (workers_of workers.Volumes numbers) third → end ≡ seat_of_drains lines
+unfolding built_workers
+three_past lines numbers second third end all is_second is_third is_end =
+    is_end ∙ ap (seat_past lines (workers_of workers.Volumes numbers)) is_third ∙ sym (past_more lines (workers_of workers.Claims numbers) (workers_of workers.Volumes numbers) second)
+    ∙ ap (seat_past lines (workers_of workers.Claims numbers ++ workers_of workers.Volumes numbers)) is_second ∙ sym (past_more lines (workers_of workers.Binder numbers) (workers_of workers.Claims numbers ++ workers_of workers.Volumes numbers) first_actor_seat)
+    ∙ ap (λ (ns : List WorkerNumber). seat_past lines (workers_of workers.Binder ns ++ (workers_of workers.Claims ns ++ workers_of workers.Volumes ns)) first_actor_seat) all
+
+-- ---- the lines
 
 pub so_far_first : (script : Script) (option : Option ℕ) (s : Stage) → Stands script option (begun option) s → SoFar script option 0 s
 so_far_first script option s stands = record { progress = begun option; stands = stands; moves = λ end rest. rest }

@@ -34,17 +34,17 @@ role_built script (Agent node) built = absurd (true≢false (sym built))
 role_built script (Worker w) built = refl
 
 module _ (script : Script) (option : Option ℕ) (end : Progress) (s : Stage) (stands : Stands script option end s) where
-  diligent_actor : (actor : Actor) → is_actor_built actor ≡ true → is_named (actor_word actor) script.lines ≡ true → (seat : ℕ) → (part_of script actor).first ≤ seat → seat < (part_of script actor).first + lives_of (part_of script actor)
+  diligent_actor : (actor : Actor) → AreBuilt script.lines → is_actor_built actor ≡ true → is_named (actor_word actor) script.lines ≡ true → (seat : ℕ) → (part_of script actor).first ≤ seat → seat < (part_of script actor).first + lives_of (part_of script actor)
       → IsDiligentLife (role_of actor) (part_of script actor) seat (end.made (part_of script actor).name) end.past
-  diligent_actor actor built named seat low high =
-      let found = player_of s.players.items (place_of actor) (part_of script actor) (ap (λ ps. slice_get ps (place_of actor)) stands.parts ∙ part_of_built script actor built) in
+  diligent_actor actor all built named seat low high =
+      let found = player_of s.players.items (place_of actor) (part_of script actor) (ap (λ ps. slice_get ps (place_of actor)) stands.parts ∙ part_of_built script actor all built) in
       of_player found.0 found.1
     where
       of_player : (x : Player) → slice_get s.players.items (place_of actor) ≡ Some x → IsDiligentLife (role_of actor) (part_of script actor) seat (end.made (part_of script actor).name) end.past
       of_player x at =
           let some : SomeStands script option s = record { progress = end; stands = stands } in
-          let part : part_of script actor ≡ x.part = its_part script option actor s built some x at in
-          let its : x.part.named ≡ true = its_name script option actor s built some x at named in
+          let part : part_of script actor ≡ x.part = its_part script option actor s all built some x at in
+          let its : x.part.named ≡ true = its_name script option actor s all built some x at named in
           let life = each_life x s.world.past end.idle (stands.plays (place_of actor) x at its) (stands.lives (place_of actor) x at its) seat
           (subst (λ (p : Part). p.first ≤ seat) part low) (subst (λ (p : Part). seat < p.first + lives_of p) part high) in
           subst (λ role. IsDiligentLife role (part_of script actor) seat (end.made (part_of script actor).name) end.past) (sym (role_built script actor built))
@@ -54,7 +54,7 @@ module _ (script : Script) (option : Option ℕ) (end : Progress) (s : Stage) (s
 
   pub are_diligent : AreBuilt script.lines → AreDiligent script end
   are_diligent all place actor calls at seat low high =
-      diligent_actor actor (built_at script.lines place (kinds_of_line.Turn actor calls) all at) (named_at script.lines place actor calls at) seat low high
+      diligent_actor actor all (built_at script.lines place (kinds_of_line.Turn actor calls) all at) (named_at script.lines place actor calls at) seat low high
 
 pub diligent_replay : (script : Script) (option : Option ℕ) (place : ℕ) (before after : Stage) (past : List Entry) (ending : Drained) → AreBuilt script.lines → length script.lines ≤ place → SoFar script option place before
     → ((p : Progress) → Stands script option p before → Ended script option p after ending) → past ≡ after.world.past → IsDiligentReplay script option past ending

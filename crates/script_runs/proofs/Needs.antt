@@ -1,95 +1,59 @@
 -- What a turn needs of its player, and what it leaves of the counts of calls.
-use Rattle.std.proofs.Common.{◌≡◌, ◌≢◌, ◌⊎◌, ℕ, ◌<◌, ◌≤◌, ◌+◌, ◌^◌, List, [], ◌∷◌, ◌++◌, length, get_or, set, Bool, true, false, Option, Some, inl, inr, refl, sym, ◌∙◌, ap, subst, arith, length-append, if◌then◌else◌}
-use Rattle.std.specs.Prelude.{bytes_eq, slice_get}
+use Rattle.std.proofs.Common.{◌≡◌, ◌≢◌, ◌⊎◌, ℕ, ◌<◌, ◌≤◌, ◌+◌, ◌^◌, List, length, get_or, set, true, Option, Some, inl, inr, refl, sym, ◌∙◌, ap, subst, arith}
+use Rattle.std.specs.Prelude.{slice_get}
 use Rattle.std.proofs.lemmas.List.{length-map}
 use Rattle.std.proofs.lemmas.Option.{slice_get_read, slice_get_within}
 use Rattle.call_types.specs.declared.entry.Entry.{Entry}
 use Rattle.model_laws.proofs.Lists.{one}
 use Rattle.script_lines.specs.declared.actors.Actor.{Actor}
-use Rattle.script_lines.specs.declared.actors.WorkerNumber.TheVariants.{One, Two, Three, Four}
 use Rattle.script_lines.specs.Actors.{actor_word}
-use Rattle.script_text.specs.declared.script.Line.{Line}
-use Rattle.script_text.specs.declared.script.Line.TheVariants as kinds_of_line
 use Rattle.script_text.specs.declared.script.Script.{Script}
-use Rattle.script_text.specs.Said.{restart_of, restarts_of}
 use Rattle.script_parts.specs.declared.part.Part.{Part}
-use Rattle.script_parts.specs.Limits.{IsReadable, is_actor_built}
-use Rattle.script_parts.specs.Parts.{first_actor_seat, is_named, lives_by, lives_of, part_of}
+use Rattle.script_parts.specs.Limits.{AreBuilt, IsReadable, is_actor_built}
+use Rattle.script_parts.specs.Parts.{is_named, lives_by, lives_of, part_of}
 use Rattle.script_runs.specs.declared.player.Player.{Player}
 use Rattle.script_runs.specs.declared.stage.Stage.{Stage}
 use Rattle.script_runs.specs.Replays.{IsTurn}
 use Rattle.script_runs.specs.Steps.Living.{Lives}
 use Rattle.script_runs.specs.Steps.Playing.{EachPlayer, HasMadeAll, HasMadeFewer, HasTurned, IsLife, Plays, SomePlays}
-use Rattle.script_runs.specs.Steps.Standing.{HasMoved, MadeAtMost, SomeStands, fourth_seat, part_from, parts_from, parts_in, place_of, seat_of_drains, second_seat, third_seat}
-use Rattle.script_runs.proofs.Casting.{part_of_built}
+use Rattle.script_runs.specs.Steps.Standing.{HasMoved, MadeAtMost, SomeStands, built_parts, parts_in, place_of, seat_of_drains}
+use Rattle.script_runs.proofs.Casting.{drains_after, few_restarts, in_order, part_of_built, small_drains}
 use Rattle.script_runs.proofs.Orders.{life_between, part_at_place}
-use Rattle.script_runs.proofs.Staging.{HasPlayed, in_order, set_cases, turn_moved}
+use Rattle.script_runs.proofs.Staging.{HasPlayed, set_cases, turn_moved}
 
 -- ---- the numbers of a part are small
 
-restart_few : (name : List ℕ) (line : Line) → length (restart_of name line) ≤ 1
-restart_few name (kinds_of_line.Call user request) = omega arith
-restart_few name (kinds_of_line.Lose actor call after) = omega arith
-restart_few name (kinds_of_line.Turn actor calls) = omega arith
-restart_few name kinds_of_line.Drain = omega arith
-restart_few name (kinds_of_line.Restart actor after) = by (bytes_eq (actor_word actor) name)
-  where
-    by : (b : Bool) → length (if b then after ∷ [] else []) ≤ 1
-    by true = omega arith
-    by false = omega arith
-
--- a line says at most one restart
-restarts_few_lines : (name : List ℕ) (lines : List Line) → length (restarts_of name lines) ≤ length lines
-restarts_few_lines name [] = omega arith
-restarts_few_lines name (line ∷ lines) =
-    let rest = restarts_few_lines name lines in
-    let here = restart_few name line in
-    let both : length (restart_of name line ++ restarts_of name lines) ≡ length (restart_of name line) + length (restarts_of name lines) = length-append (restart_of name line) (restarts_of name lines) in
-    omega (arith, rest, here, both)
-
-lives_few : (named : Bool) (restarts most : ℕ) → restarts ≤ most → lives_by named restarts ≤ 1 + most
-lives_few true restarts most few = omega (arith, few)
-lives_few false restarts most few = omega arith
-
-drains_seat_small : (lines : List Line) → length lines ≤ 4096 → seat_of_drains lines ≤ 16393
-drains_seat_small lines few =
-    let one_few = lives_few (part_from lines One first_actor_seat).named (length (part_from lines One first_actor_seat).restarts) 4096 (omega (arith, few, restarts_few_lines (part_from lines One first_actor_seat).name lines)) in
-    let two_few = lives_few (part_from lines Two (second_seat lines)).named (length (part_from lines Two (second_seat lines)).restarts) 4096 (omega (arith, few, restarts_few_lines (part_from lines Two (second_seat lines)).name lines)) in
-    let three_few = lives_few (part_from lines Three (third_seat lines)).named (length (part_from lines Three (third_seat lines)).restarts) 4096 (omega (arith, few, restarts_few_lines (part_from lines Three (third_seat lines)).name lines)) in
-    let four_few = lives_few (part_from lines Four (fourth_seat lines)).named (length (part_from lines Four (fourth_seat lines)).restarts) 4096 (omega (arith, few, restarts_few_lines (part_from lines Four (fourth_seat lines)).name lines)) in
-    omega (arith, one_few, two_few, three_few, four_few)
-
-part_small : (script : Script) (actor : Actor) → is_actor_built actor ≡ true → is_named (actor_word actor) script.lines ≡ true → length script.lines ≤ 4096 → (part_of script actor).first + length (part_of script actor).restarts < 2 ^ 32
-part_small script actor built named few =
+part_small : (script : Script) (actor : Actor) → AreBuilt script.lines → is_actor_built actor ≡ true → is_named (actor_word actor) script.lines ≡ true → length script.lines ≤ 4096 → (part_of script actor).first + length (part_of script actor).restarts < 2 ^ 32
+part_small script actor all built named few =
     let lives : lives_of (part_of script actor) ≡ 1 + length (part_of script actor).restarts = ap (λ b. lives_by b (length (part_of script actor).restarts)) named in
     let life : IsLife (part_of script actor) (part_of script actor).first = (omega arith, omega (arith, lives)) in
-    let below = (life_between 5 (parts_from script.lines) (seat_of_drains script.lines) (place_of actor) (part_of script actor) (part_of script actor).first (in_order script.lines) (part_of_built script actor built) life).1 in
-    let drains = drains_seat_small script.lines few in
-    let restarts = restarts_few_lines (actor_word actor) script.lines in
+    let below = (life_between 5 (built_parts script.lines) (seat_of_drains script.lines) (place_of actor) (part_of script actor) (part_of script actor).first (in_order script.lines) (part_of_built script actor all built) life).1 in
+    let drains = small_drains script.lines few in
+    let restarts = few_restarts (actor_word actor) script.lines in
     omega (arith, below, drains, restarts, few)
 
 -- ---- the player of a turn
 
-module _ (script : Script) (option : Option ℕ) (actor : Actor) (s : Stage) (built : is_actor_built actor ≡ true) (some : SomeStands script option s) where
+module _ (script : Script) (option : Option ℕ) (actor : Actor) (s : Stage) (all : AreBuilt script.lines) (built : is_actor_built actor ≡ true) (some : SomeStands script option s) where
   -- the actor has a player
   pub place_within : place_of actor < length s.players.items
   place_within =
-      let within = slice_get_within (parts_from script.lines) (place_of actor) (part_of script actor) (part_of_built script actor built) in
-      let parts : length (parts_in s.players.items) ≡ length (parts_from script.lines) = ap length some.stands.parts in
-      let all : length (parts_in s.players.items) ≡ length s.players.items = length-map s.players.items (λ (x : Player). x.part) in
-      omega (arith, within, parts, all)
+      let within = slice_get_within (built_parts script.lines) (place_of actor) (part_of script actor) (part_of_built script actor all built) in
+      let parts : length (parts_in s.players.items) ≡ length (built_parts script.lines) = ap length some.stands.parts in
+      let each : length (parts_in s.players.items) ≡ length s.players.items = length-map s.players.items (λ (x : Player). x.part) in
+      omega (arith, within, parts, each)
 
   pub player_there : (place : ℕ) (x : Player) → place ≡ place_of actor → x ≡ get_or s.players.items place x → slice_get s.players.items (place_of actor) ≡ Some x
   player_there place x is read = subst (λ n. slice_get s.players.items n ≡ Some x) is (slice_get_read s.players.items (length s.players.items) place x refl (let w = place_within in omega (arith, w, is)) read)
 
   pub its_part : (x : Player) → slice_get s.players.items (place_of actor) ≡ Some x → part_of script actor ≡ x.part
-  its_part x at = one (part_of script actor) x.part (sym (part_of_built script actor built) ∙ ap (λ ps. slice_get ps (place_of actor)) (sym some.stands.parts) ∙ part_at_place s.players.items (place_of actor) x at)
+  its_part x at = one (part_of script actor) x.part (sym (part_of_built script actor all built) ∙ ap (λ ps. slice_get ps (place_of actor)) (sym some.stands.parts) ∙ part_at_place s.players.items (place_of actor) x at)
 
   pub its_name : (x : Player) → slice_get s.players.items (place_of actor) ≡ Some x → is_named (actor_word actor) script.lines ≡ true → x.part.named ≡ true
   its_name x at named = ap (λ (p : Part). p.named) (sym (its_part x at)) ∙ named
 
   pub its_seats : (x : Player) → slice_get s.players.items (place_of actor) ≡ Some x → is_named (actor_word actor) script.lines ≡ true → IsReadable script → x.part.first + length x.part.restarts < 2 ^ 32
-  its_seats x at named readable = subst (λ (p : Part). p.first + length p.restarts < 2 ^ 32) (its_part x at) (part_small script actor built named readable.few)
+  its_seats x at named readable = subst (λ (p : Part). p.first + length p.restarts < 2 ^ 32) (its_part x at) (part_small script actor all built named readable.few)
 
   pub it_plays : (x : Player) → slice_get s.players.items (place_of actor) ≡ Some x → is_named (actor_word actor) script.lines ≡ true → SomePlays x s.world.past
   it_plays x at named = record { idle = some.progress.idle; plays = some.stands.plays (place_of actor) x at (its_name x at named) }
@@ -105,17 +69,17 @@ turned_made calls idle before after old new t = by t.made
 
 -- ---- a turn of an actor that is built
 
-module _ (script : Script) (option : Option ℕ) (actor : Actor) (calls : ℕ) (old new : Stage) (place : ℕ) (x after : Player) (built : is_actor_built actor ≡ true) (named : is_named (actor_word actor) script.lines ≡ true)
+module _ (script : Script) (option : Option ℕ) (actor : Actor) (calls : ℕ) (old new : Stage) (place : ℕ) (x after : Player) (all : AreBuilt script.lines) (built : is_actor_built actor ≡ true) (named : is_named (actor_word actor) script.lines ≡ true)
     (some : SomeStands script option old) (is : place ≡ place_of actor) (read : x ≡ get_or old.players.items place x) (players : new.players.items ≡ set old.players.items place after) (part : after.part ≡ x.part)
     (setup : new.world.setup ≡ old.world.setup) (drainers : new.drainers ≡ old.drainers) (drained : new.drained ≡ old.drained) (budget : new.budget ≡ old.budget)
     (turns : (idle : ℕ → List Entry) → Plays x old.world.past idle → HasTurned calls idle old.world.past new.world.past x after) (lives : Lives x old.world.past → Lives after new.world.past) where
   at : slice_get old.players.items (place_of actor) ≡ Some x
-  at = player_there script option actor old built some place x is read
+  at = player_there script option actor old all built some place x is read
 
   played : HasPlayed old new place x after
   played = record {
     there = subst (λ n. slice_get old.players.items n ≡ Some x) (sym is) at;
-    named = its_name script option actor old built some x at named;
+    named = its_name script option actor old all built some x at named;
     players = players;
     part = part;
     setup = setup;
@@ -125,22 +89,22 @@ module _ (script : Script) (option : Option ℕ) (actor : Actor) (calls : ℕ) (
   }
 
   pub turn_made : HasMoved script option (IsTurn (part_of script actor) calls) old new
-  turn_made = turn_moved script option calls old new place x after (part_of script actor) (its_part script option actor old built some x at) played turns lives
+  turn_made = turn_moved script option calls old new place x after (part_of script actor) (drains_after script all) (its_part script option actor old all built some x at) played turns lives
 
 -- no player has then made more than 1,000 calls more
-pub made_after : (script : Script) (option : Option ℕ) (actor : Actor) (calls most : ℕ) (old : Stage) (past : List Entry) (place : ℕ) (x after : Player) → is_actor_built actor ≡ true → is_named (actor_word actor) script.lines ≡ true
+pub made_after : (script : Script) (option : Option ℕ) (actor : Actor) (calls most : ℕ) (old : Stage) (past : List Entry) (place : ℕ) (x after : Player) → AreBuilt script.lines → is_actor_built actor ≡ true → is_named (actor_word actor) script.lines ≡ true
     → SomeStands script option old → place ≡ place_of actor → x ≡ get_or old.players.items place x → ((idle : ℕ → List Entry) → Plays x old.world.past idle → HasTurned calls idle old.world.past past x after)
     → calls ≤ 1000 → MadeAtMost most old → EachPlayer (λ y. y.made ≤ most + 1000) (set old.players.items place after)
-made_after script option actor calls most old past place x after built named some is read turns few made =
-    let within = place_within script option actor old built some in
+made_after script option actor calls most old past place x after all built named some is read turns few made =
+    let within = place_within script option actor old all built some in
     λ j y here. by j y (set_cases old.players.items place after j y (omega (arith, within, is)) here)
   where
     there : slice_get old.players.items (place_of actor) ≡ Some x
-    there = player_there script option actor old built some place x is read
+    there = player_there script option actor old all built some place x is read
 
     by : (j : ℕ) (y : Player) → (after ≡ y) ⊎ ((j ≢ place) × (slice_get old.players.items j ≡ Some y)) → y.made ≤ most + 1000
     by j y (inl same) =
-        let plays = it_plays script option actor old built some x there named in
+        let plays = it_plays script option actor old all built some x there named in
         let t = turned_made calls plays.idle old.world.past past x after (turns plays.idle plays.plays) in
         let m = made (place_of actor) x there in
         subst (λ (z : Player). z.made ≤ most + 1000) same (omega (arith, t, m, few))

@@ -1,6 +1,7 @@
 -- Lists of parts in the order of their seats, with names of their own; and lists of players of which one has moved.
-use Rattle.std.proofs.Common.{◌≡◌, ◌≢◌, ℕ, ◌<◌, ◌≤◌, ◌+◌, zero, suc, List, [], ◌∷◌, length, set, false, Some, refl, sym, ◌∙◌, ap, subst, arith}
-use Rattle.std.specs.Prelude.{bytes_eq, slice_get, ⊤}
+use Rattle.std.proofs.Common.{◌≡◌, ◌≢◌, ℕ, ◌<◌, ◌≤◌, ◌+◌, zero, suc, List, [], ◌∷◌, length, set, Bool, true, false, true≢false, if◌then◌else◌, Some, refl, sym, ◌∙◌, ap, subst, arith}
+use Rattle.std.specs.Prelude.{bytes_eq, slice_get}
+use Rattle.std.proofs.lemmas.Slice.Eq.{bytes_eq-Decides}
 use Rattle.model_laws.proofs.Lists.{none_some, one}
 use Rattle.script_parts.specs.declared.part.Part.{Part}
 use Rattle.script_runs.specs.declared.player.Player.{Player}
@@ -14,7 +15,7 @@ abbrev pub AreInOrder : ℕ → List Part → ℕ → Type 0
 AreInOrder low [] high = low ≤ high
 AreInOrder low (p ∷ ps) high = (low ≤ p.first) × AreInOrder (p.first + lives_of p) ps high
 
-order_low : (low : ℕ) (ps : List Part) (high : ℕ) → AreInOrder low ps high → low ≤ high
+pub order_low : (low : ℕ) (ps : List Part) (high : ℕ) → AreInOrder low ps high → low ≤ high
 order_low low [] high order = order
 order_low low (p ∷ ps) high order = let h = order_low (p.first + lives_of p) ps high order.1 in let l = order.0 in omega (arith, h, l)
 
@@ -52,25 +53,46 @@ one_owner low (x ∷ ps) high (suc i) (suc j) p q seat order at there own other 
 
 -- ---- the names
 
-abbrev pub DiffersFrom : List ℕ → List (List ℕ) → Type 0
-DiffersFrom name [] = ⊤
-DiffersFrom name (other ∷ names) = (bytes_eq name other ≡ false) × (bytes_eq other name ≡ false) × DiffersFrom name names
+abbrev pub differs_from : List ℕ → List (List ℕ) → Bool
+differs_from name [] = true
+differs_from name (other ∷ names) = if bytes_eq name other then false else differs_from name names
 
-abbrev pub AllDiffer : List (List ℕ) → Type 0
-AllDiffer [] = ⊤
-AllDiffer (name ∷ names) = DiffersFrom name names × AllDiffer names
+abbrev pub all_differ : List (List ℕ) → Bool
+all_differ [] = true
+all_differ (name ∷ names) = if differs_from name names then all_differ names else false
 
-differs_at : (name : List ℕ) (names : List (List ℕ)) (i : ℕ) (other : List ℕ) → DiffersFrom name names → slice_get names i ≡ Some other → (bytes_eq name other ≡ false) × (bytes_eq other name ≡ false)
+-- the first of names that differ, and the others
+pub first_differs : (name : List ℕ) (names : List (List ℕ)) → all_differ (name ∷ names) ≡ true → (differs_from name names ≡ true) × (all_differ names ≡ true)
+first_differs name names = by (differs_from name names)
+  where
+    by : (b : Bool) → (if b then all_differ names else false) ≡ true → (b ≡ true) × (all_differ names ≡ true)
+    by true all = (refl, all)
+    by false all = absurd (true≢false (sym all))
+
+pub differs_at : (name : List ℕ) (names : List (List ℕ)) (i : ℕ) (other : List ℕ) → differs_from name names ≡ true → slice_get names i ≡ Some other → bytes_eq name other ≡ false
 differs_at name [] i other all at = none_some at
-differs_at name (x ∷ names) zero other all at = subst (λ y. (bytes_eq name y ≡ false) × (bytes_eq y name ≡ false)) (one x other at) (all.0, all.1)
-differs_at name (x ∷ names) (suc i) other all at = differs_at name names i other all.2 at
+differs_at name (x ∷ names) i other all at = by (bytes_eq name x) refl all i at (differs_at name names)
+  where
+    by : (b : Bool) → bytes_eq name x ≡ b → (if b then false else differs_from name names) ≡ true → (i : ℕ) → slice_get (x ∷ names) i ≡ Some other
+        → ((j : ℕ) (o : List ℕ) → differs_from name names ≡ true → slice_get names j ≡ Some o → bytes_eq name o ≡ false) → bytes_eq name other ≡ false
+    by true e all i at next = absurd (true≢false (sym all))
+    by false e all zero at next = ap (bytes_eq name) (sym (one x other at)) ∙ e
+    by false e all (suc i) at next = next i other all at
 
-pub other_name : (names : List (List ℕ)) (i j : ℕ) (a b : List ℕ) → AllDiffer names → slice_get names i ≡ Some a → slice_get names j ≡ Some b → i ≢ j → bytes_eq a b ≡ false
+-- names that differ one way differ the other way
+pub flipped : (a b : List ℕ) → bytes_eq a b ≡ false → bytes_eq b a ≡ false
+flipped a b differs = by (bytes_eq b a) refl
+  where
+    by : (t : Bool) → bytes_eq b a ≡ t → bytes_eq b a ≡ false
+    by true e = absurd (true≢false (sym ((bytes_eq-Decides a b).1 (sym ((bytes_eq-Decides b a).0 e))) ∙ differs))
+    by false e = e
+
+pub other_name : (names : List (List ℕ)) (i j : ℕ) (a b : List ℕ) → all_differ names ≡ true → slice_get names i ≡ Some a → slice_get names j ≡ Some b → i ≢ j → bytes_eq a b ≡ false
 other_name [] i j a b all at there differs = none_some at
 other_name (x ∷ names) zero zero a b all at there differs = absurd (differs refl)
-other_name (x ∷ names) zero (suc j) a b all at there differs = subst (λ y. bytes_eq y b ≡ false) (one x a at) (differs_at x names j b all.0 there).0
-other_name (x ∷ names) (suc i) zero a b all at there differs = subst (λ y. bytes_eq a y ≡ false) (one x b there) (differs_at x names i a all.0 at).1
-other_name (x ∷ names) (suc i) (suc j) a b all at there differs = other_name names i j a b all.1 at there (λ e. differs (ap suc e))
+other_name (x ∷ names) zero (suc j) a b all at there differs = subst (λ y. bytes_eq y b ≡ false) (one x a at) (differs_at x names j b (first_differs x names all).0 there)
+other_name (x ∷ names) (suc i) zero a b all at there differs = subst (λ y. bytes_eq a y ≡ false) (one x b there) (flipped x a (differs_at x names i a (first_differs x names all).0 at))
+other_name (x ∷ names) (suc i) (suc j) a b all at there differs = other_name names i j a b (first_differs x names all).1 at there (λ e. differs (ap suc e))
 
 -- ---- one player in place of another
 

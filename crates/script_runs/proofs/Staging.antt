@@ -1,5 +1,5 @@
 -- What the moves of a script leave standing.
-use Rattle.std.proofs.Common.{◌≡◌, ◌≢◌, ◌⊎◌, ℕ, ◌<◌, ◌≤◌, ◌+◌, ◌-◌, zero, suc, List, [], ◌∷◌, length, map, set, Bool, true, false, true≢false, Option, Some, inl, inr, refl, sym, ◌∙◌, ap, subst, arith}
+use Rattle.std.proofs.Common.{◌≡◌, ◌≢◌, ◌⊎◌, ℕ, ◌<◌, ◌≤◌, ◌+◌, ◌-◌, zero, suc, List, [], ◌∷◌, length, set, Bool, true, false, true≢false, Option, Some, inl, inr, refl, sym, ◌∙◌, ap, subst, arith}
 use Rattle.std.specs.Prelude.{◌==◌, bytes_eq, slice_get}
 use Rattle.std.proofs.lemmas.Bool.Decides.{Decides-eqb}
 use Rattle.std.proofs.lemmas.Slice.Eq.{bytes_eq-Decides}
@@ -15,7 +15,6 @@ use Rattle.worker_core.specs.Stands.{StandsFor}
 use Rattle.worker_threads.specs.declared.drainers.Drainer.{Drainer}
 use Rattle.worker_threads.specs.Drainers.{AreStanding, seats_of}
 use Rattle.worker_threads.specs.Longer.{AreToldOf, IsLonger, IsOneOf}
-use Rattle.script_text.specs.declared.script.Line.{Line}
 use Rattle.script_text.specs.declared.script.Script.{Script}
 use Rattle.script_parts.specs.declared.part.Part.{Part}
 use Rattle.script_runs.specs.declared.player.Player.{Player}
@@ -24,25 +23,17 @@ use Rattle.script_runs.specs.Calls.{AreCalls, seat_at}
 use Rattle.binder_model.specs.World.{world}
 use Rattle.settle_check.specs.SoFar.{IsSettledSoFar}
 use Rattle.script_parts.specs.Budget.{raised}
-use Rattle.script_parts.specs.Parts.{drain_seat, drain_seats}
+use Rattle.script_parts.specs.Parts.{all_actors, all_lives, drain_seat, drain_seats, seats_from}
 use Rattle.script_runs.specs.Replays.{IsDrain, IsTurn, IsUserCall, Progress, and_idle, and_made}
 use Rattle.script_runs.specs.Steps.Living.{Lives}
 use Rattle.script_runs.specs.Steps.Playing.{HasMadeAll, HasMadeFewer, HasTurned, IsLife, Plays, StandsSince}
-use Rattle.script_runs.specs.Steps.Standing.{HasMoved, IsBudget, Leads, Stands, drainer_seats, parts_from, parts_in, seat_of_drains}
+use Rattle.script_runs.specs.Steps.Standing.{HasMoved, IsBudget, Leads, Stands, built_parts, parts_in, seat_of_drains}
+use Rattle.script_runs.proofs.Casting.{in_order, names_differ, names_in}
 use Rattle.script_runs.proofs.Lived.{lives_on}
 use Rattle.script_runs.proofs.Lives.{seat_within}
-use Rattle.script_runs.proofs.Orders.{AllDiffer, AreInOrder, get_set_other, get_set_same, life_between, one_owner, other_name, part_at_place, parts_set}
+use Rattle.script_runs.proofs.Orders.{get_set_other, get_set_same, life_between, one_owner, other_name, part_at_place, parts_set}
 
 -- ---- the parts of a script
-
-pub in_order : (lines : List Line) → AreInOrder 5 (parts_from lines) (seat_of_drains lines)
-in_order lines = (omega arith, (omega arith, (omega arith, (omega arith, omega arith))))
-
-abbrev names_in : List Part → List (List ℕ)
-names_in ps = map (λ (p : Part). p.name) ps
-
-names_differ : (lines : List Line) → AllDiffer (names_in (parts_from lines))
-names_differ lines = ((refl, refl, (refl, refl, (refl, refl, tt))), ((refl, refl, (refl, refl, tt)), ((refl, refl, tt), (tt, tt))))
 
 name_at : (ps : List Part) (i : ℕ) (p : Part) → slice_get ps i ≡ Some p → slice_get (names_in ps) i ≡ Some p.name
 name_at [] i p at = none_some at
@@ -76,25 +67,29 @@ drainer_seat (x ∷ ds) zero d at = inl (ap (λ (y : Drainer). y.seat) (one x d 
 drainer_seat (x ∷ ds) (suc i) d at = inr (drainer_seat ds i d at)
 
 -- and the drainers
-pub drainers_on : (ds : List Drainer) (h later : List Entry) → ((s : ℕ) → IsOneOf (seats_of ds) s → own s later ≡ own s h) → AreStanding ds h → AreStanding ds later
-drainers_on ds h later same stands place d at = subst (λ m. StandsFor d.actor m) (sym (same d.seat (drainer_seat ds place d at))) (stands place d at)
+pub drainers_on : (ds : List Drainer) (h later : List Entry) → ((seat : ℕ) → IsOneOf (seats_of ds) seat → own seat later ≡ own seat h) → AreStanding ds h → AreStanding ds later
+drainers_on ds h later same stands place d at = subst (λ (mine : List Entry). StandsFor d.actor mine) (sym (same d.seat (drainer_seat ds place d at))) (stands place d at)
 
--- the seats of the drains come after those of the lives
-after_lives : (first seat : ℕ) → IsOneOf (drainer_seats first) seat → first ≤ seat
-after_lives first seat (inl is) = omega (arith, is)
-after_lives first seat (inr (inl is)) = omega (arith, is)
-after_lives first seat (inr (inr (inl is))) = omega (arith, is)
-after_lives first seat (inr (inr (inr none))) = elim none [ ]
+-- ---- the seats of the drains are the last ones
 
-is_after : (first seat : ℕ) (ds : List Drainer) → seats_of ds ≡ drainer_seats first → IsOneOf (seats_of ds) seat → first ≤ seat
-is_after first seat ds are own = after_lives first seat (subst (λ xs. IsOneOf xs seat) are own)
+seats_low : (low : ℕ) (nodes : List (List ℕ)) (seat : ℕ) → IsOneOf (seats_from low nodes) seat → low ≤ seat
+seats_low low [] seat own = absurd own
+seats_low low (node ∷ nodes) seat (inl is) = omega (arith, is)
+seats_low low (node ∷ nodes) seat (inr later) = let rest = seats_low (low + 1) nodes seat later in omega (arith, rest)
 
--- and are among those that the script counts
-counted_seats : (script : Script) (first seat : ℕ) → drain_seat script ≡ first → IsOneOf (drainer_seats first) seat → IsOneOf (drain_seats script) seat
-counted_seats script first seat is (inl at) = inl (is ∙ at)
-counted_seats script first seat is (inr (inl at)) = inr (inr (inr (inl (ap (λ n. n + 3) is ∙ at))))
-counted_seats script first seat is (inr (inr (inl at))) = inr (inr (inr (inr (inl (ap (λ n. n + 4) is ∙ at)))))
-counted_seats script first seat is (inr (inr (inr none))) = elim none [ ]
+after_first : (first : ℕ) (nodes : List (List ℕ)) (seat : ℕ) → IsOneOf (first ∷ (first + 1) ∷ (first + 2) ∷ (first + 3) ∷ (first + 4) ∷ seats_from (first + 5) nodes) seat → first ≤ seat
+after_first first nodes seat (inl is) = omega (arith, is)
+after_first first nodes seat (inr (inl is)) = omega (arith, is)
+after_first first nodes seat (inr (inr (inl is))) = omega (arith, is)
+after_first first nodes seat (inr (inr (inr (inl is)))) = omega (arith, is)
+after_first first nodes seat (inr (inr (inr (inr (inl is))))) = omega (arith, is)
+after_first first nodes seat (inr (inr (inr (inr (inr later))))) = let rest = seats_low (first + 5) nodes seat later in omega (arith, rest)
+
+drains_last : (script : Script) (seat : ℕ) → IsOneOf (drain_seats script) seat → drain_seat script ≤ seat
+drains_last script seat own = after_first (drain_seat script) script.node_names seat own
+
+after_users : (lives seat : ℕ) → 5 + lives ≤ seat → 5 ≤ seat
+after_users lives seat low = omega (arith, low)
 
 -- ---- a user's call
 
@@ -118,8 +113,8 @@ module _ (script : Script) (option : Option ℕ) (user : ℕ) (request : Request
           let there = ap (λ (xs : _). slice_get xs.items place) (sym players) ∙ at in
           lives_on x old.world.past new.world.past (life_at x old.world.past p.idle named (stands.plays place x there named)) (λ seat life. others seat (above place x there seat life)) (stands.lives place x there named);
       made = λ place x at. stands.made place x (ap (λ (xs : _). slice_get xs.items place) (sym players) ∙ at);
-      drainers = subst (λ ds. AreStanding ds new.world.past) (sym drainers) (drainers_on old.drainers old.world.past new.world.past (λ seat own. others seat (drains_above seat (is_after (seat_of_drains script.lines) seat old.drainers stands.seats own))) stands.drainers);
-      seats = ap seats_of drainers ∙ stands.seats;
+      drainers = subst (λ ds. AreStanding ds new.world.past) (sym drainers) (drainers_on old.drainers old.world.past new.world.past (λ seat own. others seat (drains_above seat (stands.seats seat own))) stands.drainers);
+      seats = subst (λ ds. (seat : ℕ) → IsOneOf (seats_of ds) seat → IsOneOf (drain_seats script) seat) (sym drainers) stands.seats;
       drained = drained ∙ stands.drained;
       budget = budget ∙ stands.budget;
       few = let a = stands.few in omega (arith, a, drained, budget);
@@ -131,10 +126,10 @@ module _ (script : Script) (option : Option ℕ) (user : ℕ) (request : Request
       others seat high = ap (own seat) past ∙ own_other entry old.world.past seat (λ e. absurd (omega (arith, e, high, low)))
 
       above : (place : ℕ) (x : Player) → slice_get old.players.items place ≡ Some x → (seat : ℕ) → IsLife x.part seat → 5 ≤ seat
-      above place x there seat life = (life_between 5 (parts_from script.lines) (seat_of_drains script.lines) place x.part seat (in_order script.lines) (ap (λ ps. slice_get ps place) (sym stands.parts) ∙ part_at_place old.players.items place x there) life).0
+      above place x there seat life = (life_between 5 (built_parts script.lines) (seat_of_drains script.lines) place x.part seat (in_order script.lines) (ap (λ ps. slice_get ps place) (sym stands.parts) ∙ part_at_place old.players.items place x there) life).0
 
-      drains_above : (seat : ℕ) → seat_of_drains script.lines ≤ seat → 5 ≤ seat
-      drains_above seat high = omega (arith, high)
+      drains_above : (seat : ℕ) → IsOneOf (drain_seats script) seat → 5 ≤ seat
+      drains_above seat own = after_users (all_lives (all_actors script) script.lines) seat (drains_last script seat own)
 
 -- ---- an actor's turn
 
@@ -177,16 +172,19 @@ pub record HasPlayed (old new : Stage) (place : ℕ) (x after : Player) : Type 0
   pub drained : new.drained ≡ old.drained
   pub budget : new.budget ≡ old.budget
 
-module _ (script : Script) (option : Option ℕ) (old new : Stage) (place : ℕ) (x after : Player) (played : HasPlayed old new place x after) (p : Progress) (stands : Stands script option p old) where
-  part_there : (j : ℕ) (y : Player) → slice_get old.players.items j ≡ Some y → slice_get (parts_from script.lines) j ≡ Some y.part
+module _ (script : Script) (option : Option ℕ) (old new : Stage) (place : ℕ) (x after : Player) (last : drain_seat script ≡ seat_of_drains script.lines) (played : HasPlayed old new place x after) (p : Progress) (stands : Stands script option p old) where
+  part_there : (j : ℕ) (y : Player) → slice_get old.players.items j ≡ Some y → slice_get (built_parts script.lines) j ≡ Some y.part
   part_there j y at = ap (λ ps. slice_get ps j) (sym stands.parts) ∙ part_at_place old.players.items j y at
 
   -- another's seats are no lives of this one
   not_mine : (j : ℕ) (y : Player) (seat : ℕ) → slice_get old.players.items j ≡ Some y → j ≢ place → IsLife y.part seat → IsLife x.part seat → ⊥
-  not_mine j y seat at differs other mine = differs (one_owner 5 (parts_from script.lines) (seat_of_drains script.lines) j place y.part x.part seat (in_order script.lines) (part_there j y at) (part_there place x played.there) other mine)
+  not_mine j y seat at differs other mine = differs (one_owner 5 (built_parts script.lines) (seat_of_drains script.lines) j place y.part x.part seat (in_order script.lines) (part_there j y at) (part_there place x played.there) other mine)
 
-  not_drains : (seat : ℕ) → seat_of_drains script.lines ≤ seat → IsLife x.part seat → ⊥
-  not_drains seat high life = let b = (life_between 5 (parts_from script.lines) (seat_of_drains script.lines) place x.part seat (in_order script.lines) (part_there place x played.there) life).1 in absurd (omega (arith, b, high))
+  not_drains : (seat : ℕ) → IsOneOf (drain_seats script) seat → IsLife x.part seat → ⊥
+  not_drains seat own life =
+      let b = (life_between 5 (built_parts script.lines) (seat_of_drains script.lines) place x.part seat (in_order script.lines) (part_there place x played.there) life).1 in
+      let d = drains_last script seat own in
+      absurd (omega (arith, b, d, last))
 
   -- a player of the new stage is the one that made the calls, or one of the old stage at another place
   player_at : (j : ℕ) (y : Player) → slice_get new.players.items j ≡ Some y → (after ≡ y) ⊎ ((j ≢ place) × (slice_get old.players.items j ≡ Some y))
@@ -201,8 +199,8 @@ module _ (script : Script) (option : Option ℕ) (old new : Stage) (place : ℕ)
     plays = λ j y at named. each_plays j y named (player_at j y at);
     lives = λ j y at named. each_lives j y named (player_at j y at);
     made = λ j y at. each_made j y (player_at j y at);
-    drainers = subst (λ ds. AreStanding ds new.world.past) (sym played.drainers) (drainers_on old.drainers old.world.past new.world.past (λ seat own. others seat (not_drains seat (is_after (seat_of_drains script.lines) seat old.drainers stands.seats own))) stands.drainers);
-    seats = ap seats_of played.drainers ∙ stands.seats;
+    drainers = subst (λ ds. AreStanding ds new.world.past) (sym played.drainers) (drainers_on old.drainers old.world.past new.world.past (λ seat own. others seat (not_drains seat (stands.seats seat own))) stands.drainers);
+    seats = subst (λ ds. (seat : ℕ) → IsOneOf (seats_of ds) seat → IsOneOf (drain_seats script) seat) (sym played.drainers) stands.seats;
     drained = played.drained ∙ stands.drained;
     budget = played.budget ∙ stands.budget;
     few = let a = stands.few in let d = played.drained in let b = played.budget in omega (arith, a, d, b);
@@ -219,7 +217,7 @@ module _ (script : Script) (option : Option ℕ) (old new : Stage) (place : ℕ)
 
       each_made : (j : ℕ) (y : Player) → (after ≡ y) ⊎ ((j ≢ place) × (slice_get old.players.items j ≡ Some y)) → y.made ≡ and_made x.part.name count p.made y.part.name
       each_made j y (inl is) = subst (λ z. z.made ≡ and_made x.part.name count p.made z.part.name) is (more ∙ ap (λ n. n + count) (stands.made place x played.there) ∙ sym (own_made x.part.name count p.made) ∙ ap (λ (q : Part). and_made x.part.name count p.made q.name) (sym played.part))
-      each_made j y (inr other) = stands.made j y other.1 ∙ sym (other_made x.part.name y.part.name count p.made (other_name (names_in (parts_from script.lines)) j place y.part.name x.part.name (names_differ script.lines) (name_at (parts_from script.lines) j y.part (part_there j y other.1)) (name_at (parts_from script.lines) place x.part (part_there place x played.there)) other.0))
+      each_made j y (inr other) = stands.made j y other.1 ∙ sym (other_made x.part.name y.part.name count p.made (other_name (names_in (built_parts script.lines)) j place y.part.name x.part.name (names_differ script.lines) (name_at (built_parts script.lines) j y.part (part_there j y other.1)) (name_at (built_parts script.lines) place x.part (part_there place x played.there)) other.0))
 
   calls_at : (count : ℕ) → AreCalls x.part new.world.past (x.made + 1) count old.world.past → AreCalls x.part new.world.past (p.made x.part.name + 1) count p.past
   calls_at count calls = subst (λ h. AreCalls x.part new.world.past (p.made x.part.name + 1) count h) stands.past (subst (λ n. AreCalls x.part new.world.past (n + 1) count old.world.past) (stands.made place x played.there) calls)
@@ -251,10 +249,10 @@ module _ (script : Script) (option : Option ℕ) (old new : Stage) (place : ℕ)
           mine : (seat : ℕ) → seat ≡ after.seat → IsLife x.part seat
           mine seat e = subst (IsLife x.part) (sym e) (subst (λ (q : Part). IsLife q after.seat) played.part (life_at after new.world.past (and_idle after.seat (own after.seat new.world.past) p.idle) (ap (λ (q : Part). q.named) played.part ∙ played.named) few.plays))
 
-pub turn_moved : (script : Script) (option : Option ℕ) (calls : ℕ) (old new : Stage) (place : ℕ) (x after : Player) (part : Part) → part ≡ x.part → HasPlayed old new place x after
+pub turn_moved : (script : Script) (option : Option ℕ) (calls : ℕ) (old new : Stage) (place : ℕ) (x after : Player) (part : Part) → drain_seat script ≡ seat_of_drains script.lines → part ≡ x.part → HasPlayed old new place x after
     → ((idle : ℕ → List Entry) → Plays x old.world.past idle → HasTurned calls idle old.world.past new.world.past x after) → (Lives x old.world.past → Lives after new.world.past) → HasMoved script option (IsTurn part calls) old new
-turn_moved script option calls old new place x after part is played turns lives p stands =
-    subst (λ q. Leads script option (IsTurn q calls) p new) (sym is) (turned script option old new place x after played p stands calls (turns p.idle (stands.plays place x played.there played.named)) (lives (stands.lives place x played.there played.named)))
+turn_moved script option calls old new place x after part last is played turns lives p stands =
+    subst (λ q. Leads script option (IsTurn q calls) p new) (sym is) (turned script option old new place x after last played p stands calls (turns p.idle (stands.plays place x played.there played.named)) (lives (stands.lives place x played.there played.named)))
 
 -- ---- a drain
 
@@ -279,7 +277,7 @@ pub record HasDrained (script : Script) (option : Option ℕ) (old new : Stage) 
   pub most : IsBudget option new.budget
 
 pub drain_moved : (script : Script) (option : Option ℕ) (old new : Stage) (made : ℕ) → drain_seat script ≡ seat_of_drains script.lines → HasDrained script option old new made → HasMoved script option (IsDrain script option) old new
-drain_moved script option old new made seat d p stands = record {
+drain_moved script option old new made last d p stands = record {
   after = record p { past = new.world.past; drained = p.drained + made; budget = new.budget };
   move = record {
     past = new.world.past;
@@ -290,7 +288,7 @@ drain_moved script option old new made seat d p stands = record {
       added = d.entries.added;
       are = d.entries.are;
       count = d.entries.count;
-      of_seats = widen (seats_of old.drainers) (drain_seats script) d.entries.added (λ s own. counted_seats script (seat_of_drains script.lines) s seat (subst (λ xs. IsOneOf xs s) stands.seats own)) d.entries.of_seats;
+      of_seats = widen (seats_of old.drainers) (drain_seats script) d.entries.added stands.seats d.entries.of_seats;
     });
     few = let f = d.few in let r = d.room in let e = stands.drained in omega (arith, f, r, e);
     ends = ends d.ends;
@@ -303,13 +301,13 @@ drain_moved script option old new made seat d p stands = record {
     parts = ap (λ (xs : _). parts_in xs.items) d.players ∙ stands.parts;
     plays = λ place x at named.
         let there = ap (λ (xs : _). slice_get xs.items place) (sym d.players) ∙ at in
-        plays_on x old.world.past new.world.past p.idle p.idle named (λ s life. d.others s (λ own. below place x there s life (is_after (seat_of_drains script.lines) s old.drainers stands.seats own))) (λ s life. refl) (stands.plays place x there named);
+        plays_on x old.world.past new.world.past p.idle p.idle named (λ s life. d.others s (λ own. below place x there s life (stands.seats s own))) (λ s life. refl) (stands.plays place x there named);
     lives = λ place x at named.
         let there = ap (λ (xs : _). slice_get xs.items place) (sym d.players) ∙ at in
-        lives_on x old.world.past new.world.past (life_at x old.world.past p.idle named (stands.plays place x there named)) (λ s life. d.others s (λ own. below place x there s life (is_after (seat_of_drains script.lines) s old.drainers stands.seats own))) (stands.lives place x there named);
+        lives_on x old.world.past new.world.past (life_at x old.world.past p.idle named (stands.plays place x there named)) (λ s life. d.others s (λ own. below place x there s life (stands.seats s own))) (stands.lives place x there named);
     made = λ place x at. stands.made place x (ap (λ (xs : _). slice_get xs.items place) (sym d.players) ∙ at);
     drainers = d.standing;
-    seats = d.seats ∙ stands.seats;
+    seats = λ s own. stands.seats s (subst (λ ss. IsOneOf ss s) d.seats own);
     drained = d.drained ∙ ap (λ n. n + made) stands.drained;
     budget = refl;
     few = let f = d.few in let r = d.room in let e = d.drained in omega (arith, f, r, e);
@@ -321,7 +319,8 @@ drain_moved script option old new made seat d p stands = record {
     ends (inl settled) = inl (subst (λ s. IsSettledSoFar s (world s new.world.past)) (d.setup ∙ stands.setup) settled)
     ends (inr spent) = inr (let r = d.room in let e = stands.drained in omega (arith, spent, r, e))
 
-    below : (place : ℕ) (x : Player) → slice_get old.players.items place ≡ Some x → (s : ℕ) → IsLife x.part s → seat_of_drains script.lines ≤ s → ⊥
-    below place x there s life is =
-        let b = (life_between 5 (parts_from script.lines) (seat_of_drains script.lines) place x.part s (in_order script.lines) (ap (λ ps. slice_get ps place) (sym stands.parts) ∙ part_at_place old.players.items place x there) life).1 in
-        absurd (omega (arith, b, is))
+    below : (place : ℕ) (x : Player) → slice_get old.players.items place ≡ Some x → (s : ℕ) → IsLife x.part s → IsOneOf (drain_seats script) s → ⊥
+    below place x there s life own =
+        let b = (life_between 5 (built_parts script.lines) (seat_of_drains script.lines) place x.part s (in_order script.lines) (ap (λ ps. slice_get ps place) (sym stands.parts) ∙ part_at_place old.players.items place x there) life).1 in
+        let d = drains_last script s own in
+        absurd (omega (arith, b, d, last))

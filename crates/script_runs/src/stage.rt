@@ -1,17 +1,17 @@
 //! A world and all who call it, moved by one line of a script at a time.
 
-ghost use Rattle.std.specs.Prelude.{◌≡◌, ◌≤◌, ◌<◌, ◌+◌, ◌-◌, ◌*◌, ◌^◌, true, IfOk, OnOk, Some, length, slice_get};
-ghost use Rattle.call_types.specs.declared.request.SeatKind.TheVariants as seats;
+ghost use Rattle.std.specs.Prelude.{◌≡◌, ◌≤◌, ◌<◌, ◌+◌, ◌-◌, ◌*◌, ◌^◌, [], ◌∷◌, ◌++◌, true, IfOk, OnOk, Some, length, slice_get};
 ghost use Rattle.script_text.specs.declared.script.Line.{Line};
+ghost use Rattle.script_lines.specs.declared.actors.WorkerNumber.TheVariants.{One, Two, Three, Four};
 ghost use Rattle.script_lines.specs.Actors.{actor_word};
 ghost use Rattle.fitting_calls.specs.Calls.{AreByActors};
 ghost use Rattle.worker_threads.specs.Rounds.{EndsWith, made_of};
 ghost use Rattle.script_parts.specs.Budget.{first_budget};
-ghost use Rattle.script_parts.specs.Limits.{AreBuilt, IsReadable, is_actor_built};
-ghost use Rattle.script_parts.specs.Parts.{is_named, part_at, part_of};
+ghost use Rattle.script_parts.specs.Limits.{AreBuilt, IsReadable, is_actor_built, is_kind_built};
+ghost use Rattle.script_parts.specs.Parts.{is_named, part_of};
 ghost use Rattle.script_runs.specs.Replays.{IsDrain, IsMove, IsTurn, IsUserCall, Progress, begun};
 ghost use Rattle.script_runs.specs.Steps.Playing.{EachPlayer, IsNewPlayer};
-ghost use Rattle.script_runs.specs.Steps.Standing.{Ended, HasMoved, MadeAtMost, SomeStands, Stands, binder, parts_from, parts_in, place_of, seat_of_drains, with_made};
+ghost use Rattle.script_runs.specs.Steps.Standing.{Ended, HasMoved, MadeAtMost, SomeStands, Stands, built_parts, part_from, parts_from, parts_in, place_of, place_of_kind, place_of_number, seat_of_drains, seat_past, with_made, workers_of};
 
 use crate::player::{Player, turn};
 use call_types::request::{Request, SeatKind};
@@ -58,17 +58,36 @@ impl Drop for Stage {
     }
 }
 
-/// The place of a binder among the four.
+/// The place of the first worker of a kind among those that are built.
+fn place_of_kind(kind: WorkerKind) -> usize
+    ensures place { result ≡ place_of_kind kind }
+    ensures few { result ≤ 8 }
+{
+    match kind {
+        WorkerKind::Binder | WorkerKind::Ops | WorkerKind::Scheduler => 0,
+        WorkerKind::Claims => 4,
+        WorkerKind::Volumes => 8,
+    }
+}
+
+fn place_of_number(number: WorkerNumber) -> usize
+    ensures place { result ≡ place_of_number number }
+    ensures few { result < 4 }
+{
+    match number {
+        WorkerNumber::One => 0,
+        WorkerNumber::Two => 1,
+        WorkerNumber::Three => 2,
+        WorkerNumber::Four => 3,
+    }
+}
+
+/// The place of an actor among the workers that are built.
 fn place_of(actor: &Actor) -> usize
     ensures { result ≡ place_of actor.now }
 {
     match actor {
-        Actor::Worker(worker) => match worker.number {
-            WorkerNumber::One => 0,
-            WorkerNumber::Two => 1,
-            WorkerNumber::Three => 2,
-            WorkerNumber::Four => 3,
-        },
+        Actor::Worker(worker) => place_of_kind(worker.kind) + place_of_number(worker.number),
         Actor::Agent { node: _ } => 0,
     }
 }
@@ -101,6 +120,7 @@ impl Stage {
         calls: u64,
         most: u64,
     ) -> Result<(), OutOfMemory>
+        requires lines { AreBuilt script.now.lines }
         requires built { is_actor_built actor.now ≡ true }
         requires named { is_named (actor_word actor.now) script.now.lines ≡ true }
         requires readable { IsReadable script.now }
@@ -231,24 +251,16 @@ fn made_in(drained: &Drained) -> u64
     }
 }
 
-/// A binder before its first call, whose first life has this seat.
-fn player(
-    alloc: Global,
-    number: WorkerNumber,
-    first: u64,
-    lines: &[Line],
-) -> Result<Player, OutOfMemory>
-    ensures part { IfOk result (λ x. x.part ≡ part_at (actor_word (binder number)) seats.Binder first lines.now) }
+/// A worker before its first call, whose first life has this seat.
+fn player(alloc: Global, worker: Worker, first: u64, lines: &[Line]) -> Result<Player, OutOfMemory>
+    requires { is_kind_built worker.kind ≡ true }
+    ensures part { IfOk result (λ x. x.part ≡ part_from lines.now worker first) }
     ensures new { IfOk result (λ x. IsNewPlayer x) }
     ensures few { IfOk result (λ x. length x.part.restarts ≤ length lines.now) }
 {
-    let worker = Worker {
-        kind: WorkerKind::Binder,
-        number,
-    };
     let part = part_from(alloc, worker, first, lines)?;
     let node = Text::new(alloc, "")?;
-    let actor = WorkingActor::new(alloc, SeatKind::Binder, &node)?;
+    let actor = WorkingActor::new(alloc, part.kind, &node)?;
     Ok(Player {
         part,
         seat: first,
@@ -257,24 +269,69 @@ fn player(
     })
 }
 
-/// The binders before their first calls, and the seat after those of their lives.
+/// Adds the workers of a kind with these numbers, before their first calls, whose lives begin at this seat. Gives the seat
+/// after those of their lives.
+fn add_players(
+    alloc: Global,
+    players: &mut Vec<Player>,
+    kind: WorkerKind,
+    numbers: &[WorkerNumber],
+    first: u64,
+    lines: &[Line],
+) -> Result<u64, OutOfMemory>
+    requires built { is_kind_built kind ≡ true }
+    requires few { length lines.now ≤ 4096 }
+    requires small { first + 4097 * length numbers.now < 2 ^ 32 }
+    ensures parts { OnOk result (parts_in players.new.items ≡ parts_in players.old.items ++ parts_from lines.now (workers_of kind numbers.now) first) }
+    ensures new { OnOk result (EachPlayer IsNewPlayer players.old.items → EachPlayer IsNewPlayer players.new.items) }
+    ensures seat { IfOk result (λ seat. seat ≡ seat_past lines.now (workers_of kind numbers.now) first) }
+    ensures most { IfOk result (λ seat. seat ≤ first + 4097 * length numbers.now) }
+{
+    let mut seat = first;
+    for number in numbers {
+        let worker = Worker {
+            kind,
+            number: *number,
+        };
+        let player = player(alloc, worker, seat, lines)?;
+        seat = seat_after(&player.part);
+        players.push(player)?;
+    }
+    Ok(seat)
+}
+
+/// The numbers of the workers of a kind.
+fn numbers() -> &'static [WorkerNumber]
+    ensures { result.now ≡ One ∷ Two ∷ Three ∷ Four ∷ [] }
+{
+    &[
+        WorkerNumber::One,
+        WorkerNumber::Two,
+        WorkerNumber::Three,
+        WorkerNumber::Four,
+    ]
+}
+
+/// The workers that are built before their first calls, and the seat after those of their lives.
 fn players(alloc: Global, lines: &[Line]) -> Result<(Vec<Player>, u64), OutOfMemory>
     requires { length lines.now ≤ 4096 }
-    ensures parts { IfOk result (λ r. parts_in r.0.items ≡ parts_from lines.now) }
+    ensures parts { IfOk result (λ r. parts_in r.0.items ≡ built_parts lines.now) }
     ensures new { IfOk result (λ r. EachPlayer IsNewPlayer r.0.items) }
     ensures seat { IfOk result (λ r. r.1 ≡ seat_of_drains lines.now) }
     ensures small { IfOk result (λ r. r.1 < 2 ^ 32) }
 {
-    let one = player(alloc, WorkerNumber::One, FIRST_ACTOR_SEAT, lines)?;
-    let two = player(alloc, WorkerNumber::Two, seat_after(&one.part), lines)?;
-    let three = player(alloc, WorkerNumber::Three, seat_after(&two.part), lines)?;
-    let four = player(alloc, WorkerNumber::Four, seat_after(&three.part), lines)?;
-    let end = seat_after(&four.part);
+    let four = numbers();
     let mut players = Vec::new(alloc);
-    players.push(one)?;
-    players.push(two)?;
-    players.push(three)?;
-    players.push(four)?;
+    let second = add_players(
+        alloc,
+        &mut players,
+        WorkerKind::Binder,
+        four,
+        FIRST_ACTOR_SEAT,
+        lines,
+    )?;
+    let third = add_players(alloc, &mut players, WorkerKind::Claims, four, second, lines)?;
+    let end = add_players(alloc, &mut players, WorkerKind::Volumes, four, third, lines)?;
     Ok((players, end))
 }
 

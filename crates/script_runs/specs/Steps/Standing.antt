@@ -1,8 +1,11 @@
 -- What stands for how far a replay has come: a world, the actors, and the numbers of the drains. A choice of this project.
-use Rattle.std.specs.Prelude.{ℕ, ◌≡◌, ◌≤◌, ◌+◌, true, List, [], ◌∷◌, Option, Some, None, drop, map}
+use Rattle.std.specs.Prelude.{ℕ, ◌≡◌, ◌≤◌, ◌+◌, true, List, [], ◌∷◌, ◌++◌, Option, Some, None, drop, map}
 use Rattle.worker_threads.specs.Drainers.{AreStanding, seats_of}
+use Rattle.worker_threads.specs.Longer.{IsOneOf}
 use Rattle.world_core.specs.declared.drained.Drained.{Drained}
 use Rattle.world_core.specs.declared.drained.Drained.TheVariants.{Settled, Spent}
+use Rattle.script_lines.specs.declared.actors.Worker.{Worker as WorkerData}
+use Rattle.script_lines.specs.declared.actors.WorkerKind.{WorkerKind}
 use Rattle.script_lines.specs.declared.actors.WorkerKind.TheVariants as workers
 use Rattle.script_lines.specs.declared.actors.WorkerNumber.{WorkerNumber}
 use Rattle.script_lines.specs.declared.actors.WorkerNumber.TheVariants.{One, Two, Three, Four}
@@ -14,14 +17,25 @@ use Rattle.script_parts.specs.declared.part.Part.{Part}
 use Rattle.script_runs.specs.declared.player.Player.{Player}
 use Rattle.script_runs.specs.declared.stage.Stage.{Stage}
 use Rattle.script_parts.specs.Budget.{most_budget}
-use Rattle.script_parts.specs.Parts.{first_actor_seat, lives_of, part_at}
-use Rattle.script_lines.specs.Actors.{actor_word}
-use Rattle.call_types.specs.declared.request.SeatKind.TheVariants as seats
+use Rattle.script_parts.specs.Parts.{drain_seats, first_actor_seat, kind_of_worker, lives_of, part_at}
+use Rattle.script_lines.specs.Actors.{four, worker_word}
 use Rattle.script_runs.specs.Replays.{AreMoves, EndsAs, IsDrain, Progress, begun}
 use Rattle.script_runs.specs.Steps.Living.{Lives}
 use Rattle.script_runs.specs.Steps.Playing.{EachPlayer, Plays}
 
--- the place of a binder among the four
+-- the workers that are built, in the order of their seats: four of each kind
+unfoldable pub built_workers : List WorkerData
+built_workers = four workers.Binder ++ (four workers.Claims ++ four workers.Volumes)
+
+-- the place of an actor among them
+
+abbrev pub place_of_kind : WorkerKind → ℕ
+place_of_kind workers.Binder = 0
+place_of_kind workers.Ops = 0
+place_of_kind workers.Scheduler = 0
+place_of_kind workers.Claims = 4
+place_of_kind workers.Volumes = 8
+
 abbrev pub place_of_number : WorkerNumber → ℕ
 place_of_number One = 0
 place_of_number Two = 1
@@ -29,38 +43,35 @@ place_of_number Three = 2
 place_of_number Four = 3
 
 abbrev pub place_of : Actor → ℕ
-place_of (Worker w) = place_of_number w.number
+place_of (Worker w) = place_of_kind w.kind + place_of_number w.number
 place_of (Agent node) = 0
 
-abbrev pub binder : WorkerNumber → Actor
-binder number = Worker (record { kind = workers.Binder; number = number })
+-- the workers of a kind with these numbers
+abbrev pub workers_of : WorkerKind → List WorkerNumber → List WorkerData
+workers_of kind numbers = map (λ (n : WorkerNumber). record { kind = kind; number = n }) numbers
 
--- the parts by the lines alone, where the binder alone is built
+-- the parts of workers by the lines alone: each begins where the one before it ends
+
+abbrev pub part_from : List Line → WorkerData → ℕ → Part
+part_from lines w first = part_at (worker_word w) (kind_of_worker w.kind) first lines
 
 abbrev pub end_of : Part → ℕ
 end_of part = part.first + lives_of part
 
-abbrev pub part_from : List Line → WorkerNumber → ℕ → Part
-part_from lines number first = part_at (actor_word (binder number)) seats.Binder first lines
+abbrev pub parts_from : List Line → List WorkerData → ℕ → List Part
+parts_from lines [] first = []
+parts_from lines (w ∷ ws) first = part_from lines w first ∷ parts_from lines ws (end_of (part_from lines w first))
 
-abbrev pub second_seat : List Line → ℕ
-second_seat lines = end_of (part_from lines One first_actor_seat)
+-- the seat after those of their lives
+abbrev pub seat_past : List Line → List WorkerData → ℕ → ℕ
+seat_past lines [] first = first
+seat_past lines (w ∷ ws) first = seat_past lines ws (end_of (part_from lines w first))
 
-abbrev pub third_seat : List Line → ℕ
-third_seat lines = end_of (part_from lines Two (second_seat lines))
-
-abbrev pub fourth_seat : List Line → ℕ
-fourth_seat lines = end_of (part_from lines Three (third_seat lines))
+abbrev pub built_parts : List Line → List Part
+built_parts lines = parts_from lines built_workers first_actor_seat
 
 abbrev pub seat_of_drains : List Line → ℕ
-seat_of_drains lines = end_of (part_from lines Four (fourth_seat lines))
-
--- the seats of the drains' actors that are built: binder, claim protection and volume protection
-abbrev pub drainer_seats : ℕ → List ℕ
-drainer_seats first = first ∷ (first + 3) ∷ (first + 4) ∷ []
-
-abbrev pub parts_from : List Line → List Part
-parts_from lines = part_from lines One first_actor_seat ∷ part_from lines Two (second_seat lines) ∷ part_from lines Three (third_seat lines) ∷ part_from lines Four (fourth_seat lines) ∷ []
+seat_of_drains lines = seat_past lines built_workers first_actor_seat
 
 abbrev pub parts_in : List Player → List Part
 parts_in players = map (λ (x : Player). x.part) players
@@ -72,12 +83,12 @@ IsBudget None budget = budget ≤ most_budget
 pub record Stands (script : Script) (option : Option ℕ) (p : Progress) (s : Stage) : Type 0 where
   pub past : s.world.past ≡ p.past
   pub setup : s.world.setup ≡ script.setup
-  pub parts : parts_in s.players.items ≡ parts_from script.lines
+  pub parts : parts_in s.players.items ≡ built_parts script.lines
   pub plays : EachPlayer (λ x. x.part.named ≡ true → Plays x s.world.past p.idle) s.players.items
   pub lives : EachPlayer (λ x. x.part.named ≡ true → Lives x s.world.past) s.players.items
   pub made : EachPlayer (λ x. x.made ≡ p.made x.part.name) s.players.items
   pub drainers : AreStanding s.drainers s.world.past
-  pub seats : seats_of s.drainers ≡ drainer_seats (seat_of_drains script.lines)
+  pub seats : (seat : ℕ) → IsOneOf (seats_of s.drainers) seat → IsOneOf (drain_seats script) seat
   pub drained : s.drained ≡ p.drained
   pub budget : s.budget ≡ p.budget
   pub few : s.drained ≤ s.budget
