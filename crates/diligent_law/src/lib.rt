@@ -17,18 +17,17 @@ pub fn played_is_diligent()
     ensures { PlayedIsDiligent }
 {}
 
-/// The same of a binder, where what is due is read on the rows in order and no volume of them stands in a namespace.
+/// The same where what is due is read on one list of rows in order; a binder's have no volume in a namespace.
 pub fn played_is_diligent_in_order()
     ensures { PlayedIsDiligentInOrder }
 {}
 
-/// Where the decision is one by look-ups of keys alone, one list of rows tells that the key is due.
+/// Where the decision is the same on all rows in order that show the same, one list of rows tells that the key is due.
 pub fn one_showing_is_enough()
     ensures { OneShowingIsEnough }
 {}
 
-/// A binder's key is due, whatever rows are looked at, where the rules give a call for it on the rows in order and no volume
-/// of them stands in a namespace.
+/// A key is due where the rules give a call for it on one list of rows in order; a binder's have no volume in a namespace.
 pub fn rows_in_order_are_enough()
     ensures { RowsInOrderAreEnough }
 {}
