@@ -63,7 +63,7 @@ watch_examples = record {
 
 -- the rows of one told volume
 
-listed_object : (version : ℕ) (row : Option Object) → object_of (Some (listing version row)) ≡ row
+pub listed_object : (version : ℕ) (row : Option Object) → object_of (Some (listing version row)) ≡ row
 listed_object version None = refl
 listed_object version (Some o) = refl
 
@@ -74,7 +74,7 @@ later_none : (t : Option Telling) → later t None ≡ t
 later_none None = refl
 later_none (Some t) = refl
 
-shown_one : (v : VolumeData) (key : Key) → row_at key (rows v) ≡ object_of (newest (seat_of seats.Binder (tells_volume v ∷ [])) key)
+pub shown_one : (v : VolumeData) (key : Key) → row_at key (rows v) ≡ object_of (newest (seat_of seats.Binder (tells_volume v ∷ [])) key)
 shown_one v key = by (kind_index kinds.PersistentVolume == kind_index key.kind) refl ∙ sym (ap object_of (later_none (if kind_index kinds.PersistentVolume == kind_index key.kind then Some (listing v.meta.version (row_at key (rows v))) else None)))
   where
     by : (b : Bool) → (kind_index kinds.PersistentVolume == kind_index key.kind) ≡ b → row_at key (rows v) ≡ object_of (if kind_index kinds.PersistentVolume == kind_index key.kind then Some (listing v.meta.version (row_at key (rows v))) else None)
