@@ -38,7 +38,7 @@ use Rattle.worker_core.specs.declared.task.Task.{Task}
 use Rattle.worker_core.specs.declared.task.Task.TheVariants as tasks
 use Rattle.worker_core.specs.declared.task.Under.{Under}
 use Rattle.worker_core.specs.Tasks.{IsBinderFirst, IsFirstOf, claim_first, task_call, volume_first as volume_first_of}
-use Rattle.diligent_law.specs.Diligence.{BeginsCall, Shows}
+use Rattle.diligent_law.specs.Diligence.{BeginsCall}
 use Rattle.diligent_law.specs.Showing.{IsLookedUp, OneShowingIsEnough}
 use Rattle.diligent_law.proofs.Seeking.{found_any}
 

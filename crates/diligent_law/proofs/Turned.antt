@@ -4,7 +4,6 @@ use Rattle.std.specs.Prelude.{is_some}
 use Rattle.kube_types.specs.declared.key.Key.{Key}
 use Rattle.kube_types.specs.declared.parts.Kind.{Kind}
 use Rattle.kube_types.specs.declared.objects.Object.{Object}
-use Rattle.call_types.specs.declared.entry.Entry.{Entry}
 use Rattle.call_types.specs.declared.request.Request.{Request}
 use Rattle.call_types.specs.declared.reply.Reply.{Reply}
 use Rattle.informer_cache.specs.Cache.{keys_in}
