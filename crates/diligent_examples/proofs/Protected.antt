@@ -16,7 +16,7 @@ use Rattle.call_types.specs.declared.request.SeatKind.{SeatKind}
 use Rattle.call_types.specs.declared.request.SeatKind.TheVariants as seats
 use Rattle.binder_model.specs.Told.{listing, newest, object_of}
 use Rattle.model_laws.proofs.Lists.{none_some}
-use Rattle.model_examples.specs.ProtectionRows.{bare_a, bare_c, leaving_a, leaving_c}
+use Rattle.model_examples.specs.ProtectionRows.{bare_a, bare_c, leaving_a, leaving_c, other_p}
 use Rattle.model_examples.specs.Samples.{c, key_a, key_c, leaving_bound_a, p, seat_of, tells_claim, tells_pod, tells_volume}
 use Rattle.protect_sync.specs.declared.claims.ClaimGuardStep.TheVariants as claims
 use Rattle.protect_sync.specs.declared.volumes.VolumeGuardStep.TheVariants as volumes
@@ -36,7 +36,7 @@ use Rattle.diligent_law.proofs.Following.{played_is_diligent}
 use Rattle.diligent_law.proofs.Ordered.{rows_in_order}
 use Rattle.diligent_examples.proofs.Computed.{listed_object, shown_one}
 use Rattle.diligent_examples.specs.Lives.{watch}
-use Rattle.diligent_examples.specs.Protection.{ClaimDue, ProtectionDueExamples, ProtectionLifeExamples, claim_guard, guard_call, guard_entry, guard_watched, pod_of_another, volume_guard}
+use Rattle.diligent_examples.specs.Protection.{ClaimDue, ProtectionDueExamples, ProtectionLifeExamples, claim_guard, guard_call, guard_entry, guard_watched, volume_guard}
 
 -- the rows of what was told
 
@@ -106,7 +106,7 @@ unfolding claim_call volume_call
 due_examples = record {
   bare_claim = claim_due _ (Claim bare_c ∷ []) (tasks.ClaimProtect (record { claim = bare_c; step = claims.Adds })) (write_over bare_c (guarded_claim bare_c)) (record { order = (tt, tt); shown = shown_claim bare_c }) (record { decided = refl; call = refl });
   leaving_claim = claim_due _ (Claim leaving_c ∷ []) (tasks.ClaimProtect (record { claim = leaving_c; step = claims.ListsPods })) pods_of_default (record { order = (tt, tt); shown = shown_claim leaving_c }) (record { decided = refl; call = refl });
-  leaving_claim_beside_a_pod_of_another = claim_due _ (Claim leaving_c ∷ Pod pod_of_another ∷ []) (tasks.ClaimProtect (record { claim = leaving_c; step = claims.ListsPods })) pods_of_default (record { order = ((refl, tt), (tt, tt)); shown = shown_both leaving_c pod_of_another }) (record { decided = refl; call = refl });
+  leaving_claim_beside_a_pod_of_another = claim_due _ (Claim leaving_c ∷ Pod other_p ∷ []) (tasks.ClaimProtect (record { claim = leaving_c; step = claims.ListsPods })) pods_of_default (record { order = ((refl, tt), (tt, tt)); shown = shown_both leaving_c other_p }) (record { decided = refl; call = refl });
   not_a_leaving_claim_in_use = not_due claim_guard key_c _ (Claim leaving_c ∷ Pod p ∷ []) (record { order = ((refl, tt), (tt, tt)); shown = shown_both leaving_c p }) refl;
   not_a_guarded_claim = not_due claim_guard key_c _ (Claim c ∷ []) (record { order = (tt, tt); shown = shown_claim c }) refl;
   bare_volume = bare_volume_due _ (shown_one bare_a);

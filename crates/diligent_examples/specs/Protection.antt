@@ -1,12 +1,11 @@
 -- Which keys are due for claim protection and for volume protection, and when a life of theirs is diligent: cases that hold,
 -- and cases beside them that must not. A choice of this project, as the actors are. The newest call stands first.
-use Rattle.std.specs.Prelude.{codes, List, [], ◌∷◌, Some}
+use Rattle.std.specs.Prelude.{List, [], ◌∷◌, Some}
 use Rattle.kube_types.specs.declared.key.Key.{Key}
-use Rattle.kube_types.specs.declared.objects.Pod.{Pod as PodData}
 use Rattle.kube_types.specs.declared.objects.Volume.{Volume as VolumeData}
 use Rattle.call_types.specs.declared.entry.Entry.{Entry}
 use Rattle.call_types.specs.declared.request.SeatKind.TheVariants as seats
-use Rattle.model_examples.specs.ProtectionRows.{bare_a, bare_c, leaving_a, leaving_c}
+use Rattle.model_examples.specs.ProtectionRows.{bare_a, bare_c, leaving_a, leaving_c, other_p}
 use Rattle.model_examples.specs.Samples.{Exchange, c, entry_of, key_a, key_c, leaving_bound_a, p, seat_of, tells_claim, tells_pod, tells_volume}
 use Rattle.worker_core.specs.declared.role.Role.{Role}
 use Rattle.worker_core.specs.States.{State}
@@ -26,14 +25,10 @@ ClaimDue key xs = IsDue claim_guard key (seat_of seats.ClaimProtect xs)
 abbrev pub VolumeDue : Key → List Exchange → Type 0
 VolumeDue key xs = IsDue volume_guard key (seat_of seats.VolumeProtect xs)
 
--- a pod that uses another claim
-abbrev pub pod_of_another : PodData
-pod_of_another = record p { claims = codes "d" ∷ [] }
-
 pub record ProtectionDueExamples : Type 0 where
   pub bare_claim : ClaimDue key_c (tells_claim bare_c ∷ [])
   pub leaving_claim : ClaimDue key_c (tells_claim leaving_c ∷ [])
-  pub leaving_claim_beside_a_pod_of_another : ClaimDue key_c (tells_pod pod_of_another ∷ tells_claim leaving_c ∷ [])
+  pub leaving_claim_beside_a_pod_of_another : ClaimDue key_c (tells_pod other_p ∷ tells_claim leaving_c ∷ [])
   pub not_a_leaving_claim_in_use : ClaimDue key_c (tells_pod p ∷ tells_claim leaving_c ∷ []) → ⊥
   pub not_a_guarded_claim : ClaimDue key_c (tells_claim c ∷ []) → ⊥
   pub bare_volume : VolumeDue key_a (tells_volume bare_a ∷ [])
