@@ -1,5 +1,5 @@
 -- The examples compute.
-use Rattle.std.proofs.Common.{refl, sym, ap, true≢false}
+use Rattle.std.proofs.Common.{refl, ap, true≢false}
 use Rattle.std.specs.Prelude.{Bool, true, false, List, [], ◌∷◌}
 use Rattle.call_types.specs.declared.reply.Event.{Event}
 use Rattle.actor_examples.specs.Memories.{AgentExamples, SchedulerExamples}

@@ -1,6 +1,6 @@
 -- What agents and schedulers remember: cases that the entries tell, and cases beside them that they do not.
 -- A choice of this project, as the actors are.
-use Rattle.std.specs.Prelude.{ℕ, ◌≡◌, true, false, codes, List, [], ◌∷◌, Option, Some, None}
+use Rattle.std.specs.Prelude.{ℕ, ◌≡◌, true, false, codes, List, [], ◌∷◌, Some, None}
 use Rattle.plain_data.specs.Pairs.{Pair}
 use Rattle.kube_types.specs.declared.objects.Claim.{Claim as ClaimData}
 use Rattle.kube_types.specs.declared.objects.Object.TheVariants.{Claim}

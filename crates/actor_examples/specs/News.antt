@@ -1,6 +1,6 @@
 -- When a kind has no news, and what an answer makes of a pass: cases that hold, and cases beside them that must not.
 -- A choice of this project, as the actors are.
-use Rattle.std.specs.Prelude.{ℕ, ◌≡◌, true, false, List, [], ◌∷◌, None}
+use Rattle.std.specs.Prelude.{◌≡◌, true, false, List, [], ◌∷◌, None}
 use Rattle.kube_types.specs.declared.parts.Kind.{Kind}
 use Rattle.kube_types.specs.declared.parts.Kind.TheVariants as kinds
 use Rattle.kube_types.specs.declared.objects.Object.TheVariants.{Volume}

@@ -1,6 +1,6 @@
 -- What the protection controllers decide as actors, and what answers make of what they have under way: cases that the
 -- definitions give, and cases beside them that they do not. A choice of this project, as the actors are.
-use Rattle.std.specs.Prelude.{◌≡◌, true, false, codes, List, [], ◌∷◌, Option, Some, None}
+use Rattle.std.specs.Prelude.{◌≡◌, true, false, codes, List, [], ◌∷◌, Some, None}
 use Rattle.kube_types.specs.declared.key.Key.{Key}
 use Rattle.kube_types.specs.declared.parts.Kind.TheVariants as kinds
 use Rattle.kube_types.specs.declared.objects.Claim.{Claim as ClaimData}

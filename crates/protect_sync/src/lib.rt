@@ -3,12 +3,13 @@
 //! Promises: `next` is the call that `specs/ClaimGuards` and `specs/VolumeGuards` name, `absorb` what the
 //! answer makes of the machine, `parks` whether its key is to wait; `decide::decide_claim` and
 //! `decide::decide_volume` begin a machine exactly where protection is due on the look-up. That each call
-//! is allowed by what its seat was told is a law (`laws`). Not said: when a key is decided, and what becomes
-//! of it; that is the actor's.
+//! is allowed by what its seat was told is a law (`laws`). `due` answers what of protection is due, and
+//! takes no memory. Not said: when a key is decided, and what becomes of it; that is the actor's.
 #![tactic(auto)]
 
 pub mod claims;
 pub mod decide;
+pub mod due;
 pub mod laws;
 mod names;
 mod uses;

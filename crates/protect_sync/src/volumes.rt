@@ -103,7 +103,7 @@ fn first_step(volume: &Volume) -> Option<VolumeGuardStep>
     }
 }
 
-fn is_bound(phase: VolumePhase) -> bool
+pub(crate) fn is_bound(phase: VolumePhase) -> bool
     ensures { result ≡ is_bound phase }
 {
     match phase {

@@ -9,9 +9,7 @@ use Rattle.model_laws.proofs.Lists.{none_some, one}
 use Rattle.settle_check.specs.SoFar.{IsFirstBuiltDue, IsSettledSoFar}
 use Rattle.world_core.specs.declared.drained.Drained.{Drained}
 use Rattle.world_core.specs.declared.drained.Drained.TheVariants.{Settled, Spent}
-use Rattle.worker_threads.specs.declared.drainers.Drainer.{Drainer}
 use Rattle.worker_threads.specs.Drainers.{AreNew, AreStanding, HaveNoEntries, seats_of}
-use Rattle.worker_threads.specs.Longer.{IsOneOf}
 use Rattle.worker_threads.specs.Rounds.{EndsWith, made_of}
 use Rattle.script_text.specs.declared.script.Line.{Line}
 use Rattle.script_text.specs.declared.script.Script.{Script}
@@ -25,7 +23,8 @@ use Rattle.script_runs.specs.Replays.{EndsAs, IsDrain, IsMove, IsReplay, MoreMov
 use Rattle.script_runs.specs.Steps.Living.{Lives}
 use Rattle.worker_core.specs.declared.role.Role.{Role}
 use Rattle.script_runs.specs.Steps.Playing.{EachPlayer, IsNewPlayer, Plays}
-use Rattle.script_runs.specs.Steps.Standing.{Ended, HasMoved, IsBudget, SoFar, Stands, end_of, fourth_seat, part_from, parts_from, parts_in, seat_of_drains, second_seat, third_seat, with_made}
+use Rattle.script_runs.specs.Steps.Standing.{Ended, HasMoved, IsBudget, SoFar, Stands, drainer_seats, end_of, fourth_seat, part_from, parts_from, parts_in, seat_of_drains, second_seat, third_seat, with_made}
+use Rattle.worker_threads.proofs.NewFacts.{new_seats}
 use Rattle.script_runs.proofs.Casting.{small_seats}
 use Rattle.script_runs.proofs.Lived.{new_lives}
 use Rattle.script_runs.proofs.Since.{new_since}
@@ -49,13 +48,6 @@ first_most : (option : Option ℕ) → IsBudget option (first_budget option)
 first_most (Some given) = refl
 first_most None = omega arith
 
-new_seats : (first : ℕ) (ds : List Drainer) → AreNew first ds → (seat : ℕ) → IsOneOf (seats_of ds) seat → seat ≡ first
-new_seats first ds new seat own = by (subst (λ xs. IsOneOf (seats_of xs) seat) new.are own)
-  where
-    by : IsOneOf (new.binder.seat ∷ []) seat → seat ≡ first
-    by (inl is) = sym is ∙ new.seat
-    by (inr none) = elim none [ ]
-
 pub begins : (script : Script) (option : Option ℕ) (s : Stage) (first : ℕ) → s.world.past ≡ [] → s.world.setup ≡ script.setup → parts_in s.players.items ≡ parts_from script.lines → EachPlayer IsNewPlayer s.players.items
     → AreNew first s.drainers → first ≡ seat_of_drains script.lines → ((past : List Entry) → HaveNoEntries (seats_of s.drainers) past → AreStanding s.drainers past) → s.drained ≡ 0 → s.budget ≡ first_budget option → Stands script option (begun option) s
 begins script option s first past setup parts new are seat stand drained budget = record {
@@ -66,7 +58,7 @@ begins script option s first past setup parts new are seat stand drained budget 
   lives = λ place x at named. subst (Lives x) (sym past) (new_lives x (new place x at));
   made = λ place x at. (new place x at).made;
   drainers = subst (AreStanding s.drainers) (sym past) (stand [] (none_yet (seats_of s.drainers)));
-  seats = λ other own. new_seats first s.drainers are other own ∙ seat;
+  seats = new_seats first s.drainers are ∙ ap drainer_seats seat;
   drained = drained;
   budget = budget;
   few = omega (arith, drained);

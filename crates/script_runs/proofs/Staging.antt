@@ -28,7 +28,7 @@ use Rattle.script_parts.specs.Parts.{drain_seat, drain_seats}
 use Rattle.script_runs.specs.Replays.{IsDrain, IsTurn, IsUserCall, Progress, and_idle, and_made}
 use Rattle.script_runs.specs.Steps.Living.{Lives}
 use Rattle.script_runs.specs.Steps.Playing.{HasMadeAll, HasMadeFewer, HasTurned, IsLife, Plays, StandsSince}
-use Rattle.script_runs.specs.Steps.Standing.{HasMoved, IsBudget, Leads, Stands, parts_from, parts_in, seat_of_drains}
+use Rattle.script_runs.specs.Steps.Standing.{HasMoved, IsBudget, Leads, Stands, drainer_seats, parts_from, parts_in, seat_of_drains}
 use Rattle.script_runs.proofs.Lived.{lives_on}
 use Rattle.script_runs.proofs.Lives.{seat_within}
 use Rattle.script_runs.proofs.Orders.{AllDiffer, AreInOrder, get_set_other, get_set_same, life_between, one_owner, other_name, part_at_place, parts_set}
@@ -76,10 +76,25 @@ drainer_seat (x ∷ ds) zero d at = inl (ap (λ (y : Drainer). y.seat) (one x d 
 drainer_seat (x ∷ ds) (suc i) d at = inr (drainer_seat ds i d at)
 
 -- and the drainers
-pub drainers_on : (ds : List Drainer) (seat : ℕ) (h later : List Entry) → ((s : ℕ) → IsOneOf (seats_of ds) s → s ≡ seat) → own seat later ≡ own seat h → AreStanding ds h → AreStanding ds later
-drainers_on ds seat h later are same stands place d at =
-    let e = are d.seat (drainer_seat ds place d at) in
-    subst (λ s. StandsFor d.actor (own s later)) (sym e) (subst (λ m. StandsFor d.actor m) (sym same) (subst (λ s. StandsFor d.actor (own s h)) e (stands place d at)))
+pub drainers_on : (ds : List Drainer) (h later : List Entry) → ((s : ℕ) → IsOneOf (seats_of ds) s → own s later ≡ own s h) → AreStanding ds h → AreStanding ds later
+drainers_on ds h later same stands place d at = subst (λ m. StandsFor d.actor m) (sym (same d.seat (drainer_seat ds place d at))) (stands place d at)
+
+-- the seats of the drains come after those of the lives
+after_lives : (first seat : ℕ) → IsOneOf (drainer_seats first) seat → first ≤ seat
+after_lives first seat (inl is) = omega (arith, is)
+after_lives first seat (inr (inl is)) = omega (arith, is)
+after_lives first seat (inr (inr (inl is))) = omega (arith, is)
+after_lives first seat (inr (inr (inr none))) = elim none [ ]
+
+is_after : (first seat : ℕ) (ds : List Drainer) → seats_of ds ≡ drainer_seats first → IsOneOf (seats_of ds) seat → first ≤ seat
+is_after first seat ds are own = after_lives first seat (subst (λ xs. IsOneOf xs seat) are own)
+
+-- and are among those that the script counts
+counted_seats : (script : Script) (first seat : ℕ) → drain_seat script ≡ first → IsOneOf (drainer_seats first) seat → IsOneOf (drain_seats script) seat
+counted_seats script first seat is (inl at) = inl (is ∙ at)
+counted_seats script first seat is (inr (inl at)) = inr (inr (inr (inl (ap (λ n. n + 3) is ∙ at))))
+counted_seats script first seat is (inr (inr (inl at))) = inr (inr (inr (inr (inl (ap (λ n. n + 4) is ∙ at)))))
+counted_seats script first seat is (inr (inr (inr none))) = elim none [ ]
 
 -- ---- a user's call
 
@@ -103,8 +118,8 @@ module _ (script : Script) (option : Option ℕ) (user : ℕ) (request : Request
           let there = ap (λ (xs : _). slice_get xs.items place) (sym players) ∙ at in
           lives_on x old.world.past new.world.past (life_at x old.world.past p.idle named (stands.plays place x there named)) (λ seat life. others seat (above place x there seat life)) (stands.lives place x there named);
       made = λ place x at. stands.made place x (ap (λ (xs : _). slice_get xs.items place) (sym players) ∙ at);
-      drainers = subst (λ ds. AreStanding ds new.world.past) (sym drainers) (drainers_on old.drainers (seat_of_drains script.lines) old.world.past new.world.past stands.seats (others (seat_of_drains script.lines) drains_above) stands.drainers);
-      seats = subst (λ ds. (seat : ℕ) → IsOneOf (seats_of ds) seat → seat ≡ seat_of_drains script.lines) (sym drainers) stands.seats;
+      drainers = subst (λ ds. AreStanding ds new.world.past) (sym drainers) (drainers_on old.drainers old.world.past new.world.past (λ seat own. others seat (drains_above seat (is_after (seat_of_drains script.lines) seat old.drainers stands.seats own))) stands.drainers);
+      seats = ap seats_of drainers ∙ stands.seats;
       drained = drained ∙ stands.drained;
       budget = budget ∙ stands.budget;
       few = let a = stands.few in omega (arith, a, drained, budget);
@@ -118,8 +133,8 @@ module _ (script : Script) (option : Option ℕ) (user : ℕ) (request : Request
       above : (place : ℕ) (x : Player) → slice_get old.players.items place ≡ Some x → (seat : ℕ) → IsLife x.part seat → 5 ≤ seat
       above place x there seat life = (life_between 5 (parts_from script.lines) (seat_of_drains script.lines) place x.part seat (in_order script.lines) (ap (λ ps. slice_get ps place) (sym stands.parts) ∙ part_at_place old.players.items place x there) life).0
 
-      drains_above : 5 ≤ seat_of_drains script.lines
-      drains_above = omega arith
+      drains_above : (seat : ℕ) → seat_of_drains script.lines ≤ seat → 5 ≤ seat
+      drains_above seat high = omega (arith, high)
 
 -- ---- an actor's turn
 
@@ -170,8 +185,8 @@ module _ (script : Script) (option : Option ℕ) (old new : Stage) (place : ℕ)
   not_mine : (j : ℕ) (y : Player) (seat : ℕ) → slice_get old.players.items j ≡ Some y → j ≢ place → IsLife y.part seat → IsLife x.part seat → ⊥
   not_mine j y seat at differs other mine = differs (one_owner 5 (parts_from script.lines) (seat_of_drains script.lines) j place y.part x.part seat (in_order script.lines) (part_there j y at) (part_there place x played.there) other mine)
 
-  not_drains : IsLife x.part (seat_of_drains script.lines) → ⊥
-  not_drains life = let b = (life_between 5 (parts_from script.lines) (seat_of_drains script.lines) place x.part (seat_of_drains script.lines) (in_order script.lines) (part_there place x played.there) life).1 in absurd (omega (arith, b))
+  not_drains : (seat : ℕ) → seat_of_drains script.lines ≤ seat → IsLife x.part seat → ⊥
+  not_drains seat high life = let b = (life_between 5 (parts_from script.lines) (seat_of_drains script.lines) place x.part seat (in_order script.lines) (part_there place x played.there) life).1 in absurd (omega (arith, b, high))
 
   -- a player of the new stage is the one that made the calls, or one of the old stage at another place
   player_at : (j : ℕ) (y : Player) → slice_get new.players.items j ≡ Some y → (after ≡ y) ⊎ ((j ≢ place) × (slice_get old.players.items j ≡ Some y))
@@ -186,8 +201,8 @@ module _ (script : Script) (option : Option ℕ) (old new : Stage) (place : ℕ)
     plays = λ j y at named. each_plays j y named (player_at j y at);
     lives = λ j y at named. each_lives j y named (player_at j y at);
     made = λ j y at. each_made j y (player_at j y at);
-    drainers = subst (λ ds. AreStanding ds new.world.past) (sym played.drainers) (drainers_on old.drainers (seat_of_drains script.lines) old.world.past new.world.past stands.seats (others (seat_of_drains script.lines) not_drains) stands.drainers);
-    seats = subst (λ ds. (seat : ℕ) → IsOneOf (seats_of ds) seat → seat ≡ seat_of_drains script.lines) (sym played.drainers) stands.seats;
+    drainers = subst (λ ds. AreStanding ds new.world.past) (sym played.drainers) (drainers_on old.drainers old.world.past new.world.past (λ seat own. others seat (not_drains seat (is_after (seat_of_drains script.lines) seat old.drainers stands.seats own))) stands.drainers);
+    seats = ap seats_of played.drainers ∙ stands.seats;
     drained = played.drained ∙ stands.drained;
     budget = played.budget ∙ stands.budget;
     few = let a = stands.few in let d = played.drained in let b = played.budget in omega (arith, a, d, b);
@@ -275,7 +290,7 @@ drain_moved script option old new made seat d p stands = record {
       added = d.entries.added;
       are = d.entries.are;
       count = d.entries.count;
-      of_seats = widen (seats_of old.drainers) (drain_seats script) d.entries.added (λ s own. inl (seat ∙ sym (stands.seats s own))) d.entries.of_seats;
+      of_seats = widen (seats_of old.drainers) (drain_seats script) d.entries.added (λ s own. counted_seats script (seat_of_drains script.lines) s seat (subst (λ xs. IsOneOf xs s) stands.seats own)) d.entries.of_seats;
     });
     few = let f = d.few in let r = d.room in let e = stands.drained in omega (arith, f, r, e);
     ends = ends d.ends;
@@ -288,13 +303,13 @@ drain_moved script option old new made seat d p stands = record {
     parts = ap (λ (xs : _). parts_in xs.items) d.players ∙ stands.parts;
     plays = λ place x at named.
         let there = ap (λ (xs : _). slice_get xs.items place) (sym d.players) ∙ at in
-        plays_on x old.world.past new.world.past p.idle p.idle named (λ s life. d.others s (λ own. below place x there s life (stands.seats s own))) (λ s life. refl) (stands.plays place x there named);
+        plays_on x old.world.past new.world.past p.idle p.idle named (λ s life. d.others s (λ own. below place x there s life (is_after (seat_of_drains script.lines) s old.drainers stands.seats own))) (λ s life. refl) (stands.plays place x there named);
     lives = λ place x at named.
         let there = ap (λ (xs : _). slice_get xs.items place) (sym d.players) ∙ at in
-        lives_on x old.world.past new.world.past (life_at x old.world.past p.idle named (stands.plays place x there named)) (λ s life. d.others s (λ own. below place x there s life (stands.seats s own))) (stands.lives place x there named);
+        lives_on x old.world.past new.world.past (life_at x old.world.past p.idle named (stands.plays place x there named)) (λ s life. d.others s (λ own. below place x there s life (is_after (seat_of_drains script.lines) s old.drainers stands.seats own))) (stands.lives place x there named);
     made = λ place x at. stands.made place x (ap (λ (xs : _). slice_get xs.items place) (sym d.players) ∙ at);
     drainers = d.standing;
-    seats = λ s own. stands.seats s (subst (λ ss. IsOneOf ss s) d.seats own);
+    seats = d.seats ∙ stands.seats;
     drained = d.drained ∙ ap (λ n. n + made) stands.drained;
     budget = refl;
     few = let f = d.few in let r = d.room in let e = d.drained in omega (arith, f, r, e);
@@ -306,7 +321,7 @@ drain_moved script option old new made seat d p stands = record {
     ends (inl settled) = inl (subst (λ s. IsSettledSoFar s (world s new.world.past)) (d.setup ∙ stands.setup) settled)
     ends (inr spent) = inr (let r = d.room in let e = stands.drained in omega (arith, spent, r, e))
 
-    below : (place : ℕ) (x : Player) → slice_get old.players.items place ≡ Some x → (s : ℕ) → IsLife x.part s → s ≡ seat_of_drains script.lines → ⊥
+    below : (place : ℕ) (x : Player) → slice_get old.players.items place ≡ Some x → (s : ℕ) → IsLife x.part s → seat_of_drains script.lines ≤ s → ⊥
     below place x there s life is =
         let b = (life_between 5 (parts_from script.lines) (seat_of_drains script.lines) place x.part s (in_order script.lines) (ap (λ ps. slice_get ps place) (sym stands.parts) ∙ part_at_place old.players.items place x there) life).1 in
         absurd (omega (arith, b, is))

@@ -1,4 +1,4 @@
--- The restricted definition of due, where every action counts, and where those of the binder do.
+-- The restricted definition of due, where every action counts, and where those of the binder and of protection do.
 use Rattle.std.proofs.Common.{◌≡◌, ◌↔◌, ℕ, ◌∙◌, Bool, true, false, not, ◌&&◌, ◌||◌, is_some, is_none, true≢false, List, Option, Some, None, refl, sym, ap, if◌then◌else◌}
 use Rattle.std.specs.Prelude.{bytes_eq}
 use Rattle.std.specs.List.{list_all}
@@ -18,7 +18,7 @@ use Rattle.plain_data.specs.Pairs.{value_at}
 use Rattle.kube_types.specs.Bindings.{carries, class_of_claim, is_available, is_bound, is_completed, is_delete, is_deleting, is_empty, is_ended, is_for, is_protected_volume, is_scheduled, ref_uid, selected_node}
 use Rattle.call_types.specs.declared.setup.Setup.{Setup}
 use Rattle.binder_model.specs.ObjectKeys.{class_key, node_key, volume_key, claim_key}
-use Rattle.binder_model.specs.BinderDue.{binder_due, claim_due, claim_with, completed_due, has_other_uid, is_reclaimed, named_due, reference_due, referred_due, uid_due, volume_due}
+use Rattle.binder_model.specs.BinderDue.{claim_due, claim_with, completed_due, has_other_uid, is_reclaimed, named_due, reference_due, referred_due, uid_due, volume_due}
 use Rattle.binder_model.specs.BindWrites.{next_write}
 use Rattle.binder_model.specs.Matching.{fits, has_match}
 use Rattle.binder_model.specs.Provisioning.{data_name, is_wanting, provisions}
@@ -26,7 +26,7 @@ use Rattle.binder_model.specs.Choice.{Step, GoesNowhere, Assigns, Waits, Searche
 use Rattle.binder_model.specs.Due.{IsDue, IsFirstDue, IsPodDue, IsStepDue, agent_due, by_class_due, claim_guard_due, delayed_due, guard_due, immediate_due, is_pod_mounted, is_ready, is_served, on_node_due, or_due, provision_due, provision_if_new, reclaim_due, volume_guard_due}
 use Rattle.binder_model.specs.World.{World}
 use Rattle.settle_check.specs.SoFar.{IsBuiltDue, IsDueOf, IsFirstBuiltDue, IsFirstDueOf, IsSettledSoFar, counted, is_built}
-use Rattle.settle_check.specs.SoFarLaws.{BinderAloneIsBuilt, WholeWhereAllCount, every_action}
+use Rattle.settle_check.specs.SoFarLaws.{BinderAndProtectionAreBuilt, WholeWhereAllCount, due_so_far, every_action}
 
 -- equal to one of two equal values
 either : {X : Type 0} (x y z : X) → y ≡ z → (x ≡ y) ↔ (x ≡ z)
@@ -81,7 +81,7 @@ whole_where_all_count = record {
   first = all_first;
 }
 
--- where the actions of the binder count
+-- where the actions of the binder and of protection count
 
 -- an action that counts, or none
 abbrev Stays : Option Due → Type 0
@@ -169,6 +169,13 @@ claim_stays rows c =
     let o = row_at (volume_key c.volume_name) rows in
     either_stays (is_completed c) (is_deleting c.meta) (is_empty c.volume_name) (has_match rows c) (completed_due c o) (named_due c o) (completed_stays c o) (named_stays c o)
 
+guard_stays : (deleting guarded needed : Bool) → Stays (guard_due deleting guarded needed)
+guard_stays false false needed = refl
+guard_stays false true needed = refl
+guard_stays true false needed = refl
+guard_stays true true false = refl
+guard_stays true true true = refl
+
 -- the actions of others
 
 goes_if : (b : Bool) (x y : Option Due) → Goes x → Goes y → Goes (if b then x else y)
@@ -177,13 +184,6 @@ goes_if false x y s t = t
 
 reclaim_goes : (v : VolumeData) → Goes (reclaim_due v)
 reclaim_goes v = goes_if (is_ended v.phase && is_delete v.policy && is_some (ref_uid v.claim_ref) && not (is_deleting v.meta)) (Some dues.Reclaim) None refl refl
-
-guard_goes : (deleting guarded needed : Bool) → Goes (guard_due deleting guarded needed)
-guard_goes false false needed = refl
-guard_goes false true needed = refl
-guard_goes true false needed = refl
-guard_goes true true false = refl
-guard_goes true true true = refl
 
 new_goes : (rows : List Object) (uid : Uid) → Goes (provision_if_new rows uid)
 new_goes rows uid = goes_if (is_none (row_at (volume_key (data_name uid)) rows)) (Some dues.Provision) None refl refl
@@ -252,35 +252,30 @@ module _ (setup : Setup) (w : World) where
   pod_goes p true action due = uncounted action (ap (counted is_built) due ∙ agent_goes p)
   pod_goes p false action due = step_goes p (step_of w.store.rows p) action due
 
--- the first of three, where only this one counts
-first_counts : (x y z : Option Due) → Stays x → Goes y → Goes z → or_due (counted is_built x) (or_due (counted is_built y) (counted is_built z)) ≡ x
+-- the first of three, where one of them does not count
+
+without_second : (x y z : Option Due) → Stays x → Goes y → Stays z → or_due (counted is_built x) (or_due (counted is_built y) (counted is_built z)) ≡ or_due x z
 unfolding or_due
-first_counts None y z s t u = rw (s, t, u) refl
-first_counts (Some x) y z s t u = rw s refl
+without_second None y z s t u = rw (t, u) refl
+without_second (Some x) y z s t u = rw s refl
 
-second_counts : (x y z : Option Due) → Goes x → Stays y → Goes z → or_due (counted is_built x) (or_due (counted is_built y) (counted is_built z)) ≡ y
+without_third : (x y z : Option Due) → Stays x → Stays y → Goes z → or_due (counted is_built x) (or_due (counted is_built y) (counted is_built z)) ≡ or_due x y
 unfolding or_due
-second_counts x None z s t u = rw (s, t, u) refl
-second_counts x (Some y) z s t u = rw (s, t) refl
+without_third None None z s t u = u
+without_third None (Some y) z s t u = rw t refl
+without_third (Some x) y z s t u = rw s refl
 
-pub binder_alone_is_built : BinderAloneIsBuilt
-unfolding binder_due
-binder_alone_is_built setup w (Volume v) action = either action _ _ (first_counts _ _ _ (volume_stays w.store.rows v) (reclaim_goes v) (guard_goes _ _ _))
-binder_alone_is_built setup w (Claim c) action = either action _ _ (second_counts _ _ _ (guard_goes _ _ _) (claim_stays w.store.rows c) (provision_goes setup w c))
-binder_alone_is_built setup w (Pod p) (Some action) = (λ h. absurd (true≢false (sym h.1 ∙ pod_goes setup w p (is_scheduled p) action h.0)), λ e. absurd cc)
-binder_alone_is_built setup w (Pod p) None = (λ h. refl, λ e. pod_goes setup w p (is_scheduled p))
-binder_alone_is_built setup w (Class x) action = (λ h. h, λ h. h)
-binder_alone_is_built setup w (Node x) action = (λ h. h, λ h. h)
+pub binder_and_protection_are_built : BinderAndProtectionAreBuilt
+binder_and_protection_are_built setup w (Volume v) action = either action _ _ (without_second _ _ _ (volume_stays w.store.rows v) (reclaim_goes v) (guard_stays _ _ _))
+binder_and_protection_are_built setup w (Claim c) action = either action _ _ (without_third _ _ _ (guard_stays _ _ _) (claim_stays w.store.rows c) (provision_goes setup w c))
+binder_and_protection_are_built setup w (Pod p) (Some action) = (λ h. absurd (true≢false (sym h.1 ∙ pod_goes setup w p (is_scheduled p) action h.0)), λ e. absurd cc)
+binder_and_protection_are_built setup w (Pod p) None = (λ h. refl, λ e. pod_goes setup w p (is_scheduled p))
+binder_and_protection_are_built setup w (Class x) action = (λ h. h, λ h. h)
+binder_and_protection_are_built setup w (Node x) action = (λ h. h, λ h. h)
 
--- what the binder has to do is what is due
-
-pub by_volume : (setup : Setup) (w : World) (o : Object) (v : VolumeData) (action : Option Due) → o ≡ Volume v → action ≡ volume_due w.store.rows v → IsBuiltDue setup w o action
-unfolding binder_due
-by_volume setup w o v action is e = (binder_alone_is_built setup w o action).1 (e ∙ sym (ap (binder_due w.store.rows) is))
-
-pub by_claim : (setup : Setup) (w : World) (o : Object) (c : ClaimData) (action : Option Due) → o ≡ Claim c → action ≡ claim_due w.store.rows c → IsBuiltDue setup w o action
-unfolding binder_due
-by_claim setup w o c action is e = (binder_alone_is_built setup w o action).1 (e ∙ sym (ap (binder_due w.store.rows) is))
+-- what these actors have to do is what is due
+pub by_object : (setup : Setup) (w : World) (o known : Object) (action : Option Due) → o ≡ known → action ≡ due_so_far w.store.rows known → IsBuiltDue setup w o action
+by_object setup w o known action is e = (binder_and_protection_are_built setup w o action).1 (e ∙ sym (ap (due_so_far w.store.rows) is))
 
 -- where something is due the world is not settled
 

@@ -4,7 +4,7 @@ ghost use Rattle.std.specs.Prelude.{◌≡◌, IfOk};
 ghost use Rattle.settle_check.specs.SoFar.{IsBuiltDue, IsFirstBuiltDue, world_of};
 ghost use Rattle.settle_check.specs.Steps.Scan.{IsFirstIn, first_key, first_pair};
 
-use crate::binder::{claim_due, volume_due};
+use crate::protection::{due_of_claim, due_of_volume};
 use kube_types::copies::OutOfMemory;
 use kube_types::key::{Key, key_of};
 use kube_types::names::Due;
@@ -24,8 +24,8 @@ fn object_due(world: &World, object: &Object) -> Option<Due>
     ensures { IsBuiltDue world.now.setup (world_of world.now) object.now result }
 {
     match object {
-        Object::Volume(volume) => volume_due(world.store(), volume),
-        Object::Claim(claim) => claim_due(world.store(), claim),
+        Object::Volume(volume) => due_of_volume(world.store(), volume),
+        Object::Claim(claim) => due_of_claim(world.store(), claim),
         Object::Class(_) | Object::Node(_) | Object::Pod(_) => None,
     }
 }

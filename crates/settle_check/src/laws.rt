@@ -1,13 +1,14 @@
 //! What the restricted definition of due has to do with the whole one.
 
-ghost use Rattle.settle_check.specs.SoFarLaws.{BinderAloneIsBuilt, WholeWhereAllCount};
+ghost use Rattle.settle_check.specs.SoFarLaws.{BinderAndProtectionAreBuilt, WholeWhereAllCount};
 
 /// The law that what is due is the whole definition where every action counts.
 pub fn whole_where_all_count()
     ensures { WholeWhereAllCount }
 {}
 
-/// The law that what is due is what the binder has to do, as long as no other actor is built.
-pub fn binder_alone_is_built()
-    ensures { BinderAloneIsBuilt }
+/// The law that what is due is what the binder and the protection controllers have to do, as long as no
+/// other actor is built.
+pub fn binder_and_protection_are_built()
+    ensures { BinderAndProtectionAreBuilt }
 {}

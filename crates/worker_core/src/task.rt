@@ -107,11 +107,7 @@ impl Task {
 }
 
 /// The machine of a claim after the answer.
-fn moved_claim(
-    alloc: Global,
-    op: &ClaimGuardOp,
-    reply: &Reply,
-) -> Result<ClaimGuardOp, OutOfMemory>
+fn moved_claim(alloc: Global, op: &ClaimGuardOp, reply: &Reply) -> Result<ClaimGuardOp, OutOfMemory>
     ensures { IfOk result (λ moved. moved ≡ claim_moved op.now reply.now) }
 {
     let claim = op.claim.copy(alloc)?;

@@ -2,3 +2,4 @@ pub mod Entries
 pub mod RunFacts
 pub mod RoundFacts
 pub mod DrainFacts
+pub mod NewFacts

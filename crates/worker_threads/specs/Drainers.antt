@@ -1,7 +1,8 @@
 -- The actors of a drain: their seats, and that each stands for its seat's entries.
 -- A choice of this project.
-use Rattle.std.specs.Prelude.{ℕ, ◌≡◌, ◌<◌, List, [], ◌∷◌, Some, length, map, slice_get, ⊤}
+use Rattle.std.specs.Prelude.{ℕ, ◌≡◌, ◌<◌, ◌+◌, List, [], ◌∷◌, Some, length, map, slice_get, ⊤}
 use Rattle.call_types.specs.declared.entry.Entry.{Entry}
+use Rattle.call_types.specs.declared.request.SeatKind.{SeatKind}
 use Rattle.call_types.specs.declared.request.SeatKind.TheVariants as seats
 use Rattle.binder_model.specs.Told.{own}
 use Rattle.worker_core.specs.Stands.{IsNew, MayBeIdle, StandsFor}
@@ -34,10 +35,18 @@ abbrev pub HaveNoEntries : List ℕ → List Entry → Type 0
 HaveNoEntries [] past = ⊤
 HaveNoEntries (seat ∷ seats) past = (own seat past ≡ []) × HaveNoEntries seats past
 
--- new actors: a binder at the first seat. Later actors come with their own seats, in the order in which seats are counted
--- (binder, ops, scheduler, claim protection, volume protection, agents by node), and stand in the order of a round
+-- a new actor of the kind, at the seat; it serves no node
+pub record IsNewAt (kind : SeatKind) (seat : ℕ) (d : Drainer) : Type 0 where
+  pub at : d.seat ≡ seat
+  pub is_new : IsNew (record { kind = kind; node = [] }) d.actor
+
+-- new actors, in the order of a round: the binder, claim protection, volume protection. Their seats are counted in the order
+-- binder, ops, scheduler, claim protection, volume protection, agents by node; an actor that is not built keeps its number
 pub record AreNew (first_seat : ℕ) (ds : List Drainer) : Type 0 where
   pub binder : Drainer
-  pub are : ds ≡ binder ∷ []
-  pub seat : binder.seat ≡ first_seat
-  pub is_new : IsNew (record { kind = seats.Binder; node = [] }) binder.actor
+  pub claims : Drainer
+  pub volumes : Drainer
+  pub are : ds ≡ binder ∷ claims ∷ volumes ∷ []
+  pub binder_is : IsNewAt seats.Binder first_seat binder
+  pub claims_is : IsNewAt seats.ClaimProtect (first_seat + 3) claims
+  pub volumes_is : IsNewAt seats.VolumeProtect (first_seat + 4) volumes

@@ -2,7 +2,9 @@
 
 ghost use Rattle.std.specs.Prelude.{◌≡◌, ◌+◌, ◌<◌, ◌^◌, [], ◌∷◌, List, IfOk, length};
 ghost use Rattle.call_types.specs.declared.entry.Entry.{Entry};
-ghost use Rattle.worker_threads.specs.Drainers.{AreNew, AreStanding, HaveNoEntries, seats_of};
+ghost use Rattle.worker_core.specs.Roles.{IsBuiltKind};
+ghost use Rattle.worker_core.specs.Stands.{StandsFor};
+ghost use Rattle.worker_threads.specs.Drainers.{AreNew, AreStanding, HaveNoEntries, IsNewAt, seats_of};
 
 use call_types::request::SeatKind;
 use kube_types::copies::OutOfMemory;
@@ -55,6 +57,21 @@ impl Model for Drainers {
 /// then the agents. An actor that is not built keeps its number.
 const BINDER: u64 = 0;
 
+const CLAIMS: u64 = 3;
+
+const VOLUMES: u64 = 4;
+
+/// A new actor of the kind, at the seat.
+fn new_drainer(alloc: Global, kind: SeatKind, seat: u64) -> Result<Drainer, OutOfMemory>
+    requires { IsBuiltKind kind }
+    ensures at { IfOk result (λ d. IsNewAt kind seat d) }
+    ensures stands { IfOk result (λ d. StandsFor d.actor []) }
+{
+    let node = Text::new(alloc, "")?;
+    let actor = Actor::new(alloc, kind, &node)?;
+    Ok(Drainer { seat, actor })
+}
+
 impl Drainers {
     /// New actors for a world with these nodes. They stand for the entries of their seats where these have none.
     pub fn new(alloc: Global, _nodes: &Names, first_seat: u64) -> Result<Drainers, OutOfMemory>
@@ -62,14 +79,13 @@ impl Drainers {
         ensures are { IfOk result (λ drainers. AreNew first_seat drainers) }
         ensures stand { IfOk result (λ drainers. (past : List Entry) → HaveNoEntries (seats_of drainers) past → AreStanding drainers past) }
     {
-        let node = Text::new(alloc, "")?;
-        let actor = Actor::new(alloc, SeatKind::Binder, &node)?;
-        let binder = Drainer {
-            seat: first_seat + BINDER,
-            actor,
-        };
+        let binder = new_drainer(alloc, SeatKind::Binder, first_seat + BINDER)?;
+        let claims = new_drainer(alloc, SeatKind::ClaimProtect, first_seat + CLAIMS)?;
+        let volumes = new_drainer(alloc, SeatKind::VolumeProtect, first_seat + VOLUMES)?;
         let mut list = Vec::new(alloc);
         list.push(binder)?;
+        list.push(claims)?;
+        list.push(volumes)?;
         Ok(Drainers { alloc, list })
     }
 }

@@ -5,7 +5,7 @@
 //! history is the earlier one and then as many entries as were made, all of the drainers' seats and told, so it stays a run;
 //! no other seat's entries change; each drainer stands for its seat's entries again; a drain ends Settled exactly where
 //! nothing is due, else Spent exactly where the budget is. Not said: that any budget is enough to settle a world.
-//! The binder is the only actor that is built. Threads come later.
+//! The actors that are built are the binder, claim protection and volume protection. Threads come later.
 #![tactic(auto)]
 
 pub mod drain;

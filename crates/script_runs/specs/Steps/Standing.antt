@@ -1,7 +1,6 @@
 -- What stands for how far a replay has come: a world, the actors, and the numbers of the drains. A choice of this project.
 use Rattle.std.specs.Prelude.{ℕ, ◌≡◌, ◌≤◌, ◌+◌, true, List, [], ◌∷◌, Option, Some, None, drop, map}
 use Rattle.worker_threads.specs.Drainers.{AreStanding, seats_of}
-use Rattle.worker_threads.specs.Longer.{IsOneOf}
 use Rattle.world_core.specs.declared.drained.Drained.{Drained}
 use Rattle.world_core.specs.declared.drained.Drained.TheVariants.{Settled, Spent}
 use Rattle.script_lines.specs.declared.actors.WorkerKind.TheVariants as workers
@@ -56,6 +55,10 @@ fourth_seat lines = end_of (part_from lines Three (third_seat lines))
 abbrev pub seat_of_drains : List Line → ℕ
 seat_of_drains lines = end_of (part_from lines Four (fourth_seat lines))
 
+-- the seats of the drains' actors that are built: binder, claim protection and volume protection
+abbrev pub drainer_seats : ℕ → List ℕ
+drainer_seats first = first ∷ (first + 3) ∷ (first + 4) ∷ []
+
 abbrev pub parts_from : List Line → List Part
 parts_from lines = part_from lines One first_actor_seat ∷ part_from lines Two (second_seat lines) ∷ part_from lines Three (third_seat lines) ∷ part_from lines Four (fourth_seat lines) ∷ []
 
@@ -74,7 +77,7 @@ pub record Stands (script : Script) (option : Option ℕ) (p : Progress) (s : St
   pub lives : EachPlayer (λ x. x.part.named ≡ true → Lives x s.world.past) s.players.items
   pub made : EachPlayer (λ x. x.made ≡ p.made x.part.name) s.players.items
   pub drainers : AreStanding s.drainers s.world.past
-  pub seats : (seat : ℕ) → IsOneOf (seats_of s.drainers) seat → seat ≡ seat_of_drains script.lines
+  pub seats : seats_of s.drainers ≡ drainer_seats (seat_of_drains script.lines)
   pub drained : s.drained ≡ p.drained
   pub budget : s.budget ≡ p.budget
   pub few : s.drained ≤ s.budget
