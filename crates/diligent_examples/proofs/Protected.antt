@@ -1,5 +1,5 @@
 -- The examples of protection compute.
-use Rattle.std.proofs.Common.{◌≡◌, List, [], ◌∷◌, Bool, true, false, true≢false, Option, Some, None, inl, inr, refl, sym, ◌∙◌, ap, arith}
+use Rattle.std.proofs.Common.{◌≡◌, List, [], ◌∷◌, Bool, true, false, true≢false, Option, Some, None, inl, inr, refl, sym, ap, arith}
 use Rattle.std.specs.Prelude.{codes}
 use Rattle.kube_types.specs.declared.key.Key.{Key}
 use Rattle.kube_types.specs.declared.parts.Kind.{Kind}
@@ -14,7 +14,7 @@ use Rattle.call_types.specs.declared.request.Request.{Request}
 use Rattle.call_types.specs.declared.request.Request.TheVariants as requests
 use Rattle.call_types.specs.declared.request.SeatKind.{SeatKind}
 use Rattle.call_types.specs.declared.request.SeatKind.TheVariants as seats
-use Rattle.binder_model.specs.Told.{listing, newest, object_of}
+use Rattle.binder_model.specs.Told.{newest, object_of}
 use Rattle.model_laws.proofs.Lists.{none_some}
 use Rattle.model_examples.specs.ProtectionRows.{bare_a, bare_c, leaving_a, leaving_c, other_p}
 use Rattle.model_examples.specs.Samples.{c, key_a, key_c, leaving_bound_a, p, seat_of, tells_claim, tells_pod, tells_volume}
@@ -27,7 +27,6 @@ use Rattle.worker_core.specs.declared.task.First.{First}
 use Rattle.worker_core.specs.declared.task.First.TheVariants as firsts
 use Rattle.worker_core.specs.declared.task.Task.{Task}
 use Rattle.worker_core.specs.declared.task.Task.TheVariants as tasks
-use Rattle.worker_core.specs.declared.task.Under.{Under}
 use Rattle.worker_core.specs.Memories.{memory_of}
 use Rattle.worker_core.specs.Tasks.{GivesCall, IsDecision}
 use Rattle.diligent_law.specs.Diligence.{AreFourWatches, IsAskedFor, IsDiligent, IsDue, IsQuiet, Shows, WasAskedSince}
@@ -36,7 +35,7 @@ use Rattle.diligent_law.proofs.Following.{played_is_diligent}
 use Rattle.diligent_law.proofs.Ordered.{rows_in_order}
 use Rattle.diligent_examples.proofs.Computed.{listed_object, shown_one}
 use Rattle.diligent_examples.specs.Lives.{watch}
-use Rattle.diligent_examples.specs.Protection.{ClaimDue, ProtectionDueExamples, ProtectionLifeExamples, claim_guard, guard_call, guard_entry, guard_watched, volume_guard}
+use Rattle.diligent_examples.specs.Protection.{ProtectionDueExamples, ProtectionLifeExamples, claim_guard, guard_call, guard_entry, guard_watched, volume_guard}
 
 -- the rows of what was told
 
