@@ -1,4 +1,4 @@
--- Decisions by look-ups alone are the same on all rows that show the same.
+-- Decisions by look-ups alone, and those of protection, are the same on all rows in order that show the same.
 use Rattle.std.proofs.Common.{◌≡◌, ◌⊎◌, List, [], ◌∷◌, Bool, true, false, true≢false, Option, Some, None, inl, inr, refl, sym, ◌∙◌, ap, subst, if◌then◌else◌}
 use Rattle.std.specs.Prelude.{◌||◌}
 use Rattle.std.specs.List.{list_any}

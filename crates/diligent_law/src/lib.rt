@@ -2,7 +2,7 @@
 //!
 //! `specs/Diligence` says it on the calls of a life alone: of four told watches of one kind, between which the life was told
 //! nothing new, lost nothing and only read, each key for which the rules give a call at every point was called for.
-//! `specs/Showing` says it on rows in order. `specs/Played` says how a life is played by an actor. Promises:
+//! `specs/Showing` says where one list of rows is enough. `specs/Played` says how a life is played by an actor. Promises:
 //! `played_is_diligent` and `played_is_diligent_in_order` give the one of the other; each function of `steps` makes a call
 //! of an actor, which is a step of a life. Not said: that a life goes on, or watches at all.
 #![tactic(auto)]
