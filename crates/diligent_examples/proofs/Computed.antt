@@ -63,7 +63,7 @@ watch_examples = record {
 
 -- the rows of one told volume
 
-listed_object : (version : ℕ) (row : Option Object) → object_of (Some (listing version row)) ≡ row
+pub listed_object : (version : ℕ) (row : Option Object) → object_of (Some (listing version row)) ≡ row
 listed_object version None = refl
 listed_object version (Some o) = refl
 
@@ -74,7 +74,7 @@ later_none : (t : Option Telling) → later t None ≡ t
 later_none None = refl
 later_none (Some t) = refl
 
-shown_one : (v : VolumeData) (key : Key) → row_at key (rows v) ≡ object_of (newest (seat_of seats.Binder (tells_volume v ∷ [])) key)
+pub shown_one : (v : VolumeData) (key : Key) → row_at key (rows v) ≡ object_of (newest (seat_of seats.Binder (tells_volume v ∷ [])) key)
 shown_one v key = by (kind_index kinds.PersistentVolume == kind_index key.kind) refl ∙ sym (ap object_of (later_none (if kind_index kinds.PersistentVolume == kind_index key.kind then Some (listing v.meta.version (row_at key (rows v))) else None)))
   where
     by : (b : Bool) → (kind_index kinds.PersistentVolume == kind_index key.kind) ≡ b → row_at key (rows v) ≡ object_of (if kind_index kinds.PersistentVolume == kind_index key.kind then Some (listing v.meta.version (row_at key (rows v))) else None)
@@ -103,7 +103,7 @@ module _ (v : VolumeData) (m : Machine) (request : Request) (asks : call_of m �
   only_ rs shows (firsts.Begins (tasks.Binder n)) d = record { task = tasks.Binder n; request = request; begins = refl; call = ap call_of (one n m (ap machine_in (is rs shows (binder_firsts.Begins n) d))) ∙ asks }
 
   showing : Shows mine (rows v)
-  showing = record { shown = shown }
+  showing = record { order = (tt, tt); shown = shown }
 
   due_by : IsDue binder key_a mine
   due_by = record {
@@ -146,7 +146,7 @@ not_due key mine rs shows drops due = none_some (ap task_in (due.only rs shows f
 
 -- where nothing was told nothing is due
 none_due : (key : Key) → IsDue binder key [] → ⊥
-none_due key = not_due key [] [] (record { shown = λ k. refl }) refl
+none_due key = not_due key [] [] (record { order = tt; shown = λ k. refl }) refl
 
 -- where an available volume was told nothing is due
 available_drops : IsFirst (rows a) (Some (Volume a)) binder_firsts.Drops
@@ -154,7 +154,7 @@ unfolding volume_decision
 available_drops = refl
 
 available_none : (mine : List Entry) → ((key : Key) → row_at key (rows a) ≡ object_of (newest mine key)) → (key : Key) → IsDue binder key mine → ⊥
-available_none mine shown key = not_due key mine (rows a) (record { shown = shown }) (subst (λ r. IsFirst (rows a) r binder_firsts.Drops) (sym (row_at-put (Volume a) [] key)) (by (same_key (key_of (Volume a)) key)))
+available_none mine shown key = not_due key mine (rows a) (record { order = (tt, tt); shown = shown }) (subst (λ r. IsFirst (rows a) r binder_firsts.Drops) (sym (row_at-put (Volume a) [] key)) (by (same_key (key_of (Volume a)) key)))
   where
     by : (b : Bool) → IsFirst (rows a) (if b then Some (Volume a) else None) binder_firsts.Drops
     by true = available_drops
@@ -167,7 +167,7 @@ pub due_examples : DueExamples
 due_examples = record {
   pending_volume = pending_due _ (shown_one pending_a);
   still_after_a_watch = pending_due _ (shown_one pending_a);
-  not_another_key = not_due key_c _ (rows pending_a) (record { shown = shown_one pending_a }) (other_drops pending_a key_c refl);
+  not_another_key = not_due key_c _ (rows pending_a) (record { order = (tt, tt); shown = shown_one pending_a }) (other_drops pending_a key_c refl);
   not_an_available_volume = available_none _ (shown_one a) key_a;
   not_before_it_was_told = none_due key_a;
   reference_without_its_claim = taken_due _ (shown_one taken_a);
@@ -241,9 +241,8 @@ pending_in_order : (mine : List Entry) → ((key : Key) → row_at key (rows pen
 unfolding pending_due due_by
 pending_in_order mine shown = record {
   rows = rows pending_a;
-  shows = record { shown = shown };
-  order = (tt, tt);
-  spaceless = spaceless;
+  shows = record { order = (tt, tt); shown = shown };
+  spaceless = λ is. spaceless;
   under = (pending_due mine shown).under;
   own = (pending_due mine shown).own;
   gives = (pending_due mine shown).gives;

@@ -4,6 +4,7 @@
 #![tactic(auto)]
 
 ghost use Rattle.diligent_examples.specs.Lives.{DueExamples, LifeExamples, PlayedExamples, WatchExamples};
+ghost use Rattle.diligent_examples.specs.Protection.{ProtectionDueExamples, ProtectionLifeExamples};
 
 /// Which calls are four watches without news between.
 pub fn watch_examples()
@@ -23,4 +24,14 @@ pub fn life_examples()
 /// Which calls an actor can have made.
 pub fn played_examples()
     ensures { PlayedExamples }
+{}
+
+/// Which keys are due for claim protection and for volume protection.
+pub fn protection_due_examples()
+    ensures { ProtectionDueExamples }
+{}
+
+/// Which lives of volume protection are diligent, and which an actor can have made.
+pub fn protection_life_examples()
+    ensures { ProtectionLifeExamples }
 {}

@@ -6,7 +6,7 @@ use Rattle.kube_types.specs.declared.key.Key.{Key}
 use Rattle.kube_types.specs.declared.parts.Kind.{Kind}
 use Rattle.kube_types.specs.declared.objects.Object.{Object}
 use Rattle.kube_types.specs.declared.objects.Object.TheVariants.{Class, Node, Volume, Claim, Pod}
-use Rattle.kube_types.specs.Keys.{key_of, kind_of, row_at, same_key}
+use Rattle.kube_types.specs.Keys.{AreRows, key_of, kind_of, row_at, same_key}
 use Rattle.kube_types.proofs.KeyOrder.{row_at_key}
 use Rattle.call_types.specs.declared.entry.Entry.{Entry}
 use Rattle.call_types.specs.declared.request.Request.{Request}
@@ -78,8 +78,8 @@ pub record IsCached (seat : SeatKind) (key : Key) (c : AllKnown) : Type 0 where
   pub there : list_any (same_key key) (map key_of (objects_of (cache_of key.kind c))) ≡ true
 
 module _ (role : Role) (mine : List Entry) (key : Key) (built : IsBuiltKind role.kind) (due : IsDue role key mine) where
-  pub due_cached : (c : AllKnown) → AllStandFor c mine → ((k : Key) (o : Object) → row_at k (objects_of (cache_of k.kind c)) ≡ Some o → list_any (same_key k) (map key_of (objects_of (cache_of k.kind c))) ≡ true) → IsCached role.kind key c
-  due_cached c stand there = by (row_at key (all_objects c)) refl
+  pub due_cached : (c : AllKnown) → AllStandFor c mine → AreRows (all_objects c) → ((k : Key) (o : Object) → row_at k (objects_of (cache_of k.kind c)) ≡ Some o → list_any (same_key k) (map key_of (objects_of (cache_of k.kind c))) ≡ true) → IsCached role.kind key c
+  due_cached c stand order there = by (row_at key (all_objects c)) refl
     where
       cached : (o : Object) → row_at key (all_objects c) ≡ Some o → list_any (same_key key) (map key_of (objects_of (cache_of key.kind c))) ≡ true
       cached o e = there key o ((stand.each key.kind).rows key (sym (stand.kinds key.kind)) ∙ sym (stand.rows key) ∙ e)
@@ -88,7 +88,7 @@ module _ (role : Role) (mine : List Entry) (key : Key) (built : IsBuiltKind role
       own_kind o e = ap (λ (k : Key). k.kind) (row_at_key key o (all_objects c) e)
 
       drops : IsFirstOf role.kind (all_objects c) key firsts.Drops → ⊥
-      drops d = no_drop (due.only (all_objects c) (record { shown = stand.rows }) firsts.Drops d)
+      drops d = no_drop (due.only (all_objects c) (record { order = order; shown = stand.rows }) firsts.Drops d)
 
       by : (row : Option Object) → row_at key (all_objects c) ≡ row → IsCached role.kind key c
       by None e = absurd (drops (none_dropped role.kind (all_objects c) key built e))
@@ -99,9 +99,9 @@ module _ (role : Role) (mine : List Entry) (key : Key) (built : IsBuiltKind role
 
 -- in an actor that stands for the entries
 
-module _ (s : State) (mine : List Entry) (key : Key) (stands : StandsFor s mine) where
+module _ (s : State) (mine : List Entry) (key : Key) (stands : StandsFor s mine) (order : AreRows (all_objects s.caches)) where
   shows : Shows mine (all_objects s.caches)
-  shows = record { shown = stands.caches.rows }
+  shows = record { order = order; shown = stands.caches.rows }
 
   pub not_dropped : IsDue s.role key mine → WasDropped s key → ⊥
   not_dropped due dropped =

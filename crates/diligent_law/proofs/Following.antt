@@ -138,7 +138,7 @@ module _ (role : Role) (built : IsBuiltKind role.kind) (e : Entry) (before : Lis
       own = same_role role s before step.played
 
       called : IsAskedFor s.role key (entries before) e.request ⊎ (waits key s.work ≡ true → waits key step.gives.turned.work ≡ true)
-      called = called_or_waits key s step.gives.turned (entries before) (stands_now role s before step.played) (subst (λ r. IsDue r key (entries before)) (sym own) due) e.request step.gives.turns.turn
+      called = called_or_waits key s step.gives.turned (entries before) (stands_now role s before step.played) step.gives.turns.order (subst (λ r. IsDue r key (entries before)) (sym own) due) e.request step.gives.turns.turn
 
       kept : waits key step.gives.turned.work ≡ true → waits key new.work ≡ true
       kept there = (absorbed_keys step.gives.turned new e.request (outcomes.Told e.reply) step.gives.takes).stays key there
@@ -211,7 +211,7 @@ module _ (role : Role) (built : IsBuiltKind role.kind) (kind : Kind) (place : �
     | inr phase ↦
         let own : old.role ≡ role = same_role role old calls played in
         let due_here : IsDue old.role key (entries calls) = subst (λ c. IsDue old.role key (entries c)) (sym e) (subst (λ r. IsDue r key (entries (since ++ start))) (sym own) (due_now role key start since due)) in
-        inr (wake_phase role.kind built kind place at key old turned s (entries calls) (watches kind since) (ap (λ (r : Role). r.kind) own) (stands_now role old calls played) due_here (one_taken role old calls played) turns.turn wakes phase)
+        inr (wake_phase role.kind built kind place at key old turned s (entries calls) (watches kind since) (ap (λ (r : Role). r.kind) own) (stands_now role old calls played) turns.order due_here (one_taken role old calls played) turns.turn wakes phase)
   ]
 
 -- the quiet calls between, and the first

@@ -14,6 +14,8 @@ use Rattle.kube_types.proofs.KeyOrder.{row_at_key}
 use Rattle.kube_types.proofs.RowPlaces.{row_at_place}
 use Rattle.call_types.specs.declared.entry.Entry.{Entry}
 use Rattle.call_types.specs.declared.request.Request.{Request}
+use Rattle.call_types.specs.declared.request.SeatKind.{SeatKind}
+use Rattle.call_types.specs.declared.request.SeatKind.TheVariants as seats
 use Rattle.call_types.specs.declared.request.SeatKind.TheVariants.{Binder}
 use Rattle.binder_model.specs.BindWrites.{next_write}
 use Rattle.binder_model.specs.Matching.{IsBestAt, binder_takes, eligible, has_match, is_delayed, only_own_passes, waits_for_pod}
@@ -156,8 +158,8 @@ module _ (rows : List Object) (order : AreRows rows) (spaceless : HaveNoNamespac
         by (firsts.Begins (tasks.ClaimProtect op)) h = absurd h
         by (firsts.Begins (tasks.VolumeProtect op)) h = absurd h
 
-in_order : (role : Role) (key : Key) (mine : List Entry) (rows : List Object) (u : Under) → role.kind ≡ Binder → Shows mine rows → AreRows rows → HaveNoNamespace rows → u.key ≡ key → GivesCall role (memory_of role mine) rows u → IsDue role key mine
-in_order role key mine rows u binder shows order spaceless own gives = by (row_at key rows) refl
+in_order : (role : Role) (key : Key) (mine : List Entry) (rows : List Object) (u : Under) → role.kind ≡ Binder → Shows mine rows → HaveNoNamespace rows → u.key ≡ key → GivesCall role (memory_of role mine) rows u → IsDue role key mine
+in_order role key mine rows u binder shows spaceless own gives = by (row_at key rows) refl
   where
     looked : IsLookedUp Binder (row_at key rows) → IsDue role key mine
     looked l = one_showing role key mine rows u (subst IsBuiltKind (sym binder) tt) shows (subst (λ seat. IsLookedUp seat (row_at key rows)) (sym binder) l) own gives
@@ -179,7 +181,7 @@ in_order role key mine rows u binder shows order spaceless own gives = by (row_a
       own = own;
       gives = gives;
       only = λ other others first d.
-          begins_call rows order spaceless c open_ unnamed begun.0 u.call (ap task_call (sym begun.1.0) ∙ gives.call) (at (Some (Claim c)) e) other (λ k. others.shown k ∙ sym (shows.shown k)) first key
+          begins_call rows shows.order spaceless c open_ unnamed begun.0 u.call (ap task_call (sym begun.1.0) ∙ gives.call) (at (Some (Claim c)) e) other (λ k. others.shown k ∙ sym (shows.shown k)) first key
           (others.shown key ∙ sym (shows.shown key) ∙ e) (subst (λ x. IsFirstOf x other key first) binder d);
     }
 
@@ -197,13 +199,25 @@ in_order role key mine rows u binder shows order spaceless own gives = by (row_a
     by (Some (Claim c)) e = claim c e (is_completed c) (is_empty c.volume_name) refl refl
 
 pub rows_in_order : RowsInOrderAreEnough
-rows_in_order role key mine binder due = in_order role key mine due.rows due.under binder due.shows due.order due.spaceless due.own due.gives
+rows_in_order role key mine built due = by role.kind refl built
+  where
+    looked : IsLookedUp role.kind (row_at key due.rows) → IsDue role key mine
+    looked l = one_showing role key mine due.rows due.under built due.shows l due.own due.gives
+
+    by : (seat : SeatKind) → role.kind ≡ seat → IsBuiltKind seat → IsDue role key mine
+    by seats.Binder is b = in_order role key mine due.rows due.under is due.shows (due.spaceless is) due.own due.gives
+    by seats.ClaimProtect is b = looked (subst (λ seat. IsLookedUp seat (row_at key due.rows)) (sym is) tt)
+    by seats.VolumeProtect is b = looked (subst (λ seat. IsLookedUp seat (row_at key due.rows)) (sym is) tt)
+    by seats.User is b = absurd b
+    by seats.Ops is b = absurd b
+    by seats.Scheduler is b = absurd b
+    by seats.Agent is b = absurd b
 
 -- lives
 
-throughout : (role : Role) (key : Key) (before since : List Call) → role.kind ≡ Binder → IsDueInOrderThroughout role key before since → IsDueThroughout role key before since
-throughout role key before [] binder due = rows_in_order role key (entries before) binder due
-throughout role key before (c ∷ since) binder due = (rows_in_order role key (entries (c ∷ since ++ before)) binder due.0, throughout role key before since binder due.1)
+throughout : (role : Role) (key : Key) (before since : List Call) → IsBuiltKind role.kind → IsDueInOrderThroughout role key before since → IsDueThroughout role key before since
+throughout role key before [] built due = rows_in_order role key (entries before) built due
+throughout role key before (c ∷ since) built due = (rows_in_order role key (entries (c ∷ since ++ before)) built due.0, throughout role key before since built due.1)
 
 pub played_in_order : PlayedIsDiligentInOrder
-played_in_order role s calls binder played kind first fourth earlier between later e four key due = played_is_diligent role s calls (subst IsBuiltKind (sym binder) tt) played kind first fourth earlier between later e four key (throughout role key (Some first ∷ earlier) between binder due)
+played_in_order role s calls built played kind first fourth earlier between later e four key due = played_is_diligent role s calls built played kind first fourth earlier between later e four key (throughout role key (Some first ∷ earlier) between built due)

@@ -6,13 +6,13 @@ use Rattle.std.proofs.lemmas.Option.{slice_get_within}
 use Rattle.kube_types.specs.declared.key.Key.{Key}
 use Rattle.kube_types.specs.declared.parts.Kind.{Kind}
 use Rattle.kube_types.specs.declared.parts.Kind.TheVariants as kinds
-use Rattle.kube_types.specs.Keys.{key_of, same_key, same_kind}
+use Rattle.kube_types.specs.Keys.{AreRows, key_of, same_key, same_kind}
 use Rattle.informer_cache.specs.Cache.{objects_of}
 use Rattle.call_types.specs.declared.entry.Entry.{Entry}
 use Rattle.call_types.specs.declared.request.Request.{Request}
 use Rattle.call_types.specs.declared.request.SeatKind.{SeatKind}
 use Rattle.call_types.specs.declared.request.SeatKind.TheVariants as seats
-use Rattle.informer_cache.specs.All.{AllKnown, cache_of}
+use Rattle.informer_cache.specs.All.{AllKnown, all_objects, cache_of}
 use Rattle.model_laws.proofs.Lists.{IsIn, none_some, one}
 use Rattle.worker_core.specs.declared.role.Role.{Role}
 use Rattle.worker_core.specs.declared.turn.Next.{Next}
@@ -95,7 +95,7 @@ same_phase place key s new n same stays (Waits is past quiet there) = Waits is (
 
 -- a turn
 
-module _ (key : Key) (s turned : State) (mine : List Entry) (stands : StandsFor s mine) (due : IsDue s.role key mine) where
+module _ (key : Key) (s turned : State) (mine : List Entry) (stands : StandsFor s mine) (order : AreRows (all_objects s.caches)) (due : IsDue s.role key mine) where
   -- in a turn a key that is due goes on waiting, or is called for
   goes_on_waiting : (answer : Next) → IsTurn s turned answer → (WasCalled s answer key → ⊥) → waits key s.work ≡ true → waits key turned.work ≡ true
   goes_on_waiting answer turn no_call there = by (waits key turned.work) refl
@@ -104,7 +104,7 @@ module _ (key : Key) (s turned : State) (mine : List Entry) (stands : StandsFor 
       by true e = e
       by false e = elim ((turn_keys s turned answer turn).stops key there e) [
         | inl called ↦ absurd (no_call called)
-        | inr dropped ↦ absurd (not_dropped s mine key stands due dropped)
+        | inr dropped ↦ absurd (not_dropped s mine key stands order due dropped)
       ]
 
   pub called_or_waits : (request : Request) → IsTurn s turned (nexts.Call request) → IsAskedFor s.role key mine request ⊎ (waits key s.work ≡ true → waits key turned.work ≡ true)
@@ -114,8 +114,8 @@ module _ (key : Key) (s turned : State) (mine : List Entry) (stands : StandsFor 
       by a true ea eb = inr (λ e. eb)
       by false false ea eb = inr (λ e. absurd (true≢false (sym e ∙ ea)))
       by true false ea eb = elim ((turn_keys s turned (nexts.Call request) turn).stops key ea eb) [
-        | inl called ↦ inl (was_asked s mine key stands request called)
-        | inr dropped ↦ absurd (not_dropped s mine key stands due dropped)
+        | inl called ↦ inl (was_asked s mine key stands order request called)
+        | inr dropped ↦ absurd (not_dropped s mine key stands order due dropped)
       ]
 
 renewed : (place : ℕ) (key : Key) (s turned : State) (n : ℕ) → s.pass.event ≡ true → turned.pass ≡ record { behind = 0; event = false } → Phase place key s n → Phase place key turned n
@@ -186,7 +186,7 @@ same_place seat kind i j built ei ej = place_is seat i kind built ei ∙ sym (pl
 -- an idle turn and a wake
 
 module _ (seat : SeatKind) (built : IsBuiltKind seat) (kind : Kind) (place : ℕ) (at : slice_get (kinds_of seat) place ≡ Some kind) (key : Key) (s turned new : State) (mine : List Entry) (n : ℕ) (of_seat : s.role.kind ≡ seat)
-    (stands : StandsFor s mine) (due : IsDue s.role key mine) (own : OneTaken s) (turn : IsTurn s turned nexts.Idle) (wakes : new ≡ woken turned) where
+    (stands : StandsFor s mine) (order : AreRows (all_objects s.caches)) (due : IsDue s.role key mine) (own : OneTaken s) (turn : IsTurn s turned nexts.Idle) (wakes : new ≡ woken turned) where
   built_now : IsBuiltKind s.role.kind
   built_now = subst IsBuiltKind (sym of_seat) built
 
@@ -214,7 +214,7 @@ module _ (seat : SeatKind) (built : IsBuiltKind seat) (kind : Kind) (place : ℕ
   waits_now = ap (λ (x : State). waits key x.work) wakes ∙ cached_self turned.caches (kinds_of turned.role.kind) key.kind key turned.work followed there none
     where
       cached : IsCached s.role.kind key s.caches
-      cached = due_cached s.role mine key built_now due s.caches stands.caches (λ k o e. row_any k o _ e)
+      cached = due_cached s.role mine key built_now due s.caches stands.caches order (λ k o e. row_any k o _ e)
 
       same_kinds : kinds_of turned.role.kind ≡ kinds_of s.role.kind
       same_kinds = ap (λ (r : Role). kinds_of r.kind) (turn_role s turned nexts.Idle turn)
@@ -231,7 +231,7 @@ module _ (seat : SeatKind) (built : IsBuiltKind seat) (kind : Kind) (place : ℕ
   -- a key that waits is decided before the life is idle
   decided : waits key s.work ≡ true → ⊥
   decided there =
-      let still = goes_on_waiting key s turned mine stands due nexts.Idle turn (λ called. none_some (ap call_in called.call)) there in
+      let still = goes_on_waiting key s turned mine stands order due nexts.Idle turn (λ called. none_some (ap call_in called.call)) there in
       let gone : waits key turned.work ≡ false = ap (λ ks. list_any (same_key key) ks) rests.empty in
       true≢false (sym still ∙ gone)
 

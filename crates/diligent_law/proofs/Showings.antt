@@ -1,5 +1,6 @@
--- Decisions by look-ups alone are the same on all rows that show the same.
-use Rattle.std.proofs.Common.{◌≡◌, ◌⊎◌, List, Bool, true, false, true≢false, Option, Some, None, inl, inr, refl, sym, ◌∙◌, ap, subst, if◌then◌else◌}
+-- Decisions by look-ups alone, and those of protection, are the same on all rows in order that show the same.
+use Rattle.std.proofs.Common.{◌≡◌, ◌⊎◌, List, [], ◌∷◌, Bool, true, false, true≢false, Option, Some, None, inl, inr, refl, sym, ◌∙◌, ap, subst, if◌then◌else◌}
+use Rattle.std.specs.Prelude.{◌||◌}
 use Rattle.std.specs.List.{list_any}
 use Rattle.kube_types.specs.declared.key.Key.{Key}
 use Rattle.kube_types.specs.declared.lookup.Live.TheVariants.{NotAsked}
@@ -10,10 +11,10 @@ use Rattle.kube_types.specs.declared.objects.Volume.{Volume as VolumeData}
 use Rattle.kube_types.specs.declared.objects.Claim.{Claim as ClaimData}
 use Rattle.kube_types.specs.declared.uid.Uid.{Uid}
 use Rattle.kube_types.specs.Bindings.{is_completed, is_deleting, is_empty, is_protected_claim}
-use Rattle.kube_types.specs.Keys.{row_at}
+use Rattle.kube_types.specs.Keys.{AreRows, key_of, row_at}
 use Rattle.call_types.specs.declared.request.SeatKind.{SeatKind}
 use Rattle.call_types.specs.declared.request.SeatKind.TheVariants as seats
-use Rattle.binder_model.specs.Due.{claim_guard_due, guard_due}
+use Rattle.binder_model.specs.Due.{guard_due}
 use Rattle.binder_model.specs.GuardLicence.{uses}
 use Rattle.binder_model.specs.Matching.{has_match}
 use Rattle.binder_model.specs.BinderDue.{claim_with}
@@ -28,7 +29,8 @@ use Rattle.binder_machines.specs.declared.decide.First.TheVariants as binder_fir
 use Rattle.binder_machines.specs.declared.machine.Machine.{Machine}
 use Rattle.binder_machines.specs.declared.machine.Machine.TheVariants.{Binds}
 use Rattle.binder_machines.specs.FirstSteps.{IsBindingTo, IsClaimFirst, IsFirst, volume_first}
-use Rattle.model_laws.proofs.Lists.{none_some, one}
+use Rattle.model_laws.proofs.Lists.{IsIn as IsMember, none_some, one}
+use Rattle.model_laws.proofs.Readings.{member_stands}
 use Rattle.protect_sync.specs.Decisions.{claim_begins, claim_for, volume_begins}
 use Rattle.worker_core.specs.declared.task.First.{First}
 use Rattle.worker_core.specs.declared.task.First.TheVariants as firsts
@@ -38,6 +40,7 @@ use Rattle.worker_core.specs.declared.task.Under.{Under}
 use Rattle.worker_core.specs.Tasks.{IsBinderFirst, IsFirstOf, claim_first, task_call, volume_first as volume_first_of}
 use Rattle.diligent_law.specs.Diligence.{BeginsCall}
 use Rattle.diligent_law.specs.Showing.{IsLookedUp, OneShowingIsEnough}
+use Rattle.diligent_law.proofs.Seeking.{found_any}
 
 module _ (rows other : List Object) (same : (key : Key) → row_at key other ≡ row_at key rows) where
   -- volumes
@@ -132,26 +135,35 @@ begins_binder rows key (tasks.VolumeProtect op) d = absurd d
 same_begins : (u : Under) (first : First) → task_call u.task ≡ Some u.call → first ≡ firsts.Begins u.task → BeginsCall first
 same_begins u first call e = record { task = u.task; request = u.call; begins = e; call = call }
 
--- claim protection, on a claim that stays
-guard_of_staying : (guarded needed other : Bool) → guard_due false guarded needed ≡ guard_due false guarded other
-guard_of_staying true needed other = refl
-guard_of_staying false needed other = refl
+-- rows in order that show the same have the same objects
 
-same_guard : (rows other : List Object) (c : ClaimData) → is_deleting c.meta ≡ false → claim_guard_due other c ≡ claim_guard_due rows c
-same_guard rows other c staying = on other ∙ guard_of_staying (is_protected_claim c) (list_any (uses c) other) (list_any (uses c) rows) ∙ sym (on rows)
+any_in : (p : Object → Bool) (rows xs all : List Object) → AreRows all → ((k : Key) → row_at k all ≡ row_at k rows) → ((o : Object) → IsMember o xs → IsMember o all) → list_any p xs ≡ true → list_any p rows ≡ true
+any_in p rows [] all order same within e = absurd (true≢false (sym e))
+any_in p rows (o ∷ os) all order same within e = by (p o) refl (any_in p rows os all order same (λ x i. within x (inr i)))
   where
-    on : (rs : List Object) → claim_guard_due rs c ≡ guard_due false (is_protected_claim c) (list_any (uses c) rs)
-    on rs = ap (λ deleting. guard_due deleting (is_protected_claim c) (list_any (uses c) rs)) staying
+    by : (b : Bool) → p o ≡ b → (list_any p os ≡ true → list_any p rows ≡ true) → list_any p rows ≡ true
+    by true is more = found_any p (key_of o) o rows (sym (same (key_of o)) ∙ member_stands o all order (within o (inl refl))) is
+    by false is more = more (sym (ap (λ b. b || list_any p os) is) ∙ e)
 
-same_claim_guard : (rows other : List Object) (row : Option Object) → IsLookedUp seats.ClaimProtect row → claim_begins other row ≡ claim_begins rows row
-same_claim_guard rows other (Some (Claim c)) looked = ap (claim_for c) (same_guard rows other c looked)
-same_claim_guard rows other (Some (Volume v)) looked = absurd looked
-same_claim_guard rows other (Some (Class x)) looked = absurd looked
-same_claim_guard rows other (Some (Node n)) looked = absurd looked
-same_claim_guard rows other (Some (Pod p)) looked = absurd looked
-same_claim_guard rows other None looked = absurd looked
+same_any : (p : Object → Bool) (rows other : List Object) → AreRows rows → AreRows other → ((k : Key) → row_at k other ≡ row_at k rows) → list_any p other ≡ list_any p rows
+same_any p rows other order order_other same = by (list_any p other) (list_any p rows) refl refl
+  where
+    by : (a b : Bool) → list_any p other ≡ a → list_any p rows ≡ b → list_any p other ≡ list_any p rows
+    by true true ea eb = ea ∙ sym eb
+    by false false ea eb = ea ∙ sym eb
+    by true false ea eb = absurd (true≢false (sym (any_in p rows other other order_other same (λ x i. i) ea) ∙ eb))
+    by false true ea eb = absurd (true≢false (sym (any_in p other rows rows order (λ k. sym (same k)) (λ x i. i) eb) ∙ ea))
 
-module _ (key : Key) (rows other : List Object) (u : Under) (same : (k : Key) → row_at k other ≡ row_at k rows) (call : task_call u.task ≡ Some u.call) where
+-- claim protection
+same_guards : (rows other : List Object) → AreRows rows → AreRows other → ((k : Key) → row_at k other ≡ row_at k rows) → (row : Option Object) → claim_begins other row ≡ claim_begins rows row
+same_guards rows other order order_other same (Some (Claim c)) = ap (λ used. claim_for c (guard_due (is_deleting c.meta) (is_protected_claim c) used)) (same_any (uses c) rows other order order_other same)
+same_guards rows other order order_other same (Some (Volume v)) = refl
+same_guards rows other order order_other same (Some (Class x)) = refl
+same_guards rows other order order_other same (Some (Node n)) = refl
+same_guards rows other order order_other same (Some (Pod p)) = refl
+same_guards rows other order order_other same None = refl
+
+module _ (key : Key) (rows other : List Object) (u : Under) (order : AreRows rows) (order_other : AreRows other) (same : (k : Key) → row_at k other ≡ row_at k rows) (call : task_call u.task ≡ Some u.call) where
   binder_only : IsLookedUp seats.Binder (row_at key rows) → IsBinderFirst rows key (firsts.Begins u.task) → (first : First) → IsBinderFirst other key first → BeginsCall first
   binder_only looked decided = by
     where
@@ -173,7 +185,7 @@ module _ (key : Key) (rows other : List Object) (u : Under) (same : (k : Key) �
   only_of : (seat : SeatKind) → IsLookedUp seat (row_at key rows) → IsFirstOf seat rows key (firsts.Begins u.task) → (first : First) → IsFirstOf seat other key first → BeginsCall first
   only_of seats.Binder looked decided first d = binder_only looked decided first d
   only_of seats.ClaimProtect looked decided first d =
-      let own : claim_begins other (row_at key other) ≡ claim_begins rows (row_at key rows) = ap (claim_begins other) (same key) ∙ same_claim_guard rows other (row_at key rows) looked in
+      let own : claim_begins other (row_at key other) ≡ claim_begins rows (row_at key rows) = ap (claim_begins other) (same key) ∙ same_guards rows other order order_other same (row_at key rows) in
       same_begins u first call (d ∙ ap claim_first own ∙ sym decided)
   only_of seats.VolumeProtect looked decided first d = same_begins u first call (d ∙ ap (λ r. volume_first_of (volume_begins r)) (same key) ∙ sym decided)
   only_of seats.User looked decided first d = absurd decided
@@ -188,5 +200,5 @@ one_showing role key mine rows u built shows looked own gives = record {
   under = u;
   own = own;
   gives = gives;
-  only = λ other others first d. only_of key rows other u (λ k. others.shown k ∙ sym (shows.shown k)) gives.call role.kind looked (subst (λ k. IsFirstOf role.kind rows k (firsts.Begins u.task)) own gives.decided) first d;
+  only = λ other others first d. only_of key rows other u shows.order others.order (λ k. others.shown k ∙ sym (shows.shown k)) gives.call role.kind looked (subst (λ k. IsFirstOf role.kind rows k (firsts.Begins u.task)) own gives.decided) first d;
 }

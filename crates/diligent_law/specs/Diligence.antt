@@ -5,7 +5,7 @@ use Rattle.std.specs.Prelude.{ℕ, ◌≡◌, ◌≤◌, ◌⊎◌, ◌+◌, Boo
 use Rattle.kube_types.specs.declared.key.Key.{Key}
 use Rattle.kube_types.specs.declared.parts.Kind.{Kind}
 use Rattle.kube_types.specs.declared.objects.Object.{Object}
-use Rattle.kube_types.specs.Keys.{row_at, same_kind}
+use Rattle.kube_types.specs.Keys.{AreRows, row_at, same_kind}
 use Rattle.call_types.specs.declared.entry.Entry.{Entry}
 use Rattle.call_types.specs.declared.request.Request.{Request}
 use Rattle.call_types.specs.declared.request.Request.TheVariants as requests
@@ -36,8 +36,9 @@ entries (Some e ∷ calls) = e ∷ entries calls
 
 -- what the rules give
 
--- the rows show of each key the newest that was told, in whatever order they stand
+-- the rows stand in order, and show of each key the newest that was told
 pub record Shows (mine : List Entry) (rows : List Object) : Type 0 where
+  pub order : AreRows rows
   pub shown : (key : Key) → row_at key rows ≡ object_of (newest mine key)
 
 -- the decision begins with a call

@@ -2,10 +2,12 @@
 -- effect; and where a turn gave none the actor is woken. Each step is what the calls of an actor promise.
 -- A choice of this project.
 use Rattle.std.specs.Prelude.{◌≡◌, false, List, [], ◌∷◌, Some, None}
+use Rattle.kube_types.specs.Keys.{AreRows}
 use Rattle.call_types.specs.declared.entry.Entry.{Entry}
 use Rattle.call_types.specs.declared.request.Request.{Request}
 use Rattle.call_types.specs.declared.reply.Reply.{Reply}
 use Rattle.informer_cache.specs.Cache.{IsTold}
+use Rattle.informer_cache.specs.All.{all_objects}
 use Rattle.worker_core.specs.declared.role.Role.{Role}
 use Rattle.worker_core.specs.declared.turn.Next.{Next}
 use Rattle.worker_core.specs.declared.turn.Next.TheVariants as nexts
@@ -18,8 +20,9 @@ use Rattle.worker_core.specs.States.{State}
 use Rattle.worker_core.specs.Turns.{IsTurn}
 use Rattle.diligent_law.specs.Diligence.{Call, IsDiligent, entries}
 
--- a turn, after which the actor stands for the same entries
+-- a turn of an actor whose caches have their rows in order, and that stands for the same entries after it
 pub record Turns (s turned : State) (answer : Next) (mine : List Entry) : Type 0 where
+  pub order : AreRows (all_objects s.caches)
   pub turn : IsTurn s turned answer
   pub stands : StandsFor turned mine
 

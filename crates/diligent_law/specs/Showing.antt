@@ -1,12 +1,12 @@
--- Diligent lives on rows in order, and where one list of rows is enough to know that a key is due. A choice of this project.
+-- Where one list of rows is enough to know that a key is due, and diligent lives where it is. A choice of this project.
 use Rattle.std.specs.Prelude.{◌≡◌, ◌⊎◌, true, false, List, [], ◌∷◌, ◌++◌, Option, Some, ⊤}
 use Rattle.kube_types.specs.declared.key.Key.{Key}
 use Rattle.kube_types.specs.declared.parts.Kind.{Kind}
 use Rattle.kube_types.specs.declared.objects.Object.{Object}
 use Rattle.kube_types.specs.declared.objects.Object.TheVariants.{Volume, Claim}
 use Rattle.kube_types.specs.declared.objects.Volume.{Volume as VolumeData}
-use Rattle.kube_types.specs.Bindings.{is_completed, is_deleting, is_empty}
-use Rattle.kube_types.specs.Keys.{AreRows, row_at}
+use Rattle.kube_types.specs.Bindings.{is_completed, is_empty}
+use Rattle.kube_types.specs.Keys.{row_at}
 use Rattle.call_types.specs.declared.entry.Entry.{Entry}
 use Rattle.call_types.specs.declared.request.SeatKind.{SeatKind}
 use Rattle.call_types.specs.declared.request.SeatKind.TheVariants as seats
@@ -19,12 +19,12 @@ use Rattle.worker_core.specs.States.{State}
 use Rattle.diligent_law.specs.Diligence.{AreFourWatches, Call, IsDue, Shows, WasAskedSince, entries}
 use Rattle.diligent_law.specs.Played.{IsPlayed}
 
--- the decision on the row is one by look-ups of keys alone: of a binder all but that on a claim for which a volume is
--- sought, of claim protection that on a claim that stays, of volume protection each
+-- the decision on the row is the same on all rows in order that show the same: of a binder each but that on a claim for which
+-- a volume is sought, of protection each
 abbrev pub IsLookedUp : SeatKind → Option Object → Type 0
 IsLookedUp seats.Binder (Some (Volume v)) = ⊤
 IsLookedUp seats.Binder (Some (Claim c)) = (is_completed c ≡ true) ⊎ (is_empty c.volume_name ≡ false)
-IsLookedUp seats.ClaimProtect (Some (Claim c)) = is_deleting c.meta ≡ false
+IsLookedUp seats.ClaimProtect row = ⊤
 IsLookedUp seats.VolumeProtect row = ⊤
 IsLookedUp seat row = ⊥
 
@@ -36,19 +36,19 @@ OneShowingIsEnough = (role : Role) (key : Key) (mine : List Entry) (rows : List 
 abbrev pub HaveNoNamespace : List Object → Type 0
 HaveNoNamespace rows = (key : Key) (v : VolumeData) → row_at key rows ≡ Some (Volume v) → v.meta.namespace ≡ []
 
--- on the rows in order that show of each key the newest that was told, the rules give a call for the key
+-- on the rows that show of each key the newest that was told, the rules give a call for the key; a binder's have no volume in
+-- a namespace
 pub record IsDueInOrder (role : Role) (key : Key) (mine : List Entry) : Type 0 where
   pub rows : List Object
   pub shows : Shows mine rows
-  pub order : AreRows rows
-  pub spaceless : HaveNoNamespace rows
+  pub spaceless : role.kind ≡ seats.Binder → HaveNoNamespace rows
   pub under : Under
   pub own : under.key ≡ key
   pub gives : GivesCall role (memory_of role mine) rows under
 
--- such a key of a binder is due, whatever rows are looked at
+-- such a key is due, whatever rows are looked at
 abbrev pub RowsInOrderAreEnough : Type 0
-RowsInOrderAreEnough = (role : Role) (key : Key) (mine : List Entry) → role.kind ≡ seats.Binder → IsDueInOrder role key mine → IsDue role key mine
+RowsInOrderAreEnough = (role : Role) (key : Key) (mine : List Entry) → IsBuiltKind role.kind → IsDueInOrder role key mine → IsDue role key mine
 
 -- at each point from the calls `before` on, up to those that came since
 abbrev pub IsDueInOrderThroughout : Role → Key → List Call → List Call → Type 0
@@ -61,6 +61,6 @@ abbrev pub IsDiligentInOrder : Role → List Call → Type 0
 IsDiligentInOrder role calls = (kind : Kind) (first fourth : Entry) (earlier between later : List Call) → calls ≡ later ++ (Some fourth ∷ between ++ Some first ∷ earlier)
     → AreFourWatches kind first fourth between → (key : Key) → IsDueInOrderThroughout role key (Some first ∷ earlier) between → WasAskedSince role key (Some first ∷ earlier) between
 
--- a binder's life that is played is so
+-- a life that is played is so, of each kind of actor that is built
 abbrev pub PlayedIsDiligentInOrder : Type 0
-PlayedIsDiligentInOrder = (role : Role) (s : State) (calls : List Call) → role.kind ≡ seats.Binder → IsPlayed role s calls → IsDiligentInOrder role calls
+PlayedIsDiligentInOrder = (role : Role) (s : State) (calls : List Call) → IsBuiltKind role.kind → IsPlayed role s calls → IsDiligentInOrder role calls

@@ -2,7 +2,7 @@
 //!
 //! `specs/Diligence` says it on the calls of a life alone: of four told watches of one kind, between which the life was told
 //! nothing new, lost nothing and only read, each key for which the rules give a call at every point was called for.
-//! `specs/Showing` says it on rows in order. `specs/Played` says how a life is played by an actor. Promises:
+//! `specs/Showing` says where one list of rows is enough. `specs/Played` says how a life is played by an actor. Promises:
 //! `played_is_diligent` and `played_is_diligent_in_order` give the one of the other; each function of `steps` makes a call
 //! of an actor, which is a step of a life. Not said: that a life goes on, or watches at all.
 #![tactic(auto)]
@@ -17,18 +17,17 @@ pub fn played_is_diligent()
     ensures { PlayedIsDiligent }
 {}
 
-/// The same of a binder, where what is due is read on the rows in order and no volume of them stands in a namespace.
+/// The same where what is due is read on one list of rows in order; a binder's have no volume in a namespace.
 pub fn played_is_diligent_in_order()
     ensures { PlayedIsDiligentInOrder }
 {}
 
-/// Where the decision is one by look-ups of keys alone, one list of rows tells that the key is due.
+/// Where the decision is the same on all rows in order that show the same, one list of rows tells that the key is due.
 pub fn one_showing_is_enough()
     ensures { OneShowingIsEnough }
 {}
 
-/// A binder's key is due, whatever rows are looked at, where the rules give a call for it on the rows in order and no volume
-/// of them stands in a namespace.
+/// A key is due where the rules give a call for it on one list of rows in order; a binder's have no volume in a namespace.
 pub fn rows_in_order_are_enough()
     ensures { RowsInOrderAreEnough }
 {}

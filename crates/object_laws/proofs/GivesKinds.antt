@@ -43,10 +43,10 @@ at_is m (Some (string s)) = refl
 at_is m (Some (array ds)) = refl
 at_is m (Some (object ms)) = refl
 
-abbrev IsGoodPlace : ℕ → Option Data → Type 0
+abbrev pub IsGoodPlace : ℕ → Option Data → Type 0
 IsGoodPlace n place = GoodMembers n (place_members place)
 
-good_place : (n : ℕ) (d : Data) → Good (suc n) d → IsGoodPlace n (Some d)
+pub good_place : (n : ℕ) (d : Data) → Good (suc n) d → IsGoodPlace n (Some d)
 good_place n null h = good_none
 good_place n (boolean b) h = good_none
 good_place n (number k) h = good_none
@@ -83,10 +83,10 @@ good_way n m (Some (array ds)) h = tt
 good_way n m (Some (object ms)) h = good_members h
 
 -- the object at a member
-needed_way_given : (n : ℕ) (m : Member) (d : Data) → Good (suc (suc n)) d → IfOk (needed_way m (Some d)) (IsGoodPlace n)
+pub needed_way_given : (n : ℕ) (m : Member) (d : Data) → Good (suc (suc n)) d → IfOk (needed_way m (Some d)) (IsGoodPlace n)
 needed_way_given n m d h = good_way n m (unless_null (at m (Some d))) (good_unless (suc n) (at m (Some d)) (good_at (suc n) m (Some d) (good_place (suc n) d h)))
 
-object_at_given : (n : ℕ) (m : Member) (d : Data) → Good (suc (suc n)) d → IfOk (object_at m (Some d)) (IsGoodPlace n)
+pub object_at_given : (n : ℕ) (m : Member) (d : Data) → Good (suc (suc n)) d → IfOk (object_at m (Some d)) (IsGoodPlace n)
 object_at_given n m d h = good_way n m (at m (Some d)) (good_at (suc n) m (Some d) (good_place (suc n) d h))
 
 -- ---- the members that are kept

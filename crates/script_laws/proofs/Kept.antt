@@ -1,13 +1,11 @@
 -- The members that an object of a line keeps nest one level less deep than those of a manifest.
-use Rattle.std.proofs.Common.{◌≡◌, ℕ, suc, ◌≤◌, List, [], true, false, if◌then◌else◌, Option, Some, None, Ok, Err, IfOk, refl, arith}
-use Rattle.serde_json.specs.Data.{Data, null, boolean, number, string, array, object, Members}
-use Rattle.serde_json.specs.Find.{get_member}
+use Rattle.std.proofs.Common.{◌≡◌, ℕ, ◌≤◌, List, [], true, false, if◌then◌else◌, Option, Some, Ok, Err, IfOk, refl, arith}
+use Rattle.serde_json.specs.Data.{Data, Members}
 use Rattle.serde_json.specs.Written.{has_float}
-use Rattle.json_text.specs.Look.{unless_null}
 use Rattle.json_text.specs.Trees.{others}
-use Rattle.json_text.specs.Build.{Good, GoodMembers, GoodOption}
+use Rattle.json_text.specs.Build.{Good, GoodMembers}
 use Rattle.json_text.specs.Members.{extra_members}
-use Rattle.json_text.proofs.Good.{good_none, good_member, good_members, good_others}
+use Rattle.json_text.proofs.Good.{good_others}
 use Rattle.json_text.proofs.PutAll.{others_are}
 use Rattle.kube_types.specs.declared.parts.Kind.{Kind}
 use Rattle.kube_types.specs.declared.parts.Kind.TheVariants as kinds
@@ -18,14 +16,12 @@ use Rattle.kube_types.specs.declared.objects.Node.{Node}
 use Rattle.kube_types.specs.declared.objects.Pod.{Pod}
 use Rattle.kube_types.specs.declared.objects.Object.{Object}
 use Rattle.kube_types.specs.declared.objects.Object.TheVariants as objects
-use Rattle.object_text.specs.declared.errors.Member.{Member}
 use Rattle.object_text.specs.declared.errors.Member.TheVariants as members
 use Rattle.object_text.specs.declared.errors.ObjectError.TheVariants.{NotObject, NotWhole}
 use Rattle.object_text.specs.declared.extra.Listed.{Listed}
 use Rattle.object_text.specs.declared.extra.Listed.TheVariants as listed
 use Rattle.object_text.specs.declared.kind_readers.VolumeSpec.{VolumeSpec}
-use Rattle.object_text.specs.MemberWords.{member_word}
-use Rattle.object_text.specs.MemberReaders.{at, needed_text, way_from, needed_way, object_at, text_or, pairs_at}
+use Rattle.object_text.specs.MemberReaders.{needed_text, needed_way, object_at, text_or, pairs_at}
 use Rattle.object_text.specs.MetaReaders.{meta_of}
 use Rattle.object_text.specs.PartReaders.{class_policy_at, delayed_at, claims_at}
 use Rattle.object_text.specs.ExtraMembers.{is_listed, place_members, extra_at}
@@ -33,63 +29,8 @@ use Rattle.object_text.specs.KindReaders.{volume_shape, volume_ties, volume_spec
 use Rattle.object_text.specs.Reading.{is_object, whole_object, kind_at, object_of_kind, object_of}
 use Rattle.object_laws.specs.Given.{AreExtra}
 use Rattle.object_laws.proofs.ExtraBack.{extra_back}
+use Rattle.object_laws.proofs.GivesKinds.{IsGoodPlace, good_place, needed_way_given, object_at_given}
 use Rattle.object_laws.proofs.GivesParts.{step, past, if_ok}
-
--- ---- places: the value of a member nests less deep than the object
-
-at_is : (m : Member) (place : Option Data) → at m place ≡ get_member (member_word m) (place_members place)
-at_is m None = refl
-at_is m (Some null) = refl
-at_is m (Some (boolean b)) = refl
-at_is m (Some (number n)) = refl
-at_is m (Some (string s)) = refl
-at_is m (Some (array ds)) = refl
-at_is m (Some (object ms)) = refl
-
-abbrev IsGoodPlace : ℕ → Option Data → Type 0
-IsGoodPlace n place = GoodMembers n (place_members place)
-
-good_place : (n : ℕ) (d : Data) → Good (suc n) d → IsGoodPlace n (Some d)
-good_place n null h = good_none
-good_place n (boolean b) h = good_none
-good_place n (number k) h = good_none
-good_place n (string s) h = good_none
-good_place n (array ds) h = good_none
-good_place n (object ms) h = good_members h
-
-good_found : (n : ℕ) (k : List ℕ) (ms : Members) → GoodMembers n ms → GoodOption n (get_member k ms)
-good_found n k ms h = by (get_member k ms) refl
-  where
-    by : (o : Option Data) → get_member k ms ≡ o → GoodOption n o
-    by None e = tt
-    by (Some d) e = good_member k ms d h e
-
-good_at : (n : ℕ) (m : Member) (place : Option Data) → IsGoodPlace n place → GoodOption n (at m place)
-good_at n m place h = rw (at_is m place) (good_found n (member_word m) (place_members place) h)
-
-good_unless : (n : ℕ) (o : Option Data) → GoodOption n o → GoodOption n (unless_null o)
-good_unless n None h = tt
-good_unless n (Some null) h = tt
-good_unless n (Some (boolean b)) h = h
-good_unless n (Some (number k)) h = h
-good_unless n (Some (string s)) h = h
-good_unless n (Some (array ds)) h = h
-good_unless n (Some (object ms)) h = h
-
-good_way : (n : ℕ) (m : Member) (o : Option Data) → GoodOption (suc n) o → IfOk (way_from m o) (IsGoodPlace n)
-good_way n m None h = good_none
-good_way n m (Some null) h = tt
-good_way n m (Some (boolean b)) h = tt
-good_way n m (Some (number k)) h = tt
-good_way n m (Some (string s)) h = tt
-good_way n m (Some (array ds)) h = tt
-good_way n m (Some (object ms)) h = good_members h
-
-needed_way_gives : (n : ℕ) (m : Member) (d : Data) → Good (suc (suc n)) d → IfOk (needed_way m (Some d)) (IsGoodPlace n)
-needed_way_gives n m d h = good_way n m (unless_null (at m (Some d))) (good_unless (suc n) (at m (Some d)) (good_at (suc n) m (Some d) (good_place (suc n) d h)))
-
-object_at_gives : (n : ℕ) (m : Member) (d : Data) → Good (suc (suc n)) d → IfOk (object_at m (Some d)) (IsGoodPlace n)
-object_at_gives n m d h = good_way n m (at m (Some d)) (good_at (suc n) m (Some d) (good_place (suc n) d h))
 
 -- ---- the members that are kept
 
@@ -133,7 +74,7 @@ PodKeeps p = Keeps 124 p.extra
 spec_keeps : (d : Data) → Good 126 d → IfOk (volume_spec_of d) SpecKeeps
 unfolding volume_spec_of
 spec_keeps d h =
-    step (IsGoodPlace 124) SpecKeeps (needed_way members.Spec (Some d)) _ (needed_way_gives 124 members.Spec d h) (λ spec good.
+    step (IsGoodPlace 124) SpecKeeps (needed_way members.Spec (Some d)) _ (needed_way_given 124 members.Spec d h) (λ spec good.
     past SpecKeeps (volume_shape spec) _ (λ shape.
     past SpecKeeps (volume_ties spec) _ (λ ties. kept_gives 124 (listed.Volume ties.source.kind) spec (omega arith) good)))
 
@@ -148,7 +89,7 @@ claim_keeps : (d : Data) → Good 126 d → IfOk (claim_of d) ClaimKeeps
 unfolding claim_of
 claim_keeps d h =
     past ClaimKeeps (meta_of true d) _ (λ meta.
-    step (IsGoodPlace 124) ClaimKeeps (needed_way members.Spec (Some d)) _ (needed_way_gives 124 members.Spec d h) (λ spec good.
+    step (IsGoodPlace 124) ClaimKeeps (needed_way members.Spec (Some d)) _ (needed_way_given 124 members.Spec d h) (λ spec good.
     past ClaimKeeps (claim_shape spec) _ (λ shape.
     past ClaimKeeps (claim_ties spec) _ (λ ties.
     past ClaimKeeps (claim_status_of d) _ (λ status. kept_gives 124 listed.Claim spec (omega arith) good)))))
@@ -166,13 +107,13 @@ node_keeps : (d : Data) → Good 126 d → IfOk (node_of d) NodeKeeps
 unfolding node_of
 node_keeps d h =
     past NodeKeeps (meta_of false d) _ (λ meta.
-    step (IsGoodPlace 124) NodeKeeps (object_at members.Spec (Some d)) _ (object_at_gives 124 members.Spec d h) (λ spec good. kept_gives 124 listed.Node spec (omega arith) good))
+    step (IsGoodPlace 124) NodeKeeps (object_at members.Spec (Some d)) _ (object_at_given 124 members.Spec d h) (λ spec good. kept_gives 124 listed.Node spec (omega arith) good))
 
 pod_keeps : (d : Data) → Good 126 d → IfOk (pod_of d) PodKeeps
 unfolding pod_of
 pod_keeps d h =
     past PodKeeps (meta_of true d) _ (λ meta.
-    step (IsGoodPlace 124) PodKeeps (object_at members.Spec (Some d)) _ (object_at_gives 124 members.Spec d h) (λ spec good.
+    step (IsGoodPlace 124) PodKeeps (object_at members.Spec (Some d)) _ (object_at_given 124 members.Spec d h) (λ spec good.
     past PodKeeps (text_or members.NodeName [] spec) _ (λ node.
     past PodKeeps (claims_at spec) _ (λ claims. kept_gives 124 listed.Pod spec (omega arith) good))))
 

@@ -1,5 +1,5 @@
 -- A line of a create or an update is short where its object is; lines of faults and drains are short.
-use Rattle.std.proofs.Common.{◌≡◌, ℕ, ◌<◌, ◌≤◌, ◌^◌, ◌==◌, ◌&&◌, nat_le, List, [], ◌∷◌, ◌++◌, length, map, Bool, true, false, if◌then◌else◌, Option, Some, None, codes, decimal, refl, arith, length-append}
+use Rattle.std.proofs.Common.{ℕ, ◌≤◌, ◌==◌, nat_le, List, [], ◌∷◌, ◌++◌, length, map, Bool, true, false, if◌then◌else◌, Option, Some, None, codes, decimal, arith, length-append}
 use Rattle.std.specs.List.{All}
 use Rattle.std.proofs.lemmas.Bool.{and_parts, leb-true}
 use Rattle.std.proofs.lemmas.Fmt.{length-decimal-le}
@@ -23,7 +23,7 @@ use Rattle.script_text.specs.Grammar.{most_line_bytes}
 use Rattle.script_print.specs.Printing.{line_data, line_text, pool_lines, fault_data, fault_text, script_lines}
 use Rattle.script_laws.specs.Given.{IsCount, IsLineAfter}
 use Rattle.script_laws.specs.Limits.{IsShort, IsShortObject, LineHasShortObject, CallFits, LineFits, ScriptFits}
-use Rattle.script_laws.specs.Scripts.{AreLinesAfter, IsScript}
+use Rattle.script_laws.specs.Scripts.{AreLinesAfter}
 
 count_small : (most n : ℕ) → IsCount most n → n ≤ most
 count_small most n is = leb-true n most (and_parts (nat_le 1 n) (nat_le n most) is).1

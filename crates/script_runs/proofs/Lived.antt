@@ -2,12 +2,14 @@
 use Rattle.std.proofs.Common.{◌≡◌, ◌≢◌, ℕ, zero, suc, ◌<◌, ◌≤◌, ◌+◌, List, [], ◌∷◌, ◌++◌, map, Bool, true, false, Some, refl, sym, ◌∙◌, ap, subst, arith}
 use Rattle.std.specs.Prelude.{◌==◌, is_some, nat_lt}
 use Rattle.std.proofs.lemmas.Bool.Decides.{Decides-eqb, nat_tests}
+use Rattle.kube_types.specs.Keys.{AreRows}
 use Rattle.call_types.specs.declared.entry.Entry.{Entry}
 use Rattle.call_types.specs.declared.request.Request.{Request}
 use Rattle.binder_model.specs.Told.{own}
 use Rattle.diligent_law.specs.Diligence.{Call, IsDiligent, entries}
 use Rattle.diligent_law.specs.Played.{Begins, Wakes}
 use Rattle.diligent_law.proofs.Following.{played_is_diligent, same_role, stands_now}
+use Rattle.informer_cache.specs.All.{all_objects}
 use Rattle.world_core.specs.Kept.{History}
 use Rattle.worker_core.specs.declared.role.Role.{Role}
 use Rattle.worker_core.specs.declared.turn.Next.TheVariants as nexts
@@ -117,12 +119,12 @@ next_lives old seat actor past idle named is other new stands plays lives =
 
 -- a call was made
 pub made_lives : (mid : Player) (given actor : State) (request : Request) (fate : Fate) (before after : History) → mid.seat ≡ seat_at mid.part (mid.made + 1) → fate ≡ fate_of mid.part.losses (mid.made + 1)
-    → IsTurn mid.actor given (nexts.Call request) → ((mine : List Entry) → StandsFor mid.actor mine → StandsFor given mine) → GoesOn mid.seat fate request before after given actor
+    → AreRows (all_objects mid.actor.caches) → IsTurn mid.actor given (nexts.Call request) → ((mine : List Entry) → StandsFor mid.actor mine → StandsFor given mine) → GoesOn mid.seat fate request before after given actor
     → ((other : ℕ) → other ≢ mid.seat → own other after.past ≡ own other before.past) → Lives mid before.past → Lives (record mid { made = mid.made + 1; actor = actor }) after.past
-made_lives mid given actor request fate before after is lost turn keeps goes others lives =
+made_lives mid given actor request fate before after is lost order turn keeps goes others lives =
     let living = lives.living in
     let stands = stands_now (role_of_part mid.part) mid.actor living.calls living.played in
-    let went = goes (role_of_part mid.part) mid.actor living.calls living.played (record { turn = turn; stands = keeps (entries living.calls) stands }) living.are.of_seat in
+    let went = goes (role_of_part mid.part) mid.actor living.calls living.played (record { order = order; turn = turn; stands = keeps (entries living.calls) stands }) living.are.of_seat in
     record {
       built = lives.built;
       began = omega (arith, is);
@@ -139,14 +141,14 @@ made_lives mid given actor request fate before after is lost turn keeps goes oth
     }
 
 -- the turn gave none
-pub idle_lives : (mid : Player) (given : State) (past : List Entry) → IsTurn mid.actor given nexts.Idle → ((mine : List Entry) → StandsFor mid.actor mine → StandsFor given mine) → Lives mid past → LivesIdle (record mid { actor = given }) past
-idle_lives mid given past turn keeps lives =
+pub idle_lives : (mid : Player) (given : State) (past : List Entry) → AreRows (all_objects mid.actor.caches) → IsTurn mid.actor given nexts.Idle → ((mine : List Entry) → StandsFor mid.actor mine → StandsFor given mine) → Lives mid past → LivesIdle (record mid { actor = given }) past
+idle_lives mid given past order turn keeps lives =
     let living = lives.living in
     let stands = stands_now (role_of_part mid.part) mid.actor living.calls living.played in
     record {
       before = mid.actor;
       lives = lives;
-      turns = record { turn = turn; stands = subst (StandsFor given) living.are.of_seat (keeps (entries living.calls) stands) };
+      turns = record { order = order; turn = turn; stands = subst (StandsFor given) living.are.of_seat (keeps (entries living.calls) stands) };
     }
 
 -- and the actor is woken
@@ -160,7 +162,7 @@ woken_lives p actor past is keeps idle =
       living = record {
         calls = living.calls;
         are = living.are;
-        played = Wakes idle.before p.actor living.played (record { turn = idle.turns.turn; stands = stands }) is (keeps (entries living.calls) stands);
+        played = Wakes idle.before p.actor living.played (record { order = idle.turns.order; turn = idle.turns.turn; stands = stands }) is (keeps (entries living.calls) stands);
       };
       ended = idle.lives.ended;
     }

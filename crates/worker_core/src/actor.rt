@@ -117,6 +117,7 @@ impl Actor {
         ensures idle { IfOk result (λ answer. (mine : List Entry) → StandsFor self.old mine → answer ≡ nexts.Idle → MayBeIdle self.old.role self.old.memory mine) }
         ensures keys { IfOk result (λ answer. KeepsKeys self.old self.new answer) }
         ensures asked { IfOk result (λ answer. call_in answer ≡ asked self.new) }
+        ensures order { AreRows (all_objects self.old.caches) }
     {
         self.stand();
         let answer = self.turn()?;
