@@ -34,7 +34,8 @@ fn amount_named(alloc: Global, word: &str, member: Member) -> Result<Amount, Obj
     }
 }
 
-fn amount_counted(alloc: Global, value: &Value, member: Member) -> Result<Amount, ObjectError>
+/// The quantity that a value is, a text or a whole number that is not negative. The member stands in errors.
+pub fn amount_counted(alloc: Global, value: &Value, member: Member) -> Result<Amount, ObjectError>
     ensures { Gives result (amount_in member (view value.now)) }
 {
     match value {

@@ -3,9 +3,7 @@
 ghost use Rattle.std.specs.Prelude.{◌≡◌, option_map};
 ghost use Rattle.serde_json.specs.View.{view};
 ghost use Rattle.kube_types.specs.Named.{kind_named};
-ghost use Rattle.object_text.specs.PartReaders.{amount_from, amount_in};
-ghost use Rattle.object_text.specs.Answers.{Gives as GivesAmount};
-ghost use Rattle.quantity_text.specs.Quantity.{amount_of};
+ghost use Rattle.object_text.specs.PartReaders.{amount_in};
 ghost use Rattle.object_text.specs.Listing.{item_of};
 ghost use Rattle.object_text.specs.declared.errors.Member.TheVariants as manifests;
 ghost use Rattle.script_lines.specs.Answers.{Gives, GivesBy};
@@ -17,7 +15,6 @@ use crate::actors::{Actor, actor_named};
 use crate::errors::{LineError, Reason};
 use crate::keys::is_namespaced;
 use crate::line_member::LineMember;
-use itoa::Buffer;
 use json_text::look::unless_null;
 use kube_types::key::Key;
 use kube_types::objects::{Amount, Object};
@@ -28,7 +25,7 @@ use kube_types::uid::Uid;
 use object_text::errors::{Member, ObjectError};
 use object_text::listing::item_of;
 use object_text::member_readers::{uid_at, word_or};
-use quantity_text::{AmountError, read_amount};
+use object_text::part_readers::amount_counted;
 use serde_json::Value;
 use std::alloc::Global;
 
@@ -283,42 +280,11 @@ fn size_error(e: ObjectError) -> LineError
     }
 }
 
-fn amount_named(alloc: Global, word: &str) -> Result<Amount, ObjectError>
-    ensures { GivesAmount result (amount_from manifests.Storage word.now (amount_of word.now)) }
-{
-    match read_amount(alloc, word.as_bytes()) {
-        Ok(amount) => Ok(amount),
-        Err(AmountError::OutOfMemory) => Err(ObjectError::OutOfMemory),
-        Err(_) => Err(ObjectError::BadQuantity(Member::Storage)),
-    }
-}
-
-fn amount_counted(alloc: Global, value: &Value) -> Result<Amount, ObjectError>
-    ensures { GivesAmount result (amount_in manifests.Storage (view value.now)) }
-{
-    match value {
-        Value::String(word) => amount_named(alloc, word.as_str()),
-        Value::Number(number) => {
-            if number.is_f64() {
-                return Err(ObjectError::NotWhole);
-            }
-            match number.as_u64() {
-                Some(n) => {
-                    let mut buffer = Buffer::new();
-                    amount_named(alloc, buffer.format(n))
-                }
-                None => Err(ObjectError::WrongType(Member::Storage)),
-            }
-        }
-        _ => Err(ObjectError::WrongType(Member::Storage)),
-    }
-}
-
 #[tactic(auto, using(crate::proofs::Taken::size_fails))]
 fn size_in(alloc: Global, value: &Value) -> Result<Amount, LineError>
     ensures { Gives result (size_taken (amount_in manifests.Storage (view value.now))) }
 {
-    match amount_counted(alloc, value) {
+    match amount_counted(alloc, value, Member::Storage) {
         Ok(amount) => Ok(amount),
         Err(e) => Err(size_error(e)),
     }
