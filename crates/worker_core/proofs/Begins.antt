@@ -1,5 +1,5 @@
 -- An actor that was told nothing stands for no entries.
-use Rattle.std.proofs.Common.{ℕ, List, [], true≢false, refl, sym, ap, ◌∙◌, Option, subst}
+use Rattle.std.proofs.Common.{ℕ, List, [], true≢false, refl, sym, ap, ◌∙◌, Option, subst, arith}
 use Rattle.call_types.specs.declared.request.SeatKind.{SeatKind}
 use Rattle.call_types.specs.declared.request.SeatKind.TheVariants as seats
 use Rattle.worker_core.specs.declared.role.Role.{Role}
@@ -10,7 +10,7 @@ use Rattle.worker_core.specs.Stands.{AnyIsUnderWay, AreOwn, GivenStands, IsNew, 
 use Rattle.worker_core.specs.States.{State}
 
 nobody : AreOwn []
-nobody = record { setup = record { pools = []; faults = []; imports = [] }; past = []; seat = 0; history = tt; own = refl }
+nobody = record { setup = record { pools = []; faults = []; imports = [] }; past = []; seat = 0; imports = tt; short = omega arith; history = tt; own = refl }
 
 starts_empty : (kind : SeatKind) (node : List ℕ) → StartsSo kind node []
 starts_empty seats.User node = tt

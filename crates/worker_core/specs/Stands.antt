@@ -12,7 +12,9 @@ use Rattle.call_types.specs.declared.request.SeatKind.TheVariants as seats
 use Rattle.call_types.specs.declared.reply.Reply.{Reply}
 use Rattle.call_types.specs.declared.reply.Reply.TheVariants as replies
 use Rattle.binder_model.specs.AgentLicence.{last_epoch}
+use Rattle.binder_model.specs.Imports.{ImportsPass}
 use Rattle.binder_model.specs.Licence.{Licensed}
+use Rattle.binder_model.specs.Promises.{most_entries}
 use Rattle.binder_model.specs.Reading.{follows}
 use Rattle.binder_model.specs.Told.{own}
 use Rattle.binder_model.specs.World.{IsHistory}
@@ -63,11 +65,13 @@ abbrev pub AreLicensed : SeatKind → List Entry → Type 0
 AreLicensed kind [] = ⊤
 AreLicensed kind (e ∷ mine) = AreLicensed kind mine × (e.kind ≡ kind) × Licensed kind mine e.request
 
--- the entries of one seat in some history
+-- the entries of one seat in some history, from imports that pass, with fewer entries than any machine can hold
 pub record AreOwn (mine : List Entry) : Type 0 where
   pub setup : Setup
   pub past : List Entry
   pub seat : ℕ
+  pub imports : ImportsPass setup.imports
+  pub short : length past < most_entries
   pub history : IsHistory setup past
   pub own : mine ≡ own seat past
 
