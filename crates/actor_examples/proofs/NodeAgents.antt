@@ -25,11 +25,11 @@ starts = record {
   reads_them_again_where_the_answer_was_lost = refl;
   nothing_more_after_both = refl;
   binder_has_no_start = refl;
-  node_is_taken_before_the_list = (((tt, refl), refl), refl);
-  no_list_before_it = λ h. true≢false (sym h.0.1);
-  not_taken_twice = λ h. true≢false h.1;
-  taken_again_where_the_answer_was_lost = ((tt, refl), refl);
-  not_by_another_node = λ h. true≢false (sym h.1);
+  node_is_taken_before_the_list = (refl, (refl, (refl, tt)));
+  no_list_before_it = λ h. true≢false (sym h.1.0);
+  not_taken_twice = λ h. true≢false h.0;
+  taken_again_where_the_answer_was_lost = (refl, (refl, tt));
+  not_by_another_node = λ h. true≢false (sym h.0);
 }
 
 abbrev begins : First → Bool

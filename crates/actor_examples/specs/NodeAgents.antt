@@ -27,7 +27,7 @@ use Rattle.worker_core.specs.declared.task.Under.{Under}
 use Rattle.worker_core.specs.declared.turn.Next.{Next}
 use Rattle.worker_core.specs.declared.turn.Next.TheVariants as nexts
 use Rattle.worker_core.specs.Memories.{Memory, memory_of, no_memory}
-use Rattle.worker_core.specs.Stands.{TakesNodeFirst}
+use Rattle.worker_core.specs.Stands.{TakesFirst}
 use Rattle.worker_core.specs.States.{State, start_call}
 use Rattle.worker_core.specs.Tasks.{IsDecision, task_parks, under_after}
 use Rattle.worker_core.specs.Turns.{IsTurn}
@@ -42,7 +42,7 @@ after xs = memory_of (agent_of node_1) (seat_of seats.Agent xs)
 -- its start
 
 abbrev pub Starts : List Exchange → List ℕ → Type 0
-Starts xs node = TakesNodeFirst node (seat_of seats.Agent xs)
+Starts xs node = TakesFirst node (seat_of seats.Agent xs)
 
 pub record AgentStartExamples : Type 0 where
   pub takes_its_node_first : start_call (agent_of node_1) (after []) ≡ Some (requests.TakeNode node_1)

@@ -13,7 +13,6 @@ use Rattle.call_types.specs.declared.request.SeatKind.{SeatKind}
 use Rattle.call_types.specs.declared.request.SeatKind.TheVariants as seats
 use Rattle.call_types.specs.declared.reply.MountRow.{MountRow}
 use Rattle.call_types.specs.declared.reply.Reply.{Reply}
-use Rattle.binder_model.specs.AgentLicence.{last_epoch}
 use Rattle.binder_model.specs.Licence.{AreOfKind, RowAllows}
 use Rattle.informer_cache.specs.All.{AllKnown, AllStandFor, all_objects}
 use Rattle.binder_machines.specs.declared.machine.Machine.{Machine}
@@ -47,10 +46,10 @@ use Rattle.worker_core.specs.declared.task.Task.TheVariants as tasks
 use Rattle.worker_core.specs.declared.task.Under.{Under}
 use Rattle.worker_core.specs.Memories.{Memory, memory_of}
 use Rattle.binder_machines.specs.KindLaw.{reads_kind}
-use Rattle.worker_core.specs.Stands.{AreLicensed, AreOwn, Begun, IsUnderWay, StartsSo, TakesNodeFirst, WentOn}
+use Rattle.worker_core.specs.Stands.{AreLicensed, AreOwn, Begun, IsUnderWay, StartsSo, WentOn}
 use Rattle.worker_core.specs.Steps.Evidence.{TaskKeeps, task_kind}
 use Rattle.worker_core.specs.Tasks.{IsAgentFirst, IsDecision, IsFirstOf, agent_first, claim_first, task_call, task_moved, under_after, volume_first, with_call, with_task}
-use Rattle.worker_core.proofs.AgentLaws.{has_started, stays_unfinished}
+use Rattle.worker_core.proofs.AgentLaws.{may_decide}
 use Rattle.worker_core.proofs.ByKind.{EpochStands, epoch_stands}
 use Rattle.worker_core.proofs.Owning.{Stood, stood_before}
 
@@ -126,15 +125,7 @@ volume_begun c mine key t stand (Some op) is first =
     let same : tasks.VolumeProtect op ≡ t = one (tasks.VolumeProtect op) t (sym (ap task_in first)) in
     subst (λ x. BeginsTask seats.VolumeProtect x mine) same (record { of_kind = refl; keeps = volume_decisions c mine key op stand is })
 
--- an agent decides a pod by its last epoch, has started by then, and never asked to finish a pod that its caches show staying
-may_decide : (node : List ℕ) (epoch : ℕ) (c : AllKnown) (mine : List Entry) (key : Key) → AllStandFor c mine → AreLicensed seats.Agent mine → AreOwn mine → TakesNodeFirst node mine → last_epoch node mine ≡ Some epoch
-    → MayDecide node epoch (row_at key (all_objects c)) mine
-may_decide node epoch c mine key stand licensed own start current = record {
-  current = current;
-  started = has_started node mine licensed own start;
-  unfinished = λ p uid row same staying. stays_unfinished mine key p uid licensed own (sym (stand.rows key) ∙ row) same staying;
-}
-
+-- a machine that an agent begins
 agent_begun : (node : List ℕ) (epoch : Option ℕ) (mounts : Option (List MountRow)) (c : AllKnown) (mine : List Entry) (key : Key) (t : Task) → AllStandFor c mine
     → ((e : ℕ) → epoch ≡ Some e → MayDecide node e (row_at key (all_objects c)) mine) → IsAgentFirst node epoch mounts (row_at key (all_objects c)) (firsts.Begins t) → BeginsTask seats.Agent t mine
 agent_begun node None mounts c mine key t stand may first = absurd first
@@ -156,7 +147,7 @@ begun seats.Binder node m c mine key (tasks.Agent op) stand order licensed own s
 begun seats.ClaimProtect node m c mine key t stand order licensed own start epoch first = claim_begun c mine key t stand _ refl first
 begun seats.VolumeProtect node m c mine key t stand order licensed own start epoch first = volume_begun c mine key t stand _ refl first
 begun seats.Agent node m c mine key t stand order licensed own start epoch first =
-    agent_begun node m.epoch m.mounts c mine key t stand (λ e is. may_decide node e c mine key stand licensed own start (sym epoch ∙ is)) first
+    agent_begun node m.epoch m.mounts c mine key t stand (λ e is. may_decide node e c mine key licensed own start (sym epoch ∙ is) stand) first
 begun seats.User node m c mine key t stand order licensed own start epoch first = absurd first
 begun seats.Ops node m c mine key t stand order licensed own start epoch first = absurd first
 begun seats.Scheduler node m c mine key t stand order licensed own start epoch first = absurd first

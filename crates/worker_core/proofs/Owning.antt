@@ -58,7 +58,7 @@ pub record Stood (role : Role) (mine : List Entry) : Type 0 where
   pub start : StartsSo role.kind role.node mine
 
 starts_before : (kind : SeatKind) (node : List ℕ) (e : Entry) (mine : List Entry) → StartsSo kind node (e ∷ mine) → StartsSo kind node mine
-starts_before seats.Agent node e mine s = s.0
+starts_before seats.Agent node e mine s = s.1
 starts_before seats.User node e mine s = tt
 starts_before seats.Binder node e mine s = tt
 starts_before seats.Ops node e mine s = tt

@@ -122,7 +122,7 @@ module _ (s : State) (mine : List Entry) (e : Entry) (stands : StandsFor s mine)
   starts_on = by s.role.kind refl stands.start
     where
       by : (kind : SeatKind) → s.role.kind ≡ kind → StartsSo kind s.role.node mine → StartsSo kind s.role.node (e ∷ mine)
-      by seats.Agent is start = (start, agent_on is)
+      by seats.Agent is start = (agent_on is, start)
       by seats.User is start = tt
       by seats.Binder is start = tt
       by seats.Ops is start = tt

@@ -81,12 +81,12 @@ abbrev pub is_take_of : List ℕ → Request → Bool
 is_take_of node (requests.TakeNode taken) = bytes_eq taken node
 is_take_of node request = false
 
-abbrev pub TakesNodeFirst : List ℕ → List Entry → Type 0
-TakesNodeFirst node [] = ⊤
-TakesNodeFirst node (e ∷ mine) = TakesNodeFirst node mine × (is_take_of node e.request ≡ is_none (last_epoch node mine))
+abbrev pub TakesFirst : List ℕ → List Entry → Type 0
+TakesFirst node [] = ⊤
+TakesFirst node (e ∷ mine) = (is_take_of node e.request ≡ is_none (last_epoch node mine)) × TakesFirst node mine
 
 abbrev pub StartsSo : SeatKind → List ℕ → List Entry → Type 0
-StartsSo seats.Agent node mine = TakesNodeFirst node mine
+StartsSo seats.Agent node mine = TakesFirst node mine
 StartsSo _ node mine = ⊤
 
 -- a read that was given is one of a kind that the actor follows, given once the calls of the start are made; and neither it
