@@ -75,7 +75,7 @@ finish_mute s stale node (Some p) = stale_mute stale _ (refused_mute _ _ _ (refu
 
 -- of each call of an agent to the devices
 
-take_mute : (setup : Setup) (w : World) (kind : SeatKind) (node : List ℕ) → IsMute (reply_to (effect setup w kind (requests.TakeNode node)))
+pub take_mute : (setup : Setup) (w : World) (kind : SeatKind) (node : List ℕ) → IsMute (reply_to (effect setup w kind (requests.TakeNode node)))
 unfolding effect device_answer
 take_mute setup w kind node = asked_devices kind w (requests.TakeNode node) _ (devices_mute setup w.devices (requests.TakeNode node) _ refl)
 

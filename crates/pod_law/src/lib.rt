@@ -5,13 +5,19 @@
 //! of pods by lists of all of them and by watches alone (`agents_are_told_by_reads`).
 #![tactic(auto)]
 
-ghost use Rattle.pod_law.specs.Deletion.{DeletionsStay};
+ghost use Rattle.pod_law.specs.Deletion.{DeletionsStay, StayingWasNeverDeleting};
 ghost use Rattle.pod_law.specs.Tellings.{AgentsAreToldByReads};
 
 /// Of two versions of an object that stood in the store, the later one is deleting where the earlier one is.
 #[tactic(auto, using(crate::proofs::Deletion::deletions_stay))]
 pub fn deletions_stay()
     ensures { DeletionsStay }
+{}
+
+/// A pod that the newest telling of its key shows staying was never told deleting.
+#[tactic(auto, using(crate::proofs::Newest::staying_was_never_deleting))]
+pub fn staying_was_never_deleting()
+    ensures { StayingWasNeverDeleting }
 {}
 
 /// What an agent may ask tells pods by lists of all of them and by watches alone.
