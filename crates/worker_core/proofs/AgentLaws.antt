@@ -21,7 +21,7 @@ pub may_decide : (node : List ℕ) (epoch : ℕ) (c : AllKnown) (mine : List Ent
 may_decide node epoch c mine key licensed own start current stand =
     subst (MayDecide node epoch (row_at key (all_objects c))) (sym own.own)
     (takers_may_decide own.setup own.past own.seat node epoch c key own.imports own.short own.history
-        (subst AreAgents own.own (are_agents mine licensed))
-        (subst (TakesFirst node) own.own start)
-        (subst (λ m. last_epoch node m ≡ Some epoch) own.own current)
-        (subst (AllStandFor c) own.own stand))
+    (subst AreAgents own.own (are_agents mine licensed))
+    (subst (TakesFirst node) own.own start)
+    (subst (λ m. last_epoch node m ≡ Some epoch) own.own current)
+    (subst (AllStandFor c) own.own stand))

@@ -1,5 +1,5 @@
 -- An agent takes its node first: each of its calls does so exactly as long as it was told no epoch.
-use Rattle.std.proofs.Common.{◌≡◌, ℕ, List, [], ◌∷◌, Bool, true, false, true≢false, Option, Some, None, refl, sym, ◌∙◌, ap, subst}
+use Rattle.std.proofs.Common.{◌≡◌, ℕ, List, ◌∷◌, Bool, true, false, true≢false, Option, Some, None, refl, sym, ◌∙◌, ap, subst}
 use Rattle.std.specs.Prelude.{is_none, is_some, option_map}
 use Rattle.std.proofs.lemmas.Slice.Eq.{bytes_eq-Decides}
 use Rattle.kube_types.specs.declared.parts.Kind.{Kind}
@@ -7,7 +7,6 @@ use Rattle.kube_types.specs.declared.objects.Object.{Object}
 use Rattle.kube_types.specs.Keys.{row_at}
 use Rattle.call_types.specs.declared.entry.Entry.{Entry}
 use Rattle.call_types.specs.declared.request.Request.{Request}
-use Rattle.call_types.specs.declared.request.Request.TheVariants as requests
 use Rattle.call_types.specs.declared.request.SeatKind.{SeatKind}
 use Rattle.call_types.specs.declared.request.SeatKind.TheVariants as seats
 use Rattle.call_types.specs.declared.reply.MountRow.{MountRow}
@@ -95,7 +94,7 @@ under_took : (role : Role) (u : Under) (mine : List Entry) → role.kind ≡ sea
 under_took role u mine is (Begun c stand order gives) =
     ap is_none (sym (remembers_epoch role mine is))
     ∙ decided_took role.node (memory_of role mine).epoch (memory_of role mine).mounts (row_at u.key (all_objects c)) (firsts.Begins u.task)
-        (subst (λ kind. IsFirstOf kind role.node (memory_of role mine) (all_objects c) u.key (firsts.Begins u.task)) is gives.decided)
+    (subst (λ kind. IsFirstOf kind role.node (memory_of role mine) (all_objects c) u.key (firsts.Begins u.task)) is gives.decided)
 under_took role u mine is (WentOn before e past split way told asked moves) =
     subst (λ m. is_none (last_epoch role.node m) ≡ false) (sym split) (took_before (epoch_in role.node e) (last_epoch role.node past) (under_took role before past is way))
 
