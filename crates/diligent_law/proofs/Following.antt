@@ -87,7 +87,7 @@ same_role role s calls (LostBefore old before request played is gives stands) = 
 same_role role s calls (LostAfter old before e request played is lost own gives stands) = (came old s request _ _ gives).role ∙ same_role role old before played
 same_role role s calls (Wakes old turned played turns wakes stands) = (woke old turned s _ turns wakes).role ∙ same_role role old calls played
 
--- what an actor remembers hangs on the calls alone: where they were told no StaleEpoch, none was told before a wake
+-- what an actor remembers hangs on its calls alone, so a wake changes nothing of it
 remembered : (role : Role) (s : State) (calls : List Call) → IsPlayed role s calls → s.memory ≡ memory_of role (entries calls)
 remembered role s calls played = (stands_now role s calls played).memory ∙ ap (λ r. memory_of r (entries calls)) (same_role role s calls played)
 
@@ -200,7 +200,7 @@ module _ (role : Role) (built : IsBuiltKind role.kind) (kind : Kind) (place : �
         ]
       ]
 
-  -- an agent that was told StaleEpoch makes no call any more, and is not followed
+  -- an agent that was told StaleEpoch makes no call any more, and is not followed on
   follow : (s : State) (calls : List Call) → IsPlayed role s calls → (since : List Call) → calls ≡ since ++ start → AreQuiet since → IsDueThroughout role key start since → s.memory.stale ≡ false → Followed s since
   follow s calls (Begins none new stands) [] e quiet due fresh = absurd (no_list _ _ (sym none ∙ e))
   follow s calls (Begins none new stands) (c ∷ since) e quiet due fresh = absurd (no_list _ _ (sym none ∙ e))
