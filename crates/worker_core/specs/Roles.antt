@@ -26,7 +26,7 @@ IsBuiltKind seats.Ops = ⊥
 IsBuiltKind seats.Scheduler = ⊥
 IsBuiltKind seats.ClaimProtect = ⊤
 IsBuiltKind seats.VolumeProtect = ⊤
-IsBuiltKind seats.Agent = ⊥
+IsBuiltKind seats.Agent = ⊤
 
 -- the kind at a place of this order
 abbrev pub kind_at : Role → ℕ → Option Kind

@@ -1,6 +1,6 @@
 -- What an actor stands for: the entries of its seat, the newest first.
 -- A choice of this project: it is what ties caches, passes and what is under way to what the seat was told.
-use Rattle.std.specs.Prelude.{ℕ, ◌≡◌, ◌<◌, ◌⊎◌, Bool, true, false, ◌&&◌, List, [], ◌∷◌, Option, Some, None, length, ⊤}
+use Rattle.std.specs.Prelude.{ℕ, ◌≡◌, ◌<◌, ◌⊎◌, Bool, true, false, ◌&&◌, List, [], ◌∷◌, Option, Some, None, bytes_eq, is_none, length, ⊤}
 use Rattle.kube_types.specs.declared.parts.Kind.{Kind}
 use Rattle.kube_types.specs.Keys.{AreRows}
 use Rattle.call_types.specs.declared.entry.Entry.{Entry}
@@ -8,8 +8,10 @@ use Rattle.call_types.specs.declared.setup.Setup.{Setup}
 use Rattle.call_types.specs.declared.request.Request.{Request}
 use Rattle.call_types.specs.declared.request.Request.TheVariants as requests
 use Rattle.call_types.specs.declared.request.SeatKind.{SeatKind}
+use Rattle.call_types.specs.declared.request.SeatKind.TheVariants as seats
 use Rattle.call_types.specs.declared.reply.Reply.{Reply}
 use Rattle.call_types.specs.declared.reply.Reply.TheVariants as replies
+use Rattle.binder_model.specs.AgentLicence.{last_epoch}
 use Rattle.binder_model.specs.Licence.{Licensed}
 use Rattle.binder_model.specs.Reading.{follows}
 use Rattle.binder_model.specs.Told.{own}
@@ -26,7 +28,7 @@ use Rattle.worker_core.specs.declared.turn.Next.TheVariants as nexts
 use Rattle.worker_core.specs.declared.turn.Pass.{Pass}
 use Rattle.worker_core.specs.Memories.{Memory, memory_of, no_memory}
 use Rattle.worker_core.specs.Roles.{kind_at, kinds_of}
-use Rattle.worker_core.specs.States.{State}
+use Rattle.worker_core.specs.States.{State, start_call}
 use Rattle.worker_core.specs.Tasks.{GivesCall, under_after}
 
 -- what is under way began by a decision on caches and a memory that stood for the entries of then, and each entry since is
@@ -69,12 +71,26 @@ pub record AreOwn (mine : List Entry) : Type 0 where
   pub history : IsHistory setup past
   pub own : mine ≡ own seat past
 
--- a read that was given is one of a kind that the actor follows, and neither it nor a call of the start is given with
--- something under way
-abbrev pub GivenStands : Role → Option Given → Option Under → Type 0
-GivenStands role (Some (givens.Read kind)) under = (follows role.kind kind ≡ true) × (under ≡ None)
-GivenStands role (Some givens.Start) under = under ≡ None
-GivenStands role given under = ⊤
+-- an agent takes its node first: each of its calls does so exactly as long as it was told no epoch
+
+abbrev pub is_take_of : List ℕ → Request → Bool
+is_take_of node (requests.TakeNode taken) = bytes_eq taken node
+is_take_of node request = false
+
+abbrev pub TakesNodeFirst : List ℕ → List Entry → Type 0
+TakesNodeFirst node [] = ⊤
+TakesNodeFirst node (e ∷ mine) = TakesNodeFirst node mine × (is_take_of node e.request ≡ is_none (last_epoch node mine))
+
+abbrev pub StartsSo : SeatKind → List ℕ → List Entry → Type 0
+StartsSo seats.Agent node mine = TakesNodeFirst node mine
+StartsSo _ node mine = ⊤
+
+-- a read that was given is one of a kind that the actor follows, given once the calls of the start are made; and neither it
+-- nor a call of the start is given with something under way
+abbrev pub GivenStands : Role → Memory → Option Given → Option Under → Type 0
+GivenStands role memory (Some (givens.Read kind)) under = (follows role.kind kind ≡ true) × (under ≡ None) × (start_call role memory ≡ None)
+GivenStands role memory (Some givens.Start) under = under ≡ None
+GivenStands role memory given under = ⊤
 
 pub record StandsFor (s : State) (mine : List Entry) : Type 0 where
   -- of each key the caches show the newest told, and they ask what the reads of the entries allow
@@ -84,7 +100,8 @@ pub record StandsFor (s : State) (mine : List Entry) : Type 0 where
   pub memory : s.memory ≡ memory_of s.role mine
   pub licensed : AreLicensed s.role.kind mine
   pub own : AreOwn mine
-  pub given : GivenStands s.role s.given s.under
+  pub start : StartsSo s.role.kind s.role.node mine
+  pub given : GivenStands s.role s.memory s.given s.under
 
 -- an actor that was told nothing: nothing is queued, and its first pass is still to begin
 pub record IsNew (role : Role) (s : State) : Type 0 where

@@ -10,17 +10,17 @@ ghost use Rattle.informer_cache.specs.Cache.{IsTold, keys_in};
 ghost use Rattle.worker_core.specs.declared.turn.Next.TheVariants as nexts;
 ghost use Rattle.worker_core.specs.declared.turn.Outcome.TheVariants as outcomes;
 ghost use Rattle.worker_core.specs.Absorbs.{absorbed, all_added, is_passing, lost_to, lost_under, pass_after, task_told, told_to, woken};
-ghost use Rattle.worker_core.specs.Memories.{memory_after};
 ghost use Rattle.worker_core.specs.Roles.{IsBuiltKind, kinds_of};
 ghost use Rattle.worker_core.specs.Rules.{KeepsKeys, KeepsWaiting, WakesKeys, WokenIsBusy};
 ghost use Rattle.worker_core.specs.Stands.{AreOwn, IsLicensedAnswer, IsNew, MayBeIdle, StandsFor};
 ghost use Rattle.worker_core.specs.States.{asked, call_in, start_call};
-ghost use Rattle.worker_core.specs.Turns.{DecidesKeys, GivesRead, IsTurn, passing};
+ghost use Rattle.worker_core.specs.Turns.{DecidesKeys, GivesRead, IsTurn, TurnBy, passing, unlisted};
 
 use crate::keys::{add_all, add_cached, decide_keys};
+use crate::memory::Remembered;
 use crate::pass::{first_unlisted, is_passing, pass_after, read_of_kind};
 use crate::role::{Role, first_kind, kinds_of};
-use crate::task::Under;
+use crate::task::{Moved, Under, with_task};
 use crate::turn::{Given, Next, Outcome, Pass};
 use call_types::reply::Reply;
 use call_types::request::{Request, SeatKind};
@@ -44,24 +44,25 @@ pub struct Actor {
     caches: Caches,
     queue: Queue,
     pass: Pass,
+    memory: Remembered,
     under: Option<Under>,
     given: Option<Given>,
 }
 
 impl Model for Actor {
-    ghost use Rattle.worker_core.specs.Memories.{no_memory};
     ghost use Rattle.worker_core.specs.Roles.{IsBuiltKind};
     ghost use Rattle.worker_core.specs.States.{State};
 
     ghost Value = { State };
 
-    ghost view = { λ a. record { role = a.role; caches = a.caches; work = a.queue; pass = a.pass; memory = no_memory; under = a.under; given = a.given } };
+    ghost view = { λ a. record { role = a.role; caches = a.caches; work = a.queue; pass = a.pass; memory = a.memory; under = a.under; given = a.given } };
 
     ghost invariant = { λ a. IsBuiltKind a.role.kind };
 }
 
 impl Actor {
-    /// An actor that was told nothing. The binder, claim protection and volume protection are the kinds that are built.
+    /// An actor that was told nothing. The binder, claim protection, volume protection and the node agent are the
+    /// kinds that are built. `node` is that of an agent.
     pub fn new(alloc: Global, kind: SeatKind, node: &Text) -> Result<Actor, OutOfMemory>
         requires { IsBuiltKind kind }
         ensures is { IfOk result (λ actor. IsNew (record { kind = kind; node = node.now }) actor) }
@@ -96,6 +97,7 @@ impl Actor {
                 behind,
                 event: true,
             },
+            memory: Remembered::new(),
             under: None,
             given: None,
         }
@@ -126,33 +128,40 @@ impl Actor {
 
     /// The rows of the caches stand in order, and the actor is of a kind that is built. It does nothing: its contract is
     /// what is known of the actor.
-    #[tactic(auto, using(crate::proofs::ByKind::starts_fresh))]
     fn stand(&self)
         ensures order { AreRows (all_objects self.now.caches) }
         ensures built { IsBuiltKind self.now.role.kind }
-        ensures fresh { start_call self.now.role self.now.memory ≡ None }
     {
         self.caches.stand_together();
-    }
-
-    /// No answer changes what the actor remembers. It does nothing either.
-    #[tactic(auto, using(crate::proofs::ByKind::learns_nothing))]
-    fn stay(&self, _request: &Request, _reply: &Reply)
-        ensures { memory_after self.now.role _request.now _reply.now self.now.memory ≡ self.now.memory }
-    {
-        let _ = &self.alloc;
     }
 
     /// The turn.
     fn turn(&mut self) -> Result<Next, OutOfMemory>
         ensures { IfOk result (λ answer. IsTurn self.old self.new answer) }
     {
-        self.stand();
+        if self.memory.stale {
+            self.given = None;
+            return Ok(Next::Idle);
+        }
         if let Some(under) = &self.under {
             let call = under.call.copy(self.alloc)?;
             self.given = Some(Given::Task);
             return Ok(Next::Call(call));
         }
+        if let Some(call) = self.memory.start(self.alloc, &self.role)? {
+            self.given = Some(Given::Start);
+            return Ok(Next::Call(call));
+        }
+        self.after_start()
+    }
+
+    /// Lists and watches the kinds, and then decides the waiting keys.
+    fn after_start(&mut self) -> Result<Next, OutOfMemory>
+        requires under { self.old.under ≡ None }
+        requires started { start_call self.old.role self.old.memory ≡ None }
+        ensures { IfOk result (λ answer. TurnBy self.old self.new answer false None None (unlisted self.old) (passing self.old)) }
+    {
+        self.stand();
         let kinds = kinds_of(self.role.kind);
         if let Some(kind) = first_unlisted(&self.caches, kinds) {
             return Ok(self.read(kind));
@@ -174,11 +183,12 @@ impl Actor {
     /// Decides the waiting keys, and where none gives a call begins a pass or is idle.
     #[tactic(auto, using(crate::proofs::ByKind::no_user))]
     fn after_keys(&mut self) -> Result<Next, OutOfMemory>
-        requires { self.old.under ≡ None }
+        requires under { self.old.under ≡ None }
+        requires started { start_call self.old.role self.old.memory ≡ None }
         ensures { IfOk result (λ answer. DecidesKeys self.old self.new answer) }
     {
         let first = first_kind(self.role.kind);
-        match decide_keys(self.alloc, &self.role, &self.caches, &mut self.queue)? {
+        match decide_keys(self.alloc, &self.role, &self.memory, &self.caches, &mut self.queue)? {
             Some(under) => {
                 let call = under.call.copy(self.alloc)?;
                 self.under = Some(under);
@@ -241,7 +251,7 @@ impl Actor {
         ensures state { OnOk result (self.new ≡ told_to self.old self.old.caches request.now reply.now) }
         ensures caches { OnOk result (self.new.caches ≡ self.old.caches) }
     {
-        self.stay(request, reply);
+        self.memory.take(self.alloc, &self.role, request, reply)?;
         match self.given {
             None | Some(Given::Start) => {}
             Some(Given::Task) => self.told_task(reply)?,
@@ -272,17 +282,19 @@ impl Actor {
     fn told_task(&mut self, reply: &Reply) -> Result<(), OutOfMemory>
         ensures { OnOk result (self.new ≡ task_told self.old reply.now self.old.under) }
     {
-        let under = match self.under.take() {
+        let Under { key, task, call } = match self.under.take() {
             None => return Ok(()),
             Some(under) => under,
         };
-        match under.after(self.alloc, reply)? {
+        drop(call);
+        let Moved { task, parks } = task.absorb(self.alloc, reply)?;
+        match with_task(self.alloc, &key, task)? {
             Some(next) => self.under = Some(next),
             None => {
-                if under.task.parks(reply) {
-                    self.queue.retry_later(&under.key);
+                if parks {
+                    self.queue.retry_later(&key);
                 } else {
-                    self.queue.done(&under.key);
+                    self.queue.done(&key);
                 }
             }
         }
@@ -350,6 +362,7 @@ impl Actor {
             behind: kinds_of(self.role.kind).len(),
             event: true,
         };
+        self.memory = Remembered::new();
         self.under = None;
         self.given = None;
     }

@@ -1,23 +1,25 @@
 //! The keys of an actor: which are queued, and which of them gives a call.
 
-ghost use Rattle.std.specs.Prelude.{◌≡◌, ◌++◌, IfOk, OnOk, map};
-ghost use Rattle.kube_types.specs.Keys.{key_of};
+ghost use Rattle.std.specs.Prelude.{◌≡◌, ◌++◌, IfOk, None, OnOk, is_some, map};
+ghost use Rattle.kube_types.specs.Keys.{key_of, row_at};
 ghost use Rattle.informer_cache.specs.All.{all_objects, cache_of};
 ghost use Rattle.sync_queue.specs.Work.{begun, oldest_of};
 ghost use Rattle.worker_core.specs.Absorbs.{all_added, kind_added, kinds_added};
-ghost use Rattle.worker_core.specs.Memories.{no_memory};
 ghost use Rattle.worker_core.specs.Roles.{IsBuiltKind};
-ghost use Rattle.worker_core.specs.Tasks.{IsDecision};
+ghost use Rattle.worker_core.specs.States.{agent_start, start_call};
+ghost use Rattle.worker_core.specs.Tasks.{IsAgentFirst, IsDecision};
 ghost use Rattle.worker_core.specs.Turns.{Decides};
 
+use crate::memory::Remembered;
 use crate::role::Role;
-use crate::task::{First, Under, first_of_binder, first_of_claims, first_of_volumes};
+use crate::task::{First, Under, first_of_agent, first_of_binder, first_of_claims, first_of_volumes};
 use call_types::request::SeatKind;
 use informer_cache::caches::Caches;
 use kube_types::copies::{OutOfMemory, Plain};
 use kube_types::key::{Key, key_of};
 use kube_types::objects::Object;
 use kube_types::parts::Kind;
+use kube_types::text::Text;
 use std::alloc::Global;
 use sync_queue::queue::Queue;
 
@@ -33,15 +35,42 @@ fn take(alloc: Global, queue: &mut Queue) -> Result<Option<Key>, OutOfMemory>
 }
 
 /// What the decision on the key comes to.
-fn first_for(alloc: Global, role: &Role, caches: &Caches, key: &Key) -> Result<First, OutOfMemory>
-    requires { IsBuiltKind role.now.kind }
-    ensures { IfOk result (λ first. IsDecision role.now no_memory (all_objects caches.now) key.now first) }
+fn first_for(
+    alloc: Global,
+    role: &Role,
+    memory: &Remembered,
+    caches: &Caches,
+    key: &Key,
+) -> Result<First, OutOfMemory>
+    requires built { IsBuiltKind role.now.kind }
+    requires started { start_call role.now memory.now ≡ None }
+    ensures { IfOk result (λ first. IsDecision role.now memory.now (all_objects caches.now) key.now first) }
 {
     match role.kind {
         SeatKind::Binder => first_of_binder(alloc, caches, key),
         SeatKind::ClaimProtect => first_of_claims(alloc, caches, key),
         SeatKind::VolumeProtect => first_of_volumes(alloc, caches, key),
-        SeatKind::User | SeatKind::Ops | SeatKind::Scheduler | SeatKind::Agent => Ok(First::Drops),
+        SeatKind::Agent => first_for_agent(alloc, &role.node, memory, caches, key),
+        SeatKind::User | SeatKind::Ops | SeatKind::Scheduler => Ok(First::Drops),
+    }
+}
+
+/// What an agent's decision on the key comes to, once its start is made.
+fn first_for_agent(
+    alloc: Global,
+    node: &Text,
+    memory: &Remembered,
+    caches: &Caches,
+    key: &Key,
+) -> Result<First, OutOfMemory>
+    requires { agent_start node.now memory.now.epoch (is_some memory.now.mounts) ≡ None }
+    ensures { IfOk result (λ first. IsAgentFirst node.now memory.now.epoch memory.now.mounts (row_at key.now (all_objects caches.now)) first) }
+{
+    match (memory.epoch, &memory.mounts) {
+        (Some(epoch), Some(rows)) => {
+            first_of_agent(alloc, caches, node, epoch, rows.as_slice(), key)
+        }
+        _ => Ok(First::Drops),
     }
 }
 
@@ -49,11 +78,13 @@ fn first_for(alloc: Global, role: &Role, caches: &Caches, key: &Key) -> Result<F
 pub(crate) fn decide_keys(
     alloc: Global,
     role: &Role,
+    memory: &Remembered,
     caches: &Caches,
     queue: &mut Queue,
 ) -> Result<Option<Under>, OutOfMemory>
-    requires { IsBuiltKind role.now.kind }
-    ensures { IfOk result (λ under. Decides role.now no_memory (all_objects caches.now) queue.new under queue.old) }
+    requires built { IsBuiltKind role.now.kind }
+    requires started { start_call role.now memory.now ≡ None }
+    ensures { IfOk result (λ under. Decides role.now memory.now (all_objects caches.now) queue.new under queue.old) }
 {
     loop {
         let _ = queue.len();
@@ -61,7 +92,7 @@ pub(crate) fn decide_keys(
             None => return Ok(None),
             Some(key) => key,
         };
-        match first_for(alloc, role, caches, &key)? {
+        match first_for(alloc, role, memory, caches, &key)? {
             First::Drops => queue.done(&key),
             First::Queues(other) => {
                 queue.add(&other)?;

@@ -4,13 +4,14 @@
 //! the actor's seat; an actor is idle only where no kind that it follows has news; the next call, an answer, a loss and a
 //! wake are exactly those of `specs/Turns` and `specs/Absorbs`; no key stops waiting undecided. Those are clauses of its
 //! methods, and `laws` has what follows from the definitions alone. The kinds that are built are the binder,
-//! claim protection and volume protection.
+//! claim protection, volume protection and the node agent.
 //! Not said: that a call is ever answered, or that any key is ever decided.
 #![tactic(auto)]
 
 pub mod actor;
 mod keys;
 pub mod laws;
+mod memory;
 mod pass;
 pub mod role;
 pub mod task;

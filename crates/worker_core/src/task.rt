@@ -2,21 +2,24 @@
 
 ghost use Rattle.std.specs.Prelude.{◌≡◌, IfOk, Some};
 ghost use Rattle.kube_types.specs.Keys.{row_at};
-ghost use Rattle.protect_sync.specs.ClaimGuards.{claim_moved, claim_parks};
+ghost use Rattle.node_agent.specs.Agents.{agent_begins};
 ghost use Rattle.protect_sync.specs.Decisions.{claim_begins, volume_begins};
-ghost use Rattle.protect_sync.specs.VolumeGuards.{volume_moved, volume_parks};
-ghost use Rattle.worker_core.specs.Tasks.{IsBinderFirst, claim_first, task_call, task_moved, task_parks, under_after, volume_first, with_call};
+ghost use Rattle.worker_core.specs.declared.task.Task.TheVariants as tasks;
+ghost use Rattle.worker_core.specs.Tasks.{IsBinderFirst, agent_first, claim_first, task_call, task_moved, task_parks, volume_first, with_call, with_task};
 
 use binder_machines::decide as binder;
 use binder_machines::machine::Machine;
-use call_types::reply::Reply;
+use call_types::reply::{MountRow, Reply};
 use call_types::request::Request;
 use kube_types::copies::{OutOfMemory, Plain};
 use kube_types::key::Key;
 use kube_types::lookup::Lookup;
-use protect_sync::claims::{ClaimGuardOp, ClaimGuardStep};
+use kube_types::text::Text;
+use node_agent::agent::AgentOp;
+use node_agent::decide::decide_pod;
+use protect_sync::claims::ClaimGuardOp;
 use protect_sync::decide::{decide_claim, decide_volume};
-use protect_sync::volumes::{VolumeGuardOp, VolumeGuardStep};
+use protect_sync::volumes::VolumeGuardOp;
 use std::alloc::Global;
 
 /// A machine of one of the kinds of actors.
@@ -25,6 +28,7 @@ pub enum Task {
     Binder(Machine),
     ClaimProtect(ClaimGuardOp),
     VolumeProtect(VolumeGuardOp),
+    Agent(AgentOp),
 }
 
 impl Drop for Task {
@@ -33,6 +37,7 @@ impl Drop for Task {
             Task::Binder(machine) => drop(machine),
             Task::ClaimProtect(op) => drop(op),
             Task::VolumeProtect(op) => drop(op),
+            Task::Agent(op) => drop(op),
         }
     }
 }
@@ -62,6 +67,20 @@ pub enum First {
     Begins(Task),
 }
 
+/// A task after an answer, or none where it has ended; and whether its key is to be parked, where it ends at this answer.
+#[derive(Debug)]
+pub struct Moved {
+    pub task: Option<Task>,
+    pub parks: bool,
+}
+
+impl Drop for Moved {
+    fn drop(self) {
+        let Moved { task, parks: _ } = self;
+        drop(task);
+    }
+}
+
 impl Task {
     /// The next call, or none where nothing is left to be asked.
     pub fn next(&self, alloc: Global) -> Result<Option<Request>, OutOfMemory>
@@ -71,93 +90,74 @@ impl Task {
             Task::Binder(machine) => machine.next(alloc),
             Task::ClaimProtect(op) => op.next(alloc),
             Task::VolumeProtect(op) => op.next(alloc),
+            Task::Agent(op) => op.next(alloc),
         }
     }
 
-    /// What the answer to the next call makes of the task, or none where it has ended.
-    pub fn absorb(&self, alloc: Global, reply: &Reply) -> Result<Option<Task>, OutOfMemory>
-        ensures { IfOk result (λ next. next ≡ task_moved self.now reply.now) }
+    /// What the answer to the next call makes of the task. After want of memory the task is let go.
+    pub fn absorb(self, alloc: Global, reply: &Reply) -> Result<Moved, OutOfMemory>
+        ensures task { IfOk result (λ moved. moved.task ≡ task_moved self reply.now) }
+        ensures parks { IfOk result (λ moved. moved.parks ≡ task_parks self reply.now) }
     {
         match self {
-            Task::Binder(machine) => match machine.absorb(alloc, reply)? {
-                None => Ok(None),
-                Some(machine) => Ok(Some(Task::Binder(machine))),
-            },
-            Task::ClaimProtect(op) => {
-                let moved = moved_claim(alloc, op, reply)?;
-                Ok(Some(Task::ClaimProtect(moved)))
-            }
-            Task::VolumeProtect(op) => {
-                let moved = moved_volume(alloc, op, reply)?;
-                Ok(Some(Task::VolumeProtect(moved)))
-            }
-        }
-    }
-
-    /// Whether the key is to be parked, where the task ends at this answer.
-    pub fn parks(&self, reply: &Reply) -> bool
-        ensures { result ≡ task_parks self.now reply.now }
-    {
-        match self {
-            Task::Binder(machine) => machine.parks(reply),
-            Task::ClaimProtect(op) => claim_parks(op, reply),
-            Task::VolumeProtect(op) => volume_parks(op, reply),
+            Task::Binder(machine) => moved_machine(alloc, &machine, reply),
+            Task::ClaimProtect(op) => Ok(moved_claim(op, reply)),
+            Task::VolumeProtect(op) => Ok(moved_volume(op, reply)),
+            Task::Agent(op) => moved_agent(alloc, op, reply),
         }
     }
 }
 
-/// The machine of a claim after the answer.
-fn moved_claim(alloc: Global, op: &ClaimGuardOp, reply: &Reply) -> Result<ClaimGuardOp, OutOfMemory>
-    ensures { IfOk result (λ moved. moved ≡ claim_moved op.now reply.now) }
+/// The binder's machine after the answer.
+fn moved_machine(alloc: Global, machine: &Machine, reply: &Reply) -> Result<Moved, OutOfMemory>
+    ensures task { IfOk result (λ moved. moved.task ≡ task_moved (tasks.Binder machine.now) reply.now) }
+    ensures parks { IfOk result (λ moved. moved.parks ≡ task_parks (tasks.Binder machine.now) reply.now) }
 {
-    let claim = op.claim.copy(alloc)?;
-    let mut moved = ClaimGuardOp {
-        claim,
-        step: op.step,
+    let parks = machine.parks(reply);
+    let task = match machine.absorb(alloc, reply)? {
+        None => None,
+        Some(machine) => Some(Task::Binder(machine)),
     };
-    moved.absorb(reply);
-    Ok(moved)
+    Ok(Moved { task, parks })
 }
 
-/// The machine of a volume after the answer.
-fn moved_volume(
-    alloc: Global,
-    op: &VolumeGuardOp,
-    reply: &Reply,
-) -> Result<VolumeGuardOp, OutOfMemory>
-    ensures { IfOk result (λ moved. moved ≡ volume_moved op.now reply.now) }
+/// The machine of a claim after the answer. It takes no memory.
+fn moved_claim(mut op: ClaimGuardOp, reply: &Reply) -> Moved
+    ensures task { result.task ≡ task_moved (tasks.ClaimProtect op) reply.now }
+    ensures parks { result.parks ≡ task_parks (tasks.ClaimProtect op) reply.now }
 {
-    let volume = op.volume.copy(alloc)?;
-    let mut moved = VolumeGuardOp {
-        volume,
-        step: op.step,
-    };
-    moved.absorb(reply);
-    Ok(moved)
-}
-
-/// Whether the key of a claim's machine is parked after the answer. It takes no memory.
-#[tactic(auto, unfolding(protect_sync::specs::ClaimGuards::claim_moved))]
-fn claim_parks(op: &ClaimGuardOp, reply: &Reply) -> bool
-    ensures { result ≡ claim_parks (claim_moved op.now reply.now).step }
-{
-    match (op.step, reply) {
-        (ClaimGuardStep::Done, _) => false,
-        (ClaimGuardStep::Parked, _) | (_, Reply::Refused(_)) => true,
-        _ => false,
+    op.absorb(reply);
+    let parks = op.parks();
+    Moved {
+        task: Some(Task::ClaimProtect(op)),
+        parks,
     }
 }
 
-/// Whether the key of a volume's machine is parked after the answer. It takes no memory.
-#[tactic(auto, unfolding(protect_sync::specs::VolumeGuards::volume_moved))]
-fn volume_parks(op: &VolumeGuardOp, reply: &Reply) -> bool
-    ensures { result ≡ volume_parks (volume_moved op.now reply.now).step }
+/// The machine of a volume after the answer. It takes no memory.
+fn moved_volume(mut op: VolumeGuardOp, reply: &Reply) -> Moved
+    ensures task { result.task ≡ task_moved (tasks.VolumeProtect op) reply.now }
+    ensures parks { result.parks ≡ task_parks (tasks.VolumeProtect op) reply.now }
 {
-    match (op.step, reply) {
-        (VolumeGuardStep::Done, _) => false,
-        (VolumeGuardStep::Parked, _) | (_, Reply::Refused(_)) => true,
-        _ => false,
+    op.absorb(reply);
+    let parks = op.parks();
+    Moved {
+        task: Some(Task::VolumeProtect(op)),
+        parks,
     }
+}
+
+/// The machine of a pod after the answer.
+fn moved_agent(alloc: Global, mut op: AgentOp, reply: &Reply) -> Result<Moved, OutOfMemory>
+    ensures task { IfOk result (λ moved. moved.task ≡ task_moved (tasks.Agent op) reply.now) }
+    ensures parks { IfOk result (λ moved. moved.parks ≡ task_parks (tasks.Agent op) reply.now) }
+{
+    op.absorb(alloc, reply)?;
+    let parks = op.parks();
+    Ok(Moved {
+        task: Some(Task::Agent(op)),
+        parks,
+    })
 }
 
 /// The binder's decision on a key.
@@ -203,6 +203,23 @@ pub(crate) fn first_of_volumes<L: Lookup>(
     }
 }
 
+/// A node agent's decision on a key, by its epoch and the mounts that it was told last.
+pub(crate) fn first_of_agent<L: Lookup>(
+    alloc: Global,
+    lookup: &L,
+    node: &Text,
+    epoch: u64,
+    mounts: &[MountRow],
+    key: &Key,
+) -> Result<First, OutOfMemory>
+    ensures { IfOk result (λ first. first ≡ agent_first (agent_begins node.now epoch mounts.now (row_at key.now (L.rows lookup.now)))) }
+{
+    match decide_pod(alloc, lookup, node, epoch, mounts, key)? {
+        None => Ok(First::Drops),
+        Some(op) => Ok(First::Begins(Task::Agent(op))),
+    }
+}
+
 /// The task with its next call, where it has one.
 pub(crate) fn with_call(alloc: Global, key: &Key, task: Task) -> Result<Option<Under>, OutOfMemory>
     ensures { IfOk result (λ next. next ≡ with_call key.now task (task_call task)) }
@@ -217,14 +234,12 @@ pub(crate) fn with_call(alloc: Global, key: &Key, task: Task) -> Result<Option<U
     }
 }
 
-impl Under {
-    /// The task after the answer to its call, where it has a next call.
-    pub(crate) fn after(&self, alloc: Global, reply: &Reply) -> Result<Option<Under>, OutOfMemory>
-        ensures { IfOk result (λ next. next ≡ under_after self.now reply.now) }
-    {
-        match self.task.absorb(alloc, reply)? {
-            None => Ok(None),
-            Some(task) => with_call(alloc, &self.key, task),
-        }
+/// What is under way for the key after an answer that made this of its task.
+pub(crate) fn with_task(alloc: Global, key: &Key, task: Option<Task>) -> Result<Option<Under>, OutOfMemory>
+    ensures { IfOk result (λ next. next ≡ with_task key.now task) }
+{
+    match task {
+        None => Ok(None),
+        Some(task) => with_call(alloc, key, task),
     }
 }

@@ -4,6 +4,7 @@ use Rattle.call_types.specs.declared.entry.Entry.{Entry}
 use Rattle.call_types.specs.declared.request.SeatKind.{SeatKind}
 use Rattle.call_types.specs.declared.request.SeatKind.TheVariants as seats
 use Rattle.binder_machines.specs.Evidence.{Keeps}
+use Rattle.node_agent.specs.Evidence.{AgentKeeps}
 use Rattle.protect_sync.specs.Evidence.{ClaimKeeps, VolumeKeeps}
 use Rattle.worker_core.specs.declared.task.Task.{Task}
 use Rattle.worker_core.specs.declared.task.Task.TheVariants as tasks
@@ -12,9 +13,11 @@ abbrev pub TaskKeeps : Task → List Entry → Type 0
 TaskKeeps (tasks.Binder machine) mine = Keeps machine mine
 TaskKeeps (tasks.ClaimProtect op) mine = ClaimKeeps op mine
 TaskKeeps (tasks.VolumeProtect op) mine = VolumeKeeps op mine
+TaskKeeps (tasks.Agent op) mine = AgentKeeps op mine
 
 -- the kind of actor whose machine it is
 abbrev pub task_kind : Task → SeatKind
 task_kind (tasks.Binder machine) = seats.Binder
 task_kind (tasks.ClaimProtect op) = seats.ClaimProtect
 task_kind (tasks.VolumeProtect op) = seats.VolumeProtect
+task_kind (tasks.Agent op) = seats.Agent
