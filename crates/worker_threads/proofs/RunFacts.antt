@@ -114,6 +114,10 @@ told_role s caches request reply = by s.given
     by (Some givens.Start) = refl
     by (Some (givens.Read kind)) = refl
 
+-- nor does a call with its answer
+pub still_role : (s given after : State) (answer : Next) (request : Request) (reply : Reply) → IsTurn s given answer → after ≡ absorbed given after.caches request (Told reply) → after.role ≡ s.role
+still_role s given after answer request reply turn state = ap (λ (t : State). t.role) state ∙ told_role given after.caches request reply ∙ turn_role s given answer turn
+
 pub turn_kind : (kind : SeatKind) (s given : State) (answer : Next) → kind ≡ s.role.kind → IsTurn s given answer → kind ≡ given.role.kind
 turn_kind kind s given answer is turn = is ∙ ap (λ (r : Role). r.kind) (sym (turn_role s given answer turn))
 
@@ -136,11 +140,11 @@ stands_on given after setup h past seat e is of_seat history absorbs stands =
     let mine : AreOwn (e ∷ own seat h) = record { setup = setup; past = past; seat = seat; history = history; own = sym front } in
     subst (λ m. StandsFor after m) (sym front) (absorbs (own seat h) mine stands)
 
--- a woken actor that has a call left makes one
-pub ran_busy : {E : Type 0} (seat : ℕ) (after s : State) (past h : List Entry) (b : ℕ) (r : Result Ran E) → IfOk r (λ (ran : Ran). Runs seat after past ran.left ran.idle s h b)
-    → WokenIsBusy s → s.memory.stale ≡ false → IfOk r (λ (ran : Ran). 0 < b → ran.left < b)
-ran_busy seat after s past h b (Ok ran) runs busy fresh = run_busy seat after past ran.left ran.idle s h b runs busy fresh
-ran_busy seat after s past h b (Err e) runs busy fresh = tt
+-- a woken actor that has a call left makes one, where its epoch is not stale
+pub busy_where : {E X : Type 0} (seat : ℕ) (after s : State) (past h : List Entry) (b : ℕ) (r : Result Ran E) → IfOk r (λ (ran : Ran). Runs seat after past ran.left ran.idle s h b)
+    → WokenIsBusy s → (X → s.memory.stale ≡ false) → IfOk r (λ (ran : Ran). X → 0 < b → ran.left < b)
+busy_where seat after s past h b (Ok ran) runs busy fresh = λ x. run_busy seat after past ran.left ran.idle s h b runs busy (fresh x)
+busy_where seat after s past h b (Err e) runs busy fresh = tt
 
 -- a call that an actor gave is one more of an actor
 pub by_actor : (given : State) (h past : List Entry) (e : Entry) → past ≡ e ∷ h → IsBuiltKind given.role.kind → e.kind ≡ given.role.kind → StandsFor given (own e.seat h) → asked given ≡ Some e.request → AreByActors h → AreByActors past
@@ -153,4 +157,4 @@ by_actor given h past e is built kind stands asks before = subst AreByActors (sy
     by seats.User same built = absurd built
     by seats.Ops same built = absurd built
     by seats.Scheduler same built = absurd built
-    by seats.Agent same built = absurd built
+    by seats.Agent same built = tt

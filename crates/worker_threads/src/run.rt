@@ -38,6 +38,7 @@ pub(crate) fn run(
     ensures runs { IfOk result (λ ran. Runs seat actor.new world.new.past ran.left ran.idle actor.old world.old.past budget) }
     ensures stands { OnOk result (StandsFor actor.new (own seat world.new.past)) }
     ensures idle { IfOk result (λ ran. ran.idle ≡ true → MayBeIdle actor.new.role actor.new.memory (own seat world.new.past)) }
+    ensures role { OnOk result (actor.new.role ≡ actor.old.role) }
     ensures grown { HasGrown (seat ∷ []) world.old.past world.new.past }
     ensures actors { AreByActors world.old.past → AreByActors world.new.past }
     ensures setup { world.new.setup ≡ world.old.setup }
