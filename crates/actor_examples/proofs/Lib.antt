@@ -1,2 +1,3 @@
 pub mod Computed
+mod NodeAgents
 mod Protected

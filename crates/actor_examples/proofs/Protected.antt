@@ -58,4 +58,4 @@ moves = record {
 }
 
 pub built_kinds : BuiltKindExamples
-built_kinds = record { binder = tt; claim_protection = tt; volume_protection = tt; user_is_none = λ h. h; agent_is_not_yet = λ h. h }
+built_kinds = record { binder = tt; claim_protection = tt; volume_protection = tt; user_is_none = λ h. h; node_agent = tt; scheduler_is_not_yet = λ h. h }

@@ -1,3 +1,4 @@
 pub mod Memories
 pub mod News
+pub mod NodeAgents
 pub mod Protection

@@ -94,4 +94,5 @@ pub record BuiltKindExamples : Type 0 where
   pub claim_protection : IsBuiltKind seats.ClaimProtect
   pub volume_protection : IsBuiltKind seats.VolumeProtect
   pub user_is_none : IsBuiltKind seats.User → ⊥
-  pub agent_is_not_yet : IsBuiltKind seats.Agent → ⊥
+  pub node_agent : IsBuiltKind seats.Agent
+  pub scheduler_is_not_yet : IsBuiltKind seats.Scheduler → ⊥

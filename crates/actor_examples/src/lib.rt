@@ -1,11 +1,12 @@
 //! Computed examples of what an actor stands for: kinds without news, passes, and what agents and schedulers remember; and
-//! of what the protection controllers decide and go on with.
+//! of what the protection controllers and the node agents decide and go on with, how an agent starts, and when it is silent.
 //!
 //! Each is a function with nothing to do, whose contract has the examples.
 #![tactic(auto)]
 
 ghost use Rattle.actor_examples.specs.Memories.{AgentExamples, SchedulerExamples};
 ghost use Rattle.actor_examples.specs.News.{NewsExamples, PassExamples};
+ghost use Rattle.actor_examples.specs.NodeAgents.{AgentDecisionExamples, AgentMoveExamples, AgentSilenceExamples, AgentStartExamples};
 ghost use Rattle.actor_examples.specs.Protection.{BuiltKindExamples, ProtectionDecisionExamples, ProtectionMoveExamples};
 
 /// What the entries tell of a kind's news.
@@ -21,6 +22,26 @@ pub fn pass_examples()
 /// What an agent remembers of its node.
 pub fn agent_examples()
     ensures { AgentExamples }
+{}
+
+/// With which calls an agent starts.
+pub fn agent_start_examples()
+    ensures { AgentStartExamples }
+{}
+
+/// What an agent decides on a key, by what it remembers.
+pub fn agent_decision_examples()
+    ensures { AgentDecisionExamples }
+{}
+
+/// What an answer makes of what an agent has under way.
+pub fn agent_move_examples()
+    ensures { AgentMoveExamples }
+{}
+
+/// An agent that was told that its epoch is stale asks nothing.
+pub fn agent_silence_examples()
+    ensures { AgentSilenceExamples }
 {}
 
 /// Which nodes a scheduler remembers as refused.

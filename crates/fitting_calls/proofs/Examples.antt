@@ -1,5 +1,5 @@
 -- What a binder asks, computed.
-use Rattle.std.proofs.Common.{refl, true≢false}
+use Rattle.std.proofs.Common.{refl, true≢false, arith}
 use Rattle.std.specs.Prelude.{◌≡◌, []}
 use Rattle.kube_types.specs.declared.parts.Kind.{Kind}
 use Rattle.kube_types.specs.declared.parts.Kind.TheVariants as kinds
@@ -37,8 +37,9 @@ new_stands = record {
   pass = λ quiet. absurd (true≢false quiet);
   memory = refl;
   licensed = tt;
-  own = record { setup = no_setup; past = []; seat = 5; history = tt; own = refl };
-  given = (refl, refl);
+  own = record { setup = no_setup; past = []; seat = 5; imports = tt; short = omega arith; history = tt; own = refl };
+  start = tt;
+  given = (refl, refl, refl);
 }
 
 lists_it : IsAsked [] list_volumes

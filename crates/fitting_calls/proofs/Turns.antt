@@ -35,6 +35,8 @@ use Rattle.worker_core.specs.Steps.Evidence.{TaskKeeps, task_kind}
 use Rattle.worker_core.specs.Tasks.{IsDecision, IsFirstOf, task_call, task_moved, under_after, with_call, with_task}
 use Rattle.worker_core.specs.Turns.{AfterKeys, IsTurn, TurnBy, passing, unlisted}
 use Rattle.worker_core.proofs.Machines.{KeepsUnder, keeps_under}
+use Rattle.worker_core.proofs.Owning.{Stood, stood, stood_before}
+use Rattle.node_agent.specs.Agents.{agent_moved}
 use Rattle.protect_sync.specs.ClaimGuards.{claim_moved}
 use Rattle.protect_sync.specs.VolumeGuards.{volume_moved}
 use Rattle.fitting_law.specs.Fitting.{GivesFitting, GivesSo}
@@ -87,11 +89,13 @@ TaskSuits task = ⊤
 task_begins : (role : Role) (memory : Memory) (rows : List Object) (key : Key) (t : Task) → role.kind ≡ Binder → IsDecision role memory rows key (firsts.Begins t) → TaskSuits t
 task_begins role memory rows key (tasks.ClaimProtect op) is first = tt
 task_begins role memory rows key (tasks.VolumeProtect op) is first = tt
-task_begins role memory rows key (tasks.Binder m) is first = begun_suits rows _ m (subst (λ k. IsFirstOf k rows key (firsts.Begins (tasks.Binder m))) is first)
+task_begins role memory rows key (tasks.Agent op) is first = tt
+task_begins role memory rows key (tasks.Binder m) is first = begun_suits rows _ m (subst (λ k. IsFirstOf k role.node memory rows key (firsts.Begins (tasks.Binder m))) is first)
 
 task_goes : (t next : Task) (e : Entry) (before : List Entry) → IsAnswered e before → TaskKeeps t before → task_call t ≡ Some e.request → task_moved t e.reply ≡ Some next → TaskSuits next
 task_goes (tasks.ClaimProtect op) next e before a kept call is = subst TaskSuits (one (tasks.ClaimProtect (claim_moved op e.reply)) next is) tt
 task_goes (tasks.VolumeProtect op) next e before a kept call is = subst TaskSuits (one (tasks.VolumeProtect (volume_moved op e.reply)) next is) tt
+task_goes (tasks.Agent op) next e before a kept call is = subst TaskSuits (one (tasks.Agent (agent_moved op e.reply)) next is) tt
 task_goes (tasks.Binder m) next e before a kept call is = by (binder.moved m e.reply) refl is
   where
     by : (x : Option Machine) → binder.moved m e.reply ≡ x → option_map (λ k. tasks.Binder k) x ≡ Some next → TaskSuits next
@@ -109,11 +113,12 @@ under_goes role u next e before a kept asked is = by_task (task_moved u.task e.r
     by_task None at h = none_some h
     by_task (Some t) at h = by_call t (task_call t) (task_goes u.task t e before a kept.keeps (kept.call ∙ ap (λ r. Some r) (sym asked)) at) h
 
-under_suits : (role : Role) (u : Under) (mine : List Entry) → role.kind ≡ Binder → AreOwn mine → IsUnderWay role u mine → TaskSuits u.task
+under_suits : (role : Role) (u : Under) (mine : List Entry) → role.kind ≡ Binder → Stood role mine → IsUnderWay role u mine → TaskSuits u.task
 under_suits role u mine is o (Begun c stand order gives) = task_begins role (memory_of role mine) (all_objects c) u.key u.task is gives.decided
 under_suits role u mine is o (WentOn before e past split way told asked moves) =
-    let a = answered_of e past (subst AreOwn split o) in
-    under_goes role before u e past a (keeps_under role before past way) asked moves
+    let a = answered_of e past (subst AreOwn split o.own) in
+    let before_stood = stood_before role e past (subst (Stood role) split o) in
+    under_goes role before u e past a (keeps_under role before past before_stood way) asked moves
 
 -- the call that was given
 
@@ -126,12 +131,13 @@ task_gives : (t : Task) (mine : List Entry) (r : Request) → task_kind t ≡ Bi
 task_gives (tasks.Binder m) mine r of_kind kept suits call = call_gives m mine r kept suits call
 task_gives (tasks.ClaimProtect op) mine r of_kind kept suits call = absurd (true≢false (sym (ap is_binder of_kind)))
 task_gives (tasks.VolumeProtect op) mine r of_kind kept suits call = absurd (true≢false (sym (ap is_binder of_kind)))
+task_gives (tasks.Agent op) mine r of_kind kept suits call = absurd (true≢false (sym (ap is_binder of_kind)))
 
-under_gives : (role : Role) (under : Option Under) (mine : List Entry) (r : Request) → role.kind ≡ Binder → AreOwn mine → AnyIsUnderWay role under mine
+under_gives : (role : Role) (under : Option Under) (mine : List Entry) (r : Request) → role.kind ≡ Binder → Stood role mine → AnyIsUnderWay role under mine
     → option_map call_under under ≡ Some r → GivesSo mine r
 under_gives role None mine r is o way e = none_some e
 under_gives role (Some u) mine r is o way e =
-    let k = keeps_under role u mine way in
+    let k = keeps_under role u mine o way in
     task_gives u.task mine r (k.of_kind ∙ is) k.keeps (under_suits role u mine is o way) (k.call ∙ e)
 
 read_gives : (kind : Kind) (a : Ask) (mine : List Entry) → GivesSo mine (read_request kind a)
@@ -143,7 +149,7 @@ asked_gives s mine r is stands = by s.given
   where
     by : (g : Option Given) → given_call s g ≡ Some r → GivesSo mine r
     by None e = none_some e
-    by (Some givens.Task) e = under_gives s.role s.under mine r is stands.own stands.under_way e
+    by (Some givens.Task) e = under_gives s.role s.under mine r is (stood s mine stands) stands.under_way e
     by (Some givens.Start) e = none_some (sym (ap (λ k. start_of k s.role.node s.memory) is) ∙ e)
     by (Some (givens.Read kind)) e = subst (λ q. GivesSo mine q) (one _ r e) (read_gives kind (ask_of (cache_of kind s.caches)) mine)
 

@@ -24,13 +24,14 @@ use Rattle.worker_core.specs.Absorbs.{absorbed, given_told, is_passing, learned,
 use Rattle.worker_core.specs.Memories.{memory_after, memory_of}
 use Rattle.binder_machines.specs.KindLaw.{reads_kind}
 use Rattle.worker_core.specs.Roles.{IsBuiltKind}
-use Rattle.worker_core.specs.Stands.{AnyIsUnderWay, AreLicensed, AreOwn, GivenStands, IsUnderWay, PassStands, StandsFor, WentOn}
+use Rattle.worker_core.specs.Stands.{AnyIsUnderWay, AreLicensed, AreOwn, GivenStands, IsUnderWay, PassStands, StandsFor, StartsSo, WentOn}
 use Rattle.worker_core.specs.States.{State, asked, call_under, given_call, read_request}
 use Rattle.worker_core.specs.Tasks.{under_after}
 use Rattle.worker_core.specs.Turns.{passing}
 use Rattle.worker_core.proofs.ByKind.{start_reads_none}
 use Rattle.worker_core.proofs.Licensed.{licensed}
-use Rattle.worker_core.proofs.Machines.{keeps_under, task_reads_none}
+use Rattle.worker_core.proofs.Machines.{task_reads_none, under_calls}
+use Rattle.worker_core.proofs.Starts.{starts_on}
 use Rattle.worker_core.proofs.Passes.{kept_pass, list_pass, untold_pass, watch_pass}
 
 -- what is under way
@@ -43,7 +44,7 @@ goes_on role u mine e reply way call told answered = by (under_after u reply) re
     by (Some next) is = WentOn u e mine refl way told (sym call) (ap (under_after u) answered ∙ is)
 
 call_reads_none : (role : Role) (u : Under) (mine : List Entry) (e : Entry) → IsUnderWay role u mine → u.call ≡ e.request → (kind : Kind) → reads_kind kind e.request ≡ false
-call_reads_none role u mine e way call kind = task_reads_none u.task e.request kind ((keeps_under role u mine way).call ∙ ap Some call)
+call_reads_none role u mine e way call kind = task_reads_none u.task e.request kind (under_calls role u mine way ∙ ap Some call)
 
 -- the memory
 
@@ -72,6 +73,9 @@ module _ (s : State) (mine : List Entry) (e : Entry) (request : Request) (built 
   all_licensed : AreLicensed s.role.kind (e ∷ mine)
   all_licensed = (stands.licensed, kind, subst (λ r. Licensed s.role.kind mine r) (sym asks_it) (licensed s mine request built stands ask))
 
+  starts : StartsSo s.role.kind s.role.node (e ∷ mine)
+  starts = starts_on s mine e stands (ask ∙ ap Some (sym asks_it))
+
   pub told_stands : (caches : AllKnown) (reply : Reply) → IsTold e request reply → AllStandFor caches (e ∷ mine) → StandsFor (told_to s caches request reply) (e ∷ mine)
   told_stands caches reply is after = by s.given stands.given refl
     where
@@ -89,6 +93,7 @@ module _ (s : State) (mine : List Entry) (e : Entry) (request : Request) (built 
             memory = memory;
             licensed = all_licensed;
             own = own;
+            start = starts;
             given = tt;
           }
 
@@ -105,7 +110,7 @@ module _ (s : State) (mine : List Entry) (e : Entry) (request : Request) (built 
           subst (λ q. PassStands s.role (pass_after s.pass (is_passing (passing s) k) q reply) (e ∷ mine)) r
           (watch_pass s.role s.pass mine e stands.pass k from is.told (asks_it ∙ sym r) reply is.answered)
 
-      by : (g : Option Given) → GivenStands s.role g s.under → s.given ≡ g → StandsFor (given_told (learned s caches request reply) request reply g) (e ∷ mine)
+      by : (g : Option Given) → GivenStands s.role s.memory g s.under → s.given ≡ g → StandsFor (given_told (learned s caches request reply) request reply g) (e ∷ mine)
       by None f eg = none_some (ap (given_call s) (sym eg) ∙ ask)
       by (Some givens.Task) f eg = under s.under refl stands.under_way (ap (given_call s) (sym eg) ∙ ask)
       by (Some givens.Start) f eg = record {
@@ -115,6 +120,7 @@ module _ (s : State) (mine : List Entry) (e : Entry) (request : Request) (built 
         memory = memory;
         licensed = all_licensed;
         own = own;
+        start = starts;
         given = tt;
       }
       by (Some (givens.Read k)) f eg = record {
@@ -124,6 +130,7 @@ module _ (s : State) (mine : List Entry) (e : Entry) (request : Request) (built 
         memory = memory;
         licensed = all_licensed;
         own = own;
+        start = starts;
         given = tt;
       }
 
@@ -139,12 +146,12 @@ module _ (s : State) (mine : List Entry) (e : Entry) (request : Request) (built 
     where
       under : (u : Option Under) → s.under ≡ u → option_map call_under u ≡ Some request → StandsFor (lost_under s u) (e ∷ mine)
       under None eu c = none_some c
-      under (Some u) eu c = record { caches = quiet_caches lost; under_way = tt; pass = untold_pass s.role s.pass mine e stands.pass lost; memory = untold_memory s mine e stands.memory lost; licensed = all_licensed; own = own; given = tt }
+      under (Some u) eu c = record { caches = quiet_caches lost; under_way = tt; pass = untold_pass s.role s.pass mine e stands.pass lost; memory = untold_memory s mine e stands.memory lost; licensed = all_licensed; own = own; start = starts; given = tt }
 
       rest : s.under ≡ None → StandsFor (record s { given = None }) (e ∷ mine)
-      rest none = record { caches = quiet_caches lost; under_way = subst (λ u. AnyIsUnderWay s.role u (e ∷ mine)) (sym none) tt; pass = untold_pass s.role s.pass mine e stands.pass lost; memory = untold_memory s mine e stands.memory lost; licensed = all_licensed; own = own; given = tt }
+      rest none = record { caches = quiet_caches lost; under_way = subst (λ u. AnyIsUnderWay s.role u (e ∷ mine)) (sym none) tt; pass = untold_pass s.role s.pass mine e stands.pass lost; memory = untold_memory s mine e stands.memory lost; licensed = all_licensed; own = own; start = starts; given = tt }
 
-      by : (g : Option Given) → GivenStands s.role g s.under → s.given ≡ g → StandsFor (lost_given s g) (e ∷ mine)
+      by : (g : Option Given) → GivenStands s.role s.memory g s.under → s.given ≡ g → StandsFor (lost_given s g) (e ∷ mine)
       by None f eg = none_some (ap (given_call s) (sym eg) ∙ ask)
       by (Some givens.Task) f eg = under s.under refl (ap (given_call s) (sym eg) ∙ ask)
       by (Some givens.Start) f eg = rest f
@@ -154,11 +161,11 @@ pub lost_before : (s : State) (mine : List Entry) → StandsFor s mine → Stand
 lost_before s mine stands = by s.given
   where
     rest : StandsFor (record s { given = None }) mine
-    rest = record { caches = stands.caches; under_way = stands.under_way; pass = stands.pass; memory = stands.memory; licensed = stands.licensed; own = stands.own; given = tt }
+    rest = record { caches = stands.caches; under_way = stands.under_way; pass = stands.pass; memory = stands.memory; licensed = stands.licensed; own = stands.own; start = stands.start; given = tt }
 
     under : (u : Option Under) → StandsFor (lost_under s u) mine
     under None = rest
-    under (Some u) = record { caches = stands.caches; under_way = tt; pass = stands.pass; memory = stands.memory; licensed = stands.licensed; own = stands.own; given = tt }
+    under (Some u) = record { caches = stands.caches; under_way = tt; pass = stands.pass; memory = stands.memory; licensed = stands.licensed; own = stands.own; start = stands.start; given = tt }
 
     by : (g : Option Given) → StandsFor (lost_given s g) mine
     by (Some givens.Task) = under s.under
@@ -167,7 +174,7 @@ lost_before s mine stands = by s.given
     by None = rest
 
 pub woken_stands : (s : State) (mine : List Entry) → StandsFor s mine → StandsFor (woken s) mine
-woken_stands s mine stands = record { caches = stands.caches; under_way = stands.under_way; pass = λ quiet place kind lt. absurd (omega (arith, lt)); memory = stands.memory; licensed = stands.licensed; own = stands.own; given = stands.given }
+woken_stands s mine stands = record { caches = stands.caches; under_way = stands.under_way; pass = λ quiet place kind lt. absurd (omega (arith, lt)); memory = stands.memory; licensed = stands.licensed; own = stands.own; start = stands.start; given = stands.given }
 
 -- answers of functions
 

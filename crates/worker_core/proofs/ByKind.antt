@@ -1,6 +1,6 @@
 -- What holds by the kind of the actor: its start, what it remembers, the kinds that it follows, and the row of its licence.
 use Rattle.std.proofs.Common.{◌≡◌, ◌≢◌, ℕ, ◌<◌, List, [], ◌∷◌, length, Bool, true, false, true≢false, Option, Some, None, refl, sym, ◌∙◌, ap, subst, arith, if◌then◌else◌}
-use Rattle.std.specs.Prelude.{slice_get}
+use Rattle.std.specs.Prelude.{is_some, slice_get, ⊤}
 use Rattle.kube_types.specs.declared.parts.Kind.{Kind}
 use Rattle.kube_types.specs.declared.parts.Kind.TheVariants as kinds
 use Rattle.call_types.specs.declared.entry.Entry.{Entry}
@@ -10,13 +10,15 @@ use Rattle.call_types.specs.declared.request.SeatKind.{SeatKind}
 use Rattle.call_types.specs.declared.request.SeatKind.TheVariants as seats
 use Rattle.call_types.specs.declared.reply.Reply.{Reply}
 use Rattle.binder_machines.specs.KindLaw.{reads_kind}
+use Rattle.binder_model.specs.AgentLicence.{epoch_told, last_epoch}
 use Rattle.binder_model.specs.Licence.{AreOfKind, Licensed, RowAllows}
 use Rattle.binder_model.specs.Reading.{IsFrom, MayRead, following_of, follows}
+use Rattle.binder_model.specs.Told.{first_some}
 use Rattle.informer_cache.specs.declared.cache.Ask.{Ask}
 use Rattle.informer_cache.specs.declared.cache.Ask.TheVariants as asks
 use Rattle.model_laws.proofs.Lists.{none_some, one}
 use Rattle.worker_core.specs.declared.role.Role.{Role}
-use Rattle.worker_core.specs.Memories.{Memory, memory_after, memory_of, no_memory, remembers}
+use Rattle.worker_core.specs.Memories.{Memory, agent_remembers, memory_after, memory_of, no_memory, remembers}
 use Rattle.worker_core.specs.Roles.{IsBuiltKind, kinds_of}
 use Rattle.worker_core.specs.Stands.{StandsFor}
 use Rattle.worker_core.specs.States.{State, agent_start, read_request, start_of}
@@ -27,15 +29,51 @@ no_user kind built is = subst IsBuiltKind is built
 
 -- the start
 
--- a call of the start that is to be made is allowed. No kind that is built has one
-pub start_allowed : (kind : SeatKind) (node : List ℕ) (m : Memory) (mine : List Entry) (r : Request) → IsBuiltKind kind → start_of kind node m ≡ Some r → RowAllows kind mine r
-start_allowed seats.Binder node m mine r built e = none_some e
-start_allowed seats.ClaimProtect node m mine r built e = none_some e
-start_allowed seats.VolumeProtect node m mine r built e = none_some e
-start_allowed seats.User node m mine r built e = absurd built
-start_allowed seats.Ops node m mine r built e = absurd built
-start_allowed seats.Scheduler node m mine r built e = absurd built
-start_allowed seats.Agent node m mine r built e = absurd built
+-- the epoch that an agent remembers is the last that it was told
+
+abbrev pub EpochStands : SeatKind → List ℕ → Memory → List Entry → Type 0
+EpochStands seats.Agent node m mine = m.epoch ≡ last_epoch node mine
+EpochStands _ node m mine = ⊤
+
+agent_epoch : (node : List ℕ) (mine : List Entry) → (memory_of (record { kind = seats.Agent; node = node }) mine).epoch ≡ last_epoch node mine
+agent_epoch node [] = refl
+agent_epoch node (e ∷ mine) = by e.told (agent_epoch node mine)
+  where
+    before : Memory
+    before = memory_of (record { kind = seats.Agent; node = node }) mine
+
+    by : (told : Bool) → before.epoch ≡ last_epoch node mine
+        → (if told then agent_remembers node e.request e.reply before else before).epoch ≡ first_some (if told then epoch_told node e.request e.reply else None) (last_epoch node mine)
+    by true h = ap (first_some (epoch_told node e.request e.reply)) h
+    by false h = h
+
+epoch_by : (kind : SeatKind) (node : List ℕ) (mine : List Entry) → EpochStands kind node (memory_of (record { kind = kind; node = node }) mine) mine
+epoch_by seats.Agent node mine = agent_epoch node mine
+epoch_by seats.User node mine = tt
+epoch_by seats.Binder node mine = tt
+epoch_by seats.Ops node mine = tt
+epoch_by seats.Scheduler node mine = tt
+epoch_by seats.ClaimProtect node mine = tt
+epoch_by seats.VolumeProtect node mine = tt
+
+pub epoch_stands : (role : Role) (mine : List Entry) → EpochStands role.kind role.node (memory_of role mine) mine
+epoch_stands role mine = epoch_by role.kind role.node mine
+
+-- a call of the start that is to be made is allowed
+
+agent_start_allowed : (node : List ℕ) (epoch : Option ℕ) (told : Bool) (mine : List Entry) (r : Request) → epoch ≡ last_epoch node mine → agent_start node epoch told ≡ Some r → RowAllows seats.Agent mine r
+agent_start_allowed node None told mine r is e = subst (RowAllows seats.Agent mine) (one (requests.TakeNode node) r e) tt
+agent_start_allowed node (Some epoch) false mine r is e = subst (RowAllows seats.Agent mine) (one (requests.Mounts node epoch) r e) (sym is)
+agent_start_allowed node (Some epoch) true mine r is e = none_some e
+
+pub start_allowed : (kind : SeatKind) (node : List ℕ) (m : Memory) (mine : List Entry) (r : Request) → IsBuiltKind kind → EpochStands kind node m mine → start_of kind node m ≡ Some r → RowAllows kind mine r
+start_allowed seats.Binder node m mine r built is e = none_some e
+start_allowed seats.ClaimProtect node m mine r built is e = none_some e
+start_allowed seats.VolumeProtect node m mine r built is e = none_some e
+start_allowed seats.Agent node m mine r built is e = agent_start_allowed node m.epoch (is_some m.mounts) mine r is e
+start_allowed seats.User node m mine r built is e = absurd built
+start_allowed seats.Ops node m mine r built is e = absurd built
+start_allowed seats.Scheduler node m mine r built is e = absurd built
 
 agent_reads_none : (node : List ℕ) (epoch : Option ℕ) (told : Bool) (r : Request) (k : Kind) → agent_start node epoch told ≡ Some r → reads_kind k r ≡ false
 agent_reads_none node None told r k e = ap (reads_kind k) (sym (one _ r e))
@@ -52,37 +90,28 @@ start_reads_none seats.User node m r k e = none_some e
 start_reads_none seats.Ops node m r k e = none_some e
 start_reads_none seats.Scheduler node m r k e = none_some e
 
--- what the kinds that are built remember
+-- what the kinds that are built remember: all but an agent nothing
 
-pub starts_fresh : (kind : SeatKind) (node : List ℕ) → IsBuiltKind kind → start_of kind node no_memory ≡ None
-starts_fresh seats.Binder node built = refl
-starts_fresh seats.ClaimProtect node built = refl
-starts_fresh seats.VolumeProtect node built = refl
-starts_fresh seats.User node built = absurd built
-starts_fresh seats.Ops node built = absurd built
-starts_fresh seats.Scheduler node built = absurd built
-starts_fresh seats.Agent node built = absurd built
+pub learns_nothing : (kind : SeatKind) (node : List ℕ) (request : Request) (reply : Reply) (m : Memory) → IsBuiltKind kind → kind ≢ seats.Agent → remembers kind node request reply m ≡ m
+learns_nothing seats.Binder node request reply m built other = refl
+learns_nothing seats.ClaimProtect node request reply m built other = refl
+learns_nothing seats.VolumeProtect node request reply m built other = refl
+learns_nothing seats.User node request reply m built other = absurd built
+learns_nothing seats.Ops node request reply m built other = absurd built
+learns_nothing seats.Scheduler node request reply m built other = absurd built
+learns_nothing seats.Agent node request reply m built other = absurd (other refl)
 
-pub learns_nothing : (kind : SeatKind) (node : List ℕ) (request : Request) (reply : Reply) (m : Memory) → IsBuiltKind kind → remembers kind node request reply m ≡ m
-learns_nothing seats.Binder node request reply m built = refl
-learns_nothing seats.ClaimProtect node request reply m built = refl
-learns_nothing seats.VolumeProtect node request reply m built = refl
-learns_nothing seats.User node request reply m built = absurd built
-learns_nothing seats.Ops node request reply m built = absurd built
-learns_nothing seats.Scheduler node request reply m built = absurd built
-learns_nothing seats.Agent node request reply m built = absurd built
-
-forgets : (role : Role) (mine : List Entry) → IsBuiltKind role.kind → memory_of role mine ≡ no_memory
-forgets role [] built = refl
-forgets role (e ∷ mine) built = by e.told (forgets role mine built)
+forgets : (role : Role) (mine : List Entry) → IsBuiltKind role.kind → role.kind ≢ seats.Agent → memory_of role mine ≡ no_memory
+forgets role [] built other = refl
+forgets role (e ∷ mine) built other = by e.told (forgets role mine built other)
   where
     by : (told : Bool) → memory_of role mine ≡ no_memory → (if told then memory_after role e.request e.reply (memory_of role mine) else memory_of role mine) ≡ no_memory
-    by true rest = learns_nothing role.kind role.node e.request e.reply (memory_of role mine) built ∙ rest
+    by true rest = learns_nothing role.kind role.node e.request e.reply (memory_of role mine) built other ∙ rest
     by false rest = rest
 
--- such an actor is never told that its epoch is stale
-pub built_fresh : (s : State) (mine : List Entry) → IsBuiltKind s.role.kind → StandsFor s mine → s.memory.stale ≡ false
-built_fresh s mine built stands = ap (λ (m : Memory). m.stale) (stands.memory ∙ forgets s.role mine built)
+-- an actor that is no agent is never told that its epoch is stale
+pub built_fresh : (s : State) (mine : List Entry) → IsBuiltKind s.role.kind → s.role.kind ≢ seats.Agent → StandsFor s mine → s.memory.stale ≡ false
+built_fresh s mine built other stands = ap (λ (m : Memory). m.stale) (stands.memory ∙ forgets s.role mine built other)
 
 -- the licence
 
@@ -119,7 +148,7 @@ watch_row seats.VolumeProtect mine k from built row = row.1
 watch_row seats.User mine k from built row = absurd built
 watch_row seats.Ops mine k from built row = absurd built
 watch_row seats.Scheduler mine k from built row = absurd built
-watch_row seats.Agent mine k from built row = absurd built
+watch_row seats.Agent mine k from built row = row.1
 
 pub watch_licensed : (kind : SeatKind) (mine : List Entry) (k : Kind) (from : ℕ) → IsBuiltKind kind → Licensed kind mine (requests.Watch k from) → IsFrom from (following_of mine k)
 watch_licensed seats.Binder mine k from built l = l.1.1
@@ -128,7 +157,7 @@ watch_licensed seats.VolumeProtect mine k from built l = l.1.1
 watch_licensed seats.User mine k from built l = absurd built
 watch_licensed seats.Ops mine k from built l = absurd built
 watch_licensed seats.Scheduler mine k from built l = absurd built
-watch_licensed seats.Agent mine k from built l = absurd built
+watch_licensed seats.Agent mine k from built l = l.1.1
 
 -- each kind that is followed has its place in a pass
 

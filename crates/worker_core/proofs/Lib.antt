@@ -1,4 +1,5 @@
 pub mod Absorbing
+pub mod AgentLaws
 pub mod Answered
 pub mod Begins
 pub mod ByKind
@@ -7,9 +8,11 @@ pub mod KeyMoves
 pub mod KeysKept
 pub mod Licensed
 pub mod Machines
+pub mod Owning
 pub mod PassRules
 pub mod Passes
 pub mod Quiet
+pub mod Starts
 pub mod Turned
 pub mod Turning
 pub mod Watches

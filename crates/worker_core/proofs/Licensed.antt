@@ -17,8 +17,9 @@ use Rattle.worker_core.specs.declared.turn.Given.TheVariants as givens
 use Rattle.worker_core.specs.Roles.{IsBuiltKind}
 use Rattle.worker_core.specs.Stands.{AnyIsUnderWay, AreLicensed, GivenStands, StandsFor}
 use Rattle.worker_core.specs.States.{State, asked, call_under, given_call, read_of_kind, read_request}
-use Rattle.worker_core.proofs.ByKind.{licensed_by, read_row, start_allowed}
+use Rattle.worker_core.proofs.ByKind.{EpochStands, epoch_stands, licensed_by, read_row, start_allowed}
 use Rattle.worker_core.proofs.Machines.{keeps_under, task_allowed}
+use Rattle.worker_core.proofs.Owning.{Stood, stood}
 
 pub all_of_kind : (kind : SeatKind) (mine : List Entry) → AreLicensed kind mine → AreOfKind kind mine
 all_of_kind kind [] l = tt
@@ -38,20 +39,21 @@ read_allowed seat c mine kind stand of =
     let from = (stand.each kind).from ∙ ap (λ k. watch_from (following_of mine k)) (stand.kinds kind) in
     read_row seat mine kind (ask_of (cache_of kind c)) (subst (λ f. MayRead seat mine (read_request kind (ask_from f))) (sym from) (read_licensed seat mine kind of))
 
-under_allowed : (role : Role) (under : Option Under) (mine : List Entry) (r : Request) → AreOfKind role.kind mine → AnyIsUnderWay role under mine → option_map call_under under ≡ Some r → RowAllows role.kind mine r
-under_allowed role None mine r own way e = none_some e
-under_allowed role (Some u) mine r own way e =
-    let k = keeps_under role u mine way in
+under_allowed : (role : Role) (under : Option Under) (mine : List Entry) (r : Request) → Stood role mine → AnyIsUnderWay role under mine → option_map call_under under ≡ Some r → RowAllows role.kind mine r
+under_allowed role None mine r stood way e = none_some e
+under_allowed role (Some u) mine r stood way e =
+    let k = keeps_under role u mine stood way in
+    let own : AreOfKind role.kind mine = all_of_kind role.kind mine stood.licensed in
     subst (λ kind. RowAllows kind mine r) k.of_kind (task_allowed u.task mine r (subst (λ kind. AreOfKind kind mine) (sym k.of_kind) own) k.keeps (k.call ∙ e))
 
 -- the call that was given is allowed
 pub given_allowed : (s : State) (mine : List Entry) (r : Request) → IsBuiltKind s.role.kind → StandsFor s mine → asked s ≡ Some r → RowAllows s.role.kind mine r
 given_allowed s mine r built stands = by s.given stands.given
   where
-    by : (g : Option Given) → GivenStands s.role g s.under → given_call s g ≡ Some r → RowAllows s.role.kind mine r
+    by : (g : Option Given) → GivenStands s.role s.memory g s.under → given_call s g ≡ Some r → RowAllows s.role.kind mine r
     by None f e = none_some e
-    by (Some givens.Task) f e = under_allowed s.role s.under mine r (all_of_kind s.role.kind mine stands.licensed) stands.under_way e
-    by (Some givens.Start) f e = start_allowed s.role.kind s.role.node s.memory mine r built e
+    by (Some givens.Task) f e = under_allowed s.role s.under mine r (stood s mine stands) stands.under_way e
+    by (Some givens.Start) f e = start_allowed s.role.kind s.role.node s.memory mine r built (subst (λ m. EpochStands s.role.kind s.role.node m mine) (sym stands.memory) (epoch_stands s.role mine)) e
     by (Some (givens.Read kind)) f e = subst (λ q. RowAllows s.role.kind mine q) (one _ r e) (read_allowed s.role.kind s.caches mine kind stands.caches f.0)
 
 pub licensed : (s : State) (mine : List Entry) (r : Request) → IsBuiltKind s.role.kind → StandsFor s mine → asked s ≡ Some r → Licensed s.role.kind mine r

@@ -60,34 +60,35 @@ decided_way role memory c mine stand order is after under w (Begins u old gives 
 decided_way role memory c mine stand order is after under w (Drops key first old none rest) = decided_way role memory c mine stand order is after under _ rest
 
 -- another call is given
-given_stands : (s : State) (mine : List Entry) (given : Option Given) → StandsFor s mine → GivenStands s.role given s.under → StandsFor (record s { given = given }) mine
-given_stands s mine given stands fits = record { caches = stands.caches; under_way = stands.under_way; pass = stands.pass; memory = stands.memory; licensed = stands.licensed; own = stands.own; given = fits }
+given_stands : (s : State) (mine : List Entry) (given : Option Given) → StandsFor s mine → GivenStands s.role s.memory given s.under → StandsFor (record s { given = given }) mine
+given_stands s mine given stands fits = record { caches = stands.caches; under_way = stands.under_way; pass = stands.pass; memory = stands.memory; licensed = stands.licensed; own = stands.own; start = stands.start; given = fits }
 
 pub turn_stands : (s new : State) (answer : Next) (mine : List Entry) → AreRows (all_objects s.caches) → StandsFor s mine → IsTurn s new answer → StandsFor new mine
-turn_stands s new answer mine order stands = by s.memory.stale s.under (start_call s.role s.memory) (unlisted s) (passing s) refl refl refl
+turn_stands s new answer mine order stands = by s.memory.stale s.under (start_call s.role s.memory) (unlisted s) (passing s) refl refl refl refl
   where
     follows_at : (place : ℕ) (kind : Kind) → kind_at s.role place ≡ Some kind → follows s.role.kind kind ≡ true
     follows_at place kind at = at_follows s.role.kind (kinds_of s.role.kind) place kind (kinds_follow s.role.kind) at
 
-    keys : (w : Work) (under : Option Under) → AnyIsUnderWay s.role under mine → s.under ≡ None → AfterKeys s new answer w under → StandsFor new mine
-    keys w (Some u) way none b = subst (λ x. StandsFor x mine) (sym b.state) (record { caches = stands.caches; under_way = way; pass = stands.pass; memory = stands.memory; licensed = stands.licensed; own = stands.own; given = tt })
-    keys w None way none (inl b) = subst (λ x. StandsFor x mine) (sym b.state) (record {
+    keys : (w : Work) (under : Option Under) → AnyIsUnderWay s.role under mine → s.under ≡ None → start_call s.role s.memory ≡ None → AfterKeys s new answer w under → StandsFor new mine
+    keys w (Some u) way none started b = subst (λ x. StandsFor x mine) (sym b.state) (record { caches = stands.caches; under_way = way; pass = stands.pass; memory = stands.memory; licensed = stands.licensed; own = stands.own; start = stands.start; given = tt })
+    keys w None way none started (inl b) = subst (λ x. StandsFor x mine) (sym b.state) (record {
       caches = stands.caches;
       under_way = stands.under_way;
       pass = λ q place kind lt. absurd (omega (arith, lt));
       memory = stands.memory;
       licensed = stands.licensed;
       own = stands.own;
-      given = (follows_at 0 b.kind b.first, none);
+      start = stands.start;
+      given = (follows_at 0 b.kind b.first, none, started);
     })
-    keys w None way none (inr b) = subst (λ x. StandsFor x mine) (sym b.state) (record { caches = stands.caches; under_way = stands.under_way; pass = stands.pass; memory = stands.memory; licensed = stands.licensed; own = stands.own; given = tt })
+    keys w None way none started (inr b) = subst (λ x. StandsFor x mine) (sym b.state) (record { caches = stands.caches; under_way = stands.under_way; pass = stands.pass; memory = stands.memory; licensed = stands.licensed; own = stands.own; start = stands.start; given = tt })
 
-    by : (stale : Bool) (u : Option Under) (start : Option Request) (l p : Option Kind) → s.under ≡ u → unlisted s ≡ l → passing s ≡ p → TurnBy s new answer stale u start l p → StandsFor new mine
-    by true u start l p eu el ep t = subst (λ x. StandsFor x mine) (sym t.state) (given_stands s mine None stands tt)
-    by false (Some u) start l p eu el ep t = subst (λ x. StandsFor x mine) (sym t.state) (given_stands s mine (Some givens.Task) stands tt)
-    by false None (Some request) l p eu el ep t = subst (λ x. StandsFor x mine) (sym t.state) (given_stands s mine (Some givens.Start) stands eu)
-    by false None None (Some kind) p eu el ep t =
-        subst (λ x. StandsFor x mine) (sym t.state) (given_stands s mine (Some (givens.Read kind)) stands (unlisted_follows s.role.kind s.caches (kinds_of s.role.kind) kind (kinds_follow s.role.kind) el, eu))
-    by false None None None (Some kind) eu el ep t =
-        subst (λ x. StandsFor x mine) (sym t.state) (given_stands s mine (Some (givens.Read kind)) stands (follows_at s.pass.behind kind ep, eu))
-    by false None None None None eu el ep t = keys t.work t.under (decided_way s.role s.memory s.caches mine stands.caches order stands.memory t.work t.under s.work t.decides) eu t.then_
+    by : (stale : Bool) (u : Option Under) (start : Option Request) (l p : Option Kind) → s.under ≡ u → start_call s.role s.memory ≡ start → unlisted s ≡ l → passing s ≡ p → TurnBy s new answer stale u start l p → StandsFor new mine
+    by true u start l p eu es el ep t = subst (λ x. StandsFor x mine) (sym t.state) (given_stands s mine None stands tt)
+    by false (Some u) start l p eu es el ep t = subst (λ x. StandsFor x mine) (sym t.state) (given_stands s mine (Some givens.Task) stands tt)
+    by false None (Some request) l p eu es el ep t = subst (λ x. StandsFor x mine) (sym t.state) (given_stands s mine (Some givens.Start) stands eu)
+    by false None None (Some kind) p eu es el ep t =
+        subst (λ x. StandsFor x mine) (sym t.state) (given_stands s mine (Some (givens.Read kind)) stands (unlisted_follows s.role.kind s.caches (kinds_of s.role.kind) kind (kinds_follow s.role.kind) el, eu, es))
+    by false None None None (Some kind) eu es el ep t =
+        subst (λ x. StandsFor x mine) (sym t.state) (given_stands s mine (Some (givens.Read kind)) stands (follows_at s.pass.behind kind ep, eu, es))
+    by false None None None None eu es el ep t = keys t.work t.under (decided_way s.role s.memory s.caches mine stands.caches order stands.memory t.work t.under s.work t.decides) eu es t.then_

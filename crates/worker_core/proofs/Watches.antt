@@ -31,6 +31,7 @@ use Rattle.worker_core.specs.Stands.{StandsFor}
 use Rattle.worker_core.specs.States.{State, asked}
 use Rattle.worker_core.proofs.ByKind.{watch_row}
 use Rattle.worker_core.proofs.Licensed.{given_allowed}
+use Rattle.worker_core.proofs.Owning.{newest_own}
 
 -- what a watch is answered
 data Watched (w : World) (k : Kind) (from : ℕ) (reply : Reply) : Type 0 where
@@ -153,35 +154,6 @@ from_below setup (e ∷ past) seat kind from history h =
     let up = rises setup (e ∷ []) past in
     let low = from_after setup e past seat kind from history.1 (λ v g. from_below setup past seat kind v history.0 g) h in
     omega (arith, up, low)
-
--- the history in which an entry is the newest of its seat
-record IsNewestOwn (setup : Setup) (e : Entry) (mine : List Entry) : Type 0 where
-  past : List Entry
-  seat : ℕ
-  history : IsHistory setup (e ∷ past)
-  own_before : mine ≡ own seat past
-
-abbrev head_of : Entry → List Entry → Entry
-head_of none [] = none
-head_of none (e ∷ es) = e
-
-abbrev tail_of : List Entry → List Entry
-tail_of [] = []
-tail_of (e ∷ es) = es
-
-abbrev is_filled : List Entry → Bool
-is_filled [] = false
-is_filled (e ∷ es) = true
-
-newest_own : (setup : Setup) (past : List Entry) (seat : ℕ) (e : Entry) (mine : List Entry) → IsHistory setup past → e ∷ mine ≡ own seat past → IsNewestOwn setup e mine
-newest_own setup [] seat e mine history is = absurd (true≢false (ap is_filled is))
-newest_own setup (x ∷ past) seat e mine history is = by (x.seat == seat) refl (newest_own setup past seat e mine history.0)
-  where
-    by : (b : Bool) → (x.seat == seat) ≡ b → (e ∷ mine ≡ own seat past → IsNewestOwn setup e mine) → IsNewestOwn setup e mine
-    by true at more =
-        let front : e ∷ mine ≡ x ∷ own seat past = is ∙ ap (λ b. if b then x ∷ own seat past else own seat past) at in
-        record { past = past; seat = seat; history = subst (λ y. IsHistory setup (y ∷ past)) (sym (ap (head_of e) front)) history; own_before = ap tail_of front }
-    by false at more = more (is ∙ ap (λ b. if b then x ∷ own seat past else own seat past) at)
 
 watch_from_is : (s : State) (mine : List Entry) (kind : Kind) (from : ℕ) → IsBuiltKind s.role.kind → StandsFor s mine → asked s ≡ Some (requests.Watch kind from) → IsFrom from (following_of mine kind)
 watch_from_is s mine kind from built stands ask = watch_row s.role.kind mine kind from built (given_allowed s mine (requests.Watch kind from) built stands ask)

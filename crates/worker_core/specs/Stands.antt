@@ -12,7 +12,9 @@ use Rattle.call_types.specs.declared.request.SeatKind.TheVariants as seats
 use Rattle.call_types.specs.declared.reply.Reply.{Reply}
 use Rattle.call_types.specs.declared.reply.Reply.TheVariants as replies
 use Rattle.binder_model.specs.AgentLicence.{last_epoch}
+use Rattle.binder_model.specs.Imports.{ImportsPass}
 use Rattle.binder_model.specs.Licence.{Licensed}
+use Rattle.binder_model.specs.Promises.{most_entries}
 use Rattle.binder_model.specs.Reading.{follows}
 use Rattle.binder_model.specs.Told.{own}
 use Rattle.binder_model.specs.World.{IsHistory}
@@ -63,11 +65,13 @@ abbrev pub AreLicensed : SeatKind → List Entry → Type 0
 AreLicensed kind [] = ⊤
 AreLicensed kind (e ∷ mine) = AreLicensed kind mine × (e.kind ≡ kind) × Licensed kind mine e.request
 
--- the entries of one seat in some history
+-- the entries of one seat in some history, from imports that pass, with fewer entries than any machine can hold
 pub record AreOwn (mine : List Entry) : Type 0 where
   pub setup : Setup
   pub past : List Entry
   pub seat : ℕ
+  pub imports : ImportsPass setup.imports
+  pub short : length past < most_entries
   pub history : IsHistory setup past
   pub own : mine ≡ own seat past
 
@@ -77,12 +81,12 @@ abbrev pub is_take_of : List ℕ → Request → Bool
 is_take_of node (requests.TakeNode taken) = bytes_eq taken node
 is_take_of node request = false
 
-abbrev pub TakesNodeFirst : List ℕ → List Entry → Type 0
-TakesNodeFirst node [] = ⊤
-TakesNodeFirst node (e ∷ mine) = TakesNodeFirst node mine × (is_take_of node e.request ≡ is_none (last_epoch node mine))
+abbrev pub TakesFirst : List ℕ → List Entry → Type 0
+TakesFirst node [] = ⊤
+TakesFirst node (e ∷ mine) = (is_take_of node e.request ≡ is_none (last_epoch node mine)) × TakesFirst node mine
 
 abbrev pub StartsSo : SeatKind → List ℕ → List Entry → Type 0
-StartsSo seats.Agent node mine = TakesNodeFirst node mine
+StartsSo seats.Agent node mine = TakesFirst node mine
 StartsSo _ node mine = ⊤
 
 -- a read that was given is one of a kind that the actor follows, given once the calls of the start are made; and neither it
