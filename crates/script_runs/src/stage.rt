@@ -1,17 +1,20 @@
 //! A world and all who call it, moved by one line of a script at a time.
 
-ghost use Rattle.std.specs.Prelude.{◌≡◌, ◌≤◌, ◌<◌, ◌+◌, ◌-◌, ◌*◌, ◌^◌, [], ◌∷◌, ◌++◌, true, IfOk, OnOk, Some, length, slice_get};
+ghost use Rattle.std.specs.Prelude.{◌≡◌, ◌≤◌, ◌<◌, ◌+◌, ◌-◌, ◌*◌, ◌^◌, [], ◌∷◌, true, IfOk, OnOk, Some, length, slice_get};
 ghost use Rattle.script_text.specs.declared.script.Line.{Line};
 ghost use Rattle.script_lines.specs.declared.actors.WorkerNumber.TheVariants.{One, Two, Three, Four};
 ghost use Rattle.script_lines.specs.Actors.{actor_word};
 ghost use Rattle.fitting_calls.specs.Calls.{AreByActors};
+ghost use Rattle.worker_core.specs.Roles.{IsBuiltKind};
+ghost use Rattle.worker_core.specs.Stands.{IsNew, StandsFor};
 ghost use Rattle.worker_threads.specs.Rounds.{EndsWith, made_of};
 ghost use Rattle.script_parts.specs.Budget.{first_budget};
-ghost use Rattle.script_parts.specs.Limits.{AreBuilt, IsReadable, is_actor_built, is_kind_built};
-ghost use Rattle.script_parts.specs.Parts.{is_named, part_of};
+ghost use Rattle.script_parts.specs.Limits.{AreBuilt, IsKnown, IsReadable, is_actor_built, is_kind_built};
+ghost use Rattle.script_parts.specs.Parts.{is_named, kind_of, part_of};
+ghost use Rattle.script_runs.specs.Diligent.{role_of};
 ghost use Rattle.script_runs.specs.Replays.{IsDrain, IsMove, IsTurn, IsUserCall, Progress, begun};
-ghost use Rattle.script_runs.specs.Steps.Playing.{EachPlayer, IsNewPlayer};
-ghost use Rattle.script_runs.specs.Steps.Standing.{Ended, HasMoved, MadeAtMost, SomeStands, Stands, built_parts, part_from, parts_from, parts_in, place_of, place_of_kind, place_of_number, seat_of_drains, seat_past, with_made, workers_of};
+ghost use Rattle.script_runs.specs.Steps.Playing.{IsNewPlayer};
+ghost use Rattle.script_runs.specs.Steps.Standing.{Ended, HasAdded, HasMoved, MadeAtMost, SomeStands, Stands, agents_for, built_actors, part_from, place_of, place_of_kind, place_of_node, place_of_number, with_made, workers_of};
 
 use crate::player::{Player, turn};
 use call_types::request::{Request, SeatKind};
@@ -141,6 +144,7 @@ impl Stage {
     ) -> Result<(), OutOfMemory>
         requires lines { AreBuilt script.now.lines }
         requires built { is_actor_built actor.now ≡ true }
+        requires known { IsKnown script.now.node_names actor.now }
         requires named { is_named (actor_word actor.now) script.now.lines ≡ true }
         requires readable { IsReadable script.now }
         requires stands { SomeStands script.now option self.old }
@@ -371,7 +375,7 @@ fn add_agents(
 ) -> Result<u64, OutOfMemory>
     requires few { length lines.now ≤ 4096 }
     requires small { first + 4097 * length nodes.now < 2 ^ 32 }
-    ensures added { IfOk result (λ seat. HasAdded lines.now (agents_of nodes.now) first seat players.old.items players.new.items) }
+    ensures added { IfOk result (λ seat. HasAdded lines.now (agents_for nodes.now) first seat players.old.items players.new.items) }
     ensures most { IfOk result (λ seat. seat ≤ first + 4097 * length nodes.now) }
 {
     let mut seat = first;

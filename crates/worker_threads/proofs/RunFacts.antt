@@ -1,5 +1,5 @@
 -- What follows from how an actor was run.
-use Rattle.std.proofs.Common.{◌≡◌, ◌∙◌, ◌+◌, ◌-◌, ◌≤◌, ◌<◌, ℕ, List, [], ◌∷◌, Bool, true, false, true≢false, Option, Some, None, refl, sym, ap, subst, inl, inr, arith, Result, Ok, Err, IfOk}
+use Rattle.std.proofs.Common.{◌≡◌, ◌∙◌, ◌+◌, ◌-◌, ◌≤◌, ◌<◌, ℕ, List, [], ◌∷◌, length, Bool, true, false, true≢false, Option, Some, None, refl, sym, ap, subst, inl, inr, arith, Result, Ok, Err, IfOk}
 use Rattle.kube_types.specs.declared.parts.Kind.{Kind}
 use Rattle.call_types.specs.declared.entry.Entry.{Entry}
 use Rattle.call_types.specs.declared.reply.Reply.{Reply}
@@ -7,6 +7,8 @@ use Rattle.call_types.specs.declared.request.Request.{Request}
 use Rattle.call_types.specs.declared.request.SeatKind.{SeatKind}
 use Rattle.call_types.specs.declared.request.SeatKind.TheVariants as seats
 use Rattle.call_types.specs.declared.setup.Setup.{Setup}
+use Rattle.binder_model.specs.Imports.{ImportsPass}
+use Rattle.binder_model.specs.Promises.{most_entries}
 use Rattle.binder_model.specs.Told.{own}
 use Rattle.binder_model.specs.World.{IsHistory}
 use Rattle.model_laws.proofs.Evidence.{own_mine}
@@ -132,12 +134,12 @@ pub entry_told : (seat : ℕ) (kind : SeatKind) (given : State) (request : Reque
 entry_told seat kind given request reply h past same is = is ∙ ap (λ (k : SeatKind). (record { seat = seat; kind = k; request = request; reply = reply; told = true }) ∷ h) same
 
 -- a call that was made and told
-pub stands_on : (given after : State) (setup : Setup) (h past : List Entry) (seat : ℕ) (e : Entry) → past ≡ e ∷ h → e.seat ≡ seat → IsHistory setup past
+pub stands_on : (given after : State) (setup : Setup) (h past : List Entry) (seat : ℕ) (e : Entry) → past ≡ e ∷ h → e.seat ≡ seat → IsHistory setup past → length past < most_entries → ImportsPass setup.imports
     → ((mine : List Entry) → AreOwn (e ∷ mine) → StandsFor given mine → StandsFor after (e ∷ mine))
     → StandsFor given (own seat h) → StandsFor after (own seat past)
-stands_on given after setup h past seat e is of_seat history absorbs stands =
+stands_on given after setup h past seat e is of_seat history short imports absorbs stands =
     let front : own seat past ≡ e ∷ own seat h = ap (own seat) is ∙ own_mine e h seat of_seat in
-    let mine : AreOwn (e ∷ own seat h) = record { setup = setup; past = past; seat = seat; history = history; own = sym front } in
+    let mine : AreOwn (e ∷ own seat h) = record { setup = setup; past = past; seat = seat; imports = imports; short = short; history = history; own = sym front } in
     subst (λ m. StandsFor after m) (sym front) (absorbs (own seat h) mine stands)
 
 -- a woken actor that has a call left makes one, where its epoch is not stale

@@ -56,7 +56,7 @@ loop-left-preserved-in_ok-absorb-in-Call c =
       kind = kinds.1;
       role = still_role s given after _ request reply c.in_ok-next.ensures.turn c.in_ok-absorb-in-Call.ensures.state ∙ i.role;
       runs = λ last past left idle more. i.runs last past left idle (Asks given after request reply c.loop-left-test.true turn c.in_ok-absorb-in-Call.ensures.state (subst (λ (p : List Entry). Runs c.args.seat last past left idle after p (c.loop-left.left - 1)) entry more));
-      stands = stands_on given after c.ask.new.world.setup h new c.args.seat e entry refl c.in_ok-reply-in-Call.ensures.history
+      stands = stands_on given after c.ask.new.world.setup h new c.args.seat e entry refl c.in_ok-reply-in-Call.ensures.history c.in_ok-reply-in-Call.ensures.short c.in_ok-reply-in-Call.ensures.imports
           (λ own_mine is_own stands. c.in_ok-absorb-in-Call.ensures.told own_mine e reply refl (record { told = refl; asked = refl; answered = refl }) refl is_own stands)
           (c.in_ok-next.ensures.stands mine i.stands);
       history = c.in_ok-reply-in-Call.ensures.history;
