@@ -20,7 +20,7 @@ use crate::keys::{add_all, add_cached, decide_keys};
 use crate::memory::Remembered;
 use crate::pass::{first_unlisted, is_passing, pass_after, read_of_kind};
 use crate::role::{Role, first_kind, kinds_of};
-use crate::task::{Moved, Under, with_task};
+use crate::task::{After, Under};
 use crate::turn::{Given, Next, Outcome, Pass};
 use call_types::reply::Reply;
 use call_types::request::{Request, SeatKind};
@@ -282,13 +282,12 @@ impl Actor {
     fn told_task(&mut self, reply: &Reply) -> Result<(), OutOfMemory>
         ensures { OnOk result (self.new ≡ task_told self.old reply.now self.old.under) }
     {
-        let Under { key, task, call } = match self.under.take() {
+        let under = match self.under.take() {
             None => return Ok(()),
             Some(under) => under,
         };
-        drop(call);
-        let Moved { task, parks } = task.absorb(self.alloc, reply)?;
-        match with_task(self.alloc, &key, task)? {
+        let After { key, next, parks } = under.after(self.alloc, reply)?;
+        match next {
             Some(next) => self.under = Some(next),
             None => {
                 if parks {

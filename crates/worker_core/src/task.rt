@@ -5,7 +5,7 @@ ghost use Rattle.kube_types.specs.Keys.{row_at};
 ghost use Rattle.node_agent.specs.Agents.{agent_begins};
 ghost use Rattle.protect_sync.specs.Decisions.{claim_begins, volume_begins};
 ghost use Rattle.worker_core.specs.declared.task.Task.TheVariants as tasks;
-ghost use Rattle.worker_core.specs.Tasks.{IsBinderFirst, agent_first, claim_first, task_call, task_moved, task_parks, volume_first, with_call, with_task};
+ghost use Rattle.worker_core.specs.Tasks.{IsBinderFirst, agent_first, claim_first, task_call, task_moved, task_parks, under_after, volume_first, with_call, with_task};
 
 use binder_machines::decide as binder;
 use binder_machines::machine::Machine;
@@ -68,17 +68,10 @@ pub enum First {
 }
 
 /// A task after an answer, or none where it has ended; and whether its key is to be parked, where it ends at this answer.
-#[derive(Debug)]
+#[derive(Debug, Drop)]
 pub struct Moved {
     pub task: Option<Task>,
     pub parks: bool,
-}
-
-impl Drop for Moved {
-    fn drop(self) {
-        let Moved { task, parks: _ } = self;
-        drop(task);
-    }
 }
 
 impl Task {
@@ -234,12 +227,34 @@ pub(crate) fn with_call(alloc: Global, key: &Key, task: Task) -> Result<Option<U
     }
 }
 
-/// What is under way for the key after an answer that made this of its task.
-pub(crate) fn with_task(alloc: Global, key: &Key, task: Option<Task>) -> Result<Option<Under>, OutOfMemory>
+fn with_task(alloc: Global, key: &Key, task: Option<Task>) -> Result<Option<Under>, OutOfMemory>
     ensures { IfOk result (λ next. next ≡ with_task key.now task) }
 {
     match task {
         None => Ok(None),
         Some(task) => with_call(alloc, key, task),
+    }
+}
+
+/// What is under way for the key after an answer, or none where the task has ended; and whether the key is then to be parked.
+#[derive(Debug, Drop)]
+pub(crate) struct After {
+    pub(crate) key: Key,
+    pub(crate) next: Option<Under>,
+    pub(crate) parks: bool,
+}
+
+impl Under {
+    /// What the answer to the call makes of it. After want of memory it is let go.
+    pub(crate) fn after(self, alloc: Global, reply: &Reply) -> Result<After, OutOfMemory>
+        ensures key { IfOk result (λ after. after.key ≡ self.key) }
+        ensures next { IfOk result (λ after. after.next ≡ under_after self reply.now) }
+        ensures parks { IfOk result (λ after. after.parks ≡ task_parks self.task reply.now) }
+    {
+        let Under { key, task, call } = self;
+        drop(call);
+        let Moved { task, parks } = task.absorb(alloc, reply)?;
+        let next = with_task(alloc, &key, task)?;
+        Ok(After { key, next, parks })
     }
 }
