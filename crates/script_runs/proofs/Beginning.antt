@@ -94,22 +94,22 @@ some_actor lines (a ∷ actors) first [] new place x at = absurd new
 some_actor lines (a ∷ actors) first (y ∷ xs) new zero x at = (role_of a, subst (IsNewPlayer (role_of a)) (one y x at) new.1)
 some_actor lines (a ∷ actors) first (y ∷ xs) new (suc place) x at = some_actor lines actors (end_of (part_from lines a first)) xs new.2 place x at
 
-both_new : (lines : List Line) (as bs : List Actor) (first : ℕ) (xs ys : List Player) → AreNewPlayers lines as first xs → AreNewPlayers lines bs (seat_past lines as first) ys → AreNewPlayers lines (as ++ bs) first (xs ++ ys)
-both_new lines [] bs first xs ys a b = subst (λ (zs : List Player). AreNewPlayers lines bs first (zs ++ ys)) (sym a) b
-both_new lines (actor ∷ as) bs first [] ys a b = absurd a
-both_new lines (actor ∷ as) bs first (x ∷ xs) ys a b = (a.0, a.1, both_new lines as bs (end_of (part_from lines actor first)) xs ys a.2 b)
+both_new : (lines : List Line) (ones others : List Actor) (first : ℕ) (xs ys : List Player) → AreNewPlayers lines ones first xs → AreNewPlayers lines others (seat_past lines ones first) ys → AreNewPlayers lines (ones ++ others) first (xs ++ ys)
+both_new lines [] others first xs ys a b = subst (λ (zs : List Player). AreNewPlayers lines others first (zs ++ ys)) (sym a) b
+both_new lines (actor ∷ ones) others first [] ys a b = absurd a
+both_new lines (actor ∷ ones) others first (x ∷ xs) ys a b = (a.0, a.1, both_new lines ones others (end_of (part_from lines actor first)) xs ys a.2 b)
 
-past_more : (lines : List Line) (as bs : List Actor) (first : ℕ) → seat_past lines (as ++ bs) first ≡ seat_past lines bs (seat_past lines as first)
-past_more lines [] bs first = refl
-past_more lines (actor ∷ as) bs first = past_more lines as bs (end_of (part_from lines actor first))
+past_more : (lines : List Line) (ones others : List Actor) (first : ℕ) → seat_past lines (ones ++ others) first ≡ seat_past lines others (seat_past lines ones first)
+past_more lines [] others first = refl
+past_more lines (actor ∷ ones) others first = past_more lines ones others (end_of (part_from lines actor first))
 
 -- players of some actors, and then of others
-pub added_then : (lines : List Line) (as bs : List Actor) (first middle next : ℕ) (before between after : List Player) → HasAdded lines as first middle before between → HasAdded lines bs middle next between after → HasAdded lines (as ++ bs) first next before after
-added_then lines as bs first middle next before between after a b = record {
+pub added_then : (lines : List Line) (ones others : List Actor) (first middle next : ℕ) (before between after : List Player) → HasAdded lines ones first middle before between → HasAdded lines others middle next between after → HasAdded lines (ones ++ others) first next before after
+added_then lines ones others first middle next before between after a b = record {
   added = a.added ++ b.added;
   are = b.are ∙ ap (λ xs. xs ++ b.added) a.are ∙ append_assoc before a.added b.added;
-  new = both_new lines as bs first a.added b.added a.new (subst (λ n. AreNewPlayers lines bs n b.added) a.seat b.new);
-  seat = b.seat ∙ ap (seat_past lines bs) a.seat ∙ sym (past_more lines as bs first);
+  new = both_new lines ones others first a.added b.added a.new (subst (λ n. AreNewPlayers lines others n b.added) a.seat b.new);
+  seat = b.seat ∙ ap (seat_past lines others) a.seat ∙ sym (past_more lines ones others first);
 }
 
 pub none_added : (lines : List Line) (first : ℕ) (players : List Player) → HasAdded lines [] first first players players
@@ -119,16 +119,16 @@ pub one_added : (lines : List Line) (actor : Actor) (first next : ℕ) (x : Play
 one_added lines actor first next x before after part new ends is = record { added = x ∷ []; are = is; new = (part, new, refl); seat = ends ∙ ap end_of part }
 
 -- one more, and then those that are left
-pub added_next : {X : Type 0} (lines : List Line) (of : X → Actor) (items : List X) (index : ℕ) (item : X) (seat next end : ℕ) (before between after : List Player) → slice_get items index ≡ Some item
-    → HasAdded lines (of item ∷ []) seat next before between → HasAdded lines (map of (drop (index + 1) items)) next end between after → HasAdded lines (map of (drop index items)) seat end before after
-added_next lines of items index item seat next end before between after here first rest =
-    subst (λ xs. HasAdded lines (map of xs) seat end before after) (sym (drop_at items index item here)) (added_then lines (of item ∷ []) (map of (drop (index + 1) items)) seat next end before between after first rest)
+pub added_next : {X : Type 0} (lines : List Line) (actor_of : X → Actor) (items : List X) (index : ℕ) (item : X) (seat next end : ℕ) (before between after : List Player) → slice_get items index ≡ Some item
+    → HasAdded lines (actor_of item ∷ []) seat next before between → HasAdded lines (map actor_of (drop (index + 1) items)) next end between after → HasAdded lines (map actor_of (drop index items)) seat end before after
+added_next lines actor_of items index item seat next end before between after here first rest =
+    subst (λ xs. HasAdded lines (map actor_of xs) seat end before after) (sym (drop_at items index item here)) (added_then lines (actor_of item ∷ []) (map actor_of (drop (index + 1) items)) seat next end before between after first rest)
 
 -- none is left
-pub all_added : {X : Type 0} (lines : List Line) (of : X → Actor) (items : List X) (index seat first : ℕ) (initial now : List Player) → length items ≤ index
-    → ((end : ℕ) (after : List Player) → HasAdded lines (map of (drop index items)) seat end now after → HasAdded lines (map of items) first end initial after) → HasAdded lines (map of items) first seat initial now
-all_added lines of items index seat first initial now over goes =
-    goes seat now (subst (λ xs. HasAdded lines (map of xs) seat seat now now) (sym (drop_all index items over)) (none_added lines seat now))
+pub all_added : {X : Type 0} (lines : List Line) (actor_of : X → Actor) (items : List X) (index seat first : ℕ) (initial now : List Player) → length items ≤ index
+    → ((end : ℕ) (after : List Player) → HasAdded lines (map actor_of (drop index items)) seat end now after → HasAdded lines (map actor_of items) first end initial after) → HasAdded lines (map actor_of items) first seat initial now
+all_added lines actor_of items index seat first initial now over goes =
+    goes seat now (subst (λ xs. HasAdded lines (map actor_of xs) seat seat now now) (sym (drop_all index items over)) (none_added lines seat now))
 
 -- the workers of three kinds and the agents, added after each other
 pub built_added : (lines : List Line) (nodes : List (List ℕ)) (second third fourth end : ℕ) (none ones two three items : List Player) → none ≡ []

@@ -2,7 +2,6 @@
 use Rattle.std.proofs.Common.{◌≡◌, ℕ, ◌+◌, ◌*◌, ◌≤◌, zero, suc, List, [], ◌∷◌, ◌++◌, length, length-append, map, Bool, true, false, true≢false, if◌then◌else◌, Option, Some, None, refl, sym, ◌∙◌, ap, subst, arith}
 use Rattle.std.specs.Prelude.{bytes_eq, slice_get, ◌||◌}
 use Rattle.std.specs.declared.cmp.Ordering.TheVariants.{Less, Equal}
-use Rattle.std.specs.Ordering.{is_eq}
 use Rattle.std.proofs.lemmas.Cmp.{nat_list_cmp_total, tied_itself}
 use Rattle.std.proofs.lemmas.List.{length-map}
 use Rattle.std.proofs.lemmas.Slice.Eq.{bytes_eq-Decides}
@@ -180,7 +179,10 @@ less_differs : (a b : List ℕ) → text_cmp a b ≡ Less → bytes_eq a b ≡ f
 less_differs a b less = by (bytes_eq a b) refl
   where
     by : (t : Bool) → bytes_eq a b ≡ t → bytes_eq a b ≡ false
-    by true e = absurd (true≢false (sym (ap is_eq (sym (ap (text_cmp a) (sym ((bytes_eq-Decides a b).0 e)) ∙ tied_itself nat_list_cmp_total a))  ∙ ap is_eq less)))
+    by true e =
+        let same = ap (text_cmp a) (sym ((bytes_eq-Decides a b).0 e)) ∙ tied_itself nat_list_cmp_total a in
+        let both : Less ≡ Equal = sym less ∙ same in
+        absurd (cc)
     by false e = e
 
 agent_differs : (node : List ℕ) (nodes : List (List ℕ)) → IsAfter text_cmp (λ (name : List ℕ). name) node nodes → differs_from (agent_word node) (map agent_word nodes) ≡ true

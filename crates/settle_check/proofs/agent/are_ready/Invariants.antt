@@ -6,5 +6,5 @@ use Rattle.settle_check.proofs.agent.are_ready.Given as goal
 
 -- what is to be found is still ahead
 abbrev pub invariant-loop-name : goal.invariant-loop-name
-invariant-loop-name l = list_all (λ name. is_ready l.store.rows (claim_named l.store.rows l.pod.meta.namespace name)) (drop l.name-index l.pod.claims)
+invariant-loop-name l = list_all (λ name. is_ready l.store.rows (claim_named l.store.rows l.pod.meta.namespace name)) (drop l.name-index l.name-items)
     ≡ list_all (λ name. is_ready l.store.rows (claim_named l.store.rows l.pod.meta.namespace name)) l.pod.claims

@@ -7,5 +7,5 @@ use Rattle.worker_threads.proofs.drainers.add_agents.Given as goal
 abbrev pub invariant-loop-node : goal.invariant-loop-node
 invariant-loop-node l = record {
   seat : l.seat ≡ l.first + l.node-index;
-  added : (agents : List Drainer) → AreNewAgents l.seat (drop l.node-index l.nodes) agents → AreAdded l.first l.nodes l.initial.list.items (l.list.items ++ agents);
+  added : (agents : List Drainer) → AreNewAgents l.seat (drop l.node-index l.node-items) agents → AreAdded l.first l.nodes l.initial.list.items (l.list.items ++ agents);
 }
