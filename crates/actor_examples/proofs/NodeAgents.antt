@@ -1,14 +1,11 @@
 -- The examples of the node agent compute.
-use Rattle.std.proofs.Common.{◌≡◌, Bool, true, false, true≢false, Option, refl, sym, ◌∙◌, ap, subst}
-use Rattle.call_types.specs.declared.request.Request.{Request}
-use Rattle.kube_types.specs.declared.parts.Kind.{Kind}
+use Rattle.std.proofs.Common.{◌≡◌, Bool, true, false, true≢false, None, refl, sym, ap, subst}
 use Rattle.node_agent.specs.declared.step.AgentStep.{AgentStep}
 use Rattle.node_agent.specs.declared.step.AgentStep.TheVariants as steps
 use Rattle.node_agent.specs.Agents.{agent_call, agent_moved}
 use Rattle.worker_core.specs.declared.task.First.{First}
 use Rattle.worker_core.specs.declared.task.First.TheVariants as firsts
 use Rattle.worker_core.specs.declared.task.Task.TheVariants as tasks
-use Rattle.worker_core.specs.declared.task.Under.{Under}
 use Rattle.worker_core.specs.declared.turn.Next.{Next}
 use Rattle.worker_core.specs.Memories.{Memory}
 use Rattle.worker_core.specs.States.{State, start_call}

@@ -6,16 +6,15 @@ use Rattle.kube_types.specs.declared.key.Key.{Key}
 use Rattle.kube_types.specs.declared.objects.Pod.{Pod as PodData}
 use Rattle.kube_types.specs.declared.objects.Object.{Object}
 use Rattle.kube_types.specs.declared.objects.Object.TheVariants.{Claim, Pod}
-use Rattle.kube_types.specs.Uids.{uid_of_serial}
 use Rattle.call_types.specs.declared.request.Request.{Request}
 use Rattle.call_types.specs.declared.request.Request.TheVariants as requests
 use Rattle.call_types.specs.declared.request.SeatKind.TheVariants as seats
 use Rattle.call_types.specs.declared.reply.Refusal.TheVariants.{StaleEpoch}
 use Rattle.call_types.specs.declared.reply.Reply.{Reply}
 use Rattle.call_types.specs.declared.reply.Reply.TheVariants as replies
-use Rattle.node_agent.specs.declared.agent.AgentOp.{AgentOp}
 use Rattle.node_agent.specs.declared.step.AgentStep.{AgentStep}
 use Rattle.node_agent.specs.declared.step.AgentStep.TheVariants as steps
+use Rattle.node_agent.specs.HistoryLaw.{TakesFirst}
 use Rattle.model_examples.specs.AgentRows.{mounted, row_of}
 use Rattle.model_examples.specs.Samples.{Exchange, bound_c, ending_p, heard, key_a, key_c, key_p, node_1, node_2, p, seat_of, takes, tells_pod, uid_p, unheard}
 use Rattle.worker_core.specs.declared.role.Role.{Role}
@@ -27,7 +26,6 @@ use Rattle.worker_core.specs.declared.task.Under.{Under}
 use Rattle.worker_core.specs.declared.turn.Next.{Next}
 use Rattle.worker_core.specs.declared.turn.Next.TheVariants as nexts
 use Rattle.worker_core.specs.Memories.{Memory, memory_of, no_memory}
-use Rattle.worker_core.specs.Stands.{TakesFirst}
 use Rattle.worker_core.specs.States.{State, start_call}
 use Rattle.worker_core.specs.Tasks.{IsDecision, task_parks, under_after}
 use Rattle.worker_core.specs.Turns.{IsTurn}

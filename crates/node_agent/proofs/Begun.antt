@@ -16,16 +16,18 @@ use Rattle.call_types.specs.declared.entry.Entry.{Entry}
 use Rattle.call_types.specs.declared.reply.MountRow.{MountRow}
 use Rattle.binder_model.specs.AgentLicence.{IsEndingPod, IsPodOn, ListedPods, epoch_in, has_row, since_epoch}
 use Rattle.binder_model.specs.ObjectKeys.{pod_key}
-use Rattle.binder_model.specs.Told.{IsNewest, IsPodWith, SomeOf, TellsObject, ToldPod, objects_in}
+use Rattle.binder_model.specs.Told.{IsNewest, IsPodWith, TellsObject, ToldPod}
 use Rattle.informer_cache.specs.All.{AllKnown, AllStandFor, all_objects}
 use Rattle.model_laws.proofs.Lists.{none_some, one}
+use Rattle.pod_law.specs.Tellings.{tells_pod}
+use Rattle.pod_law.proofs.Told.{telling}
 use Rattle.node_agent.specs.declared.agent.AgentOp.{AgentOp}
 use Rattle.node_agent.specs.declared.step.AgentStep.TheVariants as steps
 use Rattle.node_agent.specs.Agents.{agent_at, agent_begins, agent_call, agent_for, agent_known, at_start, next_step, step_for}
 use Rattle.node_agent.specs.BeginLaw.{BegunHaveCalls}
-use Rattle.node_agent.specs.Evidence.{AgentKeeps, HasStarted, MayDecide, MayRead, StartedBy, is_pod, tells_pod}
+use Rattle.node_agent.specs.Evidence.{AgentKeeps, HasStarted, MayDecide, MayRead, StartedBy}
 use Rattle.node_agent.proofs.Allowed.{newest_pod}
-use Rattle.node_agent.proofs.Gets.{both, neither_of}
+use Rattle.node_agent.proofs.Gets.{neither_of}
 use Rattle.node_agent.proofs.Moves.{next_keeps}
 
 -- a pod that was told was told after the node was taken, by a list of all pods or after one
@@ -37,21 +39,6 @@ record IsCut (p : PodData) (entries : List Entry) : Type 0 where
   since : entries ≡ recent ++ teller ∷ earlier
   listed : ListedPods (teller ∷ earlier)
   told : TellsObject (IsPodWith (λ q. q ≡ p)) teller
-
-some_pod : (P : PodData → Type 0) (os : List Object) → SomeOf (IsPodWith P) os → list_any is_pod os ≡ true
-some_pod P [] h = absurd h
-some_pod P (Pod p ∷ os) h = refl
-some_pod P (Class x ∷ os) (inl h) = absurd h
-some_pod P (Node x ∷ os) (inl h) = absurd h
-some_pod P (Volume x ∷ os) (inl h) = absurd h
-some_pod P (Claim x ∷ os) (inl h) = absurd h
-some_pod P (Class x ∷ os) (inr h) = some_pod P os h
-some_pod P (Node x ∷ os) (inr h) = some_pod P os h
-some_pod P (Volume x ∷ os) (inr h) = some_pod P os h
-some_pod P (Claim x ∷ os) (inr h) = some_pod P os h
-
-telling : (P : PodData → Type 0) (e : Entry) → TellsObject (IsPodWith P) e → tells_pod e ≡ true
-telling P e t = both e.told (list_any is_pod (objects_in e.reply)) t.0 (some_pod P (objects_in e.reply) t.1)
 
 none_told : (P : PodData → Type 0) (mine : List Entry) → list_any tells_pod mine ≡ false → ToldPod P mine → ⊥
 none_told P [] none h = h

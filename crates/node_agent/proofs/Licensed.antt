@@ -24,8 +24,10 @@ use Rattle.binder_model.specs.Reading.{Following, IsFrom, ListedAt, Unlisted, fo
 use Rattle.binder_model.specs.Same.{same_uid}
 use Rattle.binder_model.specs.Told.{IsPodWith, ToldPod, objects_in}
 use Rattle.model_laws.proofs.Evidence.{told_map}
-use Rattle.node_agent.specs.Evidence.{HasStarted, StartedBy, is_pod}
-use Rattle.node_agent.specs.StartLaw.{IsDeletingPod, LicensedHasStarted, TakenBy, TookFirst, UntoldIsUnfinished, is_watch_of_pods}
+use Rattle.pod_law.specs.Deletion.{IsDeletingPod}
+use Rattle.pod_law.specs.Tellings.{is_pod, is_watch_of_pods}
+use Rattle.node_agent.specs.Evidence.{HasStarted, StartedBy}
+use Rattle.node_agent.specs.StartLaw.{LicensedHasStarted, TakenBy, TookFirst, UntoldIsUnfinished}
 
 -- a pod is finished only where it was told deleting
 

@@ -6,7 +6,8 @@ use Rattle.binder_model.specs.AgentLicence.{epoch_in}
 use Rattle.node_agent.specs.declared.step.AgentStep.{AgentStep}
 use Rattle.node_agent.specs.declared.step.AgentStep.TheVariants as steps
 use Rattle.node_agent.specs.Agents.{agent_call, agent_parks, call_at}
-use Rattle.node_agent.specs.Evidence.{HasStarted, StartedBy, tells_pod}
+use Rattle.pod_law.specs.Tellings.{tells_pod}
+use Rattle.node_agent.specs.Evidence.{HasStarted, StartedBy}
 use Rattle.node_agent.specs.StartLaw.{ParkedHaveEnded, StartGoesOn, UntoldHasStarted}
 use Rattle.node_agent.proofs.Gets.{neither_of}
 

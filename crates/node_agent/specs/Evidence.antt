@@ -1,5 +1,5 @@
 -- The evidence that a machine of a node agent keeps, in the entries of its seat, the newest first. A choice of this project.
-use Rattle.std.specs.Prelude.{ℕ, ◌≡◌, Bool, true, false, ◌&&◌, List, [], ◌∷◌, ◌++◌, Option, Some, None, is_some, length, slice_get, ⊤}
+use Rattle.std.specs.Prelude.{ℕ, ◌≡◌, Bool, true, false, List, [], ◌∷◌, ◌++◌, Option, Some, None, is_some, length, slice_get, ⊤}
 use Rattle.std.specs.List.{list_any}
 use Rattle.kube_types.specs.declared.uid.Uid.{Uid}
 use Rattle.kube_types.specs.declared.objects.Claim.{Claim as ClaimData}
@@ -12,7 +12,8 @@ use Rattle.call_types.specs.declared.reply.Reply.TheVariants.{Found}
 use Rattle.binder_model.specs.AgentLicence.{IsEndingPod, IsPodOn, IsReadReady, ListedPods, epoch_in, last_epoch, last_get, never_finished, since_epoch, was_told_unmounted}
 use Rattle.binder_model.specs.ObjectKeys.{claim_key, pod_key, volume_key}
 use Rattle.binder_model.specs.Reading.{FoundNaming}
-use Rattle.binder_model.specs.Told.{IsNewest, IsPodWith, SomeOf, TellsObject, ToldPod, objects_in}
+use Rattle.binder_model.specs.Told.{IsNewest, IsPodWith, SomeOf, TellsObject, ToldPod}
+use Rattle.pod_law.specs.Tellings.{tells_pod}
 use Rattle.node_agent.specs.declared.agent.AgentOp.{AgentOp}
 use Rattle.node_agent.specs.declared.step.AgentStep.{AgentStep}
 use Rattle.node_agent.specs.declared.step.AgentStep.TheVariants as steps
@@ -97,13 +98,6 @@ abbrev pub AgentKeeps : AgentOp → List Entry → Type 0
 AgentKeeps op mine = StepKeeps op.step (at_rest op) mine
 
 -- the start of an agent
-
-abbrev pub is_pod : Object → Bool
-is_pod (Pod p) = true
-is_pod o = false
-
-abbrev pub tells_pod : Entry → Bool
-tells_pod e = e.told && list_any is_pod (objects_in e.reply)
 
 -- Since the node was taken pods were told only by a list of all pods or after one, and none was told before: what the start of an
 -- agent brings about, and each told answer that is no TakeNode keeps once the pods are listed

@@ -1,4 +1,5 @@
 pub mod Agents
 pub mod BeginLaw
 pub mod Evidence
+pub mod HistoryLaw
 pub mod StartLaw

@@ -1,20 +1,17 @@
 -- How what a decision stands on comes about and goes on: what an actor may rely on. A choice of this project.
-use Rattle.std.specs.Prelude.{ℕ, ◌≡◌, ◌⊎◌, Bool, true, false, List, [], ◌∷◌, Some, None, is_some, ⊤}
+use Rattle.std.specs.Prelude.{ℕ, ◌≡◌, Bool, true, false, List, [], ◌∷◌, None, is_some, ⊤}
 use Rattle.std.specs.List.{list_any}
 use Rattle.kube_types.specs.declared.uid.Uid.{Uid}
-use Rattle.kube_types.specs.declared.objects.Pod.{Pod as PodData}
-use Rattle.kube_types.specs.declared.parts.Kind.TheVariants as kinds
-use Rattle.kube_types.specs.Bindings.{is_deleting}
 use Rattle.call_types.specs.declared.entry.Entry.{Entry}
-use Rattle.call_types.specs.declared.request.Request.{Request}
-use Rattle.call_types.specs.declared.request.Request.TheVariants as requests
 use Rattle.call_types.specs.declared.request.SeatKind.TheVariants.{Agent}
-use Rattle.binder_model.specs.AgentLicence.{ListedPods, epoch_in, is_pod_list, never_finished, since_epoch}
+use Rattle.binder_model.specs.AgentLicence.{ListedPods, epoch_in, never_finished, since_epoch}
 use Rattle.binder_model.specs.Licence.{Licensed}
 use Rattle.binder_model.specs.Told.{ToldPod}
+use Rattle.pod_law.specs.Deletion.{IsDeletingPod}
+use Rattle.pod_law.specs.Tellings.{AreToldByReads, tells_pod}
 use Rattle.node_agent.specs.declared.agent.AgentOp.{AgentOp}
 use Rattle.node_agent.specs.Agents.{agent_call, agent_parks}
-use Rattle.node_agent.specs.Evidence.{HasStarted, tells_pod}
+use Rattle.node_agent.specs.Evidence.{HasStarted}
 
 -- a seat that was told no pod has started, whether it took the node or not
 abbrev pub UntoldHasStarted : Type 0
@@ -31,24 +28,9 @@ abbrev pub AreLicensed : List Entry → Type 0
 AreLicensed [] = ⊤
 AreLicensed (e ∷ mine) = AreLicensed mine × Licensed Agent mine e.request
 
--- the pod with the UID, deleting
-pub record IsDeletingPod (uid : Uid) (p : PodData) : Type 0 where
-  pub same : p.meta.uid ≡ Some uid
-  pub deleting : is_deleting p.meta ≡ true
-
 -- a seat that was never told the pod deleting never asked to finish it
 abbrev pub UntoldIsUnfinished : Type 0
 UntoldIsUnfinished = (uid : Uid) (mine : List Entry) → AreLicensed mine → (ToldPod (IsDeletingPod uid) mine → ⊥) → never_finished uid mine ≡ true
-
--- the request is a watch of the pods
-abbrev pub is_watch_of_pods : Request → Bool
-is_watch_of_pods (requests.Watch kinds.Pod from) = true
-is_watch_of_pods request = false
-
--- pods are told by lists of all of them and by watches alone, as in each history of an agent's seat
-abbrev pub AreToldByReads : List Entry → Type 0
-AreToldByReads [] = ⊤
-AreToldByReads (e ∷ mine) = (tells_pod e ≡ true → (is_pod_list e.request e.reply ≡ true) ⊎ (is_watch_of_pods e.request ≡ true)) × AreToldByReads mine
 
 -- before the node was taken no pod was told, and no list of the pods
 pub record IsUntold (mine : List Entry) : Type 0 where

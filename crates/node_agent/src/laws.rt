@@ -13,6 +13,7 @@ ghost use Rattle.node_agent.specs.declared.agent.AgentOp.{AgentOp};
 ghost use Rattle.node_agent.specs.Agents.{agent_begins, agent_call, agent_moved};
 ghost use Rattle.node_agent.specs.BeginLaw.{BegunHaveCalls, CallsReadNoKind};
 ghost use Rattle.node_agent.specs.Evidence.{AgentKeeps, MayDecide};
+ghost use Rattle.node_agent.specs.HistoryLaw.{HistoriesTellByReads, TakersHaveStarted, TakersMayDecide, TakersTookFirst};
 ghost use Rattle.node_agent.specs.StartLaw.{LicensedHasStarted, ParkedHaveEnded, StartGoesOn, UntoldHasStarted, UntoldIsUnfinished};
 
 /// The next call of a machine is allowed by its evidence.
@@ -65,4 +66,28 @@ pub fn licensed_has_started()
 /// A seat that was never told the pod deleting never asked to finish it.
 pub fn untold_is_unfinished()
     ensures { UntoldIsUnfinished }
+{}
+
+/// In a history, an agent that asked what it may is told of pods by lists of all of them and by watches alone.
+#[tactic(auto, using(crate::proofs::Histories::histories_tell_by_reads))]
+pub fn histories_tell_by_reads()
+    ensures { HistoriesTellByReads }
+{}
+
+/// In a history, a seat that asked for the node alone until it was told an epoch of it, and never again, took it
+/// before it was told a pod.
+#[tactic(auto, using(crate::proofs::Histories::takers_took_first))]
+pub fn takers_took_first()
+    ensures { TakersTookFirst }
+{}
+
+/// So an agent that asked so has started.
+#[tactic(auto, using(crate::proofs::Histories::takers_have_started))]
+pub fn takers_have_started()
+    ensures { TakersHaveStarted }
+{}
+
+/// And it may decide each key by caches that stand for what it was told.
+pub fn takers_may_decide()
+    ensures { TakersMayDecide }
 {}

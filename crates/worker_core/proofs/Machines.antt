@@ -165,7 +165,7 @@ volumes_queue_none other (Some op) first = none_some (sym (ap queued_in first))
 agents_queue_none : {G : Type 0} (node : List ℕ) (epoch : Option ℕ) (mounts : Option (List MountRow)) (row : Option Object) (other : Key) → IsAgentFirst node epoch mounts row (firsts.Queues other) → G
 agents_queue_none node None mounts row other first = absurd first
 agents_queue_none node (Some epoch) None row other first = absurd first
-agents_queue_none node (Some epoch) (Some mounts) row other first = by (agent_begins node epoch mounts row) first
+agents_queue_none {G = G} node (Some epoch) (Some mounts) row other first = by (agent_begins node epoch mounts row) first
   where
     by : (x : Option AgentOp) → firsts.Queues other ≡ agent_first x → G
     by None first = none_some (sym (ap queued_in first))

@@ -1,12 +1,12 @@
 -- An agent takes its node first: each of its calls does so exactly as long as it was told no epoch.
-use Rattle.std.proofs.Common.{◌≡◌, ℕ, List, [], ◌∷◌, Bool, true, false, true≢false, Option, Some, None, refl, sym, ◌∙◌, ap, subst}
+use Rattle.std.proofs.Common.{◌≡◌, ℕ, List, ◌∷◌, Bool, true, false, true≢false, Option, Some, None, refl, sym, ◌∙◌, ap, subst}
 use Rattle.std.specs.Prelude.{is_none, is_some, option_map}
 use Rattle.std.proofs.lemmas.Slice.Eq.{bytes_eq-Decides}
 use Rattle.kube_types.specs.declared.parts.Kind.{Kind}
 use Rattle.kube_types.specs.declared.objects.Object.{Object}
+use Rattle.kube_types.specs.Keys.{row_at}
 use Rattle.call_types.specs.declared.entry.Entry.{Entry}
 use Rattle.call_types.specs.declared.request.Request.{Request}
-use Rattle.call_types.specs.declared.request.Request.TheVariants as requests
 use Rattle.call_types.specs.declared.request.SeatKind.{SeatKind}
 use Rattle.call_types.specs.declared.request.SeatKind.TheVariants as seats
 use Rattle.call_types.specs.declared.reply.MountRow.{MountRow}
@@ -21,15 +21,17 @@ use Rattle.node_agent.specs.declared.agent.AgentOp.{AgentOp}
 use Rattle.node_agent.specs.declared.step.AgentStep.{AgentStep}
 use Rattle.node_agent.specs.declared.step.AgentStep.TheVariants as steps
 use Rattle.node_agent.specs.Agents.{agent_call, call_at}
+use Rattle.node_agent.specs.HistoryLaw.{is_take_of}
 use Rattle.worker_core.specs.declared.role.Role.{Role}
 use Rattle.worker_core.specs.declared.task.First.{First}
+use Rattle.worker_core.specs.declared.task.First.TheVariants as firsts
 use Rattle.worker_core.specs.declared.task.Task.{Task}
 use Rattle.worker_core.specs.declared.task.Task.TheVariants as tasks
 use Rattle.worker_core.specs.declared.task.Under.{Under}
 use Rattle.worker_core.specs.declared.turn.Given.{Given}
 use Rattle.worker_core.specs.declared.turn.Given.TheVariants as givens
 use Rattle.worker_core.specs.Memories.{Memory, memory_of}
-use Rattle.worker_core.specs.Stands.{AnyIsUnderWay, Begun, GivenStands, IsUnderWay, StandsFor, StartsSo, WentOn, is_take_of}
+use Rattle.worker_core.specs.Stands.{AnyIsUnderWay, Begun, GivenStands, IsUnderWay, StandsFor, StartsSo, WentOn}
 use Rattle.worker_core.specs.States.{State, agent_start, asked, call_under, given_call, read_request, start_of}
 use Rattle.worker_core.specs.Steps.Evidence.{task_kind}
 use Rattle.worker_core.specs.Tasks.{IsAgentFirst, IsFirstOf, task_call}
@@ -91,7 +93,8 @@ remembers_epoch role mine is = subst (λ kind. EpochStands kind role.node (memor
 under_took : (role : Role) (u : Under) (mine : List Entry) → role.kind ≡ seats.Agent → IsUnderWay role u mine → is_none (last_epoch role.node mine) ≡ false
 under_took role u mine is (Begun c stand order gives) =
     ap is_none (sym (remembers_epoch role mine is))
-    ∙ decided_took role.node (memory_of role mine).epoch _ _ _ (subst (λ kind. IsFirstOf kind role.node (memory_of role mine) (all_objects c) u.key _) is gives.decided)
+    ∙ decided_took role.node (memory_of role mine).epoch (memory_of role mine).mounts (row_at u.key (all_objects c)) (firsts.Begins u.task)
+    (subst (λ kind. IsFirstOf kind role.node (memory_of role mine) (all_objects c) u.key (firsts.Begins u.task)) is gives.decided)
 under_took role u mine is (WentOn before e past split way told asked moves) =
     subst (λ m. is_none (last_epoch role.node m) ≡ false) (sym split) (took_before (epoch_in role.node e) (last_epoch role.node past) (under_took role before past is way))
 

@@ -1,6 +1,6 @@
 -- What an actor stands for: the entries of its seat, the newest first.
 -- A choice of this project: it is what ties caches, passes and what is under way to what the seat was told.
-use Rattle.std.specs.Prelude.{ℕ, ◌≡◌, ◌<◌, ◌⊎◌, Bool, true, false, ◌&&◌, List, [], ◌∷◌, Option, Some, None, bytes_eq, is_none, length, ⊤}
+use Rattle.std.specs.Prelude.{ℕ, ◌≡◌, ◌<◌, ◌⊎◌, Bool, true, false, ◌&&◌, List, [], ◌∷◌, Option, Some, None, length, ⊤}
 use Rattle.kube_types.specs.declared.parts.Kind.{Kind}
 use Rattle.kube_types.specs.Keys.{AreRows}
 use Rattle.call_types.specs.declared.entry.Entry.{Entry}
@@ -11,7 +11,6 @@ use Rattle.call_types.specs.declared.request.SeatKind.{SeatKind}
 use Rattle.call_types.specs.declared.request.SeatKind.TheVariants as seats
 use Rattle.call_types.specs.declared.reply.Reply.{Reply}
 use Rattle.call_types.specs.declared.reply.Reply.TheVariants as replies
-use Rattle.binder_model.specs.AgentLicence.{last_epoch}
 use Rattle.binder_model.specs.Imports.{ImportsPass}
 use Rattle.binder_model.specs.Licence.{Licensed}
 use Rattle.binder_model.specs.Promises.{most_entries}
@@ -20,6 +19,7 @@ use Rattle.binder_model.specs.Told.{own}
 use Rattle.binder_model.specs.World.{IsHistory}
 use Rattle.binder_machines.specs.KindLaw.{reads_kind}
 use Rattle.informer_cache.specs.All.{AllKnown, AllStandFor, all_objects}
+use Rattle.node_agent.specs.HistoryLaw.{TakesFirst}
 use Rattle.sync_queue.specs.Work.{no_work}
 use Rattle.worker_core.specs.declared.role.Role.{Role}
 use Rattle.worker_core.specs.declared.task.Under.{Under}
@@ -75,16 +75,7 @@ pub record AreOwn (mine : List Entry) : Type 0 where
   pub history : IsHistory setup past
   pub own : mine ≡ own seat past
 
--- an agent takes its node first: each of its calls does so exactly as long as it was told no epoch
-
-abbrev pub is_take_of : List ℕ → Request → Bool
-is_take_of node (requests.TakeNode taken) = bytes_eq taken node
-is_take_of node request = false
-
-abbrev pub TakesFirst : List ℕ → List Entry → Type 0
-TakesFirst node [] = ⊤
-TakesFirst node (e ∷ mine) = (is_take_of node e.request ≡ is_none (last_epoch node mine)) × TakesFirst node mine
-
+-- an agent takes its node first: each of its calls does so exactly as long as it was told no epoch. The other kinds have no start
 abbrev pub StartsSo : SeatKind → List ℕ → List Entry → Type 0
 StartsSo seats.Agent node mine = TakesFirst node mine
 StartsSo _ node mine = ⊤

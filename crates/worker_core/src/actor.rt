@@ -188,7 +188,13 @@ impl Actor {
         ensures { IfOk result (λ answer. DecidesKeys self.old self.new answer) }
     {
         let first = first_kind(self.role.kind);
-        match decide_keys(self.alloc, &self.role, &self.memory, &self.caches, &mut self.queue)? {
+        match decide_keys(
+            self.alloc,
+            &self.role,
+            &self.memory,
+            &self.caches,
+            &mut self.queue,
+        )? {
             Some(under) => {
                 let call = under.call.copy(self.alloc)?;
                 self.under = Some(under);

@@ -12,7 +12,9 @@ ghost use Rattle.worker_core.specs.Turns.{Decides};
 
 use crate::memory::Remembered;
 use crate::role::Role;
-use crate::task::{First, Under, first_of_agent, first_of_binder, first_of_claims, first_of_volumes};
+use crate::task::{
+    First, Under, first_of_agent, first_of_binder, first_of_claims, first_of_volumes,
+};
 use call_types::request::SeatKind;
 use informer_cache::caches::Caches;
 use kube_types::copies::{OutOfMemory, Plain};

@@ -1,0 +1,4 @@
+pub mod Asked
+pub mod Deletion
+pub mod Newest
+pub mod Told

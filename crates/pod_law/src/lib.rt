@@ -1,0 +1,27 @@
+//! What a seat knows of pods by what it was told.
+//!
+//! A deletion stays (`deletions_stay`); so a pod that the newest telling of its key shows staying was never told deleting
+//! (`staying_was_never_deleting`). Both are of every history, whatever was asked in it. An agent that asks what it may is told
+//! of pods by lists of all of them and by watches alone (`agents_are_told_by_reads`).
+#![tactic(auto)]
+
+ghost use Rattle.pod_law.specs.Deletion.{DeletionsStay, StayingWasNeverDeleting};
+ghost use Rattle.pod_law.specs.Tellings.{AgentsAreToldByReads};
+
+/// Of two versions of an object that stood in the store, the later one is deleting where the earlier one is.
+#[tactic(auto, using(crate::proofs::Deletion::deletions_stay))]
+pub fn deletions_stay()
+    ensures { DeletionsStay }
+{}
+
+/// A pod that the newest telling of its key shows staying was never told deleting.
+#[tactic(auto, using(crate::proofs::Newest::staying_was_never_deleting))]
+pub fn staying_was_never_deleting()
+    ensures { StayingWasNeverDeleting }
+{}
+
+/// What an agent may ask tells pods by lists of all of them and by watches alone.
+#[tactic(auto, using(crate::proofs::Asked::agents_are_told_by_reads))]
+pub fn agents_are_told_by_reads()
+    ensures { AgentsAreToldByReads }
+{}
