@@ -1,7 +1,7 @@
 //! What a node agent has to do for a pod that its node runs.
 
 ghost use Rattle.std.specs.Prelude.{◌≡◌};
-ghost use Rattle.std.specs.List.{list_all};
+ghost use Rattle.std.specs.List.{list_all, list_any};
 ghost use Rattle.std.specs.Option.{option_copied};
 ghost use Rattle.kube_types.specs.declared.objects.Object.TheVariants as objects;
 ghost use Rattle.kube_types.specs.Keys.{row_at};
@@ -9,15 +9,18 @@ ghost use Rattle.binder_model.specs.BindWrites.{is_claim_bound};
 ghost use Rattle.binder_model.specs.Choice.{claim_named};
 ghost use Rattle.binder_model.specs.Due.{carried_by, is_pod_mounted, is_ready};
 ghost use Rattle.binder_model.specs.ObjectKeys.{volume_key};
+ghost use Rattle.binder_model.specs.Same.{same_uid};
 ghost use Rattle.settle_check.specs.SoFar.{world_of};
 ghost use Rattle.settle_check.specs.SoFarLaws.{due_so_far};
 
+use call_types::reply::MountRow;
 use device_model::devices::Devices;
 use kube_types::bindings::{carries, is_completed, is_deleting, is_protected_claim, is_scheduled};
 use kube_types::names::Due;
 use kube_types::objects::{Claim, Object, Pod};
 use kube_types::parts::{ClaimPhase, Kind};
 use kube_types::text::Text;
+use kube_types::uid::Uid;
 use version_store::store::Store;
 use volume_match::row_named;
 use world_core::world::World;
@@ -44,8 +47,15 @@ fn is_mounted(devices: &Devices, pod: &Pod) -> bool
 {
     match pod.meta.uid {
         None => false,
-        Some(uid) => devices.mounts(&pod.node).iter().any(|row| row.pod == uid),
+        Some(uid) => is_in(devices.mounts(&pod.node), uid),
     }
+}
+
+/// Whether the pod is among these mounts.
+fn is_in(mounts: &[MountRow], pod: Uid) -> bool
+    ensures { result ≡ list_any (λ r. same_uid r.pod pod) mounts.now }
+{
+    mounts.iter().any(|row| row.pod == pod)
 }
 
 /// Whether each claim of the pod is ready: a look-up by key for the claim, and one for its volume.
