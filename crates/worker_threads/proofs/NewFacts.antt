@@ -1,7 +1,9 @@
 -- New drainers: their seats differ, they stand where their seats have no entries, and the first is no agent.
-use Rattle.std.proofs.Common.{◌≡◌, ◌∙◌, ◌+◌, ◌≤◌, ℕ, zero, suc, List, [], ◌∷◌, ◌++◌, drop, length, Some, refl, sym, ap, subst, arith, append_assoc, append-nil}
+use Rattle.std.proofs.Common.{◌≡◌, ◌∙◌, ◌+◌, ◌≤◌, ◌<◌, ℕ, zero, suc, List, [], ◌∷◌, ◌++◌, drop, length, get_or, add-one, Some, refl, sym, ap, subst, arith, append_assoc, append-nil}
 use Rattle.std.specs.Bool.{⊤}
 use Rattle.std.specs.Prelude.{slice_get}
+use Rattle.std.proofs.lemmas.List.{drop_all}
+use Rattle.std.proofs.Math.Seq.{drop-cons}
 use Rattle.call_types.specs.declared.entry.Entry.{Entry}
 use Rattle.call_types.specs.declared.request.SeatKind.TheVariants as seats
 use Rattle.binder_model.specs.Told.{own}
@@ -81,7 +83,7 @@ new_steady first nodes ds new = subst (λ (xs : List Drainer). BeginsSteady (rol
 
 pub new_stand : (first : ℕ) (nodes : List (List ℕ)) (ds : List Drainer) → AreNew first nodes ds → (past : List Entry) → HaveNoEntries (seats_of ds) past → AreStanding ds past
 new_stand first nodes ds new past none =
-    let all = one_more new.binder _ new.binder_is.stands (one_more new.claims _ new.claims_is.stands (one_more new.volumes _ new.volumes_is.stands (agents_stand (first + 5) nodes new.agents new.agents_are))) in
+    let all = one_more new.binder (new.claims ∷ new.volumes ∷ new.agents) new.binder_is.stands (one_more new.claims (new.volumes ∷ new.agents) new.claims_is.stands (one_more new.volumes new.agents new.volumes_is.stands (agents_stand (first + 5) nodes new.agents new.agents_are))) in
     record { each = each_stands ds (subst AllStand (sym new.are) all) past none; steady = new_steady first nodes ds new }
 
 -- ---- how they are made
@@ -93,26 +95,29 @@ three_items a b c none ones two three is_none is_one is_two is_three =
     let second : two ≡ a ∷ b ∷ [] = is_two ∙ ap (λ xs. xs ++ b ∷ []) first in
     is_three ∙ ap (λ xs. xs ++ c ∷ []) second
 
-pub all_new : (a b c : Drainer) (first : ℕ) (nodes : List (List ℕ)) (none ones two three items : List Drainer) → none ≡ [] → ones ≡ none ++ a ∷ [] → two ≡ ones ++ b ∷ [] → three ≡ two ++ c ∷ [] → AreAdded (first + 5) nodes three items
-    → IsNewAt seats.Binder [] first a → IsNewAt seats.ClaimProtect [] (first + 3) b → IsNewAt seats.VolumeProtect [] (first + 4) c → AreNew first nodes items
-all_new a b c first nodes none ones two three items is_none is_one is_two is_three added is_a is_b is_c = record {
+pub all_new : (a b c : Drainer) (first : ℕ) (nodes : List (List ℕ)) (node : List ℕ) (none ones two three items : List Drainer) → none ≡ [] → ones ≡ none ++ a ∷ [] → two ≡ ones ++ b ∷ [] → three ≡ two ++ c ∷ [] → AreAdded (first + 5) nodes three items
+    → node ≡ [] → IsNewAt seats.Binder node (first + 0) a → IsNewAt seats.ClaimProtect node (first + 3) b → IsNewAt seats.VolumeProtect node (first + 4) c → AreNew first nodes items
+all_new a b c first nodes node none ones two three items is_none is_one is_two is_three added no_node is_a is_b is_c = record {
   binder = a;
   claims = b;
   volumes = c;
   agents = added.agents;
   are = added.are ∙ ap (λ xs. xs ++ added.agents) (three_items a b c none ones two three is_none is_one is_two is_three);
-  binder_is = is_a;
-  claims_is = is_b;
-  volumes_is = is_c;
+  binder_is = let here : first + 0 ≡ first = omega arith in subst (λ n. IsNewAt seats.Binder [] n a) here (subst (λ (x : List ℕ). IsNewAt seats.Binder x (first + 0) a) no_node is_a);
+  claims_is = subst (λ (x : List ℕ). IsNewAt seats.ClaimProtect x (first + 3) b) no_node is_b;
+  volumes_is = subst (λ (x : List ℕ). IsNewAt seats.VolumeProtect x (first + 4) c) no_node is_c;
   agents_are = added.new;
 }
 
 -- agents so far, and one more
-pub added_more : (first seat : ℕ) (nodes rest : List (List ℕ)) (initial before : List Drainer) (node : List ℕ) (d : Drainer) → IsNewAt seats.Agent node seat d
-    → ((agents : List Drainer) → AreNewAgents seat (node ∷ rest) agents → AreAdded first nodes initial (before ++ agents))
-    → (agents : List Drainer) → AreNewAgents (seat + 1) rest agents → AreAdded first nodes initial ((before ++ d ∷ []) ++ agents)
-added_more first seat nodes rest initial before node d new goes agents later =
-    subst (λ (xs : List Drainer). AreAdded first nodes initial xs) (sym (append_assoc before (d ∷ []) agents)) (goes (d ∷ agents) (new, later))
+pub added_more : (first seat : ℕ) (nodes items : List (List ℕ)) (index : ℕ) (initial before after : List Drainer) (node : List ℕ) (d : Drainer) → index < length items → node ≡ get_or items index node → IsNewAt seats.Agent node seat d → after ≡ before ++ d ∷ []
+    → ((agents : List Drainer) → AreNewAgents seat (drop index items) agents → AreAdded first nodes initial (before ++ agents))
+    → (agents : List Drainer) → AreNewAgents (seat + 1) (drop (index + 1) items) agents → AreAdded first nodes initial (after ++ agents)
+added_more first seat nodes items index initial before after node d within read new pushed goes agents later =
+    let here : drop index items ≡ node ∷ drop (index + 1) items = drop-cons items index node within ∙ ap (λ n. n ∷ drop (suc index) items) (sym read) ∙ ap (λ (k : ℕ). node ∷ drop k items) (sym (add-one index)) in
+    subst (λ (xs : List Drainer). AreAdded first nodes initial xs) (sym (append_assoc before (d ∷ []) agents) ∙ ap (λ xs. xs ++ agents) (sym pushed))
+    (goes (d ∷ agents) (subst (λ (rest : List (List ℕ)). AreNewAgents seat rest (d ∷ agents)) (sym here) (new, later)))
 
-pub all_added : (first seat : ℕ) (nodes : List (List ℕ)) (initial items : List Drainer) → ((agents : List Drainer) → AreNewAgents seat [] agents → AreAdded first nodes initial (items ++ agents)) → AreAdded first nodes initial items
-all_added first seat nodes initial items goes = subst (λ (xs : List Drainer). AreAdded first nodes initial xs) (append-nil items) (goes [] refl)
+pub all_added : (first seat : ℕ) (nodes items : List (List ℕ)) (index : ℕ) (initial now : List Drainer) → length items ≤ index → ((agents : List Drainer) → AreNewAgents seat (drop index items) agents → AreAdded first nodes initial (now ++ agents)) → AreAdded first nodes initial now
+all_added first seat nodes items index initial now over goes =
+    subst (λ (xs : List Drainer). AreAdded first nodes initial xs) (append-nil now) (goes [] (subst (λ (rest : List (List ℕ)). AreNewAgents seat rest []) (sym (drop_all index items over)) refl))
