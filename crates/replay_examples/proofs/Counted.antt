@@ -13,7 +13,7 @@ use Rattle.script_parts.specs.declared.loss.Fate.TheVariants.{Told}
 use Rattle.script_parts.specs.declared.part.Part.{Part}
 use Rattle.script_parts.specs.Fates.{fate_of}
 use Rattle.script_runs.specs.Calls.{AreCalls, IsCall, IsCallWith, MayEnd, MoreCalls, NoCalls, seat_at}
-use Rattle.replay_examples.specs.Calls.{CallExamples, EndExamples, SeatExamples, lists, part, reads, some_key, watches, whole_pass}
+use Rattle.replay_examples.specs.Calls.{CallExamples, EndExamples, SeatExamples, is_refused, lists, part, reads, some_key, watches, whole_pass}
 
 pub seat_cases : SeatExamples
 seat_cases = record {
@@ -101,6 +101,10 @@ nothing_since (e ∷ recent) earlier are none =
     let both = length-append recent earlier in
     absurd (omega (arith, long, both))
 
+not_told : MayEnd seats.Agent [] (is_refused false ∷ []) → ⊥
+not_told (inl quiet) = subst (HasNoNews kinds.Pod) (sym (quiet.are ∙ append-nil quiet.recent)) (quiet.quiet kinds.Pod refl)
+not_told (inr stale) = elim stale.1 [ inl told ↦ absurd (true≢false (sym told.0)) | inr none ↦ none ]
+
 pub end_cases : EndExamples
 end_cases = record {
   after_a_whole_pass = inl (record { recent = whole_pass; are = refl; quiet = whole });
@@ -109,4 +113,8 @@ end_cases = record {
   not_before_the_pass_is_whole = has_news (watches kinds.PersistentVolumeClaim ∷ watches kinds.PersistentVolume ∷ []) kinds.StorageClass refl (λ none. none);
   not_where_a_list_came_after_it = has_news (lists kinds.StorageClass ∷ whole_pass) kinds.StorageClass refl (λ none. none);
   not_by_the_pass_of_an_earlier_turn = not_ended whole_pass whole_pass kinds.StorageClass refl (λ recent are none. nothing_since recent whole_pass are none);
+  where_an_agent_is_stale = inr (refl, inl (refl, refl));
+  and_at_once_from_then_on = inr (refl, inl (refl, refl));
+  not_where_it_was_not_told = not_told;
+  not_of_another_kind = has_news (is_refused true ∷ []) kinds.StorageClass refl (λ none. none);
 }

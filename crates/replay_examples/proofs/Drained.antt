@@ -1,5 +1,5 @@
 -- The examples of drains compute.
-use Rattle.std.proofs.Common.{◌≡◌, ◌≤◌, ℕ, ◌+◌, List, [], ◌∷◌, Bool, true, false, true≢false, Option, Some, ◌⊎◌, inl, inr, refl, sym, ◌∙◌, ap, subst, append-nil, arith}
+use Rattle.std.proofs.Common.{◌≡◌, ◌≤◌, ℕ, ◌+◌, List, [], ◌∷◌, Bool, true, false, true≢false, Option, Some, None, ◌⊎◌, inl, inr, refl, sym, ◌∙◌, ap, subst, append-nil, arith}
 use Rattle.std.specs.Prelude.{is_none}
 use Rattle.std.specs.declared.cmp.Ordering.{Ordering}
 use Rattle.std.specs.declared.cmp.Ordering.TheVariants.{Less}
@@ -19,14 +19,15 @@ use Rattle.binder_model.specs.Store.{leaves}
 use Rattle.binder_model.specs.World.{world}
 use Rattle.model_examples.specs.DueActions.{pending_a}
 use Rattle.model_examples.specs.Samples.{key_a}
+use Rattle.model_examples.proofs.DueActions.{pod_due_examples}
 use Rattle.model_examples.proofs.Tellings.{IsIn, differ, found_in, one}
-use Rattle.settle_check.specs.SoFar.{IsBuiltDue, IsFirstBuiltDue, IsSettledSoFar}
+use Rattle.settle_check.specs.SoFar.{IsBuiltDue, IsFirstBuiltDue, IsSettledSoFar, is_built}
 use Rattle.worker_threads.specs.Longer.{AreToldOf, IsOneOf}
 use Rattle.script_text.specs.declared.script.Script.{Script}
 use Rattle.script_parts.specs.Parts.{drain_seats}
 use Rattle.script_runs.specs.Replays.{IsDrain, NoMoves, Progress, begun}
 use Rattle.replay_examples.specs.Calls.{reads}
-use Rattle.replay_examples.specs.Drains.{DrainExamples, Drains, SpentExamples, volume_script}
+use Rattle.replay_examples.specs.Drains.{CountedExamples, DrainExamples, Drains, SpentExamples, node_script, volume_script}
 use Rattle.replay_examples.specs.Replays.{empty_script}
 use Rattle.replay_examples.proofs.Replayed.{nothing_due}
 
@@ -102,17 +103,46 @@ no_need = record {
   is = refl;
 }
 
+agents_drain : Drains node_script 1 1 (reads 10 true ∷ [])
+agents_drain = record {
+  past = reads 10 true ∷ [];
+  made = 1;
+  budget = 1;
+  raises = refl;
+  entries = record { added = reads 10 true ∷ []; are = refl; count = refl; of_seats = (inr (inr (inr (inr (inr (inl refl))))), refl, tt) };
+  few = omega arith;
+  ends = inr refl;
+  none = λ settled. absurd (unsettled settled);
+  is = refl;
+}
+
+some_of : {X : Type 0} (a b : X) → Some a ≡ Some b → a ≡ b
+some_of a b e = cc
+
 pub drain_cases : DrainExamples
 drain_cases = record {
   one_call_is_made = one_of_a_drain 5 (inl refl);
   by_any_of_the_drain_seats = one_of_a_drain 9 (inr (inr (inr (inr (inl refl)))));
   not_by_a_seat_after_them = λ d. let b = (seat_between 10 (told_of volume_script 1 1 (reads 10 true ∷ []) d).0).1 in absurd (omega (arith, b));
+  by_the_agent_of_a_node = agents_drain;
   not_by_a_user = λ d. let b = (seat_between 4 (told_of volume_script 1 1 (reads 4 true ∷ []) d).0).0 in absurd (omega (arith, b));
   not_with_its_answer_lost = λ d. absurd (true≢false (sym (told_of volume_script 1 1 (reads 5 false ∷ []) d).1));
   not_past_the_budget = λ d. let few = within_budget volume_script 0 1 (reads 5 true ∷ []) d in absurd (omega (arith, few));
   not_short_of_it_while_something_is_due = short;
   none_where_nothing_is_due = no_need;
   not_even_one = λ d. let e : reads 5 true ∷ [] ≡ [] = ap (λ (p : Progress). p.past) d.is ∙ d.none nothing_due in absurd (cc);
+}
+
+-- ---- what counts
+
+pub counted_cases : CountedExamples
+unfolding or_due volume_due reference_due referred_due claim_with claim_due named_due completed_due next_write claim_write
+counted_cases = record {
+  a_mount_counts = (pod_due_examples.mount_of_ready, refl);
+  none_of_a_mounted_pod = λ h. let none : Some dues.Mount ≡ None = h.0 ∙ sym pod_due_examples.no_mount_twice in absurd (cc);
+  a_finish_counts = (pod_due_examples.finish_of_deleting, refl);
+  an_assignment_does_not = λ action due. let assign : Some action ≡ Some dues.Assign = due ∙ sym pod_due_examples.assign_where_node_serves in subst (λ (a : Due). is_built a ≡ false) (sym (some_of action dues.Assign assign)) refl;
+  nor_does_reclaiming = refl;
 }
 
 -- ---- how it ends

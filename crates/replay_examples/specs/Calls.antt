@@ -4,7 +4,7 @@ use Rattle.kube_types.specs.declared.key.Key.{Key}
 use Rattle.kube_types.specs.declared.parts.Kind.{Kind}
 use Rattle.kube_types.specs.declared.parts.Kind.TheVariants as kinds
 use Rattle.call_types.specs.declared.entry.Entry.{Entry}
-use Rattle.call_types.specs.declared.reply.Refusal.TheVariants.{NotFound}
+use Rattle.call_types.specs.declared.reply.Refusal.TheVariants.{NotFound, StaleEpoch}
 use Rattle.call_types.specs.declared.reply.Reply.TheVariants as replies
 use Rattle.call_types.specs.declared.request.Request.TheVariants as requests
 use Rattle.call_types.specs.declared.request.SeatKind.TheVariants as seats
@@ -57,6 +57,10 @@ lists kind = record { seat = 5; kind = seats.Binder; request = requests.List kin
 abbrev pub whole_pass : List Entry
 whole_pass = watches kinds.StorageClass ∷ watches kinds.PersistentVolumeClaim ∷ watches kinds.PersistentVolume ∷ []
 
+-- a call of the agent of a node, refused as another agent took the node since; its answer told or lost
+abbrev pub is_refused : Bool → Entry
+is_refused told = record { seat = 5; kind = seats.Agent; request = requests.Mounts (codes "n1") 1; reply = replies.Refused (StaleEpoch 2); told = told }
+
 pub record EndExamples : Type 0 where
   pub after_a_whole_pass : MayEnd seats.Binder [] whole_pass
   pub later_reads_change_nothing : MayEnd seats.Binder [] (reads 5 true ∷ whole_pass)
@@ -64,3 +68,7 @@ pub record EndExamples : Type 0 where
   pub not_before_the_pass_is_whole : MayEnd seats.Binder [] (watches kinds.PersistentVolumeClaim ∷ watches kinds.PersistentVolume ∷ []) → ⊥
   pub not_where_a_list_came_after_it : MayEnd seats.Binder [] (lists kinds.StorageClass ∷ whole_pass) → ⊥
   pub not_by_the_pass_of_an_earlier_turn : MayEnd seats.Binder whole_pass whole_pass → ⊥
+  pub where_an_agent_is_stale : MayEnd seats.Agent [] (is_refused true ∷ [])
+  pub and_at_once_from_then_on : MayEnd seats.Agent (is_refused true ∷ []) (is_refused true ∷ [])
+  pub not_where_it_was_not_told : MayEnd seats.Agent [] (is_refused false ∷ []) → ⊥
+  pub not_of_another_kind : MayEnd seats.Binder [] (is_refused true ∷ []) → ⊥

@@ -4,7 +4,7 @@
 #![tactic(auto)]
 
 ghost use Rattle.replay_examples.specs.Calls.{CallExamples, EndExamples, SeatExamples};
-ghost use Rattle.replay_examples.specs.Drains.{DrainExamples, SpentExamples};
+ghost use Rattle.replay_examples.specs.Drains.{CountedExamples, DrainExamples, SpentExamples};
 ghost use Rattle.replay_examples.specs.Lives.{LifeExamples};
 ghost use Rattle.replay_examples.specs.Replays.{EmptyExamples, FewerExamples, TurnExamples, UserExamples};
 
@@ -51,6 +51,11 @@ pub fn fewer_examples()
 /// The calls of a drain.
 pub fn drain_examples()
     ensures { DrainExamples }
+{}
+
+/// What counts as due so far.
+pub fn counted_examples()
+    ensures { CountedExamples }
 {}
 
 /// How a replay ends where its budget is spent.

@@ -290,7 +290,7 @@ agents_put node (p ∷ ps) h = by (text_cmp p.0 (agent_word node)) (agents_put n
     by Equal rest = (refl, h.1)
     by Greater rest = (refl, h)
 
-agents_and : (agents : List Pair) (o : Option (List ℕ)) → AreAgents agents → AreAgents (and_node agents o)
+pub agents_and : (agents : List Pair) (o : Option (List ℕ)) → AreAgents agents → AreAgents (and_node agents o)
 agents_and agents None h = h
 agents_and agents (Some node) h = agents_put node agents h
 

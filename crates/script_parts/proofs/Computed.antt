@@ -24,6 +24,12 @@ parts = record {
   volumes_come_after_claims = refl;
   not_before_them = λ e. absurd (cc);
   agents_have_theirs = refl;
+  agents_come_after_workers = refl;
+  an_agent_has_a_life_more_for_each_restart = refl;
+  the_lost_calls_of_an_agent = refl;
+  agents_by_the_names_of_nodes = refl;
+  not_in_the_order_of_their_turns = λ e. absurd (cc);
+  an_agent_without_turns_has_no_life = refl;
 }
 
 pub seats : SeatExamples
@@ -50,11 +56,29 @@ budgets = record {
 
 pub limits : LimitExamples
 limits = record {
-  within = record { imports = refl; lines = (omega arith, (omega arith, (tt, (tt, (tt, (tt, (tt, (tt, (tt, tt))))))))); few = omega arith; nodes = omega arith };
+  within = record {
+    imports = refl;
+    lines = (omega arith, (omega arith, (tt, (tt, (tt, (tt, (tt, (tt, (tt, tt)))))))));
+    few = omega arith;
+    nodes = omega arith;
+    order = ((refl, tt), (tt, tt));
+    known = (tt, (tt, (tt, (tt, (tt, (tt, (tt, (tt, (tt, tt)))))))));
+  };
   the_last_user_and_the_most_calls = (omega arith, (omega arith, tt));
   no_fifth_user = λ h. let fifth = h.1.0 in absurd (omega (arith, fifth));
   no_longer_turn = λ h. let turn = h.lines.0 in absurd (omega (arith, turn));
   no_ninth_node = λ h. let nodes = h.nodes in absurd (omega (arith, nodes));
+  agents_of_its_nodes = record {
+    imports = refl;
+    lines = (omega arith, (tt, (tt, (omega arith, (omega arith, tt)))));
+    few = omega arith;
+    nodes = omega arith;
+    order = ((refl, (refl, tt)), ((refl, tt), (tt, tt)));
+    known = (refl, (refl, (refl, (refl, (tt, tt)))));
+  };
+  no_other_agent = λ h. let known = h.known.0 in absurd (cc);
+  no_node_twice = λ h. let order = h.order.0.0 in absurd (cc);
+  no_other_order = λ h. let order = h.order.0.0 in absurd (cc);
   no_imports = λ h. let imports = h.imports in absurd (cc);
 }
 
@@ -68,6 +92,7 @@ built = record {
   not_the_last = λ e. absurd (cc);
   a_lost_call_counts = refl;
   a_restart_counts = refl;
-  agents_are_not_built = refl;
+  so_are_agents = refl;
+  what_provisions_is_not = refl;
   not_all_built = λ h. let ops = h.0 in absurd (cc);
 }

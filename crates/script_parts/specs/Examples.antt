@@ -72,9 +72,18 @@ two_binders = script_of (codes "n1" ∷ codes "n2" ∷ []) (
 abbrev pub with_ops : Script
 with_ops = script_of (codes "n1" ∷ []) (lines.Turn ops_1 1 ∷ lines.Turn binder_1 5 ∷ lines.Restart binder_1 3 ∷ [])
 
--- turns of each kind that is built
+-- turns of each kind of worker that is built
 abbrev pub with_protection : Script
 with_protection = script_of [] (lines.Turn volumes_4 1 ∷ lines.Restart claims_1 2 ∷ lines.Turn claims_1 5 ∷ lines.Turn binder_1 5 ∷ [])
+
+abbrev pub agent_of : List ℕ → Actor
+agent_of node = Agent node
+
+-- turns of the agents of two nodes, the first of which is restarted; the third has none
+abbrev pub with_agents : Script
+with_agents = script_of (codes "n1" ∷ codes "n2" ∷ codes "n3" ∷ []) (
+    lines.Turn (agent_of (codes "n2")) 5 ∷ lines.Restart (agent_of (codes "n1")) 6 ∷ lines.Lose (agent_of (codes "n1")) 6 true
+    ∷ lines.Turn (agent_of (codes "n1")) 6 ∷ lines.Turn volumes_4 1 ∷ [])
 
 pub record PartExamples : Type 0 where
   pub the_first_begins_after_the_users : (part_of two_binders binder_1).first ≡ 5
@@ -93,7 +102,13 @@ pub record PartExamples : Type 0 where
   pub they_protect_claims : (part_of with_protection claims_1).kind ≡ seats.ClaimProtect
   pub volumes_come_after_claims : (part_of with_protection volumes_4).first ≡ 8
   pub not_before_them : (part_of with_protection volumes_4).first ≢ 6
-  pub agents_have_theirs : kind_of (Agent (codes "n1")) ≡ seats.Agent
+  pub agents_have_theirs : kind_of (agent_of (codes "n1")) ≡ seats.Agent
+  pub agents_come_after_workers : (part_of with_agents (agent_of (codes "n1"))).first ≡ 6
+  pub an_agent_has_a_life_more_for_each_restart : lives_of (part_of with_agents (agent_of (codes "n1"))) ≡ 2
+  pub the_lost_calls_of_an_agent : (part_of with_agents (agent_of (codes "n1"))).losses ≡ record { call = 6; after = true } ∷ []
+  pub agents_by_the_names_of_nodes : (part_of with_agents (agent_of (codes "n2"))).first ≡ 8
+  pub not_in_the_order_of_their_turns : (part_of with_agents (agent_of (codes "n2"))).first ≢ 6
+  pub an_agent_without_turns_has_no_life : lives_of (part_of with_agents (agent_of (codes "n3"))) ≡ 0
 
 pub record SeatExamples : Type 0 where
   pub drains_come_after_all_lives : drain_seats two_binders ≡ 10 ∷ 11 ∷ 12 ∷ 13 ∷ 14 ∷ 15 ∷ 16 ∷ []
@@ -145,6 +160,10 @@ pub record LimitExamples : Type 0 where
   pub no_fifth_user : AreWithinLimits (lines.Drain ∷ user_line 5 ∷ []) → ⊥
   pub no_longer_turn : IsReadable (script_of [] (lines.Turn binder_1 1001 ∷ [])) → ⊥
   pub no_ninth_node : IsReadable (script_of ([] ∷ [] ∷ [] ∷ [] ∷ [] ∷ [] ∷ [] ∷ [] ∷ [] ∷ []) []) → ⊥
+  pub agents_of_its_nodes : IsReadable with_agents
+  pub no_other_agent : IsReadable (script_of (codes "n1" ∷ []) (lines.Turn (agent_of (codes "n2")) 1 ∷ [])) → ⊥
+  pub no_node_twice : IsReadable (script_of (codes "n1" ∷ codes "n1" ∷ []) []) → ⊥
+  pub no_other_order : IsReadable (script_of (codes "n2" ∷ codes "n1" ∷ []) []) → ⊥
   pub no_imports : IsReadable (record (script_of [] []) { setup = record { pools = []; faults = []; imports = some_node ∷ [] } }) → ⊥
 
 -- ---- which actors are built
@@ -158,5 +177,6 @@ pub record BuiltExamples : Type 0 where
   pub not_the_last : first_unbuilt (lines.Drain ∷ lines.Turn ops_1 3 ∷ lines.Turn ops_1 4 ∷ []) ≢ Some 2
   pub a_lost_call_counts : first_unbuilt (lines.Lose ops_1 1 true ∷ []) ≡ Some 0
   pub a_restart_counts : first_unbuilt (lines.Restart ops_1 1 ∷ []) ≡ Some 0
-  pub agents_are_not_built : first_unbuilt (lines.Turn (Agent (codes "n1")) 1 ∷ []) ≡ Some 0
+  pub so_are_agents : first_unbuilt with_agents.lines ≡ None
+  pub what_provisions_is_not : first_unbuilt (lines.Turn (agent_of (codes "n1")) 1 ∷ lines.Turn ops_1 1 ∷ []) ≡ Some 1
   pub not_all_built : AreBuilt with_ops.lines → ⊥

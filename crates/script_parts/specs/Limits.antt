@@ -1,6 +1,9 @@
 -- The scripts that can be replayed: those that keep the limits of the format, and name actors that are built.
 -- A choice of this project.
 use Rattle.std.specs.Prelude.{ℕ, ◌≡◌, ◌≤◌, ◌<◌, ◌+◌, Bool, true, false, List, [], ◌∷◌, Option, Some, None, Ok, length, ⊤, if◌then◌else◌}
+use Rattle.plain_data.specs.Pairs.{text_cmp}
+use Rattle.plain_data.specs.Rows.{IsRising}
+use Rattle.kube_types.specs.Bindings.{has_name}
 use Rattle.script_lines.specs.declared.actors.WorkerKind.{WorkerKind}
 use Rattle.script_lines.specs.declared.actors.WorkerKind.TheVariants as workers
 use Rattle.script_lines.specs.declared.actors.Actor.{Actor}
@@ -21,12 +24,36 @@ abbrev pub AreWithinLimits : List Line → Type 0
 AreWithinLimits [] = ⊤
 AreWithinLimits (line ∷ lines) = IsWithinLimits line × AreWithinLimits lines
 
--- what the reader of scripts gives: no imports, at most 4,096 lines, at most 8 nodes
+-- an agent is one of these nodes
+abbrev pub IsKnown : List (List ℕ) → Actor → Type 0
+IsKnown nodes (Worker w) = ⊤
+IsKnown nodes (Agent node) = has_name node nodes ≡ true
+
+-- the agents that lines name are those of these nodes
+abbrev pub NamesKnown : List (List ℕ) → Line → Type 0
+NamesKnown nodes (Call user request) = ⊤
+NamesKnown nodes (Lose actor call after) = IsKnown nodes actor
+NamesKnown nodes (Restart actor after) = IsKnown nodes actor
+NamesKnown nodes (Turn actor calls) = IsKnown nodes actor
+NamesKnown nodes Drain = ⊤
+
+abbrev pub NameKnown : List (List ℕ) → List Line → Type 0
+NameKnown nodes [] = ⊤
+NameKnown nodes (line ∷ lines) = NamesKnown nodes line × NameKnown nodes lines
+
+-- names in their order, none twice
+abbrev pub AreInOrder : List (List ℕ) → Type 0
+AreInOrder names = IsRising text_cmp (λ name. name) names
+
+-- what the reader of scripts gives: no imports, at most 4,096 lines, at most 8 nodes in the order of their names, and agents
+-- of these nodes
 pub record IsReadable (script : Script) : Type 0 where
   pub imports : script.setup.imports ≡ []
   pub lines : AreWithinLimits script.lines
   pub few : length script.lines ≤ 4096
   pub nodes : length script.node_names ≤ 8
+  pub order : AreInOrder script.node_names
+  pub known : NameKnown script.node_names script.lines
 
 -- each script that the reader answers is readable
 abbrev pub ReadsReadable : Type 0
@@ -36,7 +63,7 @@ ReadsReadable = (text : List ℕ) (script : Script) → script_of text ≡ Ok sc
 abbrev pub ReadsNumberedReadable : Type 0
 ReadsNumberedReadable = (text : List ℕ) (numbered : Numbered) → read_numbered_of text ≡ Ok numbered → IsReadable numbered.script
 
--- the actors of this kind are built. Each later kind turns its line
+-- the workers of this kind are built. Each later kind turns its line
 abbrev pub is_kind_built : WorkerKind → Bool
 is_kind_built workers.Binder = true
 is_kind_built workers.Ops = false
@@ -46,7 +73,7 @@ is_kind_built workers.Volumes = true
 
 abbrev pub is_actor_built : Actor → Bool
 is_actor_built (Worker w) = is_kind_built w.kind
-is_actor_built (Agent node) = false
+is_actor_built (Agent node) = true
 
 -- the line names no actor that is not built
 abbrev pub is_line_built : Line → Bool

@@ -20,7 +20,7 @@ fn is_actor_built(actor: &Actor) -> bool
 {
     match actor {
         Actor::Worker(worker) => is_kind_built(worker.kind),
-        Actor::Agent { node: _ } => false,
+        Actor::Agent { node: _ } => true,
     }
 }
 

@@ -1,9 +1,9 @@
 //! The parts of a script's actors.
 
 ghost use Rattle.std.specs.Prelude.{◌≡◌, ◌<◌, ◌+◌, ◌^◌, IfOk, bytes_eq, length};
-ghost use Rattle.script_lines.specs.Actors.{actor_word, worker_word};
+ghost use Rattle.script_lines.specs.Actors.{actor_word};
 ghost use Rattle.script_text.specs.Said.{restarts_of};
-ghost use Rattle.script_parts.specs.Parts.{is_named, kind_of_worker, lives_of, lost_calls, part_at};
+ghost use Rattle.script_parts.specs.Parts.{is_named, kind_of, kind_of_worker, lives_of, lost_calls, part_at};
 
 use crate::loss::Loss;
 use crate::part::Part;
@@ -11,8 +11,7 @@ use call_types::request::SeatKind;
 use kube_types::copies::OutOfMemory;
 use kube_types::items::Items;
 use kube_types::text::Text;
-use kube_types::words::Worded;
-use script_lines::actors::{Actor, Worker, WorkerKind};
+use script_lines::actors::{Actor, WorkerKind};
 use script_text::script::Line;
 use std::alloc::Global;
 
@@ -71,8 +70,7 @@ fn restarts_in(alloc: Global, name: &Text, lines: &[Line]) -> Result<Items<u64>,
     Ok(restarts)
 }
 
-/// The kind of the seats of a worker.
-fn kind_of(kind: WorkerKind) -> SeatKind
+fn kind_of_worker(kind: WorkerKind) -> SeatKind
     ensures { result ≡ kind_of_worker kind }
 {
     match kind {
@@ -84,22 +82,32 @@ fn kind_of(kind: WorkerKind) -> SeatKind
     }
 }
 
-/// The part of a worker whose first life has this seat.
+/// The kind of the seats of an actor.
+fn kind_of(actor: &Actor) -> SeatKind
+    ensures { result ≡ kind_of actor.now }
+{
+    match actor {
+        Actor::Worker(worker) => kind_of_worker(worker.kind),
+        Actor::Agent { node: _ } => SeatKind::Agent,
+    }
+}
+
+/// The part of an actor whose first life has this seat.
 pub fn part_from(
     alloc: Global,
-    worker: Worker,
+    actor: &Actor,
     first: u64,
     lines: &[Line],
 ) -> Result<Part, OutOfMemory>
-    ensures { IfOk result (λ part. part ≡ part_at (worker_word worker) (kind_of_worker worker.kind) first lines.now) }
+    ensures { IfOk result (λ part. part ≡ part_at (actor_word actor.now) (kind_of actor.now) first lines.now) }
 {
-    let name = Text::new(alloc, worker.word())?;
+    let name = actor.name(alloc)?;
     let named = is_named(alloc, &name, lines)?;
     let losses = losses_in(alloc, &name, lines)?;
     let restarts = restarts_in(alloc, &name, lines)?;
     Ok(Part {
         name,
-        kind: kind_of(worker.kind),
+        kind: kind_of(actor),
         named,
         first,
         losses,

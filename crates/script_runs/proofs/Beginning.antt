@@ -1,5 +1,5 @@
 -- The stage before the first line, and how a replay goes through the lines and ends.
-use Rattle.std.proofs.Common.{◌≡◌, ℕ, ◌≤◌, ◌+◌, ◌-◌, zero, suc, List, [], ◌∷◌, ◌++◌, length, drop, Option, Some, None, inl, inr, ◌⊎◌, refl, sym, ◌∙◌, ap, subst, arith}
+use Rattle.std.proofs.Common.{◌≡◌, ℕ, ◌≤◌, ◌+◌, ◌-◌, zero, suc, List, [], ◌∷◌, ◌++◌, length, drop, map, Option, Some, None, inl, inr, ◌⊎◌, refl, sym, ◌∙◌, ap, subst, arith, append_assoc, append-nil}
 use Rattle.std.specs.Prelude.{slice_get}
 use Rattle.std.proofs.lemmas.List.{drop_all}
 use Rattle.call_types.specs.declared.entry.Entry.{Entry}
@@ -10,7 +10,7 @@ use Rattle.settle_check.specs.SoFar.{IsFirstBuiltDue, IsSettledSoFar}
 use Rattle.world_core.specs.declared.drained.Drained.{Drained}
 use Rattle.world_core.specs.declared.drained.Drained.TheVariants.{Settled, Spent}
 use Rattle.worker_threads.specs.declared.drainers.Drainer.{Drainer}
-use Rattle.worker_threads.specs.Drainers.{AreNew, AreStanding, HaveNoEntries, seats_of}
+use Rattle.worker_threads.specs.Drainers.{AreNew, AreNewAgents, AreStanding, HaveNoEntries, seats_of}
 use Rattle.worker_threads.specs.Longer.{IsOneOf}
 use Rattle.worker_threads.proofs.NewFacts.{new_seats as seats_of_new}
 use Rattle.worker_threads.specs.Rounds.{EndsWith, made_of}
@@ -18,27 +18,25 @@ use Rattle.script_text.specs.declared.script.Line.{Line}
 use Rattle.script_text.specs.declared.script.Script.{Script}
 use Rattle.script_runs.specs.declared.player.Player.{Player}
 use Rattle.script_runs.specs.declared.stage.Stage.{Stage}
-use Rattle.script_lines.specs.declared.actors.Worker.{Worker as WorkerData}
-use Rattle.script_lines.specs.declared.actors.WorkerKind.{WorkerKind}
+use Rattle.script_lines.specs.declared.actors.Actor.{Actor}
 use Rattle.script_lines.specs.declared.actors.WorkerKind.TheVariants as workers
-use Rattle.script_lines.specs.declared.actors.WorkerNumber.{WorkerNumber}
-use Rattle.script_lines.specs.declared.actors.WorkerNumber.TheVariants.{One, Two, Three, Four}
 use Rattle.script_parts.specs.declared.part.Part.{Part}
 use Rattle.script_parts.specs.Budget.{first_budget}
-use Rattle.script_parts.specs.Parts.{drain_seat, drain_seats, first_actor_seat}
+use Rattle.script_parts.specs.Parts.{drain_seat, drain_seats, first_actor_seat, seats_from}
+use Rattle.script_runs.specs.Diligent.{role_of}
 use Rattle.script_runs.specs.Replays.{EndsAs, IsDrain, IsMove, IsReplay, MoreMoves, NoMoves, Progress, begun}
 use Rattle.script_runs.specs.Steps.Living.{Lives}
 use Rattle.worker_core.specs.declared.role.Role.{Role}
 use Rattle.script_runs.specs.Steps.Playing.{EachPlayer, IsNewPlayer, Plays}
-use Rattle.script_runs.specs.Steps.Standing.{Ended, HasMoved, IsBudget, SoFar, Stands, built_parts, built_workers, end_of, part_from, parts_from, parts_in, seat_of_drains, seat_past, with_made, workers_of}
+use Rattle.script_runs.specs.Steps.Standing.{AreNewPlayers, EachWithRole, Ended, HasAdded, HasMoved, IsBudget, SoFar, Stands, agents_for, built_actors, built_parts, end_of, part_from, parts_from, parts_in, seat_of_drains, seat_past, with_made, workers_of}
 use Rattle.script_runs.proofs.Lived.{new_lives}
 use Rattle.script_runs.proofs.Since.{new_since}
 
 -- ---- the beginning
 
-new_plays : (x : Player) → IsNewPlayer x → Plays x [] (λ seat. [])
-new_plays x is = record {
-  kind = ap (λ (r : Role). r.kind) is.new.is;
+new_plays : (role : Role) (x : Player) → IsNewPlayer role x → Plays x [] (λ seat. [])
+new_plays role x is = record {
+  kind = ap (λ (r : Role). r.kind) is.new.is ∙ is.kind;
   first = let s = is.seat in omega (arith, s);
   reached = let s = is.seat in omega (arith, s);
   since = new_since x.actor is.stands;
@@ -53,35 +51,22 @@ first_most : (option : Option ℕ) → IsBudget option (first_budget option)
 first_most (Some given) = refl
 first_most None = omega arith
 
--- the new drainers have seats of the drains
-new_seats : (script : Script) (first : ℕ) (ds : List Drainer) → AreNew first ds → first ≡ drain_seat script → (seat : ℕ) → IsOneOf (seats_of ds) seat → IsOneOf (drain_seats script) seat
-new_seats script first ds new is seat own = by (subst (λ xs. IsOneOf xs seat) (seats_of_new first ds new) own)
+-- ---- the seats of the new drainers are seats of the drains
+
+agent_seats : (first from : ℕ) (nodes : List (List ℕ)) (ds : List Drainer) → first ≡ from → AreNewAgents first nodes ds → (seat : ℕ) → IsOneOf (seats_of ds) seat → IsOneOf (seats_from from nodes) seat
+agent_seats first from [] ds same new seat own = subst (λ (xs : List Drainer). IsOneOf (seats_of xs) seat) new own
+agent_seats first from (node ∷ nodes) [] same new seat own = absurd new
+agent_seats first from (node ∷ nodes) (d ∷ ds) same new seat (inl at) = inl (sym same ∙ sym new.0.at ∙ at)
+agent_seats first from (node ∷ nodes) (d ∷ ds) same new seat (inr own) = inr (agent_seats (first + 1) (from + 1) nodes ds (ap (λ n. n + 1) same) new.1 seat own)
+
+new_seats : (script : Script) (first : ℕ) (ds : List Drainer) → AreNew first script.node_names ds → first ≡ drain_seat script → (seat : ℕ) → IsOneOf (seats_of ds) seat → IsOneOf (drain_seats script) seat
+new_seats script first ds new is seat own = by (subst (λ xs. IsOneOf xs seat) (seats_of_new first script.node_names ds new) own)
   where
-    by : IsOneOf (first ∷ (first + 3) ∷ (first + 4) ∷ []) seat → IsOneOf (drain_seats script) seat
+    by : IsOneOf (first ∷ (first + 3) ∷ (first + 4) ∷ seats_of new.agents) seat → IsOneOf (drain_seats script) seat
     by (inl at) = inl (sym is ∙ at)
     by (inr (inl at)) = inr (inr (inr (inl (ap (λ n. n + 3) (sym is) ∙ at))))
     by (inr (inr (inl at))) = inr (inr (inr (inr (inl (ap (λ n. n + 4) (sym is) ∙ at)))))
-    by (inr (inr (inr none))) = elim none [ ]
-
-pub begins : (script : Script) (option : Option ℕ) (s : Stage) (first : ℕ) → s.world.past ≡ [] → s.world.setup ≡ script.setup → parts_in s.players.items ≡ built_parts script.lines → EachPlayer IsNewPlayer s.players.items
-    → AreNew first s.drainers → first ≡ drain_seat script → ((past : List Entry) → HaveNoEntries (seats_of s.drainers) past → AreStanding s.drainers past) → s.drained ≡ 0 → s.budget ≡ first_budget option → Stands script option (begun option) s
-begins script option s first past setup parts new are seat stand drained budget = record {
-  past = past;
-  setup = setup;
-  parts = parts;
-  plays = λ place x at named. subst (λ h. Plays x h (λ seat. [])) (sym past) (new_plays x (new place x at));
-  lives = λ place x at named. subst (Lives x) (sym past) (new_lives x (new place x at));
-  made = λ place x at. (new place x at).made;
-  drainers = subst (AreStanding s.drainers) (sym past) (stand [] (none_yet (seats_of s.drainers)));
-  seats = new_seats script first s.drainers are seat;
-  drained = drained;
-  budget = budget;
-  few = omega (arith, drained);
-  most = subst (IsBudget option) (sym budget) (first_most option);
-}
-
-pub new_made : (players : List Player) → EachPlayer IsNewPlayer players → EachPlayer (λ x. x.made ≤ 0) players
-new_made players new place x at = let m = (new place x at).made in omega (arith, m)
+    by (inr (inr (inr later))) = inr (inr (inr (inr (inr (agent_seats (first + 5) (drain_seat script + 5) script.node_names new.agents (ap (λ n. n + 5) is) new.agents_are seat later)))))
 
 -- ---- the players
 
@@ -90,81 +75,98 @@ drop_at [] place x at = none_some at
 drop_at (y ∷ xs) zero x at = ap (λ z. z ∷ xs) (one y x at)
 drop_at (y ∷ xs) (suc place) x at = let e : suc (place + 1) ≡ suc place + 1 = omega arith in subst (λ n. drop (suc place) (y ∷ xs) ≡ x ∷ drop n (y ∷ xs)) e (drop_at xs place x at)
 
-appended : (ps qs rs : List Part) → (ps ++ qs) ++ rs ≡ ps ++ (qs ++ rs)
-appended [] qs rs = refl
-appended (p ∷ ps) qs rs = ap (λ rest. p ∷ rest) (appended ps qs rs)
+parts_new : (lines : List Line) (actors : List Actor) (first : ℕ) (xs : List Player) → AreNewPlayers lines actors first xs → parts_in xs ≡ parts_from lines actors first
+parts_new lines [] first xs new = ap parts_in new
+parts_new lines (actor ∷ actors) first [] new = absurd new
+parts_new lines (actor ∷ actors) first (x ∷ xs) new =
+    ap (λ p. p ∷ parts_in xs) new.0 ∙ ap (λ ps. part_from lines actor first ∷ ps) (parts_new lines actors (end_of (part_from lines actor first)) xs new.2)
 
-parts_more : (lines : List Line) (ws vs : List WorkerData) (first : ℕ) → parts_from lines (ws ++ vs) first ≡ parts_from lines ws first ++ parts_from lines vs (seat_past lines ws first)
-parts_more lines [] vs first = refl
-parts_more lines (w ∷ ws) vs first = ap (λ ps. part_from lines w first ∷ ps) (parts_more lines ws vs (end_of (part_from lines w first)))
+each_new : (lines : List Line) (actors : List Actor) (first : ℕ) (xs : List Player) → AreNewPlayers lines actors first xs → EachWithRole IsNewPlayer actors xs
+each_new lines [] first xs new place actor x there at = none_some there
+each_new lines (a ∷ actors) first [] new place actor x there at = absurd new
+each_new lines (a ∷ actors) first (y ∷ xs) new zero actor x there at = subst (λ (z : Player). IsNewPlayer (role_of actor) z) (one y x at) (subst (λ (b : Actor). IsNewPlayer (role_of b) y) (one a actor there) new.1)
+each_new lines (a ∷ actors) first (y ∷ xs) new (suc place) actor x there at = each_new lines actors (end_of (part_from lines a first)) xs new.2 place actor x there at
 
-past_more : (lines : List Line) (ws vs : List WorkerData) (first : ℕ) → seat_past lines (ws ++ vs) first ≡ seat_past lines vs (seat_past lines ws first)
-past_more lines [] vs first = refl
-past_more lines (w ∷ ws) vs first = past_more lines ws vs (end_of (part_from lines w first))
+-- each player is one of some actor
+some_actor : (lines : List Line) (actors : List Actor) (first : ℕ) (xs : List Player) → AreNewPlayers lines actors first xs → (place : ℕ) (x : Player) → slice_get xs place ≡ Some x → (role : Role) × IsNewPlayer role x
+some_actor lines [] first xs new place x at = none_some (ap (λ (ys : List Player). slice_get ys place) (sym new) ∙ at)
+some_actor lines (a ∷ actors) first [] new place x at = absurd new
+some_actor lines (a ∷ actors) first (y ∷ xs) new zero x at = (role_of a, subst (IsNewPlayer (role_of a)) (one y x at) new.1)
+some_actor lines (a ∷ actors) first (y ∷ xs) new (suc place) x at = some_actor lines actors (end_of (part_from lines a first)) xs new.2 place x at
 
-parts_in_more : (xs : List Player) (x : Player) → parts_in (xs ++ x ∷ []) ≡ parts_in xs ++ x.part ∷ []
-parts_in_more [] x = refl
-parts_in_more (y ∷ xs) x = ap (λ ps. y.part ∷ ps) (parts_in_more xs x)
+both_new : (lines : List Line) (ones others : List Actor) (first : ℕ) (xs ys : List Player) → AreNewPlayers lines ones first xs → AreNewPlayers lines others (seat_past lines ones first) ys → AreNewPlayers lines (ones ++ others) first (xs ++ ys)
+both_new lines [] others first xs ys a b = subst (λ (zs : List Player). AreNewPlayers lines others first (zs ++ ys)) (sym a) b
+both_new lines (actor ∷ ones) others first [] ys a b = absurd a
+both_new lines (actor ∷ ones) others first (x ∷ xs) ys a b = (a.0, a.1, both_new lines ones others (end_of (part_from lines actor first)) xs ys a.2 b)
 
-and_then : (ps : List Part) (p : Part) (qs : List Part) → (ps ++ p ∷ []) ++ qs ≡ ps ++ p ∷ qs
-and_then [] p qs = refl
-and_then (q ∷ ps) p qs = ap (λ rest. q ∷ rest) (and_then ps p qs)
+past_more : (lines : List Line) (ones others : List Actor) (first : ℕ) → seat_past lines (ones ++ others) first ≡ seat_past lines others (seat_past lines ones first)
+past_more lines [] others first = refl
+past_more lines (actor ∷ ones) others first = past_more lines ones others (end_of (part_from lines actor first))
 
-pub no_players : EachPlayer IsNewPlayer []
-no_players place x at = none_some at
+-- players of some actors, and then of others
+pub added_then : (lines : List Line) (ones others : List Actor) (first middle next : ℕ) (before between after : List Player) → HasAdded lines ones first middle before between → HasAdded lines others middle next between after → HasAdded lines (ones ++ others) first next before after
+added_then lines ones others first middle next before between after a b = record {
+  added = a.added ++ b.added;
+  are = b.are ∙ ap (λ xs. xs ++ b.added) a.are ∙ append_assoc before a.added b.added;
+  new = both_new lines ones others first a.added b.added a.new (subst (λ n. AreNewPlayers lines others n b.added) a.seat b.new);
+  seat = b.seat ∙ ap (seat_past lines others) a.seat ∙ sym (past_more lines ones others first);
+}
 
--- a player, pushed after others that are new
-pub each_more : (xs : List Player) (x : Player) → EachPlayer IsNewPlayer xs → IsNewPlayer x → EachPlayer IsNewPlayer (xs ++ x ∷ [])
-each_more [] x all own zero y at = subst IsNewPlayer (one x y at) own
-each_more [] x all own (suc place) y at = none_some at
-each_more (z ∷ xs) x all own zero y at = all zero y at
-each_more (z ∷ xs) x all own (suc place) y at = each_more xs x (λ p w there. all (suc p) w there) own place y at
+pub none_added : (lines : List Line) (first : ℕ) (players : List Player) → HasAdded lines [] first first players players
+none_added lines first players = record { added = []; are = sym (append-nil players); new = refl; seat = refl }
 
--- the players of a kind are added one by one
-module _ (lines : List Line) (kind : WorkerKind) (numbers : List WorkerNumber) (index : ℕ) (number : WorkerNumber) (here : slice_get numbers index ≡ Some number) where
-  abbrev worker : WorkerData
-  worker = record { kind = kind; number = number }
+pub one_added : (lines : List Line) (actor : Actor) (first next : ℕ) (x : Player) (before after : List Player) → x.part ≡ part_from lines actor first → IsNewPlayer (role_of actor) x → next ≡ end_of x.part → after ≡ before ++ x ∷ [] → HasAdded lines (actor ∷ []) first next before after
+one_added lines actor first next x before after part new ends is = record { added = x ∷ []; are = is; new = (part, new, refl); seat = ends ∙ ap end_of part }
 
-  pub adds_part : (seat next : ℕ) (before after : List Player) (added : Player) (all : List Part) → added.part ≡ part_from lines worker seat → next ≡ end_of added.part → after ≡ before ++ added ∷ []
-      → parts_in before ++ parts_from lines (workers_of kind (drop index numbers)) seat ≡ all → parts_in after ++ parts_from lines (workers_of kind (drop (index + 1) numbers)) next ≡ all
-  adds_part seat next before after added all part ends pushed so_far =
-      let rest : workers_of kind (drop index numbers) ≡ worker ∷ workers_of kind (drop (index + 1) numbers) = ap (workers_of kind) (drop_at numbers index number here) in
-      let seats : next ≡ end_of (part_from lines worker seat) = ends ∙ ap end_of part in
-      let later = parts_from lines (workers_of kind (drop (index + 1) numbers)) next in
-      ap (λ xs. parts_in xs ++ later) pushed ∙ ap (λ ps. ps ++ later) (parts_in_more before added) ∙ and_then (parts_in before) added.part later
-      ∙ ap (λ p. parts_in before ++ p ∷ later) part ∙ ap (λ n. parts_in before ++ part_from lines worker seat ∷ parts_from lines (workers_of kind (drop (index + 1) numbers)) n) seats
-      ∙ ap (λ ws. parts_in before ++ parts_from lines ws seat) (sym rest) ∙ so_far
+-- one more, and then those that are left
+pub added_next : {X : Type 0} (lines : List Line) (actor_of : X → Actor) (items : List X) (index : ℕ) (item : X) (seat next end : ℕ) (before between after : List Player) → slice_get items index ≡ Some item
+    → HasAdded lines (actor_of item ∷ []) seat next before between → HasAdded lines (map actor_of (drop (index + 1) items)) next end between after → HasAdded lines (map actor_of (drop index items)) seat end before after
+added_next lines actor_of items index item seat next end before between after here first rest =
+    subst (λ xs. HasAdded lines (map actor_of xs) seat end before after) (sym (drop_at items index item here)) (added_then lines (actor_of item ∷ []) (map actor_of (drop (index + 1) items)) seat next end before between after first rest)
 
-  pub adds_seat : (seat next end : ℕ) (added : Part) → added ≡ part_from lines worker seat → next ≡ end_of added → seat_past lines (workers_of kind (drop index numbers)) seat ≡ end → seat_past lines (workers_of kind (drop (index + 1) numbers)) next ≡ end
-  adds_seat seat next end added part ends so_far =
-      let rest : workers_of kind (drop index numbers) ≡ worker ∷ workers_of kind (drop (index + 1) numbers) = ap (workers_of kind) (drop_at numbers index number here) in
-      let seats : next ≡ end_of (part_from lines worker seat) = ends ∙ ap end_of part in
-      ap (seat_past lines (workers_of kind (drop (index + 1) numbers))) seats ∙ ap (λ ws. seat_past lines ws seat) (sym rest) ∙ so_far
+-- none is left
+pub all_added : {X : Type 0} (lines : List Line) (actor_of : X → Actor) (items : List X) (index seat first : ℕ) (initial now : List Player) → length items ≤ index
+    → ((end : ℕ) (after : List Player) → HasAdded lines (map actor_of (drop index items)) seat end now after → HasAdded lines (map actor_of items) first end initial after) → HasAdded lines (map actor_of items) first seat initial now
+all_added lines actor_of items index seat first initial now over goes =
+    goes seat now (subst (λ xs. HasAdded lines (map actor_of xs) seat seat now now) (sym (drop_all index items over)) (none_added lines seat now))
 
--- the workers of three kinds, added after each other
-parts_of_three : (lines : List Line) (bs cs vs : List WorkerData) (first second third : ℕ) (ones two three : List Part) → ones ≡ parts_from lines bs first → second ≡ seat_past lines bs first → two ≡ ones ++ parts_from lines cs second → third ≡ seat_past lines cs second
-    → three ≡ two ++ parts_from lines vs third → three ≡ parts_from lines (bs ++ (cs ++ vs)) first
-parts_of_three lines bs cs vs first second third ones two three is_one is_second is_two is_third is_three =
-    is_three ∙ ap (λ ps. ps ++ parts_from lines vs third) is_two ∙ appended ones (parts_from lines cs second) (parts_from lines vs third)
-    ∙ ap (λ n. ones ++ (parts_from lines cs second ++ parts_from lines vs n)) is_third ∙ ap (λ ps. ones ++ ps) (sym (parts_more lines cs vs second))
-    ∙ ap (λ n. ones ++ parts_from lines (cs ++ vs) n) is_second ∙ ap (λ ps. ps ++ parts_from lines (cs ++ vs) (seat_past lines bs first)) is_one ∙ sym (parts_more lines bs (cs ++ vs) first)
+-- the workers of three kinds and the agents, added after each other
+pub built_added : (lines : List Line) (nodes : List (List ℕ)) (second third fourth end : ℕ) (none ones two three items : List Player) → none ≡ []
+    → HasAdded lines (workers_of workers.Binder) first_actor_seat second none ones → HasAdded lines (workers_of workers.Claims) second third ones two → HasAdded lines (workers_of workers.Volumes) third fourth two three
+    → HasAdded lines (agents_for nodes) fourth end three items → HasAdded lines (built_actors nodes) first_actor_seat end [] items
+unfolding built_actors
+built_added lines nodes second third fourth end none ones two three items is_none binders claims volumes agents =
+    subst (λ xs. HasAdded lines (workers_of workers.Binder ++ (workers_of workers.Claims ++ (workers_of workers.Volumes ++ agents_for nodes))) first_actor_seat end xs items) is_none
+    (added_then lines (workers_of workers.Binder) (workers_of workers.Claims ++ (workers_of workers.Volumes ++ agents_for nodes)) first_actor_seat second end none ones items binders
+    (added_then lines (workers_of workers.Claims) (workers_of workers.Volumes ++ agents_for nodes) second third end ones two items claims
+    (added_then lines (workers_of workers.Volumes) (agents_for nodes) third fourth end two three items volumes agents)))
 
-pub three_parts : (lines : List Line) (numbers : List WorkerNumber) (second third : ℕ) (none ones two three : List Part) → numbers ≡ One ∷ Two ∷ Three ∷ Four ∷ [] → none ≡ []
-    → ones ≡ none ++ parts_from lines (workers_of workers.Binder numbers) first_actor_seat → second ≡ seat_past lines (workers_of workers.Binder numbers) first_actor_seat
-    → two ≡ ones ++ parts_from lines (workers_of workers.Claims numbers) second → third ≡ seat_past lines (workers_of workers.Claims numbers) second → three ≡ two ++ parts_from lines (workers_of workers.Volumes numbers) third → three ≡ built_parts lines
-unfolding built_workers
-three_parts lines numbers second third none ones two three all is_none is_one is_second is_two is_third is_three =
-    parts_of_three lines (workers_of workers.Binder numbers) (workers_of workers.Claims numbers) (workers_of workers.Volumes numbers) first_actor_seat second third ones two three
-    (is_one ∙ ap (λ ps. ps ++ parts_from lines (workers_of workers.Binder numbers) first_actor_seat) is_none) is_second is_two is_third is_three
-    ∙ ap (λ (ns : List WorkerNumber). parts_from lines (workers_of workers.Binder ns ++ (workers_of workers.Claims ns ++ workers_of workers.Volumes ns)) first_actor_seat) all
+pub begins : (script : Script) (option : Option ℕ) (s : Stage) (first : ℕ) → s.world.past ≡ [] → s.world.setup ≡ script.setup → HasAdded script.lines (built_actors script.node_names) first_actor_seat first [] s.players.items
+    → AreNew first script.node_names s.drainers → first ≡ drain_seat script → ((past : List Entry) → HaveNoEntries (seats_of s.drainers) past → AreStanding s.drainers past) → s.drained ≡ 0 → s.budget ≡ first_budget option → Stands script option (begun option) s
+begins script option s first past setup added are seat stand drained budget =
+    let lines = script.lines in
+    let actors = built_actors script.node_names in
+    let items = s.players.items in
+    let new = subst (AreNewPlayers lines actors first_actor_seat) (sym added.are) added.new in
+    record {
+      past = past;
+      setup = setup;
+      parts = parts_new lines actors first_actor_seat items new;
+      plays = λ place x at named. let some = some_actor lines actors first_actor_seat items new place x at in subst (λ h. Plays x h (λ seat. [])) (sym past) (new_plays some.0 x some.1);
+      lives = λ place actor x there at named. subst (Lives (role_of actor) x) (sym past) (new_lives (role_of actor) x (each_new lines actors first_actor_seat items new place actor x there at));
+      made = λ place x at. (some_actor lines actors first_actor_seat items new place x at).1.made;
+      drainers = subst (AreStanding s.drainers) (sym past) (stand [] (none_yet (seats_of s.drainers)));
+      seats = new_seats script first s.drainers are seat;
+      drained = drained;
+      budget = budget;
+      few = omega (arith, drained);
+      most = subst (IsBudget option) (sym budget) (first_most option);
+    }
 
-pub three_past : (lines : List Line) (numbers : List WorkerNumber) (second third end : ℕ) → numbers ≡ One ∷ Two ∷ Three ∷ Four ∷ [] → second ≡ seat_past lines (workers_of workers.Binder numbers) first_actor_seat
-    → third ≡ seat_past lines (workers_of workers.Claims numbers) second → end ≡ seat_past lines (workers_of workers.Volumes numbers) third → end ≡ seat_of_drains lines
-unfolding built_workers
-three_past lines numbers second third end all is_second is_third is_end =
-    is_end ∙ ap (seat_past lines (workers_of workers.Volumes numbers)) is_third ∙ sym (past_more lines (workers_of workers.Claims numbers) (workers_of workers.Volumes numbers) second)
-    ∙ ap (seat_past lines (workers_of workers.Claims numbers ++ workers_of workers.Volumes numbers)) is_second ∙ sym (past_more lines (workers_of workers.Binder numbers) (workers_of workers.Claims numbers ++ workers_of workers.Volumes numbers) first_actor_seat)
-    ∙ ap (λ (ns : List WorkerNumber). seat_past lines (workers_of workers.Binder ns ++ (workers_of workers.Claims ns ++ workers_of workers.Volumes ns)) first_actor_seat) all
+pub new_made : (lines : List Line) (actors : List Actor) (first next : ℕ) (players : List Player) → HasAdded lines actors first next [] players → EachPlayer (λ x. x.made ≤ 0) players
+new_made lines actors first next players added place x at =
+    let m = (some_actor lines actors first players (subst (AreNewPlayers lines actors first) (sym added.are) added.new) place x at).1.made in
+    omega (arith, m)
 
 -- ---- the lines
 

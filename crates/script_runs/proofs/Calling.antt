@@ -1,9 +1,11 @@
 -- What one call of an actor makes of the history, and of what the actor stands for.
-use Rattle.std.proofs.Common.{◌≡◌, ◌≢◌, ℕ, List, ◌∷◌, Bool, true, false, Option, Some, None, refl, sym, ◌∙◌, ap, subst}
+use Rattle.std.proofs.Common.{◌≡◌, ◌≢◌, ◌<◌, ℕ, List, ◌∷◌, length, Bool, true, false, Option, Some, None, refl, sym, ◌∙◌, ap, subst}
 use Rattle.call_types.specs.declared.entry.Entry.{Entry}
 use Rattle.call_types.specs.declared.request.Request.{Request}
 use Rattle.call_types.specs.declared.request.SeatKind.{SeatKind}
 use Rattle.call_types.specs.declared.reply.Reply.{Reply}
+use Rattle.binder_model.specs.Imports.{ImportsPass}
+use Rattle.binder_model.specs.Promises.{most_entries}
 use Rattle.binder_model.specs.Told.{own}
 use Rattle.binder_model.specs.World.{IsHistory}
 use Rattle.diligent_law.specs.Diligence.{entries}
@@ -43,7 +45,7 @@ lost_role s = by s.given
     by (Some givens.Start) = refl
     by None = refl
 
-module _ (seat : ℕ) (before after : History) (old new : State) (kind : SeatKind) (request : Request) (reply : Reply) (of : kind ≡ old.role.kind) (history : IsHistory after.setup after.past) where
+module _ (seat : ℕ) (before after : History) (old new : State) (kind : SeatKind) (request : Request) (reply : Reply) (of : kind ≡ old.role.kind) (history : IsHistory after.setup after.past) (short : length after.past < most_entries) (imports : ImportsPass after.setup.imports) where
   others : (told : Bool) → after.past ≡ entry_of seat kind request reply told ∷ before.past → (other : ℕ) → other ≢ seat → own other after.past ≡ own other before.past
   others told is other differs = ap (own other) is ∙ own_other (entry_of seat kind request reply told) before.past other differs
 
@@ -51,7 +53,7 @@ module _ (seat : ℕ) (before after : History) (old new : State) (kind : SeatKin
   front told is = ap (own seat) is ∙ own_mine (entry_of seat kind request reply told) before.past seat refl
 
   are_own : (told : Bool) → after.past ≡ entry_of seat kind request reply told ∷ before.past → AreOwn (entry_of seat kind request reply told ∷ own seat before.past)
-  are_own told is = record { setup = after.setup; past = after.past; seat = seat; history = history; own = sym (front told is) }
+  are_own told is = record { setup = after.setup; past = after.past; seat = seat; imports = imports; short = short; history = history; own = sym (front told is) }
 
   pub told_called : IsBuiltKind old.role.kind → asked old ≡ Some request → after.past ≡ entry_of seat kind request reply true ∷ before.past
       → new ≡ absorbed old new.caches request (outcomes.Told reply)

@@ -6,20 +6,18 @@ use Rattle.call_types.specs.declared.entry.Entry.{Entry}
 use Rattle.model_laws.proofs.Lists.{none_some}
 use Rattle.world_core.specs.declared.drained.Drained.{Drained}
 use Rattle.script_lines.specs.declared.actors.Actor.{Actor}
-use Rattle.script_lines.specs.declared.actors.Actor.TheVariants.{Worker, Agent}
 use Rattle.script_lines.specs.Actors.{actor_word}
 use Rattle.script_text.specs.declared.script.Line.TheVariants as kinds_of_line
 use Rattle.script_text.specs.declared.script.Script.{Script}
 use Rattle.script_parts.specs.declared.part.Part.{Part}
-use Rattle.script_parts.specs.Limits.{AreBuilt, is_actor_built}
+use Rattle.script_parts.specs.Limits.{AreBuilt, IsKnown, IsReadable, is_actor_built}
 use Rattle.script_parts.specs.Parts.{is_named, lives_of, part_of}
 use Rattle.script_runs.specs.declared.player.Player.{Player}
 use Rattle.script_runs.specs.declared.stage.Stage.{Stage}
 use Rattle.script_runs.specs.Diligent.{AreDiligent, IsDiligentLife, IsDiligentReplay, role_of}
 use Rattle.script_runs.specs.Replays.{NoMoves, Progress}
-use Rattle.script_runs.specs.Steps.Living.{role_of_part}
 use Rattle.script_runs.specs.Steps.Standing.{Ended, SoFar, SomeStands, Stands, parts_in, place_of}
-use Rattle.script_runs.proofs.Casting.{built_at, named_at, part_of_built}
+use Rattle.script_runs.proofs.Casting.{actor_at, built_at, known_at, named_at, part_of_built}
 use Rattle.script_runs.proofs.Lived.{each_life}
 use Rattle.script_runs.proofs.Needs.{its_name, its_part}
 
@@ -29,36 +27,35 @@ player_of [] place part at = none_some at
 player_of (x ∷ xs) zero part at = (x, refl)
 player_of (x ∷ xs) (suc place) part at = player_of xs place part at
 
-role_built : (script : Script) (actor : Actor) → is_actor_built actor ≡ true → role_of actor ≡ role_of_part (part_of script actor)
-role_built script (Agent node) built = absurd (true≢false (sym built))
-role_built script (Worker w) built = refl
-
-module _ (script : Script) (option : Option ℕ) (end : Progress) (s : Stage) (stands : Stands script option end s) where
-  diligent_actor : (actor : Actor) → AreBuilt script.lines → is_actor_built actor ≡ true → is_named (actor_word actor) script.lines ≡ true → (seat : ℕ) → (part_of script actor).first ≤ seat → seat < (part_of script actor).first + lives_of (part_of script actor)
+module _ (script : Script) (option : Option ℕ) (end : Progress) (s : Stage) (readable : IsReadable script) (stands : Stands script option end s) where
+  diligent_actor : (actor : Actor) → AreBuilt script.lines → is_actor_built actor ≡ true → IsKnown script.node_names actor → is_named (actor_word actor) script.lines ≡ true → (seat : ℕ) → (part_of script actor).first ≤ seat → seat < (part_of script actor).first + lives_of (part_of script actor)
       → IsDiligentLife (role_of actor) (part_of script actor) seat (end.made (part_of script actor).name) end.past
-  diligent_actor actor all built named seat low high =
-      let found = player_of s.players.items (place_of actor) (part_of script actor) (ap (λ ps. slice_get ps (place_of actor)) stands.parts ∙ part_of_built script actor all built) in
+  diligent_actor actor all built known named seat low high =
+      let found = player_of s.players.items place (part_of script actor) (ap (λ ps. slice_get ps place) stands.parts ∙ part_of_built script actor all readable.order built known) in
       of_player found.0 found.1
     where
-      of_player : (x : Player) → slice_get s.players.items (place_of actor) ≡ Some x → IsDiligentLife (role_of actor) (part_of script actor) seat (end.made (part_of script actor).name) end.past
+      place : ℕ
+      place = place_of script.node_names actor
+
+      of_player : (x : Player) → slice_get s.players.items place ≡ Some x → IsDiligentLife (role_of actor) (part_of script actor) seat (end.made (part_of script actor).name) end.past
       of_player x at =
           let some : SomeStands script option s = record { progress = end; stands = stands } in
-          let part : part_of script actor ≡ x.part = its_part script option actor s all built some x at in
-          let its : x.part.named ≡ true = its_name script option actor s all built some x at named in
-          let life = each_life x s.world.past end.idle (stands.plays (place_of actor) x at its) (stands.lives (place_of actor) x at its) seat
+          let part : part_of script actor ≡ x.part = its_part script option actor s readable all built known some x at in
+          let its : x.part.named ≡ true = its_name script option actor s readable all built known some x at named in
+          let lives = stands.lives place actor x (actor_at script.node_names actor built known) at its in
+          let life = each_life (role_of actor) x s.world.past end.idle (stands.plays place x at its) lives seat
           (subst (λ (p : Part). p.first ≤ seat) part low) (subst (λ (p : Part). seat < p.first + lives_of p) part high) in
-          subst (λ role. IsDiligentLife role (part_of script actor) seat (end.made (part_of script actor).name) end.past) (sym (role_built script actor built))
-          (subst (λ h. IsDiligentLife (role_of_part (part_of script actor)) (part_of script actor) seat (end.made (part_of script actor).name) h) stands.past
-          (subst (λ (p : Part). IsDiligentLife (role_of_part p) p seat (end.made p.name) s.world.past) (sym part)
-          (subst (λ made. IsDiligentLife (role_of_part x.part) x.part seat made s.world.past) (stands.made (place_of actor) x at) life)))
+          subst (λ h. IsDiligentLife (role_of actor) (part_of script actor) seat (end.made (part_of script actor).name) h) stands.past
+          (subst (λ (p : Part). IsDiligentLife (role_of actor) p seat (end.made p.name) s.world.past) (sym part)
+          (subst (λ made. IsDiligentLife (role_of actor) x.part seat made s.world.past) (stands.made place x at) life))
 
   pub are_diligent : AreBuilt script.lines → AreDiligent script end
   are_diligent all place actor calls at seat low high =
-      diligent_actor actor all (built_at script.lines place (kinds_of_line.Turn actor calls) all at) (named_at script.lines place actor calls at) seat low high
+      diligent_actor actor all (built_at script.lines place (kinds_of_line.Turn actor calls) all at) (known_at script.node_names script.lines place (kinds_of_line.Turn actor calls) readable.known at) (named_at script.lines place actor calls at) seat low high
 
-pub diligent_replay : (script : Script) (option : Option ℕ) (place : ℕ) (before after : Stage) (past : List Entry) (ending : Drained) → AreBuilt script.lines → length script.lines ≤ place → SoFar script option place before
+pub diligent_replay : (script : Script) (option : Option ℕ) (place : ℕ) (before after : Stage) (past : List Entry) (ending : Drained) → IsReadable script → AreBuilt script.lines → length script.lines ≤ place → SoFar script option place before
     → ((p : Progress) → Stands script option p before → Ended script option p after ending) → past ≡ after.world.past → IsDiligentReplay script option past ending
-diligent_replay script option place before after past ending built all so ended is =
+diligent_replay script option place before after past ending readable built all so ended is =
     let e = ended so.progress so.stands in
     record {
       calls = record {
@@ -69,5 +66,5 @@ diligent_replay script option place before after past ending built all so ended 
         history = is ∙ e.stands.past;
         ends = e.ends;
       };
-      diligent = are_diligent script option e.after after e.stands built;
+      diligent = are_diligent script option e.after after readable e.stands built;
     }

@@ -11,3 +11,4 @@ mod Since
 mod Staging
 mod Stepping
 mod Turning
+mod Stale

@@ -25,7 +25,7 @@ use Rattle.script_parts.specs.Parts.{lives_of}
 use Rattle.script_runs.specs.declared.player.Player.{Player}
 use Rattle.script_runs.specs.Calls.{restarts_before, seat_at}
 use Rattle.script_runs.specs.Diligent.{AreOfLife, IsDiligentLife, leaves_entry, left_by}
-use Rattle.script_runs.specs.Steps.Living.{GoesOn, Lives, LivesIdle, Living, role_of_part}
+use Rattle.script_runs.specs.Steps.Living.{GoesOn, Lives, LivesIdle, Living}
 use Rattle.script_runs.specs.Steps.Playing.{IsLife, IsNewPlayer, Plays}
 use Rattle.script_runs.proofs.Lives.{seat_more, seat_within}
 use Rattle.script_runs.proofs.Stepping.{less}
@@ -71,60 +71,60 @@ none_diligent role kind first fourth earlier between later is four key due = abs
 no_life : (part : Part) (seat made : ℕ) (past : List Entry) → own seat past ≡ [] → seat_at part made < seat → AreOfLife part seat made past []
 no_life part seat made past none before = record { of_seat = sym none; left = sym (left_none part seat made before) }
 
-ended_life : (part : Part) (seat made : ℕ) (past : List Entry) (s : State) → IsBuiltKind part.kind → Living part seat made past s → IsDiligentLife (role_of_part part) part seat made past
-ended_life part seat made past s built living = record { calls = living.calls; are = living.are; diligent = played_is_diligent (role_of_part part) s living.calls built living.played }
+ended_life : (role : Role) (part : Part) (seat made : ℕ) (past : List Entry) (s : State) → IsBuiltKind role.kind → Living role part seat made past s → IsDiligentLife role part seat made past
+ended_life role part seat made past s built living = record { calls = living.calls; are = living.are; diligent = played_is_diligent role s living.calls built living.played }
 
 -- what others do leaves it
-kept_life : (part : Part) (seat made then_made : ℕ) (past later : List Entry) → own seat later ≡ own seat past → left_by part seat then_made ≡ left_by part seat made → IsDiligentLife (role_of_part part) part seat made past → IsDiligentLife (role_of_part part) part seat then_made later
-kept_life part seat made then_made past later same left life = record {
+kept_life : (role : Role) (part : Part) (seat made then_made : ℕ) (past later : List Entry) → own seat later ≡ own seat past → left_by part seat then_made ≡ left_by part seat made → IsDiligentLife role part seat made past → IsDiligentLife role part seat then_made later
+kept_life role part seat made then_made past later same left life = record {
   calls = life.calls;
   are = record { of_seat = life.are.of_seat ∙ sym same; left = life.are.left ∙ sym left };
   diligent = life.diligent;
 }
 
 -- each life so far, and each later one
-pub each_life : (x : Player) (past : List Entry) (idle : ℕ → List Entry) → Plays x past idle → Lives x past → (seat : ℕ) → x.part.first ≤ seat → seat < x.part.first + lives_of x.part → IsDiligentLife (role_of_part x.part) x.part seat x.made past
-each_life x past idle plays lives seat low high = by (nat_lt seat x.seat) (nat_lt x.seat seat) refl refl
+pub each_life : (role : Role) (x : Player) (past : List Entry) (idle : ℕ → List Entry) → Plays x past idle → Lives role x past → (seat : ℕ) → x.part.first ≤ seat → seat < x.part.first + lives_of x.part → IsDiligentLife role x.part seat x.made past
+each_life role x past idle plays lives seat low high = by (nat_lt seat x.seat) (nat_lt x.seat seat) refl refl
   where
-    by : (b a : Bool) → nat_lt seat x.seat ≡ b → nat_lt x.seat seat ≡ a → IsDiligentLife (role_of_part x.part) x.part seat x.made past
+    by : (b a : Bool) → nat_lt seat x.seat ≡ b → nat_lt x.seat seat ≡ a → IsDiligentLife role x.part seat x.made past
     by true a eb ea = lives.ended seat low (grind (arith, nat_tests))
     by false true eb ea =
         let after : x.seat < seat = grind (arith, nat_tests) in
         let began = lives.began in
-        record { calls = []; are = no_life x.part seat x.made past (plays.unborn seat after high).0 (omega (arith, began, after)); diligent = none_diligent (role_of_part x.part) }
+        record { calls = []; are = no_life x.part seat x.made past (plays.unborn seat after high).0 (omega (arith, began, after)); diligent = none_diligent role }
     by false false eb ea =
         let same : x.seat ≡ seat = grind (arith, nat_tests) in
-        subst (λ s. IsDiligentLife (role_of_part x.part) x.part s x.made past) same (ended_life x.part x.seat x.made past x.actor lives.built lives.living)
+        subst (λ s. IsDiligentLife role x.part s x.made past) same (ended_life role x.part x.seat x.made past x.actor lives.built lives.living)
 
 -- ---- steps
 
 -- a later life begins
-pub next_lives : (old : Player) (seat : ℕ) (actor : State) (past : List Entry) (idle : ℕ → List Entry) → old.part.named ≡ true → seat ≡ seat_at old.part (old.made + 1) → seat ≢ old.seat → IsNew old.actor.role actor → StandsFor actor [] → Plays old past idle
-    → Lives old past → Lives (record old { seat = seat; actor = actor }) past
-next_lives old seat actor past idle named is other new stands plays lives =
+pub next_lives : (role : Role) (old : Player) (seat : ℕ) (actor : State) (past : List Entry) (idle : ℕ → List Entry) → old.part.named ≡ true → seat ≡ seat_at old.part (old.made + 1) → seat ≢ old.seat → IsNew old.actor.role actor → StandsFor actor [] → Plays old past idle
+    → Lives role old past → Lives role (record old { seat = seat; actor = actor }) past
+next_lives role old seat actor past idle named is other new stands plays lives =
     let within = seat_within old.part (old.made + 1) named in
     let later : old.seat < seat = less old.seat seat (seat_at old.part (old.made + 1)) plays.reached is other in
     let none = plays.unborn seat later (omega (arith, within, is)) in
-    let role : old.actor.role ≡ role_of_part old.part = same_role (role_of_part old.part) old.actor lives.living.calls lives.living.played in
+    let its : old.actor.role ≡ role = same_role role old.actor lives.living.calls lives.living.played in
     record {
       built = lives.built;
       began = let more = seat_more old.part old.made in omega (arith, more, is);
       living = record {
         calls = [];
         are = no_life old.part seat old.made past none.0 (let b = lives.began in omega (arith, b, later));
-        played = Begins refl (subst (λ r. IsNew r actor) role new) stands;
+        played = Begins refl (subst (λ r. IsNew r actor) its new) stands;
       };
-      ended = λ s low below. each_life old past idle plays lives s low (omega (arith, below, is, within));
+      ended = λ s low below. each_life role old past idle plays lives s low (omega (arith, below, is, within));
     }
 
 -- a call was made
-pub made_lives : (mid : Player) (given actor : State) (request : Request) (fate : Fate) (before after : History) → mid.seat ≡ seat_at mid.part (mid.made + 1) → fate ≡ fate_of mid.part.losses (mid.made + 1)
+pub made_lives : (role : Role) (mid : Player) (given actor : State) (request : Request) (fate : Fate) (before after : History) → mid.seat ≡ seat_at mid.part (mid.made + 1) → fate ≡ fate_of mid.part.losses (mid.made + 1)
     → AreRows (all_objects mid.actor.caches) → IsTurn mid.actor given (nexts.Call request) → ((mine : List Entry) → StandsFor mid.actor mine → StandsFor given mine) → GoesOn mid.seat fate request before after given actor
-    → ((other : ℕ) → other ≢ mid.seat → own other after.past ≡ own other before.past) → Lives mid before.past → Lives (record mid { made = mid.made + 1; actor = actor }) after.past
-made_lives mid given actor request fate before after is lost order turn keeps goes others lives =
+    → ((other : ℕ) → other ≢ mid.seat → own other after.past ≡ own other before.past) → Lives role mid before.past → Lives role (record mid { made = mid.made + 1; actor = actor }) after.past
+made_lives role mid given actor request fate before after is lost order turn keeps goes others lives =
     let living = lives.living in
-    let stands = stands_now (role_of_part mid.part) mid.actor living.calls living.played in
-    let went = goes (role_of_part mid.part) mid.actor living.calls living.played (record { order = order; turn = turn; stands = keeps (entries living.calls) stands }) living.are.of_seat in
+    let stands = stands_now role mid.actor living.calls living.played in
+    let went = goes role mid.actor living.calls living.played (record { order = order; turn = turn; stands = keeps (entries living.calls) stands }) living.are.of_seat in
     record {
       built = lives.built;
       began = omega (arith, is);
@@ -137,14 +137,14 @@ made_lives mid given actor request fate before after is lost order turn keeps go
         played = went.played;
       };
       ended = λ s low below.
-          kept_life mid.part s mid.made (mid.made + 1) before.past after.past (others s (λ e. absurd (omega (arith, e, below)))) (left_other mid.part s mid.made (λ e. absurd (omega (arith, e, is, below)))) (lives.ended s low below);
+          kept_life role mid.part s mid.made (mid.made + 1) before.past after.past (others s (λ e. absurd (omega (arith, e, below)))) (left_other mid.part s mid.made (λ e. absurd (omega (arith, e, is, below)))) (lives.ended s low below);
     }
 
 -- the turn gave none
-pub idle_lives : (mid : Player) (given : State) (past : List Entry) → AreRows (all_objects mid.actor.caches) → IsTurn mid.actor given nexts.Idle → ((mine : List Entry) → StandsFor mid.actor mine → StandsFor given mine) → Lives mid past → LivesIdle (record mid { actor = given }) past
-idle_lives mid given past order turn keeps lives =
+pub idle_lives : (role : Role) (mid : Player) (given : State) (past : List Entry) → AreRows (all_objects mid.actor.caches) → IsTurn mid.actor given nexts.Idle → ((mine : List Entry) → StandsFor mid.actor mine → StandsFor given mine) → Lives role mid past → LivesIdle role (record mid { actor = given }) past
+idle_lives role mid given past order turn keeps lives =
     let living = lives.living in
-    let stands = stands_now (role_of_part mid.part) mid.actor living.calls living.played in
+    let stands = stands_now role mid.actor living.calls living.played in
     record {
       before = mid.actor;
       lives = lives;
@@ -152,8 +152,8 @@ idle_lives mid given past order turn keeps lives =
     }
 
 -- and the actor is woken
-pub woken_lives : (p : Player) (actor : State) (past : List Entry) → actor ≡ woken p.actor → ((mine : List Entry) → StandsFor p.actor mine → StandsFor actor mine) → LivesIdle p past → Lives (record p { actor = actor }) past
-woken_lives p actor past is keeps idle =
+pub woken_lives : (role : Role) (p : Player) (actor : State) (past : List Entry) → actor ≡ woken p.actor → ((mine : List Entry) → StandsFor p.actor mine → StandsFor actor mine) → LivesIdle role p past → Lives role (record p { actor = actor }) past
+woken_lives role p actor past is keeps idle =
     let living = idle.lives.living in
     let stands : StandsFor p.actor (entries living.calls) = subst (StandsFor p.actor) (sym living.are.of_seat) idle.turns.stands in
     record {
@@ -168,12 +168,12 @@ woken_lives p actor past is keeps idle =
     }
 
 -- entries of other seats leave the lives
-pub lives_on : (x : Player) (h later : List Entry) → IsLife x.part x.seat → ((seat : ℕ) → IsLife x.part seat → own seat later ≡ own seat h) → Lives x h → Lives x later
-lives_on x h later at same lives = record {
+pub lives_on : (role : Role) (x : Player) (h later : List Entry) → IsLife x.part x.seat → ((seat : ℕ) → IsLife x.part seat → own seat later ≡ own seat h) → Lives role x h → Lives role x later
+lives_on role x h later at same lives = record {
   built = lives.built;
   began = lives.began;
   living = record { calls = lives.living.calls; are = record { of_seat = lives.living.are.of_seat ∙ sym (same x.seat at); left = lives.living.are.left }; played = lives.living.played };
-  ended = λ seat low below. let high = at.1 in kept_life x.part seat x.made x.made h later (same seat (low, omega (arith, below, high))) refl (lives.ended seat low below);
+  ended = λ seat low below. let high = at.1 in kept_life role x.part seat x.made x.made h later (same seat (low, omega (arith, below, high))) refl (lives.ended seat low below);
 }
 
 -- ---- the beginning
@@ -186,8 +186,8 @@ none_before (after ∷ restarts) = by (nat_lt after 0) refl (none_before restart
     by true e h = absurd (grind (arith, nat_tests))
     by false e h = rw e h
 
-pub new_lives : (x : Player) → IsNewPlayer x → Lives x []
-new_lives x is = record {
+pub new_lives : (role : Role) (x : Player) → IsNewPlayer role x → Lives role x []
+new_lives role x is = record {
   built = is.built;
   began = let first : seat_at x.part x.made ≡ x.part.first + 0 = ap (seat_at x.part) is.made ∙ ap (λ n. x.part.first + n) (none_before x.part.restarts) in let s = is.seat in omega (arith, first, s);
   living = record { calls = []; are = record { of_seat = refl; left = sym (ap (left_by x.part x.seat) is.made) }; played = Begins refl is.new is.stands };

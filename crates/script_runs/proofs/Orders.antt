@@ -1,5 +1,5 @@
 -- Lists of parts in the order of their seats, with names of their own; and lists of players of which one has moved.
-use Rattle.std.proofs.Common.{◌≡◌, ◌≢◌, ℕ, ◌<◌, ◌≤◌, ◌+◌, zero, suc, List, [], ◌∷◌, length, set, Bool, true, false, true≢false, if◌then◌else◌, Some, refl, sym, ◌∙◌, ap, subst, arith}
+use Rattle.std.proofs.Common.{◌≡◌, ◌≢◌, ℕ, ◌<◌, ◌≤◌, ◌+◌, zero, suc, List, [], ◌∷◌, ◌++◌, length, set, Bool, true, false, true≢false, if◌then◌else◌, Some, refl, sym, ◌∙◌, ap, subst, arith}
 use Rattle.std.specs.Prelude.{bytes_eq, slice_get}
 use Rattle.std.proofs.lemmas.Slice.Eq.{bytes_eq-Decides}
 use Rattle.model_laws.proofs.Lists.{none_some, one}
@@ -78,6 +78,21 @@ differs_at name (x ∷ names) i other all at = by (bytes_eq name x) refl all i a
     by true e all i at next = absurd (true≢false (sym all))
     by false e all zero at next = ap (bytes_eq name) (sym (one x other at)) ∙ e
     by false e all (suc i) at next = next i other all at
+
+differs_more : (name : List ℕ) (xs ys : List (List ℕ)) → differs_from name xs ≡ true → differs_from name ys ≡ true → differs_from name (xs ++ ys) ≡ true
+differs_more name [] ys a b = b
+differs_more name (x ∷ xs) ys a b = by (bytes_eq name x) a (differs_more name xs ys)
+  where
+    by : (t : Bool) → (if t then false else differs_from name xs) ≡ true → (differs_from name xs ≡ true → differs_from name ys ≡ true → differs_from name (xs ++ ys) ≡ true) → (if t then false else differs_from name (xs ++ ys)) ≡ true
+    by true a rest = absurd (true≢false (sym a))
+    by false a rest = rest a b
+
+-- names that differ, and others that differ from each of them
+pub all_more : (xs ys : List (List ℕ)) → all_differ xs ≡ true → ((i : ℕ) (name : List ℕ) → slice_get xs i ≡ Some name → differs_from name ys ≡ true) → all_differ ys ≡ true → all_differ (xs ++ ys) ≡ true
+all_more [] ys all apart later = later
+all_more (x ∷ xs) ys all apart later =
+    let first = first_differs x xs all in
+    rw (differs_more x xs ys first.0 (apart 0 x refl)) (all_more xs ys first.1 (λ i name at. apart (suc i) name at) later)
 
 -- names that differ one way differ the other way
 pub flipped : (a b : List ℕ) → bytes_eq a b ≡ false → bytes_eq b a ≡ false

@@ -105,7 +105,7 @@ module _ (s : State) (earlier recent : List Entry) (e : Entry) (request : Reques
           subst (λ q. PassStands s.role (pass_after s.pass (is_passing (passing s) k) q reply) (e ∷ recent)) r
           (watch_pass s.role s.pass recent e pass k from is.told (is.asked ∙ sym r) reply is.answered)
 
-      by : (g : Option Given) → GivenStands s.role g s.under → s.given ≡ g → Passes (e ∷ recent) (given_told (learned s caches request reply) request reply g)
+      by : (g : Option Given) → GivenStands s.role s.memory g s.under → s.given ≡ g → Passes (e ∷ recent) (given_told (learned s caches request reply) request reply g)
       by None f eg = none_some (ap (given_call s) (sym eg) ∙ ask)
       by (Some givens.Task) f eg = under s.under stands.under_way (ap (given_call s) (sym eg) ∙ ask)
       by (Some givens.Start) f eg = kept_pass s.role s.pass recent e pass (λ kind. start_reads_none s.role.kind s.role.node s.memory e.request kind (ap (given_call s) (sym eg) ∙ ask ∙ ap Some (sym is.asked)))

@@ -23,11 +23,15 @@ use Rattle.script_runs.specs.Calls.{AreCalls, seat_at}
 use Rattle.binder_model.specs.World.{world}
 use Rattle.settle_check.specs.SoFar.{IsSettledSoFar}
 use Rattle.script_parts.specs.Budget.{raised}
+use Rattle.script_parts.specs.Limits.{AreInOrder as NamesInOrder}
 use Rattle.script_parts.specs.Parts.{all_actors, all_lives, drain_seat, drain_seats, seats_from}
+use Rattle.script_lines.specs.declared.actors.Actor.{Actor}
+use Rattle.worker_core.specs.declared.role.Role.{Role}
+use Rattle.script_runs.specs.Diligent.{role_of}
 use Rattle.script_runs.specs.Replays.{IsDrain, IsTurn, IsUserCall, Progress, and_idle, and_made}
 use Rattle.script_runs.specs.Steps.Living.{Lives}
 use Rattle.script_runs.specs.Steps.Playing.{HasMadeAll, HasMadeFewer, HasTurned, IsLife, Plays, StandsSince}
-use Rattle.script_runs.specs.Steps.Standing.{HasMoved, IsBudget, Leads, Stands, built_parts, parts_in, seat_of_drains}
+use Rattle.script_runs.specs.Steps.Standing.{HasMoved, IsBudget, Leads, Stands, built_actors, built_parts, parts_in, seat_of_drains}
 use Rattle.script_runs.proofs.Casting.{in_order, names_differ, names_in}
 use Rattle.script_runs.proofs.Lived.{lives_on}
 use Rattle.script_runs.proofs.Lives.{seat_within}
@@ -68,7 +72,10 @@ drainer_seat (x ∷ ds) (suc i) d at = inr (drainer_seat ds i d at)
 
 -- and the drainers
 pub drainers_on : (ds : List Drainer) (h later : List Entry) → ((seat : ℕ) → IsOneOf (seats_of ds) seat → own seat later ≡ own seat h) → AreStanding ds h → AreStanding ds later
-drainers_on ds h later same stands place d at = subst (λ (mine : List Entry). StandsFor d.actor mine) (sym (same d.seat (drainer_seat ds place d at))) (stands place d at)
+drainers_on ds h later same stands = record {
+  each = λ place d at. subst (λ (mine : List Entry). StandsFor d.actor mine) (sym (same d.seat (drainer_seat ds place d at))) (stands.each place d at);
+  steady = stands.steady;
+}
 
 -- ---- the seats of the drains are the last ones
 
@@ -109,9 +116,9 @@ module _ (script : Script) (option : Option ℕ) (user : ℕ) (request : Request
       plays = λ place x at named.
           let there = ap (λ (xs : _). slice_get xs.items place) (sym players) ∙ at in
           plays_on x old.world.past new.world.past p.idle p.idle named (λ seat life. others seat (above place x there seat life)) (λ seat life. refl) (stands.plays place x there named);
-      lives = λ place x at named.
+      lives = λ place actor x is at named.
           let there = ap (λ (xs : _). slice_get xs.items place) (sym players) ∙ at in
-          lives_on x old.world.past new.world.past (life_at x old.world.past p.idle named (stands.plays place x there named)) (λ seat life. others seat (above place x there seat life)) (stands.lives place x there named);
+          lives_on (role_of actor) x old.world.past new.world.past (life_at x old.world.past p.idle named (stands.plays place x there named)) (λ seat life. others seat (above place x there seat life)) (stands.lives place actor x is there named);
       made = λ place x at. stands.made place x (ap (λ (xs : _). slice_get xs.items place) (sym players) ∙ at);
       drainers = subst (λ ds. AreStanding ds new.world.past) (sym drainers) (drainers_on old.drainers old.world.past new.world.past (λ seat own. others seat (drains_above seat (stands.seats seat own))) stands.drainers);
       seats = subst (λ ds. (seat : ℕ) → IsOneOf (seats_of ds) seat → IsOneOf (drain_seats script) seat) (sym drainers) stands.seats;
@@ -126,7 +133,7 @@ module _ (script : Script) (option : Option ℕ) (user : ℕ) (request : Request
       others seat high = ap (own seat) past ∙ own_other entry old.world.past seat (λ e. absurd (omega (arith, e, high, low)))
 
       above : (place : ℕ) (x : Player) → slice_get old.players.items place ≡ Some x → (seat : ℕ) → IsLife x.part seat → 5 ≤ seat
-      above place x there seat life = (life_between 5 (built_parts script.lines) (seat_of_drains script.lines) place x.part seat (in_order script.lines) (ap (λ ps. slice_get ps place) (sym stands.parts) ∙ part_at_place old.players.items place x there) life).0
+      above place x there seat life = (life_between 5 (built_parts script) (seat_of_drains script) place x.part seat (in_order script) (ap (λ ps. slice_get ps place) (sym stands.parts) ∙ part_at_place old.players.items place x there) life).0
 
       drains_above : (seat : ℕ) → IsOneOf (drain_seats script) seat → 5 ≤ seat
       drains_above seat own = after_users (all_lives (all_actors script) script.lines) seat (drains_last script seat own)
@@ -141,11 +148,11 @@ same_or_not i j = by (i == j) refl
     by false e = inr (λ is. true≢false (sym ((Decides-eqb i j).1 is) ∙ e))
 
 -- a player of a list in which one has been put is that one, or stands at another place
-pub set_cases : (xs : List Player) (place : ℕ) (after : Player) (j : ℕ) (y : Player) → place < length xs → slice_get (set xs place after) j ≡ Some y → (after ≡ y) ⊎ ((j ≢ place) × (slice_get xs j ≡ Some y))
+pub set_cases : (xs : List Player) (place : ℕ) (after : Player) (j : ℕ) (y : Player) → place < length xs → slice_get (set xs place after) j ≡ Some y → ((j ≡ place) × (after ≡ y)) ⊎ ((j ≢ place) × (slice_get xs j ≡ Some y))
 set_cases xs place after j y within here = by (same_or_not j place)
   where
-    by : (j ≡ place) ⊎ (j ≢ place) → (after ≡ y) ⊎ ((j ≢ place) × (slice_get xs j ≡ Some y))
-    by (inl is) = inl (one after y (sym (get_set_same xs place after within) ∙ ap (slice_get (set xs place after)) (sym is) ∙ here))
+    by : (j ≡ place) ⊎ (j ≢ place) → ((j ≡ place) × (after ≡ y)) ⊎ ((j ≢ place) × (slice_get xs j ≡ Some y))
+    by (inl is) = inl (is, one after y (sym (get_set_same xs place after within) ∙ ap (slice_get (set xs place after)) (sym is) ∙ here))
     by (inr differs) = inr (differs, sym (get_set_other xs place j after differs) ∙ here)
 
 not_idle : (seat other : ℕ) (mine : List Entry) (idle : ℕ → List Entry) → other ≢ seat → and_idle seat mine idle other ≡ idle other
@@ -172,32 +179,32 @@ pub record HasPlayed (old new : Stage) (place : ℕ) (x after : Player) : Type 0
   pub drained : new.drained ≡ old.drained
   pub budget : new.budget ≡ old.budget
 
-module _ (script : Script) (option : Option ℕ) (old new : Stage) (place : ℕ) (x after : Player) (last : drain_seat script ≡ seat_of_drains script.lines) (played : HasPlayed old new place x after) (p : Progress) (stands : Stands script option p old) where
-  part_there : (j : ℕ) (y : Player) → slice_get old.players.items j ≡ Some y → slice_get (built_parts script.lines) j ≡ Some y.part
+module _ (script : Script) (option : Option ℕ) (old new : Stage) (place : ℕ) (x after : Player) (order : NamesInOrder script.node_names) (last : drain_seat script ≡ seat_of_drains script) (played : HasPlayed old new place x after) (p : Progress) (stands : Stands script option p old) where
+  part_there : (j : ℕ) (y : Player) → slice_get old.players.items j ≡ Some y → slice_get (built_parts script) j ≡ Some y.part
   part_there j y at = ap (λ ps. slice_get ps j) (sym stands.parts) ∙ part_at_place old.players.items j y at
 
   -- another's seats are no lives of this one
   not_mine : (j : ℕ) (y : Player) (seat : ℕ) → slice_get old.players.items j ≡ Some y → j ≢ place → IsLife y.part seat → IsLife x.part seat → ⊥
-  not_mine j y seat at differs other mine = differs (one_owner 5 (built_parts script.lines) (seat_of_drains script.lines) j place y.part x.part seat (in_order script.lines) (part_there j y at) (part_there place x played.there) other mine)
+  not_mine j y seat at differs other mine = differs (one_owner 5 (built_parts script) (seat_of_drains script) j place y.part x.part seat (in_order script) (part_there j y at) (part_there place x played.there) other mine)
 
   not_drains : (seat : ℕ) → IsOneOf (drain_seats script) seat → IsLife x.part seat → ⊥
   not_drains seat own life =
-      let b = (life_between 5 (built_parts script.lines) (seat_of_drains script.lines) place x.part seat (in_order script.lines) (part_there place x played.there) life).1 in
+      let b = (life_between 5 (built_parts script) (seat_of_drains script) place x.part seat (in_order script) (part_there place x played.there) life).1 in
       let d = drains_last script seat own in
       absurd (omega (arith, b, d, last))
 
   -- a player of the new stage is the one that made the calls, or one of the old stage at another place
-  player_at : (j : ℕ) (y : Player) → slice_get new.players.items j ≡ Some y → (after ≡ y) ⊎ ((j ≢ place) × (slice_get old.players.items j ≡ Some y))
+  player_at : (j : ℕ) (y : Player) → slice_get new.players.items j ≡ Some y → ((j ≡ place) × (after ≡ y)) ⊎ ((j ≢ place) × (slice_get old.players.items j ≡ Some y))
   player_at j y at = set_cases old.players.items place after j y (slice_get_within old.players.items place x played.there) (ap (λ xs. slice_get xs j) (sym played.players) ∙ at)
 
   stands_on : (count : ℕ) (idle : ℕ → List Entry) → after.made ≡ x.made + count → ((seat : ℕ) → (IsLife x.part seat → ⊥) → own seat new.world.past ≡ own seat old.world.past) → ((seat : ℕ) → (IsLife x.part seat → ⊥) → idle seat ≡ p.idle seat)
-      → Plays after new.world.past idle → Lives after new.world.past → Stands script option (record p { past = new.world.past; made = and_made x.part.name count p.made; idle = idle }) new
+      → Plays after new.world.past idle → ((actor : Actor) → slice_get (built_actors script.node_names) place ≡ Some actor → Lives (role_of actor) after new.world.past) → Stands script option (record p { past = new.world.past; made = and_made x.part.name count p.made; idle = idle }) new
   stands_on count idle more others same_idle plays lives = record {
     past = refl;
     setup = played.setup ∙ stands.setup;
     parts = ap parts_in played.players ∙ parts_set old.players.items place x after played.there played.part ∙ stands.parts;
     plays = λ j y at named. each_plays j y named (player_at j y at);
-    lives = λ j y at named. each_lives j y named (player_at j y at);
+    lives = λ j actor y there at named. each_lives j actor y there named (player_at j y at);
     made = λ j y at. each_made j y (player_at j y at);
     drainers = subst (λ ds. AreStanding ds new.world.past) (sym played.drainers) (drainers_on old.drainers old.world.past new.world.past (λ seat own. others seat (not_drains seat (stands.seats seat own))) stands.drainers);
     seats = subst (λ ds. (seat : ℕ) → IsOneOf (seats_of ds) seat → IsOneOf (drain_seats script) seat) (sym played.drainers) stands.seats;
@@ -207,22 +214,22 @@ module _ (script : Script) (option : Option ℕ) (old new : Stage) (place : ℕ)
     most = subst (IsBudget option) (sym played.budget) stands.most;
   }
     where
-      each_plays : (j : ℕ) (y : Player) → y.part.named ≡ true → (after ≡ y) ⊎ ((j ≢ place) × (slice_get old.players.items j ≡ Some y)) → Plays y new.world.past idle
-      each_plays j y named (inl is) = subst (λ z. Plays z new.world.past idle) is plays
+      each_plays : (j : ℕ) (y : Player) → y.part.named ≡ true → ((j ≡ place) × (after ≡ y)) ⊎ ((j ≢ place) × (slice_get old.players.items j ≡ Some y)) → Plays y new.world.past idle
+      each_plays j y named (inl is) = subst (λ z. Plays z new.world.past idle) is.1 plays
       each_plays j y named (inr other) = plays_on y old.world.past new.world.past p.idle idle named (λ seat life. others seat (not_mine j y seat other.1 other.0 life)) (λ seat life. same_idle seat (not_mine j y seat other.1 other.0 life)) (stands.plays j y other.1 named)
 
-      each_lives : (j : ℕ) (y : Player) → y.part.named ≡ true → (after ≡ y) ⊎ ((j ≢ place) × (slice_get old.players.items j ≡ Some y)) → Lives y new.world.past
-      each_lives j y named (inl is) = subst (λ z. Lives z new.world.past) is lives
-      each_lives j y named (inr other) = lives_on y old.world.past new.world.past (life_at y old.world.past p.idle named (stands.plays j y other.1 named)) (λ seat life. others seat (not_mine j y seat other.1 other.0 life)) (stands.lives j y other.1 named)
+      each_lives : (j : ℕ) (actor : Actor) (y : Player) → slice_get (built_actors script.node_names) j ≡ Some actor → y.part.named ≡ true → ((j ≡ place) × (after ≡ y)) ⊎ ((j ≢ place) × (slice_get old.players.items j ≡ Some y)) → Lives (role_of actor) y new.world.past
+      each_lives j actor y there named (inl is) = subst (λ z. Lives (role_of actor) z new.world.past) is.1 (lives actor (subst (λ n. slice_get (built_actors script.node_names) n ≡ Some actor) is.0 there))
+      each_lives j actor y there named (inr other) = lives_on (role_of actor) y old.world.past new.world.past (life_at y old.world.past p.idle named (stands.plays j y other.1 named)) (λ seat life. others seat (not_mine j y seat other.1 other.0 life)) (stands.lives j actor y there other.1 named)
 
-      each_made : (j : ℕ) (y : Player) → (after ≡ y) ⊎ ((j ≢ place) × (slice_get old.players.items j ≡ Some y)) → y.made ≡ and_made x.part.name count p.made y.part.name
-      each_made j y (inl is) = subst (λ z. z.made ≡ and_made x.part.name count p.made z.part.name) is (more ∙ ap (λ n. n + count) (stands.made place x played.there) ∙ sym (own_made x.part.name count p.made) ∙ ap (λ (q : Part). and_made x.part.name count p.made q.name) (sym played.part))
-      each_made j y (inr other) = stands.made j y other.1 ∙ sym (other_made x.part.name y.part.name count p.made (other_name (names_in (built_parts script.lines)) j place y.part.name x.part.name (names_differ script.lines) (name_at (built_parts script.lines) j y.part (part_there j y other.1)) (name_at (built_parts script.lines) place x.part (part_there place x played.there)) other.0))
+      each_made : (j : ℕ) (y : Player) → ((j ≡ place) × (after ≡ y)) ⊎ ((j ≢ place) × (slice_get old.players.items j ≡ Some y)) → y.made ≡ and_made x.part.name count p.made y.part.name
+      each_made j y (inl is) = subst (λ z. z.made ≡ and_made x.part.name count p.made z.part.name) is.1 (more ∙ ap (λ n. n + count) (stands.made place x played.there) ∙ sym (own_made x.part.name count p.made) ∙ ap (λ (q : Part). and_made x.part.name count p.made q.name) (sym played.part))
+      each_made j y (inr other) = stands.made j y other.1 ∙ sym (other_made x.part.name y.part.name count p.made (other_name (names_in (built_parts script)) j place y.part.name x.part.name (names_differ script order) (name_at (built_parts script) j y.part (part_there j y other.1)) (name_at (built_parts script) place x.part (part_there place x played.there)) other.0))
 
   calls_at : (count : ℕ) → AreCalls x.part new.world.past (x.made + 1) count old.world.past → AreCalls x.part new.world.past (p.made x.part.name + 1) count p.past
   calls_at count calls = subst (λ h. AreCalls x.part new.world.past (p.made x.part.name + 1) count h) stands.past (subst (λ n. AreCalls x.part new.world.past (n + 1) count old.world.past) (stands.made place x played.there) calls)
 
-  turned : (calls : ℕ) → HasTurned calls p.idle old.world.past new.world.past x after → Lives after new.world.past → Leads script option (IsTurn x.part calls) p new
+  turned : (calls : ℕ) → HasTurned calls p.idle old.world.past new.world.past x after → ((actor : Actor) → slice_get (built_actors script.node_names) place ≡ Some actor → Lives (role_of actor) after new.world.past) → Leads script option (IsTurn x.part calls) p new
   turned calls t lives = by t.made
     where
       by : HasMadeAll calls p.idle old.world.past new.world.past x after ⊎ HasMadeFewer calls p.idle old.world.past new.world.past x after → Leads script option (IsTurn x.part calls) p new
@@ -240,7 +247,7 @@ module _ (script : Script) (option : Option ℕ) (old new : Stage) (place : ℕ)
           made = calls_at few.count few.calls_are;
           seat = after.seat;
           life = few.life ∙ ap (λ m. seat_at x.part (m + few.count + 1)) (stands.made place x played.there);
-          ends = inl few.quiet;
+          ends = few.ends;
           is = refl;
         });
         stands = stands_on few.count (and_idle after.seat (own after.seat new.world.past) p.idle) few.made t.others (λ seat other. not_idle after.seat seat (own after.seat new.world.past) p.idle (λ e. other (mine seat e))) few.plays lives;
@@ -249,10 +256,11 @@ module _ (script : Script) (option : Option ℕ) (old new : Stage) (place : ℕ)
           mine : (seat : ℕ) → seat ≡ after.seat → IsLife x.part seat
           mine seat e = subst (IsLife x.part) (sym e) (subst (λ (q : Part). IsLife q after.seat) played.part (life_at after new.world.past (and_idle after.seat (own after.seat new.world.past) p.idle) (ap (λ (q : Part). q.named) played.part ∙ played.named) few.plays))
 
-pub turn_moved : (script : Script) (option : Option ℕ) (calls : ℕ) (old new : Stage) (place : ℕ) (x after : Player) (part : Part) → drain_seat script ≡ seat_of_drains script.lines → part ≡ x.part → HasPlayed old new place x after
-    → ((idle : ℕ → List Entry) → Plays x old.world.past idle → HasTurned calls idle old.world.past new.world.past x after) → (Lives x old.world.past → Lives after new.world.past) → HasMoved script option (IsTurn part calls) old new
-turn_moved script option calls old new place x after part last is played turns lives p stands =
-    subst (λ q. Leads script option (IsTurn q calls) p new) (sym is) (turned script option old new place x after last played p stands calls (turns p.idle (stands.plays place x played.there played.named)) (lives (stands.lives place x played.there played.named)))
+pub turn_moved : (script : Script) (option : Option ℕ) (calls : ℕ) (old new : Stage) (place : ℕ) (x after : Player) (part : Part) → NamesInOrder script.node_names → drain_seat script ≡ seat_of_drains script → part ≡ x.part → HasPlayed old new place x after
+    → ((idle : ℕ → List Entry) → Plays x old.world.past idle → HasTurned calls idle old.world.past new.world.past x after) → ((role : Role) → Lives role x old.world.past → Lives role after new.world.past) → HasMoved script option (IsTurn part calls) old new
+turn_moved script option calls old new place x after part order last is played turns lives p stands =
+    subst (λ q. Leads script option (IsTurn q calls) p new) (sym is)
+    (turned script option old new place x after order last played p stands calls (turns p.idle (stands.plays place x played.there played.named)) (λ actor there. lives (role_of actor) (stands.lives place actor x there played.there played.named)))
 
 -- ---- a drain
 
@@ -276,7 +284,7 @@ pub record HasDrained (script : Script) (option : Option ℕ) (old new : Stage) 
   pub room : old.drained ≤ new.budget
   pub most : IsBudget option new.budget
 
-pub drain_moved : (script : Script) (option : Option ℕ) (old new : Stage) (made : ℕ) → drain_seat script ≡ seat_of_drains script.lines → HasDrained script option old new made → HasMoved script option (IsDrain script option) old new
+pub drain_moved : (script : Script) (option : Option ℕ) (old new : Stage) (made : ℕ) → drain_seat script ≡ seat_of_drains script → HasDrained script option old new made → HasMoved script option (IsDrain script option) old new
 drain_moved script option old new made last d p stands = record {
   after = record p { past = new.world.past; drained = p.drained + made; budget = new.budget };
   move = record {
@@ -302,9 +310,9 @@ drain_moved script option old new made last d p stands = record {
     plays = λ place x at named.
         let there = ap (λ (xs : _). slice_get xs.items place) (sym d.players) ∙ at in
         plays_on x old.world.past new.world.past p.idle p.idle named (λ s life. d.others s (λ own. below place x there s life (stands.seats s own))) (λ s life. refl) (stands.plays place x there named);
-    lives = λ place x at named.
+    lives = λ place actor x is at named.
         let there = ap (λ (xs : _). slice_get xs.items place) (sym d.players) ∙ at in
-        lives_on x old.world.past new.world.past (life_at x old.world.past p.idle named (stands.plays place x there named)) (λ s life. d.others s (λ own. below place x there s life (stands.seats s own))) (stands.lives place x there named);
+        lives_on (role_of actor) x old.world.past new.world.past (life_at x old.world.past p.idle named (stands.plays place x there named)) (λ s life. d.others s (λ own. below place x there s life (stands.seats s own))) (stands.lives place actor x is there named);
     made = λ place x at. stands.made place x (ap (λ (xs : _). slice_get xs.items place) (sym d.players) ∙ at);
     drainers = d.standing;
     seats = λ s own. stands.seats s (subst (λ ss. IsOneOf ss s) d.seats own);
@@ -321,6 +329,6 @@ drain_moved script option old new made last d p stands = record {
 
     below : (place : ℕ) (x : Player) → slice_get old.players.items place ≡ Some x → (s : ℕ) → IsLife x.part s → IsOneOf (drain_seats script) s → ⊥
     below place x there s life own =
-        let b = (life_between 5 (built_parts script.lines) (seat_of_drains script.lines) place x.part s (in_order script.lines) (ap (λ ps. slice_get ps place) (sym stands.parts) ∙ part_at_place old.players.items place x there) life).1 in
+        let b = (life_between 5 (built_parts script) (seat_of_drains script) place x.part s (in_order script) (ap (λ ps. slice_get ps place) (sym stands.parts) ∙ part_at_place old.players.items place x there) life).1 in
         let d = drains_last script s own in
         absurd (omega (arith, b, d, last))

@@ -1,5 +1,5 @@
 -- Steps of an actor over its lives.
-use Rattle.std.proofs.Common.{◌≡◌, ◌≢◌, ℕ, ◌<◌, ◌≤◌, ◌+◌, List, [], Bool, true, false, refl, sym, ◌∙◌, ap, subst, arith}
+use Rattle.std.proofs.Common.{◌≡◌, ◌≢◌, ℕ, ◌<◌, ◌≤◌, ◌+◌, List, [], Bool, true, false, inl, inr, refl, sym, ◌∙◌, ap, subst, arith}
 use Rattle.std.specs.Prelude.{nat_lt}
 use Rattle.std.proofs.lemmas.Bool.Decides.{nat_tests}
 use Rattle.call_types.specs.declared.entry.Entry.{Entry}
@@ -9,21 +9,22 @@ use Rattle.world_core.specs.Kept.{History}
 use Rattle.worker_core.specs.declared.turn.Next.{Next}
 use Rattle.worker_core.specs.declared.turn.Next.TheVariants as nexts
 use Rattle.worker_core.specs.declared.role.Role.{Role}
+use Rattle.worker_core.specs.Memories.{Memory}
 use Rattle.worker_core.specs.Roles.{IsBuiltKind}
 use Rattle.worker_core.specs.Stands.{IsNew, StandsFor}
 use Rattle.worker_core.specs.States.{State}
 use Rattle.worker_core.specs.Turns.{IsTurn}
 use Rattle.worker_core.proofs.Answered.{turn_role}
-use Rattle.worker_core.proofs.ByKind.{built_fresh}
 use Rattle.script_parts.specs.declared.loss.Fate.{Fate}
 use Rattle.script_parts.specs.declared.part.Part.{Part}
 use Rattle.script_runs.specs.declared.player.Player.{Player}
-use Rattle.script_runs.specs.Calls.{IsCallWith, IsQuietSince, seat_at}
+use Rattle.script_runs.specs.Calls.{IsCallWith, MayEnd, seat_at}
 use Rattle.script_parts.specs.Fates.{fate_of}
 use Rattle.script_runs.specs.Steps.Playing.{HasCalled, HasMade, IsLife, IsStill, Plays, StandsSince}
 use Rattle.script_parts.specs.Parts.{lives_of}
 use Rattle.script_runs.proofs.Lives.{seat_more, seat_within}
 use Rattle.script_runs.proofs.Since.{new_since, quiet_since, turn_since}
+use Rattle.script_runs.proofs.Stale.{told_stale}
 
 -- ---- a new life
 
@@ -75,7 +76,14 @@ with_actor mid new past idle taken made role since plays = record {
   unborn = λ s later below. plays.unborn s (let e = taken.seat in omega (arith, e, later)) (subst (λ (x : Part). s < x.first + lives_of x) taken.part below);
 }
 
--- the actor is idle
+-- the actor is idle: it has no news, or is an agent that was told that its epoch is stale
+may_end : (s new : State) (earlier mine : List Entry) → IsBuiltKind s.role.kind → StandsSince s earlier mine → IsTurn s new nexts.Idle → MayEnd s.role.kind earlier mine
+may_end s new earlier mine built since turn = by s.memory.stale refl
+  where
+    by : (stale : Bool) → s.memory.stale ≡ stale → MayEnd s.role.kind earlier mine
+    by true is = inr (told_stale s.role mine built (sym (ap (λ (m : Memory). m.stale) since.stands.memory) ∙ is))
+    by false is = inl (quiet_since s new nexts.Idle earlier mine is since turn refl)
+
 pub still : (old mid new : Player) (past : List Entry) (idle : ℕ → List Entry) → IsReady old mid → HasTaken mid new → new.made ≡ mid.made → IsBuiltKind mid.actor.role.kind
     → IsTurn mid.actor new.actor nexts.Idle → ((mine : List Entry) → StandsFor mid.actor mine → StandsFor new.actor mine) → Plays mid past idle → IsStill idle past past old new
 still old mid new past idle ready taken made built turn keeps plays = record {
@@ -83,8 +91,8 @@ still old mid new past idle ready taken made built turn keeps plays = record {
   past = refl;
   seat = taken.seat ∙ ready.seat;
   plays = with_actor mid new past idle taken made (turn_role mid.actor new.actor nexts.Idle turn) (turn_since mid.actor new.actor nexts.Idle (idle mid.seat) (own mid.seat past) turn (keeps (own mid.seat past)) plays.since) plays;
-  quiet = subst (λ s. IsQuietSince old.part.kind (idle s) (own s past)) (sym taken.seat) (subst (λ k. IsQuietSince k (idle mid.seat) (own mid.seat past)) (plays.kind ∙ ap (λ (x : Part). x.kind) ready.part)
-      (quiet_since mid.actor new.actor nexts.Idle (idle mid.seat) (own mid.seat past) (built_fresh mid.actor (own mid.seat past) built plays.since.stands) plays.since turn refl));
+  ends = subst (λ s. MayEnd old.part.kind (idle s) (own s past)) (sym taken.seat) (subst (λ k. MayEnd k (idle mid.seat) (own mid.seat past)) (plays.kind ∙ ap (λ (x : Part). x.kind) ready.part)
+      (may_end mid.actor new.actor (idle mid.seat) (own mid.seat past) built plays.since turn));
 }
 
 -- one call was made

@@ -8,7 +8,7 @@ use Rattle.worker_core.specs.declared.role.Role.{Role}
 use Rattle.worker_core.specs.Stands.{StandsFor}
 use Rattle.script_parts.specs.declared.part.Part.{Part}
 use Rattle.script_runs.specs.declared.player.Player.{Player}
-use Rattle.script_runs.specs.Calls.{AreCalls, IsCall, IsQuietSince, MoreCalls, NoCalls, seat_at}
+use Rattle.script_runs.specs.Calls.{AreCalls, IsCall, MayEnd, MoreCalls, NoCalls, seat_at}
 use Rattle.script_runs.specs.Replays.{and_idle}
 use Rattle.script_runs.specs.Steps.Playing.{HasGone, HasMade, HasTurned, IsStill, Plays, StandsSince}
 use Rattle.script_parts.specs.Parts.{lives_of}
@@ -73,7 +73,7 @@ turned_few made calls idle first before after start old mid new few part count g
     made = same_made ∙ step.made ∙ count;
     calls_are = subst (λ h. AreCalls start.part h (start.made + 1) made first) (sym step.past) (subst (λ n. AreCalls start.part before (start.made + 1) n first) (omega arith) (gone.calls_are before 0 (NoCalls refl refl)));
     life = same_seat ∙ step.seat ∙ ap (λ (x : Part). seat_at x (old.made + 1)) part ∙ ap (λ m. seat_at start.part (m + 1)) count;
-    quiet = subst (λ s. IsQuietSince start.part.kind (idle s) (own s after)) (sym same_seat) (subst (λ (x : Part). IsQuietSince x.kind (idle mid.seat) (own mid.seat after)) part step.quiet);
+    ends = subst (λ s. MayEnd start.part.kind (idle s) (own s after)) (sym same_seat) (subst (λ (x : Part). MayEnd x.kind (idle mid.seat) (own mid.seat after)) part step.ends);
     plays = plays;
   });
 }

@@ -1,7 +1,9 @@
 //! One call of an actor on a world.
 
-ghost use Rattle.std.specs.Prelude.{◌≡◌, Some, OnOk};
+ghost use Rattle.std.specs.Prelude.{◌≡◌, ◌<◌, Some, OnOk, length};
+ghost use Rattle.binder_model.specs.Imports.{ImportsPass};
 ghost use Rattle.binder_model.specs.Licence.{Licensed};
+ghost use Rattle.binder_model.specs.Promises.{most_entries};
 ghost use Rattle.binder_model.specs.Told.{own};
 ghost use Rattle.binder_model.specs.World.{IsHistory};
 ghost use Rattle.worker_core.specs.Stands.{StandsFor};
@@ -21,7 +23,9 @@ use world_core::kept::KeptWorld;
 
 /// The entries of the world are a history. It does nothing: its contract is what callers know of the world.
 fn have_history(world: &KeptWorld)
-    ensures { IsHistory world.now.setup world.now.past }
+    ensures history { IsHistory world.now.setup world.now.past }
+    ensures short { length world.now.past < most_entries }
+    ensures imports { ImportsPass world.now.setup.imports }
 {
     let _ = world.world().history();
 }

@@ -1,22 +1,25 @@
 //! A world and all who call it, moved by one line of a script at a time.
 
-ghost use Rattle.std.specs.Prelude.{◌≡◌, ◌≤◌, ◌<◌, ◌+◌, ◌-◌, ◌*◌, ◌^◌, [], ◌∷◌, ◌++◌, true, IfOk, OnOk, Some, length, slice_get};
+ghost use Rattle.std.specs.Prelude.{◌≡◌, ◌≤◌, ◌<◌, ◌+◌, ◌-◌, ◌*◌, ◌^◌, [], ◌∷◌, true, IfOk, OnOk, Some, length, slice_get};
 ghost use Rattle.script_text.specs.declared.script.Line.{Line};
 ghost use Rattle.script_lines.specs.declared.actors.WorkerNumber.TheVariants.{One, Two, Three, Four};
 ghost use Rattle.script_lines.specs.Actors.{actor_word};
 ghost use Rattle.fitting_calls.specs.Calls.{AreByActors};
+ghost use Rattle.worker_core.specs.Roles.{IsBuiltKind};
+ghost use Rattle.worker_core.specs.Stands.{IsNew, StandsFor};
 ghost use Rattle.worker_threads.specs.Rounds.{EndsWith, made_of};
 ghost use Rattle.script_parts.specs.Budget.{first_budget};
-ghost use Rattle.script_parts.specs.Limits.{AreBuilt, IsReadable, is_actor_built, is_kind_built};
-ghost use Rattle.script_parts.specs.Parts.{is_named, part_of};
+ghost use Rattle.script_parts.specs.Limits.{AreBuilt, IsKnown, IsReadable, is_actor_built, is_kind_built};
+ghost use Rattle.script_parts.specs.Parts.{is_named, kind_of, part_of};
+ghost use Rattle.script_runs.specs.Diligent.{role_of};
 ghost use Rattle.script_runs.specs.Replays.{IsDrain, IsMove, IsTurn, IsUserCall, Progress, begun};
-ghost use Rattle.script_runs.specs.Steps.Playing.{EachPlayer, IsNewPlayer};
-ghost use Rattle.script_runs.specs.Steps.Standing.{Ended, HasMoved, MadeAtMost, SomeStands, Stands, built_parts, part_from, parts_from, parts_in, place_of, place_of_kind, place_of_number, seat_of_drains, seat_past, with_made, workers_of};
+ghost use Rattle.script_runs.specs.Steps.Playing.{IsNewPlayer};
+ghost use Rattle.script_runs.specs.Steps.Standing.{Ended, HasAdded, HasMoved, MadeAtMost, SomeStands, Stands, agents_for, built_actors, part_from, place_of, place_of_kind, place_of_node, place_of_number, with_made, workers_of};
 
 use crate::player::{Player, turn};
 use call_types::request::{Request, SeatKind};
 use kube_types::copies::{OutOfMemory, Plain};
-use kube_types::text::Text;
+use kube_types::text::{Names, Text};
 use script_lines::actors::{Actor, Worker, WorkerKind, WorkerNumber};
 use script_parts::budget::raised;
 use script_parts::parts::{part_from, seat_after};
@@ -33,6 +36,9 @@ const MOST_ENTRIES: usize = 165216;
 
 /// The users have the seats before it.
 const FIRST_ACTOR_SEAT: u64 = 5;
+
+/// How many workers are built.
+const WORKERS: usize = 12;
 
 /// A world, the actors that turns name, and those of the drains; how many calls all drains have made, and may make.
 pub(crate) struct Stage {
@@ -82,13 +88,29 @@ fn place_of_number(number: WorkerNumber) -> usize
     }
 }
 
-/// The place of an actor among the workers that are built.
-fn place_of(actor: &Actor) -> usize
-    ensures { result ≡ place_of actor.now }
+/// The place of the node among these.
+fn place_of_node(node: &Text, nodes: &Names) -> usize
+    ensures place { result ≡ place_of_node node.now nodes.now }
+    ensures few { result ≤ length nodes.now }
+{
+    let mut place = 0;
+    for name in nodes.as_slice() {
+        if name.is(node.as_str()) {
+            return place;
+        }
+        place += 1;
+    }
+    place
+}
+
+/// The place of an actor among those that are built: the workers, and then the agents of these nodes.
+fn place_of(actor: &Actor, nodes: &Names) -> usize
+    requires { length nodes.now ≤ 8 }
+    ensures { result ≡ place_of nodes.now actor.now }
 {
     match actor {
         Actor::Worker(worker) => place_of_kind(worker.kind) + place_of_number(worker.number),
-        Actor::Agent { node: _ } => 0,
+        Actor::Agent { node } => WORKERS + place_of_node(node, nodes),
     }
 }
 
@@ -122,6 +144,7 @@ impl Stage {
     ) -> Result<(), OutOfMemory>
         requires lines { AreBuilt script.now.lines }
         requires built { is_actor_built actor.now ≡ true }
+        requires known { IsKnown script.now.node_names actor.now }
         requires named { is_named (actor_word actor.now) script.now.lines ≡ true }
         requires readable { IsReadable script.now }
         requires stands { SomeStands script.now option self.old }
@@ -132,7 +155,7 @@ impl Stage {
         ensures actors { OnOk result (AreByActors self.old.world.past → AreByActors self.new.world.past) }
         ensures made { OnOk result (MadeAtMost (most + 1000) self.new) }
     {
-        let place = place_of(actor);
+        let place = place_of(actor, &script.node_names);
         turn(&mut self.world, &mut self.players[place], calls)?;
         Ok(())
     }
@@ -251,51 +274,81 @@ fn made_in(drained: &Drained) -> u64
     }
 }
 
-/// A worker before its first call, whose first life has this seat.
-fn player(alloc: Global, worker: Worker, first: u64, lines: &[Line]) -> Result<Player, OutOfMemory>
-    requires { is_kind_built worker.kind ≡ true }
-    ensures part { IfOk result (λ x. x.part ≡ part_from lines.now worker first) }
-    ensures new { IfOk result (λ x. IsNewPlayer x) }
+/// A new actor of the kind, which serves the node where it is an agent.
+fn new_actor(alloc: Global, kind: SeatKind, actor: &Actor) -> Result<WorkingActor, OutOfMemory>
+    requires kind { kind ≡ kind_of actor.now }
+    requires built { IsBuiltKind kind }
+    ensures is { IfOk result (λ a. IsNew (role_of actor.now) a) }
+    ensures stands { IfOk result (λ a. StandsFor a []) }
+{
+    match actor {
+        Actor::Worker(_) => {
+            let none = Text::new(alloc, "")?;
+            WorkingActor::new(alloc, kind, &none)
+        }
+        Actor::Agent { node } => WorkingActor::new(alloc, kind, node),
+    }
+}
+
+/// An actor before its first call, whose first life has this seat.
+fn player(alloc: Global, actor: &Actor, first: u64, lines: &[Line]) -> Result<Player, OutOfMemory>
+    requires { is_actor_built actor.now ≡ true }
+    ensures part { IfOk result (λ x. x.part ≡ part_from lines.now actor.now first) }
+    ensures new { IfOk result (λ x. IsNewPlayer (role_of actor.now) x) }
     ensures few { IfOk result (λ x. length x.part.restarts ≤ length lines.now) }
 {
-    let part = part_from(alloc, worker, first, lines)?;
-    let node = Text::new(alloc, "")?;
-    let actor = WorkingActor::new(alloc, part.kind, &node)?;
+    let part = part_from(alloc, actor, first, lines)?;
+    let working = new_actor(alloc, part.kind, actor)?;
     Ok(Player {
         part,
         seat: first,
         made: 0,
-        actor,
+        actor: working,
     })
 }
 
-/// Adds the workers of a kind with these numbers, before their first calls, whose lives begin at this seat. Gives the seat
-/// after those of their lives.
-fn add_players(
+/// Adds an actor before its first call, whose lives begin at this seat. Gives the seat after those of its lives.
+fn add_player(
+    alloc: Global,
+    players: &mut Vec<Player>,
+    actor: &Actor,
+    first: u64,
+    lines: &[Line],
+) -> Result<u64, OutOfMemory>
+    requires built { is_actor_built actor.now ≡ true }
+    requires few { length lines.now ≤ 4096 }
+    requires small { first + 4097 < 2 ^ 32 }
+    ensures added { IfOk result (λ seat. HasAdded lines.now (actor.now ∷ []) first seat players.old.items players.new.items) }
+    ensures most { IfOk result (λ seat. seat ≤ first + 4097) }
+{
+    let player = player(alloc, actor, first, lines)?;
+    let seat = seat_after(&player.part);
+    players.push(player)?;
+    Ok(seat)
+}
+
+/// Adds the workers of a kind, before their first calls, whose lives begin at this seat. Gives the seat after those of their
+/// lives.
+fn add_workers(
     alloc: Global,
     players: &mut Vec<Player>,
     kind: WorkerKind,
-    numbers: &[WorkerNumber],
     first: u64,
     lines: &[Line],
 ) -> Result<u64, OutOfMemory>
     requires built { is_kind_built kind ≡ true }
     requires few { length lines.now ≤ 4096 }
-    requires small { first + 4097 * length numbers.now < 2 ^ 32 }
-    ensures parts { OnOk result (parts_in players.new.items ≡ parts_in players.old.items ++ parts_from lines.now (workers_of kind numbers.now) first) }
-    ensures new { OnOk result (EachPlayer IsNewPlayer players.old.items → EachPlayer IsNewPlayer players.new.items) }
-    ensures seat { IfOk result (λ seat. seat ≡ seat_past lines.now (workers_of kind numbers.now) first) }
-    ensures most { IfOk result (λ seat. seat ≤ first + 4097 * length numbers.now) }
+    requires small { first + 16388 < 2 ^ 32 }
+    ensures added { IfOk result (λ seat. HasAdded lines.now (workers_of kind) first seat players.old.items players.new.items) }
+    ensures most { IfOk result (λ seat. seat ≤ first + 16388) }
 {
     let mut seat = first;
-    for number in numbers {
-        let worker = Worker {
+    for number in numbers() {
+        let actor = Actor::Worker(Worker {
             kind,
             number: *number,
-        };
-        let player = player(alloc, worker, seat, lines)?;
-        seat = seat_after(&player.part);
-        players.push(player)?;
+        });
+        seat = add_player(alloc, players, &actor, seat, lines)?;
     }
     Ok(seat)
 }
@@ -312,26 +365,42 @@ fn numbers() -> &'static [WorkerNumber]
     ]
 }
 
-/// The workers that are built before their first calls, and the seat after those of their lives.
-fn players(alloc: Global, lines: &[Line]) -> Result<(Vec<Player>, u64), OutOfMemory>
-    requires { length lines.now ≤ 4096 }
-    ensures parts { IfOk result (λ r. parts_in r.0.items ≡ built_parts lines.now) }
-    ensures new { IfOk result (λ r. EachPlayer IsNewPlayer r.0.items) }
-    ensures seat { IfOk result (λ r. r.1 ≡ seat_of_drains lines.now) }
+/// Adds the agents of these nodes, likewise.
+fn add_agents(
+    alloc: Global,
+    players: &mut Vec<Player>,
+    nodes: &Names,
+    first: u64,
+    lines: &[Line],
+) -> Result<u64, OutOfMemory>
+    requires few { length lines.now ≤ 4096 }
+    requires small { first + 4097 * length nodes.now < 2 ^ 32 }
+    ensures added { IfOk result (λ seat. HasAdded lines.now (agents_for nodes.now) first seat players.old.items players.new.items) }
+    ensures most { IfOk result (λ seat. seat ≤ first + 4097 * length nodes.now) }
+{
+    let mut seat = first;
+    for node in nodes.as_slice() {
+        let actor = Actor::Agent {
+            node: node.copy(alloc)?,
+        };
+        seat = add_player(alloc, players, &actor, seat, lines)?;
+    }
+    Ok(seat)
+}
+
+/// The actors that are built before their first calls, and the seat after those of their lives.
+fn players(alloc: Global, script: &Script) -> Result<(Vec<Player>, u64), OutOfMemory>
+    requires lines { length script.now.lines ≤ 4096 }
+    requires nodes { length script.now.node_names ≤ 8 }
+    ensures added { IfOk result (λ r. HasAdded script.now.lines (built_actors script.now.node_names) 5 r.1 [] r.0.items) }
     ensures small { IfOk result (λ r. r.1 < 2 ^ 32) }
 {
-    let four = numbers();
+    let lines = script.lines.as_slice();
     let mut players = Vec::new(alloc);
-    let second = add_players(
-        alloc,
-        &mut players,
-        WorkerKind::Binder,
-        four,
-        FIRST_ACTOR_SEAT,
-        lines,
-    )?;
-    let third = add_players(alloc, &mut players, WorkerKind::Claims, four, second, lines)?;
-    let end = add_players(alloc, &mut players, WorkerKind::Volumes, four, third, lines)?;
+    let second = add_workers(alloc, &mut players, WorkerKind::Binder, FIRST_ACTOR_SEAT, lines)?;
+    let third = add_workers(alloc, &mut players, WorkerKind::Claims, second, lines)?;
+    let fourth = add_workers(alloc, &mut players, WorkerKind::Volumes, third, lines)?;
+    let end = add_agents(alloc, &mut players, &script.node_names, fourth, lines)?;
     Ok((players, end))
 }
 
@@ -357,7 +426,7 @@ pub(crate) fn begin(
     ensures made { IfOk result (λ s. MadeAtMost 0 s) }
 {
     let world = KeptWorld::new(alloc, &script.setup, MOST_ENTRIES)?;
-    let (players, first) = players(alloc, script.lines.as_slice())?;
+    let (players, first) = players(alloc, script)?;
     let drainers = Drainers::new(alloc, &script.node_names, first)?;
     Ok(Stage {
         world,

@@ -1,4 +1,4 @@
--- The restricted definition of due, where every action counts, and where those of the binder and of protection do.
+-- The restricted definition of due, where every action counts, and where those of the binder, of protection and of agents do.
 use Rattle.std.proofs.Common.{◌≡◌, ◌↔◌, ℕ, ◌∙◌, Bool, true, false, not, ◌&&◌, ◌||◌, is_some, is_none, true≢false, List, Option, Some, None, refl, sym, ap, if◌then◌else◌}
 use Rattle.std.specs.Prelude.{bytes_eq}
 use Rattle.std.specs.List.{list_all}
@@ -26,7 +26,7 @@ use Rattle.binder_model.specs.Choice.{Step, GoesNowhere, Assigns, Waits, Searche
 use Rattle.binder_model.specs.Due.{IsDue, IsFirstDue, IsPodDue, IsStepDue, agent_due, by_class_due, claim_guard_due, delayed_due, guard_due, immediate_due, is_pod_mounted, is_ready, is_served, on_node_due, or_due, provision_due, provision_if_new, reclaim_due, volume_guard_due}
 use Rattle.binder_model.specs.World.{World}
 use Rattle.settle_check.specs.SoFar.{IsBuiltDue, IsDueOf, IsFirstBuiltDue, IsFirstDueOf, IsSettledSoFar, counted, is_built}
-use Rattle.settle_check.specs.SoFarLaws.{BinderAndProtectionAreBuilt, WholeWhereAllCount, due_so_far, every_action}
+use Rattle.settle_check.specs.SoFarLaws.{BinderProtectionAndAgentsAreBuilt, WholeWhereAllCount, due_so_far, every_action}
 
 -- equal to one of two equal values
 either : {X : Type 0} (x y z : X) → y ≡ z → (x ≡ y) ↔ (x ≡ z)
@@ -81,7 +81,7 @@ whole_where_all_count = record {
   first = all_first;
 }
 
--- where the actions of the binder and of protection count
+-- where the actions of the binder, of protection and of agents count
 
 -- an action that counts, or none
 abbrev Stays : Option Due → Type 0
@@ -176,6 +176,23 @@ guard_stays true false needed = refl
 guard_stays true true false = refl
 guard_stays true true true = refl
 
+finish_stays : (deleting ready : Bool) → Stays (if deleting then Some dues.Finish else if ready then Some dues.Mount else None)
+finish_stays true ready = refl
+finish_stays false true = refl
+finish_stays false false = refl
+
+-- what stays counts
+counts_if : (action : Due) (x : Option Due) → Some action ≡ x → Stays x → is_built action ≡ true
+counts_if action x is stays = by (is_built action) (ap (counted is_built) is ∙ stays ∙ sym is)
+  where
+    by : (b : Bool) → (if b then Some action else None) ≡ Some action → b ≡ true
+    by true e = refl
+    by false e = absurd cc
+
+none_if : (x : Option Due) → Stays x → ((action : Due) → Some action ≡ x → is_built action ≡ false) → None ≡ x
+none_if None stays h = refl
+none_if (Some action) stays h = absurd (true≢false (sym (counts_if action (Some action) refl stays) ∙ h action refl))
+
 -- the actions of others
 
 goes_if : (b : Bool) (x y : Option Due) → Goes x → Goes y → Goes (if b then x else y)
@@ -226,14 +243,9 @@ module _ (setup : Setup) (w : World) where
       let o = row_at (class_key (class_of_claim c)) w.store.rows in
       goes_if (is_wanting c && not (has_match w.store.rows c)) (by_class_due setup w c c.meta.uid o) None (by_class_goes c c.meta.uid o) refl
 
-  finish_goes : (deleting ready : Bool) → Goes (if deleting then Some dues.Finish else if ready then Some dues.Mount else None)
-  finish_goes true ready = refl
-  finish_goes false true = refl
-  finish_goes false false = refl
-
-  agent_goes : (p : PodData) → Goes (agent_due w p)
-  agent_goes p =
-      finish_goes (is_deleting p.meta) (not (is_pod_mounted w.devices p) && list_all (λ name. is_ready w.store.rows (claim_named w.store.rows p.meta.namespace name)) p.claims)
+  agent_stays : (p : PodData) → Stays (agent_due w p)
+  agent_stays p =
+      finish_stays (is_deleting p.meta) (not (is_pod_mounted w.devices p) && list_all (λ name. is_ready w.store.rows (claim_named w.store.rows p.meta.namespace name)) p.claims)
 
   uncounted : (action : Due) → Goes (Some action) → is_built action ≡ false
   uncounted action = by (is_built action)
@@ -248,9 +260,16 @@ module _ (setup : Setup) (w : World) where
   step_goes p Waits action due = absurd cc
   step_goes p Searches action due = ap is_built due.0
 
-  pod_goes : (p : PodData) (scheduled : Bool) (action : Due) → IsPodDue setup w p scheduled (Some action) → is_built action ≡ false
-  pod_goes p true action due = uncounted action (ap (counted is_built) due ∙ agent_goes p)
-  pod_goes p false action due = step_goes p (step_of w.store.rows p) action due
+  -- what is due for a pod that a node runs counts, and nothing else does
+  pod_some : (p : PodData) (scheduled : Bool) (action : Due)
+      → (IsPodDue setup w p scheduled (Some action) × (is_built action ≡ true)) ↔ (Some action ≡ (if scheduled then agent_due w p else None))
+  pod_some p true action = (λ h. h.0, λ e. (e, counts_if action (agent_due w p) e (agent_stays p)))
+  pod_some p false action = (λ h. absurd (true≢false (sym h.1 ∙ step_goes p (step_of w.store.rows p) action h.0)), λ e. absurd cc)
+
+  pod_none : (p : PodData) (scheduled : Bool)
+      → ((action : Due) → IsPodDue setup w p scheduled (Some action) → is_built action ≡ false) ↔ (None ≡ (if scheduled then agent_due w p else None))
+  pod_none p true = (λ h. none_if (agent_due w p) (agent_stays p) h, λ none action some. absurd cc)
+  pod_none p false = (λ h. refl, λ e action due. step_goes p (step_of w.store.rows p) action due)
 
 -- the first of three, where one of them does not count
 
@@ -265,17 +284,17 @@ without_third None None z s t u = u
 without_third None (Some y) z s t u = rw t refl
 without_third (Some x) y z s t u = rw s refl
 
-pub binder_and_protection_are_built : BinderAndProtectionAreBuilt
-binder_and_protection_are_built setup w (Volume v) action = either action _ _ (without_second _ _ _ (volume_stays w.store.rows v) (reclaim_goes v) (guard_stays _ _ _))
-binder_and_protection_are_built setup w (Claim c) action = either action _ _ (without_third _ _ _ (guard_stays _ _ _) (claim_stays w.store.rows c) (provision_goes setup w c))
-binder_and_protection_are_built setup w (Pod p) (Some action) = (λ h. absurd (true≢false (sym h.1 ∙ pod_goes setup w p (is_scheduled p) action h.0)), λ e. absurd cc)
-binder_and_protection_are_built setup w (Pod p) None = (λ h. refl, λ e. pod_goes setup w p (is_scheduled p))
-binder_and_protection_are_built setup w (Class x) action = (λ h. h, λ h. h)
-binder_and_protection_are_built setup w (Node x) action = (λ h. h, λ h. h)
+pub binder_protection_and_agents_are_built : BinderProtectionAndAgentsAreBuilt
+binder_protection_and_agents_are_built setup w (Volume v) action = either action _ _ (without_second _ _ _ (volume_stays w.store.rows v) (reclaim_goes v) (guard_stays _ _ _))
+binder_protection_and_agents_are_built setup w (Claim c) action = either action _ _ (without_third _ _ _ (guard_stays _ _ _) (claim_stays w.store.rows c) (provision_goes setup w c))
+binder_protection_and_agents_are_built setup w (Pod p) (Some action) = pod_some setup w p (is_scheduled p) action
+binder_protection_and_agents_are_built setup w (Pod p) None = pod_none setup w p (is_scheduled p)
+binder_protection_and_agents_are_built setup w (Class x) action = (λ h. h, λ h. h)
+binder_protection_and_agents_are_built setup w (Node x) action = (λ h. h, λ h. h)
 
 -- what these actors have to do is what is due
-pub by_object : (setup : Setup) (w : World) (o known : Object) (action : Option Due) → o ≡ known → action ≡ due_so_far w.store.rows known → IsBuiltDue setup w o action
-by_object setup w o known action is e = (binder_and_protection_are_built setup w o action).1 (e ∙ sym (ap (due_so_far w.store.rows) is))
+pub by_object : (setup : Setup) (w : World) (o known : Object) (action : Option Due) → o ≡ known → action ≡ due_so_far w known → IsBuiltDue setup w o action
+by_object setup w o known action is e = (binder_protection_and_agents_are_built setup w o action).1 (e ∙ sym (ap (due_so_far w) is))
 
 -- where something is due the world is not settled
 

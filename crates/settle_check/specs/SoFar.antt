@@ -31,8 +31,8 @@ is_built dues.Provision = false
 is_built dues.ClearNode = false
 is_built dues.Prepare = false
 is_built dues.Assign = false
-is_built dues.Mount = false
-is_built dues.Finish = false
+is_built dues.Mount = true
+is_built dues.Finish = true
 
 -- the action, where it counts
 abbrev pub counted : (Due → Bool) → Option Due → Option Due

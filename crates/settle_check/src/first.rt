@@ -4,6 +4,7 @@ ghost use Rattle.std.specs.Prelude.{◌≡◌, IfOk};
 ghost use Rattle.settle_check.specs.SoFar.{IsBuiltDue, IsFirstBuiltDue, world_of};
 ghost use Rattle.settle_check.specs.Steps.Scan.{IsFirstIn, first_key, first_pair};
 
+use crate::agent::due_of_pod;
 use crate::protection::{due_of_claim, due_of_volume};
 use kube_types::copies::OutOfMemory;
 use kube_types::key::{Key, key_of};
@@ -26,7 +27,8 @@ fn object_due(world: &World, object: &Object) -> Option<Due>
     match object {
         Object::Volume(volume) => due_of_volume(world.store(), volume),
         Object::Claim(claim) => due_of_claim(world.store(), claim),
-        Object::Class(_) | Object::Node(_) | Object::Pod(_) => None,
+        Object::Pod(pod) => due_of_pod(world, pod),
+        Object::Class(_) | Object::Node(_) => None,
     }
 }
 

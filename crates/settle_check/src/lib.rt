@@ -3,10 +3,11 @@
 //! Promises: `due` answers the first action that is due, in the order of kinds, namespaces and names, and none exactly
 //! where the world is settled, by `specs/SoFar`: the whole definition, restricted to the actions whose actors are built.
 //! `first_due` answers the same without memory. `laws` says that the restricted definition is the whole one where all
-//! actions count, and what it comes to as long as the binder and the protection controllers are the only actors. Not said:
-//! that an actor does what is due.
+//! actions count, and what it comes to as long as the binder, the protection controllers and the node agents are the only
+//! actors. Not said: that an actor does what is due.
 #![tactic(auto)]
 
+mod agent;
 mod binder;
 mod first;
 pub mod laws;

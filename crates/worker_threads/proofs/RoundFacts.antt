@@ -6,12 +6,14 @@ use Rattle.std.proofs.lemmas.Option.{get_or_from_slice_get, slice_get-get_or, sl
 use Rattle.std.proofs.lemmas.List.{drop-set-lt, take_more_set}
 use Rattle.std.proofs.Math.Seq.{drop-cons, map-set_same}
 use Rattle.call_types.specs.declared.entry.Entry.{Entry}
+use Rattle.call_types.specs.declared.request.SeatKind.TheVariants.{Agent}
 use Rattle.binder_model.specs.Told.{own}
+use Rattle.worker_core.specs.declared.role.Role.{Role}
 use Rattle.worker_core.specs.Absorbs.{woken}
 use Rattle.worker_core.specs.Stands.{MayBeIdle}
 use Rattle.worker_core.specs.States.{State}
 use Rattle.worker_threads.specs.declared.drainers.Drainer.{Drainer}
-use Rattle.worker_threads.specs.Drainers.{AreSeats, seats_of}
+use Rattle.worker_threads.specs.Drainers.{AreSeats, BeginsSteady, roles_of, seats_of}
 use Rattle.worker_threads.specs.Longer.{HasGrown, IsLonger, IsOneOf}
 use Rattle.worker_threads.specs.Rounds.{Ends, IsRound, Runs, Turns}
 use Rattle.worker_threads.proofs.Entries.{grown_others, longer_then, longer_wider, not_longer}
@@ -172,6 +174,17 @@ turns_end initial first budget ds n h b so_far all goes =
 pub seats_set : (ds : List Drainer) (i : ℕ) (d ran : Drainer) → slice_get ds i ≡ Some d → ran.seat ≡ d.seat → seats_of (set ds i ran) ≡ seats_of ds
 seats_set ds i d ran at seat = map-set_same (λ (x : Drainer). x.seat) ds i ran d (seat ∙ ap (λ (x : Drainer). x.seat) (sym (get_or_from_slice_get ds i d d at)))
 
+-- so are the roles
+pub roles_set : (ds : List Drainer) (i : ℕ) (d ran : Drainer) → slice_get ds i ≡ Some d → ran.actor.role ≡ d.actor.role → roles_of (set ds i ran) ≡ roles_of ds
+roles_set ds i d ran at role = map-set_same (λ (x : Drainer). x.actor.role) ds i ran d (role ∙ ap (λ (x : Drainer). x.actor.role) (sym (get_or_from_slice_get ds i d d at)))
+
+-- the first of them is no agent
+pub first_steady : (ds : List Drainer) (roles : List Role) (place : ℕ) (d : Drainer) → roles_of ds ≡ roles → BeginsSteady roles → place ≡ 0 → slice_get ds place ≡ Some d → d.actor.role.kind ≢ Agent
+first_steady ds roles place d same steady first at agent =
+    let here : slice_get (roles_of ds) 0 ≡ Some d.actor.role = slice_get-map (λ (x : Drainer). x.actor.role) ds 0 ∙ ap (option_map (λ (x : Drainer). x.actor.role)) (ap (slice_get ds) (sym first) ∙ at) in
+    let its : steady.first ≡ d.actor.role = some_is steady.first d.actor.role (sym steady.is ∙ ap (λ (rs : List Role). slice_get rs 0) (sym same) ∙ here) in
+    steady.steady (ap (λ (r : Role). r.kind) its ∙ agent)
+
 -- the seat of a drainer is one of the seats
 pub one_of_seats : (ds : List Drainer) (i : ℕ) (d : Drainer) → slice_get ds i ≡ Some d → (seat : ℕ) → IsOneOf (d.seat ∷ []) seat → IsOneOf (seats_of ds) seat
 one_of_seats [] i d at seat one = absurd cc
@@ -210,7 +223,8 @@ at_place initial ds i d seats lt is =
     let within : i < length ds = omega arith in
     slice_get-get_or ds i d within ∙ ap (λ (x : Drainer). Some x) (sym is)
 
--- fewer calls are left than at first
-pub fewer_left : (rest left budget : ℕ) → rest ≤ left → left ≤ budget → (0 < left → rest < left) → 0 < budget → rest < budget
-fewer_left rest zero budget low few some any = omega arith
-fewer_left rest (suc left) budget low few some any = let less : rest < suc left = some (omega arith) in omega arith
+-- fewer calls are left than at first, once the first drainer had its turn
+pub fewer_left : (place rest left budget : ℕ) → rest ≤ left → left ≤ budget → (0 < place → 0 < budget → left < budget) → (place ≡ 0 → 0 < left → rest < left) → 0 < budget → rest < budget
+fewer_left zero rest zero budget low few before some any = omega arith
+fewer_left zero rest (suc left) budget low few before some any = let less : rest < suc left = some refl (omega arith) in omega arith
+fewer_left (suc place) rest left budget low few before some any = let less : left < budget = before (omega arith) any in omega arith

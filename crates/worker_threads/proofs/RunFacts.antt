@@ -1,5 +1,5 @@
 -- What follows from how an actor was run.
-use Rattle.std.proofs.Common.{◌≡◌, ◌∙◌, ◌+◌, ◌-◌, ◌≤◌, ◌<◌, ℕ, List, [], ◌∷◌, Bool, true, false, true≢false, Option, Some, None, refl, sym, ap, subst, inl, inr, arith, Result, Ok, Err, IfOk}
+use Rattle.std.proofs.Common.{◌≡◌, ◌∙◌, ◌+◌, ◌-◌, ◌≤◌, ◌<◌, ℕ, List, [], ◌∷◌, length, Bool, true, false, true≢false, Option, Some, None, refl, sym, ap, subst, inl, inr, arith, Result, Ok, Err, IfOk}
 use Rattle.kube_types.specs.declared.parts.Kind.{Kind}
 use Rattle.call_types.specs.declared.entry.Entry.{Entry}
 use Rattle.call_types.specs.declared.reply.Reply.{Reply}
@@ -7,6 +7,8 @@ use Rattle.call_types.specs.declared.request.Request.{Request}
 use Rattle.call_types.specs.declared.request.SeatKind.{SeatKind}
 use Rattle.call_types.specs.declared.request.SeatKind.TheVariants as seats
 use Rattle.call_types.specs.declared.setup.Setup.{Setup}
+use Rattle.binder_model.specs.Imports.{ImportsPass}
+use Rattle.binder_model.specs.Promises.{most_entries}
 use Rattle.binder_model.specs.Told.{own}
 use Rattle.binder_model.specs.World.{IsHistory}
 use Rattle.model_laws.proofs.Evidence.{own_mine}
@@ -114,6 +116,10 @@ told_role s caches request reply = by s.given
     by (Some givens.Start) = refl
     by (Some (givens.Read kind)) = refl
 
+-- nor does a call with its answer
+pub still_role : (s given after : State) (answer : Next) (request : Request) (reply : Reply) → IsTurn s given answer → after ≡ absorbed given after.caches request (Told reply) → after.role ≡ s.role
+still_role s given after answer request reply turn state = ap (λ (t : State). t.role) state ∙ told_role given after.caches request reply ∙ turn_role s given answer turn
+
 pub turn_kind : (kind : SeatKind) (s given : State) (answer : Next) → kind ≡ s.role.kind → IsTurn s given answer → kind ≡ given.role.kind
 turn_kind kind s given answer is turn = is ∙ ap (λ (r : Role). r.kind) (sym (turn_role s given answer turn))
 
@@ -128,19 +134,19 @@ pub entry_told : (seat : ℕ) (kind : SeatKind) (given : State) (request : Reque
 entry_told seat kind given request reply h past same is = is ∙ ap (λ (k : SeatKind). (record { seat = seat; kind = k; request = request; reply = reply; told = true }) ∷ h) same
 
 -- a call that was made and told
-pub stands_on : (given after : State) (setup : Setup) (h past : List Entry) (seat : ℕ) (e : Entry) → past ≡ e ∷ h → e.seat ≡ seat → IsHistory setup past
+pub stands_on : (given after : State) (setup : Setup) (h past : List Entry) (seat : ℕ) (e : Entry) → past ≡ e ∷ h → e.seat ≡ seat → IsHistory setup past → length past < most_entries → ImportsPass setup.imports
     → ((mine : List Entry) → AreOwn (e ∷ mine) → StandsFor given mine → StandsFor after (e ∷ mine))
     → StandsFor given (own seat h) → StandsFor after (own seat past)
-stands_on given after setup h past seat e is of_seat history absorbs stands =
+stands_on given after setup h past seat e is of_seat history short imports absorbs stands =
     let front : own seat past ≡ e ∷ own seat h = ap (own seat) is ∙ own_mine e h seat of_seat in
-    let mine : AreOwn (e ∷ own seat h) = record { setup = setup; past = past; seat = seat; history = history; own = sym front } in
+    let mine : AreOwn (e ∷ own seat h) = record { setup = setup; past = past; seat = seat; imports = imports; short = short; history = history; own = sym front } in
     subst (λ m. StandsFor after m) (sym front) (absorbs (own seat h) mine stands)
 
--- a woken actor that has a call left makes one
-pub ran_busy : {E : Type 0} (seat : ℕ) (after s : State) (past h : List Entry) (b : ℕ) (r : Result Ran E) → IfOk r (λ (ran : Ran). Runs seat after past ran.left ran.idle s h b)
-    → WokenIsBusy s → s.memory.stale ≡ false → IfOk r (λ (ran : Ran). 0 < b → ran.left < b)
-ran_busy seat after s past h b (Ok ran) runs busy fresh = run_busy seat after past ran.left ran.idle s h b runs busy fresh
-ran_busy seat after s past h b (Err e) runs busy fresh = tt
+-- a woken actor that has a call left makes one, where its epoch is not stale
+pub busy_where : {E X : Type 0} (seat : ℕ) (after s : State) (past h : List Entry) (b : ℕ) (r : Result Ran E) → IfOk r (λ (ran : Ran). Runs seat after past ran.left ran.idle s h b)
+    → WokenIsBusy s → (X → s.memory.stale ≡ false) → IfOk r (λ (ran : Ran). X → 0 < b → ran.left < b)
+busy_where seat after s past h b (Ok ran) runs busy fresh = λ x. run_busy seat after past ran.left ran.idle s h b runs busy (fresh x)
+busy_where seat after s past h b (Err e) runs busy fresh = tt
 
 -- a call that an actor gave is one more of an actor
 pub by_actor : (given : State) (h past : List Entry) (e : Entry) → past ≡ e ∷ h → IsBuiltKind given.role.kind → e.kind ≡ given.role.kind → StandsFor given (own e.seat h) → asked given ≡ Some e.request → AreByActors h → AreByActors past
@@ -153,4 +159,4 @@ by_actor given h past e is built kind stands asks before = subst AreByActors (sy
     by seats.User same built = absurd built
     by seats.Ops same built = absurd built
     by seats.Scheduler same built = absurd built
-    by seats.Agent same built = absurd built
+    by seats.Agent same built = tt

@@ -1,10 +1,11 @@
 -- The actors of a drain: their seats, and that each stands for its seat's entries.
 -- A choice of this project.
-use Rattle.std.specs.Prelude.{ℕ, ◌≡◌, ◌<◌, ◌+◌, List, [], ◌∷◌, Some, length, map, slice_get, ⊤}
+use Rattle.std.specs.Prelude.{ℕ, ◌≡◌, ◌≢◌, ◌<◌, ◌+◌, List, [], ◌∷◌, ◌++◌, Some, length, map, slice_get, ⊤}
 use Rattle.call_types.specs.declared.entry.Entry.{Entry}
 use Rattle.call_types.specs.declared.request.SeatKind.{SeatKind}
 use Rattle.call_types.specs.declared.request.SeatKind.TheVariants as seats
 use Rattle.binder_model.specs.Told.{own}
+use Rattle.worker_core.specs.declared.role.Role.{Role}
 use Rattle.worker_core.specs.Stands.{IsNew, MayBeIdle, StandsFor}
 use Rattle.worker_threads.specs.declared.drainers.Drainer.{Drainer}
 
@@ -16,12 +17,23 @@ pub record AreSeats (seats : List ℕ) : Type 0 where
   pub some : 0 < length seats
   pub differ : (i j seat : ℕ) → slice_get seats i ≡ Some seat → slice_get seats j ≡ Some seat → i ≡ j
 
+abbrev pub roles_of : List Drainer → List Role
+roles_of ds = map (λ (d : Drainer). d.actor.role) ds
+
+-- the first of these is no agent: an agent whose node was taken by another makes no more calls
+pub record BeginsSteady (roles : List Role) : Type 0 where
+  pub first : Role
+  pub is : slice_get roles 0 ≡ Some first
+  pub steady : first.kind ≢ seats.Agent
+
 -- the actor stands for the entries of its seat
 abbrev pub IsStanding : Drainer → List Entry → Type 0
 IsStanding d past = StandsFor d.actor (own d.seat past)
 
-abbrev pub AreStanding : List Drainer → List Entry → Type 0
-AreStanding ds past = (place : ℕ) (d : Drainer) → slice_get ds place ≡ Some d → IsStanding d past
+-- each does, and the first is no agent
+pub record AreStanding (ds : List Drainer) (past : List Entry) : Type 0 where
+  pub each : (place : ℕ) (d : Drainer) → slice_get ds place ≡ Some d → IsStanding d past
+  pub steady : BeginsSteady (roles_of ds)
 
 -- the actor may be idle: none of its kinds has news
 abbrev pub IsIdleNow : Drainer → List Entry → Type 0
@@ -35,18 +47,34 @@ abbrev pub HaveNoEntries : List ℕ → List Entry → Type 0
 HaveNoEntries [] past = ⊤
 HaveNoEntries (seat ∷ seats) past = (own seat past ≡ []) × HaveNoEntries seats past
 
--- a new actor of the kind, at the seat; it serves no node
-pub record IsNewAt (kind : SeatKind) (seat : ℕ) (d : Drainer) : Type 0 where
+-- a new actor of the kind, at the seat, that serves the node
+pub record IsNewAt (kind : SeatKind) (node : List ℕ) (seat : ℕ) (d : Drainer) : Type 0 where
   pub at : d.seat ≡ seat
-  pub is_new : IsNew (record { kind = kind; node = [] }) d.actor
+  pub is_new : IsNew (record { kind = kind; node = node }) d.actor
+  pub stands : StandsFor d.actor []
 
--- new actors, in the order of a round: the binder, claim protection, volume protection. Their seats are counted in the order
--- binder, ops, scheduler, claim protection, volume protection, agents by node; an actor that is not built keeps its number
-pub record AreNew (first_seat : ℕ) (ds : List Drainer) : Type 0 where
+-- new agents of these nodes, in the order of the nodes, at the seats from this one on
+abbrev pub AreNewAgents : ℕ → List (List ℕ) → List Drainer → Type 0
+AreNewAgents seat [] ds = ds ≡ []
+AreNewAgents seat (node ∷ nodes) [] = ⊥
+AreNewAgents seat (node ∷ nodes) (d ∷ ds) = IsNewAt seats.Agent node seat d × AreNewAgents (seat + 1) nodes ds
+
+-- such agents stand behind those before
+pub record AreAdded (seat : ℕ) (nodes : List (List ℕ)) (before after : List Drainer) : Type 0 where
+  pub agents : List Drainer
+  pub are : after ≡ before ++ agents
+  pub new : AreNewAgents seat nodes agents
+
+-- new actors, in the order of a round: the binder, claim protection, volume protection, and an agent of each node. Their
+-- seats are counted in the order binder, ops, scheduler, claim protection, volume protection, agents by node; an actor that
+-- is not built keeps its number. Only agents serve a node
+pub record AreNew (first_seat : ℕ) (nodes : List (List ℕ)) (ds : List Drainer) : Type 0 where
   pub binder : Drainer
   pub claims : Drainer
   pub volumes : Drainer
-  pub are : ds ≡ binder ∷ claims ∷ volumes ∷ []
-  pub binder_is : IsNewAt seats.Binder first_seat binder
-  pub claims_is : IsNewAt seats.ClaimProtect (first_seat + 3) claims
-  pub volumes_is : IsNewAt seats.VolumeProtect (first_seat + 4) volumes
+  pub agents : List Drainer
+  pub are : ds ≡ binder ∷ claims ∷ volumes ∷ agents
+  pub binder_is : IsNewAt seats.Binder [] first_seat binder
+  pub claims_is : IsNewAt seats.ClaimProtect [] (first_seat + 3) claims
+  pub volumes_is : IsNewAt seats.VolumeProtect [] (first_seat + 4) volumes
+  pub agents_are : AreNewAgents (first_seat + 5) nodes agents

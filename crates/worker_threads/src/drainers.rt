@@ -1,10 +1,9 @@
 //! The actors of a drain.
 
-ghost use Rattle.std.specs.Prelude.{◌≡◌, ◌+◌, ◌<◌, ◌^◌, [], ◌∷◌, List, IfOk, length};
+ghost use Rattle.std.specs.Prelude.{◌≡◌, ◌+◌, ◌<◌, ◌^◌, List, IfOk, OnOk, length};
 ghost use Rattle.call_types.specs.declared.entry.Entry.{Entry};
 ghost use Rattle.worker_core.specs.Roles.{IsBuiltKind};
-ghost use Rattle.worker_core.specs.Stands.{StandsFor};
-ghost use Rattle.worker_threads.specs.Drainers.{AreNew, AreStanding, HaveNoEntries, IsNewAt, seats_of};
+ghost use Rattle.worker_threads.specs.Drainers.{AreAdded, AreNew, AreStanding, HaveNoEntries, IsNewAt, seats_of};
 
 use call_types::request::SeatKind;
 use kube_types::copies::OutOfMemory;
@@ -61,31 +60,57 @@ const CLAIMS: u64 = 3;
 
 const VOLUMES: u64 = 4;
 
-/// A new actor of the kind, at the seat.
-fn new_drainer(alloc: Global, kind: SeatKind, seat: u64) -> Result<Drainer, OutOfMemory>
+const AGENTS: u64 = 5;
+
+/// A new actor of the kind, at the seat; an agent serves the node.
+fn new_drainer(
+    alloc: Global,
+    kind: SeatKind,
+    node: &Text,
+    seat: u64,
+) -> Result<Drainer, OutOfMemory>
     requires { IsBuiltKind kind }
-    ensures at { IfOk result (λ d. IsNewAt kind seat d) }
-    ensures stands { IfOk result (λ d. StandsFor d.actor []) }
+    ensures { IfOk result (λ d. IsNewAt kind node.now seat d) }
 {
-    let node = Text::new(alloc, "")?;
-    let actor = Actor::new(alloc, kind, &node)?;
+    let actor = Actor::new(alloc, kind, node)?;
     Ok(Drainer { seat, actor })
+}
+
+/// Adds a new agent of each node, in the order of the nodes, at the seats from this one on.
+fn add_agents(
+    alloc: Global,
+    list: &mut Vec<Drainer>,
+    nodes: &Names,
+    first: u64,
+) -> Result<(), OutOfMemory>
+    requires { first + length nodes.now < 2 ^ 64 }
+    ensures { OnOk result (AreAdded first nodes.now list.old.items list.new.items) }
+{
+    let mut seat = first;
+    for node in nodes.as_slice() {
+        let agent = new_drainer(alloc, SeatKind::Agent, node, seat)?;
+        list.push(agent)?;
+        seat += 1;
+    }
+    Ok(())
 }
 
 impl Drainers {
     /// New actors for a world with these nodes. They stand for the entries of their seats where these have none.
-    pub fn new(alloc: Global, _nodes: &Names, first_seat: u64) -> Result<Drainers, OutOfMemory>
-        requires { first_seat + length _nodes.now < 2 ^ 63 }
-        ensures are { IfOk result (λ drainers. AreNew first_seat drainers) }
+    pub fn new(alloc: Global, nodes: &Names, first_seat: u64) -> Result<Drainers, OutOfMemory>
+        requires { first_seat + length nodes.now < 2 ^ 63 }
+        ensures are { IfOk result (λ drainers. AreNew first_seat nodes.now drainers) }
         ensures stand { IfOk result (λ drainers. (past : List Entry) → HaveNoEntries (seats_of drainers) past → AreStanding drainers past) }
     {
-        let binder = new_drainer(alloc, SeatKind::Binder, first_seat + BINDER)?;
-        let claims = new_drainer(alloc, SeatKind::ClaimProtect, first_seat + CLAIMS)?;
-        let volumes = new_drainer(alloc, SeatKind::VolumeProtect, first_seat + VOLUMES)?;
+        let none = Text::new(alloc, "")?;
+        let binder = new_drainer(alloc, SeatKind::Binder, &none, first_seat + BINDER)?;
+        let claims = new_drainer(alloc, SeatKind::ClaimProtect, &none, first_seat + CLAIMS)?;
+        let volumes = new_drainer(alloc, SeatKind::VolumeProtect, &none, first_seat + VOLUMES)?;
         let mut list = Vec::new(alloc);
         list.push(binder)?;
         list.push(claims)?;
         list.push(volumes)?;
+        add_agents(alloc, &mut list, nodes, first_seat + AGENTS)?;
         Ok(Drainers { alloc, list })
     }
 }

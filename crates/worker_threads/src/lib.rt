@@ -4,8 +4,9 @@
 //! runs it until it is idle. Promises: a round is exactly that (`specs/Rounds`), and a drain exactly such rounds; the world's
 //! history is the earlier one and then as many entries as were made, all of the drainers' seats and told, so it stays a run;
 //! no other seat's entries change; each drainer stands for its seat's entries again; a drain ends Settled exactly where
-//! nothing is due, else Spent exactly where the budget is. Not said: that any budget is enough to settle a world.
-//! The actors that are built are the binder, claim protection and volume protection. Threads come later.
+//! nothing is due, else Spent exactly where the budget is. Not said: that any budget is enough to settle a world, nor that
+//! what only a stale agent could do is done: an agent whose node was taken by another answers Idle from then on.
+//! The actors that are built are the binder, claim protection, volume protection and the node agents. Threads come later.
 #![tactic(auto)]
 
 pub mod drain;

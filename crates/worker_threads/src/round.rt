@@ -2,10 +2,11 @@
 
 ghost use Rattle.std.specs.Prelude.{◌≡◌, ◌≢◌, ◌≤◌, ◌<◌, ◌-◌, ℕ, List, [], ◌∷◌, IfOk, OnOk, OnErr, false, true, length};
 ghost use Rattle.call_types.specs.declared.entry.Entry.{Entry};
+ghost use Rattle.call_types.specs.declared.request.SeatKind.TheVariants.{Agent};
 ghost use Rattle.binder_model.specs.Told.{own};
 ghost use Rattle.worker_core.specs.Absorbs.{woken};
 ghost use Rattle.fitting_calls.specs.Calls.{AreByActors};
-ghost use Rattle.worker_threads.specs.Drainers.{AreIdle, AreSeats, AreStanding, IsIdleNow, IsStanding, seats_of};
+ghost use Rattle.worker_threads.specs.Drainers.{AreIdle, AreSeats, AreStanding, IsIdleNow, IsStanding, roles_of, seats_of};
 ghost use Rattle.worker_threads.specs.Longer.{HasGrown, IsLonger, IsOneOf};
 ghost use Rattle.worker_threads.specs.Rounds.{IsRound, Runs};
 
@@ -77,13 +78,14 @@ fn turns(
     Ok(Ran { left, idle: whole })
 }
 
-/// One drainer's turn: it is woken, and runs until it is idle.
+/// One drainer's turn: it is woken, and runs until it is idle. An agent whose epoch is stale is idle at once.
 fn turn(world: &mut KeptWorld, drainer: &mut Drainer, budget: u64) -> Result<Ran, OutOfMemory>
     requires { IsStanding drainer.old world.old.past }
     ensures runs { IfOk result (λ ran. Runs drainer.old.seat drainer.new.actor world.new.past ran.left ran.idle (woken drainer.old.actor) world.old.past budget) }
     ensures stands { OnOk result (IsStanding drainer.new world.new.past) }
     ensures idle { IfOk result (λ ran. ran.idle ≡ true → IsIdleNow drainer.new world.new.past) }
-    ensures some { IfOk result (λ ran. 0 < budget → ran.left < budget) }
+    ensures some { IfOk result (λ ran. drainer.old.actor.role.kind ≢ Agent → 0 < budget → ran.left < budget) }
+    ensures role { OnOk result (drainer.new.actor.role ≡ drainer.old.actor.role) }
     ensures grown { HasGrown (drainer.old.seat ∷ []) world.old.past world.new.past }
     ensures actors { AreByActors world.old.past → AreByActors world.new.past }
     ensures setup { world.new.setup ≡ world.old.setup }

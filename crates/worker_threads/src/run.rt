@@ -1,7 +1,9 @@
 //! One actor that is run on a world.
 
-ghost use Rattle.std.specs.Prelude.{◌≡◌, ◌≤◌, ◌<◌, ◌-◌, true, [], ◌∷◌, IfOk, OnOk, OnErr};
+ghost use Rattle.std.specs.Prelude.{◌≡◌, ◌≤◌, ◌<◌, ◌-◌, true, [], ◌∷◌, IfOk, OnOk, OnErr, length};
+ghost use Rattle.binder_model.specs.Imports.{ImportsPass};
 ghost use Rattle.binder_model.specs.Licence.{Licensed};
+ghost use Rattle.binder_model.specs.Promises.{most_entries};
 ghost use Rattle.binder_model.specs.Told.{own};
 ghost use Rattle.binder_model.specs.World.{IsHistory};
 ghost use Rattle.worker_core.specs.Roles.{IsBuiltKind};
@@ -38,6 +40,7 @@ pub(crate) fn run(
     ensures runs { IfOk result (λ ran. Runs seat actor.new world.new.past ran.left ran.idle actor.old world.old.past budget) }
     ensures stands { OnOk result (StandsFor actor.new (own seat world.new.past)) }
     ensures idle { IfOk result (λ ran. ran.idle ≡ true → MayBeIdle actor.new.role actor.new.memory (own seat world.new.past)) }
+    ensures role { OnOk result (actor.new.role ≡ actor.old.role) }
     ensures grown { HasGrown (seat ∷ []) world.old.past world.new.past }
     ensures actors { AreByActors world.old.past → AreByActors world.new.past }
     ensures setup { world.new.setup ≡ world.old.setup }
@@ -68,6 +71,8 @@ fn ask(
     requires { Licensed kind (own seat world.old.past) request.now }
     ensures entry { IfOk result (λ reply. world.new.past ≡ record { seat = seat; kind = kind; request = request.now; reply = reply; told = true } ∷ world.old.past) }
     ensures history { OnOk result (IsHistory world.new.setup world.new.past) }
+    ensures short { OnOk result (length world.new.past < most_entries) }
+    ensures imports { OnOk result (ImportsPass world.new.setup.imports) }
     ensures setup { world.new.setup ≡ world.old.setup }
     ensures err { OnErr result (world.new.past ≡ world.old.past) }
 {
@@ -78,7 +83,9 @@ fn ask(
 
 /// The world's history is one. It does nothing: its contract is what callers know of the world.
 fn have_history(world: &KeptWorld)
-    ensures { IsHistory world.now.setup world.now.past }
+    ensures history { IsHistory world.now.setup world.now.past }
+    ensures short { length world.now.past < most_entries }
+    ensures imports { ImportsPass world.now.setup.imports }
 {
     let _ = world.world().history();
 }

@@ -17,10 +17,6 @@ use Rattle.script_runs.specs.declared.player.Player.{Player}
 use Rattle.script_runs.specs.Calls.{seat_at}
 use Rattle.script_runs.specs.Diligent.{AreOfLife, IsDiligentLife, leaves_entry}
 
--- the role of a worker
-abbrev pub role_of_part : Part → Role
-role_of_part part = record { kind = part.kind; node = [] }
-
 -- ---- a call
 
 -- the calls are one more, with this fate, and the actor was played on
@@ -37,26 +33,26 @@ GoesOn seat fate request before after old new = (role : Role) (s : State) (calls
 
 -- ---- the lives of a part
 
--- the life at the seat, so far, of an actor that is in this state
-pub record Living (part : Part) (seat made : ℕ) (past : List Entry) (s : State) : Type 0 where
+-- the life at the seat, so far, of an actor of this role that is in this state
+pub record Living (role : Role) (part : Part) (seat made : ℕ) (past : List Entry) (s : State) : Type 0 where
   pub calls : List Call
   pub are : AreOfLife part seat made past calls
-  pub played : IsPlayed (role_of_part part) s calls
+  pub played : IsPlayed role s calls
 
 -- the life of the player, and those before it
-pub record Lives (p : Player) (past : List Entry) : Type 0 where
-  pub built : IsBuiltKind p.part.kind
+pub record Lives (role : Role) (p : Player) (past : List Entry) : Type 0 where
+  pub built : IsBuiltKind role.kind
   pub began : seat_at p.part p.made ≤ p.seat
-  pub living : Living p.part p.seat p.made past p.actor
-  pub ended : (seat : ℕ) → p.part.first ≤ seat → seat < p.seat → IsDiligentLife (role_of_part p.part) p.part seat p.made past
+  pub living : Living role p.part p.seat p.made past p.actor
+  pub ended : (seat : ℕ) → p.part.first ≤ seat → seat < p.seat → IsDiligentLife role p.part seat p.made past
 
 -- the turn of the player has given no call
-pub record LivesIdle (p : Player) (past : List Entry) : Type 0 where
+pub record LivesIdle (role : Role) (p : Player) (past : List Entry) : Type 0 where
   pub before : State
-  pub lives : Lives (record p { actor = before }) past
+  pub lives : Lives role (record p { actor = before }) past
   pub turns : Turns before p.actor nexts.Idle (own p.seat past)
 
 -- after a step, in which a call was made or none
-abbrev pub HasLived : List Entry → Player → Bool → Type 0
-HasLived past p true = Lives p past
-HasLived past p false = LivesIdle p past
+abbrev pub HasLived : Role → List Entry → Player → Bool → Type 0
+HasLived role past p true = Lives role p past
+HasLived role past p false = LivesIdle role p past

@@ -4,15 +4,15 @@ use Rattle.std.specs.Prelude.{ℕ, ◌≡◌, ◌≢◌, ◌≤◌, ◌<◌, ◌
 use Rattle.call_types.specs.declared.entry.Entry.{Entry}
 use Rattle.binder_model.specs.Told.{own}
 use Rattle.world_core.specs.Kept.{History}
+use Rattle.worker_core.specs.declared.role.Role.{Role}
 use Rattle.worker_core.specs.Roles.{IsBuiltKind}
 use Rattle.worker_core.specs.Stands.{IsNew, PassStands, StandsFor}
 use Rattle.worker_core.specs.States.{State}
 use Rattle.script_parts.specs.declared.part.Part.{Part}
 use Rattle.script_runs.specs.declared.player.Player.{Player}
-use Rattle.script_runs.specs.Calls.{AreCalls, IsCall, IsQuietSince, seat_at}
+use Rattle.script_runs.specs.Calls.{AreCalls, IsCall, MayEnd, seat_at}
 use Rattle.script_parts.specs.Parts.{lives_of}
 use Rattle.script_runs.specs.Replays.{and_idle}
-use Rattle.script_runs.specs.Steps.Living.{role_of_part}
 
 -- the actor stands for its entries, and its pass for those after the earlier ones
 pub record StandsSince (s : State) (earlier mine : List Entry) : Type 0 where
@@ -66,7 +66,7 @@ pub record IsStill (idle : ℕ → List Entry) (before after : List Entry) (old 
   pub past : after ≡ before
   pub seat : new.seat ≡ seat_at old.part (old.made + 1)
   pub plays : Plays new after idle
-  pub quiet : IsQuietSince old.part.kind (idle new.seat) (own new.seat after)
+  pub ends : MayEnd old.part.kind (idle new.seat) (own new.seat after)
 
 abbrev pub HasStepped : (ℕ → List Entry) → List Entry → List Entry → Player → Player → Bool → Type 0
 HasStepped idle before after old new true = HasMade idle before after old new
@@ -85,7 +85,7 @@ pub record HasMadeFewer (calls : ℕ) (idle : ℕ → List Entry) (before after 
   pub made : new.made ≡ old.made + count
   pub calls_are : AreCalls old.part after (old.made + 1) count before
   pub life : new.seat ≡ seat_at old.part (old.made + count + 1)
-  pub quiet : IsQuietSince old.part.kind (idle new.seat) (own new.seat after)
+  pub ends : MayEnd old.part.kind (idle new.seat) (own new.seat after)
   pub plays : Plays new after (and_idle new.seat (own new.seat after) idle)
 
 pub record HasTurned (calls : ℕ) (idle : ℕ → List Entry) (before after : List Entry) (old new : Player) : Type 0 where
@@ -102,10 +102,11 @@ pub record HasGone (made : ℕ) (idle : ℕ → List Entry) (before after : List
 abbrev pub EachPlayer : (Player → Type 0) → List Player → Type 0
 EachPlayer Q players = (place : ℕ) (x : Player) → slice_get players place ≡ Some x → Q x
 
--- before its first call
-pub record IsNewPlayer (x : Player) : Type 0 where
+-- before its first call, of an actor of this role
+pub record IsNewPlayer (role : Role) (x : Player) : Type 0 where
   pub seat : x.seat ≡ x.part.first
   pub made : x.made ≡ 0
-  pub built : IsBuiltKind x.part.kind
-  pub new : IsNew (role_of_part x.part) x.actor
+  pub kind : role.kind ≡ x.part.kind
+  pub built : IsBuiltKind role.kind
+  pub new : IsNew role x.actor
   pub stands : StandsFor x.actor []

@@ -1,5 +1,5 @@
 -- What stands for how far a replay has come: a world, the actors, and the numbers of the drains. A choice of this project.
-use Rattle.std.specs.Prelude.{ℕ, ◌≡◌, ◌≤◌, ◌+◌, true, List, [], ◌∷◌, ◌++◌, Option, Some, None, drop, map}
+use Rattle.std.specs.Prelude.{ℕ, ◌≡◌, ◌≤◌, ◌+◌, true, List, [], ◌∷◌, ◌++◌, Option, Some, None, bytes_eq, drop, map, slice_get, if◌then◌else◌}
 use Rattle.worker_threads.specs.Drainers.{AreStanding, seats_of}
 use Rattle.worker_threads.specs.Longer.{IsOneOf}
 use Rattle.world_core.specs.declared.drained.Drained.{Drained}
@@ -17,15 +17,24 @@ use Rattle.script_parts.specs.declared.part.Part.{Part}
 use Rattle.script_runs.specs.declared.player.Player.{Player}
 use Rattle.script_runs.specs.declared.stage.Stage.{Stage}
 use Rattle.script_parts.specs.Budget.{most_budget}
-use Rattle.script_parts.specs.Parts.{drain_seats, first_actor_seat, kind_of_worker, lives_of, part_at}
-use Rattle.script_lines.specs.Actors.{four, worker_word}
+use Rattle.script_parts.specs.Parts.{drain_seats, first_actor_seat, kind_of, lives_of, part_at}
+use Rattle.script_lines.specs.Actors.{actor_word, four}
+use Rattle.worker_core.specs.declared.role.Role.{Role}
+use Rattle.script_runs.specs.Diligent.{role_of}
 use Rattle.script_runs.specs.Replays.{AreMoves, EndsAs, IsDrain, Progress, begun}
 use Rattle.script_runs.specs.Steps.Living.{Lives}
-use Rattle.script_runs.specs.Steps.Playing.{EachPlayer, Plays}
+use Rattle.script_runs.specs.Steps.Playing.{EachPlayer, IsNewPlayer, Plays}
 
--- the workers that are built, in the order of their seats: four of each kind
-unfoldable pub built_workers : List WorkerData
-built_workers = four workers.Binder ++ (four workers.Claims ++ four workers.Volumes)
+-- the actors that are built, in the order of their seats: four workers of each kind, and then the agents of these nodes
+
+abbrev pub workers_of : WorkerKind → List Actor
+workers_of kind = map (λ (w : WorkerData). Worker w) (four kind)
+
+abbrev pub agents_for : List (List ℕ) → List Actor
+agents_for nodes = map (λ (node : List ℕ). Agent node) nodes
+
+unfoldable pub built_actors : List (List ℕ) → List Actor
+built_actors nodes = workers_of workers.Binder ++ (workers_of workers.Claims ++ (workers_of workers.Volumes ++ agents_for nodes))
 
 -- the place of an actor among them
 
@@ -42,39 +51,57 @@ place_of_number Two = 1
 place_of_number Three = 2
 place_of_number Four = 3
 
-abbrev pub place_of : Actor → ℕ
-place_of (Worker w) = place_of_kind w.kind + place_of_number w.number
-place_of (Agent node) = 0
+-- the place of the first node of this name
+abbrev pub place_of_node : List ℕ → List (List ℕ) → ℕ
+place_of_node node [] = 0
+place_of_node node (n ∷ nodes) = if bytes_eq n node then 0 else 1 + place_of_node node nodes
 
--- the workers of a kind with these numbers
-abbrev pub workers_of : WorkerKind → List WorkerNumber → List WorkerData
-workers_of kind numbers = map (λ (n : WorkerNumber). record { kind = kind; number = n }) numbers
+abbrev pub place_of : List (List ℕ) → Actor → ℕ
+place_of nodes (Worker w) = place_of_kind w.kind + place_of_number w.number
+place_of nodes (Agent node) = 12 + place_of_node node nodes
 
--- the parts of workers by the lines alone: each begins where the one before it ends
+-- the parts of actors by the lines alone: each begins where the one before it ends
 
-abbrev pub part_from : List Line → WorkerData → ℕ → Part
-part_from lines w first = part_at (worker_word w) (kind_of_worker w.kind) first lines
+abbrev pub part_from : List Line → Actor → ℕ → Part
+part_from lines actor first = part_at (actor_word actor) (kind_of actor) first lines
 
 abbrev pub end_of : Part → ℕ
 end_of part = part.first + lives_of part
 
-abbrev pub parts_from : List Line → List WorkerData → ℕ → List Part
+abbrev pub parts_from : List Line → List Actor → ℕ → List Part
 parts_from lines [] first = []
-parts_from lines (w ∷ ws) first = part_from lines w first ∷ parts_from lines ws (end_of (part_from lines w first))
+parts_from lines (actor ∷ actors) first = part_from lines actor first ∷ parts_from lines actors (end_of (part_from lines actor first))
 
 -- the seat after those of their lives
-abbrev pub seat_past : List Line → List WorkerData → ℕ → ℕ
+abbrev pub seat_past : List Line → List Actor → ℕ → ℕ
 seat_past lines [] first = first
-seat_past lines (w ∷ ws) first = seat_past lines ws (end_of (part_from lines w first))
+seat_past lines (actor ∷ actors) first = seat_past lines actors (end_of (part_from lines actor first))
 
-abbrev pub built_parts : List Line → List Part
-built_parts lines = parts_from lines built_workers first_actor_seat
+abbrev pub built_parts : Script → List Part
+built_parts script = parts_from script.lines (built_actors script.node_names) first_actor_seat
 
-abbrev pub seat_of_drains : List Line → ℕ
-seat_of_drains lines = seat_past lines built_workers first_actor_seat
+abbrev pub seat_of_drains : Script → ℕ
+seat_of_drains script = seat_past script.lines (built_actors script.node_names) first_actor_seat
 
 abbrev pub parts_in : List Player → List Part
 parts_in players = map (λ (x : Player). x.part) players
+
+-- players of these actors, before their first calls: each begins where the one before it ends
+abbrev pub AreNewPlayers : List Line → List Actor → ℕ → List Player → Type 0
+AreNewPlayers lines [] first players = players ≡ []
+AreNewPlayers lines (actor ∷ actors) first [] = ⊥
+AreNewPlayers lines (actor ∷ actors) first (x ∷ players) = (x.part ≡ part_from lines actor first) × IsNewPlayer (role_of actor) x × AreNewPlayers lines actors (end_of (part_from lines actor first)) players
+
+-- such players stand behind those before, and this seat is the one after those of their lives
+pub record HasAdded (lines : List Line) (actors : List Actor) (first next : ℕ) (before after : List Player) : Type 0 where
+  pub added : List Player
+  pub are : after ≡ before ++ added
+  pub new : AreNewPlayers lines actors first added
+  pub seat : next ≡ seat_past lines actors first
+
+-- Q holds of each player, with the role of its actor
+abbrev pub EachWithRole : (Role → Player → Type 0) → List Actor → List Player → Type 0
+EachWithRole Q actors players = (place : ℕ) (actor : Actor) (x : Player) → slice_get actors place ≡ Some actor → slice_get players place ≡ Some x → Q (role_of actor) x
 
 abbrev pub IsBudget : Option ℕ → ℕ → Type 0
 IsBudget (Some given) budget = budget ≡ given
@@ -83,9 +110,9 @@ IsBudget None budget = budget ≤ most_budget
 pub record Stands (script : Script) (option : Option ℕ) (p : Progress) (s : Stage) : Type 0 where
   pub past : s.world.past ≡ p.past
   pub setup : s.world.setup ≡ script.setup
-  pub parts : parts_in s.players.items ≡ built_parts script.lines
+  pub parts : parts_in s.players.items ≡ built_parts script
   pub plays : EachPlayer (λ x. x.part.named ≡ true → Plays x s.world.past p.idle) s.players.items
-  pub lives : EachPlayer (λ x. x.part.named ≡ true → Lives x s.world.past) s.players.items
+  pub lives : EachWithRole (λ role x. x.part.named ≡ true → Lives role x s.world.past) (built_actors script.node_names) s.players.items
   pub made : EachPlayer (λ x. x.made ≡ p.made x.part.name) s.players.items
   pub drainers : AreStanding s.drainers s.world.past
   pub seats : (seat : ℕ) → IsOneOf (seats_of s.drainers) seat → IsOneOf (drain_seats script) seat

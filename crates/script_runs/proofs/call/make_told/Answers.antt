@@ -6,7 +6,7 @@ use Rattle.script_runs.proofs.call.make_told.Goals as goal
 
 pub returns-clause-called : goal.returns-clause-called
 returns-clause-called c =
-    told_called c.args.seat c.args.world.now c.call.new.self c.args.actor.now c.absorb.new.self c.args.kind c.args.request.now c.in_ok-reply.reply c.requires.kind c.have_history.ensures
+    told_called c.args.seat c.args.world.now c.call.new.self c.args.actor.now c.absorb.new.self c.args.kind c.args.request.now c.in_ok-reply.reply c.requires.kind c.have_history.ensures.history c.have_history.ensures.short c.have_history.ensures.imports
     (subst IsBuiltKind c.kind-built.ensures.kind c.kind-built.ensures.built) c.requires.asked c.in_ok-reply.ensures.entry c.in_ok-absorb.ensures.state c.in_ok-absorb.ensures.told
 
 pub returns-clause-actors : goal.returns-clause-actors
@@ -15,5 +15,5 @@ returns-clause-actors c = λ stands before.
 
 pub returns-clause-goes : goal.returns-clause-goes
 returns-clause-goes c =
-    told_goes c.args.seat c.args.world.now c.call.new.self c.args.actor.now c.absorb.new.self c.args.kind c.args.request.now c.in_ok-reply.reply c.requires.kind c.have_history.ensures
+    told_goes c.args.seat c.args.world.now c.call.new.self c.args.actor.now c.absorb.new.self c.args.kind c.args.request.now c.in_ok-reply.reply c.requires.kind c.have_history.ensures.history c.have_history.ensures.short c.have_history.ensures.imports
     c.in_ok-reply.ensures.entry c.in_ok-absorb.ensures.state c.in_ok-absorb.ensures.told

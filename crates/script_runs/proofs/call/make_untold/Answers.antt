@@ -6,7 +6,7 @@ use Rattle.script_runs.proofs.call.make_untold.Goals as goal
 
 pub returns-clause-called : goal.returns-clause-called
 returns-clause-called c =
-    untold_called c.args.seat c.args.world.now c.call.new.self c.args.actor.now c.absorb.new.self c.args.kind c.args.request.now c.in_ok-_reply._reply c.requires.kind c.have_history.ensures
+    untold_called c.args.seat c.args.world.now c.call.new.self c.args.actor.now c.absorb.new.self c.args.kind c.args.request.now c.in_ok-_reply._reply c.requires.kind c.have_history.ensures.history c.have_history.ensures.short c.have_history.ensures.imports
     c.in_ok-_reply.ensures.entry c.in_ok-absorb.ensures.state c.in_ok-absorb.ensures.lost_after
 
 pub returns-clause-actors : goal.returns-clause-actors
@@ -15,5 +15,5 @@ returns-clause-actors c = λ stands before.
 
 pub returns-clause-goes : goal.returns-clause-goes
 returns-clause-goes c =
-    untold_goes c.args.seat c.args.world.now c.call.new.self c.args.actor.now c.absorb.new.self c.args.kind c.args.request.now c.in_ok-_reply._reply c.requires.kind c.have_history.ensures
+    untold_goes c.args.seat c.args.world.now c.call.new.self c.args.actor.now c.absorb.new.self c.args.kind c.args.request.now c.in_ok-_reply._reply c.requires.kind c.have_history.ensures.history c.have_history.ensures.short c.have_history.ensures.imports
     c.in_ok-_reply.ensures.entry c.in_ok-absorb.ensures.state c.in_ok-absorb.ensures.lost_after

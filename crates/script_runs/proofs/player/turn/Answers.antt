@@ -17,7 +17,7 @@ loop-made-init c = record {
   setup = refl;
   actors = λ before. before;
   some = c.requires.plays;
-  lives = λ lives. lives;
+  lives = λ role lives. lives;
   gone = λ idle plays. not_gone idle c.args.world.now.past c.args.player.now plays;
 }
 
@@ -63,7 +63,7 @@ loop-made-preserved c =
       setup = c.step.ensures.setup ∙ i.setup;
       actors = λ before. c.in_ok-step.ensures.actors (i.actors before);
       some = record { idle = i.some.idle; plays = (made i.some.idle i.some.plays).plays };
-      lives = λ lives. subst (λ (b : Bool). HasLived after new b) c.if-not-branch.false (c.in_ok-step.ensures.lived (i.lives lives));
+      lives = λ role lives. subst (λ (b : Bool). HasLived role after new b) c.if-not-branch.false (c.in_ok-step.ensures.lived role (i.lives role lives));
       gone = λ idle plays.
           let gone = i.gone idle plays in
           gone_on c.loop-made.made idle c.args.world.now.past h after c.args.player.now old new i.part i.count gone (made idle gone.plays);
@@ -78,10 +78,10 @@ pub returns-then-not-branch-clause-actors : goal.returns-then-not-branch-clause-
 returns-then-not-branch-clause-actors c = λ before. c.in_ok-step.ensures.actors (c.loop-made.invariant.actors before)
 
 pub returns-then-not-branch-clause-lives : goal.returns-then-not-branch-clause-lives
-returns-then-not-branch-clause-lives c = λ lives.
+returns-then-not-branch-clause-lives c = λ role lives.
     let mid = c.step.new.player in
     let after = c.step.new.world.past in
-    woken_lives mid c.wake.new.self after c.in_ok-wake.ensures.state c.in_ok-wake.ensures.stands (subst (λ (b : Bool). HasLived after mid b) c.if-not-branch.true (c.in_ok-step.ensures.lived (c.loop-made.invariant.lives lives)))
+    woken_lives role mid c.wake.new.self after c.in_ok-wake.ensures.state c.in_ok-wake.ensures.stands (subst (λ (b : Bool). HasLived role after mid b) c.if-not-branch.true (c.in_ok-step.ensures.lived role (c.loop-made.invariant.lives role lives)))
 
 pub returns-clause-lives : goal.returns-clause-lives
 returns-clause-lives c = c.loop-made.invariant.lives

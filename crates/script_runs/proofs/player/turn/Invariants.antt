@@ -1,6 +1,7 @@
 use Rattle.std.proofs.Common.{◌≡◌, ◌≤◌, ◌+◌, ◌-◌, ℕ, List}
 use Rattle.call_types.specs.declared.entry.Entry.{Entry}
 use Rattle.fitting_calls.specs.Calls.{AreByActors}
+use Rattle.worker_core.specs.declared.role.Role.{Role}
 use Rattle.script_runs.specs.Steps.Living.{Lives}
 use Rattle.script_runs.specs.Steps.Playing.{HasGone, Plays, SomePlays}
 use Rattle.script_runs.proofs.player.turn.Given as goal
@@ -13,7 +14,7 @@ invariant-loop-made l = record {
   setup : l.world.setup ≡ l.initial.world.setup;
   actors : AreByActors l.initial.world.past → AreByActors l.world.past;
   some : SomePlays l.player l.world.past;
-  lives : Lives l.initial.player l.initial.world.past → Lives l.player l.world.past;
+  lives : (role : Role) → Lives role l.initial.player l.initial.world.past → Lives role l.player l.world.past;
   gone : (idle : ℕ → List Entry) → Plays l.initial.player l.initial.world.past idle → HasGone l.made idle l.initial.world.past l.world.past l.initial.player l.player;
 }
 

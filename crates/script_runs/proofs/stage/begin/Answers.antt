@@ -1,14 +1,12 @@
 use Rattle.std.proofs.Common.{ap, ◌∙◌, refl, sym}
-use Rattle.script_runs.specs.Steps.Standing.{built_parts, seat_of_drains}
 use Rattle.script_runs.proofs.Beginning.{begins, new_made}
 use Rattle.script_runs.proofs.Casting.{drains_after}
 use Rattle.script_runs.proofs.stage.begin.Goals as goal
 
 pub returns-clause-stands : goal.returns-clause-stands
 returns-clause-stands c =
-    begins c.args.script.now c.args.option _ c.in_ok-players.first c.in_ok-world.ensures.past c.in_ok-world.ensures.setup
-    (c.in_ok-players.ensures.parts ∙ ap built_parts c.as_slice.ensures) c.in_ok-players.ensures.new
-    c.in_ok-drainers.ensures.are (c.in_ok-players.ensures.seat ∙ ap seat_of_drains c.as_slice.ensures ∙ sym (drains_after c.args.script.now c.requires.built)) c.in_ok-drainers.ensures.stand refl c.first_budget.ensures
+    begins c.args.script.now c.args.option _ c.in_ok-players.first c.in_ok-world.ensures.past c.in_ok-world.ensures.setup c.in_ok-players.ensures.added
+    c.in_ok-drainers.ensures.are (c.in_ok-players.ensures.added.seat ∙ sym (drains_after c.args.script.now c.requires.built)) c.in_ok-drainers.ensures.stand refl c.first_budget.ensures
 
 pub returns-clause-made : goal.returns-clause-made
-returns-clause-made c = new_made c.in_ok-players.players.items c.in_ok-players.ensures.new
+returns-clause-made c = new_made c.args.script.now.lines _ _ c.in_ok-players.first c.in_ok-players.players.items c.in_ok-players.ensures.added

@@ -1,6 +1,6 @@
-use Rattle.std.proofs.Common.{◌≡◌, ◌-◌, ◌≤◌, subst, arith, List, ℕ}
+use Rattle.std.proofs.Common.{◌≡◌, ◌-◌, ◌≤◌, subst, sym, arith, List, ℕ}
 use Rattle.worker_threads.specs.declared.drainers.Drainer.{Drainer}
-use Rattle.worker_threads.specs.Drainers.{seats_of}
+use Rattle.worker_threads.specs.Drainers.{AreStanding, seats_of}
 use Rattle.worker_threads.specs.Longer.{HasGrown, IsLonger}
 use Rattle.worker_threads.specs.Rounds.{IsRound}
 use Rattle.worker_threads.proofs.Entries.{grown_others}
@@ -8,7 +8,9 @@ use Rattle.worker_threads.proofs.RoundFacts.{round_left, round_longer, round_par
 use Rattle.worker_threads.proofs.round.round.Goals as goal
 
 pub turns-requires-clause-stands : goal.turns-requires-clause-stands
-turns-requires-clause-stands c = λ place d at. c.requires.stands place d (cc)
+turns-requires-clause-stands c =
+    let view : c.drainers.inside.list.items ≡ c.args.drainers.now = cc in
+    subst (λ (ds : List Drainer). AreStanding ds c.args.world.now.past) (sym view) c.requires.stands
 
 pub returns-in_err-ran-clause-others : goal.returns-in_err-ran-clause-others
 returns-in_err-ran-clause-others c = λ seat other.

@@ -3,13 +3,14 @@ use Rattle.binder_model.specs.Told.{own}
 use Rattle.worker_core.specs.Roles.{IsBuiltKind}
 use Rattle.worker_core.specs.States.{State}
 use Rattle.worker_core.proofs.ByKind.{built_fresh}
-use Rattle.worker_threads.proofs.RunFacts.{ran_busy}
+use Rattle.worker_threads.proofs.RunFacts.{busy_where}
 use Rattle.worker_threads.proofs.round.turn.Goals as goal
 
 pub returns-clause-some : goal.returns-clause-some
 returns-clause-some c =
     let s = c.wake.new.self in
     let mine = own c.args.drainer.now.seat c.args.world.now.past in
-    let kind = ap (λ (t : State). t.role.kind) c.in_ok-wake.ensures.state ∙ sym c.kind-kind.ensures.kind in
-    ran_busy c.args.drainer.now.seat c.run.new.actor s c.run.new.world.past c.args.world.now.past c.args.budget c.run.result c.run.ensures.runs c.in_ok-wake.ensures.busy
-    (built_fresh s mine (subst IsBuiltKind (sym kind) c.kind-kind.ensures.built) (c.in_ok-wake.ensures.stands mine c.requires))
+    let woken_kind = ap (λ (t : State). t.role.kind) c.in_ok-wake.ensures.state in
+    let kind = woken_kind ∙ sym c.kind-kind.ensures.kind in
+    busy_where c.args.drainer.now.seat c.run.new.actor s c.run.new.world.past c.args.world.now.past c.args.budget c.run.result c.run.ensures.runs c.in_ok-wake.ensures.busy
+    (λ other. built_fresh s mine (subst IsBuiltKind (sym kind) c.kind-kind.ensures.built) (λ agent. other (sym woken_kind ∙ agent)) (c.in_ok-wake.ensures.stands mine c.requires))

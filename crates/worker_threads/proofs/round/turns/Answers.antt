@@ -2,12 +2,12 @@ use Rattle.std.proofs.Common.{◌≡◌, ◌∙◌, ◌+◌, ◌≤◌, ◌&&◌
 use Rattle.std.specs.Prelude.{slice_get, slice_set}
 use Rattle.std.proofs.lemmas.Option.{slice_get_within}
 use Rattle.worker_core.specs.Stands.{StandsFor}
-use Rattle.worker_threads.specs.Drainers.{AreSeats, seats_of}
+use Rattle.worker_threads.specs.Drainers.{AreSeats, BeginsSteady, roles_of, seats_of}
 use Rattle.worker_threads.specs.Longer.{HasGrown}
 use Rattle.worker_threads.specs.Rounds.{IsRound}
 use Rattle.worker_threads.proofs.Entries.{grown_then, grown_wider, not_grown}
 use Rattle.worker_threads.proofs.RunFacts.{run_left}
-use Rattle.worker_threads.proofs.RoundFacts.{IsIdleAt, and_else, and_then, at_place, both, each_set, fewer_left, length_set, one_of_seats, same_length, seats_set, turn_more, turns_end}
+use Rattle.worker_threads.proofs.RoundFacts.{IsIdleAt, and_else, and_then, at_place, both, each_set, fewer_left, first_steady, length_set, one_of_seats, roles_set, same_length, seats_set, turn_more, turns_end}
 use Rattle.worker_threads.proofs.round.turns.Goals as goal
 use Rattle.worker_threads.proofs.round.turns.Goals.{then-whole, else-whole}
 
@@ -16,9 +16,10 @@ loop-place-init c = record {
   few = omega arith;
   some = λ more any. absurd (omega arith);
   round = λ past left after whole r. r;
-  stands = λ place d lt at. c.requires.stands place d at;
+  stands = λ place d lt at. c.requires.stands.each place d at;
   idle = λ still place d lt at. absurd (omega arith);
   seats = refl;
+  roles = refl;
   setup = refl;
   grown = not_grown (seats_of c.args.drainers.now.items) c.args.world.now.past c.args.world.now.past refl;
   actors = λ before. before;
@@ -70,7 +71,7 @@ loop-place-preserved c =
     let wide = grown_wider (d.seat ∷ []) (seats_of items) (one_of_seats items place d at) h new grown in
     record {
       few = omega (arith, i.few, low);
-      some = λ more any. fewer_left rest left c.args.budget low i.few r.some any;
+      some = λ more any. fewer_left place rest left c.args.budget low i.few i.some (λ first. r.some (first_steady items (roles_of c.args.drainers.now.items) place d i.roles c.requires.stands.steady first at)) any;
       round = λ past last after all more. subst (λ (w : Bool). IsRound past last c.args.drainers.now.items c.args.world.now.past c.args.budget (take (place + 1) (slice_set items place ran) ++ after) (w && all)) (sym whole)
           (turn_more c.args.drainers.now.items c.args.world.now.past c.args.budget items place d ran h new left rest c.loop-place.whole idle i.round at r.seat r.runs past last after all more);
       stands = each_set StandsFor (length items) (length (slice_set items place ran)) items place d ran h new seats_ok at grown (λ p lt other. omega (arith, lt, length_set items place ran)) i.stands r.stands;
@@ -78,6 +79,7 @@ loop-place-preserved c =
           let halves = both c.loop-place.whole idle (sym whole ∙ still) in
           each_set IsIdleAt place (place + 1) items place d ran h new seats_ok at grown (λ p lt other. omega arith) (i.idle halves.0) (r.idle halves.1);
       seats = seats_set items place d ran at r.seat ∙ i.seats;
+      roles = roles_set items place d ran at r.role ∙ i.roles;
       setup = r.setup ∙ i.setup;
       grown = grown_then (seats_of c.args.drainers.now.items) c.args.world.now.past h new i.grown (subst (λ (seats : List ℕ). HasGrown seats h new) i.seats wide);
       actors = λ before. c.turn.ensures.actors (i.actors before);
@@ -91,7 +93,10 @@ returns-clause-round c =
     turns_end c.args.drainers.now.items c.args.world.now.past c.args.budget items c.loop-place.place c.loop-place.world.past c.loop-place.left c.loop-place.whole all c.loop-place.invariant.round
 
 pub returns-clause-stands : goal.returns-clause-stands
-returns-clause-stands c = λ place d at. c.loop-place.invariant.stands place d (slice_get_within c.loop-place.drainers.items place d at) at
+returns-clause-stands c = record {
+  each = λ place d at. c.loop-place.invariant.stands place d (slice_get_within c.loop-place.drainers.items place d at) at;
+  steady = subst BeginsSteady (sym c.loop-place.invariant.roles) c.requires.stands.steady;
+}
 
 pub returns-clause-idle : goal.returns-clause-idle
 returns-clause-idle c = λ still place d at.

@@ -3,7 +3,7 @@ use Rattle.fitting_calls.specs.Calls.{AreByActors}
 use Rattle.call_types.specs.declared.entry.Entry.{Entry}
 use Rattle.worker_core.specs.Stands.{StandsFor}
 use Rattle.worker_threads.specs.declared.drainers.Drainer.{Drainer}
-use Rattle.worker_threads.specs.Drainers.{seats_of}
+use Rattle.worker_threads.specs.Drainers.{roles_of, seats_of}
 use Rattle.worker_threads.specs.Longer.{HasGrown}
 use Rattle.worker_threads.specs.Rounds.{IsRound}
 use Rattle.worker_threads.proofs.RoundFacts.{EachBelow, IsIdleAt}
@@ -17,6 +17,7 @@ invariant-loop-place l = record {
   stands : EachBelow (length l.drainers.items) StandsFor l.drainers.items l.world.past;
   idle : l.whole ≡ true → EachBelow l.place IsIdleAt l.drainers.items l.world.past;
   seats : seats_of l.drainers.items ≡ seats_of l.initial.drainers.items;
+  roles : roles_of l.drainers.items ≡ roles_of l.initial.drainers.items;
   setup : l.world.setup ≡ l.initial.world.setup;
   grown : HasGrown (seats_of l.initial.drainers.items) l.initial.world.past l.world.past;
   actors : AreByActors l.initial.world.past → AreByActors l.world.past;

@@ -7,12 +7,15 @@ use Rattle.worker_core.specs.States.{call_in}
 use Rattle.worker_core.specs.Turns.{IsTurn}
 use Rattle.worker_threads.specs.Rounds.{Asks, IsIdle, IsSpent, Runs, told_entry}
 use Rattle.worker_threads.proofs.Entries.{grown_more}
-use Rattle.worker_threads.proofs.RunFacts.{by_actor, entry_told, idle_after, stands_on, still_kind, turn_kind}
+use Rattle.worker_threads.proofs.RunFacts.{by_actor, entry_told, idle_after, stands_on, still_kind, still_role, turn_kind, turn_role}
 use Rattle.worker_threads.proofs.run.run.Goals as goal
 
 pub returns-in-Idle-clause-runs : goal.returns-in-Idle-clause-runs
 returns-in-Idle-clause-runs c =
     c.loop-left.invariant.runs _ _ _ _ (IsIdle c.loop-left-test.true (subst (λ (a : Next). IsTurn c.loop-left.actor c.next.new.self a) c.in-Idle.is c.in_ok-next.ensures.turn) refl refl refl)
+
+pub returns-in-Idle-clause-role : goal.returns-in-Idle-clause-role
+returns-in-Idle-clause-role c = turn_role c.loop-left.actor c.next.new.self _ c.in_ok-next.ensures.turn ∙ c.loop-left.invariant.role
 
 pub returns-in-Idle-clause-idle : goal.returns-in-Idle-clause-idle
 returns-in-Idle-clause-idle c = λ still.
@@ -51,8 +54,9 @@ loop-left-preserved-in_ok-absorb-in-Call c =
     record {
       few = omega (arith, i.few, c.loop-left-test.true);
       kind = kinds.1;
+      role = still_role s given after _ request reply c.in_ok-next.ensures.turn c.in_ok-absorb-in-Call.ensures.state ∙ i.role;
       runs = λ last past left idle more. i.runs last past left idle (Asks given after request reply c.loop-left-test.true turn c.in_ok-absorb-in-Call.ensures.state (subst (λ (p : List Entry). Runs c.args.seat last past left idle after p (c.loop-left.left - 1)) entry more));
-      stands = stands_on given after c.ask.new.world.setup h new c.args.seat e entry refl c.in_ok-reply-in-Call.ensures.history
+      stands = stands_on given after c.ask.new.world.setup h new c.args.seat e entry refl c.in_ok-reply-in-Call.ensures.history c.in_ok-reply-in-Call.ensures.short c.in_ok-reply-in-Call.ensures.imports
           (λ own_mine is_own stands. c.in_ok-absorb-in-Call.ensures.told own_mine e reply refl (record { told = refl; asked = refl; answered = refl }) refl is_own stands)
           (c.in_ok-next.ensures.stands mine i.stands);
       history = c.in_ok-reply-in-Call.ensures.history;

@@ -13,6 +13,7 @@ abbrev pub invariant-loop-left : goal.invariant-loop-left
 invariant-loop-left l = record {
   few : l.left ≤ l.budget;
   kind : l.kind ≡ l.actor.role.kind;
+  role : l.actor.role ≡ l.initial.actor.role;
   runs : (after : State) (past : List Entry) (left : ℕ) (idle : Bool) → Runs l.seat after past left idle l.actor l.world.past l.left → Runs l.seat after past left idle l.initial.actor l.initial.world.past l.budget;
   stands : StandsFor l.actor (own l.seat l.world.past);
   history : IsHistory l.world.setup l.world.past;

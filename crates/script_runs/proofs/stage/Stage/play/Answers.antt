@@ -1,7 +1,7 @@
 use Rattle.std.proofs.Common.{refl}
 use Rattle.std.proofs.lemmas.Result.{on_ok_weaker}
 use Rattle.script_text.specs.declared.script.Line.TheVariants.{Call, Turn, Drain}
-use Rattle.script_runs.proofs.Casting.{built_at, named_at, within_at}
+use Rattle.script_runs.proofs.Casting.{built_at, known_at, named_at, within_at}
 use Rattle.script_runs.proofs.Moving.{line_is, moves_there, stays}
 use Rattle.script_runs.proofs.stage.Stage.play.Goals as goal
 
@@ -22,6 +22,12 @@ turn-requires-clause-built c =
     let line = Turn c.in-Turn.actor c.in-Turn.calls in
     let at = line_is c.args.script.now.lines c.as_slice.result.now c.args.place c.index-as_slice-place.result line c.as_slice.ensures c.requires.place c.index-as_slice-place.is c.in-Turn.is in
     built_at c.args.script.now.lines c.args.place line c.requires.built at
+
+pub turn-requires-clause-known : goal.turn-requires-clause-known
+turn-requires-clause-known c =
+    let line = Turn c.in-Turn.actor c.in-Turn.calls in
+    let at = line_is c.args.script.now.lines c.as_slice.result.now c.args.place c.index-as_slice-place.result line c.as_slice.ensures c.requires.place c.index-as_slice-place.is c.in-Turn.is in
+    known_at c.args.script.now.node_names c.args.script.now.lines c.args.place line c.requires.readable.known at
 
 pub turn-requires-clause-named : goal.turn-requires-clause-named
 turn-requires-clause-named c =

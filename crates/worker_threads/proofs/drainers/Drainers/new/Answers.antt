@@ -1,23 +1,16 @@
-use Rattle.std.proofs.Common.{◌≡◌, ◌+◌, arith, subst}
-use Rattle.call_types.specs.declared.request.SeatKind.TheVariants as seats
-use Rattle.worker_threads.specs.Drainers.{IsNewAt}
-use Rattle.worker_threads.proofs.NewFacts.{new_differ, three_new, three_stand}
+use Rattle.worker_threads.proofs.NewFacts.{all_new, new_differ, new_stand}
 use Rattle.worker_threads.proofs.drainers.Drainers.new.Goals as goal
 
 pub returns-clause-are : goal.returns-clause-are
 returns-clause-are c =
-    let first : c.args.first_seat + 0 ≡ c.args.first_seat = omega arith in
-    three_new c.in_ok-binder.binder c.in_ok-claims.claims c.in_ok-volumes.volumes c.args.first_seat _ _ _ _ c.new-list.ensures.items c.in_ok-push.ensures.items c.in_ok-push-2.ensures.items c.in_ok-push-3.ensures.items
-    (subst (λ n. IsNewAt seats.Binder n c.in_ok-binder.binder) first c.in_ok-binder.ensures.at) c.in_ok-claims.ensures.at c.in_ok-volumes.ensures.at
+    all_new c.in_ok-binder.binder c.in_ok-claims.claims c.in_ok-volumes.volumes c.args.first_seat c.args.nodes.now c.in_ok-none.none _ _ _ _ _ c.new-list.ensures.items c.in_ok-push.ensures.items c.in_ok-push-2.ensures.items c.in_ok-push-3.ensures.items
+    c.in_ok-add_agents.ensures c.in_ok-none.ensures c.in_ok-binder.ensures c.in_ok-claims.ensures c.in_ok-volumes.ensures
 
 pub invariant_of-result : goal.invariant_of-result
 invariant_of-result c =
-    let first : c.args.first_seat + 0 ≡ c.args.first_seat = omega arith in
-    new_differ c.args.first_seat _
-    (three_new c.in_ok-binder.binder c.in_ok-claims.claims c.in_ok-volumes.volumes c.args.first_seat _ _ _ _ c.new-list.ensures.items c.in_ok-push.ensures.items c.in_ok-push-2.ensures.items c.in_ok-push-3.ensures.items
-    (subst (λ n. IsNewAt seats.Binder n c.in_ok-binder.binder) first c.in_ok-binder.ensures.at) c.in_ok-claims.ensures.at c.in_ok-volumes.ensures.at)
+    new_differ c.args.first_seat c.args.nodes.now _
+    (all_new c.in_ok-binder.binder c.in_ok-claims.claims c.in_ok-volumes.volumes c.args.first_seat c.args.nodes.now c.in_ok-none.none _ _ _ _ _ c.new-list.ensures.items c.in_ok-push.ensures.items c.in_ok-push-2.ensures.items c.in_ok-push-3.ensures.items
+    c.in_ok-add_agents.ensures c.in_ok-none.ensures c.in_ok-binder.ensures c.in_ok-claims.ensures c.in_ok-volumes.ensures)
 
 pub returns-clause-stand : goal.returns-clause-stand
-returns-clause-stand c =
-    three_stand c.in_ok-binder.binder c.in_ok-claims.claims c.in_ok-volumes.volumes c.args.first_seat _ _ _ _ c.new-list.ensures.items c.in_ok-push.ensures.items c.in_ok-push-2.ensures.items c.in_ok-push-3.ensures.items
-    c.in_ok-binder.ensures.stands c.in_ok-claims.ensures.stands c.in_ok-volumes.ensures.stands
+returns-clause-stand c = new_stand c.args.first_seat c.args.nodes.now _ (returns-clause-are c)
