@@ -100,6 +100,7 @@ module _ (v : VolumeData) (m : Machine) (request : Request) (asks : call_of m �
   only_ rs shows (firsts.Queues other) d = none_some (ap machine_in (is rs shows (binder_firsts.Queues other) d))
   only_ rs shows (firsts.Begins (tasks.ClaimProtect op)) d = absurd d
   only_ rs shows (firsts.Begins (tasks.VolumeProtect op)) d = absurd d
+  only_ rs shows (firsts.Begins (tasks.Agent op)) d = absurd d
   only_ rs shows (firsts.Begins (tasks.Binder n)) d = record { task = tasks.Binder n; request = request; begins = refl; call = ap call_of (one n m (ap machine_in (is rs shows (binder_firsts.Begins n) d))) ∙ asks }
 
   showing : Shows mine (rows v)
@@ -176,19 +177,19 @@ due_examples = record {
 -- whole lives
 
 -- no key is due, at no point
-abbrev NeverDue : List Call → Type 0
-NeverDue [] = (key : Key) → IsDue binder key [] → ⊥
-NeverDue (c ∷ calls) = ((key : Key) → IsDue binder key (entries (c ∷ calls)) → ⊥) × NeverDue calls
+abbrev pub NeverDue : Role → List Call → Type 0
+NeverDue role [] = (key : Key) → IsDue role key [] → ⊥
+NeverDue role (c ∷ calls) = ((key : Key) → IsDue role key (entries (c ∷ calls)) → ⊥) × NeverDue role calls
 
-never_before : (calls later now : List Call) → NeverDue calls → calls ≡ later ++ now → (key : Key) → IsDue binder key (entries now) → ⊥
-never_before [] [] now never e key due = never key (subst (λ c. IsDue binder key (entries c)) (sym e) due)
-never_before (c ∷ calls) [] now never e key due = never.0 key (subst (λ x. IsDue binder key (entries x)) (sym e) due)
-never_before [] (d ∷ later) now never e key due = none_some (ap head e)
+never_before : (role : Role) (calls later now : List Call) → NeverDue role calls → calls ≡ later ++ now → (key : Key) → IsDue role key (entries now) → ⊥
+never_before role [] [] now never e key due = never key (subst (λ c. IsDue role key (entries c)) (sym e) due)
+never_before role (c ∷ calls) [] now never e key due = never.0 key (subst (λ x. IsDue role key (entries x)) (sym e) due)
+never_before role [] (d ∷ later) now never e key due = none_some (ap head e)
   where
     head : List Call → Option Call
     head [] = None
     head (x ∷ xs) = Some x
-never_before (c ∷ calls) (d ∷ later) now never e key due = never_before calls later now never.1 (ap tail e) key due
+never_before role (c ∷ calls) (d ∷ later) now never e key due = never_before role calls later now never.1 (ap tail e) key due
   where
     tail : List Call → List Call
     tail [] = []
@@ -198,9 +199,9 @@ appended : (later xs ys : List Call) (c : Call) → later ++ (c ∷ xs ++ ys) �
 appended [] xs ys c = refl
 appended (d ∷ later) xs ys c = ap (λ x. d ∷ x) (appended later xs ys c)
 
-diligent_where_none : (calls : List Call) → NeverDue calls → IsDiligent binder calls
-diligent_where_none calls never kind first fourth earlier between later e four key due =
-    absurd (never_before calls (later ++ Some fourth ∷ []) (between ++ Some first ∷ earlier) never (e ∙ appended later between (Some first ∷ earlier) (Some fourth)) key (due_now binder key (Some first ∷ earlier) between due))
+pub diligent_where_none : (role : Role) (calls : List Call) → NeverDue role calls → IsDiligent role calls
+diligent_where_none role calls never kind first fourth earlier between later e four key due =
+    absurd (never_before role calls (later ++ Some fourth ∷ []) (between ++ Some first ∷ earlier) never (e ∙ appended later between (Some first ∷ earlier) (Some fourth)) key (due_now role key (Some first ∷ earlier) between due))
 
 -- four watches with nothing between leave a due key
 none_asked : (v : VolumeData) → WasAskedSince binder key_a (call watch ∷ call (tells_volume v) ∷ []) (call watch ∷ call watch ∷ []) → ⊥
@@ -261,7 +262,7 @@ pending_in_order mine shown = record {
 
 pub life_examples : LifeExamples
 life_examples = record {
-  nothing_is_due = diligent_where_none (watched a) nothing;
+  nothing_is_due = diligent_where_none binder (watched a) nothing;
   not_where_a_due_key_is_left = pending_left;
   nor_in_order = λ diligent. none_asked pending_a (diligent kinds.PersistentVolume (entry watch) (entry watch) (call (tells_volume pending_a) ∷ []) (call watch ∷ call watch ∷ []) [] refl watch_examples.four key_a (pending_in_order _ (shown_one pending_a), (pending_in_order _ (shown_one pending_a), pending_in_order _ (shown_one pending_a))));
   not_where_the_claim_is_not_read = left taken_a taken_due;
@@ -271,7 +272,7 @@ life_examples = record {
     told : (mine : List Entry) → ((key : Key) → newest mine key ≡ newest (seat_of seats.Binder (tells_volume a ∷ [])) key) → (key : Key) → IsDue binder key mine → ⊥
     told mine same = available_none mine (λ key. shown_one a key ∙ sym (ap object_of (same key)))
 
-    nothing : NeverDue (watched a)
+    nothing : NeverDue binder (watched a)
     nothing = (told _ (λ key. refl), (told _ (λ key. refl), (told _ (λ key. refl), (told _ (λ key. refl), (told _ (λ key. refl), none_due)))))
 
 licensed : (s : State) (c : Call) → IsPlayed binder s (c ∷ []) → AreLicensed seats.Binder (entries (c ∷ []))

@@ -64,7 +64,7 @@ pods_of_default = requests.List kinds.Pod (Some (codes "default"))
 
 -- a key is due where its decision begins with a call
 
-abbrev is_binder : SeatKind → Bool
+abbrev pub is_binder : SeatKind → Bool
 is_binder seats.Binder = true
 is_binder kind = false
 
@@ -89,7 +89,7 @@ volume_due mine rows task call shows gives = rows_in_order volume_guard key_a mi
 })
 
 -- and not where it is dropped
-not_due : (role : Role) (key : Key) (mine : List Entry) (rows : List Object) → Shows mine rows → IsDecision role (memory_of role mine) rows key firsts.Drops → IsDue role key mine → ⊥
+pub not_due : (role : Role) (key : Key) (mine : List Entry) (rows : List Object) → Shows mine rows → IsDecision role (memory_of role mine) rows key firsts.Drops → IsDue role key mine → ⊥
 not_due role key mine rows shows drops due = none_some (ap task_in (due.only rows shows firsts.Drops drops).begins)
   where
     task_in : First → Option Task

@@ -1,2 +1,3 @@
+pub mod Agents
 pub mod Lives
 pub mod Protection

@@ -3,6 +3,7 @@
 //! Each is a function with nothing to do, whose contract has the examples.
 #![tactic(auto)]
 
+ghost use Rattle.diligent_examples.specs.Agents.{AgentDueExamples, AgentLifeExamples, AgentPlayedExamples};
 ghost use Rattle.diligent_examples.specs.Lives.{DueExamples, LifeExamples, PlayedExamples, WatchExamples};
 ghost use Rattle.diligent_examples.specs.Protection.{ProtectionDueExamples, ProtectionLifeExamples};
 
@@ -34,4 +35,19 @@ pub fn protection_due_examples()
 /// Which lives of volume protection are diligent, and which an actor can have made.
 pub fn protection_life_examples()
     ensures { ProtectionLifeExamples }
+{}
+
+/// Which pods are due for a node agent.
+pub fn agent_due_examples()
+    ensures { AgentDueExamples }
+{}
+
+/// Which lives of a node agent are diligent.
+pub fn agent_life_examples()
+    ensures { AgentLifeExamples }
+{}
+
+/// Which calls a node agent can have made.
+pub fn agent_played_examples()
+    ensures { AgentPlayedExamples }
 {}

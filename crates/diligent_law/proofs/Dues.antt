@@ -13,9 +13,11 @@ use Rattle.call_types.specs.declared.request.Request.{Request}
 use Rattle.call_types.specs.declared.request.Request.TheVariants as requests
 use Rattle.call_types.specs.declared.request.SeatKind.{SeatKind}
 use Rattle.call_types.specs.declared.request.SeatKind.TheVariants as seats
+use Rattle.call_types.specs.declared.reply.MountRow.{MountRow}
 use Rattle.informer_cache.specs.Cache.{objects_of}
 use Rattle.informer_cache.specs.All.{AllKnown, AllStandFor, all_objects, cache_of}
 use Rattle.model_laws.proofs.Lists.{IsIn, none_some, one}
+use Rattle.node_agent.specs.Agents.{agent_begins}
 use Rattle.worker_core.specs.declared.role.Role.{Role}
 use Rattle.worker_core.specs.declared.task.First.{First}
 use Rattle.worker_core.specs.declared.task.First.TheVariants as firsts
@@ -23,12 +25,13 @@ use Rattle.worker_core.specs.declared.task.Task.{Task}
 use Rattle.worker_core.specs.declared.task.Under.{Under}
 use Rattle.worker_core.specs.declared.turn.Next.{Next}
 use Rattle.worker_core.specs.declared.turn.Next.TheVariants as nexts
+use Rattle.worker_core.specs.Memories.{Memory, memory_of}
 use Rattle.worker_core.specs.Roles.{IsBuiltKind, kinds_of}
 use Rattle.worker_core.specs.Rules.{WasCalled, WasDropped}
 use Rattle.worker_core.specs.Stands.{AnyIsUnderWay, StandsFor}
 use Rattle.worker_core.specs.States.{State, call_under}
-use Rattle.worker_core.specs.Tasks.{GivesCall, IsDecision, IsFirstOf, task_call}
-use Rattle.worker_core.proofs.Machines.{keeps_under, task_reads_none}
+use Rattle.worker_core.specs.Tasks.{GivesCall, IsAgentFirst, IsDecision, IsFirstOf, agent_first, task_call}
+use Rattle.worker_core.proofs.Machines.{task_reads_none, under_calls}
 use Rattle.worker_core.proofs.Quiet.{itself}
 use Rattle.diligent_law.specs.Diligence.{BeginsCall, IsAskedFor, IsDue, Shows}
 
@@ -40,37 +43,53 @@ task_in first = None
 no_drop : BeginsCall firsts.Drops → ⊥
 no_drop b = none_some (ap task_in b.begins)
 
--- without a row the key is dropped
-none_dropped : (seat : SeatKind) (rows : List Object) (key : Key) → IsBuiltKind seat → row_at key rows ≡ None → IsFirstOf seat rows key firsts.Drops
-none_dropped seats.Binder rows key built e = rw e refl
-none_dropped seats.ClaimProtect rows key built e = rw e refl
-none_dropped seats.VolumeProtect rows key built e = rw e refl
-none_dropped seats.User rows key built e = absurd built
-none_dropped seats.Ops rows key built e = absurd built
-none_dropped seats.Scheduler rows key built e = absurd built
-none_dropped seats.Agent rows key built e = absurd built
+-- an agent that has what its decisions need drops a key on whose row it begins nothing
+agent_drops : (node : List ℕ) (epoch : Option ℕ) (mounts : Option (List MountRow)) (row other : Option Object) (first : First) → IsAgentFirst node epoch mounts row first → ((n : ℕ) (ms : List MountRow) → agent_begins node n ms other ≡ None)
+    → IsAgentFirst node epoch mounts other firsts.Drops
+agent_drops node (Some n) (Some ms) row other first d none = sym (ap agent_first (none n ms))
+agent_drops node (Some n) None row other first d none = absurd d
+agent_drops node None mounts row other first d none = absurd d
 
--- a row is of a kind that the actor follows, or its key is dropped
-followed_or_dropped : (seat : SeatKind) (rows : List Object) (key : Key) (o : Object) → IsBuiltKind seat → row_at key rows ≡ Some o → IsIn (kind_of o) (kinds_of seat) ⊎ IsFirstOf seat rows key firsts.Drops
-followed_or_dropped seats.Binder rows key (Volume v) built e = inl (inl refl)
-followed_or_dropped seats.Binder rows key (Claim c) built e = inl (inr (inl refl))
-followed_or_dropped seats.Binder rows key (Class x) built e = inr (rw e refl)
-followed_or_dropped seats.Binder rows key (Node n) built e = inr (rw e refl)
-followed_or_dropped seats.Binder rows key (Pod p) built e = inr (rw e refl)
-followed_or_dropped seats.ClaimProtect rows key (Claim c) built e = inl (inl refl)
-followed_or_dropped seats.ClaimProtect rows key (Volume v) built e = inr (rw e refl)
-followed_or_dropped seats.ClaimProtect rows key (Class x) built e = inr (rw e refl)
-followed_or_dropped seats.ClaimProtect rows key (Node n) built e = inr (rw e refl)
-followed_or_dropped seats.ClaimProtect rows key (Pod p) built e = inr (rw e refl)
-followed_or_dropped seats.VolumeProtect rows key (Volume v) built e = inl (inl refl)
-followed_or_dropped seats.VolumeProtect rows key (Claim c) built e = inr (rw e refl)
-followed_or_dropped seats.VolumeProtect rows key (Class x) built e = inr (rw e refl)
-followed_or_dropped seats.VolumeProtect rows key (Node n) built e = inr (rw e refl)
-followed_or_dropped seats.VolumeProtect rows key (Pod p) built e = inr (rw e refl)
-followed_or_dropped seats.User rows key o built e = absurd built
-followed_or_dropped seats.Ops rows key o built e = absurd built
-followed_or_dropped seats.Scheduler rows key o built e = absurd built
-followed_or_dropped seats.Agent rows key o built e = absurd built
+-- an actor that decides some key
+module _ (node : List ℕ) (m : Memory) (rows decided : List Object) (key other : Key) (first : First) where
+  agent_none : (row : Option Object) → IsFirstOf seats.Agent node m decided other first → row_at key rows ≡ row → ((n : ℕ) (ms : List MountRow) → agent_begins node n ms row ≡ None) → IsFirstOf seats.Agent node m rows key firsts.Drops
+  agent_none row d e none = subst (λ r. IsAgentFirst node m.epoch m.mounts r firsts.Drops) (sym e) (agent_drops node m.epoch m.mounts (row_at other decided) row first d none)
+
+  -- without a row a key is dropped
+  none_dropped : (seat : SeatKind) → IsBuiltKind seat → IsFirstOf seat node m decided other first → row_at key rows ≡ None → IsFirstOf seat node m rows key firsts.Drops
+  none_dropped seats.Binder built d e = rw e refl
+  none_dropped seats.ClaimProtect built d e = rw e refl
+  none_dropped seats.VolumeProtect built d e = rw e refl
+  none_dropped seats.Agent built d e = agent_none None d e (λ n ms. refl)
+  none_dropped seats.User built d e = absurd built
+  none_dropped seats.Ops built d e = absurd built
+  none_dropped seats.Scheduler built d e = absurd built
+
+  -- a row is of a kind that the actor follows, or its key is dropped
+  followed_or_dropped : (seat : SeatKind) (o : Object) → IsBuiltKind seat → IsFirstOf seat node m decided other first → row_at key rows ≡ Some o → IsIn (kind_of o) (kinds_of seat) ⊎ IsFirstOf seat node m rows key firsts.Drops
+  followed_or_dropped seats.Binder (Volume v) built d e = inl (inl refl)
+  followed_or_dropped seats.Binder (Claim c) built d e = inl (inr (inl refl))
+  followed_or_dropped seats.Binder (Class x) built d e = inr (rw e refl)
+  followed_or_dropped seats.Binder (Node n) built d e = inr (rw e refl)
+  followed_or_dropped seats.Binder (Pod p) built d e = inr (rw e refl)
+  followed_or_dropped seats.ClaimProtect (Claim c) built d e = inl (inl refl)
+  followed_or_dropped seats.ClaimProtect (Volume v) built d e = inr (rw e refl)
+  followed_or_dropped seats.ClaimProtect (Class x) built d e = inr (rw e refl)
+  followed_or_dropped seats.ClaimProtect (Node n) built d e = inr (rw e refl)
+  followed_or_dropped seats.ClaimProtect (Pod p) built d e = inr (rw e refl)
+  followed_or_dropped seats.VolumeProtect (Volume v) built d e = inl (inl refl)
+  followed_or_dropped seats.VolumeProtect (Claim c) built d e = inr (rw e refl)
+  followed_or_dropped seats.VolumeProtect (Class x) built d e = inr (rw e refl)
+  followed_or_dropped seats.VolumeProtect (Node n) built d e = inr (rw e refl)
+  followed_or_dropped seats.VolumeProtect (Pod p) built d e = inr (rw e refl)
+  followed_or_dropped seats.Agent (Pod p) built d e = inl (inl refl)
+  followed_or_dropped seats.Agent (Volume v) built d e = inr (agent_none (Some (Volume v)) d e (λ n ms. refl))
+  followed_or_dropped seats.Agent (Claim c) built d e = inr (agent_none (Some (Claim c)) d e (λ n ms. refl))
+  followed_or_dropped seats.Agent (Class x) built d e = inr (agent_none (Some (Class x)) d e (λ n ms. refl))
+  followed_or_dropped seats.Agent (Node n) built d e = inr (agent_none (Some (Node n)) d e (λ n ms. refl))
+  followed_or_dropped seats.User o built d e = absurd built
+  followed_or_dropped seats.Ops o built d e = absurd built
+  followed_or_dropped seats.Scheduler o built d e = absurd built
 
 -- a key that is due has a row of a kind that the actor follows
 pub record IsCached (seat : SeatKind) (key : Key) (c : AllKnown) : Type 0 where
@@ -87,12 +106,12 @@ module _ (role : Role) (mine : List Entry) (key : Key) (built : IsBuiltKind role
       own_kind : (o : Object) → row_at key (all_objects c) ≡ Some o → kind_of o ≡ key.kind
       own_kind o e = ap (λ (k : Key). k.kind) (row_at_key key o (all_objects c) e)
 
-      drops : IsFirstOf role.kind (all_objects c) key firsts.Drops → ⊥
+      drops : IsFirstOf role.kind role.node (memory_of role mine) (all_objects c) key firsts.Drops → ⊥
       drops d = no_drop (due.only (all_objects c) (record { order = order; shown = stand.rows }) firsts.Drops d)
 
       by : (row : Option Object) → row_at key (all_objects c) ≡ row → IsCached role.kind key c
-      by None e = absurd (drops (none_dropped role.kind (all_objects c) key built e))
-      by (Some o) e = elim (followed_or_dropped role.kind (all_objects c) key o built e) [
+      by None e = absurd (drops (none_dropped role.node (memory_of role mine) (all_objects c) due.rows key due.under.key (firsts.Begins due.under.task) role.kind built due.gives.decided e))
+      by (Some o) e = elim (followed_or_dropped role.node (memory_of role mine) (all_objects c) due.rows key due.under.key (firsts.Begins due.under.task) role.kind o built due.gives.decided e) [
         | inl follows ↦ record { followed = subst (λ k. IsIn k (kinds_of role.kind)) (own_kind o e) follows; there = cached o e }
         | inr d ↦ absurd (drops d)
       ]
@@ -135,4 +154,4 @@ asked_no_watch role key mine kind from a = task_watches a.under.task kind from (
 
 pub under_no_watch : (role : Role) (under : Option Under) (mine : List Entry) (kind : Kind) (from : ℕ) → AnyIsUnderWay role under mine → option_map call_under under ≡ Some (requests.Watch kind from) → ⊥
 under_no_watch role None mine kind from way e = none_some e
-under_no_watch role (Some u) mine kind from way e = task_watches u.task kind from ((keeps_under role u mine way).call ∙ e)
+under_no_watch role (Some u) mine kind from way e = task_watches u.task kind from (under_calls role u mine way ∙ e)

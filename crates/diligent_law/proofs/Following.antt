@@ -1,5 +1,5 @@
 -- A life that is played is diligent: the phases, followed from the first watch to the fourth.
-use Rattle.std.proofs.Common.{◌≡◌, ◌⊎◌, ℕ, ◌+◌, List, [], ◌∷◌, ◌++◌, true, true≢false, Option, Some, None, inl, inr, refl, sym, ◌∙◌, ap, subst, arith, if◌then◌else◌}
+use Rattle.std.proofs.Common.{◌≡◌, ◌⊎◌, ℕ, ◌+◌, List, [], ◌∷◌, ◌++◌, true, false, true≢false, Option, Some, None, inl, inr, refl, sym, ◌∙◌, ap, subst, arith, if◌then◌else◌}
 use Rattle.std.specs.Prelude.{slice_get}
 use Rattle.kube_types.specs.declared.key.Key.{Key}
 use Rattle.kube_types.specs.declared.parts.Kind.{Kind}
@@ -14,6 +14,7 @@ use Rattle.worker_core.specs.declared.turn.Next.TheVariants as nexts
 use Rattle.worker_core.specs.declared.turn.Outcome.{Outcome}
 use Rattle.worker_core.specs.declared.turn.Outcome.TheVariants as outcomes
 use Rattle.worker_core.specs.Absorbs.{woken}
+use Rattle.worker_core.specs.Memories.{Memory, memory_of}
 use Rattle.worker_core.specs.Roles.{IsBuiltKind, kinds_of}
 use Rattle.worker_core.specs.Stands.{StandsFor}
 use Rattle.worker_core.specs.States.{State, waits}
@@ -25,7 +26,7 @@ use Rattle.diligent_law.proofs.Dues.{asked_no_watch}
 use Rattle.diligent_law.proofs.Passing.{Goes, told_goes}
 use Rattle.diligent_law.proofs.Phases.{Phase, answer_phase, called_or_waits, few_watches, opens, same_place, turn_phase, wake_phase}
 use Rattle.diligent_law.proofs.Queues.{taken_keys}
-use Rattle.diligent_law.proofs.Turned.{OneTaken, answer_role, answer_taken, turn_taken, under_keys, woken_taken}
+use Rattle.diligent_law.proofs.Turned.{OneTaken, answer_role, answer_taken, calls_fresh, turn_taken, under_keys, woken_taken}
 
 -- lists
 
@@ -85,6 +86,13 @@ same_role role s calls (Told old before e request reply played is told gives sta
 same_role role s calls (LostBefore old before request played is gives stands) = (came old s request _ _ gives).role ∙ same_role role old before played
 same_role role s calls (LostAfter old before e request played is lost own gives stands) = (came old s request _ _ gives).role ∙ same_role role old before played
 same_role role s calls (Wakes old turned played turns wakes stands) = (woke old turned s _ turns wakes).role ∙ same_role role old calls played
+
+-- what an actor remembers hangs on its calls alone, so a wake changes nothing of it
+remembered : (role : Role) (s : State) (calls : List Call) → IsPlayed role s calls → s.memory ≡ memory_of role (entries calls)
+remembered role s calls played = (stands_now role s calls played).memory ∙ ap (λ r. memory_of r (entries calls)) (same_role role s calls played)
+
+still_fresh : (role : Role) (old new : State) (calls : List Call) → IsPlayed role old calls → IsPlayed role new calls → new.memory.stale ≡ false → old.memory.stale ≡ false
+still_fresh role old new calls before after fresh = ap (λ (m : Memory). m.stale) (remembered role old calls before ∙ sym (remembered role new calls after)) ∙ fresh
 
 -- earlier calls were played too
 record WasPlayed (role : Role) (calls : List Call) : Type 0 where
@@ -175,7 +183,7 @@ module _ (role : Role) (built : IsBuiltKind role.kind) (kind : Kind) (place : �
 
   told_on : (s new : State) (calls before : List Call) (x : Entry) (request : Request) (reply : Reply) → IsPlayed role s before → calls ≡ Some x ∷ before → IsTold x request reply
       → Gives s new request (outcomes.Told reply) (entries before) → StandsFor new (entries calls) → (since : List Call) → calls ≡ since ++ start → AreQuiet since → IsDueThroughout role key start since
-      → ((rest : List Call) → before ≡ rest ++ start → AreQuiet rest → IsDueThroughout role key start rest → Followed s rest) → Followed new since
+      → ((rest : List Call) → before ≡ rest ++ start → AreQuiet rest → IsDueThroughout role key start rest → s.memory.stale ≡ false → Followed s rest) → Followed new since
   told_on s new calls before x request reply played is told gives stands [] e quiet due earlier_on =
       let step = told_step role s new calls before x first request reply played is told gives stands earlier e in
       let open_ = first_phase role built first earlier s new quiet_first step kind key watch in
@@ -183,7 +191,7 @@ module _ (role : Role) (built : IsBuiltKind role.kind) (kind : Kind) (place : �
   told_on s new calls before x request reply played is told gives stands (None ∷ rest) e quiet due earlier_on = absurd quiet
   told_on s new calls before x request reply played is told gives stands (Some y ∷ rest) e quiet due earlier_on =
       let step = told_step role s new calls before x y request reply played is told gives stands (rest ++ start) e in
-      let so_far = earlier_on rest (same_tail _ _ _ _ (sym is ∙ e)) quiet.1 due.1 in
+      let so_far = earlier_on rest (same_tail _ _ _ _ (sym is ∙ e)) quiet.1 due.1 (calls_fresh s gives.turned request gives.turns.turn) in
       elim so_far [
         | inl asked ↦ inl (inr asked)
         | inr phase ↦ elim (next_phase role built y (rest ++ start) s new quiet.0 step kind place at key (watches kind rest) (due_now role key start rest due.1) phase) [
@@ -192,27 +200,31 @@ module _ (role : Role) (built : IsBuiltKind role.kind) (kind : Kind) (place : �
         ]
       ]
 
-  follow : (s : State) (calls : List Call) → IsPlayed role s calls → (since : List Call) → calls ≡ since ++ start → AreQuiet since → IsDueThroughout role key start since → Followed s since
-  follow s calls (Begins none new stands) [] e quiet due = absurd (no_list _ _ (sym none ∙ e))
-  follow s calls (Begins none new stands) (c ∷ since) e quiet due = absurd (no_list _ _ (sym none ∙ e))
-  follow s calls (Told old before x request reply played is told gives stands) since e quiet due = told_on old s calls before x request reply played is told gives stands since e quiet due (follow old before played)
-  follow s calls (LostBefore old before request played is gives stands) [] e quiet due = none_some (same_head _ _ _ _ (sym is ∙ e))
-  follow s calls (LostBefore old before request played is gives stands) (None ∷ since) e quiet due = absurd quiet
-  follow s calls (LostBefore old before request played is gives stands) (Some y ∷ since) e quiet due = none_some (same_head _ _ _ _ (sym is ∙ e))
-  follow s calls (LostAfter old before x request played is lost own gives stands) [] e quiet due =
+  -- an agent that was told StaleEpoch makes no call any more, and is not followed on
+  follow : (s : State) (calls : List Call) → IsPlayed role s calls → (since : List Call) → calls ≡ since ++ start → AreQuiet since → IsDueThroughout role key start since → s.memory.stale ≡ false → Followed s since
+  follow s calls (Begins none new stands) [] e quiet due fresh = absurd (no_list _ _ (sym none ∙ e))
+  follow s calls (Begins none new stands) (c ∷ since) e quiet due fresh = absurd (no_list _ _ (sym none ∙ e))
+  follow s calls (Told old before x request reply played is told gives stands) since e quiet due fresh = told_on old s calls before x request reply played is told gives stands since e quiet due (follow old before played)
+  follow s calls (LostBefore old before request played is gives stands) [] e quiet due fresh = none_some (same_head _ _ _ _ (sym is ∙ e))
+  follow s calls (LostBefore old before request played is gives stands) (None ∷ since) e quiet due fresh = absurd quiet
+  follow s calls (LostBefore old before request played is gives stands) (Some y ∷ since) e quiet due fresh = none_some (same_head _ _ _ _ (sym is ∙ e))
+  follow s calls (LostAfter old before x request played is lost own gives stands) [] e quiet due fresh =
       let same : x ≡ first = one x first (same_head _ _ _ _ (sym is ∙ e)) in
       absurd (true≢false (sym quiet_first.told ∙ sym (ap (λ (y : Entry). y.told) same) ∙ lost))
-  follow s calls (LostAfter old before x request played is lost own gives stands) (None ∷ since) e quiet due = absurd quiet
-  follow s calls (LostAfter old before x request played is lost own gives stands) (Some z ∷ since) e quiet due =
+  follow s calls (LostAfter old before x request played is lost own gives stands) (None ∷ since) e quiet due fresh = absurd quiet
+  follow s calls (LostAfter old before x request played is lost own gives stands) (Some z ∷ since) e quiet due fresh =
       let same : x ≡ z = one x z (same_head _ _ _ _ (sym is ∙ e)) in
       absurd (true≢false (sym quiet.0.told ∙ sym (ap (λ (y : Entry). y.told) same) ∙ lost))
-  follow s calls (Wakes old turned played turns wakes stands) since e quiet due = elim (follow old calls played since e quiet due) [
+  follow s calls (Wakes old turned played turns wakes stands) since e quiet due fresh = elim (follow old calls played since e quiet due fresh_old) [
     | inl asked ↦ inl asked
     | inr phase ↦
         let own : old.role ≡ role = same_role role old calls played in
         let due_here : IsDue old.role key (entries calls) = subst (λ c. IsDue old.role key (entries c)) (sym e) (subst (λ r. IsDue r key (entries (since ++ start))) (sym own) (due_now role key start since due)) in
-        inr (wake_phase role.kind built kind place at key old turned s (entries calls) (watches kind since) (ap (λ (r : Role). r.kind) own) (stands_now role old calls played) turns.order due_here (one_taken role old calls played) turns.turn wakes phase)
+        inr (wake_phase role.kind built kind place at key old turned s (entries calls) (watches kind since) (ap (λ (r : Role). r.kind) own) (stands_now role old calls played) turns.order due_here (one_taken role old calls played) fresh_old turns.turn wakes phase)
   ]
+    where
+      fresh_old : old.memory.stale ≡ false
+      fresh_old = still_fresh role old s calls played (Wakes old turned played turns wakes stands) fresh
 
 -- the quiet calls between, and the first
 
@@ -256,7 +268,7 @@ played_is_diligent role s calls built played kind first fourth earlier between l
     at = (first_phase role built first earlier opening.old opening.new quiet.1 opening.step kind key four.opens).0
 
     followed : WasAskedSince role key (Some first ∷ earlier) between ⊎ Phase place key last.old (watches kind between)
-    followed = follow role built kind place at key first earlier four.opens quiet.1 last.old _ last.step.played between refl quiet.0 due
+    followed = follow role built kind place at key first earlier four.opens quiet.1 last.old _ last.step.played between refl quiet.0 due (calls_fresh last.old last.step.gives.turned fourth.request last.step.gives.turns.turn)
 
     never : IsAskedFor role key (entries (between ++ Some first ∷ earlier)) fourth.request → ⊥
     never asked = by fourth.request refl

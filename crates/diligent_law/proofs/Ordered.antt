@@ -157,6 +157,7 @@ module _ (rows : List Object) (order : AreRows rows) (spaceless : HaveNoNamespac
         by (firsts.Begins (tasks.Binder n)) h = begins_by n (on (binder_firsts.Begins n) h)
         by (firsts.Begins (tasks.ClaimProtect op)) h = absurd h
         by (firsts.Begins (tasks.VolumeProtect op)) h = absurd h
+        by (firsts.Begins (tasks.Agent op)) h = absurd h
 
 in_order : (role : Role) (key : Key) (mine : List Entry) (rows : List Object) (u : Under) → role.kind ≡ Binder → Shows mine rows → HaveNoNamespace rows → u.key ≡ key → GivesCall role (memory_of role mine) rows u → IsDue role key mine
 in_order role key mine rows u binder shows spaceless own gives = by (row_at key rows) refl
@@ -165,7 +166,7 @@ in_order role key mine rows u binder shows spaceless own gives = by (row_at key 
     looked l = one_showing role key mine rows u (subst IsBuiltKind (sym binder) tt) shows (subst (λ seat. IsLookedUp seat (row_at key rows)) (sym binder) l) own gives
 
     begun : (m : Machine) × ((u.task ≡ tasks.Binder m) × IsFirst rows (row_at key rows) (binder_firsts.Begins m))
-    begun = begins_binder rows key u.task (subst (λ k. IsBinderFirst rows k (firsts.Begins u.task)) own (subst (λ x. IsFirstOf x rows u.key (firsts.Begins u.task)) binder gives.decided))
+    begun = begins_binder rows key u.task (subst (λ k. IsBinderFirst rows k (firsts.Begins u.task)) own (subst (λ x. IsFirstOf x role.node (memory_of role mine) rows u.key (firsts.Begins u.task)) binder gives.decided))
 
     nothing : binder_firsts.Begins begun.0 ≡ binder_firsts.Drops → IsDue role key mine
     nothing e = none_some (sym (ap machine_in e))
@@ -182,7 +183,7 @@ in_order role key mine rows u binder shows spaceless own gives = by (row_at key 
       gives = gives;
       only = λ other others first d.
           begins_call rows shows.order spaceless c open_ unnamed begun.0 u.call (ap task_call (sym begun.1.0) ∙ gives.call) (at (Some (Claim c)) e) other (λ k. others.shown k ∙ sym (shows.shown k)) first key
-          (others.shown key ∙ sym (shows.shown key) ∙ e) (subst (λ x. IsFirstOf x other key first) binder d);
+          (others.shown key ∙ sym (shows.shown key) ∙ e) (subst (λ x. IsFirstOf x role.node (memory_of role mine) other key first) binder d);
     }
 
     claim : (c : ClaimData) → row_at key rows ≡ Some (Claim c) → (a b : Bool) → is_completed c ≡ a → is_empty c.volume_name ≡ b → IsDue role key mine
@@ -211,7 +212,7 @@ rows_in_order role key mine built due = by role.kind refl built
     by seats.User is b = absurd b
     by seats.Ops is b = absurd b
     by seats.Scheduler is b = absurd b
-    by seats.Agent is b = absurd b
+    by seats.Agent is b = looked (subst (λ seat. IsLookedUp seat (row_at key due.rows)) (sym is) tt)
 
 -- lives
 

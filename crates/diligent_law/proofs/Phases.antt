@@ -25,7 +25,6 @@ use Rattle.worker_core.specs.Stands.{StandsFor}
 use Rattle.worker_core.specs.States.{State, call_in, waits}
 use Rattle.worker_core.specs.Turns.{IsTurn}
 use Rattle.worker_core.proofs.Answered.{passed, turn_role}
-use Rattle.worker_core.proofs.ByKind.{built_fresh}
 use Rattle.worker_core.proofs.KeysKept.{turn_keys}
 use Rattle.worker_core.proofs.Quiet.{alike, itself}
 use Rattle.diligent_law.specs.Diligence.{IsAskedFor, IsDue, watches_kind}
@@ -57,7 +56,8 @@ place_is seats.VolumeProtect (suc i) kind built e = none_some e
 place_is seats.User i kind built e = absurd built
 place_is seats.Ops i kind built e = absurd built
 place_is seats.Scheduler i kind built e = absurd built
-place_is seats.Agent i kind built e = absurd built
+place_is seats.Agent zero kind built e = refl
+place_is seats.Agent (suc i) kind built e = none_some e
 
 -- the phases: how many watches of the kind, at this place of the pass, came since the first; whether the pass has the kind
 -- behind it; and whether the key waits
@@ -186,12 +186,9 @@ same_place seat kind i j built ei ej = place_is seat i kind built ei ∙ sym (pl
 -- an idle turn and a wake
 
 module _ (seat : SeatKind) (built : IsBuiltKind seat) (kind : Kind) (place : ℕ) (at : slice_get (kinds_of seat) place ≡ Some kind) (key : Key) (s turned new : State) (mine : List Entry) (n : ℕ) (of_seat : s.role.kind ≡ seat)
-    (stands : StandsFor s mine) (order : AreRows (all_objects s.caches)) (due : IsDue s.role key mine) (own : OneTaken s) (turn : IsTurn s turned nexts.Idle) (wakes : new ≡ woken turned) where
+    (stands : StandsFor s mine) (order : AreRows (all_objects s.caches)) (due : IsDue s.role key mine) (own : OneTaken s) (fresh : s.memory.stale ≡ false) (turn : IsTurn s turned nexts.Idle) (wakes : new ≡ woken turned) where
   built_now : IsBuiltKind s.role.kind
   built_now = subst IsBuiltKind (sym of_seat) built
-
-  fresh : s.memory.stale ≡ false
-  fresh = built_fresh s mine built_now stands
 
   rests : Rests s turned
   rests = idle_rests s turned turn fresh

@@ -1,5 +1,5 @@
--- Decisions by look-ups alone, and those of protection, are the same on all rows in order that show the same.
-use Rattle.std.proofs.Common.{◌≡◌, ◌⊎◌, List, [], ◌∷◌, Bool, true, false, true≢false, Option, Some, None, inl, inr, refl, sym, ◌∙◌, ap, subst, if◌then◌else◌}
+-- Decisions by look-ups alone, as an agent's, and those of protection, are the same on all rows in order that show the same.
+use Rattle.std.proofs.Common.{◌≡◌, ◌⊎◌, ℕ, List, [], ◌∷◌, Bool, true, false, true≢false, Option, Some, None, inl, inr, refl, sym, ◌∙◌, ap, subst, if◌then◌else◌}
 use Rattle.std.specs.Prelude.{◌||◌}
 use Rattle.std.specs.List.{list_any}
 use Rattle.kube_types.specs.declared.key.Key.{Key}
@@ -14,6 +14,7 @@ use Rattle.kube_types.specs.Bindings.{is_completed, is_deleting, is_empty, is_pr
 use Rattle.kube_types.specs.Keys.{AreRows, key_of, row_at}
 use Rattle.call_types.specs.declared.request.SeatKind.{SeatKind}
 use Rattle.call_types.specs.declared.request.SeatKind.TheVariants as seats
+use Rattle.call_types.specs.declared.reply.MountRow.{MountRow}
 use Rattle.binder_model.specs.Due.{guard_due}
 use Rattle.binder_model.specs.GuardLicence.{uses}
 use Rattle.binder_model.specs.Matching.{has_match}
@@ -31,13 +32,15 @@ use Rattle.binder_machines.specs.declared.machine.Machine.TheVariants.{Binds}
 use Rattle.binder_machines.specs.FirstSteps.{IsBindingTo, IsClaimFirst, IsFirst, volume_first}
 use Rattle.model_laws.proofs.Lists.{IsIn as IsMember, none_some, one}
 use Rattle.model_laws.proofs.Readings.{member_stands}
+use Rattle.node_agent.specs.Agents.{agent_begins}
 use Rattle.protect_sync.specs.Decisions.{claim_begins, claim_for, volume_begins}
 use Rattle.worker_core.specs.declared.task.First.{First}
 use Rattle.worker_core.specs.declared.task.First.TheVariants as firsts
 use Rattle.worker_core.specs.declared.task.Task.{Task}
 use Rattle.worker_core.specs.declared.task.Task.TheVariants as tasks
 use Rattle.worker_core.specs.declared.task.Under.{Under}
-use Rattle.worker_core.specs.Tasks.{IsBinderFirst, IsFirstOf, claim_first, task_call, volume_first as volume_first_of}
+use Rattle.worker_core.specs.Memories.{Memory, memory_of}
+use Rattle.worker_core.specs.Tasks.{IsAgentFirst, IsBinderFirst, IsFirstOf, agent_first, claim_first, task_call, volume_first as volume_first_of}
 use Rattle.diligent_law.specs.Diligence.{BeginsCall}
 use Rattle.diligent_law.specs.Showing.{IsLookedUp, OneShowingIsEnough}
 use Rattle.diligent_law.proofs.Seeking.{found_any}
@@ -130,6 +133,7 @@ pub begins_binder : (rows : List Object) (key : Key) (task : Task) → IsBinderF
 begins_binder rows key (tasks.Binder m) d = (m, (refl, d))
 begins_binder rows key (tasks.ClaimProtect op) d = absurd d
 begins_binder rows key (tasks.VolumeProtect op) d = absurd d
+begins_binder rows key (tasks.Agent op) d = absurd d
 
 -- where the decision is the same on other rows, it begins with a call there too
 same_begins : (u : Under) (first : First) → task_call u.task ≡ Some u.call → first ≡ firsts.Begins u.task → BeginsCall first
@@ -181,17 +185,24 @@ module _ (key : Key) (rows other : List Object) (u : Under) (order : AreRows row
           record { task = tasks.Binder n; request = u.call; begins = refl; call = sym (ap task_call same_task) ∙ call }
       by (firsts.Begins (tasks.ClaimProtect op)) d = absurd d
       by (firsts.Begins (tasks.VolumeProtect op)) d = absurd d
+      by (firsts.Begins (tasks.Agent op)) d = absurd d
 
-  only_of : (seat : SeatKind) → IsLookedUp seat (row_at key rows) → IsFirstOf seat rows key (firsts.Begins u.task) → (first : First) → IsFirstOf seat other key first → BeginsCall first
-  only_of seats.Binder looked decided first d = binder_only looked decided first d
-  only_of seats.ClaimProtect looked decided first d =
+  agent_only : (node : List ℕ) (epoch : Option ℕ) (mounts : Option (List MountRow)) → IsAgentFirst node epoch mounts (row_at key rows) (firsts.Begins u.task) → (first : First) → IsAgentFirst node epoch mounts (row_at key other) first
+      → BeginsCall first
+  agent_only node (Some epoch) (Some mounts) decided first d = same_begins u first call (d ∙ ap (λ r. agent_first (agent_begins node epoch mounts r)) (same key) ∙ sym decided)
+  agent_only node (Some epoch) None decided first d = absurd decided
+  agent_only node None mounts decided first d = absurd decided
+
+  only_of : (seat : SeatKind) (node : List ℕ) (m : Memory) → IsLookedUp seat (row_at key rows) → IsFirstOf seat node m rows key (firsts.Begins u.task) → (first : First) → IsFirstOf seat node m other key first → BeginsCall first
+  only_of seats.Binder node m looked decided first d = binder_only looked decided first d
+  only_of seats.ClaimProtect node m looked decided first d =
       let own : claim_begins other (row_at key other) ≡ claim_begins rows (row_at key rows) = ap (claim_begins other) (same key) ∙ same_guards rows other order order_other same (row_at key rows) in
       same_begins u first call (d ∙ ap claim_first own ∙ sym decided)
-  only_of seats.VolumeProtect looked decided first d = same_begins u first call (d ∙ ap (λ r. volume_first_of (volume_begins r)) (same key) ∙ sym decided)
-  only_of seats.User looked decided first d = absurd decided
-  only_of seats.Ops looked decided first d = absurd decided
-  only_of seats.Scheduler looked decided first d = absurd decided
-  only_of seats.Agent looked decided first d = absurd decided
+  only_of seats.VolumeProtect node m looked decided first d = same_begins u first call (d ∙ ap (λ r. volume_first_of (volume_begins r)) (same key) ∙ sym decided)
+  only_of seats.User node m looked decided first d = absurd decided
+  only_of seats.Ops node m looked decided first d = absurd decided
+  only_of seats.Scheduler node m looked decided first d = absurd decided
+  only_of seats.Agent node m looked decided first d = agent_only node m.epoch m.mounts decided first d
 
 pub one_showing : OneShowingIsEnough
 one_showing role key mine rows u built shows looked own gives = record {
@@ -200,5 +211,6 @@ one_showing role key mine rows u built shows looked own gives = record {
   under = u;
   own = own;
   gives = gives;
-  only = λ other others first d. only_of key rows other u shows.order others.order (λ k. others.shown k ∙ sym (shows.shown k)) gives.call role.kind looked (subst (λ k. IsFirstOf role.kind rows k (firsts.Begins u.task)) own gives.decided) first d;
+  only = λ other others first d. only_of key rows other u shows.order others.order (λ k. others.shown k ∙ sym (shows.shown k)) gives.call role.kind role.node (memory_of role mine) looked
+      (subst (λ k. IsFirstOf role.kind role.node (memory_of role mine) rows k (firsts.Begins u.task)) own gives.decided) first d;
 }

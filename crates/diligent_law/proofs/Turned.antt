@@ -100,6 +100,14 @@ turn_taken s new answer turn one_ = by s.memory.stale s.under (start_call s.role
     by false None None None (Some kind) at t = subst is_taken (sym t.state) one_
     by false None None None None at t = keys t.work t.under (decides_taken s.role s.memory (all_objects s.caches) t.work t.under s.work t.decides (one_ ∙ ap under_keys at)) at t.then_
 
+-- a turn that gives a call is none of an agent that was told StaleEpoch
+pub calls_fresh : (s new : State) (request : Request) → IsTurn s new (nexts.Call request) → s.memory.stale ≡ false
+calls_fresh s new request turn = by s.memory.stale turn
+  where
+    by : (stale : Bool) → TurnBy s new (nexts.Call request) stale s.under (start_call s.role s.memory) (unlisted s) (passing s) → stale ≡ false
+    by true t = none_some (sym (ap call_in t.idle))
+    by false t = refl
+
 -- an idle turn
 
 pub record Rests (s new : State) : Type 0 where
