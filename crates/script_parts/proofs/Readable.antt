@@ -52,7 +52,7 @@ line_within agents before Drain is = tt
 
 lines_within : (agents : List Pair) (before lines : List Line) → AreLinesAfter agents before lines → AreWithinLimits lines
 lines_within agents before [] are = tt
-lines_within agents before (line ∷ lines) are = (line_within agents before line are.0, lines_within agents (before ++ line ∷ []) lines are.1.1)
+lines_within agents before (line ∷ lines) are = (line_within agents before line are.0, lines_within agents (before ++ line ∷ []) lines are.2)
 
 -- ---- the nodes of lines
 
@@ -88,7 +88,7 @@ nodes_kept lines Drain none few = same_agents lines Drain refl few
 lines_few : (agents : List Pair) (before lines : List Line) → AreLinesAfter agents before lines → length (agents_of before) ≤ 8 → length (agents_of (before ++ lines)) ≤ 8
 lines_few agents before [] are few = subst (λ (ls : List Line). length (agents_of ls) ≤ 8) (sym (append-nil before)) few
 lines_few agents before (line ∷ lines) are few =
-    subst (λ (ls : List Line). length (agents_of ls) ≤ 8) (append_assoc before (line ∷ []) lines) (lines_few agents (before ++ line ∷ []) lines are.1.1 (nodes_kept before line are.1.0 few))
+    subst (λ (ls : List Line). length (agents_of ls) ≤ 8) (append_assoc before (line ∷ []) lines) (lines_few agents (before ++ line ∷ []) lines are.2 (nodes_kept before line are.1 few))
 
 -- ---- the order of the nodes
 
@@ -148,7 +148,7 @@ line_known agents before Drain is = tt
 
 lines_known : (agents : List Pair) (before lines : List Line) → AreLinesAfter agents before lines → NameKnown (nodes_of agents) lines
 lines_known agents before [] are = tt
-lines_known agents before (line ∷ lines) are = (line_known agents before line are.0, lines_known agents (before ++ line ∷ []) lines are.1.1)
+lines_known agents before (line ∷ lines) are = (line_known agents before line are.0, lines_known agents (before ++ line ∷ []) lines are.2)
 
 -- ---- the script
 

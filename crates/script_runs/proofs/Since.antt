@@ -32,7 +32,7 @@ use Rattle.worker_core.specs.States.{State, asked, call_in, call_under, given_ca
 use Rattle.worker_core.specs.Turns.{AfterKeys, IsTurn, TurnBy, passing, unlisted}
 use Rattle.worker_core.proofs.Answered.{passed}
 use Rattle.worker_core.proofs.ByKind.{placed, start_reads_none}
-use Rattle.worker_core.proofs.Machines.{keeps_under, task_reads_none}
+use Rattle.worker_core.proofs.Machines.{task_reads_none, under_calls}
 use Rattle.worker_core.proofs.Passes.{kept_pass, untold_pass, watch_pass}
 use Rattle.worker_core.proofs.Quiet.{alike, quiet_listed, quiet_on, unread}
 use Rattle.script_runs.specs.Calls.{IsQuietSince}
@@ -94,7 +94,7 @@ module _ (s : State) (earlier recent : List Entry) (e : Entry) (request : Reques
     where
       under : (u : Option Under) → AnyIsUnderWay s.role u (recent ++ earlier) → option_map call_under u ≡ Some request → Passes (e ∷ recent) (task_told (learned s caches request reply) reply u)
       under None way c = none_some c
-      under (Some u) way c = kept_pass s.role s.pass recent e pass (λ kind. task_reads_none u.task e.request kind ((keeps_under s.role u (recent ++ earlier) way).call ∙ ap Some (one u.call request c ∙ sym is.asked)))
+      under (Some u) way c = kept_pass s.role s.pass recent e pass (λ kind. task_reads_none u.task e.request kind (under_calls s.role u (recent ++ earlier) way ∙ ap Some (one u.call request c ∙ sym is.asked)))
 
       read : (k : Kind) (a : Ask) → ask_of (cache_of k s.caches) ≡ a → read_request k a ≡ request → PassStands s.role (pass_after s.pass (is_passing (passing s) k) request reply) (e ∷ recent)
       read k asks.List at r =

@@ -27,11 +27,11 @@ newly_stale seats.Agent node e m built stale = by m.stale (is_stale_told e.reply
 
 pub told_stale : (role : Role) (mine : List Entry) → IsBuiltKind role.kind → (memory_of role mine).stale ≡ true → WasToldStale role.kind mine
 told_stale role [] built stale = absurd (true≢false (sym stale))
-told_stale role (e ∷ mine) built stale = by e.told refl stale
+told_stale role (e ∷ mine) built stale = by e.told refl stale (told_stale role mine built)
   where
-    before : (memory_of role mine).stale ≡ true → WasToldStale role.kind (e ∷ mine)
-    before is = let told = told_stale role mine built is in (told.0, inr told.1)
+    before : ((memory_of role mine).stale ≡ true → WasToldStale role.kind mine) → (memory_of role mine).stale ≡ true → WasToldStale role.kind (e ∷ mine)
+    before rest is = let told = rest is in (told.0, inr told.1)
 
-    by : (told : Bool) → e.told ≡ told → (if told then memory_after role e.request e.reply (memory_of role mine) else memory_of role mine).stale ≡ true → WasToldStale role.kind (e ∷ mine)
-    by true is stale = elim (newly_stale role.kind role.node e (memory_of role mine) built stale) [ inl was ↦ before was | inr told ↦ (told.0, inl (is, told.1)) ]
-    by false is stale = before stale
+    by : (told : Bool) → e.told ≡ told → (if told then memory_after role e.request e.reply (memory_of role mine) else memory_of role mine).stale ≡ true → ((memory_of role mine).stale ≡ true → WasToldStale role.kind mine) → WasToldStale role.kind (e ∷ mine)
+    by true is stale rest = elim (newly_stale role.kind role.node e (memory_of role mine) built stale) [ inl was ↦ before rest was | inr told ↦ (told.0, inl (is, told.1)) ]
+    by false is stale rest = before rest stale

@@ -397,7 +397,13 @@ fn players(alloc: Global, script: &Script) -> Result<(Vec<Player>, u64), OutOfMe
 {
     let lines = script.lines.as_slice();
     let mut players = Vec::new(alloc);
-    let second = add_workers(alloc, &mut players, WorkerKind::Binder, FIRST_ACTOR_SEAT, lines)?;
+    let second = add_workers(
+        alloc,
+        &mut players,
+        WorkerKind::Binder,
+        FIRST_ACTOR_SEAT,
+        lines,
+    )?;
     let third = add_workers(alloc, &mut players, WorkerKind::Claims, second, lines)?;
     let fourth = add_workers(alloc, &mut players, WorkerKind::Volumes, third, lines)?;
     let end = add_agents(alloc, &mut players, &script.node_names, fourth, lines)?;

@@ -1,5 +1,5 @@
 use Rattle.std.proofs.Common.{◌≡◌, ◌≤◌, ◌+◌, ◌*◌, ℕ, List, drop, map}
-use Rattle.script_lines.specs.declared.actors.Actor.TheVariants.{Agent, Worker}
+use Rattle.script_lines.specs.declared.actors.Actor.TheVariants.{Worker}
 use Rattle.script_lines.specs.declared.actors.WorkerNumber.{WorkerNumber}
 use Rattle.script_runs.specs.declared.player.Player.{Player}
 use Rattle.script_runs.specs.Steps.Standing.{HasAdded}
