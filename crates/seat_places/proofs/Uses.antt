@@ -5,6 +5,7 @@ use Rattle.std.proofs.lemmas.List.{append_assoc}
 use Rattle.kube_types.specs.declared.uid.Uid.{Uid}
 use Rattle.kube_types.specs.declared.key.Key.{Key}
 use Rattle.kube_types.specs.declared.objects.Claim.{Claim as ClaimData}
+use Rattle.kube_types.specs.declared.objects.DataId.{DataId}
 use Rattle.kube_types.specs.declared.objects.Volume.{Volume as VolumeData}
 use Rattle.kube_types.specs.declared.objects.Pod.{Pod as PodData}
 use Rattle.kube_types.specs.declared.objects.Object.{Object}
@@ -12,12 +13,12 @@ use Rattle.kube_types.specs.declared.objects.Object.TheVariants.{Claim, Pod, Vol
 use Rattle.call_types.specs.declared.entry.Entry.{Entry}
 use Rattle.call_types.specs.declared.reply.Reply.{Reply}
 use Rattle.call_types.specs.declared.reply.Reply.TheVariants as replies
-use Rattle.binder_model.specs.Told.{SomeOf, TellsObject, IsPodWith, first_some, objects_in}
+use Rattle.binder_model.specs.Told.{SomeOf, TellsObject, IsPodWith, first_some, found_over, last_found, objects_in}
 use Rattle.kube_types.specs.Bindings.{carries, is_completed, is_deleting, is_protected_claim}
 use Rattle.binder_model.specs.BindWrites.{is_claim_bound}
 use Rattle.binder_model.specs.ObjectKeys.{claim_key, volume_key}
 use Rattle.binder_model.specs.AgentLicence.{IsReadReady, IsReadyPod, ListedPods, WasShownReady, epoch_in, last_epoch, last_get, never_finished, since_epoch, since_get, was_told_unmounted}
-use Rattle.seat_places.specs.Places.{Above, Done, Here, IsNever, IsPodList, IsQuietBehind, Later, More, Since, StandsAt, TellsAt, finishes, gets, mounts, takes, tells_unmounted}
+use Rattle.seat_places.specs.Places.{Above, Done, Here, IsNever, IsPodList, IsQuietBehind, Later, More, Since, StandsAt, TellsAt, finds, finishes, gets, mounts, takes, tells_unmounted}
 use Rattle.seat_places.proofs.Since.{since_below, stands_below}
 
 -- the last epoch
@@ -29,6 +30,16 @@ epoch_since node epoch mine place entry (Later {mine = older} e quiet since) is 
     by : (o : Option ℕ) → is_some o ≡ false → last_epoch node older ≡ Some epoch → first_some o (last_epoch node older) ≡ Some epoch
     by None h rest = rest
     by (Some n) h rest = absurd (true≢false h)
+
+-- the last volume that a read found over the data
+
+pub found_since : (id : DataId) (v : VolumeData) (mine : List Entry) (place : ℕ) (entry : Entry) → Since (finds id) mine place entry → found_over id entry.told entry.reply ≡ Some v → last_found id mine ≡ Some v
+found_since id v mine place entry (Here {mine = older} e at) is = rw is refl
+found_since id v mine place entry (Later {mine = older} e quiet since) is = by (found_over id e.told e.reply) quiet (found_since id v older place entry since is)
+  where
+    by : (o : Option VolumeData) → is_some o ≡ false → last_found id older ≡ Some v → first_some o (last_found id older) ≡ Some v
+    by None h rest = rest
+    by (Some u) h rest = absurd (true≢false h)
 
 -- never asked to finish the pod
 

@@ -2,10 +2,11 @@
 use Rattle.std.specs.Prelude.{ℕ, suc, ◌≡◌, ◌<◌, ◌≤◌, ◌⊎◌, ◌&&◌, Bool, true, false, List, [], ◌∷◌, Option, Some, None, is_some, length, ⊤}
 use Rattle.kube_types.specs.declared.uid.Uid.{Uid}
 use Rattle.kube_types.specs.declared.key.Key.{Key}
+use Rattle.kube_types.specs.declared.objects.DataId.{DataId}
 use Rattle.kube_types.specs.declared.objects.Object.{Object}
 use Rattle.call_types.specs.declared.entry.Entry.{Entry}
 use Rattle.binder_model.specs.AgentLicence.{epoch_in, is_finish_of, is_get_of, is_mount_of, is_of_epoch, is_pod_list, lacks_pod}
-use Rattle.binder_model.specs.Told.{TellsObject}
+use Rattle.binder_model.specs.Told.{TellsObject, found_over}
 
 -- the entry stands at the place
 abbrev pub StandsAt : List Entry → ℕ → Entry → Type 0
@@ -56,6 +57,10 @@ finishes pod e = is_finish_of pod e.request
 
 abbrev pub mounts : Uid → Entry → Bool
 mounts pod e = is_mount_of pod e.request
+
+-- a read found a volume over the data
+abbrev pub finds : DataId → Entry → Bool
+finds id e = is_some (found_over id e.told e.reply)
 
 -- a list of all pods was told
 abbrev pub IsPodList : Entry → Type 0
