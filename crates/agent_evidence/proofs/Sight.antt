@@ -1,8 +1,9 @@
 -- What a look-up in an agent's index shows.
 use Rattle.std.proofs.Common.{◌≡◌, inl, inr, None, ℕ, zero, suc, ◌<◌, ◌≤◌, List, [], ◌∷◌, length, drop, get_or, reverse, true, Option, Some, refl, sym, ◌∙◌, ap, arith, subst}
-use Rattle.std.specs.Prelude.{bytes_eq}
+use Rattle.std.specs.Prelude.{is_some}
 use Rattle.kube_types.specs.declared.uid.Uid.{Uid}
 use Rattle.kube_types.specs.declared.key.Key.{Key}
+use Rattle.kube_types.specs.declared.parts.Kind.TheVariants as kinds
 use Rattle.kube_types.specs.declared.objects.Claim.{Claim as ClaimData}
 use Rattle.kube_types.specs.declared.objects.Object.{Object}
 use Rattle.kube_types.specs.declared.objects.Pod.{Pod as PodData}
@@ -10,23 +11,23 @@ use Rattle.kube_types.specs.declared.objects.Object.TheVariants.{Claim, Pod}
 use Rattle.agent_evidence.specs.declared.pods.ToldPod.{ToldPod}
 use Rattle.agent_evidence.specs.Pods.{AreTold}
 use Rattle.call_types.specs.declared.entry.Entry.{Entry}
-use Rattle.call_types.specs.declared.reply.Reply.TheVariants.{Found}
-use Rattle.call_types.specs.declared.reply.Reply.TheVariants as replies
-use Rattle.call_types.specs.declared.request.Request.TheVariants as requests
-use Rattle.binder_model.specs.AgentLicence.{AreReadReady, IsReadReady, MayMount, WasShownReady, epoch_in, last_epoch, never_finished, since_epoch}
-use Rattle.binder_model.specs.Told.{IsPodWith, ToldObject}
+use Rattle.call_types.specs.declared.reply.Reply.TheVariants.{Done, Found}
+use Rattle.binder_model.specs.AgentLicence.{AreReadReady, IsEndingPod, IsReadReady, MayFinish, MayMount, WasShownReady, epoch_in, last_epoch, never_finished, since_epoch}
+use Rattle.binder_model.specs.Reading.{NamesClaim}
+use Rattle.binder_model.specs.Told.{IsPodWith, SomeOf, TellsObject, ToldObject, ToldPod as WasTold}
 use Rattle.binder_model.specs.ObjectKeys.{claim_key}
 use Rattle.seat_places.specs.declared.topics.Topic.{Topic}
 use Rattle.seat_places.specs.declared.topics.Matter.TheVariants as matters
 use Rattle.seat_places.specs.Topics.{about_key, about_name, about_pod, last_of}
-use Rattle.seat_places.specs.Places.{TellsAt, finishes, gets, takes}
-use Rattle.seat_places.proofs.Since.{last_never, last_since, read_stands}
-use Rattle.seat_places.proofs.Hearing.{finishes_heard, gets_heard, takes_heard}
-use Rattle.seat_places.proofs.Uses.{above_told, epoch_since, never_is, read_ready, shown_since, told_ready}
-use Rattle.agent_evidence.specs.Seen.{AreReadBehind, IsRead, IsShown, IsTakenAt, IsToMount, IsVolumeRead}
-
-pub told_epoch : (node : List ℕ) (epoch : ℕ) (e : Entry) (taken : List ℕ) (told : ℕ) → e.told ≡ true → e.request ≡ requests.TakeNode taken → e.reply ≡ replies.Epoch told → bytes_eq taken node ≡ true → told ≡ epoch → epoch_in node e ≡ Some epoch
-told_epoch node epoch e taken told t asked answered same is = rw (t, asked, answered, same, is) refl
+use Rattle.seat_places.specs.Places.{IsQuietBehind, IsUpto, StandsAt, TellsAt, finishes, gets, mounts, takes, tells_unmounted}
+use Rattle.seat_places.proofs.Since.{last_behind, last_never, last_since, read_stands, stands_some}
+use Rattle.seat_places.proofs.Hearing.{finishes_heard, gets_heard, mounts_heard, takes_heard}
+use Rattle.seat_places.proofs.Uses.{above_told, epoch_since, never_is, read_ready, shown_since, told_ready, unmounted_since}
+use Rattle.model_laws.proofs.Evidence.{told_map}
+use Rattle.seat_index.specs.Steps.Parts.{IsPart}
+use Rattle.seat_index.proofs.Growing.{told_grows}
+use Rattle.seat_index.proofs.Telling.{done_tells}
+use Rattle.agent_evidence.specs.Seen.{AreReadBehind, IsRead, IsShown, IsTakenAt, IsToMount, IsUnmounted, IsVolumeRead, TellsNaming}
 
 pub taken_by : (entries : List Entry) (node : List ℕ) (epoch : ℕ) (t : Topic) (answer : Option ℕ) (place : ℕ) (d : Entry) → t ≡ about_name matters.Taken node → answer ≡ last_of t (reverse entries) → answer ≡ Some place → place < length entries → epoch_in node (get_or entries place d) ≡ Some epoch → IsTakenAt (reverse entries) node epoch place
 taken_by entries node epoch t answer place d about looked found within is = record {
@@ -46,6 +47,10 @@ read_by entries key behind t answer place d about looked found within later got 
 
 pub current_by : (mine : List Entry) (node : List ℕ) (epoch place : ℕ) → IsTakenAt mine node epoch place → last_epoch node mine ≡ Some epoch
 current_by mine node epoch place taken = epoch_since node epoch mine place taken.entry taken.since taken.is
+
+-- a node that was taken
+pub taken_is : (mine : List Entry) (node : List ℕ) (epoch place : ℕ) → IsTakenAt mine node epoch place → is_some (last_epoch node mine) ≡ true
+taken_is mine node epoch place taken = ap is_some (current_by mine node epoch place taken)
 
 pub ready_by : (mine : List Entry) (behind place : ℕ) (namespace name : List ℕ) (uid : Uid) (claim : ClaimData) → IsRead mine (claim_key namespace name) behind place (Found (Claim claim)) → IsToMount claim uid → IsVolumeRead mine claim place → AreReadBehind mine behind (λ recent. IsReadReady recent namespace name uid)
 ready_by mine behind place namespace name uid claim read fit volume recent above =
@@ -101,3 +106,39 @@ never_by mine uid t answer about looked none = never_is uid mine (last_never (ab
 
 pub mount_by : (mine : List Entry) (node : List ℕ) (epoch taken : ℕ) (uid : Uid) (claims : List Uid) → IsTakenAt mine node epoch taken → WasShownReady mine node uid claims [] (since_epoch node mine) → never_finished uid mine ≡ true → MayMount mine node epoch uid claims
 mount_by mine node epoch taken uid claims at shown never = record { current = current_by mine node epoch taken at; shown = shown; unfinished = never }
+
+-- finishing
+
+pub quiet_by : (mine : List Entry) (uid : Uid) (place : ℕ) (t : Topic) (answer : Option ℕ) → t ≡ about_pod matters.Mounted uid → answer ≡ last_of t mine → IsUpto place answer → IsQuietBehind (mounts uid) place mine
+quiet_by mine uid place t answer about looked upto = last_behind (about_pod matters.Mounted uid) (mounts uid) (mounts_heard uid) place mine (subst (λ (u : Topic). IsUpto place (last_of u mine)) about (subst (IsUpto place) looked upto))
+
+pub unmounted_by : (entries : List Entry) (taken : ℕ) (node : List ℕ) (epoch : ℕ) (uid : Uid) (place : ℕ) (d : Entry) → place < length entries → taken < place → tells_unmounted node epoch uid (get_or entries place d) ≡ true → IsQuietBehind (mounts uid) place (reverse entries) → IsUnmounted (reverse entries) taken node epoch uid
+unmounted_by entries taken node epoch uid place d within after told quiet = record {
+  place = place;
+  rows = get_or entries place d;
+  stands = read_stands entries place d within;
+  after = after;
+  told = told;
+  quiet = quiet;
+}
+
+pub finish_by : (mine : List Entry) (key : Key) (uid : Uid) (node : List ℕ) (epoch taken : ℕ) → key.kind ≡ kinds.Pod → WasTold (IsEndingPod uid node) mine → IsTakenAt mine node epoch taken → IsUnmounted mine taken node epoch uid → MayFinish mine key uid node epoch
+finish_by mine key uid node epoch taken kind told at behind = record {
+  current = current_by mine node epoch taken at;
+  kind = kind;
+  told = told;
+  unmounted = unmounted_since node epoch uid mine taken behind.place at.entry behind.rows at.since behind.stands behind.after behind.quiet behind.told;
+}
+
+-- single reads
+
+pub naming_by : (entries : List Entry) (key : Key) (place : ℕ) (d : Entry) → place < length entries → TellsNaming key (get_or entries place d) → SomeOf (TellsNaming key) (reverse entries)
+naming_by entries key place d within told = stands_some (TellsNaming key) (reverse entries) place (get_or entries place d) (read_stands entries place d within) told
+
+-- what an entry of a page tells alone
+pub told_there : (page : List Entry) (i : ℕ) (d e : Entry) (o : Object) → i < length page → e ≡ get_or page i d → e.told ≡ true → e.reply ≡ Done o → (mine : List Entry) → IsPart (reverse page) mine → ToldObject (λ x. x ≡ o) mine
+told_there page i d e o within at told is mine part = told_grows (λ x. x ≡ o) (reverse page) mine part
+    (stands_some (TellsObject (λ x. x ≡ o)) (reverse page) i e (subst (StandsAt (reverse page) i) (sym at) (read_stands page i d within)) (told, done_tells e.reply o is))
+
+pub named_by : (mine : List Entry) (key : Key) (o : Object) (pod : PodData) → o ≡ Pod pod → NamesClaim mine key pod → ToldObject (λ x. x ≡ o) mine → WasTold (NamesClaim mine key) mine
+named_by mine key o pod is names told = told_map {P = λ x. x ≡ o} {Q = IsPodWith (NamesClaim mine key)} (λ x same. subst (IsPodWith (NamesClaim mine key)) (sym (same ∙ is)) names) mine told

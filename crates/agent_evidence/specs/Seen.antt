@@ -16,8 +16,9 @@ use Rattle.binder_model.specs.BindWrites.{is_claim_bound}
 use Rattle.binder_model.specs.ObjectKeys.{pod_key, volume_key}
 use Rattle.binder_model.specs.Told.{IsNewest}
 use Rattle.binder_model.specs.AgentLicence.{AreReadReady, IsPodOn, epoch_in}
+use Rattle.binder_model.specs.Reading.{FoundNaming}
 use Rattle.agent_evidence.specs.declared.pods.ToldPod.{ToldPod}
-use Rattle.seat_places.specs.Places.{Above, IsPodList, Since, StandsAt, gets, takes}
+use Rattle.seat_places.specs.Places.{Above, IsPodList, IsQuietBehind, Since, StandsAt, gets, mounts, takes, tells_unmounted}
 
 abbrev pub key_at : Kind → List ℕ → List ℕ → Key
 key_at kind namespace name = record { kind = kind; namespace = namespace; name = name }
@@ -83,3 +84,16 @@ pub record IsShown (mine : List Entry) (taken : ℕ) (node : List ℕ) (uid : Ui
   pub on_node : IsPodOn uid node told.pod
   pub staying : IsStaying mine uid told.pod
   pub read : AreReadBehind mine told.place (λ recent. AreReadReady recent told.pod.meta.namespace told.pod.claims claims)
+
+-- the mounts of the node were told behind the place, in the epoch and without the pod, and no later call was to mount it
+pub record IsUnmounted (mine : List Entry) (taken : ℕ) (node : List ℕ) (epoch : ℕ) (pod : Uid) : Type 0 where
+  pub place : ℕ
+  pub rows : Entry
+  pub stands : StandsAt mine place rows
+  pub after : taken < place
+  pub told : tells_unmounted node epoch pod rows ≡ true
+  pub quiet : IsQuietBehind (mounts pod) place mine
+
+-- the entry told a read that found a claim which names the volume of the key
+abbrev pub TellsNaming : Key → Entry → Type 0
+TellsNaming key e = (e.told ≡ true) × FoundNaming key e.reply

@@ -1,10 +1,10 @@
 //! Where the index shows that an agent may make a call.
 
-ghost use Rattle.std.specs.Prelude.{◌≡◌, [], ℕ, List, IfSome, IsTrue, Some, reverse, true};
+ghost use Rattle.std.specs.Prelude.{◌≡◌, [], ℕ, List, IfSome, IsTrue, Some, is_some, reverse, true};
 ghost use Rattle.kube_types.specs.declared.objects.Object.TheVariants as objects;
 ghost use Rattle.call_types.specs.declared.entry.Entry.{Entry};
 ghost use Rattle.call_types.specs.declared.reply.Reply.TheVariants as replies;
-ghost use Rattle.binder_model.specs.AgentLicence.{AreReadReady, IsEndingPod, IsPodOn, IsReadReady, MayMount, MayReadMounts, MayUnmount, WasShownReady, epoch_in, never_finished, since_epoch};
+ghost use Rattle.binder_model.specs.AgentLicence.{AreReadReady, IsEndingPod, IsPodOn, IsReadReady, MayMount, MayReadMounts, MayUnmount, WasShownReady, epoch_in, last_epoch, never_finished, since_epoch};
 ghost use Rattle.binder_model.specs.BindWrites.{is_claim_bound};
 ghost use Rattle.binder_model.specs.ObjectKeys.{claim_key};
 ghost use Rattle.binder_model.specs.Told.{ToldPod as WasTold};
@@ -35,26 +35,32 @@ use seat_places::topics::{About, Matter};
 
 // the last epoch
 
-/// Whether the entry tells this epoch of the node.
-fn tells_epoch(node: &Text, epoch: u64, entry: &Entry) -> bool
-    ensures { IsTrue result → epoch_in node.now entry.now ≡ Some epoch }
+/// The epoch of the node that the entry tells.
+fn told_epoch(node: &Text, entry: &Entry) -> Option<u64>
+    ensures { IfSome result (λ epoch. epoch_in node.now entry.now ≡ Some epoch) }
 {
     if !entry.told {
-        return false;
+        return None;
     }
     match &entry.request {
         Request::TakeNode { node: taken } => match &entry.reply {
-            Reply::Epoch(told) => taken.is(node.as_str()) && *told == epoch,
-            _ => false,
+            Reply::Epoch(told) => {
+                if taken.is(node.as_str()) {
+                    Some(*told)
+                } else {
+                    None
+                }
+            }
+            _ => None,
         },
-        _ => false,
+        _ => None,
     }
 }
 
-/// Where the last epoch of the node was told, where it is this one.
-fn taken_at(index: &AgentIndex, entries: &[Entry], node: &Text, epoch: u64) -> Option<usize>
+/// Where the last epoch of the node was told, and which one.
+fn last_taken(index: &AgentIndex, entries: &[Entry], node: &Text) -> Option<(usize, u64)>
     requires { IsAgentIndexOf index.now (reverse entries.now) }
-    ensures { IfSome result (IsTakenAt (reverse entries.now) node.now epoch) }
+    ensures { IfSome result (λ r. IsTakenAt (reverse entries.now) node.now r.1 r.0) }
 {
     let about = About::object(Matter::Taken, Kind::Node, "", node.as_str());
     match index.lasts.place(&about) {
@@ -63,11 +69,38 @@ fn taken_at(index: &AgentIndex, entries: &[Entry], node: &Text, epoch: u64) -> O
             if place >= entries.len() {
                 return None;
             }
-            if !tells_epoch(node, epoch, &entries[place]) {
-                return None;
+            match told_epoch(node, &entries[place]) {
+                None => None,
+                Some(epoch) => Some((place, epoch)),
             }
-            Some(place)
         }
+    }
+}
+
+/// Where the last epoch of the node was told, where it is this one.
+pub(crate) fn taken_at(
+    index: &AgentIndex,
+    entries: &[Entry],
+    node: &Text,
+    epoch: u64,
+) -> Option<usize>
+    requires { IsAgentIndexOf index.now (reverse entries.now) }
+    ensures { IfSome result (IsTakenAt (reverse entries.now) node.now epoch) }
+{
+    match last_taken(index, entries, node) {
+        None => None,
+        Some((place, told)) => { if told == epoch { Some(place) } else { None } }
+    }
+}
+
+/// Whether the index shows that the node was taken.
+pub(crate) fn is_taken(index: &AgentIndex, entries: &[Entry], node: &Text) -> bool
+    requires { IsAgentIndexOf index.now (reverse entries.now) }
+    ensures { IsTrue result → is_some (last_epoch node.now (reverse entries.now)) ≡ true }
+{
+    match last_taken(index, entries, node) {
+        None => false,
+        Some((_place, _epoch)) => true,
     }
 }
 
@@ -426,7 +459,7 @@ fn is_ending(uid: Uid, node: &Text, pod: &Pod) -> bool
 }
 
 /// Whether one of the tellings is of the pod, on the node, deleting.
-fn told_ending(tellings: &[ToldPod], node: &Text, uid: Uid) -> bool
+pub(crate) fn told_ending(tellings: &[ToldPod], node: &Text, uid: Uid) -> bool
     ensures { (mine : List Entry) → AreTold tellings.now mine → IsTrue result → WasTold (IsEndingPod uid node.now) mine }
 {
     for told in tellings {

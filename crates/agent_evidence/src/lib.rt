@@ -2,10 +2,12 @@
 //! entries again.
 //!
 //! Promises: where a function here answers true, the definition allows the request after the entries
-//! (`agent`); the pods that were told are kept by their ids, each with its place (`pods`). Not said: that
+//! (`agent`, `finish`, `reads`); the pods that were told are kept by their ids, each with its place (`pods`). Not said: that
 //! each allowed request is shown; who needs to be sure of a refusal reads the entries.
 #![tactic(auto)]
 
 pub mod agent;
+pub mod finish;
 pub mod index;
 pub mod pods;
+pub mod reads;

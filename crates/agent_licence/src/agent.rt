@@ -122,7 +122,7 @@ fn is_mount_of(pod: Uid, request: &Request) -> bool
 }
 
 /// Whether the entry told a list of the node's mounts without the pod.
-fn tells_unmounted(node: &Text, epoch: u64, pod: Uid, entry: &Entry) -> bool
+pub fn tells_unmounted(node: &Text, epoch: u64, pod: Uid, entry: &Entry) -> bool
     ensures { result ≡ (entry.now.told && is_of_epoch node.now epoch entry.now.request && lacks_pod pod entry.now.reply) }
 {
     entry.told && is_of_epoch(node, epoch, &entry.request) && lacks_pod(pod, &entry.reply)

@@ -38,7 +38,7 @@ fn is_node_told(mine: &[Entry], name: &Text) -> bool
 }
 
 /// Whether the new claim is the old one with the annotation that names the node.
-fn is_with_node(name: &str, old: &Claim, new: &Claim) -> bool
+pub fn is_with_node(name: &str, old: &Claim, new: &Claim) -> bool
     ensures { IsTrue result ↔ (new.now ≡ with_node old.now name.now) }
 {
     if !is_claim_meta(old, new) {

@@ -234,7 +234,7 @@ fn was_given(mine: &[Entry], uid: Uid, new: &Volume) -> bool
 }
 
 /// Whether the volume is the one that is made for the claim, over data that were given for it.
-fn creates(mine: &[Entry], claim: &Claim, uid: Uid, class: &Class, new: &Volume) -> bool
+pub fn creates(mine: &[Entry], claim: &Claim, uid: Uid, class: &Class, new: &Volume) -> bool
     ensures { IsTrue result ↔ Creates (reverse mine.now) claim.now uid class.now new.now }
 {
     if !is_known(&claim.meta, uid) {

@@ -10,7 +10,7 @@ ghost use Rattle.kube_types.specs.Sources.{data_id_of};
 ghost use Rattle.binder_model.specs.ObjectKeys.{node_key};
 ghost use Rattle.binder_model.specs.OpsLicence.{AreLabels, EraseDone, EraseFailed, IsEndedOver, IsExhausted, IsThisClaim, IsThisVolume, IsUnserved, MayClearNode, MayDelete, MayErase, MayFail, MayProvision, TellsEraseFailed, TellsErased, TellsExhausted};
 ghost use Rattle.binder_model.specs.Provisioning.{data_name, is_wanting, provisions};
-ghost use Rattle.binder_model.specs.Told.{After, IsNewest, IsNewestAbsent, IsVolumeWith, ToldVolume, found_over, last_found};
+ghost use Rattle.binder_model.specs.Told.{After, IsNewest, IsNewestAbsent, IsVolumeWith, ToldClaim, ToldVolume, found_over, last_found};
 ghost use Rattle.ops_licence.specs.Providing.{IsAsked, IsAskedFor, IsEnded, IsOverSame, IsProvided, IsProvidedBy, WasEnded, WasErased};
 
 use crate::ids::{is_data_name, is_id_of};
@@ -47,7 +47,8 @@ fn is_wanting(claim: &Claim) -> bool
         && claim.selector.is_none()
 }
 
-fn provisions(class: &Class) -> bool
+/// Whether a provisioner makes volumes of the class.
+pub fn provisions(class: &Class) -> bool
     ensures { result ≡ provisions class.now }
 {
     !class.provisioner.is(NO_PROVISIONER)
@@ -114,9 +115,9 @@ fn is_provided(mine: &[Entry], claim: &Claim, provisioner: &Text, labels: &Optio
 
 /// The data of this name and size are asked for the claim, which wants a volume.
 #[derive(Drop)]
-struct Asked<'a> {
-    name: &'a Text,
-    bytes: u64,
+pub struct Asked<'a> {
+    pub name: &'a Text,
+    pub bytes: u64,
 }
 
 impl<'a> ClaimTest for Asked<'a> {
@@ -184,7 +185,7 @@ pub fn may_provision(
 // erasing
 
 /// The volume with this data id that the entry's Get found.
-fn found_over<'a>(id: &DataId, entry: &'a Entry) -> Option<&'a Volume>
+pub fn found_over<'a>(id: &DataId, entry: &'a Entry) -> Option<&'a Volume>
     ensures { option_copied result ≡ found_over id.now entry.now.told entry.now.reply }
 {
     if !entry.told {
@@ -485,13 +486,22 @@ fn is_unserved(mine: &[Entry], claim: &Claim, uid: Uid, node: &Text) -> bool
     if is_node_absent(mine, node) {
         return true;
     }
+    was_exhausted(mine, claim, uid)
+}
+
+/// Whether after this version of the claim was told a Provision for it was answered that no pool has the
+/// bytes.
+pub fn was_exhausted(mine: &[Entry], claim: &Claim, uid: Uid) -> bool
+    ensures { IsTrue result ↔ After (ToldClaim (IsThisClaim claim.now)) (TellsExhausted (data_name uid)) (reverse mine.now) }
+{
     let test = ThisClaim { old: claim };
     let told = OfClaims { test: &test };
     let exhausted = ExhaustedFor { uid };
     after(&told, &exhausted, mine)
 }
 
-fn is_without_node(old: &Claim, new: &Claim) -> bool
+/// Whether the new claim is the old one without the annotation that names a node.
+pub fn is_without_node(old: &Claim, new: &Claim) -> bool
     ensures { IsTrue result ↔ (new.now ≡ record old.now { meta = record old.now.meta { annotations = without_key selected_node old.now.meta.annotations } }) }
 {
     if !is_claim_meta(old, new) {

@@ -5,7 +5,7 @@ ghost use Rattle.std.specs.List.Sorted.{IsSearchInRange};
 ghost use Rattle.call_types.specs.declared.entry.Entry.{Entry};
 ghost use Rattle.seat_index.specs.Steps.Parts.{ArePages, IsPart, MayStandBehind};
 
-use crate::parts::Parts;
+use crate::parts::{Parts, uid_in, wanted_by};
 use call_types::entry::Entry;
 use kube_types::copies::OutOfMemory;
 use kube_types::items::Items;
@@ -146,6 +146,23 @@ impl Pages {
             name,
         };
         entries_at(&self.list, &key)
+    }
+
+    /// What speaks of what is provisioned under this name.
+    pub fn provisioned(&self, name: &Text) -> &[Entry]
+        ensures { (mine : List Entry) → ArePages self.now mine → IsPart (reverse result.now) mine }
+    {
+        match uid_in(name.as_str()) {
+            None => &[],
+            Some(uid) => entries_at(&self.list, &wanted_by(uid)),
+        }
+    }
+
+    /// What speaks of what is provisioned for the claim with the UID of this text.
+    pub fn wanted(&self, uid: &str) -> &[Entry]
+        ensures { (mine : List Entry) → ArePages self.now mine → IsPart (reverse result.now) mine }
+    {
+        entries_at(&self.list, &wanted_by(uid))
     }
 
     /// What speaks of the volume of this name.

@@ -8,15 +8,16 @@ ghost use Rattle.binder_model.specs.Told.{SomeOf, ToldObject, objects_in, object
 ghost use Rattle.seat_index.specs.Steps.Parts.{ArePages};
 
 use crate::pages::Pages;
-use crate::parts::Parts;
+use crate::parts::{Parts, uid_in, wanted_by};
 use call_types::entry::Entry;
 use call_types::reply::{Change, Event, Reply};
-use call_types::request::Request;
-use kube_types::bindings::is_deleting;
+use call_types::request::{Request, SeatKind};
+use kube_types::bindings::{is_deleting, is_scheduled};
 use kube_types::copies::{OutOfMemory, Plain};
 use kube_types::key::{kind_of, meta_of};
-use kube_types::objects::{Claim, Object, Volume};
+use kube_types::objects::{Claim, Object, Pod, Volume};
 use kube_types::parts::Kind;
+use kube_types::text::Text;
 use std::alloc::Global;
 
 /// An entry of the same seat that tells the object and nothing else.
@@ -114,6 +115,70 @@ fn tell_deleting(
     tell_at(alloc, pages, &key, entry, object)
 }
 
+/// Puts a pod on the pages of the claims that it names, where an agent was told it on a node.
+fn tell_claims(
+    alloc: Global,
+    pages: &mut Pages,
+    pod: &Pod,
+    entry: &Entry,
+    object: &Object,
+) -> Result<(), OutOfMemory>
+    ensures { OnOk result ((mine : List Entry) → ToldObject (λ x. x ≡ object.now) mine → ArePages pages.old mine → ArePages pages.new mine) }
+{
+    if !entry.kind.same(&SeatKind::Agent) {
+        return Ok(());
+    }
+    if !is_scheduled(pod) {
+        return Ok(());
+    }
+    for name in pod.claims.as_slice() {
+        let key = Parts {
+            kind: Kind::PersistentVolumeClaim,
+            namespace: pod.meta.namespace.as_str(),
+            name: name.as_str(),
+        };
+        tell_at(alloc, pages, &key, entry, object)?;
+    }
+    Ok(())
+}
+
+/// Puts a claim on the page of what is provisioned for it, where ops was told it.
+fn tell_wanting(
+    alloc: Global,
+    pages: &mut Pages,
+    claim: &Claim,
+    entry: &Entry,
+    object: &Object,
+) -> Result<(), OutOfMemory>
+    ensures { OnOk result ((mine : List Entry) → ToldObject (λ x. x ≡ object.now) mine → ArePages pages.old mine → ArePages pages.new mine) }
+{
+    if !entry.kind.same(&SeatKind::Ops) {
+        return Ok(());
+    }
+    match claim.meta.uid {
+        None => Ok(()),
+        Some(uid) => {
+            let text = uid.text(alloc)?;
+            tell_at(alloc, pages, &wanted_by(text.as_str()), entry, object)
+        }
+    }
+}
+
+/// Puts a claim on the pages of the other keys of which it speaks.
+fn tell_claim(
+    alloc: Global,
+    pages: &mut Pages,
+    claim: &Claim,
+    entry: &Entry,
+    object: &Object,
+) -> Result<(), OutOfMemory>
+    ensures { OnOk result ((mine : List Entry) → ToldObject (λ x. x ≡ object.now) mine → ArePages pages.old mine → ArePages pages.new mine) }
+{
+    tell_deleting(alloc, pages, claim, entry, object)?;
+    tell_wanting(alloc, pages, claim, entry, object)?;
+    tell_named(alloc, pages, claim, entry, object)
+}
+
 /// Puts an object on the pages of the other keys of which it speaks.
 fn tell_others(
     alloc: Global,
@@ -125,10 +190,8 @@ fn tell_others(
 {
     match object {
         Object::Volume(volume) => tell_volume(alloc, pages, volume, entry, object),
-        Object::Claim(claim) => {
-            tell_deleting(alloc, pages, claim, entry, object)?;
-            tell_named(alloc, pages, claim, entry, object)
-        }
+        Object::Claim(claim) => tell_claim(alloc, pages, claim, entry, object),
+        Object::Pod(pod) => tell_claims(alloc, pages, pod, entry, object),
         _ => Ok(()),
     }
 }
@@ -221,23 +284,55 @@ fn keep_at(
     pages.add(alloc, key, kept)
 }
 
-/// Puts a read of one key, or of the pods of a namespace, on its page.
-fn keep_read(alloc: Global, pages: &mut Pages, entry: &Entry) -> Result<(), OutOfMemory>
+/// Puts what was provisioned on the page of the claim for which it is, by the name of the data.
+fn keep_provision(
+    alloc: Global,
+    pages: &mut Pages,
+    name: &Text,
+    entry: &Entry,
+) -> Result<(), OutOfMemory>
     ensures { OnOk result ((mine : List Entry) → ArePages pages.old mine → ArePages pages.new (entry.now ∷ mine)) }
 {
-    match &entry.request {
-        Request::Get { key } => {
+    match uid_in(name.as_str()) {
+        None => Ok(()),
+        Some(uid) => keep_at(alloc, pages, &wanted_by(uid), entry),
+    }
+}
+
+/// Puts what was erased on the page of the volume over it.
+fn keep_erase(
+    alloc: Global,
+    pages: &mut Pages,
+    over: Option<&Text>,
+    entry: &Entry,
+) -> Result<(), OutOfMemory>
+    ensures { OnOk result ((mine : List Entry) → ArePages pages.old mine → ArePages pages.new (entry.now ∷ mine)) }
+{
+    match over {
+        None => Ok(()),
+        Some(name) => {
             let key = Parts {
-                kind: key.kind,
-                namespace: key.namespace.as_str(),
-                name: key.name.as_str(),
+                kind: Kind::PersistentVolume,
+                namespace: "",
+                name: name.as_str(),
             };
             keep_at(alloc, pages, &key, entry)
         }
-        Request::List {
-            kind: Kind::Pod,
-            namespace: Some(namespace),
-        } => {
+    }
+}
+
+/// Puts a list of the pods of a namespace on their page.
+fn keep_list(
+    alloc: Global,
+    pages: &mut Pages,
+    kind: Kind,
+    namespace: &Option<Text>,
+    entry: &Entry,
+) -> Result<(), OutOfMemory>
+    ensures { OnOk result ((mine : List Entry) → ArePages pages.old mine → ArePages pages.new (entry.now ∷ mine)) }
+{
+    match (kind, namespace) {
+        (Kind::Pod, Some(namespace)) => {
             let key = Parts {
                 kind: Kind::Pod,
                 namespace: namespace.as_str(),
@@ -249,13 +344,50 @@ fn keep_read(alloc: Global, pages: &mut Pages, entry: &Entry) -> Result<(), OutO
     }
 }
 
-/// Puts an entry, and what it tells, on the pages of the keys of which it speaks.
-pub(crate) fn learn(alloc: Global, pages: &mut Pages, entry: &Entry) -> Result<(), OutOfMemory>
+/// Puts the whole entry on the page of what its request speaks of: a read of one key, of the pods of a
+/// namespace, or a call to the back end.
+fn keep_asked(
+    alloc: Global,
+    pages: &mut Pages,
+    entry: &Entry,
+    over: Option<&Text>,
+) -> Result<(), OutOfMemory>
+    ensures { OnOk result ((mine : List Entry) → ArePages pages.old mine → ArePages pages.new (entry.now ∷ mine)) }
+{
+    match &entry.request {
+        Request::Get { key } => {
+            let key = Parts {
+                kind: key.kind,
+                namespace: key.namespace.as_str(),
+                name: key.name.as_str(),
+            };
+            keep_at(alloc, pages, &key, entry)
+        }
+        Request::List { kind, namespace } => keep_list(alloc, pages, *kind, namespace, entry),
+        Request::Provision {
+            name,
+            provisioner: _,
+            bytes: _,
+            labels: _,
+        } => keep_provision(alloc, pages, name, entry),
+        Request::Erase { id: _ } => keep_erase(alloc, pages, over, entry),
+        _ => Ok(()),
+    }
+}
+
+/// Puts an entry, and what it tells, on the pages of the keys of which it speaks. Where it erases data,
+/// `over` names the volume over them.
+pub(crate) fn learn(
+    alloc: Global,
+    pages: &mut Pages,
+    entry: &Entry,
+    over: Option<&Text>,
+) -> Result<(), OutOfMemory>
     ensures { OnOk result ((mine : List Entry) → ArePages pages.old mine → ArePages pages.new (entry.now ∷ mine)) }
 {
     if !entry.told {
         return Ok(());
     }
-    keep_read(alloc, pages, entry)?;
+    keep_asked(alloc, pages, entry, over)?;
     tell_reply(alloc, pages, entry)
 }

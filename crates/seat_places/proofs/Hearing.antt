@@ -1,24 +1,29 @@
 -- Which entries speak of a topic.
 use Rattle.std.proofs.Common.{◌≡◌, ℕ, List, Bool, true, false, true≢false, Option, Some, None, refl, sym, ◌∙◌, ap, subst, if◌then◌else◌}
-use Rattle.std.specs.Prelude.{◌&&◌, ◌||◌, is_some}
+use Rattle.std.specs.Prelude.{◌&&◌, ◌||◌, bytes_eq, is_some}
 use Rattle.std.specs.Ordering.{is_eq}
 use Rattle.std.proofs.lemmas.Cmp.{tied_itself}
 use Rattle.std.proofs.lemmas.Bool.Decides.{Decides-eqb}
 use Rattle.std.proofs.lemmas.Slice.Eq.{bytes_eq-Decides}
 use Rattle.kube_types.specs.declared.uid.Uid.{Uid}
 use Rattle.kube_types.specs.declared.key.Key.{Key}
+use Rattle.kube_types.specs.declared.objects.DataId.{DataId}
+use Rattle.kube_types.specs.declared.objects.Object.TheVariants.{Volume}
+use Rattle.kube_types.specs.Sources.{data_id_of}
 use Rattle.kube_types.proofs.SameKeys.{same_key-Decides}
 use Rattle.call_types.specs.declared.entry.Entry.{Entry}
 use Rattle.call_types.specs.declared.request.Request.{Request}
 use Rattle.call_types.specs.declared.request.Request.TheVariants as requests
 use Rattle.call_types.specs.declared.reply.Reply.{Reply}
 use Rattle.call_types.specs.declared.reply.Reply.TheVariants as replies
+use Rattle.binder_model.specs.Devices.{same_id}
 use Rattle.binder_model.specs.Same.{same_uid}
+use Rattle.binder_model.specs.Told.{found_over}
 use Rattle.binder_model.specs.AgentLicence.{epoch_told, is_finish_of, is_get_of, is_mount_of}
 use Rattle.seat_places.specs.declared.topics.Topic.{Topic}
 use Rattle.seat_places.specs.declared.topics.Matter.TheVariants as matters
-use Rattle.seat_places.specs.Topics.{about_key, about_name, about_pod, asked_topic, found_topic, if_told, is_about, read_topic, speaks, topic_cmp}
-use Rattle.seat_places.specs.Places.{finishes, gets, mounts, takes}
+use Rattle.seat_places.specs.Topics.{about_data, about_key, about_name, about_pod, asked_topic, found_topic, if_told, is_about, read_topic, speaks, topic_cmp}
+use Rattle.seat_places.specs.Places.{finds, finishes, gets, mounts, takes}
 use Rattle.seat_places.proofs.Order.{topic_cmp_total}
 use Rattle.seat_places.proofs.Since.{Hears}
 
@@ -37,6 +42,15 @@ by_read t e told h = by (is_about t (asked_topic e.request)) (is_about t (if_tol
     by true b d h = refl
     by false true d h = refl
     by false false d h = absurd (true≢false (sym h))
+
+-- by what was told to be found
+by_found : (t : Topic) (e : Entry) → e.told ≡ true → is_about t (found_topic e.reply) ≡ true → speaks t e ≡ true
+by_found t e told h = by (is_about t (asked_topic e.request)) (is_about t (if_told e.told (read_topic e.request e.reply))) (is_about t (if_told e.told (found_topic e.reply))) (ap (λ b. is_about t (if_told b (found_topic e.reply))) told ∙ h)
+  where
+    by : (a b d : Bool) → d ≡ true → (a || (b || d)) ≡ true
+    by true b d h = refl
+    by false true d h = refl
+    by false false d h = h
 
 if_true : (b : Bool) (x : Bool) → (b && x) ≡ true → (b ≡ true) × (x ≡ true)
 if_true true x h = (refl, h)
@@ -64,9 +78,9 @@ get_about key (requests.SetTime t) reply h = absurd (true≢false (sym h))
 pub gets_heard : (key : Key) → Hears (about_key matters.Read key) (gets key)
 gets_heard key e h = let both = if_true e.told _ h in by_read (about_key matters.Read key) e both.0 (get_about key e.request e.reply both.1)
 
-some_true : (b : Bool) (n : ℕ) → is_some (if b then Some n else None) ≡ true → b ≡ true
-some_true true n h = refl
-some_true false n h = absurd (true≢false (sym h))
+some_true : {X : Type 0} (b : Bool) (x : X) → is_some (if b then Some x else None) ≡ true → b ≡ true
+some_true true x h = refl
+some_true false x h = absurd (true≢false (sym h))
 
 told_some : (told : Bool) (o : Option ℕ) → is_some (if told then o else None) ≡ true → (told ≡ true) × (is_some o ≡ true)
 told_some true o h = (refl, h)
@@ -150,3 +164,17 @@ mount_about pod (requests.SetTime t) h = absurd (true≢false (sym h))
 
 pub mounts_heard : (pod : Uid) → Hears (about_pod matters.Mounted pod) (mounts pod)
 mounts_heard pod e h = by_asked (about_pod matters.Mounted pod) e (mount_about pod e.request h)
+
+one_id : (a b : DataId) → same_id a b ≡ true → a ≡ b
+one_id a b h =
+    let both = if_true (bytes_eq a.driver b.driver) _ h in
+    let driver : a.driver ≡ b.driver = (bytes_eq-Decides a.driver b.driver).0 both.0 in
+    let id : a.id ≡ b.id = (bytes_eq-Decides a.id b.id).0 both.1 in
+    λ i. record { driver = driver i; id = id i }
+
+find_about : (id : DataId) (told : Bool) (reply : Reply) → is_some (found_over id told reply) ≡ true → (told ≡ true) × (is_about (about_data matters.Over id) (found_topic reply) ≡ true)
+find_about id true (replies.Found (Volume v)) h = (refl, itself (about_data matters.Over id) (about_data matters.Over (data_id_of v.source)) (ap (about_data matters.Over) (one_id (data_id_of v.source) id (some_true _ v h))))
+find_about id told reply h = absurd (true≢false (sym h))
+
+pub finds_heard : (id : DataId) → Hears (about_data matters.Over id) (finds id)
+finds_heard id e h = let both = find_about id e.told e.reply h in by_found (about_data matters.Over id) e both.0 both.1

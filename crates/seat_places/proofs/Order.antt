@@ -27,7 +27,8 @@ matter_at (suc (suc zero)) = matters.Read
 matter_at (suc (suc (suc zero))) = matters.Naming
 matter_at (suc (suc (suc (suc zero)))) = matters.Finished
 matter_at (suc (suc (suc (suc (suc zero))))) = matters.Mounted
-matter_at n = matters.Rows
+matter_at (suc (suc (suc (suc (suc (suc zero)))))) = matters.Rows
+matter_at n = matters.Over
 
 matter_back : (m : Matter) → matter_at (matter_index m) ≡ m
 matter_back matters.Taken = refl
@@ -37,6 +38,7 @@ matter_back matters.Naming = refl
 matter_back matters.Finished = refl
 matter_back matters.Mounted = refl
 matter_back matters.Rows = refl
+matter_back matters.Over = refl
 
 matters_alike : (a b : Matter) → matter_index a ≡ matter_index b → a ≡ b
 matters_alike a b e = sym (matter_back a) ∙ ap matter_at e ∙ matter_back b

@@ -9,7 +9,7 @@ use Rattle.call_types.specs.declared.entry.Entry.{Entry}
 use Rattle.seat_places.specs.declared.topics.Topic.{Topic}
 use Rattle.seat_places.specs.declared.lasts.Last.{Last}
 use Rattle.seat_places.specs.Topics.{asked_topic, found_topic, if_told, is_about, last_of, read_topic, topic_cmp}
-use Rattle.seat_places.specs.Rows.{AreLastsOf, last_row, place_in, place_of, put_last, topic_of}
+use Rattle.seat_places.specs.Rows.{AreLastsOf, Puts, last_row, place_in, place_of, put_last, topic_of}
 use Rattle.seat_places.proofs.Order.{equal_topics, topic_cmp_total}
 
 pub place_put : (t u : Topic) (place : ℕ) (rows : List Last) → place_in t (put_last u place rows) ≡ (if is_eq (topic_cmp u t) then Some place else place_in t rows)
@@ -29,9 +29,6 @@ merged false true true p o = refl
 merged false true false p o = refl
 merged false false true p o = refl
 merged false false false p o = refl
-
-abbrev pub Puts : Option Topic → ℕ → List Last → List Last → Type 0
-Puts topic place was is = (t : Topic) → place_in t is ≡ (if is_about t topic then Some place else place_in t was)
 
 heard : (told : Bool) (r : Option Topic) (t : Topic) → told ≡ true → is_about t r ≡ is_about t (if_told told r)
 heard told r t h = ap (λ b. is_about t (if_told b r)) (sym h)

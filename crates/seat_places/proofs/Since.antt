@@ -1,11 +1,12 @@
 -- An entry at a place, and what is known of those after it.
-use Rattle.std.proofs.Common.{◌≡◌, ℕ, zero, suc, ◌<◌, List, [], ◌∷◌, ◌++◌, length, get_or, reverse, Bool, true, false, true≢false, Option, Some, None, inl, inr, refl, sym, ◌∙◌, ap, arith, subst, if◌then◌else◌}
+use Rattle.std.proofs.Common.{◌≡◌, ℕ, zero, suc, ◌<◌, ◌≤◌, List, [], ◌∷◌, ◌++◌, length, get_or, reverse, Bool, true, false, true≢false, Option, Some, None, inl, inr, refl, sym, ◌∙◌, ap, arith, subst, if◌then◌else◌}
 use Rattle.std.specs.Prelude.{◌⊎◌}
 use Rattle.std.proofs.lemmas.List.{reverse-append}
 use Rattle.call_types.specs.declared.entry.Entry.{Entry}
 use Rattle.seat_places.specs.declared.topics.Topic.{Topic}
 use Rattle.seat_places.specs.Topics.{last_of, speaks}
-use Rattle.seat_places.specs.Places.{Here, IsNever, Later, Since, StandsAt}
+use Rattle.binder_model.specs.Told.{SomeOf}
+use Rattle.seat_places.specs.Places.{Here, IsNever, IsQuietBehind, IsUpto, Later, Since, StandsAt}
 
 pub stands_below : (mine : List Entry) (place : ℕ) (entry : Entry) → StandsAt mine place entry → place < length mine
 stands_below [] place entry h = absurd h
@@ -30,6 +31,12 @@ pub read_stands : (xs : List Entry) (i : ℕ) (d : Entry) → i < length xs → 
 read_stands [] i d h = absurd (omega (arith, h))
 read_stands (x ∷ xs) zero d h = subst (λ ys. StandsAt ys 0 x) (sym (reverse-append (x ∷ []) xs)) (before_all (reverse xs) x)
 read_stands (x ∷ xs) (suc i) d h = subst (λ ys. StandsAt ys (suc i) (get_or xs i d)) (sym (reverse-append (x ∷ []) xs)) (one_more (reverse xs) x i (get_or xs i d) (read_stands xs i d (omega (arith, h))))
+
+-- of what stands at a place something holds
+pub stands_some : (P : Entry → Type 0) (mine : List Entry) (place : ℕ) (entry : Entry) → StandsAt mine place entry → P entry → SomeOf P mine
+stands_some P [] place entry h p = absurd h
+stands_some P (e ∷ mine) place entry (inl h) p = inl (subst P (sym h.1) p)
+stands_some P (e ∷ mine) place entry (inr h) p = inr (stands_some P mine place entry h p)
 
 pub since_below : (q : Entry → Bool) (mine : List Entry) (place : ℕ) (entry : Entry) → Since q mine place entry → place < length mine
 since_below q mine place entry (Here {mine = older} e at) = omega (arith, at)
@@ -82,3 +89,16 @@ last_never t q hears (e ∷ mine) is = by (speaks t e) refl is (last_never t q h
     by : (b : Bool) → speaks t e ≡ b → (if b then Some (length mine) else last_of t mine) ≡ None → (last_of t mine ≡ None → IsNever q mine) → (q e ≡ false) × IsNever q mine
     by true said none rest = absurd (true≢false (ap is_there none))
     by false said none rest = (is_quiet t q hears e said, rest none)
+
+-- the entries up to a place are not behind it
+quiet_upto : (q : Entry → Bool) (place : ℕ) (mine : List Entry) → length mine ≤ suc place → IsQuietBehind q place mine
+quiet_upto q place [] h = tt
+quiet_upto q place (e ∷ mine) h = ((λ after. absurd (omega (arith, h, after))), quiet_upto q place mine (omega (arith, h)))
+
+pub last_behind : (t : Topic) (q : Entry → Bool) → Hears t q → (place : ℕ) (mine : List Entry) → IsUpto place (last_of t mine) → IsQuietBehind q place mine
+last_behind t q hears place [] upto = tt
+last_behind t q hears place (e ∷ mine) upto = by (speaks t e) refl upto (last_behind t q hears place mine)
+  where
+    by : (b : Bool) → speaks t e ≡ b → IsUpto place (if b then Some (length mine) else last_of t mine) → (IsUpto place (last_of t mine) → IsQuietBehind q place mine) → (place < length mine → q e ≡ false) × IsQuietBehind q place mine
+    by true said last rest = ((λ after. absurd (omega (arith, last, after))), quiet_upto q place mine (omega (arith, last)))
+    by false said last rest = ((λ after. is_quiet t q hears e said), rest last)

@@ -1,10 +1,11 @@
 -- What the places of last entries show of an agent's rows.
-use Rattle.std.proofs.Common.{◌∙◌, ◌≡◌, ℕ, suc, ◌<◌, ◌≤◌, List, [], ◌∷◌, ◌++◌, length, true, false, true≢false, Option, Some, None, inl, inr, refl, sym, ap, arith, subst}
+use Rattle.std.proofs.Common.{◌∙◌, ◌≡◌, ℕ, suc, ◌<◌, ◌≤◌, List, [], ◌∷◌, ◌++◌, length, Bool, true, false, true≢false, Option, Some, None, inl, inr, refl, sym, ap, arith, subst, if◌then◌else◌}
 use Rattle.std.specs.Prelude.{is_some}
 use Rattle.std.proofs.lemmas.List.{append_assoc}
 use Rattle.kube_types.specs.declared.uid.Uid.{Uid}
 use Rattle.kube_types.specs.declared.key.Key.{Key}
 use Rattle.kube_types.specs.declared.objects.Claim.{Claim as ClaimData}
+use Rattle.kube_types.specs.declared.objects.DataId.{DataId}
 use Rattle.kube_types.specs.declared.objects.Volume.{Volume as VolumeData}
 use Rattle.kube_types.specs.declared.objects.Pod.{Pod as PodData}
 use Rattle.kube_types.specs.declared.objects.Object.{Object}
@@ -12,12 +13,12 @@ use Rattle.kube_types.specs.declared.objects.Object.TheVariants.{Claim, Pod, Vol
 use Rattle.call_types.specs.declared.entry.Entry.{Entry}
 use Rattle.call_types.specs.declared.reply.Reply.{Reply}
 use Rattle.call_types.specs.declared.reply.Reply.TheVariants as replies
-use Rattle.binder_model.specs.Told.{SomeOf, TellsObject, IsPodWith, first_some, objects_in}
+use Rattle.binder_model.specs.Told.{SomeOf, TellsObject, IsPodWith, first_some, found_over, last_found, objects_in}
 use Rattle.kube_types.specs.Bindings.{carries, is_completed, is_deleting, is_protected_claim}
 use Rattle.binder_model.specs.BindWrites.{is_claim_bound}
 use Rattle.binder_model.specs.ObjectKeys.{claim_key, volume_key}
-use Rattle.binder_model.specs.AgentLicence.{IsReadReady, IsReadyPod, ListedPods, WasShownReady, epoch_in, last_epoch, last_get, never_finished, since_epoch, since_get}
-use Rattle.seat_places.specs.Places.{Above, Done, Here, IsNever, IsPodList, Later, More, Since, StandsAt, TellsAt, finishes, gets, takes}
+use Rattle.binder_model.specs.AgentLicence.{IsReadReady, IsReadyPod, ListedPods, WasShownReady, epoch_in, last_epoch, last_get, never_finished, since_epoch, since_get, was_told_unmounted}
+use Rattle.seat_places.specs.Places.{Above, Done, Here, IsNever, IsPodList, IsQuietBehind, Later, More, Since, StandsAt, TellsAt, finds, finishes, gets, mounts, takes, tells_unmounted}
 use Rattle.seat_places.proofs.Since.{since_below, stands_below}
 
 -- the last epoch
@@ -30,11 +31,35 @@ epoch_since node epoch mine place entry (Later {mine = older} e quiet since) is 
     by None h rest = rest
     by (Some n) h rest = absurd (true≢false h)
 
+-- the last volume that a read found over the data
+
+pub found_since : (id : DataId) (v : VolumeData) (mine : List Entry) (place : ℕ) (entry : Entry) → Since (finds id) mine place entry → found_over id entry.told entry.reply ≡ Some v → last_found id mine ≡ Some v
+found_since id v mine place entry (Here {mine = older} e at) is = rw is refl
+found_since id v mine place entry (Later {mine = older} e quiet since) is = by (found_over id e.told e.reply) quiet (found_since id v older place entry since is)
+  where
+    by : (o : Option VolumeData) → is_some o ≡ false → last_found id older ≡ Some v → first_some o (last_found id older) ≡ Some v
+    by None h rest = rest
+    by (Some u) h rest = absurd (true≢false h)
+
 -- never asked to finish the pod
 
 pub never_is : (pod : Uid) (mine : List Entry) → IsNever (finishes pod) mine → never_finished pod mine ≡ true
 never_is pod [] h = refl
 never_is pod (e ∷ mine) h = rw h.0 (never_is pod mine h.1)
+
+-- the mounts were told without the pod, and no call after that was to mount it
+
+pub unmounted_since : (node : List ℕ) (epoch : ℕ) (pod : Uid) (mine : List Entry) (taken place : ℕ) (entry rows : Entry) → Since (takes node) mine taken entry → StandsAt mine place rows → taken < place → IsQuietBehind (mounts pod) place mine → tells_unmounted node epoch pod rows ≡ true → was_told_unmounted node epoch pod (since_epoch node mine) ≡ true
+unmounted_since node epoch pod mine taken place entry rows (Here {mine = older} e at) (inl h) after quiet is = let there = h.0 in absurd (omega (arith, at, there, after))
+unmounted_since node epoch pod mine taken place entry rows (Here {mine = older} e at) (inr h) after quiet is = let below = stands_below older place rows h in absurd (omega (arith, at, below, after))
+unmounted_since node epoch pod mine taken place entry rows (Later {mine = older} e passed since) (inl h) after quiet is = rw passed (rw (subst (λ (x : Entry). tells_unmounted node epoch pod x ≡ true) (sym h.1) is) refl)
+unmounted_since node epoch pod mine taken place entry rows (Later {mine = older} e passed since) (inr h) after quiet is =
+    rw passed (go (tells_unmounted node epoch pod e) (mounts pod e) _ (quiet.0 (stands_below older place rows h)) (unmounted_since node epoch pod older taken place entry rows since h after quiet.1 is))
+  where
+    go : (told mounted rest : Bool) → mounted ≡ false → rest ≡ true → (if told then true else (if mounted then false else rest)) ≡ true
+    go true mounted rest quiet h = refl
+    go false true rest quiet h = absurd (true≢false quiet)
+    go false false rest quiet h = h
 
 -- the entries behind the one at a place
 

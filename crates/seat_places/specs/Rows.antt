@@ -1,10 +1,10 @@
 -- For proofs alone: rows of topics, each with the place of the last entry on it.
-use Rattle.std.specs.Prelude.{◌≡◌, ℕ, List, Option, option_map}
+use Rattle.std.specs.Prelude.{◌≡◌, ℕ, List, Option, Some, option_map, if◌then◌else◌}
 use Rattle.plain_data.specs.Rows.{IsAt, IsGap, IsRising, find, put}
 use Rattle.call_types.specs.declared.entry.Entry.{Entry}
 use Rattle.seat_places.specs.declared.topics.Topic.{Topic}
 use Rattle.seat_places.specs.declared.lasts.Last.{Last}
-use Rattle.seat_places.specs.Topics.{last_of, topic_cmp}
+use Rattle.seat_places.specs.Topics.{is_about, last_of, topic_cmp}
 
 abbrev pub topic_of : Last → Topic
 topic_of r = r.topic
@@ -33,3 +33,7 @@ put_last t place rows = put topic_cmp topic_of (last_row t place) rows
 -- the rows tell the place of the last entry on each topic
 abbrev pub AreLastsOf : List Last → List Entry → Type 0
 AreLastsOf rows mine = (t : Topic) → place_in t rows ≡ last_of t mine
+
+-- the rows of the topic, where there is one, tell the place, and the other rows stay
+abbrev pub Puts : Option Topic → ℕ → List Last → List Last → Type 0
+Puts topic place was is = (t : Topic) → place_in t is ≡ (if is_about t topic then Some place else place_in t was)

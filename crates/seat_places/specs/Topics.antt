@@ -6,8 +6,11 @@ use Rattle.kube_types.specs.declared.uid.Uid.{Uid}
 use Rattle.kube_types.specs.declared.key.Key.{Key}
 use Rattle.kube_types.specs.declared.parts.Kind.{Kind}
 use Rattle.kube_types.specs.declared.parts.Kind.TheVariants as kinds
-use Rattle.kube_types.specs.declared.objects.Object.TheVariants.{Claim}
+use Rattle.kube_types.specs.declared.objects.DataId.{DataId}
+use Rattle.kube_types.specs.declared.objects.Object.{Object}
+use Rattle.kube_types.specs.declared.objects.Object.TheVariants.{Claim, Volume}
 use Rattle.kube_types.specs.Keys.{key_cmp}
+use Rattle.kube_types.specs.Sources.{data_id_of}
 use Rattle.call_types.specs.declared.entry.Entry.{Entry}
 use Rattle.call_types.specs.declared.request.Request.{Request}
 use Rattle.call_types.specs.declared.request.Request.TheVariants as requests
@@ -27,6 +30,7 @@ matter_index matters.Naming = 3
 matter_index matters.Finished = 4
 matter_index matters.Mounted = 5
 matter_index matters.Rows = 6
+matter_index matters.Over = 7
 
 -- by matter, then object, then pod
 abbrev pub topic_cmp : Topic → Topic → Ordering
@@ -46,6 +50,10 @@ about_pod matter uid = record { matter = matter; key = record { kind = kinds.Pod
 -- of the node, or of the volume
 abbrev pub about_name : Matter → List ℕ → Topic
 about_name matter name = about_object matter kinds.Node [] name
+
+-- of the data of a volume
+abbrev pub about_data : Matter → DataId → Topic
+about_data matter id = about_object matter kinds.PersistentVolume id.driver id.id
 
 -- of nothing more
 abbrev pub about_all : Matter → Topic
@@ -82,9 +90,15 @@ asked_topic (requests.FinishPod key uid node epoch) = Some (about_pod matters.Fi
 asked_topic (requests.Mount node epoch pod claims) = Some (about_pod matters.Mounted pod)
 asked_topic request = None
 
+-- what an object that was read speaks of
+abbrev pub object_topic : Object → Option Topic
+object_topic (Claim c) = Some (about_name matters.Naming c.volume_name)
+object_topic (Volume v) = Some (about_data matters.Over (data_id_of v.source))
+object_topic o = None
+
 -- what an answer that was told speaks of
 abbrev pub found_topic : Reply → Option Topic
-found_topic (replies.Found (Claim c)) = Some (about_name matters.Naming c.volume_name)
+found_topic (replies.Found o) = object_topic o
 found_topic reply = None
 
 abbrev pub is_about : Topic → Option Topic → Bool

@@ -1,16 +1,19 @@
 //! The place of the last entry on each topic.
 
-ghost use Rattle.std.specs.Prelude.{◌≡◌, [], ◌∷◌, List, IfErr, IfOk, OnOk, length, option_map, if◌then◌else◌, Some};
+ghost use Rattle.std.specs.Prelude.{◌≡◌, [], ◌∷◌, List, IfErr, IfOk, OnOk, length, option_map, Some};
 ghost use Rattle.std.specs.List.Sorted.{IsSearchInRange};
 ghost use Rattle.call_types.specs.declared.entry.Entry.{Entry};
-ghost use Rattle.seat_places.specs.declared.topics.Topic.{Topic};
-ghost use Rattle.seat_places.specs.Topics.{is_about, last_of, topic_by};
-ghost use Rattle.seat_places.specs.Rows.{AreLasts, AreLastsOf, IsLastAt, IsLastGap, last_row, place_in, put_last};
+ghost use Rattle.seat_places.specs.Topics.{found_topic, last_of, object_topic, topic_by};
+ghost use Rattle.seat_places.specs.Rows.{AreLasts, AreLastsOf, IsLastAt, IsLastGap, Puts, last_row, place_in, put_last};
 
-use crate::topics::{About, Topic, asked_topic, found_topic, matter_index, read_topic};
+use crate::topics::{About, Matter, Topic, asked_topic, matter_index, read_topic};
 use call_types::entry::Entry;
+use call_types::reply::Reply;
 use kube_types::copies::OutOfMemory;
+use kube_types::data::data_id;
 use kube_types::key::{Key, kind_index};
+use kube_types::objects::Object;
+use kube_types::parts::Kind;
 use kube_types::rows::{Ranked, place_of};
 use kube_types::text::Text;
 use std::alloc::Global;
@@ -111,7 +114,21 @@ fn put_at(
     }
 }
 
-/// Puts the place into the row of the topic, where there is one.
+/// The same, by what is told then.
+fn put_about(
+    alloc: Global,
+    rows: &mut Vec<Last>,
+    about: &About<'_>,
+    place: usize,
+) -> Result<(), OutOfMemory>
+    requires { AreLasts rows.old.items }
+    ensures ok { OnOk result (Puts (Some (topic_by about.now)) place rows.old.items rows.new.items) }
+    ensures rising { AreLasts rows.new.items }
+{
+    put_at(alloc, rows, about, place)
+}
+
+/// The same, where there is a topic.
 fn put_some(
     alloc: Global,
     rows: &mut Vec<Last>,
@@ -119,12 +136,54 @@ fn put_some(
     place: usize,
 ) -> Result<(), OutOfMemory>
     requires { AreLasts rows.old.items }
-    ensures ok { OnOk result ((t : Topic) → place_in t rows.new.items ≡ (if is_about t (option_map topic_by about.entry) then Some place else place_in t rows.old.items)) }
+    ensures ok { OnOk result (Puts (option_map topic_by about.entry) place rows.old.items rows.new.items) }
     ensures rising { AreLasts rows.new.items }
 {
     match about {
         None => Ok(()),
-        Some(about) => put_at(alloc, rows, &about, place),
+        Some(about) => put_about(alloc, rows, &about, place),
+    }
+}
+
+/// Puts the place into the row of the topic of which an object that was read speaks.
+fn put_object(
+    alloc: Global,
+    rows: &mut Vec<Last>,
+    object: &Object,
+    place: usize,
+) -> Result<(), OutOfMemory>
+    requires { AreLasts rows.old.items }
+    ensures ok { OnOk result (Puts (object_topic object.now) place rows.old.items rows.new.items) }
+    ensures rising { AreLasts rows.new.items }
+{
+    match object {
+        Object::Claim(claim) => {
+            let name = claim.volume_name.as_str();
+            let about = About::object(Matter::Naming, Kind::Node, "", name);
+            put_about(alloc, rows, &about, place)
+        }
+        Object::Volume(volume) => {
+            let id = data_id(alloc, &volume.source)?;
+            put_about(alloc, rows, &About::data(Matter::Over, &id), place)
+        }
+        _ => Ok(()),
+    }
+}
+
+/// Puts the place into the row of the topic of which an answer speaks.
+fn put_found(
+    alloc: Global,
+    rows: &mut Vec<Last>,
+    reply: &Reply,
+    place: usize,
+) -> Result<(), OutOfMemory>
+    requires { AreLasts rows.old.items }
+    ensures ok { OnOk result (Puts (found_topic reply.now) place rows.old.items rows.new.items) }
+    ensures rising { AreLasts rows.new.items }
+{
+    match reply {
+        Reply::Found(object) => put_object(alloc, rows, object, place),
+        _ => Ok(()),
     }
 }
 
@@ -144,7 +203,7 @@ fn learn(
         return Ok(());
     }
     put_some(alloc, rows, read_topic(&entry.request, &entry.reply), place)?;
-    put_some(alloc, rows, found_topic(&entry.reply), place)
+    put_found(alloc, rows, &entry.reply, place)
 }
 
 /// The place of the last entry on each topic.

@@ -1,12 +1,12 @@
 //! What an entry speaks of, where only the last such entry counts.
 
 ghost use Rattle.std.specs.Prelude.{◌≡◌, option_map};
-ghost use Rattle.seat_places.specs.Topics.{about_object, about_pod, asked_topic, found_topic, listed_topic, matter_index, read_topic, rows_topic, taken_topic, topic_by};
+ghost use Rattle.seat_places.specs.Topics.{about_data, about_object, about_pod, asked_topic, listed_topic, matter_index, read_topic, rows_topic, taken_topic, topic_by};
 
 use call_types::reply::Reply;
 use call_types::request::Request;
 use kube_types::key::Key;
-use kube_types::objects::Object;
+use kube_types::objects::DataId;
 use kube_types::parts::Kind;
 use kube_types::text::Text;
 use kube_types::uid::Uid;
@@ -28,6 +28,8 @@ pub enum Matter {
     Mounted,
     /// The mounts of a node were told.
     Rows,
+    /// A volume over the data was read.
+    Over,
 }
 
 /// A topic: the matter, and the object or the pod.
@@ -71,6 +73,7 @@ pub fn matter_index(matter: Matter) -> u8
         Matter::Finished => 4,
         Matter::Mounted => 5,
         Matter::Rows => 6,
+        Matter::Over => 7,
     }
 }
 
@@ -86,6 +89,18 @@ impl<'a> About<'a> {
             name,
             uid: Uid(0),
         }
+    }
+
+    /// The topic of the data of a volume.
+    pub fn data(matter: Matter, id: &'a DataId) -> About<'a>
+        ensures { topic_by result ≡ about_data matter id.now }
+    {
+        About::object(
+            matter,
+            Kind::PersistentVolume,
+            id.driver.as_str(),
+            id.id.as_str(),
+        )
     }
 
     /// The topic of a pod.
@@ -181,21 +196,6 @@ pub fn read_topic<'a>(request: &'a Request, reply: &Reply) -> Option<About<'a>>
             epoch: _,
             pod: _,
         } => rows_topic(node, reply),
-        _ => None,
-    }
-}
-
-/// What the answer speaks of.
-pub fn found_topic<'a>(reply: &'a Reply) -> Option<About<'a>>
-    ensures { option_map topic_by result ≡ found_topic reply.now }
-{
-    match reply {
-        Reply::Found(Object::Claim(claim)) => Some(About::object(
-            Matter::Naming,
-            Kind::Node,
-            "",
-            claim.volume_name.as_str(),
-        )),
         _ => None,
     }
 }

@@ -2,7 +2,8 @@ use Rattle.std.proofs.Common.{◌≡◌, ℕ, List, Option, subst}
 use Rattle.std.proofs.lemmas.Result.{on_ok_weaker}
 use Rattle.seat_places.specs.declared.topics.Topic.{Topic}
 use Rattle.seat_places.specs.declared.lasts.Last.{Last}
-use Rattle.seat_places.proofs.Putting.{Puts, lost_lasts, told_lasts}
+use Rattle.seat_places.specs.Rows.{Puts}
+use Rattle.seat_places.proofs.Putting.{lost_lasts, told_lasts}
 use Rattle.seat_places.proofs.lasts.learn.Goals as goal
 
 puts_as : (a b : Option Topic) (place : ℕ) (was is : List Last) → a ≡ b → Puts a place was is → Puts b place was is
@@ -13,9 +14,9 @@ returns-then-not-entry-clause-ok c = λ mine at all.
     lost_lasts c.args.entry.now mine c.args.place c.args.rows.now.items c.put_some.new.rows.items c.if-not-entry.true at (puts_as _ _ c.args.place c.args.rows.now.items c.put_some.new.rows.items c.asked_topic.ensures c.in_ok-put_some.ensures.ok) all
 
 pub returns-clause-ok : goal.returns-clause-ok
-returns-clause-ok c = on_ok_weaker c.put_some-3.result
-    (λ third mine at all. told_lasts c.args.entry.now mine c.args.place c.args.rows.now.items c.put_some.new.rows.items c.put_some-2.new.rows.items c.put_some-3.new.rows.items c.if-not-entry.false at
+returns-clause-ok c = on_ok_weaker c.put_found.result
+    (λ third mine at all. told_lasts c.args.entry.now mine c.args.place c.args.rows.now.items c.put_some.new.rows.items c.put_some-2.new.rows.items c.put_found.new.rows.items c.if-not-entry.false at
     (puts_as _ _ c.args.place c.args.rows.now.items c.put_some.new.rows.items c.asked_topic.ensures c.in_ok-put_some.ensures.ok)
     (puts_as _ _ c.args.place c.put_some.new.rows.items c.put_some-2.new.rows.items c.read_topic.ensures c.in_ok-put_some-2.ensures.ok)
-    (puts_as _ _ c.args.place c.put_some-2.new.rows.items c.put_some-3.new.rows.items c.found_topic.ensures third) all)
-    c.put_some-3.ensures.ok
+    third all)
+    c.put_found.ensures.ok

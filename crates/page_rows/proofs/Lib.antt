@@ -1,0 +1,2 @@
+pub mod Absence
+pub mod Rows

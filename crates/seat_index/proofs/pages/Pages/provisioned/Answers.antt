@@ -1,0 +1,5 @@
+use Rattle.seat_index.specs.Steps.Parts.{Begins}
+use Rattle.seat_index.proofs.pages.Pages.provisioned.Goals as goal
+
+pub returns-in-None : goal.returns-in-None
+returns-in-None c = λ mine all. Begins
