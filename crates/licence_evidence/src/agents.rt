@@ -1,22 +1,25 @@
-//! Where the places of last entries show that an agent may make a call.
+//! Where the places of last entries show that an agent or ops may make a call.
 
 ghost use Rattle.std.specs.Prelude.{◌≡◌, [], ◌∷◌, List, IsTrue, OnOk, length, reverse};
 ghost use Rattle.call_types.specs.declared.entry.Entry.{Entry};
-ghost use Rattle.call_types.specs.declared.request.SeatKind.TheVariants as seats;
-ghost use Rattle.binder_model.specs.Licence.{AgentMay, Licensed};
+ghost use Rattle.binder_model.specs.Licence.{AgentMay, Licensed, OpsMay, RowAllows};
 ghost use Rattle.seat_index.specs.Steps.Indexed.{IsIndexOf};
 ghost use Rattle.agent_evidence.specs.Steps.Indexed.{IsAgentIndexOf};
 ghost use Rattle.licence_evidence.specs.Kept.{AreAgentsOf};
 
 use agent_evidence::agent::{is_current, may_mount, may_unmount};
+use agent_evidence::finish::may_finish;
 use agent_evidence::index::AgentIndex;
+use agent_evidence::reads::may_get;
 use call_types::entry::Entry;
 use call_types::request::{Request, SeatKind};
-use kube_types::copies::OutOfMemory;
+use kube_types::copies::{OutOfMemory, Plain};
+use kube_types::text::Text;
+use ops_evidence::reclaim::{last_found, may_erase};
 use seat_index::index::Index;
 use std::alloc::Global;
 
-/// The index of an agent. Where it is not known, the entries themselves are read.
+/// The index by places. Where it is not known, the entries themselves are read.
 #[derive(Debug)]
 pub struct Agents {
     pub index: AgentIndex,
@@ -91,21 +94,47 @@ fn agent_may(agents: &AgentIndex, index: &Index, entries: &[Entry], request: &Re
             )
         }
         Request::Unmount { node, epoch, pod } => may_unmount(agents, entries, node, *epoch, *pod),
+        Request::FinishPod {
+            key,
+            uid,
+            node,
+            epoch,
+        } => may_finish(agents, entries, key, *uid, node, *epoch),
+        Request::Get { key } => may_get(agents, &index.pages, entries, key),
         _ => false,
     }
 }
 
-fn is_agent(kind: SeatKind) -> bool
-    ensures { IsTrue result → kind ≡ seats.Agent }
+fn ops_may(agents: &AgentIndex, entries: &[Entry], request: &Request) -> bool
+    requires { IsAgentIndexOf agents.now (reverse entries.now) }
+    ensures { IsTrue result → OpsMay (reverse entries.now) request.now }
+{
+    match request {
+        Request::Erase { id } => may_erase(&agents.lasts, entries, id),
+        _ => false,
+    }
+}
+
+fn row_may(
+    agents: &AgentIndex,
+    index: &Index,
+    entries: &[Entry],
+    kind: SeatKind,
+    request: &Request,
+) -> bool
+    requires agents { IsAgentIndexOf agents.now (reverse entries.now) }
+    requires index { IsIndexOf index.now (reverse entries.now) }
+    ensures { IsTrue result → RowAllows kind (reverse entries.now) request.now }
 {
     match kind {
-        SeatKind::Agent => true,
+        SeatKind::Agent => agent_may(agents, index, entries, request),
+        SeatKind::Ops => ops_may(agents, entries, request),
         _ => false,
     }
 }
 
-/// Whether the places show that a seat of this kind, which is an agent, may make the request.
-pub(crate) fn agent_shown(
+/// Whether the places show that a seat of this kind may make the request.
+pub(crate) fn is_placed(
     agents: &Agents,
     index: &Index,
     entries: &[Entry],
@@ -122,13 +151,30 @@ pub(crate) fn agent_shown(
     match index.kind {
         None => false,
         Some(own) => {
-            if !is_agent(kind) {
+            if !own.same(&kind) {
                 return false;
             }
-            if !is_agent(own) {
-                return false;
-            }
-            agent_may(&agents.index, index, entries, request)
+            row_may(&agents.index, index, entries, kind, request)
         }
+    }
+}
+
+/// The name of the volume over the data that the request erases, as far as it was read.
+pub(crate) fn erased_over<'a>(
+    agents: &Agents,
+    entries: &'a [Entry],
+    request: &Request,
+) -> Option<&'a Text>
+    requires { AreAgentsOf agents.now (reverse entries.now) }
+{
+    if !agents.known {
+        return None;
+    }
+    match request {
+        Request::Erase { id } => match last_found(&agents.index.lasts, entries, id) {
+            None => None,
+            Some(volume) => Some(&volume.meta.name),
+        },
+        _ => None,
     }
 }

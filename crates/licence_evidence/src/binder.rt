@@ -1,115 +1,25 @@
 //! Where the pages show that the binder may write.
 
-ghost use Rattle.std.specs.Prelude.{◌≡◌, List, IsTrue, Some, reverse};
-ghost use Rattle.kube_types.specs.Keys.{meta_of};
+ghost use Rattle.std.specs.Prelude.{List, IsTrue, reverse};
 ghost use Rattle.kube_types.specs.declared.objects.Object.TheVariants as objects;
 ghost use Rattle.call_types.specs.declared.entry.Entry.{Entry};
 ghost use Rattle.call_types.specs.declared.request.NewStatus.TheVariants as statuses;
 ghost use Rattle.call_types.specs.declared.request.Request.TheVariants as requests;
-ghost use Rattle.binder_model.specs.At.{IsWrittenAt};
 ghost use Rattle.binder_model.specs.Licence.{AtClaim, AtClaimKey, AtVolume, AtVolumeKey, BinderMay};
 ghost use Rattle.binder_model.specs.BinderLicence.{MayBind, MayComplete, MayFree, MayLose, MayRelease, MayShow, MayTake, MayUnbind};
-ghost use Rattle.binder_model.specs.Told.{ToldClaim, ToldVolume};
 ghost use Rattle.seat_index.specs.Steps.Parts.{ArePages, IsPart};
 
 use call_types::entry::Entry;
 use call_types::request::NewStatus;
-use kube_types::key::{Key, meta_of};
+use kube_types::key::Key;
 use kube_types::objects::{Amount, Claim, Object, Version, Volume};
 use kube_types::parts::{ClaimPhase, Kind, Modes, VolumePhase};
-use kube_types::text::Text;
 use licence_rows::binder::{Bind, Complete, Free, Lose, Release, Show, Take, Unbind};
 use licence_rows::parts::ref_uid;
-use licence_tests::rows::{ClaimTest, VolumeTest, told_claim_at, told_volume_at};
-use licence_tests::told::{ObjectTest, find_told};
+use page_rows::at::{
+    claim_at, shows_claim, shows_claim_key, shows_volume, shows_volume_key, volume_at,
+};
 use seat_index::pages::Pages;
-
-// at a told object of a page
-
-/// The object has this version.
-#[derive(Drop)]
-struct AtVersion {
-    given: Option<Version>,
-}
-
-impl ObjectTest for AtVersion {
-    ghost allows = { λ t o. t.given ≡ Some (meta_of o).version };
-
-    fn test(&self, object: &Object) -> bool {
-        match self.given {
-            None => false,
-            Some(given) => given == meta_of(object).version,
-        }
-    }
-}
-
-/// A volume of the version on a page, by which the pages are chosen that its row needs. Whatever it
-/// answers, the row decides.
-fn volume_at<'a>(page: &'a [Entry], given: Option<Version>) -> Option<&'a Volume> {
-    match find_told(&AtVersion { given }, page) {
-        Some(Object::Volume(volume)) => Some(volume),
-        _ => None,
-    }
-}
-
-/// A claim of the version on a page, likewise.
-fn claim_at<'a>(page: &'a [Entry], given: Option<Version>) -> Option<&'a Claim> {
-    match find_told(&AtVersion { given }, page) {
-        Some(Object::Claim(claim)) => Some(claim),
-        _ => None,
-    }
-}
-
-/// Whether the page shows a volume at which the write is made, of which the condition holds.
-pub(crate) fn shows_volume<T: VolumeTest>(
-    row: &T,
-    page: &[Entry],
-    given: Option<Version>,
-    namespace: &Text,
-    name: &Text,
-) -> bool
-    ensures { (mine : List Entry) → IsPart (reverse page.now) mine → IsTrue result → ToldVolume (λ o. IsWrittenAt given namespace.now name.now o.meta × T.allows row.now o) mine }
-{
-    told_volume_at(row, page, given, namespace, name)
-}
-
-/// Whether the page shows a claim at which the write is made, of which the condition holds.
-pub(crate) fn shows_claim<T: ClaimTest>(
-    row: &T,
-    page: &[Entry],
-    given: Option<Version>,
-    namespace: &Text,
-    name: &Text,
-) -> bool
-    ensures { (mine : List Entry) → IsPart (reverse page.now) mine → IsTrue result → ToldClaim (λ o. IsWrittenAt given namespace.now name.now o.meta × T.allows row.now o) mine }
-{
-    told_claim_at(row, page, given, namespace, name)
-}
-
-/// The same for a write of a volume's status.
-fn shows_volume_key<T: VolumeTest>(
-    row: &T,
-    page: &[Entry],
-    key: &Key,
-    given: Option<Version>,
-) -> bool
-    ensures { (mine : List Entry) → IsPart (reverse page.now) mine → IsTrue result → AtVolumeKey mine key.now given (T.allows row.now) }
-{
-    match key.kind {
-        Kind::PersistentVolume => shows_volume(row, page, given, &key.namespace, &key.name),
-        _ => false,
-    }
-}
-
-/// The same for a write of a claim's status.
-fn shows_claim_key<T: ClaimTest>(row: &T, page: &[Entry], key: &Key, given: Option<Version>) -> bool
-    ensures { (mine : List Entry) → IsPart (reverse page.now) mine → IsTrue result → AtClaimKey mine key.now given (T.allows row.now) }
-{
-    match key.kind {
-        Kind::PersistentVolumeClaim => shows_claim(row, page, given, &key.namespace, &key.name),
-        _ => false,
-    }
-}
 
 // volumes
 

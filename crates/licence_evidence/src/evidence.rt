@@ -6,7 +6,7 @@ ghost use Rattle.binder_model.specs.Licence.{IsRefusedBy, Licensed};
 ghost use Rattle.seat_index.specs.Steps.Indexed.{IsIndexOf};
 ghost use Rattle.licence_evidence.specs.Kept.{AreAgentsOf};
 
-use crate::agents::{Agents, agent_shown};
+use crate::agents::{Agents, erased_over, is_placed};
 use crate::shown::is_shown;
 use call_types::entry::Entry;
 use call_types::request::{Request, SeatKind};
@@ -75,16 +75,18 @@ fn take(
     agents: &mut Agents,
     entry: &Entry,
 ) -> Result<(), OutOfMemory>
+    requires { AreAgentsOf agents.old (reverse entries.old) }
     ensures ok { OnOk result (reverse entries.new ≡ entry.now ∷ reverse entries.old) }
     ensures err { OnErr result (entries.new ≡ entries.old) }
     ensures index { OnOk result (IsIndexOf index.old (reverse entries.old) → IsIndexOf index.new (entry.now ∷ reverse entries.old)) }
-    ensures agents { OnOk result (AreAgentsOf agents.old (reverse entries.old) → AreAgentsOf agents.new (entry.now ∷ reverse entries.old)) }
+    ensures agents { OnOk result (AreAgentsOf agents.new (entry.now ∷ reverse entries.old)) }
 {
     let kept = entry.copy(alloc)?;
     let noted = entries.as_slice();
     let first = is_first(noted);
     let place = next_place(noted);
-    index.learn(alloc, entry, first)?;
+    let over = erased_over(agents, noted, &entry.request);
+    index.learn(alloc, entry, first, over)?;
     agents.learn(alloc, entry, place)?;
     entries.push(kept)
 }
@@ -125,11 +127,11 @@ impl Evidence {
         }
     }
 
-    /// Whether the places show that an agent's request is licensed.
-    fn shows_agent(&self, kind: SeatKind, request: &Request) -> bool
+    /// Whether the places show that the request is licensed.
+    fn places(&self, kind: SeatKind, request: &Request) -> bool
         ensures { IsTrue result → Licensed kind self.now request.now }
     {
-        agent_shown(
+        is_placed(
             &self.agents,
             &self.index,
             self.entries.as_slice(),
@@ -145,7 +147,7 @@ impl Evidence {
         if is_shown(&self.index, kind, request) {
             return true;
         }
-        self.shows_agent(kind, request)
+        self.places(kind, request)
     }
 
     /// Ok exactly where a seat of this kind may make the request after the entries that were noted; else

@@ -7,10 +7,10 @@ ghost use Rattle.call_types.specs.declared.request.Request.TheVariants as reques
 ghost use Rattle.binder_model.specs.Licence.{AtClaim, AtVolume, ClaimGuard, ClaimProtectMay, VolumeGuard, VolumeProtectMay};
 ghost use Rattle.seat_index.specs.Steps.Parts.{ArePages};
 
-use crate::binder::{shows_claim, shows_volume};
 use kube_types::objects::{Claim, Object, Version, Volume};
 use kube_types::parts::Kind;
 use licence_rows::guards::{GuardedClaim, GuardedVolume};
+use page_rows::at::{shows_claim, shows_volume};
 use seat_index::pages::Pages;
 
 fn guards_volume(pages: &Pages, new: &Volume, given: Option<Version>) -> bool

@@ -10,7 +10,9 @@ mod agents;
 mod binder;
 pub mod evidence;
 mod guards;
+mod ops;
 mod reading;
+mod scheduler;
 mod shown;
 
 pub use evidence::Evidence;

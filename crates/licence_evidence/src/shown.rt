@@ -1,21 +1,18 @@
 //! Which row judges a request, and whether the index shows that it allows it.
 
 ghost use Rattle.std.specs.Prelude.{List, IsTrue};
-ghost use Rattle.kube_types.specs.declared.objects.Object.TheVariants as objects;
 ghost use Rattle.call_types.specs.declared.entry.Entry.{Entry};
-ghost use Rattle.call_types.specs.declared.request.Request.TheVariants as requests;
-ghost use Rattle.binder_model.specs.Licence.{AgentMay, BinderMay, ClaimProtectMay, Licensed, OpsMay, RowAllows, SchedulerMay, VolumeProtectMay};
+ghost use Rattle.binder_model.specs.Licence.{AgentMay, BinderMay, ClaimProtectMay, Licensed, RowAllows, SchedulerMay, VolumeProtectMay};
 ghost use Rattle.seat_index.specs.Steps.Indexed.{IsIndexOf};
-ghost use Rattle.seat_index.specs.Steps.Parts.{ArePages};
 
-use crate::binder::{binder_status, binder_update, takes};
+use crate::binder::{binder_status, binder_update};
 use crate::guards::{claim_protect_update, volume_protect_update};
+use crate::ops::ops;
 use crate::reading::reads;
+use crate::scheduler::{may_assign, scheduler_update};
 use call_types::request::{Request, SeatKind};
 use kube_types::copies::Plain;
-use kube_types::objects::{Object, Version};
 use seat_index::index::Index;
-use seat_index::pages::Pages;
 
 fn binder(index: &Index, request: &Request) -> bool
     ensures { (mine : List Entry) → IsIndexOf index.now mine → IsTrue result → BinderMay mine request.now }
@@ -31,33 +28,13 @@ fn binder(index: &Index, request: &Request) -> bool
     }
 }
 
-fn scheduler_update(pages: &Pages, object: &Object, given: Option<Version>) -> bool
-    ensures { (mine : List Entry) → ArePages pages.now mine → IsTrue result → SchedulerMay mine (requests.Update object.now given) }
-{
-    match object {
-        Object::Volume(new) => takes(pages, new, given),
-        _ => false,
-    }
-}
-
 fn scheduler(index: &Index, request: &Request) -> bool
     ensures { (mine : List Entry) → IsIndexOf index.now mine → IsTrue result → SchedulerMay mine request.now }
 {
     match request {
-        Request::Update { object, version } => scheduler_update(&index.pages, object, *version),
-        Request::BindPod { .. } => false,
+        Request::Update { object, version } => scheduler_update(index, object, *version),
+        Request::BindPod { key, uid, node } => may_assign(index, key, *uid, node),
         _ => reads(index, SeatKind::Scheduler, request),
-    }
-}
-
-fn ops(index: &Index, request: &Request) -> bool
-    ensures { (mine : List Entry) → IsIndexOf index.now mine → IsTrue result → OpsMay mine request.now }
-{
-    match request {
-        Request::List { .. } => reads(index, SeatKind::Ops, request),
-        Request::Watch { .. } => reads(index, SeatKind::Ops, request),
-        Request::Get { .. } => reads(index, SeatKind::Ops, request),
-        _ => false,
     }
 }
 

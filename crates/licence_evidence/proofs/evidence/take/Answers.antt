@@ -15,4 +15,4 @@ returns-clause-index c =
 pub returns-clause-agents : goal.returns-clause-agents
 returns-clause-agents c =
     let place = rw c.as_slice-noted.ensures at c.next_place-place.ensures in
-    on_ok_weaker c.push.result (λ put agents. c.in_ok-learn-2.ensures _ place agents) c.push.ensures.ok
+    on_ok_weaker c.push.result (λ put. c.in_ok-learn-2.ensures _ place c.requires) c.push.ensures.ok
