@@ -1,0 +1,9 @@
+pub mod Dues
+pub mod EraseAllowed
+pub mod EraseBegun
+pub mod EraseMoves
+pub mod Listings
+pub mod ProvisionAllowed
+pub mod ProvisionBegun
+pub mod ProvisionMoves
+pub mod Tellings
