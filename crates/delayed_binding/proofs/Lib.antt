@@ -1,0 +1,9 @@
+pub mod Allowed
+pub mod Bests
+pub mod Dues
+pub mod Known
+pub mod Rounds
+pub mod Scanning
+pub mod Sharing
+pub mod Unique
+pub mod Written

@@ -1,0 +1,121 @@
+//! What the scheduler chooses for a pod that no node runs.
+
+ghost use Rattle.std.specs.Prelude.{◌≡◌, IfOk, map};
+ghost use Rattle.std.specs.Option.{option_copied};
+ghost use Rattle.delayed_binding.specs.Choices.{IsChoice, IsChoiceAt, IsCompleted, IsSearching, stage_with};
+
+use crate::claims::{are_completed, are_under_way, claims_of, is_one_served_elsewhere, lacks_claim};
+use crate::nodes::first_admitted;
+use crate::shares::{first_in_turn, others_in};
+use kube_types::copies::{OutOfMemory, Plain};
+use kube_types::key::Key;
+use kube_types::lookup::Lookup;
+use kube_types::objects::{Claim, Pod};
+use kube_types::text::Text;
+use plain_data::items::Items;
+use std::alloc::Global;
+
+/// What is done for a pod.
+#[derive(Debug)]
+pub enum Choice {
+    /// The pod is bound to this node.
+    Assign(Text),
+    /// Volumes are taken for claims, each by the keys of claim and volume, and the node is selected for
+    /// the claims that are to be provisioned.
+    Prepare {
+        node: Text,
+        binds: Items<(Key, Key)>,
+        provisions: Items<Key>,
+    },
+    /// Its claims are being served.
+    Wait,
+    /// No node can run it.
+    NoNode,
+}
+
+impl Drop for Choice {
+    fn drop(self) {
+        match self {
+            Choice::Assign(node) => drop(node),
+            Choice::Prepare {
+                node,
+                binds,
+                provisions,
+            } => {
+                drop(node);
+                drop(binds);
+                drop(provisions);
+            }
+            Choice::Wait | Choice::NoNode => {}
+        }
+    }
+}
+
+/// What is chosen for the pod, where `last` is the node that was refused last for one of its claims: the
+/// search for a node begins after it.
+pub fn choose<L: Lookup>(
+    alloc: Global,
+    lookup: &L,
+    pod: &Pod,
+    last: Option<&Text>,
+) -> Result<Choice, OutOfMemory>
+    ensures { IfOk result (λ choice. IsChoice (L.rows lookup.now) pod.now (option_copied last.entry) choice) }
+{
+    if lacks_claim(lookup, pod) {
+        return Ok(Choice::NoNode);
+    }
+    let claims = claims_of(alloc, lookup, pod)?;
+    chosen_with(alloc, lookup, &claims, last)
+}
+
+/// What is chosen where no claim of the pod is absent or deleting.
+fn chosen_with<L: Lookup>(
+    alloc: Global,
+    lookup: &L,
+    claims: &[&Claim],
+    last: Option<&Text>,
+) -> Result<Choice, OutOfMemory>
+    ensures { IfOk result (λ choice. IsChoiceAt (stage_with (L.rows lookup.now) (map (λ c. c.now) claims.now)) (L.rows lookup.now) (map (λ c. c.now) claims.now) (option_copied last.entry) choice) }
+{
+    if are_completed(claims) {
+        assigned(alloc, lookup, claims)
+    } else if is_one_served_elsewhere(lookup, claims) || are_under_way(lookup, claims) {
+        Ok(Choice::Wait)
+    } else {
+        prepared(alloc, lookup, claims, last)
+    }
+}
+
+/// The first node that the volumes of all claims admit.
+fn assigned<L: Lookup>(
+    alloc: Global,
+    lookup: &L,
+    claims: &[&Claim],
+) -> Result<Choice, OutOfMemory>
+    ensures { IfOk result (λ choice. IsChoiceAt IsCompleted (L.rows lookup.now) (map (λ c. c.now) claims.now) None choice) }
+{
+    match first_admitted(lookup, claims) {
+        None => Ok(Choice::NoNode),
+        Some(node) => Ok(Choice::Assign(node.meta.name.copy(alloc)?)),
+    }
+}
+
+/// What is prepared on the first node in the round that serves all claims: those past the node that was
+/// refused last come first, and then the others.
+fn prepared<L: Lookup>(
+    alloc: Global,
+    lookup: &L,
+    claims: &[&Claim],
+    last: Option<&Text>,
+) -> Result<Choice, OutOfMemory>
+    ensures { IfOk result (λ choice. IsChoiceAt IsSearching (L.rows lookup.now) (map (λ c. c.now) claims.now) (option_copied last.entry) choice) }
+{
+    let others = others_in(alloc, lookup, claims)?;
+    if let Some(choice) = first_in_turn(alloc, lookup, claims, &others, last, true)? {
+        return Ok(choice);
+    }
+    match first_in_turn(alloc, lookup, claims, &others, last, false)? {
+        Some(choice) => Ok(choice),
+        None => Ok(Choice::NoNode),
+    }
+}
