@@ -1,0 +1,3 @@
+pub mod Samples
+pub mod Lines
+pub mod Texts
