@@ -21,7 +21,7 @@ use Rattle.object_print.specs.Metadata.{uid_data}
 use Rattle.object_print.specs.Parts.{modes_data}
 use Rattle.object_print.specs.Objects.{object_data}
 use Rattle.object_text.specs.declared.errors.Member.TheVariants as members
-use Rattle.object_text.specs.MemberReaders.{pairs_in}
+use Rattle.object_text.specs.MemberReaders.{pairs_in, pairs_or_none}
 use Rattle.object_text.specs.PartReaders.{amount_from}
 use Rattle.object_laws.specs.Given.{IsGiven, IsAmount, IsUid}
 use Rattle.object_laws.proofs.Back.{object_back}
@@ -92,7 +92,10 @@ modes_again m k look h = rw h (ap taken (modes_items m))
 
 labels_back : (ps : List Pair) → ArePairs ps → taken (pairs_in members.Labels (pairs_data ps)) ≡ Some ps
 labels_back [] is = refl
-labels_back (p ∷ ps) is = ap taken (pairs_back members.Labels (Some (object_of ((codes "labels", Some (pairs_data (p ∷ ps))) ∷ []))) (p ∷ ps) is (get-put_all (codes "labels") ((codes "labels", Some (pairs_data (p ∷ ps))) ∷ []) no_members))
+labels_back (p ∷ ps) is =
+    let place : MemberList = (codes "labels", Some (pairs_data (p ∷ ps))) ∷ [] in
+    let stands = get-put_all (codes "labels") place no_members in
+    ap taken (sym (ap (pairs_or_none members.Labels) stands) ∙ pairs_back members.Labels (Some (object_of place)) (p ∷ ps) is stands)
 
 pub some_labels_back : (o : Option (List Pair)) → IfSome o ArePairs → some_labels_from (option_map pairs_data o) ≡ Some o
 some_labels_back None is = refl

@@ -12,8 +12,9 @@ use Rattle.call_types.specs.declared.request.Request.TheVariants as asks
 use Rattle.object_print.specs.Metadata.{uid_data}
 use Rattle.object_laws.specs.Given.{IsUid}
 use Rattle.history_text.specs.Requests.{two_texts, label_data, claim_name_data, ask_word, argument_pairs, request_data}
+use Rattle.history_lines.specs.Answers.{◌>>=◌}
 use Rattle.history_lines.specs.Members.{Look, look_in, some_number_at, key_at, uid_in}
-use Rattle.history_lines.specs.Requests.{two_texts_in, edit_at, status_at, request_at, request_in}
+use Rattle.history_lines.specs.Requests.{two_texts_in, edit_at, edit_request_at, status_at, update_status_at, request_at, request_in}
 use Rattle.history_laws.specs.Given.{IsStatus, IsRequest}
 use Rattle.history_laws.proofs.Members.{shown, looked, next, some_text_back, some_number_back, uid_back, some_uid_back, some_amount_back, object_again, list_back, modes_again, some_labels_back, key_back}
 
@@ -57,6 +58,18 @@ edit_key key (edits.SetPolicy policy) = key_back (asked (asks.Edit key (edits.Se
 edit_key key (edits.SetClaimRef namespace name) = key_back (asked (asks.Edit key (edits.SetClaimRef namespace name))) key refl refl refl
 edit_key key edits.ClearClaimRef = key_back (asked (asks.Edit key edits.ClearClaimRef)) key refl refl refl
 
+edit_asked : (key : Key) (edit : Edit) → request_at (asked (asks.Edit key edit)) ≡ edit_request_at (asked (asks.Edit key edit))
+edit_asked key (edits.AddFinalizer s) = refl
+edit_asked key (edits.DropFinalizer s) = refl
+edit_asked key (edits.DropLabel s) = refl
+edit_asked key (edits.DropAnnotation s) = refl
+edit_asked key (edits.SetLabel k v) = refl
+edit_asked key (edits.SetAnnotation k v) = refl
+edit_asked key (edits.SetVolumeName s) = refl
+edit_asked key (edits.SetPolicy policy) = refl
+edit_asked key (edits.SetClaimRef namespace name) = refl
+edit_asked key edits.ClearClaimRef = refl
+
 -- ---- new statuses
 
 abbrev status_ask : Key → NewStatus → Option ℕ → Look
@@ -75,13 +88,25 @@ status_version : (key : Key) (status : NewStatus) (version : Option ℕ) → som
 status_version key (statuses.Volume phase) version = some_number_back version
 status_version key (statuses.Claim phase modes amount) version = some_number_back version
 
+status_asked : (key : Key) (status : NewStatus) (version : Option ℕ) → request_at (status_ask key status version) ≡ update_status_at (status_ask key status version)
+status_asked key (statuses.Volume phase) version = refl
+status_asked key (statuses.Claim phase modes amount) version = refl
+
 -- ---- requests
 
 request_found : (r : Request) → IsRequest r → request_at (asked r) ≡ Some r
 request_found (asks.Create o) is = next (λ x. Some (asks.Create x)) (object_again o is)
 request_found (asks.Update o version) is = rw (object_again o is.0, some_number_back version) refl
-request_found (asks.UpdateStatus key status version) is = rw (status_key key status version, status_back key status version is.0, status_version key status version) refl
-request_found (asks.Edit key edit) is = rw (edit_key key edit, edit_back key edit) refl
+request_found (asks.UpdateStatus key status version) is =
+    let m : Look = status_ask key status version in
+    status_asked key status version
+    ∙ next (λ k. status_at m >>= λ x. some_number_at (codes "version") m >>= λ v. Some (asks.UpdateStatus k x v)) (status_key key status version)
+    ∙ next (λ x. some_number_at (codes "version") m >>= λ v. Some (asks.UpdateStatus key x v)) (status_back key status version is.0)
+    ∙ next (λ v. Some (asks.UpdateStatus key status v)) (status_version key status version)
+request_found (asks.Edit key edit) is =
+    edit_asked key edit
+    ∙ next (λ k. edit_at (asked (asks.Edit key edit)) >>= λ x. Some (asks.Edit k x)) (edit_key key edit)
+    ∙ next (λ x. Some (asks.Edit key x)) (edit_back key edit)
 request_found (asks.Delete key uid) is = rw (key_back (asked (asks.Delete key uid)) key refl refl refl, some_uid_back uid is) refl
 request_found (asks.Get key) is = rw (key_back (asked (asks.Get key)) key refl refl refl) refl
 request_found (asks.List kind namespace) is = rw (kinds_inverse.back kind, some_text_back namespace) refl

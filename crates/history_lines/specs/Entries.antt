@@ -2,6 +2,9 @@
 -- A choice of this project: the history format.
 use Rattle.std.specs.Prelude.{ℕ, nat_lt, List, [], ◌∷◌, Bool, true, ◌&&◌, if◌then◌else◌, Option, Some, None, codes, bytes_eq}
 use Rattle.serde_json.specs.Data.{Data}
+use Rattle.call_types.specs.declared.request.SeatKind.{SeatKind}
+use Rattle.call_types.specs.declared.request.Request.{Request}
+use Rattle.call_types.specs.declared.reply.Reply.{Reply}
 use Rattle.call_types.specs.declared.entry.Entry.{Entry}
 use Rattle.call_types.specs.declared.setup.Pool.{Pool}
 use Rattle.call_types.specs.declared.setup.Setup.{Setup}
@@ -19,14 +22,20 @@ printed_as line_of line x = if bytes_eq (line_of x) line then Some x else None
 
 -- ---- entries
 
+abbrev pub asked_at : Look → Option Request
+asked_at m = m (codes "ask") >>= λ d. request_in d
+
+abbrev pub seat_kind_at : Look → Option SeatKind
+seat_kind_at m = text_at (codes "kind") m >>= λ s. seat_named s
+
+abbrev pub replied_at : Look → Option Reply
+replied_at m = m (codes "reply") >>= λ d. reply_in d
+
 abbrev pub entry_at : Look → Option Entry
 entry_at m = do
-  asked ← m (codes "ask")
-  request ← request_in asked
-  word ← text_at (codes "kind") m
-  kind ← seat_named word
-  replied ← m (codes "reply")
-  reply ← reply_in replied
+  request ← asked_at m
+  kind ← seat_kind_at m
+  reply ← replied_at m
   seat ← number_at (codes "seat") m
   told ← flag_at (codes "told") m
   Some (record { seat = seat; kind = kind; request = request; reply = reply; told = told })

@@ -5,7 +5,8 @@ ghost use Rattle.json_text.specs.Trees.{tree_data};
 ghost use Rattle.object_text.specs.Reading.{value_of};
 ghost use Rattle.history_text.specs.Entries.{entry_line};
 ghost use Rattle.history_lines.specs.Answers.{Gives, GivesBy, taken};
-ghost use Rattle.history_lines.specs.Entries.{entry_in, printed_as, entry_of};
+ghost use Rattle.history_lines.specs.Entries.{asked_at, seat_kind_at, replied_at, entry_in, printed_as, entry_of};
+ghost use Rattle.history_lines.specs.Members.{look_in};
 
 use crate::errors::Unread;
 use crate::members::{flag_at, found, member_at, number_at, word_at};
@@ -13,6 +14,8 @@ use crate::replies::reply_in;
 use crate::requests::request_in;
 use crate::words::seat_named;
 use call_types::entry::Entry;
+use call_types::reply::Reply;
+use call_types::request::{Request, SeatKind};
 use history_text::entries::print_entry;
 use json_text::tree::Tree;
 use object_text::reading::value_of;
@@ -27,15 +30,33 @@ pub(crate) fn json_of(alloc: Global, line: &[u8]) -> Result<Tree, Unread>
     Ok(value_of(alloc, line)?)
 }
 
+fn asked_at(alloc: Global, value: &Value) -> Result<Request, Unread>
+    ensures { Gives result (asked_at (look_in (view value.now))) }
+{
+    request_in(alloc, member_at(value, "ask")?)
+}
+
+fn seat_kind_at(value: &Value) -> Result<SeatKind, Unread>
+    ensures { Gives result (seat_kind_at (look_in (view value.now))) }
+{
+    let word = word_at(value, "kind")?;
+    found(seat_named(word))
+}
+
+fn replied_at(alloc: Global, value: &Value) -> Result<Reply, Unread>
+    ensures { Gives result (replied_at (look_in (view value.now))) }
+{
+    reply_in(alloc, member_at(value, "reply")?)
+}
+
 /// The entry that a value gives.
 #[tactic(auto, unfolding(crate::specs::Entries::entry_in))]
 pub fn entry_in(alloc: Global, value: &Value) -> Result<Entry, Unread>
     ensures { Gives result (entry_in (view value.now)) }
 {
-    let request = request_in(alloc, member_at(value, "ask")?)?;
-    let word = word_at(value, "kind")?;
-    let kind = found(seat_named(word))?;
-    let reply = reply_in(alloc, member_at(value, "reply")?)?;
+    let request = asked_at(alloc, value)?;
+    let kind = seat_kind_at(value)?;
+    let reply = replied_at(alloc, value)?;
     let seat = number_at(value, "seat")?;
     let told = flag_at(value, "told")?;
     Ok(Entry {

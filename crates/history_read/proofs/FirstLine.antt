@@ -44,3 +44,8 @@ unfolding lines_of
 line_alone text filled h =
     let none : All (λ b. is_feed b ≡ false) text = All-from_get_or (λ b. is_feed b ≡ false) text 0 (λ k less. not_true (is_feed (slice_index text k)) (h k (omega arith) less)) in
     ap lines_in (slice_split_none is_feed text none) ∙ alone text filled ∙ ap (λ rest. text ∷ lines_in (slice_split is_feed rest)) (sym (drop-length text))
+
+pub no_lines : (text : List ℕ) → length text ≡ 0 → lines_of text ≡ []
+unfolding lines_of
+no_lines [] h = refl
+no_lines (b ∷ bs) h = absurd (omega arith)

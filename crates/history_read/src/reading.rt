@@ -62,6 +62,7 @@ fn error_at(line: u64, e: LineError) -> HistoryError
 }
 
 /// The entries of lines up to the line `end`, the first of which is the second of the whole text.
+#[tactic(auto, using(crate::proofs::FirstLine::no_lines))]
 fn entries_of(alloc: Global, text: &[u8]) -> Result<Items<Entry>, HistoryError>
     ensures { HistoryGives result (entries_from 2 (lines_of text.now) []) }
 {
@@ -87,6 +88,7 @@ fn entries_of(alloc: Global, text: &[u8]) -> Result<Items<Entry>, HistoryError>
 }
 
 /// The history of a text. What stands behind its line `end` is not looked at.
+#[tactic(auto, using(crate::proofs::FirstLine::no_lines))]
 pub fn read_history(alloc: Global, text: &[u8]) -> Result<History, HistoryError>
     ensures gives { HistoryGives result (history_of text.now) }
 {
