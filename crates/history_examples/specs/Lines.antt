@@ -12,8 +12,8 @@ use Rattle.history_examples.specs.Samples.{no_setup, no_setup_line, taken, taken
 pub record SetupExamples : Type 0 where
   pub nothing : setup_of no_setup_line ≡ Some no_setup
   pub a_pool_and_faults :
-    setup_of (codes "{\"setup\":{\"faults\":[1,3],\"pools\":[{\"bytes\":5,\"name\":\"p\",\"provisioner\":\"x\"}]}}")
-    ≡ Some (record { pools = record { name = codes "p"; provisioner = codes "x"; bytes = 5; topology = None } ∷ []; faults = 1 ∷ 3 ∷ []; imports = [] })
+      setup_of (codes "{\"setup\":{\"faults\":[1,3],\"pools\":[{\"bytes\":5,\"name\":\"p\",\"provisioner\":\"x\"}]}}")
+      ≡ Some (record { pools = record { name = codes "p"; provisioner = codes "x"; bytes = 5; topology = None } ∷ []; faults = 1 ∷ 3 ∷ []; imports = [] })
   pub faults_that_fall : setup_of (codes "{\"setup\":{\"faults\":[3,1],\"pools\":[]}}") ≡ None
   pub another_order_of_members : setup_of (codes "{\"setup\":{\"pools\":[],\"faults\":[]}}") ≡ None
   pub imports_that_are_empty : setup_of (codes "{\"setup\":{\"faults\":[],\"imports\":[],\"pools\":[]}}") ≡ None
@@ -22,11 +22,11 @@ pub record SetupExamples : Type 0 where
 pub record EntryExamples : Type 0 where
   pub takes_a_node : entry_of taken_line ≡ Some taken
   pub lists :
-    entry_of (codes "{\"ask\":{\"do\":\"list\",\"kind\":\"PersistentVolume\"},\"kind\":\"Binder\",\"reply\":{\"items\":[],\"listed\":0},\"seat\":5,\"told\":true}")
-    ≡ Some (record { seat = 5; kind = seats.Binder; request = asks.List kinds.PersistentVolume None; reply = replies.Listed [] 0; told = true })
+      entry_of (codes "{\"ask\":{\"do\":\"list\",\"kind\":\"PersistentVolume\"},\"kind\":\"Binder\",\"reply\":{\"items\":[],\"listed\":0},\"seat\":5,\"told\":true}")
+      ≡ Some (record { seat = 5; kind = seats.Binder; request = asks.List kinds.PersistentVolume None; reply = replies.Listed [] 0; told = true })
   pub is_refused :
-    entry_of (codes "{\"ask\":{\"do\":\"mounts\",\"epoch\":1,\"node\":\"n\"},\"kind\":\"Agent\",\"reply\":{\"current\":2,\"refused\":\"StaleEpoch\"},\"seat\":5,\"told\":true}")
-    ≡ Some (record { seat = 5; kind = seats.Agent; request = asks.Mounts (codes "n") 1; reply = replies.Refused (refusals.StaleEpoch 2); told = true })
+      entry_of (codes "{\"ask\":{\"do\":\"mounts\",\"epoch\":1,\"node\":\"n\"},\"kind\":\"Agent\",\"reply\":{\"current\":2,\"refused\":\"StaleEpoch\"},\"seat\":5,\"told\":true}")
+      ≡ Some (record { seat = 5; kind = seats.Agent; request = asks.Mounts (codes "n") 1; reply = replies.Refused (refusals.StaleEpoch 2); told = true })
   pub another_order_of_members : entry_of (codes "{\"kind\":\"Agent\",\"ask\":{\"do\":\"take\",\"node\":\"n\"},\"reply\":{\"epoch\":1},\"seat\":9,\"told\":true}") ≡ None
   pub a_member_more : entry_of (codes "{\"ask\":{\"do\":\"take\",\"node\":\"n\"},\"kind\":\"Agent\",\"more\":1,\"reply\":{\"epoch\":1},\"seat\":9,\"told\":true}") ≡ None
   pub no_member_told : entry_of (codes "{\"ask\":{\"do\":\"take\",\"node\":\"n\"},\"kind\":\"Agent\",\"reply\":{\"epoch\":1},\"seat\":9}") ≡ None

@@ -27,7 +27,6 @@ record AreRead (parts : List (List ℕ)) (found all : List Entry) : Type 0 where
   pub grown : all ≡ found ++ entries
   pub text : join_with_byte 10 parts ≡ joined (map entry_line entries) ++ (codes "end" ++ rest)
 
-
 ends_here : (part : List ℕ) (parts : List (List ℕ)) (found all : List Entry) → bytes_eq part (codes "end") ≡ true → all ≡ found
     → (rest : List ℕ) → IsRest rest → join_with_byte 10 (part ∷ parts) ≡ part ++ rest → AreRead (part ∷ parts) found all
 ends_here part parts found all is same rest ends joins = record {
@@ -45,9 +44,9 @@ one_more part next parts found all e is r = record {
   ends = r.ends;
   grown = r.grown ∙ append_assoc found (e ∷ []) r.entries;
   text =
-    ap (λ t. part ++ 10 ∷ t) r.text
-    ∙ ap (λ p. p ++ 10 ∷ (joined (map entry_line r.entries) ++ (codes "end" ++ r.rest))) (sym (entry_printed part e (in_line_gives entry_of part e is)))
-    ∙ sym (append_assoc (entry_line e) (10 ∷ joined (map entry_line r.entries)) (codes "end" ++ r.rest));
+      ap (λ t. part ++ 10 ∷ t) r.text
+      ∙ ap (λ p. p ++ 10 ∷ (joined (map entry_line r.entries) ++ (codes "end" ++ r.rest))) (sym (entry_printed part e (in_line_gives entry_of part e is)))
+      ∙ sym (append_assoc (entry_line e) (10 ∷ joined (map entry_line r.entries)) (codes "end" ++ r.rest));
 }
 
 same_ok : {X : Type 0} (a b : X) → ◌≡◌ {A = Result X BadLine} (Ok a) (Ok b) → b ≡ a
@@ -86,9 +85,9 @@ setup_step line next parts s es is r = record {
   rest = r.rest;
   ends = r.ends;
   text =
-    ap (λ t. line ++ 10 ∷ t) (r.text ∙ ap (λ xs. joined (map entry_line xs) ++ (codes "end" ++ r.rest)) (sym r.grown))
-    ∙ ap (λ p. p ++ 10 ∷ (joined (map entry_line es) ++ (codes "end" ++ r.rest))) (sym (setup_printed line s (in_line_gives setup_of line s is)))
-    ∙ sym (append_assoc (setup_line s) (10 ∷ joined (map entry_line es)) (codes "end" ++ r.rest));
+      ap (λ t. line ++ 10 ∷ t) (r.text ∙ ap (λ xs. joined (map entry_line xs) ++ (codes "end" ++ r.rest)) (sym r.grown))
+      ∙ ap (λ p. p ++ 10 ∷ (joined (map entry_line es) ++ (codes "end" ++ r.rest))) (sym (setup_printed line s (in_line_gives setup_of line s is)))
+      ∙ sym (append_assoc (setup_line s) (10 ∷ joined (map entry_line es)) (codes "end" ++ r.rest));
 }
 
 same_history : (s : Setup) (r : Result (List Entry) BadLine) (h : History) → with_setup s r ≡ Ok h → (es : List Entry) × (r ≡ Ok es) × (record { setup = s; entries = es } ≡ h)
@@ -107,6 +106,7 @@ history_is (line ∷ next ∷ parts) h is = by (in_line setup_of line) refl is
   where
     go : (s : Setup) → in_line setup_of line ≡ Ok s → (es : List Entry) → entries_from 2 (lines_in (next ∷ parts)) [] ≡ Ok es → (k : History) → record { setup = s; entries = es } ≡ k → HasRead (line ∷ next ∷ parts) k
     go s read es entries k same = subst (λ x. HasRead (line ∷ next ∷ parts) x) same (setup_step line next parts s es read (entries_are 2 (next ∷ parts) [] es entries))
+
     by : (r : Result Setup Reason) → in_line setup_of line ≡ r → at_line 1 r (λ s. with_setup s (entries_from 2 (lines_in (next ∷ parts)) [])) ≡ Ok h → HasRead (line ∷ next ∷ parts) h
     by (Ok s) read same = let k = same_history s (entries_from 2 (lines_in (next ∷ parts)) []) h same in go s read k.0 k.1.0 h k.1.1
     by (Err reason) read same = absurd (cc)

@@ -52,11 +52,7 @@ fn edit_by(alloc: Global, word: EditWord, value: &Value) -> Result<Edit, Unread>
 {
     match word {
         EditWord::AddFinalizer => Ok(Edit::AddFinalizer(text_at(alloc, value, "addFinalizer")?)),
-        EditWord::DropFinalizer => Ok(Edit::DropFinalizer(text_at(
-            alloc,
-            value,
-            "dropFinalizer",
-        )?)),
+        EditWord::DropFinalizer => Ok(Edit::DropFinalizer(text_at(alloc, value, "dropFinalizer")?)),
         EditWord::DropLabel => Ok(Edit::DropLabel(text_at(alloc, value, "dropLabel")?)),
         EditWord::DropAnnotation => Ok(Edit::DropAnnotation(text_at(
             alloc,
@@ -71,11 +67,7 @@ fn edit_by(alloc: Global, word: EditWord, value: &Value) -> Result<Edit, Unread>
             let (key, value) = two_texts_at(alloc, value, "setAnnotation", "key", "value")?;
             Ok(Edit::SetAnnotation { key, value })
         }
-        EditWord::SetVolumeName => Ok(Edit::SetVolumeName(text_at(
-            alloc,
-            value,
-            "setVolumeName",
-        )?)),
+        EditWord::SetVolumeName => Ok(Edit::SetVolumeName(text_at(alloc, value, "setVolumeName")?)),
         EditWord::SetPolicy => Ok(Edit::SetPolicy(policy_at(value)?)),
         EditWord::SetClaimRef => {
             let (namespace, name) = two_texts_at(alloc, value, "setClaimRef", "namespace", "name")?;

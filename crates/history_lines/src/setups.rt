@@ -12,7 +12,6 @@ use crate::members::{FromJson, list_at, member_at, number_at, text_at, topology_
 use call_types::setup::{Pool, Setup};
 use history_text::setups::print_setup;
 use kube_types::items::Items;
-
 use serde_json::Value;
 use std::alloc::Global;
 

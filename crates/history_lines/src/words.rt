@@ -330,14 +330,7 @@ pub fn seat_named(word: &str) -> Option<SeatKind>
 pub fn change_named(word: &str) -> Option<Change>
     ensures { result ≡ change_named word.now }
 {
-    value_named(
-        &[
-            Change::Added,
-            Change::Modified,
-            Change::Deleted,
-        ],
-        word,
-    )
+    value_named(&[Change::Added, Change::Modified, Change::Deleted], word)
 }
 
 /// The field that the word names.
