@@ -1,10 +1,10 @@
 -- Lines of generated scripts, beside lines that they are not.
-use Rattle.std.specs.Prelude.{ℕ, ◌≡◌, ◌≢◌, ◌+◌, true, false, None, codes, length}
+use Rattle.std.specs.Prelude.{◌≡◌, ◌≢◌, true, false, None, codes}
 use Rattle.kube_types.specs.declared.objects.Object.TheVariants.{Volume, Claim, Pod}
 use Rattle.call_types.specs.declared.request.Request.TheVariants.{Delete}
 use Rattle.script_text.specs.declared.script.Line.TheVariants.{Call}
 use Rattle.script_gen.specs.Objects.{volume_of, claim_of, claim_key, pod_with}
-use Rattle.script_gen.specs.Generated.{creates, volume_line, claim_line, pod_line, delete_line, generated}
+use Rattle.script_gen.specs.Generated.{creates, volume_line, claim_line, pod_line, delete_line}
 
 pub record LineExamples : Type 0 where
   pub volume : volume_line 1 0 ≡ creates (Volume (volume_of 0 7 false))
@@ -19,7 +19,3 @@ pub record LineExamples : Type 0 where
   pub not_of_many : volume_line 1 0 ≢ creates (Volume (volume_of 0 7 true))
   pub not_slow : claim_line 1 1 ≢ creates (Claim (claim_of (codes "c1") 9 (codes "slow")))
   pub not_the_next : delete_line 1 0 ≢ Call 1 (Delete (claim_key (codes "c39")) None)
-
--- whatever the seed: 712 lines with that of the pool
-abbrev pub CountsLines : Type 0
-CountsLines = (seed : ℕ) → length (generated seed).setup.pools + length (generated seed).lines ≡ 712

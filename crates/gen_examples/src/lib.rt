@@ -4,7 +4,7 @@
 #![tactic(auto)]
 
 ghost use Rattle.gen_examples.specs.Draws.{DrawExamples};
-ghost use Rattle.gen_examples.specs.Lines.{CountsLines, LineExamples};
+ghost use Rattle.gen_examples.specs.Lines.{LineExamples};
 
 /// The first draws of seeds.
 #[tactic(auto, using(crate::proofs::Draws::draw_examples))]
@@ -16,10 +16,4 @@ pub fn draw_examples()
 #[tactic(auto, using(crate::proofs::Lines::line_examples))]
 pub fn line_examples()
     ensures { LineExamples }
-{}
-
-/// How many lines each generated script has.
-#[tactic(auto, using(crate::proofs::Lines::counts_lines))]
-pub fn line_count()
-    ensures { CountsLines }
 {}
