@@ -1,11 +1,12 @@
-//! The world and the binders that stand while the lines are read.
+//! The world and the actors that stand while the lines are read.
 
 ghost use Rattle.std.specs.Prelude.{◌≡◌, [], IfOk};
 ghost use Rattle.binder_model.specs.Imports.{ImportsPass};
+ghost use Rattle.worker_core.specs.Roles.{IsBuiltKind};
 
 use call_types::edit::Edit;
 use call_types::request::{Request, SeatKind};
-use call_types::setup::Setup;
+use call_types::setup::{Pool, Setup};
 use kube_types::items::Items;
 use kube_types::key::Key;
 use kube_types::parts::Kind;
@@ -23,16 +24,17 @@ pub struct Loss {
     pub after: bool,
 }
 
-/// A binder at its seat, with the number of its calls.
+/// An actor at its seat, with the number of its calls.
 #[derive(Drop)]
 pub struct Seat {
     pub number: u64,
+    pub kind: SeatKind,
     pub actor: Actor,
     pub made: u64,
     pub losses: Vec<Loss>,
 }
 
-/// A world, its binders, and how many of its entries were written.
+/// A world, its actors, and how many of its entries were written.
 #[derive(Drop)]
 pub struct Bench {
     pub alloc: Global,
@@ -51,6 +53,30 @@ fn empty_world(alloc: Global) -> Result<World, OutOfMemory> {
     World::new(alloc, &setup, 0)
 }
 
+/// An empty world with one pool, where the call of this number on the back end fails.
+fn pool_world(
+    alloc: Global,
+    provisioner: &str,
+    bytes: u64,
+    fault: u64,
+) -> Result<World, OutOfMemory> {
+    let mut pools = Items::new(alloc);
+    pools.push(Pool {
+        name: Text::new(alloc, "pool")?,
+        provisioner: Text::new(alloc, provisioner)?,
+        bytes,
+        topology: None,
+    })?;
+    let mut faults = Items::new(alloc);
+    faults.push(fault)?;
+    let setup = Setup {
+        pools,
+        faults,
+        imports: Items::new(alloc),
+    };
+    World::new(alloc, &setup, 0)
+}
+
 impl Bench {
     pub fn new(alloc: Global) -> Result<Bench, OutOfMemory> {
         let world = empty_world(alloc)?;
@@ -62,12 +88,29 @@ impl Bench {
         })
     }
 
-    /// An empty world without binders.
+    /// An empty world without actors.
     pub fn clear(&mut self) -> Result<(), OutOfMemory> {
-        self.world = empty_world(self.alloc)?;
+        let world = empty_world(self.alloc)?;
+        self.begin(world);
+        Ok(())
+    }
+
+    /// An empty world without actors, with one pool; the call of this number on the back end fails.
+    pub fn provide(
+        &mut self,
+        provisioner: &str,
+        bytes: u64,
+        fault: u64,
+    ) -> Result<(), OutOfMemory> {
+        let world = pool_world(self.alloc, provisioner, bytes, fault)?;
+        self.begin(world);
+        Ok(())
+    }
+
+    fn begin(&mut self, world: World) {
+        self.world = world;
         self.seats = Vec::new(self.alloc);
         self.written = 0;
-        Ok(())
     }
 
     /// A user's write.
@@ -94,24 +137,34 @@ impl Bench {
         Ok(())
     }
 
-    /// The place of the binder of this seat, which is made where there is none.
+    /// The place of the actor of this seat; a binder is made where there is none.
     pub fn place(&mut self, number: u64) -> Result<usize, OutOfMemory> {
         for (place, seat) in self.seats.iter().enumerate() {
             if seat.number == number {
                 return Ok(place);
             }
         }
+        let place = self.seats.len();
+        self.add(number, SeatKind::Binder)?;
+        Ok(place)
+    }
+
+    /// An actor of this kind at a further seat.
+    pub fn add(&mut self, number: u64, kind: SeatKind) -> Result<(), OutOfMemory>
+        requires { IsBuiltKind kind }
+    {
         let node = Text::new(self.alloc, "")?;
         self.seats.push(Seat {
             number,
-            actor: Actor::new(self.alloc, SeatKind::Binder, &node)?,
+            kind,
+            actor: Actor::new(self.alloc, kind, &node)?,
             made: 0,
             losses: Vec::new(self.alloc),
         })?;
-        Ok(self.seats.len() - 1)
+        Ok(())
     }
 
-    /// Makes so many calls of the binder, or fewer where it is idle. Answers whether it is idle.
+    /// Makes so many calls of the actor, or fewer where it is idle. Answers whether it is idle.
     pub fn turn(&mut self, number: u64, calls: u64) -> Result<bool, OutOfMemory> {
         let place = self.place(number)?;
         let Bench { world, seats, .. } = self;
@@ -132,14 +185,14 @@ impl Seat {
         Ok(false)
     }
 
-    /// Makes one call; false where the binder is idle.
+    /// Makes one call; false where the actor is idle.
     fn step(&mut self, world: &mut World) -> Result<bool, OutOfMemory> {
         let request = match self.actor.next()? {
             Next::Idle => return Ok(false),
             Next::Call(request) => request,
         };
         self.made = self.made.wrapping_add(1);
-        let outcome = made(world, self.number, &request, self.loss())?;
+        let outcome = made(world, self.number, self.kind, &request, self.loss())?;
         self.actor.absorb(&request, outcome)?;
         Ok(true)
     }
@@ -155,18 +208,19 @@ impl Seat {
     }
 }
 
-/// What comes of a binder's call.
+/// What comes of an actor's call.
 fn made(
     world: &mut World,
     seat: u64,
+    kind: SeatKind,
     request: &Request,
     lost: Option<bool>,
 ) -> Result<Outcome, OutOfMemory> {
     match lost {
-        None => Ok(Outcome::Told(world.call(seat, SeatKind::Binder, request, true)?)),
+        None => Ok(Outcome::Told(world.call(seat, kind, request, true)?)),
         Some(false) => Ok(Outcome::Lost),
         Some(true) => {
-            let _reply = world.call(seat, SeatKind::Binder, request, false)?;
+            let _reply = world.call(seat, kind, request, false)?;
             Ok(Outcome::Lost)
         }
     }

@@ -3,13 +3,14 @@
 use crate::bench::{Bench, Loss};
 use call_types::entry::Entry;
 use call_types::reply::{Refusal, Reply};
-use call_types::request::Request;
+use call_types::request::{Request, SeatKind};
 use history_text::asks::ask_word;
 use history_text::entries::print_entry;
-use kube_types::key::{kind_of, meta_of};
+use kube_types::key::{Key, kind_of, meta_of};
 use kube_types::parts::Kind;
 use object_text::reading::read_object;
 use plain_data::copies::OutOfMemory;
+use plain_data::text::Text;
 use std::alloc::Global;
 
 fn split(line: &str) -> (&str, &str) {
@@ -36,15 +37,20 @@ fn create(alloc: Global, bench: &mut Bench, manifest: &str) -> Result<bool, OutO
 fn reply_word(reply: &Reply) -> &'static str {
     match reply {
         Reply::Done(_) => "done",
+        Reply::Left(_) => "left",
         Reply::Found(_) => "found",
         Reply::Listed {
             items: _,
             version: _,
         } => "listed",
         Reply::Events(_) => "events",
+        Reply::Provisioned { id: _, topology: _ } => "given",
+        Reply::Erased { removed: _ } => "erased",
         Reply::Refused(Refusal::Conflict { current: _ }) => "conflict",
         Reply::Refused(Refusal::Gone { oldest: _ }) => "gone",
         Reply::Refused(Refusal::NotFound) => "absent",
+        Reply::Refused(Refusal::Exhausted { free: _ }) => "exhausted",
+        Reply::Refused(Refusal::BackFault { planned: _ }) => "fault",
         _ => "other",
     }
 }
@@ -71,8 +77,16 @@ fn subject(request: &Request) -> (Kind, &str) {
             status: _,
             version: _,
         }
+        | Request::Delete { key, uid: _ }
         | Request::Get { key } => (key.kind, key.name.as_str()),
         Request::List { kind, namespace: _ } | Request::Watch { kind, from: _ } => (*kind, "-"),
+        Request::Provision {
+            name,
+            provisioner: _,
+            bytes: _,
+            labels: _,
+        } => (Kind::PersistentVolume, name.as_str()),
+        Request::Erase { id } => (Kind::PersistentVolume, id.id.as_str()),
         _ => (Kind::Pod, "?"),
     }
 }
@@ -96,7 +110,7 @@ fn whole(alloc: Global, entry: &Entry) -> Result<String, OutOfMemory> {
     }
 }
 
-/// The entries that were made since the last time, each as a line; words are written of the binders alone.
+/// The entries that were made since the last time, each as a line; words are written of the actors alone.
 fn written(alloc: Global, bench: &mut Bench, is_whole: bool) -> Result<String, OutOfMemory> {
     let mut text = String::new(alloc);
     let past = bench.written;
@@ -142,6 +156,29 @@ fn restart(bench: &mut Bench, seat: &str) -> Result<(), OutOfMemory> {
     Ok(())
 }
 
+/// A user's deletion of a claim of the default namespace, or of a volume.
+fn delete(alloc: Global, bench: &mut Bench, of: &str, name: &str) -> Result<(), OutOfMemory> {
+    let (kind, namespace) = match of {
+        "claim" => (Kind::PersistentVolumeClaim, "default"),
+        _ => (Kind::PersistentVolume, ""),
+    };
+    let key = Key {
+        kind,
+        namespace: Text::new(alloc, namespace)?,
+        name: Text::new(alloc, name)?,
+    };
+    bench.write(&Request::Delete { key, uid: None })
+}
+
+fn add(bench: &mut Bench, of: &str, seat: &str) -> Result<(), OutOfMemory> {
+    match of {
+        "ops" => bench.add(number(seat), SeatKind::Ops),
+        "claims" => bench.add(number(seat), SeatKind::ClaimProtect),
+        "volumes" => bench.add(number(seat), SeatKind::VolumeProtect),
+        _ => bench.add(number(seat), SeatKind::Binder),
+    }
+}
+
 fn said(alloc: Global, word: &str) -> Result<String, OutOfMemory> {
     Ok(String::from_str(alloc, word)?)
 }
@@ -150,6 +187,11 @@ fn said(alloc: Global, word: &str) -> Result<String, OutOfMemory> {
 fn of_words(alloc: Global, bench: &mut Bench, words: &[&str]) -> Result<String, OutOfMemory> {
     match words {
         ["new"] => bench.clear()?,
+        ["new", provisioner, bytes, fault] => {
+            bench.provide(provisioner, number(bytes), number(fault))?
+        }
+        ["actor", of, seat] => add(bench, of, seat)?,
+        ["delete", of, name] => delete(alloc, bench, of, name)?,
         ["turn", seat, calls] => {
             if bench.turn(number(seat), number(calls))? {
                 return said(alloc, "idle\n");

@@ -39,9 +39,13 @@ agents = record {
 
 pub schedulers : SchedulerExamples
 schedulers = record {
+  selected_where_the_write_was_done = refl;
   refused_where_it_is_seen_without = refl;
   refused_where_it_is_seen_with_another = refl;
   not_while_it_stands = refl;
+  not_by_a_stale_list = refl;
   not_where_no_node_was_written = refl;
   not_where_the_write_was_lost = refl;
+  not_where_the_answer_was_lost = refl;
+  agent_remembers_none = refl;
 }

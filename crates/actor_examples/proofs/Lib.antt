@@ -1,3 +1,5 @@
 pub mod Computed
 mod NodeAgents
+mod OpsActing
 mod Protected
+mod Scheduling

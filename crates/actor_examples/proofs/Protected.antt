@@ -38,7 +38,7 @@ decisions = record {
   leaving_volume_loses_it = refl;
   leaving_bound_volume_is_left = refl;
   binder_adds_none = λ h. h;
-  kind_that_is_not_built_decides_nothing = λ h. h;
+  user_decides_nothing = λ h. h;
 }
 
 pub moves : ProtectionMoveExamples
@@ -58,4 +58,4 @@ moves = record {
 }
 
 pub built_kinds : BuiltKindExamples
-built_kinds = record { binder = tt; claim_protection = tt; volume_protection = tt; user_is_none = λ h. h; node_agent = tt; scheduler_is_not_yet = λ h. h }
+built_kinds = record { binder = tt; claim_protection = tt; volume_protection = tt; user_is_none = λ h. h; node_agent = tt; provisioner_and_reclaimer = tt; scheduler = tt }

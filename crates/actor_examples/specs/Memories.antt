@@ -11,6 +11,8 @@ use Rattle.call_types.specs.declared.request.SeatKind.TheVariants as seats
 use Rattle.call_types.specs.declared.reply.Refusal.TheVariants as refusals
 use Rattle.call_types.specs.declared.reply.Reply.TheVariants as replies
 use Rattle.model_examples.specs.Samples.{Exchange, c, heard, seat_of, tells_claim, unheard}
+use Rattle.pod_scheduler.specs.declared.tries.Tried.{Tried}
+use Rattle.pod_scheduler.specs.Tries.{no_tries}
 use Rattle.worker_core.specs.declared.role.Role.{Role}
 use Rattle.worker_core.specs.Memories.{Memory, memory_of}
 
@@ -58,9 +60,16 @@ chosen_c = noted 3 ((selected_node, codes "n") ∷ [])
 abbrev pub selects : Exchange
 selects = heard (requests.Update (Claim chosen_c) (Some 2)) (replies.Done (Claim chosen_c))
 
+abbrev pub selected_n : Tried
+selected_n = record { claim = uid_of_serial 2; node = codes "n"; version = 3 }
+
 pub record SchedulerExamples : Type 0 where
-  pub refused_where_it_is_seen_without : (scheduler_knows (tells_claim (noted 4 []) ∷ selects ∷ [])).refused ≡ (record { claim = uid_of_serial 2; node = codes "n" }) ∷ []
-  pub refused_where_it_is_seen_with_another : (scheduler_knows (tells_claim (noted 4 ((selected_node, codes "m") ∷ [])) ∷ selects ∷ [])).refused ≡ (record { claim = uid_of_serial 2; node = codes "n" }) ∷ []
-  pub not_while_it_stands : (scheduler_knows (tells_claim chosen_c ∷ selects ∷ [])).refused ≡ []
-  pub not_where_no_node_was_written : (scheduler_knows (tells_claim (noted 4 []) ∷ [])).refused ≡ []
-  pub not_where_the_write_was_lost : (scheduler_knows (tells_claim (noted 4 []) ∷ unheard selects ∷ [])).refused ≡ []
+  pub selected_where_the_write_was_done : (scheduler_knows (selects ∷ [])).tries ≡ record { selected = selected_n ∷ []; refused = [] }
+  pub refused_where_it_is_seen_without : (scheduler_knows (tells_claim (noted 4 []) ∷ selects ∷ [])).tries ≡ record { selected = []; refused = selected_n ∷ [] }
+  pub refused_where_it_is_seen_with_another : (scheduler_knows (tells_claim (noted 4 ((selected_node, codes "m") ∷ [])) ∷ selects ∷ [])).tries.refused ≡ selected_n ∷ []
+  pub not_while_it_stands : (scheduler_knows (tells_claim chosen_c ∷ selects ∷ [])).tries.refused ≡ []
+  pub not_by_a_stale_list : (scheduler_knows (tells_claim (noted 2 []) ∷ selects ∷ [])).tries.refused ≡ []
+  pub not_where_no_node_was_written : (scheduler_knows (tells_claim (noted 4 []) ∷ [])).tries ≡ no_tries
+  pub not_where_the_write_was_lost : (scheduler_knows (tells_claim (noted 4 []) ∷ unheard selects ∷ [])).tries ≡ no_tries
+  pub not_where_the_answer_was_lost : (scheduler_knows (unheard (tells_claim (noted 4 [])) ∷ selects ∷ [])).tries.refused ≡ []
+  pub agent_remembers_none : (agent_knows (tells_claim (noted 4 []) ∷ selects ∷ [])).tries ≡ no_tries

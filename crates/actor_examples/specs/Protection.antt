@@ -55,7 +55,7 @@ pub record ProtectionDecisionExamples : Type 0 where
   pub leaving_volume_loses_it : Decides seats.VolumeProtect (Volume leaving_a ∷ []) key_a (firsts.Begins (on_volume volumes.Drops leaving_a))
   pub leaving_bound_volume_is_left : Decides seats.VolumeProtect (Volume leaving_bound_a ∷ []) key_a firsts.Drops
   pub binder_adds_none : Decides seats.Binder (Claim bare_c ∷ []) key_c (firsts.Begins (on_claim claims.Adds bare_c)) → ⊥
-  pub kind_that_is_not_built_decides_nothing : Decides seats.Ops (Claim c ∷ []) key_c firsts.Drops → ⊥
+  pub user_decides_nothing : Decides seats.User (Claim c ∷ []) key_c firsts.Drops → ⊥
 
 -- what is under way for a key
 abbrev pub under : Key → Task → Request → Under
@@ -88,11 +88,12 @@ pub record ProtectionMoveExamples : Type 0 where
   pub stale_write_parks : task_parks (on_volume volumes.Drops leaving_a) stale ≡ true
   pub written_does_not : task_parks (on_volume volumes.Drops leaving_a) (replies.Done (Volume loose_a)) ≡ false
 
--- the kinds of actors that are built, and some that are not
+-- the kinds of actors that are built, and the one that is none
 pub record BuiltKindExamples : Type 0 where
   pub binder : IsBuiltKind seats.Binder
   pub claim_protection : IsBuiltKind seats.ClaimProtect
   pub volume_protection : IsBuiltKind seats.VolumeProtect
   pub user_is_none : IsBuiltKind seats.User → ⊥
   pub node_agent : IsBuiltKind seats.Agent
-  pub scheduler_is_not_yet : IsBuiltKind seats.Scheduler → ⊥
+  pub provisioner_and_reclaimer : IsBuiltKind seats.Ops
+  pub scheduler : IsBuiltKind seats.Scheduler

@@ -1,5 +1,6 @@
 //! Computed examples of what an actor stands for: kinds without news, passes, and what agents and schedulers remember; and
-//! of what the protection controllers and the node agents decide and go on with, how an agent starts, and when it is silent.
+//! of what the protection controllers, the node agents, the provisioner and reclaimer and the scheduler decide and go on
+//! with, how an agent starts, and when it is silent.
 //!
 //! Each is a function with nothing to do, whose contract has the examples.
 #![tactic(auto)]
@@ -7,7 +8,9 @@
 ghost use Rattle.actor_examples.specs.Memories.{AgentExamples, SchedulerExamples};
 ghost use Rattle.actor_examples.specs.News.{NewsExamples, PassExamples};
 ghost use Rattle.actor_examples.specs.NodeAgents.{AgentDecisionExamples, AgentMoveExamples, AgentSilenceExamples, AgentStartExamples};
+ghost use Rattle.actor_examples.specs.OpsActors.{OpsDecisionExamples, OpsListExamples, OpsMoveExamples};
 ghost use Rattle.actor_examples.specs.Protection.{BuiltKindExamples, ProtectionDecisionExamples, ProtectionMoveExamples};
+ghost use Rattle.actor_examples.specs.Schedulers.{SchedulerDecisionExamples, SchedulerMoveExamples};
 
 /// What the entries tell of a kind's news.
 pub fn news_examples()
@@ -47,6 +50,31 @@ pub fn agent_silence_examples()
 /// Which nodes a scheduler remembers as refused.
 pub fn scheduler_examples()
     ensures { SchedulerExamples }
+{}
+
+/// What a scheduler decides on a key, by what it remembers.
+pub fn scheduler_decision_examples()
+    ensures { SchedulerDecisionExamples }
+{}
+
+/// What an answer makes of what a scheduler has under way.
+pub fn scheduler_move_examples()
+    ensures { SchedulerMoveExamples }
+{}
+
+/// What the provisioner and reclaimer decides on a key.
+pub fn ops_decision_examples()
+    ensures { OpsDecisionExamples }
+{}
+
+/// What an answer makes of what the provisioner and reclaimer has under way.
+pub fn ops_move_examples()
+    ensures { OpsMoveExamples }
+{}
+
+/// What the provisioner and reclaimer lists before it decides a key.
+pub fn ops_list_examples()
+    ensures { OpsListExamples }
 {}
 
 /// What the protection controllers decide on a key.

@@ -5,6 +5,7 @@ use Rattle.fault_io.specs.Faults.{Rose}
 use Rattle.fault_io.specs.Reading.{IsLeft, IsLongerThan}
 use Rattle.fault_io.specs.Writing.{Appends, WritesFront}
 use Rattle.object_text.specs.Listing.{list_of}
+use Rattle.script_text.specs.Grammar.{script_of}
 use Rattle.binder_console.specs.declared.status.Status.{Status}
 use Rattle.binder_console.specs.declared.status.Status.TheVariants.{Done, Usage, Refused, Unsettled, ReadFault, WriteFault, Memory, AuditNo}
 use Rattle.binder_console.specs.declared.answers.Answer.{Answer}
@@ -14,7 +15,7 @@ use Rattle.binder_console.specs.declared.commands.Task.TheVariants.{Replay, Chec
 use Rattle.binder_console.specs.Checks.{ChecksList, RefusesList}
 use Rattle.binder_console.specs.Commands.{task_of}
 use Rattle.binder_console.specs.Replays.{Replays}
-use Rattle.binder_console.specs.Scripts.{RefusesScript, replayable}
+use Rattle.binder_console.specs.Scripts.{RefusesScript}
 
 -- the exit status
 abbrev pub status_number : Status → ℕ
@@ -66,7 +67,7 @@ Refuses Check input text = RefusesList input text
 
 -- the task is not done of such an input
 abbrev pub IsNoInput : Task → List ℕ → Type 0
-IsNoInput (Replay budget) input = IsErr (replayable input)
+IsNoInput (Replay budget) input = IsErr (script_of input)
 IsNoInput Check input = IsErr (list_of input)
 
 -- the input is refused, with this text: more is left than is read, or the task is not done of it

@@ -15,12 +15,12 @@ use Rattle.history_text.specs.declared.summary.Summary.{Summary}
 use Rattle.history_text.specs.Summaries.{summary_of}
 use Rattle.history_text.specs.Output.{final_lines, history_text, with_lines}
 use Rattle.script_text.specs.declared.script.Script.{Script}
+use Rattle.script_text.specs.Grammar.{script_of}
 use Rattle.script_runs.specs.Diligent.{IsDiligentReplay}
 use Rattle.script_runs.specs.Replays.{IsReplay}
 use Rattle.fitting_law.specs.Enough.{GetEnoughThroughout}
 use Rattle.binder_console.specs.declared.status.Status.{Status}
 use Rattle.binder_console.specs.declared.status.Status.TheVariants.{Done, Unsettled}
-use Rattle.binder_console.specs.Scripts.{replayable}
 
 -- ---- what is written
 
@@ -51,7 +51,7 @@ pub record Replays (budget : Option ℕ) (status : Status) (input text : List �
   pub script : Script
   pub past : List Entry
   pub ending : Drained
-  pub read : replayable input ≡ Ok script
+  pub read : script_of input ≡ Ok script
   pub calls : IsReplay script budget past ending
   pub diligent : IsDiligentReplay script budget past ending
   pub run : Run script.setup past

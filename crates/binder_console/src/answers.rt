@@ -5,10 +5,11 @@ ghost use Rattle.binder_console.specs.Outcomes.{IsAnswer};
 
 use crate::checking::{checked, print_refusal};
 use crate::commands::Task;
-use crate::errors::{CheckError, ReplayError};
+use crate::errors::CheckError;
 use crate::replaying::{print_script_refusal, replayed};
 use plain_data::copies::OutOfMemory;
 use plain_data::text::Bytes;
+use script_text::errors::ScriptError;
 use std::alloc::Global;
 
 /// A text to be written: what the task writes, with nothing due at the end or with the calls spent; or a refusal.
@@ -24,10 +25,8 @@ fn answer_replay(alloc: Global, input: &[u8], budget: Option<u64>) -> Result<Ans
 {
     match replayed(alloc, input, budget) {
         Ok(answer) => Ok(answer),
-        Err(ReplayError::Refused(refusal)) => {
-            Ok(Answer::Refusal(print_script_refusal(alloc, refusal)?))
-        }
-        Err(ReplayError::OutOfMemory) => Err(OutOfMemory),
+        Err(ScriptError::BadLine(bad)) => Ok(Answer::Refusal(print_script_refusal(alloc, bad)?)),
+        Err(ScriptError::OutOfMemory) => Err(OutOfMemory),
     }
 }
 

@@ -98,10 +98,8 @@ module _ (v : VolumeData) (m : Machine) (request : Request) (asks : call_of m �
   only_ : (rs : List Object) → Shows mine rs → (first : First) → IsDecision binder (memory_of binder mine) rs key_a first → BeginsCall first
   only_ rs shows firsts.Drops d = none_some (ap machine_in (is rs shows binder_firsts.Drops d))
   only_ rs shows (firsts.Queues other) d = none_some (ap machine_in (is rs shows (binder_firsts.Queues other) d))
-  only_ rs shows (firsts.Begins (tasks.ClaimProtect op)) d = absurd d
-  only_ rs shows (firsts.Begins (tasks.VolumeProtect op)) d = absurd d
-  only_ rs shows (firsts.Begins (tasks.Agent op)) d = absurd d
   only_ rs shows (firsts.Begins (tasks.Binder n)) d = record { task = tasks.Binder n; request = request; begins = refl; call = ap call_of (one n m (ap machine_in (is rs shows (binder_firsts.Begins n) d))) ∙ asks }
+  only_ rs shows (firsts.Begins _) d = absurd d
 
   showing : Shows mine (rows v)
   showing = record { order = (tt, tt); shown = shown }

@@ -1,3 +1,6 @@
 mod Computed
+mod Counted
 mod Mounting
 mod Protected
+mod Reclaimed
+mod Scheduling

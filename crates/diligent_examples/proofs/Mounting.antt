@@ -1,5 +1,5 @@
 -- The examples of node agents compute.
-use Rattle.std.proofs.Common.{◌≡◌, ◌+◌, ◌≤◌, List, [], ◌∷◌, ◌++◌, Bool, true, false, true≢false, Option, Some, None, inl, inr, refl, sym, ◌∙◌, ap, subst, arith, if◌then◌else◌}
+use Rattle.std.proofs.Common.{◌≡◌, ◌≤◌, List, [], ◌∷◌, Bool, true, false, true≢false, Option, Some, None, inl, inr, refl, sym, ◌∙◌, ap, subst, arith, if◌then◌else◌}
 use Rattle.std.specs.Prelude.{codes}
 use Rattle.kube_types.specs.declared.key.Key.{Key}
 use Rattle.kube_types.specs.declared.parts.Kind.{Kind}
@@ -15,7 +15,7 @@ use Rattle.call_types.specs.declared.request.SeatKind.TheVariants as seats
 use Rattle.call_types.specs.declared.reply.MountRow.{MountRow}
 use Rattle.binder_model.specs.Told.{newest, object_of}
 use Rattle.informer_cache.proofs.Found.{row_at-put}
-use Rattle.model_laws.proofs.Lists.{none_some, one}
+use Rattle.model_laws.proofs.Lists.{none_some}
 use Rattle.model_examples.specs.AgentRows.{elsewhere_pod, mounted, row_of}
 use Rattle.model_examples.specs.Samples.{Exchange, ending_p, entry_of, finds_none, key_c, key_p, node_1, p, seat_of, takes, tells_pod, uid_p, waiting_p}
 use Rattle.node_agent.specs.declared.agent.AgentOp.{AgentOp}
@@ -33,14 +33,15 @@ use Rattle.worker_core.specs.States.{State}
 use Rattle.worker_core.specs.Tasks.{GivesCall, IsAgentFirst, IsDecision, agent_first}
 use Rattle.worker_core.proofs.Begins.{begins}
 use Rattle.worker_core.proofs.KeyMoves.{is_key}
-use Rattle.diligent_law.specs.Diligence.{AreFourWatches, Call, IsAskedFor, IsDiligent, IsDue, IsDueThroughout, IsQuiet, Shows, WasAskedSince, entries, watches, watches_kind}
+use Rattle.diligent_law.specs.Diligence.{AreFourWatches, Call, IsAskedFor, IsDiligent, IsDue, IsQuiet, Shows, WasAskedSince, entries, watches}
 use Rattle.diligent_law.specs.Played.{Begins, Gives, IsPlayed, LostAfter, LostBefore, Told, Wakes}
 use Rattle.diligent_law.specs.Showing.{IsDiligentInOrder, IsDueInOrder}
 use Rattle.diligent_law.proofs.Dues.{asked_no_watch}
-use Rattle.diligent_law.proofs.Following.{due_now, played_is_diligent, same_role, stands_now}
+use Rattle.diligent_law.proofs.Following.{played_is_diligent, same_role, stands_now}
 use Rattle.diligent_law.proofs.Ordered.{rows_in_order}
 use Rattle.diligent_law.proofs.Turned.{calls_fresh}
 use Rattle.diligent_examples.proofs.Computed.{NeverDue, diligent_where_none, listed_object}
+use Rattle.diligent_examples.proofs.Counted.{head_in, read_in_time, tail_in}
 use Rattle.diligent_examples.proofs.Protected.{is_binder, not_due}
 use Rattle.diligent_examples.specs.Agents.{AgentDueExamples, AgentLifeExamples, AgentPlayedExamples, agent, agent_calls, pod_called_for, pod_left, started, watch_of_pods}
 
@@ -148,79 +149,25 @@ due_examples = record {
   not_once_the_node_was_taken_anew = λ due. due.gives.decided;
 }
 
--- four watches are four of the calls
-
-sum_watches : (kind : Kind) (xs ys : List Call) → watches kind (xs ++ ys) ≡ watches kind xs + watches kind ys
-sum_watches kind [] ys = omega arith
-sum_watches kind (None ∷ xs) ys = sum_watches kind xs ys
-sum_watches kind (Some e ∷ xs) ys = by (watches_kind kind e.request) (sum_watches kind xs ys)
-  where
-    by : (b : Bool) → watches kind (xs ++ ys) ≡ watches kind xs + watches kind ys → (if b then watches kind (xs ++ ys) + 1 else watches kind (xs ++ ys)) ≡ (if b then watches kind xs + 1 else watches kind xs) + watches kind ys
-    by true h = omega (arith, h)
-    by false h = h
-
-one_more : (kind : Kind) (e : Entry) (calls : List Call) → watches_kind kind e.request ≡ true → watches kind (Some e ∷ calls) ≡ watches kind calls + 1
-one_more kind e calls is = ap (λ b. if b then watches kind calls + 1 else watches kind calls) is
-
-four_of : (kind : Kind) (first fourth : Entry) (earlier between later calls : List Call) → calls ≡ later ++ (Some fourth ∷ between ++ Some first ∷ earlier) → AreFourWatches kind first fourth between → 4 ≤ watches kind calls
-four_of kind first fourth earlier between later calls e four =
-    let all = ap (watches kind) e ∙ sum_watches kind later (Some fourth ∷ between ++ Some first ∷ earlier) in
-    let last = one_more kind fourth (between ++ Some first ∷ earlier) four.closes in
-    let middle = sum_watches kind between (Some first ∷ earlier) in
-    let opening = one_more kind first earlier four.opens in
-    let many = four.many in
-    omega (arith, all, last, middle, opening, many)
-
 -- the life that reads the claim
 
-abbrev head_in : List Call → Option Call
-head_in [] = None
-head_in (c ∷ calls) = Some c
-
-abbrev tail_in : List Call → List Call
-tail_in [] = []
-tail_in (c ∷ calls) = calls
-
--- the calls before the fourth watch, and those before the read that came before it
-abbrev before_fourth : List Call
-before_fourth = tail_in (agent_calls pod_called_for)
-
+-- the calls before the read that came before the fourth watch
 abbrev before_read : List Call
-before_read = tail_in before_fourth
+before_read = agent_calls (watch_of_pods ∷ finds_none key_c ∷ watch_of_pods ∷ watch_of_pods ∷ finds_none key_c ∷ tells_pod p ∷ started [])
 
-few_before : (kind : Kind) → watches kind before_fourth ≤ 3
+few_before : (kind : Kind) → watches kind (Some (entry_of seats.Agent (finds_none key_c)) ∷ before_read) ≤ 3
 few_before kinds.Pod = omega arith
 few_before kinds.StorageClass = omega arith
 few_before kinds.Node = omega arith
 few_before kinds.PersistentVolume = omega arith
 few_before kinds.PersistentVolumeClaim = omega arith
 
-module _ (key : Key) (first : Entry) (earlier : List Call) where
-  abbrev start : List Call
-  start = Some first ∷ earlier
-
-  -- a key that is due before the read is that of the pod, and the read is a call for it
-  asked_by_read : (e : Entry) (between : List Call) → before_fourth ≡ Some e ∷ between ++ start → IsDueThroughout agent key start between → IsAskedFor agent key (entries (between ++ start)) e.request
-  asked_by_read e between split due =
-      let rest : before_read ≡ between ++ start = ap tail_in split in
-      let read : entry_of seats.Agent (finds_none key_c) ≡ e = one _ e (one _ (Some e) (ap head_in split)) in
-      let here : IsDue agent key (entries before_read) = subst (λ calls. IsDue agent key (entries calls)) (sym rest) (due_now agent key start between due) in
-      let own : key_p ≡ key = due_is_its_key p [] (entries before_read) refl refl (shown_pod p) key here in
-      subst (λ (x : Entry). IsAskedFor agent key (entries (between ++ start)) x.request) read
-      (subst (λ calls. IsAskedFor agent key (entries calls) (requests.Get key_c)) rest
-      (subst (λ k. IsAskedFor agent k (entries before_read) (requests.Get key_c)) own (p_asked (entries before_read) refl refl (shown_pod p))))
-
-  asked_since : (kind : Kind) (fourth : Entry) (between : List Call) → before_fourth ≡ between ++ start → AreFourWatches kind first fourth between → IsDueThroughout agent key start between → WasAskedSince agent key start between
-  asked_since kind fourth [] split four due = let many : 2 ≤ 0 = four.many in absurd (omega (arith, many))
-  asked_since kind fourth (None ∷ between) split four due = absurd four.quiet.1
-  asked_since kind fourth (Some e ∷ between) split four due = inl (asked_by_read e between split due.1)
+-- a key that is due before the read is that of the pod, and the read is a call for it
+reads_its_claim : (key : Key) → IsDue agent key (entries before_read) → IsAskedFor agent key (entries before_read) (requests.Get key_c)
+reads_its_claim key due = subst (λ k. IsAskedFor agent k (entries before_read) (requests.Get key_c)) (due_is_its_key p [] (entries before_read) refl refl (shown_pod p) key due) (p_asked (entries before_read) refl refl (shown_pod p))
 
 reading_is_diligent : IsDiligent agent (agent_calls pod_called_for)
-reading_is_diligent kind first fourth earlier between [] e four key due = asked_since key first earlier kind fourth between (ap tail_in e) four due
-reading_is_diligent kind first fourth earlier between (c ∷ later) e four key due =
-    let four_there = four_of kind first fourth earlier between later before_fourth (ap tail_in e) four in
-    let three = few_before kind in
-    absurd (omega (arith, four_there, three))
+reading_is_diligent = read_in_time agent (entry_of seats.Agent watch_of_pods) (entry_of seats.Agent (finds_none key_c)) before_read few_before reads_its_claim
 
 -- the lives in which nothing is read
 

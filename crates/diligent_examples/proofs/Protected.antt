@@ -39,7 +39,7 @@ use Rattle.diligent_examples.specs.Protection.{ProtectionDueExamples, Protection
 
 -- the rows of what was told
 
-shown_claim : (x : ClaimData) (key : Key) → row_at key (Claim x ∷ []) ≡ object_of (newest (seat_of seats.ClaimProtect (tells_claim x ∷ [])) key)
+pub shown_claim : (x : ClaimData) (key : Key) → row_at key (Claim x ∷ []) ≡ object_of (newest (seat_of seats.ClaimProtect (tells_claim x ∷ [])) key)
 shown_claim x key = by key.kind
   where
     by : (k : Kind) → row_at (record key { kind = k }) (Claim x ∷ []) ≡ object_of (newest (seat_of seats.ClaimProtect (tells_claim x ∷ [])) (record key { kind = k }))

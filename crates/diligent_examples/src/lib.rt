@@ -6,6 +6,8 @@
 ghost use Rattle.diligent_examples.specs.Agents.{AgentDueExamples, AgentLifeExamples, AgentPlayedExamples};
 ghost use Rattle.diligent_examples.specs.Lives.{DueExamples, LifeExamples, PlayedExamples, WatchExamples};
 ghost use Rattle.diligent_examples.specs.Protection.{ProtectionDueExamples, ProtectionLifeExamples};
+ghost use Rattle.diligent_examples.specs.Reclaims.{OpsDueExamples, OpsLifeExamples, OpsPlayedExamples};
+ghost use Rattle.diligent_examples.specs.Schedules.{ScheduleDueExamples, ScheduleLifeExamples, SchedulePlayedExamples};
 
 /// Which calls are four watches without news between.
 pub fn watch_examples()
@@ -50,4 +52,34 @@ pub fn agent_life_examples()
 /// Which calls a node agent can have made.
 pub fn agent_played_examples()
     ensures { AgentPlayedExamples }
+{}
+
+/// Which claims and volumes are due for ops.
+pub fn ops_due_examples()
+    ensures { OpsDueExamples }
+{}
+
+/// Which lives of ops are diligent.
+pub fn ops_life_examples()
+    ensures { OpsLifeExamples }
+{}
+
+/// Which calls ops can have made.
+pub fn ops_played_examples()
+    ensures { OpsPlayedExamples }
+{}
+
+/// Which pods are due for a scheduler.
+pub fn schedule_due_examples()
+    ensures { ScheduleDueExamples }
+{}
+
+/// Which lives of a scheduler are diligent.
+pub fn schedule_life_examples()
+    ensures { ScheduleLifeExamples }
+{}
+
+/// Which calls a scheduler can have made.
+pub fn schedule_played_examples()
+    ensures { SchedulePlayedExamples }
 {}

@@ -61,9 +61,9 @@ module _ (node : List ℕ) (m : Memory) (rows decided : List Object) (key other 
   none_dropped seats.ClaimProtect built d e = rw e refl
   none_dropped seats.VolumeProtect built d e = rw e refl
   none_dropped seats.Agent built d e = agent_none None d e (λ n ms. refl)
+  none_dropped seats.Ops built d e = rw e refl
   none_dropped seats.User built d e = absurd built
-  none_dropped seats.Ops built d e = absurd built
-  none_dropped seats.Scheduler built d e = absurd built
+  none_dropped seats.Scheduler built d e = rw e refl
 
   -- a row is of a kind that the actor follows, or its key is dropped
   followed_or_dropped : (seat : SeatKind) (o : Object) → IsBuiltKind seat → IsFirstOf seat node m decided other first → row_at key rows ≡ Some o → IsIn (kind_of o) (kinds_of seat) ⊎ IsFirstOf seat node m rows key firsts.Drops
@@ -87,9 +87,17 @@ module _ (node : List ℕ) (m : Memory) (rows decided : List Object) (key other 
   followed_or_dropped seats.Agent (Claim c) built d e = inr (agent_none (Some (Claim c)) d e (λ n ms. refl))
   followed_or_dropped seats.Agent (Class x) built d e = inr (agent_none (Some (Class x)) d e (λ n ms. refl))
   followed_or_dropped seats.Agent (Node n) built d e = inr (agent_none (Some (Node n)) d e (λ n ms. refl))
+  followed_or_dropped seats.Ops (Volume v) built d e = inl (inl refl)
+  followed_or_dropped seats.Ops (Claim c) built d e = inl (inr (inl refl))
+  followed_or_dropped seats.Ops (Class x) built d e = inr (rw e refl)
+  followed_or_dropped seats.Ops (Node n) built d e = inr (rw e refl)
+  followed_or_dropped seats.Ops (Pod p) built d e = inr (rw e refl)
   followed_or_dropped seats.User o built d e = absurd built
-  followed_or_dropped seats.Ops o built d e = absurd built
-  followed_or_dropped seats.Scheduler o built d e = absurd built
+  followed_or_dropped seats.Scheduler (Volume v) built d e = inl (inl refl)
+  followed_or_dropped seats.Scheduler (Claim c) built d e = inl (inr (inl refl))
+  followed_or_dropped seats.Scheduler (Class x) built d e = inl (inr (inr (inl refl)))
+  followed_or_dropped seats.Scheduler (Node n) built d e = inl (inr (inr (inr (inl refl))))
+  followed_or_dropped seats.Scheduler (Pod p) built d e = inl (inr (inr (inr (inr (inl refl)))))
 
 -- a key that is due has a row of a kind that the actor follows
 pub record IsCached (seat : SeatKind) (key : Key) (c : AllKnown) : Type 0 where

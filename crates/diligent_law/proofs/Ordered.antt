@@ -155,9 +155,7 @@ module _ (rows : List Object) (order : AreRows rows) (spaceless : HaveNoNamespac
         by firsts.Drops h = none_some (ap machine_in (on binder_firsts.Drops h).is)
         by (firsts.Queues k) h = none_some (ap machine_in (on (binder_firsts.Queues k) h).is)
         by (firsts.Begins (tasks.Binder n)) h = begins_by n (on (binder_firsts.Begins n) h)
-        by (firsts.Begins (tasks.ClaimProtect op)) h = absurd h
-        by (firsts.Begins (tasks.VolumeProtect op)) h = absurd h
-        by (firsts.Begins (tasks.Agent op)) h = absurd h
+        by (firsts.Begins _) h = absurd h
 
 in_order : (role : Role) (key : Key) (mine : List Entry) (rows : List Object) (u : Under) → role.kind ≡ Binder → Shows mine rows → HaveNoNamespace rows → u.key ≡ key → GivesCall role (memory_of role mine) rows u → IsDue role key mine
 in_order role key mine rows u binder shows spaceless own gives = by (row_at key rows) refl
@@ -209,9 +207,9 @@ rows_in_order role key mine built due = by role.kind refl built
     by seats.Binder is b = in_order role key mine due.rows due.under is due.shows (due.spaceless is) due.own due.gives
     by seats.ClaimProtect is b = looked (subst (λ seat. IsLookedUp seat (row_at key due.rows)) (sym is) tt)
     by seats.VolumeProtect is b = looked (subst (λ seat. IsLookedUp seat (row_at key due.rows)) (sym is) tt)
+    by seats.Ops is b = looked (subst (λ seat. IsLookedUp seat (row_at key due.rows)) (sym is) tt)
     by seats.User is b = absurd b
-    by seats.Ops is b = absurd b
-    by seats.Scheduler is b = absurd b
+    by seats.Scheduler is b = looked (subst (λ seat. IsLookedUp seat (row_at key due.rows)) (sym is) tt)
     by seats.Agent is b = looked (subst (λ seat. IsLookedUp seat (row_at key due.rows)) (sym is) tt)
 
 -- lives

@@ -20,10 +20,13 @@ use Rattle.diligent_law.specs.Diligence.{AreFourWatches, Call, IsDue, Shows, Was
 use Rattle.diligent_law.specs.Played.{IsPlayed}
 
 -- the decision on the row is the same on all rows in order that show the same: of a binder each but that on a claim for which
--- a volume is sought, of protection and of an agent each
+-- a volume is sought, since two volumes of one name, in two namespaces, may both be the best; of every other kind each. A
+-- scheduler passes over what stands in a namespace
 abbrev pub IsLookedUp : SeatKind → Option Object → Type 0
 IsLookedUp seats.Binder (Some (Volume v)) = ⊤
 IsLookedUp seats.Binder (Some (Claim c)) = (is_completed c ≡ true) ⊎ (is_empty c.volume_name ≡ false)
+IsLookedUp seats.Ops row = ⊤
+IsLookedUp seats.Scheduler row = ⊤
 IsLookedUp seats.ClaimProtect row = ⊤
 IsLookedUp seats.VolumeProtect row = ⊤
 IsLookedUp seats.Agent row = ⊤

@@ -170,7 +170,7 @@ empty_is [] e = refl
 empty_is (x ∷ xs) e = absurd (true≢false (sym e))
 
 -- the reference to a claim carries it
-reference_carries : (c : ClaimData) → is_some c.meta.uid ≡ true → refers_carrying (Some (ref_to c)) c ≡ true
+pub reference_carries : (c : ClaimData) → is_some c.meta.uid ≡ true → refers_carrying (Some (ref_to c)) c ≡ true
 reference_carries c known = by c.meta.uid refl known
   where
     by : (u : Option Uid) → c.meta.uid ≡ u → is_some u ≡ true → (names_claim (ref_to c) c && uid_carries u c) ≡ true

@@ -37,7 +37,7 @@ placed_same : (b : Bool) (m : Meta) → ((annotated_meta_if b bound_by_controlle
 placed_same true m = (refl, refl)
 placed_same false m = (refl, refl)
 
-reference_gives : (v : VolumeData) (c : ClaimData) (mine : List Entry) → ToldThis v mine → ToldThisClaim c mine → Suits v c → GivesSo mine (write_reference v c)
+pub reference_gives : (v : VolumeData) (c : ClaimData) (mine : List Entry) → ToldThis v mine → ToldThisClaim c mine → Suits v c → GivesSo mine (write_reference v c)
 unfolding taken_for
 reference_gives v c mine volume claim suits = by c.meta.uid
   where

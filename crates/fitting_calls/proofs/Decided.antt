@@ -48,7 +48,7 @@ MachineSuits machine = ⊤
 
 -- tests
 
-fits_is : (v : VolumeData) (c : ClaimData) → fits v c ≡ true → Fits v c
+pub fits_is : (v : VolumeData) (c : ClaimData) → fits v c ≡ true → Fits v c
 fits_is v c e =
     let modes = and_parts (nat_le c.amount.bytes v.amount.bytes && bytes_eq (class_of_volume v) (class_of_claim c) && beq v.block c.block) (covers c.modes v.modes) e in
     let block = and_parts (nat_le c.amount.bytes v.amount.bytes && bytes_eq (class_of_volume v) (class_of_claim c)) (beq v.block c.block) modes.0 in

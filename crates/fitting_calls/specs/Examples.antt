@@ -1,4 +1,4 @@
--- What a binder asks, and what its decision does not ask for, computed. A choice of this project.
+-- What a binder or a scheduler asks, and what a binder's decision does not ask for, computed. A choice of this project.
 use Rattle.std.specs.Prelude.{ℕ, ◌≡◌, false, true, List, [], ◌∷◌, Some, None}
 use Rattle.kube_types.specs.declared.parts.Kind.{Kind}
 use Rattle.kube_types.specs.declared.parts.Kind.TheVariants as kinds
@@ -10,6 +10,7 @@ use Rattle.kube_types.specs.declared.objects.Object.{Object}
 use Rattle.kube_types.specs.declared.objects.Object.TheVariants.{Volume, Claim}
 use Rattle.call_types.specs.declared.request.Request.{Request}
 use Rattle.call_types.specs.declared.request.Request.TheVariants as requests
+use Rattle.call_types.specs.declared.request.SeatKind.{SeatKind}
 use Rattle.call_types.specs.declared.request.SeatKind.TheVariants as seats
 use Rattle.call_types.specs.declared.reply.Reply.TheVariants as replies
 use Rattle.binder_model.specs.BindWrites.{write_reference}
@@ -25,31 +26,41 @@ use Rattle.worker_core.specs.States.{State}
 use Rattle.fitting_law.specs.Examples.{a, c, completed, entry, naming_a, reserved_a}
 use Rattle.fitting_calls.specs.Calls.{IsAsked, IsByActor, AreByActors}
 
--- a binder that was told nothing, and has given the list of volumes
+-- an actor that was told nothing, and has given the list of volumes; and a binder and a scheduler that have
 
 abbrev pub knows_nothing : Kind → Known
 knows_nothing kind = record { rows = record { kind = kind; marks = []; objects = [] }; lists = record { whole = None; spaces = [] }; from = None }
 
-abbrev pub new_binder : State
-new_binder = record {
-  role = record { kind = seats.Binder; node = [] };
+abbrev pub new_actor : SeatKind → ℕ → State
+new_actor kind behind = record {
+  role = record { kind = kind; node = [] };
   caches = record { classes = knows_nothing kinds.StorageClass; nodes = knows_nothing kinds.Node; volumes = knows_nothing kinds.PersistentVolume; claims = knows_nothing kinds.PersistentVolumeClaim; pods = knows_nothing kinds.Pod };
   work = no_work;
-  pass = record { behind = 3; event = true };
+  pass = record { behind = behind; event = true };
   memory = no_memory;
   under = None;
   given = Some (givens.Read kinds.PersistentVolume);
 }
 
+abbrev pub new_binder : State
+new_binder = new_actor seats.Binder 3
+
+abbrev pub new_scheduler : State
+new_scheduler = new_actor seats.Scheduler 5
+
 abbrev pub list_volumes : Request
 list_volumes = requests.List kinds.PersistentVolume None
 
 pub record AskedExamples : Type 0 where
-  pub lists : IsAsked [] list_volumes
-  pub gives_what_was_never_told : IsAsked [] (write_reference a (c 3)) → ⊥
+  pub lists : IsAsked seats.Binder [] list_volumes
+  pub gives_what_was_never_told : IsAsked seats.Binder [] (write_reference a (c 3)) → ⊥
+  pub scheduler_lists : IsAsked seats.Scheduler [] list_volumes
+  pub scheduler_gives_what_was_never_told : IsAsked seats.Scheduler [] (write_reference a (c 3)) → ⊥
   pub lists_by_actor : IsByActor seats.Binder [] list_volumes
-  pub scheduler_gives_what_was_never_told : IsByActor seats.Scheduler [] (write_reference a (c 3)) → ⊥
-  pub history_by_actors : (told : List Object) (version : ℕ) → AreByActors (entry 5 seats.Binder list_volumes (replies.Listed told version) ∷ [])
+  pub scheduler_lists_by_actor : IsByActor seats.Scheduler [] list_volumes
+  pub never_told_by_no_scheduler : IsByActor seats.Scheduler [] (write_reference a (c 3)) → ⊥
+  pub user_may_give : IsByActor seats.User [] (write_reference a (c 3))
+  pub history_by_actors : (told : List Object) (version : ℕ) → AreByActors (entry 6 seats.Scheduler list_volumes (replies.Listed told version) ∷ entry 5 seats.Binder list_volumes (replies.Listed told version) ∷ [])
 
 -- the decision on a claim, where the look-up has this volume and the claim
 abbrev pub decides : VolumeData → ClaimData → ClaimStep

@@ -14,3 +14,5 @@ pub mod erase;
 pub mod laws;
 pub mod provision;
 mod volume;
+
+pub use volume::data_name;

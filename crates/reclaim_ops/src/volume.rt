@@ -18,7 +18,7 @@ use kube_types::uid::Uid;
 use std::alloc::Global;
 
 /// The name of the data of the claim with this UID, and of the volume over them.
-pub(crate) fn data_name(alloc: Global, uid: Uid) -> Result<Text, OutOfMemory>
+pub fn data_name(alloc: Global, uid: Uid) -> Result<Text, OutOfMemory>
     ensures { IfOk result (λ name. name ≡ data_name uid) }
 {
     let mut name = Text::new(alloc, "pvc-")?;

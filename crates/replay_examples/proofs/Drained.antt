@@ -1,5 +1,5 @@
 -- The examples of drains compute.
-use Rattle.std.proofs.Common.{◌≡◌, ◌≤◌, ℕ, ◌+◌, List, [], ◌∷◌, Bool, true, false, true≢false, Option, Some, None, ◌⊎◌, inl, inr, refl, sym, ◌∙◌, ap, subst, append-nil, arith}
+use Rattle.std.proofs.Common.{◌≡◌, ◌≤◌, ℕ, ◌+◌, List, [], ◌∷◌, Bool, true, false, true≢false, Option, Some, ◌⊎◌, inl, inr, refl, sym, ◌∙◌, ap, subst, append-nil, arith}
 use Rattle.std.specs.Prelude.{is_none}
 use Rattle.std.specs.declared.cmp.Ordering.{Ordering}
 use Rattle.std.specs.declared.cmp.Ordering.TheVariants.{Less}
@@ -13,21 +13,19 @@ use Rattle.kube_types.proofs.KeyOrder.{row_at_key}
 use Rattle.call_types.specs.declared.entry.Entry.{Entry}
 use Rattle.binder_model.specs.BindWrites.{next_write, claim_write}
 use Rattle.binder_model.specs.BinderDue.{volume_due, reference_due, referred_due, claim_with, claim_due, named_due, completed_due}
-use Rattle.binder_model.specs.Due.{or_due}
+use Rattle.binder_model.specs.Due.{IsDue, IsFirstDue, IsSettled, or_due}
 use Rattle.binder_model.specs.Imports.{imported_object}
 use Rattle.binder_model.specs.Store.{leaves}
 use Rattle.binder_model.specs.World.{world}
 use Rattle.model_examples.specs.DueActions.{pending_a}
 use Rattle.model_examples.specs.Samples.{key_a}
-use Rattle.model_examples.proofs.DueActions.{pod_due_examples}
 use Rattle.model_examples.proofs.Tellings.{IsIn, differ, found_in, one}
-use Rattle.settle_check.specs.SoFar.{IsBuiltDue, IsFirstBuiltDue, IsSettledSoFar, is_built}
 use Rattle.worker_threads.specs.Longer.{AreToldOf, IsOneOf}
 use Rattle.script_text.specs.declared.script.Script.{Script}
 use Rattle.script_parts.specs.Parts.{drain_seats}
 use Rattle.script_runs.specs.Replays.{IsDrain, NoMoves, Progress, begun}
 use Rattle.replay_examples.specs.Calls.{reads}
-use Rattle.replay_examples.specs.Drains.{CountedExamples, DrainExamples, Drains, SpentExamples, node_script, volume_script}
+use Rattle.replay_examples.specs.Drains.{DrainExamples, Drains, SpentExamples, node_script, volume_script}
 use Rattle.replay_examples.specs.Replays.{empty_script}
 use Rattle.replay_examples.proofs.Replayed.{nothing_due}
 
@@ -36,7 +34,7 @@ use Rattle.replay_examples.proofs.Replayed.{nothing_due}
 abbrev rows : List Object
 rows = Volume pending_a ∷ []
 
-unsettled : IsSettledSoFar volume_script.setup (world volume_script.setup []) → ⊥
+unsettled : IsSettled volume_script.setup (world volume_script.setup []) → ⊥
 unfolding imported_object leaves or_due volume_due reference_due referred_due claim_with claim_due named_due completed_due next_write claim_write
 unsettled s = differ is_none (s key_a (Volume pending_a) refl) refl refl
 
@@ -86,8 +84,8 @@ short d = by d.ends
     none : [] ≡ d.past
     none = ap (λ (p : Progress). p.past) d.is
 
-    by : IsSettledSoFar volume_script.setup (world volume_script.setup d.past) ⊎ (0 + d.made ≡ d.budget) → ⊥
-    by (inl settled) = unsettled (subst (λ h. IsSettledSoFar volume_script.setup (world volume_script.setup h)) (sym none) settled)
+    by : IsSettled volume_script.setup (world volume_script.setup d.past) ⊎ (0 + d.made ≡ d.budget) → ⊥
+    by (inl settled) = unsettled (subst (λ h. IsSettled volume_script.setup (world volume_script.setup h)) (sym none) settled)
     by (inr spent) = let same = made_is volume_script 1 0 [] d in let raises = d.raises in absurd (omega (arith, spent, same, raises))
 
 no_need : Drains empty_script 1 0 []
@@ -116,9 +114,6 @@ agents_drain = record {
   is = refl;
 }
 
-some_of : {X : Type 0} (a b : X) → Some a ≡ Some b → a ≡ b
-some_of a b e = cc
-
 pub drain_cases : DrainExamples
 drain_cases = record {
   one_call_is_made = one_of_a_drain 5 (inl refl);
@@ -131,18 +126,6 @@ drain_cases = record {
   not_short_of_it_while_something_is_due = short;
   none_where_nothing_is_due = no_need;
   not_even_one = λ d. let e : reads 5 true ∷ [] ≡ [] = ap (λ (p : Progress). p.past) d.is ∙ d.none nothing_due in absurd (cc);
-}
-
--- ---- what counts
-
-pub counted_cases : CountedExamples
-unfolding or_due volume_due reference_due referred_due claim_with claim_due named_due completed_due next_write claim_write
-counted_cases = record {
-  a_mount_counts = (pod_due_examples.mount_of_ready, refl);
-  none_of_a_mounted_pod = λ h. let none : Some dues.Mount ≡ None = h.0 ∙ sym pod_due_examples.no_mount_twice in absurd (cc);
-  a_finish_counts = (pod_due_examples.finish_of_deleting, refl);
-  an_assignment_does_not = λ action due. let assign : Some action ≡ Some dues.Assign = due ∙ sym pod_due_examples.assign_where_node_serves in subst (λ (a : Due). is_built a ≡ false) (sym (some_of action dues.Assign assign)) refl;
-  nor_does_reclaiming = refl;
 }
 
 -- ---- how it ends
@@ -172,7 +155,7 @@ none_before : (earlier : Key) (o : Object) → key_of o ≡ earlier → key_cmp 
 none_before earlier o k less (inl e) = differ is_less (sym (subst (λ k. key_cmp k key_a ≡ Less) (sym (ap key_of e ∙ k)) less)) refl refl
 none_before earlier o k less (inr h) = h
 
-first_due : IsFirstBuiltDue volume_script.setup (world volume_script.setup []) (Some (key_a, dues.Available))
+first_due : IsFirstDue volume_script.setup (world volume_script.setup []) (Some (key_a, dues.Available))
 unfolding imported_object leaves or_due volume_due reference_due referred_due claim_with claim_due named_due completed_due next_write claim_write
 first_due = record {
   object = Volume pending_a;
@@ -181,13 +164,13 @@ first_due = record {
   first = λ earlier o e less. absurd (none_before earlier o (row_at_key earlier o rows e) less (found_in earlier o rows e));
 }
 
-not_bound : IsFirstBuiltDue volume_script.setup (world volume_script.setup []) (Some (key_a, dues.Bound)) → ⊥
+not_bound : IsFirstDue volume_script.setup (world volume_script.setup []) (Some (key_a, dues.Bound)) → ⊥
 unfolding imported_object leaves or_due volume_due reference_due referred_due claim_with claim_due named_due completed_due next_write claim_write
-not_bound f = differ is_available (sym (subst (λ o. IsBuiltDue volume_script.setup (world volume_script.setup []) o (Some dues.Bound)) (sym (one (Volume pending_a) f.object f.there)) f.due)) refl refl
+not_bound f = differ is_available (sym (subst (λ o. IsDue volume_script.setup (world volume_script.setup []) o (Some dues.Bound)) (sym (one (Volume pending_a) f.object f.there)) f.due)) refl refl
 
 pub spent_cases : SpentExamples
 spent_cases = record {
   the_first_that_is_due = record { lines_done = begun (Some 0); end = begun (Some 0); moves = NoMoves refl refl; last = spent_drain; history = refl; ends = (refl, refl, first_due) };
-  not_another_action = λ r. not_bound (subst (λ h. IsFirstBuiltDue volume_script.setup (world volume_script.setup h) (Some (key_a, dues.Bound))) (sym r.history) r.ends.2);
-  not_settled = λ r. unsettled (subst (λ h. IsSettledSoFar volume_script.setup (world volume_script.setup h)) (sym r.history) r.ends.1);
+  not_another_action = λ r. not_bound (subst (λ h. IsFirstDue volume_script.setup (world volume_script.setup h) (Some (key_a, dues.Bound))) (sym r.history) r.ends.2);
+  not_settled = λ r. unsettled (subst (λ h. IsSettled volume_script.setup (world volume_script.setup h)) (sym r.history) r.ends.1);
 }

@@ -12,7 +12,7 @@ use Rattle.binder_model.specs.Devices.{device_answer}
 use Rattle.binder_model.specs.World.{effect, on_devices, world, world_after}
 use Rattle.world_core.specs.declared.drained.Drained.{Drained}
 use Rattle.world_core.specs.declared.drained.Drained.TheVariants.{Settled, Spent}
-use Rattle.settle_check.specs.SoFar.{IsSettledSoFar}
+use Rattle.binder_model.specs.Due.{IsSettled}
 use Rattle.script_text.specs.declared.script.Line.{Line}
 use Rattle.script_text.specs.declared.script.Line.TheVariants as lines
 use Rattle.script_text.specs.declared.script.Script.{Script}
@@ -28,7 +28,7 @@ use Rattle.replay_examples.proofs.Counted.{LeavesOne, end_cases, none_left, one_
 
 -- ---- a replay whose last drain has nothing to do
 
-abbrev pub settled_replay : (script : Script) (past : List Entry) (made : List ℕ → ℕ) → AreMoves script None (record (begun None) { past = past; made = made }) script.lines (begun None) → 2048 ≡ raised None script.setup past 0 → IsSettledSoFar script.setup (world script.setup past) → IsReplay script None past (Settled 0)
+abbrev pub settled_replay : (script : Script) (past : List Entry) (made : List ℕ → ℕ) → AreMoves script None (record (begun None) { past = past; made = made }) script.lines (begun None) → 2048 ≡ raised None script.setup past 0 → IsSettled script.setup (world script.setup past) → IsReplay script None past (Settled 0)
 settled_replay script past made moves budget settled = record {
   lines_done = record (begun None) { past = past; made = made };
   end = record (begun None) { past = past; made = made; budget = 2048 };
@@ -50,10 +50,10 @@ settled_replay script past made moves budget settled = record {
 
 -- ---- the empty script
 
-pub nothing_due : IsSettledSoFar empty_script.setup (world empty_script.setup [])
+pub nothing_due : IsSettled empty_script.setup (world empty_script.setup [])
 nothing_due key o there = absurd (cc)
 
-settled_at : (past : List Entry) → past ≡ [] → IsSettledSoFar empty_script.setup (world empty_script.setup past)
+settled_at : (past : List Entry) → past ≡ [] → IsSettled empty_script.setup (world empty_script.setup past)
 settled_at [] none = nothing_due
 settled_at (e ∷ past) none = absurd (cc)
 
@@ -169,7 +169,7 @@ user_moved next move = record { entry = _; are = ap (λ (p : Progress). p.past) 
 user_begins : (past : List Entry) (ending : Drained) → IsReplay user_script None past ending → BeginsWith 1 past
 user_begins past ending r = begins_with user_script 1 past ending (λ done moves. one_move user_script 1 (lines.Call 1 (Get some_key)) done (begun None) user_script.lines refl refl user_moved moves) r
 
-nothing_due_after : IsSettledSoFar user_script.setup (world user_script.setup (user_reads 1 ∷ []))
+nothing_due_after : IsSettled user_script.setup (world user_script.setup (user_reads 1 ∷ []))
 unfolding world_after effect on_devices device_answer after outcome get
 nothing_due_after key o there = absurd (cc)
 
@@ -199,7 +199,7 @@ turn_moved next (inr fewer) =
 turn_begins : (past : List Entry) (ending : Drained) → IsReplay turn_script None past ending → BeginsWith 5 past
 turn_begins past ending r = begins_with turn_script 5 past ending (λ done moves. one_move turn_script 5 (lines.Turn binder_1 1) done (begun None) turn_script.lines refl refl turn_moved moves) r
 
-pub nothing_due_in_turn : IsSettledSoFar turn_script.setup (world turn_script.setup (reads 5 true ∷ []))
+pub nothing_due_in_turn : IsSettled turn_script.setup (world turn_script.setup (reads 5 true ∷ []))
 unfolding world_after effect on_devices device_answer after outcome get
 nothing_due_in_turn key o there = absurd (cc)
 

@@ -4,7 +4,7 @@
 #![tactic(auto)]
 
 ghost use Rattle.replay_examples.specs.Calls.{CallExamples, EndExamples, SeatExamples};
-ghost use Rattle.replay_examples.specs.Drains.{CountedExamples, DrainExamples, SpentExamples};
+ghost use Rattle.replay_examples.specs.Drains.{AssignExamples, DrainExamples, ReclaimExamples, SpentExamples};
 ghost use Rattle.replay_examples.specs.Lives.{LifeExamples};
 ghost use Rattle.replay_examples.specs.Replays.{EmptyExamples, FewerExamples, TurnExamples, UserExamples};
 
@@ -53,12 +53,17 @@ pub fn drain_examples()
     ensures { DrainExamples }
 {}
 
-/// What counts as due so far.
-pub fn counted_examples()
-    ensures { CountedExamples }
-{}
-
 /// How a replay ends where its budget is spent.
 pub fn spent_examples()
     ensures { SpentExamples }
+{}
+
+/// A drain in which ops reclaims a volume.
+pub fn reclaim_examples()
+    ensures { ReclaimExamples }
+{}
+
+/// A drain in which the scheduler gives a pod its node.
+pub fn assign_examples()
+    ensures { AssignExamples }
 {}

@@ -1,6 +1,6 @@
 -- The examples compute.
 use Rattle.std.proofs.Common.{◌≡◌, refl, arith}
-use Rattle.script_parts.specs.Examples.{BudgetExamples, BuiltExamples, FateExamples, LimitExamples, PartExamples, SeatExamples}
+use Rattle.script_parts.specs.Examples.{BudgetExamples, FateExamples, LimitExamples, PartExamples, SeatExamples}
 
 pub fates : FateExamples
 fates = record { told_before_them = refl; lost_after = refl; told_between_them = refl; lost_before = refl; not_lost_the_other_way = λ e. absurd (cc) }
@@ -19,6 +19,13 @@ parts = record {
   not_in_the_order_of_lines = λ e. absurd (cc);
   later_kinds_come_later = refl;
   its_kind = refl;
+  its_lives = refl;
+  its_lost_calls = refl;
+  protection_comes_after_its_lives = refl;
+  not_after_its_first_life = λ e. absurd (cc);
+  schedulers_come_after_ops = refl;
+  not_before_binders = λ e. absurd (cc);
+  they_schedule = refl;
   claims_come_after_binders = refl;
   they_protect_claims = refl;
   volumes_come_after_claims = refl;
@@ -33,7 +40,7 @@ parts = record {
 }
 
 pub seats : SeatExamples
-seats = record { drains_come_after_all_lives = refl; a_seat_for_each_node = refl; an_actor_that_is_not_built_counts = λ e. absurd (cc) }
+seats = record { drains_come_after_all_lives = refl; a_seat_for_each_node = refl; none_where_no_node_is = refl; after_a_scheduler_too = refl; a_scheduler_takes_a_seat = λ e. absurd (cc) }
 
 pub budgets : BudgetExamples
 budgets = record {
@@ -80,19 +87,4 @@ limits = record {
   no_node_twice = λ h. let order = h.order.0.0 in absurd (cc);
   no_other_order = λ h. let order = h.order.0.0 in absurd (cc);
   no_imports = λ h. let imports = h.imports in absurd (cc);
-}
-
-pub built : BuiltExamples
-built = record {
-  nothing_to_build = refl;
-  drains_and_binders_are_built = refl;
-  so_are_they = (refl, (refl, (refl, (refl, (refl, (refl, (refl, (refl, (refl, tt)))))))));
-  so_is_protection = refl;
-  the_first_is_named = refl;
-  not_the_last = λ e. absurd (cc);
-  a_lost_call_counts = refl;
-  a_restart_counts = refl;
-  so_are_agents = refl;
-  what_provisions_is_not = refl;
-  not_all_built = λ h. let ops = h.0 in absurd (cc);
 }

@@ -1,3 +1,2 @@
-mod Building
 mod Computed
 pub mod Readable

@@ -1,14 +1,13 @@
 -- What the reader of scripts gives keeps the limits of scripts: each is a script that a text can give.
-use Rattle.std.proofs.Common.{◌≡◌, ℕ, ◌+◌, ◌<◌, ◌≤◌, List, [], ◌∷◌, ◌++◌, length, map, Bool, true, false, true≢false, Option, Some, None, Result, Ok, Err, IfOk, refl, sym, ap, ◌∙◌, arith, subst, length-append, append_assoc, append-nil, if◌then◌else◌}
-use Rattle.std.specs.Prelude.{not, ◌&&◌, ◌||◌, bytes_eq, nat_le, nat_lt, is_some, option_and_then, option_map}
+use Rattle.std.proofs.Common.{◌≡◌, ℕ, ◌≤◌, List, [], ◌∷◌, ◌++◌, length, Bool, true, false, true≢false, Option, Some, None, Result, Ok, Err, IfOk, refl, sym, ap, ◌∙◌, arith, subst, append_assoc, append-nil, if◌then◌else◌}
+use Rattle.std.specs.Prelude.{◌&&◌, ◌||◌, bytes_eq, nat_le, nat_lt, is_some, option_and_then, option_map}
 use Rattle.std.specs.Ordering.{is_eq}
-use Rattle.std.specs.List.{list_any}
 use Rattle.std.proofs.lemmas.Bool.{leb-true, ltb-false}
 use Rattle.std.proofs.lemmas.Cmp.{nat_list_cmp_total}
 use Rattle.std.proofs.lemmas.List.{length-map}
 use Rattle.std.proofs.lemmas.Slice.Eq.{bytes_eq-Decides}
 use Rattle.plain_data.specs.Pairs.{ArePairs, Pair, pair_at, pair_key, text_cmp, value_at}
-use Rattle.plain_data.specs.Rows.{IsAfter, IsRising}
+use Rattle.plain_data.specs.Rows.{IsAfter}
 use Rattle.plain_data.proofs.RowFacts.{rising_put}
 use Rattle.kube_types.specs.Bindings.{has_name}
 use Rattle.kube_types.specs.Named.{value_named}
@@ -16,10 +15,9 @@ use Rattle.kube_types.specs.declared.objects.Object.{Object}
 use Rattle.script_lines.specs.declared.actors.Actor.{Actor}
 use Rattle.script_lines.specs.declared.actors.Actor.TheVariants.{Worker, Agent}
 use Rattle.script_lines.specs.declared.actors.Worker.{Worker as WorkerData}
-use Rattle.script_lines.specs.declared.errors.Reason.{Reason}
 use Rattle.script_lines.specs.declared.errors.Reason.TheVariants.{TooManyNodes, TooManyObjects}
 use Rattle.script_lines.specs.declared.errors.BadLine.{BadLine}
-use Rattle.script_lines.specs.Actors.{agent_named, agent_word, all_workers, worker_or, worker_word}
+use Rattle.script_lines.specs.Actors.{agent_word, all_workers, worker_or, worker_word}
 use Rattle.script_lines.specs.Members.{most_turn}
 use Rattle.script_text.specs.declared.script.Line.{Line}
 use Rattle.script_text.specs.declared.script.Line.TheVariants.{Call, Lose, Restart, Turn, Drain}

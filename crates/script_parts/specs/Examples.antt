@@ -20,7 +20,7 @@ use Rattle.script_parts.specs.declared.loss.Fate.TheVariants.{Told, LostBefore, 
 use Rattle.script_parts.specs.declared.loss.Loss.{Loss}
 use Rattle.script_parts.specs.Budget.{at_most, faults_ahead, first_budget, most_budget, raise_for, raised, size_of_all}
 use Rattle.script_parts.specs.Fates.{fate_of}
-use Rattle.script_parts.specs.Limits.{AreBuilt, AreWithinLimits, IsReadable, first_unbuilt}
+use Rattle.script_parts.specs.Limits.{AreWithinLimits, IsReadable}
 use Rattle.script_parts.specs.Parts.{drain_seats, kind_of, lives_of, part_of}
 
 abbrev pub worker : WorkerKind → WorkerNumber → Actor
@@ -37,6 +37,9 @@ binder_3 = worker workers.Binder Three
 
 abbrev pub ops_1 : Actor
 ops_1 = worker workers.Ops One
+
+abbrev pub scheduler_1 : Actor
+scheduler_1 = worker workers.Scheduler One
 
 abbrev pub claims_1 : Actor
 claims_1 = worker workers.Claims One
@@ -68,11 +71,15 @@ two_binders = script_of (codes "n1" ∷ codes "n2" ∷ []) (
     lines.Turn binder_3 9 ∷ lines.Turn binder_1 5 ∷ lines.Restart binder_1 3 ∷ lines.Lose binder_1 2 true ∷ lines.Restart binder_2 1
     ∷ lines.Lose binder_1 4 false ∷ lines.Restart binder_3 7 ∷ lines.Restart binder_1 1 ∷ lines.Drain ∷ [])
 
--- the same, with a turn of a later kind
+-- a turn of ops, which is restarted and loses a call
 abbrev pub with_ops : Script
-with_ops = script_of (codes "n1" ∷ []) (lines.Turn ops_1 1 ∷ lines.Turn binder_1 5 ∷ lines.Restart binder_1 3 ∷ [])
+with_ops = script_of (codes "n1" ∷ []) (lines.Restart ops_1 4 ∷ lines.Turn ops_1 6 ∷ lines.Lose ops_1 5 false ∷ lines.Turn binder_1 5 ∷ lines.Restart binder_1 3 ∷ lines.Turn claims_1 1 ∷ [])
 
--- turns of each kind of worker that is built
+-- a turn of a scheduler, and one of a binder that is restarted
+abbrev pub with_scheduler : Script
+with_scheduler = script_of (codes "n1" ∷ []) (lines.Turn scheduler_1 1 ∷ lines.Turn binder_1 5 ∷ lines.Restart binder_1 3 ∷ [])
+
+-- turns of workers of three kinds
 abbrev pub with_protection : Script
 with_protection = script_of [] (lines.Turn volumes_4 1 ∷ lines.Restart claims_1 2 ∷ lines.Turn claims_1 5 ∷ lines.Turn binder_1 5 ∷ [])
 
@@ -98,6 +105,13 @@ pub record PartExamples : Type 0 where
   pub not_in_the_order_of_lines : (part_of two_binders binder_3).first ≢ 5
   pub later_kinds_come_later : (part_of with_ops ops_1).first ≡ 7
   pub its_kind : (part_of with_ops ops_1).kind ≡ seats.Ops
+  pub its_lives : lives_of (part_of with_ops ops_1) ≡ 2
+  pub its_lost_calls : (part_of with_ops ops_1).losses ≡ record { call = 5; after = false } ∷ []
+  pub protection_comes_after_its_lives : (part_of with_ops claims_1).first ≡ 9
+  pub not_after_its_first_life : (part_of with_ops claims_1).first ≢ 8
+  pub schedulers_come_after_ops : (part_of with_scheduler scheduler_1).first ≡ 7
+  pub not_before_binders : (part_of with_scheduler scheduler_1).first ≢ 5
+  pub they_schedule : (part_of with_scheduler scheduler_1).kind ≡ seats.Scheduler
   pub claims_come_after_binders : (part_of with_protection claims_1).first ≡ 6
   pub they_protect_claims : (part_of with_protection claims_1).kind ≡ seats.ClaimProtect
   pub volumes_come_after_claims : (part_of with_protection volumes_4).first ≡ 8
@@ -113,7 +127,9 @@ pub record PartExamples : Type 0 where
 pub record SeatExamples : Type 0 where
   pub drains_come_after_all_lives : drain_seats two_binders ≡ 10 ∷ 11 ∷ 12 ∷ 13 ∷ 14 ∷ 15 ∷ 16 ∷ []
   pub a_seat_for_each_node : drain_seats (script_of (codes "n1" ∷ []) []) ≡ 5 ∷ 6 ∷ 7 ∷ 8 ∷ 9 ∷ 10 ∷ []
-  pub an_actor_that_is_not_built_counts : drain_seats with_ops ≢ 7 ∷ 8 ∷ 9 ∷ 10 ∷ 11 ∷ 12 ∷ []
+  pub none_where_no_node_is : drain_seats with_protection ≡ 9 ∷ 10 ∷ 11 ∷ 12 ∷ 13 ∷ []
+  pub after_a_scheduler_too : drain_seats with_scheduler ≡ 8 ∷ 9 ∷ 10 ∷ 11 ∷ 12 ∷ 13 ∷ []
+  pub a_scheduler_takes_a_seat : drain_seats with_scheduler ≢ 7 ∷ 8 ∷ 9 ∷ 10 ∷ 11 ∷ 12 ∷ []
 
 -- ---- budgets
 
@@ -165,18 +181,3 @@ pub record LimitExamples : Type 0 where
   pub no_node_twice : IsReadable (script_of (codes "n1" ∷ codes "n1" ∷ []) []) → ⊥
   pub no_other_order : IsReadable (script_of (codes "n2" ∷ codes "n1" ∷ []) []) → ⊥
   pub no_imports : IsReadable (record (script_of [] []) { setup = record { pools = []; faults = []; imports = some_node ∷ [] } }) → ⊥
-
--- ---- which actors are built
-
-pub record BuiltExamples : Type 0 where
-  pub nothing_to_build : first_unbuilt [] ≡ None
-  pub drains_and_binders_are_built : first_unbuilt two_binders.lines ≡ None
-  pub so_are_they : AreBuilt two_binders.lines
-  pub so_is_protection : first_unbuilt with_protection.lines ≡ None
-  pub the_first_is_named : first_unbuilt (lines.Drain ∷ lines.Turn ops_1 3 ∷ lines.Turn ops_1 4 ∷ []) ≡ Some 1
-  pub not_the_last : first_unbuilt (lines.Drain ∷ lines.Turn ops_1 3 ∷ lines.Turn ops_1 4 ∷ []) ≢ Some 2
-  pub a_lost_call_counts : first_unbuilt (lines.Lose ops_1 1 true ∷ []) ≡ Some 0
-  pub a_restart_counts : first_unbuilt (lines.Restart ops_1 1 ∷ []) ≡ Some 0
-  pub so_are_agents : first_unbuilt with_agents.lines ≡ None
-  pub what_provisions_is_not : first_unbuilt (lines.Turn (agent_of (codes "n1")) 1 ∷ lines.Turn ops_1 1 ∷ []) ≡ Some 1
-  pub not_all_built : AreBuilt with_ops.lines → ⊥

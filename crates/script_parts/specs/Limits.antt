@@ -1,11 +1,9 @@
--- The scripts that can be replayed: those that keep the limits of the format, and name actors that are built.
+-- The scripts that can be replayed: those that keep the limits of the format.
 -- A choice of this project.
-use Rattle.std.specs.Prelude.{ℕ, ◌≡◌, ◌≤◌, ◌<◌, ◌+◌, Bool, true, false, List, [], ◌∷◌, Option, Some, None, Ok, length, ⊤, if◌then◌else◌}
+use Rattle.std.specs.Prelude.{ℕ, ◌≡◌, ◌≤◌, ◌<◌, true, List, [], ◌∷◌, Ok, length, ⊤}
 use Rattle.plain_data.specs.Pairs.{text_cmp}
 use Rattle.plain_data.specs.Rows.{IsRising}
 use Rattle.kube_types.specs.Bindings.{has_name}
-use Rattle.script_lines.specs.declared.actors.WorkerKind.{WorkerKind}
-use Rattle.script_lines.specs.declared.actors.WorkerKind.TheVariants as workers
 use Rattle.script_lines.specs.declared.actors.Actor.{Actor}
 use Rattle.script_lines.specs.declared.actors.Actor.TheVariants.{Worker, Agent}
 use Rattle.script_text.specs.declared.script.Line.{Line}
@@ -62,35 +60,3 @@ ReadsReadable = (text : List ℕ) (script : Script) → script_of text ≡ Ok sc
 -- also where it answers the numbers of the lines beside it
 abbrev pub ReadsNumberedReadable : Type 0
 ReadsNumberedReadable = (text : List ℕ) (numbered : Numbered) → read_numbered_of text ≡ Ok numbered → IsReadable numbered.script
-
--- the workers of this kind are built. Each later kind turns its line
-abbrev pub is_kind_built : WorkerKind → Bool
-is_kind_built workers.Binder = true
-is_kind_built workers.Ops = false
-is_kind_built workers.Scheduler = false
-is_kind_built workers.Claims = true
-is_kind_built workers.Volumes = true
-
-abbrev pub is_actor_built : Actor → Bool
-is_actor_built (Worker w) = is_kind_built w.kind
-is_actor_built (Agent node) = true
-
--- the line names no actor that is not built
-abbrev pub is_line_built : Line → Bool
-is_line_built (Call user request) = true
-is_line_built (Lose actor call after) = is_actor_built actor
-is_line_built (Restart actor after) = is_actor_built actor
-is_line_built (Turn actor calls) = is_actor_built actor
-is_line_built Drain = true
-
-abbrev pub AreBuilt : List Line → Type 0
-AreBuilt [] = ⊤
-AreBuilt (line ∷ lines) = (is_line_built line ≡ true) × AreBuilt lines
-
--- the place of the first line that names an actor that is not built, the places counted from here on; none where each is
-abbrev pub unbuilt_from : ℕ → List Line → Option ℕ
-unbuilt_from place [] = None
-unbuilt_from place (line ∷ lines) = if is_line_built line then unbuilt_from (place + 1) lines else Some place
-
-abbrev pub first_unbuilt : List Line → Option ℕ
-first_unbuilt lines = unbuilt_from 0 lines

@@ -101,7 +101,7 @@ abbrev pub lives_of : Part → ℕ
 lives_of part = lives_by part.named (length part.restarts)
 
 -- the seats of the drains' actors: binder, ops, scheduler, claim protection, volume protection, and the agents by the names
--- of their nodes. An actor that is not built keeps its number
+-- of their nodes
 
 abbrev pub drain_seat : Script → ℕ
 drain_seat script = first_actor_seat + all_lives (all_actors script) script.lines

@@ -1,6 +1,6 @@
 //! Computed examples of the definitions. Each is a function with nothing to do, whose contract has the examples.
 
-ghost use Rattle.script_parts.specs.Examples.{BudgetExamples, BuiltExamples, FateExamples, LimitExamples, PartExamples, SeatExamples};
+ghost use Rattle.script_parts.specs.Examples.{BudgetExamples, FateExamples, LimitExamples, PartExamples, SeatExamples};
 
 /// Which calls are lost.
 pub fn fate_examples()
@@ -25,9 +25,4 @@ pub fn budget_examples()
 /// Which scripts a reader gives.
 pub fn limit_examples()
     ensures { LimitExamples }
-{}
-
-/// Which lines name an actor that is not built.
-pub fn built_examples()
-    ensures { BuiltExamples }
 {}

@@ -6,7 +6,7 @@ use Rattle.call_types.specs.declared.entry.Entry.{Entry}
 use Rattle.call_types.specs.declared.setup.Setup.{Setup}
 use Rattle.binder_model.specs.World.{world}
 use Rattle.model_laws.proofs.Lists.{none_some, one}
-use Rattle.settle_check.specs.SoFar.{IsFirstBuiltDue, IsSettledSoFar}
+use Rattle.binder_model.specs.Due.{IsFirstDue, IsSettled}
 use Rattle.world_core.specs.declared.drained.Drained.{Drained}
 use Rattle.world_core.specs.declared.drained.Drained.TheVariants.{Settled, Spent}
 use Rattle.worker_threads.specs.declared.drainers.Drainer.{Drainer}
@@ -20,7 +20,6 @@ use Rattle.script_runs.specs.declared.player.Player.{Player}
 use Rattle.script_runs.specs.declared.stage.Stage.{Stage}
 use Rattle.script_lines.specs.declared.actors.Actor.{Actor}
 use Rattle.script_lines.specs.declared.actors.WorkerKind.TheVariants as workers
-use Rattle.script_parts.specs.declared.part.Part.{Part}
 use Rattle.script_parts.specs.Budget.{first_budget}
 use Rattle.script_parts.specs.Parts.{drain_seat, drain_seats, first_actor_seat, seats_from}
 use Rattle.script_runs.specs.Diligent.{role_of}
@@ -28,7 +27,7 @@ use Rattle.script_runs.specs.Replays.{EndsAs, IsDrain, IsMove, IsReplay, MoreMov
 use Rattle.script_runs.specs.Steps.Living.{Lives}
 use Rattle.worker_core.specs.declared.role.Role.{Role}
 use Rattle.script_runs.specs.Steps.Playing.{EachPlayer, IsNewPlayer, Plays}
-use Rattle.script_runs.specs.Steps.Standing.{AreNewPlayers, EachWithRole, Ended, HasAdded, HasMoved, IsBudget, SoFar, Stands, agents_for, built_actors, built_parts, end_of, part_from, parts_from, parts_in, seat_of_drains, seat_past, with_made, workers_of}
+use Rattle.script_runs.specs.Steps.Standing.{AreNewPlayers, EachWithRole, Ended, HasAdded, HasMoved, IsBudget, SoFar, Stands, actors_for, agents_for, end_of, part_from, parts_from, parts_in, seat_past, with_made, workers_of}
 use Rattle.script_runs.proofs.Lived.{new_lives}
 use Rattle.script_runs.proofs.Since.{new_since}
 
@@ -62,11 +61,13 @@ agent_seats first from (node ∷ nodes) (d ∷ ds) same new seat (inr own) = inr
 new_seats : (script : Script) (first : ℕ) (ds : List Drainer) → AreNew first script.node_names ds → first ≡ drain_seat script → (seat : ℕ) → IsOneOf (seats_of ds) seat → IsOneOf (drain_seats script) seat
 new_seats script first ds new is seat own = by (subst (λ xs. IsOneOf xs seat) (seats_of_new first script.node_names ds new) own)
   where
-    by : IsOneOf (first ∷ (first + 3) ∷ (first + 4) ∷ seats_of new.agents) seat → IsOneOf (drain_seats script) seat
-    by (inl at) = inl (sym is ∙ at)
-    by (inr (inl at)) = inr (inr (inr (inl (ap (λ n. n + 3) (sym is) ∙ at))))
-    by (inr (inr (inl at))) = inr (inr (inr (inr (inl (ap (λ n. n + 4) (sym is) ∙ at)))))
-    by (inr (inr (inr later))) = inr (inr (inr (inr (inr (agent_seats (first + 5) (drain_seat script + 5) script.node_names new.agents (ap (λ n. n + 5) is) new.agents_are seat later)))))
+    by : IsOneOf ((first + 2) ∷ (first + 1) ∷ first ∷ (first + 3) ∷ (first + 4) ∷ seats_of new.agents) seat → IsOneOf (drain_seats script) seat
+    by (inl at) = inr (inr (inl (ap (λ n. n + 2) (sym is) ∙ at)))
+    by (inr (inl at)) = inr (inl (ap (λ n. n + 1) (sym is) ∙ at))
+    by (inr (inr (inl at))) = inl (sym is ∙ at)
+    by (inr (inr (inr (inl at)))) = inr (inr (inr (inl (ap (λ n. n + 3) (sym is) ∙ at))))
+    by (inr (inr (inr (inr (inl at))))) = inr (inr (inr (inr (inl (ap (λ n. n + 4) (sym is) ∙ at)))))
+    by (inr (inr (inr (inr (inr later))))) = inr (inr (inr (inr (inr (agent_seats (first + 5) (drain_seat script + 5) script.node_names new.agents (ap (λ n. n + 5) is) new.agents_are seat later)))))
 
 -- ---- the players
 
@@ -130,22 +131,29 @@ pub all_added : {X : Type 0} (lines : List Line) (actor_of : X → Actor) (items
 all_added lines actor_of items index seat first initial now over goes =
     goes seat now (subst (λ xs. HasAdded lines (map actor_of xs) seat seat now now) (sym (drop_all index items over)) (none_added lines seat now))
 
--- the workers of three kinds and the agents, added after each other
-pub built_added : (lines : List Line) (nodes : List (List ℕ)) (second third fourth end : ℕ) (none ones two three items : List Player) → none ≡ []
-    → HasAdded lines (workers_of workers.Binder) first_actor_seat second none ones → HasAdded lines (workers_of workers.Claims) second third ones two → HasAdded lines (workers_of workers.Volumes) third fourth two three
-    → HasAdded lines (agents_for nodes) fourth end three items → HasAdded lines (built_actors nodes) first_actor_seat end [] items
-unfolding built_actors
-built_added lines nodes second third fourth end none ones two three items is_none binders claims volumes agents =
-    subst (λ xs. HasAdded lines (workers_of workers.Binder ++ (workers_of workers.Claims ++ (workers_of workers.Volumes ++ agents_for nodes))) first_actor_seat end xs items) is_none
-    (added_then lines (workers_of workers.Binder) (workers_of workers.Claims ++ (workers_of workers.Volumes ++ agents_for nodes)) first_actor_seat second end none ones items binders
-    (added_then lines (workers_of workers.Claims) (workers_of workers.Volumes ++ agents_for nodes) second third end ones two items claims
-    (added_then lines (workers_of workers.Volumes) (agents_for nodes) third fourth end two three items volumes agents)))
+-- the workers of all kinds and the agents, added after each other
+pub actors_added : (lines : List Line) (nodes : List (List ℕ)) (second third fourth fifth sixth end : ℕ) (none ones two three four five items : List Player) → none ≡ []
+    → HasAdded lines (workers_of workers.Binder) first_actor_seat second none ones → HasAdded lines (workers_of workers.Ops) second third ones two → HasAdded lines (workers_of workers.Scheduler) third fourth two three
+    → HasAdded lines (workers_of workers.Claims) fourth fifth three four → HasAdded lines (workers_of workers.Volumes) fifth sixth four five → HasAdded lines (agents_for nodes) sixth end five items
+    → HasAdded lines (actors_for nodes) first_actor_seat end [] items
+unfolding actors_for
+actors_added lines nodes second third fourth fifth sixth end none ones two three four five items is_none binders ops schedulers claims volumes agents =
+    let of_volumes = workers_of workers.Volumes ++ agents_for nodes in
+    let of_claims = workers_of workers.Claims ++ of_volumes in
+    let of_schedulers = workers_of workers.Scheduler ++ of_claims in
+    let of_ops = workers_of workers.Ops ++ of_schedulers in
+    let with_volumes = added_then lines (workers_of workers.Volumes) (agents_for nodes) fifth sixth end four five items volumes agents in
+    let with_claims = added_then lines (workers_of workers.Claims) of_volumes fourth fifth end three four items claims with_volumes in
+    let with_schedulers = added_then lines (workers_of workers.Scheduler) of_claims third fourth end two three items schedulers with_claims in
+    let with_ops = added_then lines (workers_of workers.Ops) of_schedulers second third end ones two items ops with_schedulers in
+    subst (λ xs. HasAdded lines (workers_of workers.Binder ++ of_ops) first_actor_seat end xs items) is_none
+    (added_then lines (workers_of workers.Binder) of_ops first_actor_seat second end none ones items binders with_ops)
 
-pub begins : (script : Script) (option : Option ℕ) (s : Stage) (first : ℕ) → s.world.past ≡ [] → s.world.setup ≡ script.setup → HasAdded script.lines (built_actors script.node_names) first_actor_seat first [] s.players.items
+pub begins : (script : Script) (option : Option ℕ) (s : Stage) (first : ℕ) → s.world.past ≡ [] → s.world.setup ≡ script.setup → HasAdded script.lines (actors_for script.node_names) first_actor_seat first [] s.players.items
     → AreNew first script.node_names s.drainers → first ≡ drain_seat script → ((past : List Entry) → HaveNoEntries (seats_of s.drainers) past → AreStanding s.drainers past) → s.drained ≡ 0 → s.budget ≡ first_budget option → Stands script option (begun option) s
 begins script option s first past setup added are seat stand drained budget =
     let lines = script.lines in
-    let actors = built_actors script.node_names in
+    let actors = actors_for script.node_names in
     let items = s.players.items in
     let new = subst (AreNewPlayers lines actors first_actor_seat) (sym added.are) added.new in
     record {
@@ -184,17 +192,17 @@ so_far_on script option place line old new at so moved =
 
 -- ---- the end
 
-pub ends_by : (setup : Setup) (past : List Entry) (left : ℕ) (d : Drained) → EndsWith setup past left d → IsSettledSoFar setup (world setup past) ⊎ (made_of d ≡ left)
+pub ends_by : (setup : Setup) (past : List Entry) (left : ℕ) (d : Drained) → EndsWith setup past left d → IsSettled setup (world setup past) ⊎ (made_of d ≡ left)
 ends_by setup past left (Settled made) ends = inl ends
 ends_by setup past left (Spent made key due) ends = inr ends.0
 
 ends_as : (script : Script) (option : Option ℕ) (after : Progress) (s : Stage) (d : Drained) → Stands script option after s → made_of d ≤ s.drained → EndsWith s.world.setup s.world.past (s.budget - (s.drained - made_of d)) d → EndsAs script.setup after (with_made s.drained d)
-ends_as script option after s (Settled made) stands some ends = (stands.drained, subst (λ h. IsSettledSoFar script.setup (world script.setup h)) stands.past (subst (λ u. IsSettledSoFar u (world u s.world.past)) stands.setup ends))
+ends_as script option after s (Settled made) stands some ends = (stands.drained, subst (λ h. IsSettled script.setup (world script.setup h)) stands.past (subst (λ u. IsSettled u (world u s.world.past)) stands.setup ends))
 ends_as script option after s (Spent made key due) stands some ends =
     let spent = ends.0 in
     let few = stands.few in
     let budget = stands.budget in
-    (stands.drained, omega (arith, spent, some, few, budget), subst (λ h. IsFirstBuiltDue script.setup (world script.setup h) (Some (key, due))) stands.past (subst (λ u. IsFirstBuiltDue u (world u s.world.past) (Some (key, due))) stands.setup ends.1))
+    (stands.drained, omega (arith, spent, some, few, budget), subst (λ h. IsFirstDue script.setup (world script.setup h) (Some (key, due))) stands.past (subst (λ u. IsFirstDue u (world u s.world.past) (Some (key, due))) stands.setup ends.1))
 
 pub has_ended : (script : Script) (option : Option ℕ) (old new : Stage) (d ending : Drained) → HasMoved script option (IsDrain script option) old new → made_of d ≤ new.drained → EndsWith new.world.setup new.world.past (new.budget - (new.drained - made_of d)) d → ending ≡ with_made new.drained d
     → (p : Progress) → Stands script option p old → Ended script option p new ending

@@ -1,5 +1,5 @@
--- The parts of the actors that are built, where lines name no other, and the seats of the drains after them.
-use Rattle.std.proofs.Common.{◌≡◌, ℕ, ◌+◌, ◌*◌, ◌≤◌, zero, suc, List, [], ◌∷◌, ◌++◌, length, length-append, map, Bool, true, false, true≢false, if◌then◌else◌, Option, Some, None, refl, sym, ◌∙◌, ap, subst, arith}
+-- The parts of all actors, and the seats of the drains after them.
+use Rattle.std.proofs.Common.{◌≡◌, ℕ, ◌+◌, ◌*◌, ◌≤◌, zero, suc, List, [], ◌∷◌, ◌++◌, length, length-append, map, Bool, true, false, true≢false, if◌then◌else◌, Some, refl, sym, ◌∙◌, ap, subst, arith}
 use Rattle.std.specs.Prelude.{bytes_eq, slice_get, ◌||◌}
 use Rattle.std.specs.declared.cmp.Ordering.TheVariants.{Less, Equal}
 use Rattle.std.proofs.lemmas.Cmp.{nat_list_cmp_total, tied_itself}
@@ -9,114 +9,76 @@ use Rattle.plain_data.specs.Pairs.{text_cmp}
 use Rattle.plain_data.specs.Rows.{IsAfter}
 use Rattle.kube_types.specs.Bindings.{has_name}
 use Rattle.model_laws.proofs.Lists.{none_some, one}
+use Rattle.worker_core.specs.Roles.{IsBuiltKind}
 use Rattle.script_lines.specs.declared.actors.WorkerKind.{WorkerKind}
 use Rattle.script_lines.specs.declared.actors.WorkerKind.TheVariants as workers
 use Rattle.script_lines.specs.declared.actors.WorkerNumber.{WorkerNumber}
 use Rattle.script_lines.specs.declared.actors.WorkerNumber.TheVariants.{One, Two, Three, Four}
-use Rattle.script_lines.specs.declared.actors.Worker.{Worker as WorkerData}
 use Rattle.script_lines.specs.declared.actors.Actor.{Actor}
 use Rattle.script_lines.specs.declared.actors.Actor.TheVariants.{Worker, Agent}
 use Rattle.script_text.specs.declared.script.Line.{Line}
 use Rattle.script_text.specs.declared.script.Line.TheVariants as kinds_of_line
 use Rattle.script_text.specs.declared.script.Script.{Script}
-use Rattle.script_lines.specs.Actors.{actor_word, agent_word, four, kind_prefix, number_word, worker_word}
+use Rattle.script_lines.specs.Actors.{actor_word, agent_word, kind_prefix, number_word}
 use Rattle.script_text.specs.Said.{restart_of, restarts_of}
 use Rattle.script_parts.specs.declared.part.Part.{Part}
-use Rattle.script_parts.specs.Limits.{AreBuilt, AreInOrder as NamesInOrder, AreWithinLimits, IsKnown, IsWithinLimits, NameKnown, NamesKnown, is_actor_built, is_kind_built, is_line_built}
-use Rattle.script_parts.specs.Parts.{all_actors, all_lives, drain_seat, first_actor_seat, is_named, is_turn_of, lives_before, lives_by, lives_in, part_of}
-use Rattle.script_runs.specs.Steps.Standing.{agents_for, built_actors, built_parts, end_of, part_from, parts_from, place_of, place_of_kind, place_of_node, place_of_number, seat_of_drains, seat_past, workers_of}
-use Rattle.script_runs.proofs.Orders.{AreInOrder, all_differ, all_more, differs_at, differs_from, first_differs, flipped}
+use Rattle.script_parts.specs.Limits.{AreInOrder as NamesInOrder, AreWithinLimits, IsKnown, IsWithinLimits, NameKnown, NamesKnown}
+use Rattle.script_parts.specs.Parts.{all_actors, all_lives, drain_seat, first_actor_seat, is_named, kind_of, kind_of_worker, is_turn_of, lives_before, lives_by, lives_in, part_of}
+use Rattle.script_runs.specs.Steps.Standing.{agents_for, actors_for, all_parts, end_of, part_from, parts_from, place_of, place_of_kind, place_of_node, place_of_number, seat_of_drains, seat_past, workers_of}
+use Rattle.script_runs.proofs.Orders.{AreInOrder, all_differ, all_more, differs_at, differs_from, first_differs}
 
--- ---- names
+-- ---- the actors
 
-other_kind : (k l : WorkerKind) (n m : WorkerNumber) → is_kind_built k ≡ true → is_kind_built l ≡ false → bytes_eq (kind_prefix k ++ number_word n) (kind_prefix l ++ number_word m) ≡ false
-other_kind workers.Binder workers.Binder n m built not = absurd (true≢false not)
-other_kind workers.Binder workers.Ops n m built not = refl
-other_kind workers.Binder workers.Scheduler n m built not = refl
-other_kind workers.Binder workers.Claims n m built not = absurd (true≢false not)
-other_kind workers.Binder workers.Volumes n m built not = absurd (true≢false not)
-other_kind workers.Ops l n m built not = absurd (true≢false (sym built))
-other_kind workers.Scheduler l n m built not = absurd (true≢false (sym built))
-other_kind workers.Claims workers.Binder n m built not = absurd (true≢false not)
-other_kind workers.Claims workers.Ops n m built not = refl
-other_kind workers.Claims workers.Scheduler n m built not = refl
-other_kind workers.Claims workers.Claims n m built not = absurd (true≢false not)
-other_kind workers.Claims workers.Volumes n m built not = absurd (true≢false not)
-other_kind workers.Volumes workers.Binder n m built not = absurd (true≢false not)
-other_kind workers.Volumes workers.Ops n m built not = refl
-other_kind workers.Volumes workers.Scheduler n m built not = refl
-other_kind workers.Volumes workers.Claims n m built not = absurd (true≢false not)
-other_kind workers.Volumes workers.Volumes n m built not = absurd (true≢false not)
+-- each actor is of a kind of actors
+worker_built : (k : WorkerKind) → IsBuiltKind (kind_of_worker k)
+worker_built workers.Binder = tt
+worker_built workers.Ops = tt
+worker_built workers.Scheduler = tt
+worker_built workers.Claims = tt
+worker_built workers.Volumes = tt
 
-no_agent : (k : WorkerKind) (n : WorkerNumber) (node : List ℕ) → is_kind_built k ≡ true → bytes_eq (kind_prefix k ++ number_word n) (agent_word node) ≡ false
-no_agent workers.Binder n node built = refl
-no_agent workers.Ops n node built = absurd (true≢false (sym built))
-no_agent workers.Scheduler n node built = absurd (true≢false (sym built))
-no_agent workers.Claims n node built = refl
-no_agent workers.Volumes n node built = refl
+pub actor_built : (actor : Actor) → IsBuiltKind (kind_of actor)
+actor_built (Worker w) = worker_built w.kind
+actor_built (Agent node) = tt
 
-agent_other : (k : WorkerKind) (n : WorkerNumber) (node : List ℕ) → is_kind_built k ≡ false → bytes_eq (agent_word node) (kind_prefix k ++ number_word n) ≡ false
-agent_other workers.Ops n node not = refl
-agent_other workers.Scheduler n node not = refl
-agent_other workers.Binder n node not = absurd (true≢false not)
-agent_other workers.Claims n node not = absurd (true≢false not)
-agent_other workers.Volumes n node not = absurd (true≢false not)
+no_agent : (k : WorkerKind) (n : WorkerNumber) (node : List ℕ) → bytes_eq (kind_prefix k ++ number_word n) (agent_word node) ≡ false
+no_agent workers.Binder n node = refl
+no_agent workers.Ops n node = refl
+no_agent workers.Scheduler n node = refl
+no_agent workers.Claims n node = refl
+no_agent workers.Volumes n node = refl
 
--- an actor that is not built has no name of one that is
-other_word : (a b : Actor) → is_actor_built a ≡ true → is_actor_built b ≡ false → bytes_eq (actor_word a) (actor_word b) ≡ false
-other_word a (Agent node) built not = absurd (true≢false not)
-other_word (Worker w) (Worker v) built not = other_kind w.kind v.kind w.number v.number built not
-other_word (Agent node) (Worker v) built not = agent_other v.kind v.number node not
+are_all : (script : Script) → all_actors script ≡ actors_for script.node_names
+unfolding actors_for
+are_all script = refl
 
-or_none : (a b : Bool) → a ≡ false → b ≡ false → (a || b) ≡ false
-or_none a b first rest = rw first rest
-
-no_turn : (actor : Actor) (line : Line) → is_actor_built actor ≡ false → is_line_built line ≡ true → is_turn_of (actor_word actor) line ≡ false
-no_turn actor (kinds_of_line.Turn a calls) not built = other_word a actor built not
-no_turn actor (kinds_of_line.Call user request) not built = refl
-no_turn actor (kinds_of_line.Lose a call after) not built = refl
-no_turn actor (kinds_of_line.Restart a after) not built = refl
-no_turn actor kinds_of_line.Drain not built = refl
-
-not_named : (actor : Actor) (lines : List Line) → is_actor_built actor ≡ false → AreBuilt lines → is_named (actor_word actor) lines ≡ false
-not_named actor [] not built = refl
-not_named actor (line ∷ lines) not built = or_none (is_turn_of (actor_word actor) line) (is_named (actor_word actor) lines) (no_turn actor line not built.0) (not_named actor lines not built.1)
-
-no_lives : (actor : Actor) (lines : List Line) → is_actor_built actor ≡ false → AreBuilt lines → lives_in (actor_word actor) lines ≡ 0
-no_lives actor lines not built = ap (λ b. lives_by b (length (restarts_of (actor_word actor) lines))) (not_named actor lines not built)
-
--- ---- those that are built, among all actors
-
-abbrev built_among : List Actor → List Actor
-built_among [] = []
-built_among (actor ∷ actors) = if is_actor_built actor then actor ∷ built_among actors else built_among actors
-
-all_agents : (nodes : List (List ℕ)) → built_among (agents_for nodes) ≡ agents_for nodes
-all_agents [] = refl
-all_agents (node ∷ nodes) = ap (λ actors. Agent node ∷ actors) (all_agents nodes)
-
-are_built : (script : Script) → built_among (all_actors script) ≡ built_actors script.node_names
-unfolding built_actors
-are_built script = ap (λ rest. workers_of workers.Binder ++ (workers_of workers.Claims ++ (workers_of workers.Volumes ++ rest))) (all_agents script.node_names)
+abbrev all_of_kinds : List Actor
+all_of_kinds = workers_of workers.Binder ++ (workers_of workers.Ops ++ (workers_of workers.Scheduler ++ (workers_of workers.Claims ++ workers_of workers.Volumes)))
 
 -- ---- their places
 
-worker_at : (k : WorkerKind) (n : WorkerNumber) (nodes : List (List ℕ)) → is_kind_built k ≡ true → slice_get (built_actors nodes) (place_of_kind k + place_of_number n) ≡ Some (Worker (record { kind = k; number = n }))
-unfolding built_actors
-worker_at workers.Binder One nodes built = refl
-worker_at workers.Binder Two nodes built = refl
-worker_at workers.Binder Three nodes built = refl
-worker_at workers.Binder Four nodes built = refl
-worker_at workers.Ops n nodes built = absurd (true≢false (sym built))
-worker_at workers.Scheduler n nodes built = absurd (true≢false (sym built))
-worker_at workers.Claims One nodes built = refl
-worker_at workers.Claims Two nodes built = refl
-worker_at workers.Claims Three nodes built = refl
-worker_at workers.Claims Four nodes built = refl
-worker_at workers.Volumes One nodes built = refl
-worker_at workers.Volumes Two nodes built = refl
-worker_at workers.Volumes Three nodes built = refl
-worker_at workers.Volumes Four nodes built = refl
+worker_at : (k : WorkerKind) (n : WorkerNumber) (nodes : List (List ℕ)) → slice_get (actors_for nodes) (place_of_kind k + place_of_number n) ≡ Some (Worker (record { kind = k; number = n }))
+unfolding actors_for
+worker_at workers.Binder One nodes = refl
+worker_at workers.Binder Two nodes = refl
+worker_at workers.Binder Three nodes = refl
+worker_at workers.Binder Four nodes = refl
+worker_at workers.Ops One nodes = refl
+worker_at workers.Ops Two nodes = refl
+worker_at workers.Ops Three nodes = refl
+worker_at workers.Ops Four nodes = refl
+worker_at workers.Scheduler One nodes = refl
+worker_at workers.Scheduler Two nodes = refl
+worker_at workers.Scheduler Three nodes = refl
+worker_at workers.Scheduler Four nodes = refl
+worker_at workers.Claims One nodes = refl
+worker_at workers.Claims Two nodes = refl
+worker_at workers.Claims Three nodes = refl
+worker_at workers.Claims Four nodes = refl
+worker_at workers.Volumes One nodes = refl
+worker_at workers.Volumes Two nodes = refl
+worker_at workers.Volumes Three nodes = refl
+worker_at workers.Volumes Four nodes = refl
 
 get_after : (xs ys : List Actor) (n i : ℕ) → n ≡ length xs + i → slice_get (xs ++ ys) n ≡ slice_get ys i
 get_after [] ys n i is = ap (slice_get ys) (omega (arith, is))
@@ -134,45 +96,50 @@ agent_among (n ∷ nodes) node known = by (bytes_eq n node) refl known (agent_am
         let next : 1 + place_of_node node nodes ≡ suc (place_of_node node nodes) = omega arith in
         subst (λ k. slice_get (agents_for (n ∷ nodes)) k ≡ Some (Agent node)) (sym next) (rest known)
 
-agent_at : (nodes : List (List ℕ)) (node : List ℕ) → has_name node nodes ≡ true → slice_get (built_actors nodes) (12 + place_of_node node nodes) ≡ Some (Agent node)
-unfolding built_actors
+agent_at : (nodes : List (List ℕ)) (node : List ℕ) → has_name node nodes ≡ true → slice_get (actors_for nodes) (20 + place_of_node node nodes) ≡ Some (Agent node)
+unfolding actors_for
 agent_at nodes node known =
-    get_after (workers_of workers.Binder ++ (workers_of workers.Claims ++ workers_of workers.Volumes)) (agents_for nodes) (12 + place_of_node node nodes) (place_of_node node nodes) refl ∙ agent_among nodes node known
+    get_after all_of_kinds (agents_for nodes) (20 + place_of_node node nodes) (place_of_node node nodes) refl ∙ agent_among nodes node known
 
-pub actor_at : (nodes : List (List ℕ)) (actor : Actor) → is_actor_built actor ≡ true → IsKnown nodes actor → slice_get (built_actors nodes) (place_of nodes actor) ≡ Some actor
-actor_at nodes (Worker w) built known = worker_at w.kind w.number nodes built
-actor_at nodes (Agent node) built known = agent_at nodes node known
+pub actor_at : (nodes : List (List ℕ)) (actor : Actor) → IsKnown nodes actor → slice_get (actors_for nodes) (place_of nodes actor) ≡ Some actor
+actor_at nodes (Worker w) known = worker_at w.kind w.number nodes
+actor_at nodes (Agent node) known = agent_at nodes node known
 
 -- ---- their names differ
 
-abbrev workers_built : List Actor
-workers_built = workers_of workers.Binder ++ (workers_of workers.Claims ++ workers_of workers.Volumes)
-
 -- a name of a worker is none of an agent
-worker_or_agent : (k : WorkerKind) (n : WorkerNumber) (nodes : List (List ℕ)) → is_kind_built k ≡ true → differs_from (kind_prefix k ++ number_word n) (map agent_word nodes) ≡ true
-worker_or_agent k n [] built = refl
-worker_or_agent k n (node ∷ nodes) built = rw (no_agent k n node built) (worker_or_agent k n nodes built)
+worker_or_agent : (k : WorkerKind) (n : WorkerNumber) (nodes : List (List ℕ)) → differs_from (kind_prefix k ++ number_word n) (map agent_word nodes) ≡ true
+worker_or_agent k n [] = refl
+worker_or_agent k n (node ∷ nodes) = rw (no_agent k n node) (worker_or_agent k n nodes)
 
-workers_or_agents : (nodes : List (List ℕ)) (i : ℕ) (name : List ℕ) → slice_get (map actor_word workers_built) i ≡ Some name → differs_from name (map agent_word nodes) ≡ true
+workers_or_agents : (nodes : List (List ℕ)) (i : ℕ) (name : List ℕ) → slice_get (map actor_word all_of_kinds) i ≡ Some name → differs_from name (map agent_word nodes) ≡ true
 workers_or_agents nodes i name at = by i at
   where
-    is : (k : WorkerKind) (n : WorkerNumber) → is_kind_built k ≡ true → Some (kind_prefix k ++ number_word n) ≡ Some name → differs_from name (map agent_word nodes) ≡ true
-    is k n built e = subst (λ (x : List ℕ). differs_from x (map agent_word nodes) ≡ true) (one (kind_prefix k ++ number_word n) name e) (worker_or_agent k n nodes built)
+    is : (k : WorkerKind) (n : WorkerNumber) → Some (kind_prefix k ++ number_word n) ≡ Some name → differs_from name (map agent_word nodes) ≡ true
+    is k n e = subst (λ (x : List ℕ). differs_from x (map agent_word nodes) ≡ true) (one (kind_prefix k ++ number_word n) name e) (worker_or_agent k n nodes)
 
-    by : (j : ℕ) → slice_get (map actor_word workers_built) j ≡ Some name → differs_from name (map agent_word nodes) ≡ true
-    by zero e = is workers.Binder One refl e
-    by (suc zero) e = is workers.Binder Two refl e
-    by (suc (suc zero)) e = is workers.Binder Three refl e
-    by (suc (suc (suc zero))) e = is workers.Binder Four refl e
-    by (suc (suc (suc (suc zero)))) e = is workers.Claims One refl e
-    by (suc (suc (suc (suc (suc zero))))) e = is workers.Claims Two refl e
-    by (suc (suc (suc (suc (suc (suc zero)))))) e = is workers.Claims Three refl e
-    by (suc (suc (suc (suc (suc (suc (suc zero))))))) e = is workers.Claims Four refl e
-    by (suc (suc (suc (suc (suc (suc (suc (suc zero)))))))) e = is workers.Volumes One refl e
-    by (suc (suc (suc (suc (suc (suc (suc (suc (suc zero))))))))) e = is workers.Volumes Two refl e
-    by (suc (suc (suc (suc (suc (suc (suc (suc (suc (suc zero)))))))))) e = is workers.Volumes Three refl e
-    by (suc (suc (suc (suc (suc (suc (suc (suc (suc (suc (suc zero))))))))))) e = is workers.Volumes Four refl e
-    by (suc (suc (suc (suc (suc (suc (suc (suc (suc (suc (suc (suc j)))))))))))) e = none_some e
+    by : (j : ℕ) → slice_get (map actor_word all_of_kinds) j ≡ Some name → differs_from name (map agent_word nodes) ≡ true
+    by zero e = is workers.Binder One e
+    by (suc zero) e = is workers.Binder Two e
+    by (suc (suc zero)) e = is workers.Binder Three e
+    by (suc (suc (suc zero))) e = is workers.Binder Four e
+    by (suc (suc (suc (suc zero)))) e = is workers.Ops One e
+    by (suc (suc (suc (suc (suc zero))))) e = is workers.Ops Two e
+    by (suc (suc (suc (suc (suc (suc zero)))))) e = is workers.Ops Three e
+    by (suc (suc (suc (suc (suc (suc (suc zero))))))) e = is workers.Ops Four e
+    by (suc (suc (suc (suc (suc (suc (suc (suc zero)))))))) e = is workers.Scheduler One e
+    by (suc (suc (suc (suc (suc (suc (suc (suc (suc zero))))))))) e = is workers.Scheduler Two e
+    by (suc (suc (suc (suc (suc (suc (suc (suc (suc (suc zero)))))))))) e = is workers.Scheduler Three e
+    by (suc (suc (suc (suc (suc (suc (suc (suc (suc (suc (suc zero))))))))))) e = is workers.Scheduler Four e
+    by (suc (suc (suc (suc (suc (suc (suc (suc (suc (suc (suc (suc zero)))))))))))) e = is workers.Claims One e
+    by (suc (suc (suc (suc (suc (suc (suc (suc (suc (suc (suc (suc (suc zero))))))))))))) e = is workers.Claims Two e
+    by (suc (suc (suc (suc (suc (suc (suc (suc (suc (suc (suc (suc (suc (suc zero)))))))))))))) e = is workers.Claims Three e
+    by (suc (suc (suc (suc (suc (suc (suc (suc (suc (suc (suc (suc (suc (suc (suc zero))))))))))))))) e = is workers.Claims Four e
+    by (suc (suc (suc (suc (suc (suc (suc (suc (suc (suc (suc (suc (suc (suc (suc (suc zero)))))))))))))))) e = is workers.Volumes One e
+    by (suc (suc (suc (suc (suc (suc (suc (suc (suc (suc (suc (suc (suc (suc (suc (suc (suc zero))))))))))))))))) e = is workers.Volumes Two e
+    by (suc (suc (suc (suc (suc (suc (suc (suc (suc (suc (suc (suc (suc (suc (suc (suc (suc (suc zero)))))))))))))))))) e = is workers.Volumes Three e
+    by (suc (suc (suc (suc (suc (suc (suc (suc (suc (suc (suc (suc (suc (suc (suc (suc (suc (suc (suc zero))))))))))))))))))) e = is workers.Volumes Four e
+    by (suc (suc (suc (suc (suc (suc (suc (suc (suc (suc (suc (suc (suc (suc (suc (suc (suc (suc (suc (suc j)))))))))))))))))))) e = none_some e
 
 -- names in order differ
 less_differs : (a b : List ℕ) → text_cmp a b ≡ Less → bytes_eq a b ≡ false
@@ -197,28 +164,20 @@ words_of : (nodes : List (List ℕ)) → map actor_word (agents_for nodes) ≡ m
 words_of [] = refl
 words_of (node ∷ nodes) = ap (λ names. agent_word node ∷ names) (words_of nodes)
 
-built_differ : (nodes : List (List ℕ)) → NamesInOrder nodes → all_differ (map actor_word (built_actors nodes)) ≡ true
-unfolding built_actors
-built_differ nodes order =
-    ap (λ names. all_differ (map actor_word workers_built ++ names)) (words_of nodes)
-    ∙ all_more (map actor_word workers_built) (map agent_word nodes) refl (workers_or_agents nodes) (agents_differ nodes order)
+words_differ : (nodes : List (List ℕ)) → NamesInOrder nodes → all_differ (map actor_word (actors_for nodes)) ≡ true
+unfolding actors_for
+words_differ nodes order =
+    ap (λ names. all_differ (map actor_word all_of_kinds ++ names)) (words_of nodes)
+    ∙ all_more (map actor_word all_of_kinds) (map agent_word nodes) refl (workers_or_agents nodes) (agents_differ nodes order)
 
 -- ---- the seats of the drains, after all lives
 
-lives_sum : (lines : List Line) (actors : List Actor) (first : ℕ) → AreBuilt lines → seat_past lines (built_among actors) first ≡ first + all_lives actors lines
-lives_sum lines [] first all = omega arith
-lives_sum lines (actor ∷ actors) first all = by (is_actor_built actor) refl (λ f. lives_sum lines actors f all)
-  where
-    by : (b : Bool) → is_actor_built actor ≡ b → ((f : ℕ) → seat_past lines (built_among actors) f ≡ f + all_lives actors lines)
-        → seat_past lines (if b then actor ∷ built_among actors else built_among actors) first ≡ first + (lives_in (actor_word actor) lines + all_lives actors lines)
-    by false not next =
-        let rest = next first in
-        let here = no_lives actor lines not all in
-        omega (arith, rest, here)
-    by true is next = let rest = next (end_of (part_from lines actor first)) in omega (arith, rest)
+lives_sum : (lines : List Line) (actors : List Actor) (first : ℕ) → seat_past lines actors first ≡ first + all_lives actors lines
+lives_sum lines [] first = omega arith
+lives_sum lines (actor ∷ actors) first = let rest = lives_sum lines actors (end_of (part_from lines actor first)) in omega (arith, rest)
 
-pub drains_after : (script : Script) → AreBuilt script.lines → drain_seat script ≡ seat_of_drains script
-drains_after script all = sym (lives_sum script.lines (all_actors script) first_actor_seat all) ∙ ap (λ actors. seat_past script.lines actors first_actor_seat) (are_built script)
+pub drains_after : (script : Script) → drain_seat script ≡ seat_of_drains script
+drains_after script = sym (lives_sum script.lines (all_actors script) first_actor_seat) ∙ ap (λ actors. seat_past script.lines actors first_actor_seat) (are_all script)
 
 -- ---- the parts
 
@@ -232,9 +191,6 @@ if_other false lives differs = refl
 
 add_none : (first n : ℕ) → n ≡ 0 → first ≡ first + n
 add_none first n none = omega (arith, none)
-
-add_skip : (first lives rest n : ℕ) → n ≡ lives + rest → lives ≡ 0 → first + rest ≡ first + n
-add_skip first lives rest n is none = omega (arith, is, none)
 
 add_more : (first lives rest n : ℕ) → n ≡ lives + rest → first + lives + rest ≡ first + n
 add_more first lives rest n is = omega (arith, is)
@@ -252,42 +208,29 @@ name_at [] i actor at = none_some at
 name_at (x ∷ actors) zero actor at = ap (λ (y : Actor). Some (actor_word y)) (one x actor at)
 name_at (x ∷ actors) (suc i) actor at = name_at actors i actor at
 
--- the part at the place of an actor among those that are built begins after the lives of the actors before it
-abbrev IsThere : List Line → List Actor → Actor → Type 0
-IsThere lines actors actor = (first i : ℕ) → all_differ (map actor_word (built_among actors)) ≡ true → slice_get (built_among actors) i ≡ Some actor
-    → slice_get (parts_from lines (built_among actors) first) i ≡ Some (part_from lines actor (first + lives_before (actor_word actor) actors lines))
+-- the part at the place of an actor begins after the lives of the actors before it
+part_there : (lines : List Line) (actors : List Actor) (actor : Actor) (first i : ℕ) → all_differ (map actor_word actors) ≡ true → slice_get actors i ≡ Some actor
+    → slice_get (parts_from lines actors first) i ≡ Some (part_from lines actor (first + lives_before (actor_word actor) actors lines))
+part_there lines [] actor first i differ at = none_some at
+part_there lines (x ∷ actors) actor first zero differ at =
+    let same = one x actor at in
+    let sum : first ≡ first + lives_before (actor_word actor) (x ∷ actors) lines = add_none first _ (before_own lines x actors actor same) in
+    ap (λ (y : Actor). Some (part_from lines y first)) same ∙ ap (λ n. Some (part_from lines actor n)) sum
+part_there lines (x ∷ actors) actor first (suc i) differ at =
+    let names = first_differs (actor_word x) (map actor_word actors) differ in
+    let other = differs_at (actor_word x) (map actor_word actors) i (actor_word actor) names.0 (name_at actors i actor at) in
+    let passed = before_other lines x actors actor other in
+    let sum : end_of (part_from lines x first) + lives_before (actor_word actor) actors lines ≡ first + lives_before (actor_word actor) (x ∷ actors) lines
+    = add_more first (lives_in (actor_word x) lines) (lives_before (actor_word actor) actors lines) _ passed in
+    part_there lines actors actor (end_of (part_from lines x first)) i names.1 at ∙ ap (λ n. Some (part_from lines actor n)) sum
 
-part_there : (lines : List Line) (actors : List Actor) (actor : Actor) → AreBuilt lines → is_actor_built actor ≡ true → IsThere lines actors actor
-part_there lines [] actor all built first i differ at = none_some at
-part_there lines (x ∷ actors) actor all built first i differ at = by (is_actor_built x) refl i differ at (part_there lines actors actor all built)
-  where
-    by : (b : Bool) → is_actor_built x ≡ b → (i : ℕ) → all_differ (map actor_word (if b then x ∷ built_among actors else built_among actors)) ≡ true
-        → slice_get (if b then x ∷ built_among actors else built_among actors) i ≡ Some actor → IsThere lines actors actor
-        → slice_get (parts_from lines (if b then x ∷ built_among actors else built_among actors) first) i ≡ Some (part_from lines actor (first + lives_before (actor_word actor) (x ∷ actors) lines))
-    by false not i differ at next =
-        let passed = before_other lines x actors actor (flipped (actor_word actor) (actor_word x) (other_word actor x built not)) in
-        let here = no_lives x lines not all in
-        let sum : first + lives_before (actor_word actor) actors lines ≡ first + lives_before (actor_word actor) (x ∷ actors) lines = add_skip first (lives_in (actor_word x) lines) (lives_before (actor_word actor) actors lines) _ passed here in
-        next first i differ at ∙ ap (λ n. Some (part_from lines actor n)) sum
-    by true is zero differ at next =
-        let same = one x actor at in
-        let sum : first ≡ first + lives_before (actor_word actor) (x ∷ actors) lines = add_none first _ (before_own lines x actors actor same) in
-        ap (λ (y : Actor). Some (part_from lines y first)) same ∙ ap (λ n. Some (part_from lines actor n)) sum
-    by true is (suc i) differ at next =
-        let names = first_differs (actor_word x) (map actor_word (built_among actors)) differ in
-        let other = differs_at (actor_word x) (map actor_word (built_among actors)) i (actor_word actor) names.0 (name_at (built_among actors) i actor at) in
-        let passed = before_other lines x actors actor other in
-        let sum : end_of (part_from lines x first) + lives_before (actor_word actor) actors lines ≡ first + lives_before (actor_word actor) (x ∷ actors) lines
-        = add_more first (lives_in (actor_word x) lines) (lives_before (actor_word actor) actors lines) _ passed in
-        next (end_of (part_from lines x first)) i names.1 at ∙ ap (λ n. Some (part_from lines actor n)) sum
-
-pub part_of_built : (script : Script) (actor : Actor) → AreBuilt script.lines → NamesInOrder script.node_names → is_actor_built actor ≡ true → IsKnown script.node_names actor → slice_get (built_parts script) (place_of script.node_names actor) ≡ Some (part_of script actor)
-part_of_built script actor all order built known =
-    let are = are_built script in
-    let differ = ap (λ actors. all_differ (map actor_word actors)) are ∙ built_differ script.node_names order in
-    let there = ap (λ actors. slice_get actors (place_of script.node_names actor)) are ∙ actor_at script.node_names actor built known in
+pub part_of_actor : (script : Script) (actor : Actor) → NamesInOrder script.node_names → IsKnown script.node_names actor → slice_get (all_parts script) (place_of script.node_names actor) ≡ Some (part_of script actor)
+part_of_actor script actor order known =
+    let are = are_all script in
+    let differ = ap (λ actors. all_differ (map actor_word actors)) are ∙ words_differ script.node_names order in
+    let there = ap (λ actors. slice_get actors (place_of script.node_names actor)) are ∙ actor_at script.node_names actor known in
     subst (λ actors. slice_get (parts_from script.lines actors first_actor_seat) (place_of script.node_names actor) ≡ Some (part_of script actor)) are
-    (part_there script.lines (all_actors script) actor all built first_actor_seat (place_of script.node_names actor) differ there)
+    (part_there script.lines (all_actors script) actor first_actor_seat (place_of script.node_names actor) differ there)
 
 -- ---- the parts stand in the order of their seats, and have names of their own
 
@@ -295,8 +238,8 @@ order_of : (lines : List Line) (actors : List Actor) (first : ℕ) → AreInOrde
 order_of lines [] first = omega arith
 order_of lines (actor ∷ actors) first = (omega arith, order_of lines actors (end_of (part_from lines actor first)))
 
-pub in_order : (script : Script) → AreInOrder first_actor_seat (built_parts script) (seat_of_drains script)
-in_order script = order_of script.lines (built_actors script.node_names) first_actor_seat
+pub in_order : (script : Script) → AreInOrder first_actor_seat (all_parts script) (seat_of_drains script)
+in_order script = order_of script.lines (actors_for script.node_names) first_actor_seat
 
 abbrev pub names_in : List Part → List (List ℕ)
 names_in ps = map (λ (p : Part). p.name) ps
@@ -305,8 +248,8 @@ names_of : (lines : List Line) (actors : List Actor) (first : ℕ) → names_in 
 names_of lines [] first = refl
 names_of lines (actor ∷ actors) first = ap (λ names. actor_word actor ∷ names) (names_of lines actors (end_of (part_from lines actor first)))
 
-pub names_differ : (script : Script) → NamesInOrder script.node_names → all_differ (names_in (built_parts script)) ≡ true
-names_differ script order = ap all_differ (names_of script.lines (built_actors script.node_names) first_actor_seat) ∙ built_differ script.node_names order
+pub names_differ : (script : Script) → NamesInOrder script.node_names → all_differ (names_in (all_parts script)) ≡ true
+names_differ script order = ap all_differ (names_of script.lines (actors_for script.node_names) first_actor_seat) ∙ words_differ script.node_names order
 
 -- ---- the seats are small
 
@@ -347,13 +290,13 @@ few_past lines (actor ∷ actors) first few =
     let rest = few_past lines actors (end_of (part_from lines actor first)) few in
     omega (arith, here, rest)
 
-how_many : (nodes : List (List ℕ)) → length (built_actors nodes) ≡ 12 + length nodes
-unfolding built_actors
-how_many nodes = length-append workers_built (agents_for nodes) ∙ ap (λ n. 12 + n) (length-map nodes (λ (node : List ℕ). Agent node))
+how_many : (nodes : List (List ℕ)) → length (actors_for nodes) ≡ 20 + length nodes
+unfolding actors_for
+how_many nodes = length-append all_of_kinds (agents_for nodes) ∙ ap (λ n. 20 + n) (length-map nodes (λ (node : List ℕ). Agent node))
 
-pub small_drains : (script : Script) → length script.lines ≤ 4096 → length script.node_names ≤ 8 → seat_of_drains script ≤ 81945
+pub small_drains : (script : Script) → length script.lines ≤ 4096 → length script.node_names ≤ 8 → seat_of_drains script ≤ 114721
 small_drains script few nodes =
-    let past = few_past script.lines (built_actors script.node_names) 5 few in
+    let past = few_past script.lines (actors_for script.node_names) 5 few in
     let all = how_many script.node_names in
     omega (arith, past, all, nodes)
 
@@ -370,11 +313,6 @@ named_at (line ∷ lines) (suc place) actor calls at = by (is_turn_of (actor_wor
     by : (b : Bool) → is_named (actor_word actor) lines ≡ true → (b || is_named (actor_word actor) lines) ≡ true
     by true rest = refl
     by false rest = rest
-
-pub built_at : (lines : List Line) (place : ℕ) (line : Line) → AreBuilt lines → slice_get lines place ≡ Some line → is_line_built line ≡ true
-built_at [] place line all at = none_some at
-built_at (x ∷ lines) zero line all at = subst (λ l. is_line_built l ≡ true) (one x line at) all.0
-built_at (x ∷ lines) (suc place) line all at = built_at lines place line all.1 at
 
 pub within_at : (lines : List Line) (place : ℕ) (line : Line) → AreWithinLimits lines → slice_get lines place ≡ Some line → IsWithinLimits line
 within_at [] place line all at = none_some at

@@ -9,7 +9,7 @@ use Rattle.script_lines.specs.declared.actors.Actor.{Actor}
 use Rattle.script_lines.specs.Actors.{actor_word}
 use Rattle.script_text.specs.declared.script.Script.{Script}
 use Rattle.script_parts.specs.declared.part.Part.{Part}
-use Rattle.script_parts.specs.Limits.{AreBuilt, IsKnown, IsReadable, is_actor_built}
+use Rattle.script_parts.specs.Limits.{IsKnown, IsReadable}
 use Rattle.script_parts.specs.Parts.{is_named, lives_by, lives_of, part_of}
 use Rattle.script_runs.specs.declared.player.Player.{Player}
 use Rattle.script_runs.specs.declared.stage.Stage.{Stage}
@@ -17,18 +17,18 @@ use Rattle.worker_core.specs.declared.role.Role.{Role}
 use Rattle.script_runs.specs.Replays.{IsTurn}
 use Rattle.script_runs.specs.Steps.Living.{Lives}
 use Rattle.script_runs.specs.Steps.Playing.{EachPlayer, HasMadeAll, HasMadeFewer, HasTurned, IsLife, Plays, SomePlays}
-use Rattle.script_runs.specs.Steps.Standing.{HasMoved, MadeAtMost, SomeStands, built_parts, parts_in, place_of, seat_of_drains}
-use Rattle.script_runs.proofs.Casting.{drains_after, few_restarts, in_order, part_of_built, small_drains}
+use Rattle.script_runs.specs.Steps.Standing.{HasMoved, MadeAtMost, SomeStands, all_parts, parts_in, place_of, seat_of_drains}
+use Rattle.script_runs.proofs.Casting.{drains_after, few_restarts, in_order, part_of_actor, small_drains}
 use Rattle.script_runs.proofs.Orders.{life_between, part_at_place}
 use Rattle.script_runs.proofs.Staging.{HasPlayed, set_cases, turn_moved}
 
 -- ---- the numbers of a part are small
 
-part_small : (script : Script) (actor : Actor) → AreBuilt script.lines → is_actor_built actor ≡ true → IsKnown script.node_names actor → is_named (actor_word actor) script.lines ≡ true → IsReadable script → (part_of script actor).first + length (part_of script actor).restarts < 2 ^ 32
-part_small script actor all built known named readable =
+part_small : (script : Script) (actor : Actor) → IsKnown script.node_names actor → is_named (actor_word actor) script.lines ≡ true → IsReadable script → (part_of script actor).first + length (part_of script actor).restarts < 2 ^ 32
+part_small script actor known named readable =
     let lives : lives_of (part_of script actor) ≡ 1 + length (part_of script actor).restarts = ap (λ b. lives_by b (length (part_of script actor).restarts)) named in
     let life : IsLife (part_of script actor) (part_of script actor).first = (omega arith, omega (arith, lives)) in
-    let below = (life_between 5 (built_parts script) (seat_of_drains script) (place_of script.node_names actor) (part_of script actor) (part_of script actor).first (in_order script) (part_of_built script actor all readable.order built known) life).1 in
+    let below = (life_between 5 (all_parts script) (seat_of_drains script) (place_of script.node_names actor) (part_of script actor) (part_of script actor).first (in_order script) (part_of_actor script actor readable.order known) life).1 in
     let few = readable.few in
     let drains = small_drains script few readable.nodes in
     let restarts = few_restarts (actor_word actor) script.lines in
@@ -36,12 +36,12 @@ part_small script actor all built known named readable =
 
 -- ---- the player of a turn
 
-module _ (script : Script) (option : Option ℕ) (actor : Actor) (s : Stage) (readable : IsReadable script) (all : AreBuilt script.lines) (built : is_actor_built actor ≡ true) (known : IsKnown script.node_names actor) (some : SomeStands script option s) where
+module _ (script : Script) (option : Option ℕ) (actor : Actor) (s : Stage) (readable : IsReadable script) (known : IsKnown script.node_names actor) (some : SomeStands script option s) where
   -- the actor has a player
   pub place_within : place_of script.node_names actor < length s.players.items
   place_within =
-      let within = slice_get_within (built_parts script) (place_of script.node_names actor) (part_of script actor) (part_of_built script actor all readable.order built known) in
-      let parts : length (parts_in s.players.items) ≡ length (built_parts script) = ap length some.stands.parts in
+      let within = slice_get_within (all_parts script) (place_of script.node_names actor) (part_of script actor) (part_of_actor script actor readable.order known) in
+      let parts : length (parts_in s.players.items) ≡ length (all_parts script) = ap length some.stands.parts in
       let each : length (parts_in s.players.items) ≡ length s.players.items = length-map s.players.items (λ (x : Player). x.part) in
       omega (arith, within, parts, each)
 
@@ -49,13 +49,13 @@ module _ (script : Script) (option : Option ℕ) (actor : Actor) (s : Stage) (re
   player_there place x is read = subst (λ n. slice_get s.players.items n ≡ Some x) is (slice_get_read s.players.items (length s.players.items) place x refl (let w = place_within in omega (arith, w, is)) read)
 
   pub its_part : (x : Player) → slice_get s.players.items (place_of script.node_names actor) ≡ Some x → part_of script actor ≡ x.part
-  its_part x at = one (part_of script actor) x.part (sym (part_of_built script actor all readable.order built known) ∙ ap (λ ps. slice_get ps (place_of script.node_names actor)) (sym some.stands.parts) ∙ part_at_place s.players.items (place_of script.node_names actor) x at)
+  its_part x at = one (part_of script actor) x.part (sym (part_of_actor script actor readable.order known) ∙ ap (λ ps. slice_get ps (place_of script.node_names actor)) (sym some.stands.parts) ∙ part_at_place s.players.items (place_of script.node_names actor) x at)
 
   pub its_name : (x : Player) → slice_get s.players.items (place_of script.node_names actor) ≡ Some x → is_named (actor_word actor) script.lines ≡ true → x.part.named ≡ true
   its_name x at named = ap (λ (p : Part). p.named) (sym (its_part x at)) ∙ named
 
   pub its_seats : (x : Player) → slice_get s.players.items (place_of script.node_names actor) ≡ Some x → is_named (actor_word actor) script.lines ≡ true → x.part.first + length x.part.restarts < 2 ^ 32
-  its_seats x at named = subst (λ (p : Part). p.first + length p.restarts < 2 ^ 32) (its_part x at) (part_small script actor all built known named readable)
+  its_seats x at named = subst (λ (p : Part). p.first + length p.restarts < 2 ^ 32) (its_part x at) (part_small script actor known named readable)
 
   pub it_plays : (x : Player) → slice_get s.players.items (place_of script.node_names actor) ≡ Some x → is_named (actor_word actor) script.lines ≡ true → SomePlays x s.world.past
   it_plays x at named = record { idle = some.progress.idle; plays = some.stands.plays (place_of script.node_names actor) x at (its_name x at named) }
@@ -69,19 +69,19 @@ turned_made calls idle before after old new t = by t.made
     by (inl all) = let m = all.made in omega (arith, m)
     by (inr few) = let m = few.made in let f = few.few in omega (arith, m, f)
 
--- ---- a turn of an actor that is built
+-- ---- a turn of an actor
 
-module _ (script : Script) (option : Option ℕ) (actor : Actor) (calls : ℕ) (old new : Stage) (place : ℕ) (x after : Player) (readable : IsReadable script) (all : AreBuilt script.lines) (built : is_actor_built actor ≡ true) (known : IsKnown script.node_names actor) (named : is_named (actor_word actor) script.lines ≡ true)
+module _ (script : Script) (option : Option ℕ) (actor : Actor) (calls : ℕ) (old new : Stage) (place : ℕ) (x after : Player) (readable : IsReadable script) (known : IsKnown script.node_names actor) (named : is_named (actor_word actor) script.lines ≡ true)
     (some : SomeStands script option old) (is : place ≡ place_of script.node_names actor) (read : x ≡ get_or old.players.items place x) (players : new.players.items ≡ set old.players.items place after) (part : after.part ≡ x.part)
     (setup : new.world.setup ≡ old.world.setup) (drainers : new.drainers ≡ old.drainers) (drained : new.drained ≡ old.drained) (budget : new.budget ≡ old.budget)
     (turns : (idle : ℕ → List Entry) → Plays x old.world.past idle → HasTurned calls idle old.world.past new.world.past x after) (lives : (role : Role) → Lives role x old.world.past → Lives role after new.world.past) where
   at : slice_get old.players.items (place_of script.node_names actor) ≡ Some x
-  at = player_there script option actor old readable all built known some place x is read
+  at = player_there script option actor old readable known some place x is read
 
   played : HasPlayed old new place x after
   played = record {
     there = subst (λ n. slice_get old.players.items n ≡ Some x) (sym is) at;
-    named = its_name script option actor old readable all built known some x at named;
+    named = its_name script option actor old readable known some x at named;
     players = players;
     part = part;
     setup = setup;
@@ -91,22 +91,22 @@ module _ (script : Script) (option : Option ℕ) (actor : Actor) (calls : ℕ) (
   }
 
   pub turn_made : HasMoved script option (IsTurn (part_of script actor) calls) old new
-  turn_made = turn_moved script option calls old new place x after (part_of script actor) readable.order (drains_after script all) (its_part script option actor old readable all built known some x at) played turns lives
+  turn_made = turn_moved script option calls old new place x after (part_of script actor) readable.order (drains_after script) (its_part script option actor old readable known some x at) played turns lives
 
 -- no player has then made more than 1,000 calls more
-pub made_after : (script : Script) (option : Option ℕ) (actor : Actor) (calls most : ℕ) (old : Stage) (past : List Entry) (place : ℕ) (x after : Player) → IsReadable script → AreBuilt script.lines → is_actor_built actor ≡ true → IsKnown script.node_names actor → is_named (actor_word actor) script.lines ≡ true
+pub made_after : (script : Script) (option : Option ℕ) (actor : Actor) (calls most : ℕ) (old : Stage) (past : List Entry) (place : ℕ) (x after : Player) → IsReadable script → IsKnown script.node_names actor → is_named (actor_word actor) script.lines ≡ true
     → SomeStands script option old → place ≡ place_of script.node_names actor → x ≡ get_or old.players.items place x → ((idle : ℕ → List Entry) → Plays x old.world.past idle → HasTurned calls idle old.world.past past x after)
     → calls ≤ 1000 → MadeAtMost most old → EachPlayer (λ y. y.made ≤ most + 1000) (set old.players.items place after)
-made_after script option actor calls most old past place x after readable all built known named some is read turns few made =
-    let within = place_within script option actor old readable all built known some in
+made_after script option actor calls most old past place x after readable known named some is read turns few made =
+    let within = place_within script option actor old readable known some in
     λ j y here. by j y (set_cases old.players.items place after j y (omega (arith, within, is)) here)
   where
     there : slice_get old.players.items (place_of script.node_names actor) ≡ Some x
-    there = player_there script option actor old readable all built known some place x is read
+    there = player_there script option actor old readable known some place x is read
 
     by : (j : ℕ) (y : Player) → ((j ≡ place) × (after ≡ y)) ⊎ ((j ≢ place) × (slice_get old.players.items j ≡ Some y)) → y.made ≤ most + 1000
     by j y (inl same) =
-        let plays = it_plays script option actor old readable all built known some x there named in
+        let plays = it_plays script option actor old readable known some x there named in
         let t = turned_made calls plays.idle old.world.past past x after (turns plays.idle plays.plays) in
         let m = made (place_of script.node_names actor) x there in
         subst (λ (z : Player). z.made ≤ most + 1000) same.1 (omega (arith, t, m, few))

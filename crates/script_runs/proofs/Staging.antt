@@ -21,7 +21,7 @@ use Rattle.script_runs.specs.declared.player.Player.{Player}
 use Rattle.script_runs.specs.declared.stage.Stage.{Stage}
 use Rattle.script_runs.specs.Calls.{AreCalls, seat_at}
 use Rattle.binder_model.specs.World.{world}
-use Rattle.settle_check.specs.SoFar.{IsSettledSoFar}
+use Rattle.binder_model.specs.Due.{IsSettled}
 use Rattle.script_parts.specs.Budget.{raised}
 use Rattle.script_parts.specs.Limits.{AreInOrder as NamesInOrder}
 use Rattle.script_parts.specs.Parts.{all_actors, all_lives, drain_seat, drain_seats, seats_from}
@@ -31,7 +31,7 @@ use Rattle.script_runs.specs.Diligent.{role_of}
 use Rattle.script_runs.specs.Replays.{IsDrain, IsTurn, IsUserCall, Progress, and_idle, and_made}
 use Rattle.script_runs.specs.Steps.Living.{Lives}
 use Rattle.script_runs.specs.Steps.Playing.{HasMadeAll, HasMadeFewer, HasTurned, IsLife, Plays, StandsSince}
-use Rattle.script_runs.specs.Steps.Standing.{HasMoved, IsBudget, Leads, Stands, built_actors, built_parts, parts_in, seat_of_drains}
+use Rattle.script_runs.specs.Steps.Standing.{HasMoved, IsBudget, Leads, Stands, actors_for, all_parts, parts_in, seat_of_drains}
 use Rattle.script_runs.proofs.Casting.{in_order, names_differ, names_in}
 use Rattle.script_runs.proofs.Lived.{lives_on}
 use Rattle.script_runs.proofs.Lives.{seat_within}
@@ -133,7 +133,7 @@ module _ (script : Script) (option : Option ℕ) (user : ℕ) (request : Request
       others seat high = ap (own seat) past ∙ own_other entry old.world.past seat (λ e. absurd (omega (arith, e, high, low)))
 
       above : (place : ℕ) (x : Player) → slice_get old.players.items place ≡ Some x → (seat : ℕ) → IsLife x.part seat → 5 ≤ seat
-      above place x there seat life = (life_between 5 (built_parts script) (seat_of_drains script) place x.part seat (in_order script) (ap (λ ps. slice_get ps place) (sym stands.parts) ∙ part_at_place old.players.items place x there) life).0
+      above place x there seat life = (life_between 5 (all_parts script) (seat_of_drains script) place x.part seat (in_order script) (ap (λ ps. slice_get ps place) (sym stands.parts) ∙ part_at_place old.players.items place x there) life).0
 
       drains_above : (seat : ℕ) → IsOneOf (drain_seats script) seat → 5 ≤ seat
       drains_above seat own = after_users (all_lives (all_actors script) script.lines) seat (drains_last script seat own)
@@ -180,16 +180,16 @@ pub record HasPlayed (old new : Stage) (place : ℕ) (x after : Player) : Type 0
   pub budget : new.budget ≡ old.budget
 
 module _ (script : Script) (option : Option ℕ) (old new : Stage) (place : ℕ) (x after : Player) (order : NamesInOrder script.node_names) (last : drain_seat script ≡ seat_of_drains script) (played : HasPlayed old new place x after) (p : Progress) (stands : Stands script option p old) where
-  part_there : (j : ℕ) (y : Player) → slice_get old.players.items j ≡ Some y → slice_get (built_parts script) j ≡ Some y.part
+  part_there : (j : ℕ) (y : Player) → slice_get old.players.items j ≡ Some y → slice_get (all_parts script) j ≡ Some y.part
   part_there j y at = ap (λ ps. slice_get ps j) (sym stands.parts) ∙ part_at_place old.players.items j y at
 
   -- another's seats are no lives of this one
   not_mine : (j : ℕ) (y : Player) (seat : ℕ) → slice_get old.players.items j ≡ Some y → j ≢ place → IsLife y.part seat → IsLife x.part seat → ⊥
-  not_mine j y seat at differs other mine = differs (one_owner 5 (built_parts script) (seat_of_drains script) j place y.part x.part seat (in_order script) (part_there j y at) (part_there place x played.there) other mine)
+  not_mine j y seat at differs other mine = differs (one_owner 5 (all_parts script) (seat_of_drains script) j place y.part x.part seat (in_order script) (part_there j y at) (part_there place x played.there) other mine)
 
   not_drains : (seat : ℕ) → IsOneOf (drain_seats script) seat → IsLife x.part seat → ⊥
   not_drains seat own life =
-      let b = (life_between 5 (built_parts script) (seat_of_drains script) place x.part seat (in_order script) (part_there place x played.there) life).1 in
+      let b = (life_between 5 (all_parts script) (seat_of_drains script) place x.part seat (in_order script) (part_there place x played.there) life).1 in
       let d = drains_last script seat own in
       absurd (omega (arith, b, d, last))
 
@@ -198,7 +198,7 @@ module _ (script : Script) (option : Option ℕ) (old new : Stage) (place : ℕ)
   player_at j y at = set_cases old.players.items place after j y (slice_get_within old.players.items place x played.there) (ap (λ xs. slice_get xs j) (sym played.players) ∙ at)
 
   stands_on : (count : ℕ) (idle : ℕ → List Entry) → after.made ≡ x.made + count → ((seat : ℕ) → (IsLife x.part seat → ⊥) → own seat new.world.past ≡ own seat old.world.past) → ((seat : ℕ) → (IsLife x.part seat → ⊥) → idle seat ≡ p.idle seat)
-      → Plays after new.world.past idle → ((actor : Actor) → slice_get (built_actors script.node_names) place ≡ Some actor → Lives (role_of actor) after new.world.past) → Stands script option (record p { past = new.world.past; made = and_made x.part.name count p.made; idle = idle }) new
+      → Plays after new.world.past idle → ((actor : Actor) → slice_get (actors_for script.node_names) place ≡ Some actor → Lives (role_of actor) after new.world.past) → Stands script option (record p { past = new.world.past; made = and_made x.part.name count p.made; idle = idle }) new
   stands_on count idle more others same_idle plays lives = record {
     past = refl;
     setup = played.setup ∙ stands.setup;
@@ -218,18 +218,18 @@ module _ (script : Script) (option : Option ℕ) (old new : Stage) (place : ℕ)
       each_plays j y named (inl is) = subst (λ z. Plays z new.world.past idle) is.1 plays
       each_plays j y named (inr other) = plays_on y old.world.past new.world.past p.idle idle named (λ seat life. others seat (not_mine j y seat other.1 other.0 life)) (λ seat life. same_idle seat (not_mine j y seat other.1 other.0 life)) (stands.plays j y other.1 named)
 
-      each_lives : (j : ℕ) (actor : Actor) (y : Player) → slice_get (built_actors script.node_names) j ≡ Some actor → y.part.named ≡ true → ((j ≡ place) × (after ≡ y)) ⊎ ((j ≢ place) × (slice_get old.players.items j ≡ Some y)) → Lives (role_of actor) y new.world.past
-      each_lives j actor y there named (inl is) = subst (λ z. Lives (role_of actor) z new.world.past) is.1 (lives actor (subst (λ n. slice_get (built_actors script.node_names) n ≡ Some actor) is.0 there))
+      each_lives : (j : ℕ) (actor : Actor) (y : Player) → slice_get (actors_for script.node_names) j ≡ Some actor → y.part.named ≡ true → ((j ≡ place) × (after ≡ y)) ⊎ ((j ≢ place) × (slice_get old.players.items j ≡ Some y)) → Lives (role_of actor) y new.world.past
+      each_lives j actor y there named (inl is) = subst (λ z. Lives (role_of actor) z new.world.past) is.1 (lives actor (subst (λ n. slice_get (actors_for script.node_names) n ≡ Some actor) is.0 there))
       each_lives j actor y there named (inr other) = lives_on (role_of actor) y old.world.past new.world.past (life_at y old.world.past p.idle named (stands.plays j y other.1 named)) (λ seat life. others seat (not_mine j y seat other.1 other.0 life)) (stands.lives j actor y there other.1 named)
 
       each_made : (j : ℕ) (y : Player) → ((j ≡ place) × (after ≡ y)) ⊎ ((j ≢ place) × (slice_get old.players.items j ≡ Some y)) → y.made ≡ and_made x.part.name count p.made y.part.name
       each_made j y (inl is) = subst (λ z. z.made ≡ and_made x.part.name count p.made z.part.name) is.1 (more ∙ ap (λ n. n + count) (stands.made place x played.there) ∙ sym (own_made x.part.name count p.made) ∙ ap (λ (q : Part). and_made x.part.name count p.made q.name) (sym played.part))
-      each_made j y (inr other) = stands.made j y other.1 ∙ sym (other_made x.part.name y.part.name count p.made (other_name (names_in (built_parts script)) j place y.part.name x.part.name (names_differ script order) (name_at (built_parts script) j y.part (part_there j y other.1)) (name_at (built_parts script) place x.part (part_there place x played.there)) other.0))
+      each_made j y (inr other) = stands.made j y other.1 ∙ sym (other_made x.part.name y.part.name count p.made (other_name (names_in (all_parts script)) j place y.part.name x.part.name (names_differ script order) (name_at (all_parts script) j y.part (part_there j y other.1)) (name_at (all_parts script) place x.part (part_there place x played.there)) other.0))
 
   calls_at : (count : ℕ) → AreCalls x.part new.world.past (x.made + 1) count old.world.past → AreCalls x.part new.world.past (p.made x.part.name + 1) count p.past
   calls_at count calls = subst (λ h. AreCalls x.part new.world.past (p.made x.part.name + 1) count h) stands.past (subst (λ n. AreCalls x.part new.world.past (n + 1) count old.world.past) (stands.made place x played.there) calls)
 
-  turned : (calls : ℕ) → HasTurned calls p.idle old.world.past new.world.past x after → ((actor : Actor) → slice_get (built_actors script.node_names) place ≡ Some actor → Lives (role_of actor) after new.world.past) → Leads script option (IsTurn x.part calls) p new
+  turned : (calls : ℕ) → HasTurned calls p.idle old.world.past new.world.past x after → ((actor : Actor) → slice_get (actors_for script.node_names) place ≡ Some actor → Lives (role_of actor) after new.world.past) → Leads script option (IsTurn x.part calls) p new
   turned calls t lives = by t.made
     where
       by : HasMadeAll calls p.idle old.world.past new.world.past x after ⊎ HasMadeFewer calls p.idle old.world.past new.world.past x after → Leads script option (IsTurn x.part calls) p new
@@ -274,8 +274,8 @@ pub record HasDrained (script : Script) (option : Option ℕ) (old new : Stage) 
   pub entries : IsLonger (seats_of old.drainers) made old.world.past new.world.past
   pub others : (seat : ℕ) → (IsOneOf (seats_of old.drainers) seat → ⊥) → own seat new.world.past ≡ own seat old.world.past
   pub few : made ≤ new.budget - old.drained
-  pub ends : IsSettledSoFar new.world.setup (world new.world.setup new.world.past) ⊎ (made ≡ new.budget - old.drained)
-  pub none : IsSettledSoFar old.world.setup (world old.world.setup old.world.past) → new.world.past ≡ old.world.past
+  pub ends : IsSettled new.world.setup (world new.world.setup new.world.past) ⊎ (made ≡ new.budget - old.drained)
+  pub none : IsSettled old.world.setup (world old.world.setup old.world.past) → new.world.past ≡ old.world.past
   pub standing : AreStanding new.drainers new.world.past
   pub seats : seats_of new.drainers ≡ seats_of old.drainers
   pub setup : new.world.setup ≡ old.world.setup
@@ -300,7 +300,7 @@ drain_moved script option old new made last d p stands = record {
     });
     few = let f = d.few in let r = d.room in let e = stands.drained in omega (arith, f, r, e);
     ends = ends d.ends;
-    none = λ settled. d.none (subst (λ s. IsSettledSoFar s (world s old.world.past)) (sym stands.setup) (subst (λ h. IsSettledSoFar script.setup (world script.setup h)) (sym stands.past) settled)) ∙ stands.past;
+    none = λ settled. d.none (subst (λ s. IsSettled s (world s old.world.past)) (sym stands.setup) (subst (λ h. IsSettled script.setup (world script.setup h)) (sym stands.past) settled)) ∙ stands.past;
     is = refl;
   };
   stands = record {
@@ -323,12 +323,12 @@ drain_moved script option old new made last d p stands = record {
   };
 }
   where
-    ends : IsSettledSoFar new.world.setup (world new.world.setup new.world.past) ⊎ (made ≡ new.budget - old.drained) → IsSettledSoFar script.setup (world script.setup new.world.past) ⊎ (p.drained + made ≡ new.budget)
-    ends (inl settled) = inl (subst (λ s. IsSettledSoFar s (world s new.world.past)) (d.setup ∙ stands.setup) settled)
+    ends : IsSettled new.world.setup (world new.world.setup new.world.past) ⊎ (made ≡ new.budget - old.drained) → IsSettled script.setup (world script.setup new.world.past) ⊎ (p.drained + made ≡ new.budget)
+    ends (inl settled) = inl (subst (λ s. IsSettled s (world s new.world.past)) (d.setup ∙ stands.setup) settled)
     ends (inr spent) = inr (let r = d.room in let e = stands.drained in omega (arith, spent, r, e))
 
     below : (place : ℕ) (x : Player) → slice_get old.players.items place ≡ Some x → (s : ℕ) → IsLife x.part s → IsOneOf (drain_seats script) s → ⊥
     below place x there s life own =
-        let b = (life_between 5 (built_parts script) (seat_of_drains script) place x.part s (in_order script) (ap (λ ps. slice_get ps place) (sym stands.parts) ∙ part_at_place old.players.items place x there) life).1 in
+        let b = (life_between 5 (all_parts script) (seat_of_drains script) place x.part s (in_order script) (ap (λ ps. slice_get ps place) (sym stands.parts) ∙ part_at_place old.players.items place x there) life).1 in
         let d = drains_last script s own in
         absurd (omega (arith, b, d, last))

@@ -1,14 +1,13 @@
 -- An actor whose epoch is stale is an agent that was told so.
-use Rattle.std.proofs.Common.{◌≡◌, ◌⊎◌, ℕ, List, [], ◌∷◌, Bool, true, false, true≢false, inl, inr, refl, sym, ◌∙◌, ap, if◌then◌else◌}
+use Rattle.std.proofs.Common.{◌≡◌, ◌⊎◌, ℕ, List, [], ◌∷◌, Bool, true, false, true≢false, inl, inr, refl, sym, if◌then◌else◌}
 use Rattle.std.specs.Prelude.{◌||◌}
 use Rattle.call_types.specs.declared.entry.Entry.{Entry}
 use Rattle.call_types.specs.declared.request.SeatKind.{SeatKind}
 use Rattle.call_types.specs.declared.request.SeatKind.TheVariants as seats
-use Rattle.binder_model.specs.Told.{SomeOf}
 use Rattle.worker_core.specs.declared.role.Role.{Role}
-use Rattle.worker_core.specs.Memories.{Memory, is_stale_told, memory_after, memory_of, no_memory, remembers}
+use Rattle.worker_core.specs.Memories.{Memory, is_stale_told, memory_after, memory_of, remembers}
 use Rattle.worker_core.specs.Roles.{IsBuiltKind}
-use Rattle.script_runs.specs.Calls.{TellsStale, WasToldStale}
+use Rattle.script_runs.specs.Calls.{WasToldStale}
 
 -- what makes a memory stale: it was so before, or an agent was told
 newly_stale : (kind : SeatKind) (node : List ℕ) (e : Entry) (m : Memory) → IsBuiltKind kind → (remembers kind node e.request e.reply m).stale ≡ true → (m.stale ≡ true) ⊎ ((kind ≡ seats.Agent) × (is_stale_told e.reply ≡ true))
@@ -16,8 +15,8 @@ newly_stale seats.Binder node e m built stale = inl stale
 newly_stale seats.ClaimProtect node e m built stale = inl stale
 newly_stale seats.VolumeProtect node e m built stale = inl stale
 newly_stale seats.User node e m built stale = absurd built
-newly_stale seats.Ops node e m built stale = absurd built
-newly_stale seats.Scheduler node e m built stale = absurd built
+newly_stale seats.Ops node e m built stale = inl stale
+newly_stale seats.Scheduler node e m built stale = inl stale
 newly_stale seats.Agent node e m built stale = by m.stale (is_stale_told e.reply) stale
   where
     by : (before told : Bool) → (before || told) ≡ true → (before ≡ true) ⊎ ((seats.Agent ≡ seats.Agent) × (told ≡ true))

@@ -10,7 +10,7 @@ use Rattle.binder_model.specs.Told.{own}
 use Rattle.binder_model.specs.World.{world}
 use Rattle.world_core.specs.declared.drained.Drained.{Drained}
 use Rattle.world_core.specs.declared.drained.Drained.TheVariants.{Settled, Spent}
-use Rattle.settle_check.specs.SoFar.{IsFirstBuiltDue, IsSettledSoFar}
+use Rattle.binder_model.specs.Due.{IsFirstDue, IsSettled}
 use Rattle.worker_threads.specs.Longer.{IsLonger}
 use Rattle.script_text.specs.declared.script.Line.{Line}
 use Rattle.script_text.specs.declared.script.Line.TheVariants.{Call, Lose, Restart, Turn, Drain}
@@ -78,8 +78,8 @@ pub record IsDrain (script : Script) (option : Option ℕ) (before after : Progr
   pub raises : budget ≡ raised option script.setup before.past before.budget
   pub entries : IsLonger (drain_seats script) made before.past past
   pub few : before.drained + made ≤ budget
-  pub ends : IsSettledSoFar script.setup (world script.setup past) ⊎ (before.drained + made ≡ budget)
-  pub none : IsSettledSoFar script.setup (world script.setup before.past) → past ≡ before.past
+  pub ends : IsSettled script.setup (world script.setup past) ⊎ (before.drained + made ≡ budget)
+  pub none : IsSettled script.setup (world script.setup before.past) → past ≡ before.past
   pub is : after ≡ record before { past = past; drained = before.drained + made; budget = budget }
 
 -- ---- the lines
@@ -100,8 +100,8 @@ pub data AreMoves (script : Script) (option : Option ℕ) (end : Progress) : Lis
 
 -- how a replay ends, with the calls that all drains have made: settled, or with the budget spent and the first that is due
 abbrev pub EndsAs : Setup → Progress → Drained → Type 0
-EndsAs setup end (Settled made) = (made ≡ end.drained) × IsSettledSoFar setup (world setup end.past)
-EndsAs setup end (Spent made key due) = (made ≡ end.drained) × (made ≡ end.budget) × IsFirstBuiltDue setup (world setup end.past) (Some (key, due))
+EndsAs setup end (Settled made) = (made ≡ end.drained) × IsSettled setup (world setup end.past)
+EndsAs setup end (Spent made key due) = (made ≡ end.drained) × (made ≡ end.budget) × IsFirstDue setup (world setup end.past) (Some (key, due))
 
 -- the lines are done in order, and then one more drain
 pub record IsReplay (script : Script) (option : Option ℕ) (past : List Entry) (ending : Drained) : Type 0 where

@@ -1,7 +1,7 @@
 //! A script replayed.
 
 ghost use Rattle.std.specs.Prelude.{◌≡◌, IfOk};
-ghost use Rattle.script_parts.specs.Limits.{AreBuilt, IsReadable};
+ghost use Rattle.script_parts.specs.Limits.{IsReadable};
 ghost use Rattle.fitting_calls.specs.Calls.{AreByActors};
 ghost use Rattle.script_runs.specs.Diligent.{IsDiligentReplay};
 ghost use Rattle.script_runs.specs.Replays.{IsReplay};
@@ -28,10 +28,9 @@ impl Drop for Replayed {
 }
 
 /// Goes through the lines of a script in order, on one thread, and then drains. Without a given budget that of all drains is
-/// raised as each begins. The script is one that the reader gives, and names actors that are built.
+/// raised as each begins. The script is one that the reader gives.
 pub fn replay(alloc: Global, script: &Script, budget: Option<u64>) -> Result<Replayed, OutOfMemory>
     requires readable { IsReadable script.now }
-    requires built { AreBuilt script.now.lines }
     ensures replay { IfOk result (λ r. IsReplay script.now budget r.world.past r.ending) }
     ensures diligent { IfOk result (λ r. IsDiligentReplay script.now budget r.world.past r.ending) }
     ensures actors { IfOk result (λ r. AreByActors r.world.past) }

@@ -9,12 +9,12 @@ ghost use Rattle.worker_core.specs.Roles.{IsBuiltKind};
 ghost use Rattle.worker_core.specs.Stands.{IsNew, StandsFor};
 ghost use Rattle.worker_threads.specs.Rounds.{EndsWith, made_of};
 ghost use Rattle.script_parts.specs.Budget.{first_budget};
-ghost use Rattle.script_parts.specs.Limits.{AreBuilt, IsKnown, IsReadable, is_actor_built, is_kind_built};
+ghost use Rattle.script_parts.specs.Limits.{IsKnown, IsReadable};
 ghost use Rattle.script_parts.specs.Parts.{is_named, kind_of, part_of};
 ghost use Rattle.script_runs.specs.Diligent.{role_of};
 ghost use Rattle.script_runs.specs.Replays.{IsDrain, IsMove, IsTurn, IsUserCall, Progress, begun};
 ghost use Rattle.script_runs.specs.Steps.Playing.{IsNewPlayer};
-ghost use Rattle.script_runs.specs.Steps.Standing.{Ended, HasAdded, HasMoved, MadeAtMost, SomeStands, Stands, agents_for, built_actors, part_from, place_of, place_of_kind, place_of_node, place_of_number, with_made, workers_of};
+ghost use Rattle.script_runs.specs.Steps.Standing.{Ended, HasAdded, HasMoved, MadeAtMost, SomeStands, Stands, actors_for, agents_for, part_from, place_of, place_of_kind, place_of_node, place_of_number, with_made, workers_of};
 
 use crate::player::{Player, turn};
 use call_types::request::{Request, SeatKind};
@@ -37,8 +37,8 @@ const MOST_ENTRIES: usize = 165216;
 /// The users have the seats before it.
 const FIRST_ACTOR_SEAT: u64 = 5;
 
-/// How many workers are built.
-const WORKERS: usize = 12;
+/// How many workers there are.
+const WORKERS: usize = 20;
 
 /// A world, the actors that turns name, and those of the drains; how many calls all drains have made, and may make.
 pub(crate) struct Stage {
@@ -64,15 +64,17 @@ impl Drop for Stage {
     }
 }
 
-/// The place of the first worker of a kind among those that are built.
+/// The place of the first worker of a kind among all.
 fn place_of_kind(kind: WorkerKind) -> usize
     ensures place { result ≡ place_of_kind kind }
-    ensures few { result ≤ 8 }
+    ensures few { result ≤ 16 }
 {
     match kind {
-        WorkerKind::Binder | WorkerKind::Ops | WorkerKind::Scheduler => 0,
-        WorkerKind::Claims => 4,
-        WorkerKind::Volumes => 8,
+        WorkerKind::Binder => 0,
+        WorkerKind::Ops => 4,
+        WorkerKind::Scheduler => 8,
+        WorkerKind::Claims => 12,
+        WorkerKind::Volumes => 16,
     }
 }
 
@@ -103,7 +105,7 @@ fn place_of_node(node: &Text, nodes: &Names) -> usize
     place
 }
 
-/// The place of an actor among those that are built: the workers, and then the agents of these nodes.
+/// The place of an actor among all: the workers, and then the agents of these nodes.
 fn place_of(actor: &Actor, nodes: &Names) -> usize
     requires { length nodes.now ≤ 8 }
     ensures { result ≡ place_of nodes.now actor.now }
@@ -142,8 +144,6 @@ impl Stage {
         calls: u64,
         most: u64,
     ) -> Result<(), OutOfMemory>
-        requires lines { AreBuilt script.now.lines }
-        requires built { is_actor_built actor.now ≡ true }
         requires known { IsKnown script.now.node_names actor.now }
         requires named { is_named (actor_word actor.now) script.now.lines ≡ true }
         requires readable { IsReadable script.now }
@@ -162,7 +162,6 @@ impl Stage {
 
     /// Raises the budget, and drains.
     fn drain(&mut self, script: &Script, option: Option<u64>) -> Result<Drained, OutOfMemory>
-        requires built { AreBuilt script.now.lines }
         requires stands { SomeStands script.now option self.old }
         ensures moved { OnOk result (HasMoved script.now option (IsDrain script.now option) self.old self.new) }
         ensures actors { OnOk result (AreByActors self.old.world.past → AreByActors self.new.world.past) }
@@ -186,7 +185,6 @@ impl Stage {
         place: usize,
     ) -> Result<(), OutOfMemory>
         requires readable { IsReadable script.now }
-        requires built { AreBuilt script.now.lines }
         requires place { place < length script.now.lines }
         requires stands { SomeStands script.now option self.old }
         requires made { MadeAtMost (1000 * place) self.old }
@@ -220,7 +218,6 @@ impl Stage {
         script: &Script,
         option: Option<u64>,
     ) -> Result<Drained, OutOfMemory>
-        requires built { AreBuilt script.now.lines }
         requires stands { SomeStands script.now option self.old }
         ensures ended { IfOk result (λ ending. (p : Progress) → Stands script.now option p self.old → Ended script.now option p self.new ending) }
         ensures actors { OnOk result (AreByActors self.old.world.past → AreByActors self.new.world.past) }
@@ -292,7 +289,6 @@ fn new_actor(alloc: Global, kind: SeatKind, actor: &Actor) -> Result<WorkingActo
 
 /// An actor before its first call, whose first life has this seat.
 fn player(alloc: Global, actor: &Actor, first: u64, lines: &[Line]) -> Result<Player, OutOfMemory>
-    requires { is_actor_built actor.now ≡ true }
     ensures part { IfOk result (λ x. x.part ≡ part_from lines.now actor.now first) }
     ensures new { IfOk result (λ x. IsNewPlayer (role_of actor.now) x) }
     ensures few { IfOk result (λ x. length x.part.restarts ≤ length lines.now) }
@@ -315,7 +311,6 @@ fn add_player(
     first: u64,
     lines: &[Line],
 ) -> Result<u64, OutOfMemory>
-    requires built { is_actor_built actor.now ≡ true }
     requires few { length lines.now ≤ 4096 }
     requires small { first + 4097 < 2 ^ 32 }
     ensures added { IfOk result (λ seat. HasAdded lines.now (actor.now ∷ []) first seat players.old.items players.new.items) }
@@ -336,7 +331,6 @@ fn add_workers(
     first: u64,
     lines: &[Line],
 ) -> Result<u64, OutOfMemory>
-    requires built { is_kind_built kind ≡ true }
     requires few { length lines.now ≤ 4096 }
     requires small { first + 16388 < 2 ^ 32 }
     ensures added { IfOk result (λ seat. HasAdded lines.now (workers_of kind) first seat players.old.items players.new.items) }
@@ -388,11 +382,11 @@ fn add_agents(
     Ok(seat)
 }
 
-/// The actors that are built before their first calls, and the seat after those of their lives.
+/// All actors before their first calls, and the seat after those of their lives.
 fn players(alloc: Global, script: &Script) -> Result<(Vec<Player>, u64), OutOfMemory>
     requires lines { length script.now.lines ≤ 4096 }
     requires nodes { length script.now.node_names ≤ 8 }
-    ensures added { IfOk result (λ r. HasAdded script.now.lines (built_actors script.now.node_names) 5 r.1 [] r.0.items) }
+    ensures added { IfOk result (λ r. HasAdded script.now.lines (actors_for script.now.node_names) 5 r.1 [] r.0.items) }
     ensures small { IfOk result (λ r. r.1 < 2 ^ 32) }
 {
     let lines = script.lines.as_slice();
@@ -404,9 +398,11 @@ fn players(alloc: Global, script: &Script) -> Result<(Vec<Player>, u64), OutOfMe
         FIRST_ACTOR_SEAT,
         lines,
     )?;
-    let third = add_workers(alloc, &mut players, WorkerKind::Claims, second, lines)?;
-    let fourth = add_workers(alloc, &mut players, WorkerKind::Volumes, third, lines)?;
-    let end = add_agents(alloc, &mut players, &script.node_names, fourth, lines)?;
+    let third = add_workers(alloc, &mut players, WorkerKind::Ops, second, lines)?;
+    let fourth = add_workers(alloc, &mut players, WorkerKind::Scheduler, third, lines)?;
+    let fifth = add_workers(alloc, &mut players, WorkerKind::Claims, fourth, lines)?;
+    let sixth = add_workers(alloc, &mut players, WorkerKind::Volumes, fifth, lines)?;
+    let end = add_agents(alloc, &mut players, &script.node_names, sixth, lines)?;
     Ok((players, end))
 }
 
@@ -426,7 +422,6 @@ pub(crate) fn begin(
     option: Option<u64>,
 ) -> Result<Stage, OutOfMemory>
     requires readable { IsReadable script.now }
-    requires built { AreBuilt script.now.lines }
     ensures stands { IfOk result (λ s. Stands script.now option (begun option) s) }
     ensures actors { IfOk result (λ s. AreByActors s.world.past) }
     ensures made { IfOk result (λ s. MadeAtMost 0 s) }

@@ -1,3 +1,6 @@
+pub mod Asked
 pub mod LiveReads
-pub mod Restricted
+pub mod Placed
+pub mod Preparing
 pub mod Scanned
+pub mod Settled

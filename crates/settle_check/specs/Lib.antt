@@ -1,3 +1,2 @@
-pub mod SoFar
-pub mod SoFarLaws
 pub mod Steps
+pub mod WorldOf

@@ -3,35 +3,30 @@
 ghost use Rattle.std.specs.Prelude.{◌≡◌};
 ghost use Rattle.std.specs.List.{list_all, list_any};
 ghost use Rattle.std.specs.Option.{option_copied};
-ghost use Rattle.kube_types.specs.declared.objects.Object.TheVariants as objects;
 ghost use Rattle.kube_types.specs.Keys.{row_at};
 ghost use Rattle.binder_model.specs.BindWrites.{is_claim_bound};
 ghost use Rattle.binder_model.specs.Choice.{claim_named};
-ghost use Rattle.binder_model.specs.Due.{carried_by, is_pod_mounted, is_ready};
+ghost use Rattle.binder_model.specs.Due.{agent_due, carried_by, is_pod_mounted, is_ready};
 ghost use Rattle.binder_model.specs.ObjectKeys.{volume_key};
 ghost use Rattle.binder_model.specs.Same.{same_uid};
-ghost use Rattle.settle_check.specs.SoFar.{world_of};
-ghost use Rattle.settle_check.specs.SoFarLaws.{due_so_far};
+ghost use Rattle.settle_check.specs.WorldOf.{world_of};
 
 use call_types::reply::MountRow;
+use delayed_binding::claim_named;
 use device_model::devices::Devices;
-use kube_types::bindings::{carries, is_completed, is_deleting, is_protected_claim, is_scheduled};
+use kube_types::bindings::{carries, is_completed, is_deleting, is_protected_claim};
 use kube_types::names::Due;
 use kube_types::objects::{Claim, Object, Pod};
 use kube_types::parts::{ClaimPhase, Kind};
-use kube_types::text::Text;
 use kube_types::uid::Uid;
 use version_store::store::Store;
 use volume_match::row_named;
 use world_core::world::World;
 
 /// What the agent of its node has to do for the pod.
-pub(crate) fn due_of_pod(world: &World, pod: &Pod) -> Option<Due>
-    ensures { result ≡ due_so_far (world_of world.now) (objects.Pod pod.now) }
+pub(crate) fn agent_due(world: &World, pod: &Pod) -> Option<Due>
+    ensures { result ≡ agent_due (world_of world.now) pod.now }
 {
-    if !is_scheduled(pod) {
-        return None;
-    }
     if is_deleting(&pod.meta) {
         return Some(Due::Finish);
     }
@@ -63,25 +58,14 @@ fn are_ready(store: &Store, pod: &Pod) -> bool
     ensures { result ≡ list_all (λ name. is_ready store.now.rows (claim_named store.now.rows pod.now.meta.namespace name)) pod.now.claims }
 {
     for name in pod.claims.as_slice() {
-        if !is_ready(store, claim_named(store, &pod.meta.namespace, name)) {
+        if !is_ready(
+            store,
+            claim_named(store, pod.meta.namespace.as_str(), name.as_str()),
+        ) {
             return false;
         }
     }
     true
-}
-
-fn claim_named<'a>(store: &'a Store, namespace: &Text, name: &Text) -> Option<&'a Claim>
-    ensures { option_copied result ≡ claim_named store.now.rows namespace.now name.now }
-{
-    match row_named(
-        store,
-        Kind::PersistentVolumeClaim,
-        namespace.as_str(),
-        name.as_str(),
-    ) {
-        Some(Object::Claim(claim)) => Some(claim),
-        _ => None,
-    }
 }
 
 /// Whether there is the claim, and it stays, is protected, completed and bound, and its volume carries it.

@@ -1,11 +1,12 @@
 //! The first action that is due.
 
-ghost use Rattle.std.specs.Prelude.{◌≡◌, IfOk};
-ghost use Rattle.settle_check.specs.SoFar.{IsBuiltDue, IsFirstBuiltDue, world_of};
+ghost use Rattle.std.specs.Prelude.{◌≡◌, IfOk, Some};
+ghost use Rattle.kube_types.specs.Keys.{key_of, row_at};
+ghost use Rattle.binder_model.specs.Due.{IsDue, IsFirstDue};
+ghost use Rattle.settle_check.specs.WorldOf.{world_of};
 ghost use Rattle.settle_check.specs.Steps.Scan.{IsFirstIn, first_key, first_pair};
 
-use crate::agent::due_of_pod;
-use crate::protection::{due_of_claim, due_of_volume};
+use crate::objects::{due_of_claim, due_of_pod, due_of_volume};
 use kube_types::copies::OutOfMemory;
 use kube_types::key::{Key, key_of};
 use kube_types::names::Due;
@@ -20,45 +21,47 @@ pub struct FirstDue<'a> {
     pub action: Due,
 }
 
-/// What is due for the object, by an actor that is built.
-fn object_due(world: &World, object: &Object) -> Option<Due>
-    ensures { IsBuiltDue world.now.setup (world_of world.now) object.now result }
+/// What is due for the object, which stands in the store.
+fn object_due(alloc: Global, world: &World, object: &Object) -> Result<Option<Due>, OutOfMemory>
+    requires { row_at (key_of object.now) (world_of world.now).store.rows ≡ Some object.now }
+    ensures { IfOk result (λ action. IsDue world.now.setup (world_of world.now) object.now action) }
 {
     match object {
-        Object::Volume(volume) => due_of_volume(world.store(), volume),
-        Object::Claim(claim) => due_of_claim(world.store(), claim),
-        Object::Pod(pod) => due_of_pod(world, pod),
-        Object::Class(_) | Object::Node(_) => None,
+        Object::Volume(volume) => Ok(due_of_volume(world.store(), volume)),
+        Object::Claim(claim) => due_of_claim(alloc, world, claim),
+        Object::Pod(pod) => due_of_pod(alloc, world, pod),
+        Object::Class(_) | Object::Node(_) => Ok(None),
     }
 }
 
 /// The first object for which something is due, in the order of keys.
-fn scan(world: &World) -> Option<FirstDue<'_>>
-    ensures { IsFirstIn (IsBuiltDue world.now.setup (world_of world.now)) (world_of world.now).store.rows (first_pair result) }
+fn scan(alloc: Global, world: &World) -> Result<Option<FirstDue<'_>>, OutOfMemory>
+    ensures { IfOk result (λ first. IsFirstIn (IsDue world.now.setup (world_of world.now)) (world_of world.now).store.rows (first_pair first)) }
 {
     let objects = world.store().objects();
     for object in objects {
-        if let Some(action) = object_due(world, object) {
-            return Some(FirstDue { object, action });
+        if let Some(action) = object_due(alloc, world, object)? {
+            return Ok(Some(FirstDue { object, action }));
         }
     }
-    None
+    Ok(None)
 }
 
 /// The first object for which something is due, in the order of kinds, namespaces and names; none exactly where the world
-/// is settled. One scan over the objects, which ends at the first that is due; it takes no memory.
-pub fn first_due(world: &World) -> Option<FirstDue<'_>>
-    ensures { IsFirstBuiltDue world.now.setup (world_of world.now) (first_key result) }
+/// is settled. One scan over the objects, which ends at the first that is due; only what the provisioner and the
+/// scheduler would do takes memory.
+pub fn first_due(alloc: Global, world: &World) -> Result<Option<FirstDue<'_>>, OutOfMemory>
+    ensures { IfOk result (λ first. IsFirstDue world.now.setup (world_of world.now) (first_key first)) }
 {
-    scan(world)
+    scan(alloc, world)
 }
 
 /// The key of the first object for which something is due, in the order of kinds, namespaces and names, with the action;
-/// none exactly where the world is settled. Only the copy of the key takes memory.
+/// none exactly where the world is settled.
 pub fn due(alloc: Global, world: &World) -> Result<Option<(Key, Due)>, OutOfMemory>
-    ensures { IfOk result (λ first. IsFirstBuiltDue world.now.setup (world_of world.now) first) }
+    ensures { IfOk result (λ first. IsFirstDue world.now.setup (world_of world.now) first) }
 {
-    match first_due(world) {
+    match first_due(alloc, world)? {
         None => Ok(None),
         Some(first) => Ok(Some((key_of(alloc, first.object)?, first.action))),
     }

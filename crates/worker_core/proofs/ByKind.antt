@@ -17,9 +17,11 @@ use Rattle.binder_model.specs.Told.{first_some}
 use Rattle.informer_cache.specs.declared.cache.Ask.{Ask}
 use Rattle.informer_cache.specs.declared.cache.Ask.TheVariants as asks
 use Rattle.model_laws.proofs.Lists.{none_some, one}
+use Rattle.pod_scheduler.specs.Tries.{tries_after, tries_of}
 use Rattle.worker_core.specs.declared.role.Role.{Role}
-use Rattle.worker_core.specs.Memories.{Memory, agent_remembers, memory_after, memory_of, no_memory, remembers}
+use Rattle.worker_core.specs.Memories.{Memory, agent_remembers, memory_after, memory_of, remembers, scheduler_remembers}
 use Rattle.worker_core.specs.Roles.{IsBuiltKind, kinds_of}
+use Rattle.worker_core.specs.Rules.{TriesAreTold}
 use Rattle.worker_core.specs.Stands.{StandsFor}
 use Rattle.worker_core.specs.States.{State, agent_start, read_request, start_of}
 
@@ -72,8 +74,8 @@ start_allowed seats.ClaimProtect node m mine r built is e = none_some e
 start_allowed seats.VolumeProtect node m mine r built is e = none_some e
 start_allowed seats.Agent node m mine r built is e = agent_start_allowed node m.epoch (is_some m.mounts) mine r is e
 start_allowed seats.User node m mine r built is e = absurd built
-start_allowed seats.Ops node m mine r built is e = absurd built
-start_allowed seats.Scheduler node m mine r built is e = absurd built
+start_allowed seats.Ops node m mine r built is e = none_some e
+start_allowed seats.Scheduler node m mine r built is e = none_some e
 
 agent_reads_none : (node : List ℕ) (epoch : Option ℕ) (told : Bool) (r : Request) (k : Kind) → agent_start node epoch told ≡ Some r → reads_kind k r ≡ false
 agent_reads_none node None told r k e = ap (reads_kind k) (sym (one _ r e))
@@ -90,28 +92,49 @@ start_reads_none seats.User node m r k e = none_some e
 start_reads_none seats.Ops node m r k e = none_some e
 start_reads_none seats.Scheduler node m r k e = none_some e
 
--- what the kinds that are built remember: all but an agent nothing
+-- the memory
 
-pub learns_nothing : (kind : SeatKind) (node : List ℕ) (request : Request) (reply : Reply) (m : Memory) → IsBuiltKind kind → kind ≢ seats.Agent → remembers kind node request reply m ≡ m
-learns_nothing seats.Binder node request reply m built other = refl
-learns_nothing seats.ClaimProtect node request reply m built other = refl
-learns_nothing seats.VolumeProtect node request reply m built other = refl
-learns_nothing seats.User node request reply m built other = absurd built
-learns_nothing seats.Ops node request reply m built other = absurd built
-learns_nothing seats.Scheduler node request reply m built other = absurd built
-learns_nothing seats.Agent node request reply m built other = absurd (other refl)
+-- only an agent is told that its epoch is stale
 
-forgets : (role : Role) (mine : List Entry) → IsBuiltKind role.kind → role.kind ≢ seats.Agent → memory_of role mine ≡ no_memory
-forgets role [] built other = refl
-forgets role (e ∷ mine) built other = by e.told (forgets role mine built other)
+keeps_fresh : (kind : SeatKind) (node : List ℕ) (request : Request) (reply : Reply) (m : Memory) → kind ≢ seats.Agent → (remembers kind node request reply m).stale ≡ m.stale
+keeps_fresh seats.User node request reply m other = refl
+keeps_fresh seats.Binder node request reply m other = refl
+keeps_fresh seats.Ops node request reply m other = refl
+keeps_fresh seats.Scheduler node request reply m other = refl
+keeps_fresh seats.ClaimProtect node request reply m other = refl
+keeps_fresh seats.VolumeProtect node request reply m other = refl
+keeps_fresh seats.Agent node request reply m other = absurd (other refl)
+
+fresh : (role : Role) (mine : List Entry) → role.kind ≢ seats.Agent → (memory_of role mine).stale ≡ false
+fresh role [] other = refl
+fresh role (e ∷ mine) other = by e.told (fresh role mine other)
   where
-    by : (told : Bool) → memory_of role mine ≡ no_memory → (if told then memory_after role e.request e.reply (memory_of role mine) else memory_of role mine) ≡ no_memory
-    by true rest = learns_nothing role.kind role.node e.request e.reply (memory_of role mine) built other ∙ rest
+    by : (told : Bool) → (memory_of role mine).stale ≡ false → (if told then memory_after role e.request e.reply (memory_of role mine) else memory_of role mine).stale ≡ false
+    by true rest = keeps_fresh role.kind role.node e.request e.reply (memory_of role mine) other ∙ rest
     by false rest = rest
 
--- an actor that is no agent is never told that its epoch is stale
 pub built_fresh : (s : State) (mine : List Entry) → IsBuiltKind s.role.kind → s.role.kind ≢ seats.Agent → StandsFor s mine → s.memory.stale ≡ false
-built_fresh s mine built other stands = ap (λ (m : Memory). m.stale) (stands.memory ∙ forgets s.role mine built other)
+built_fresh s mine built other stands = ap (λ (m : Memory). m.stale) stands.memory ∙ fresh s.role mine other
+
+-- the nodes that a scheduler remembers are those that its entries tell
+
+scheduler_tries : (node : List ℕ) (mine : List Entry) → (memory_of (record { kind = seats.Scheduler; node = node }) mine).tries ≡ tries_of mine
+scheduler_tries node [] = refl
+scheduler_tries node (e ∷ mine) = by e.told (scheduler_tries node mine)
+  where
+    before : Memory
+    before = memory_of (record { kind = seats.Scheduler; node = node }) mine
+
+    by : (told : Bool) → before.tries ≡ tries_of mine
+        → (if told then scheduler_remembers e.request e.reply before else before).tries ≡ (if told then tries_after e.request e.reply (tries_of mine) else tries_of mine)
+    by true h = ap (tries_after e.request e.reply) h
+    by false h = h
+
+tries_by : (kind : SeatKind) (node : List ℕ) (mine : List Entry) → kind ≡ seats.Scheduler → (memory_of (record { kind = kind; node = node }) mine).tries ≡ tries_of mine
+tries_by kind node mine is = subst (λ k. (memory_of (record { kind = k; node = node }) mine).tries ≡ tries_of mine) (sym is) (scheduler_tries node mine)
+
+pub tries_are_told : TriesAreTold
+tries_are_told role mine is = tries_by role.kind role.node mine is
 
 -- the licence
 
@@ -146,8 +169,8 @@ watch_row seats.Binder mine k from built row = row.1
 watch_row seats.ClaimProtect mine k from built row = row.1
 watch_row seats.VolumeProtect mine k from built row = row.1
 watch_row seats.User mine k from built row = absurd built
-watch_row seats.Ops mine k from built row = absurd built
-watch_row seats.Scheduler mine k from built row = absurd built
+watch_row seats.Ops mine k from built row = row.1
+watch_row seats.Scheduler mine k from built row = row.1
 watch_row seats.Agent mine k from built row = row.1
 
 pub watch_licensed : (kind : SeatKind) (mine : List Entry) (k : Kind) (from : ℕ) → IsBuiltKind kind → Licensed kind mine (requests.Watch k from) → IsFrom from (following_of mine k)
@@ -155,8 +178,8 @@ watch_licensed seats.Binder mine k from built l = l.1.1
 watch_licensed seats.ClaimProtect mine k from built l = l.1.1
 watch_licensed seats.VolumeProtect mine k from built l = l.1.1
 watch_licensed seats.User mine k from built l = absurd built
-watch_licensed seats.Ops mine k from built l = absurd built
-watch_licensed seats.Scheduler mine k from built l = absurd built
+watch_licensed seats.Ops mine k from built l = l.1.1
+watch_licensed seats.Scheduler mine k from built l = l.1.1
 watch_licensed seats.Agent mine k from built l = l.1.1
 
 -- each kind that is followed has its place in a pass

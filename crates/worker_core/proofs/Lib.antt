@@ -8,6 +8,7 @@ pub mod KeyMoves
 pub mod KeysKept
 pub mod Licensed
 pub mod Machines
+pub mod OpsLaws
 pub mod Owning
 pub mod PassRules
 pub mod Passes

@@ -1,5 +1,5 @@
 -- What an actor gives is licensed, where it stands for the entries of its seat.
-use Rattle.std.proofs.Common.{◌≡◌, List, [], ◌∷◌, true, Option, Some, None, inl, inr, refl, sym, ◌∙◌, ap, subst}
+use Rattle.std.proofs.Common.{◌≡◌, List, true, Option, Some, None, inl, inr, refl, sym, ◌∙◌, ap, subst}
 use Rattle.std.specs.Prelude.{option_map}
 use Rattle.kube_types.specs.declared.parts.Kind.{Kind}
 use Rattle.call_types.specs.declared.entry.Entry.{Entry}
@@ -15,15 +15,11 @@ use Rattle.worker_core.specs.declared.task.Under.{Under}
 use Rattle.worker_core.specs.declared.turn.Given.{Given}
 use Rattle.worker_core.specs.declared.turn.Given.TheVariants as givens
 use Rattle.worker_core.specs.Roles.{IsBuiltKind}
-use Rattle.worker_core.specs.Stands.{AnyIsUnderWay, AreLicensed, GivenStands, StandsFor}
+use Rattle.worker_core.specs.Stands.{AnyIsUnderWay, GivenStands, StandsFor}
 use Rattle.worker_core.specs.States.{State, asked, call_under, given_call, read_of_kind, read_request}
 use Rattle.worker_core.proofs.ByKind.{EpochStands, epoch_stands, licensed_by, read_row, start_allowed}
 use Rattle.worker_core.proofs.Machines.{keeps_under, task_allowed}
-use Rattle.worker_core.proofs.Owning.{Stood, stood}
-
-pub all_of_kind : (kind : SeatKind) (mine : List Entry) → AreLicensed kind mine → AreOfKind kind mine
-all_of_kind kind [] l = tt
-all_of_kind kind (e ∷ mine) l = (l.1, all_of_kind kind mine l.0)
+use Rattle.worker_core.proofs.Owning.{Stood, all_of_kind, stood}
 
 -- the read that a cache asks is licensed
 read_licensed : (seat : SeatKind) (mine : List Entry) (kind : Kind) → follows seat kind ≡ true → MayRead seat mine (read_request kind (ask_from (watch_from (following_of mine kind))))

@@ -1,6 +1,6 @@
 -- What is known of the machines of each kind of actor, whatever they are: their calls are allowed by their evidence, the evidence
 -- goes on, decisions give it, no call of theirs reads a whole kind, and a key that queues another is a volume's.
-use Rattle.std.proofs.Common.{◌≡◌, ℕ, List, ◌∷◌, true, false, Option, Some, None, refl, sym, ◌∙◌, ap, subst}
+use Rattle.std.proofs.Common.{◌≡◌, ℕ, List, ◌∷◌, true, false, true≢false, Option, Some, None, refl, sym, ◌∙◌, ap, subst}
 use Rattle.std.specs.Prelude.{option_map}
 use Rattle.kube_types.specs.declared.key.Key.{Key}
 use Rattle.kube_types.specs.declared.parts.Kind.{Kind}
@@ -29,6 +29,11 @@ use Rattle.node_agent.specs.BeginLaw.{ReadsNoKind as AgentReadsNoKind}
 use Rattle.node_agent.proofs.Allowed.{allowed as agent_allowed, calls_read_no_kind as agent_calls_read_no_kind}
 use Rattle.node_agent.proofs.Begun.{decisions as agent_decisions}
 use Rattle.node_agent.proofs.Moves.{goes_on as agent_goes_on}
+use Rattle.pod_scheduler.specs.declared.tries.Tried.{Tried}
+use Rattle.pod_scheduler.specs.Schedules.{is_write, schedule_moved}
+use Rattle.pod_scheduler.proofs.Allowed.{calls_are_allowed, calls_are_writes}
+use Rattle.pod_scheduler.proofs.Begun.{decisions_keep}
+use Rattle.pod_scheduler.proofs.Moves.{evidence_goes_on}
 use Rattle.protect_sync.specs.declared.claims.ClaimGuardOp.{ClaimGuardOp}
 use Rattle.protect_sync.specs.declared.volumes.VolumeGuardOp.{VolumeGuardOp}
 use Rattle.protect_sync.specs.BeginLaw.{ReadsNoKind}
@@ -38,6 +43,19 @@ use Rattle.protect_sync.specs.VolumeGuards.{volume_moved}
 use Rattle.protect_sync.proofs.Allowed.{claim_allowed, claim_calls_read_no_kind, volume_allowed, volume_calls_read_no_kind}
 use Rattle.protect_sync.proofs.Begun.{claim_decisions, volume_decisions}
 use Rattle.protect_sync.proofs.Moves.{claim_goes_on, volume_goes_on}
+use Rattle.reclaim_ops.specs.declared.erase.EraseOp.{EraseOp}
+use Rattle.reclaim_ops.specs.declared.provision.ProvisionOp.{ProvisionOp}
+use Rattle.reclaim_ops.specs.BeginLaw.{lists_or_watches}
+use Rattle.reclaim_ops.specs.Decisions.{claim_begins as provision_begins, volume_begins as erase_begins}
+use Rattle.reclaim_ops.specs.Erasures.{erase_moved}
+use Rattle.reclaim_ops.specs.Evidence.{MayDecide as OpsMayDecide}
+use Rattle.reclaim_ops.specs.Provisions.{provision_moved}
+use Rattle.reclaim_ops.proofs.EraseAllowed.{erase_allowed, erase_calls_read_no_kind}
+use Rattle.reclaim_ops.proofs.EraseBegun.{erase_decisions}
+use Rattle.reclaim_ops.proofs.EraseMoves.{erase_goes_on}
+use Rattle.reclaim_ops.proofs.ProvisionAllowed.{provision_allowed, provision_calls_read_no_kind}
+use Rattle.reclaim_ops.proofs.ProvisionBegun.{provision_decisions}
+use Rattle.reclaim_ops.proofs.ProvisionMoves.{provision_goes_on}
 use Rattle.worker_core.specs.declared.role.Role.{Role}
 use Rattle.worker_core.specs.declared.task.First.{First}
 use Rattle.worker_core.specs.declared.task.First.TheVariants as firsts
@@ -45,24 +63,33 @@ use Rattle.worker_core.specs.declared.task.Task.{Task}
 use Rattle.worker_core.specs.declared.task.Task.TheVariants as tasks
 use Rattle.worker_core.specs.declared.task.Under.{Under}
 use Rattle.worker_core.specs.Memories.{Memory, memory_of}
+use Rattle.worker_core.specs.Roles.{kinds_of}
 use Rattle.binder_machines.specs.KindLaw.{reads_kind}
 use Rattle.worker_core.specs.Stands.{AreLicensed, AreOwn, Begun, IsUnderWay, StartsSo, WentOn}
 use Rattle.worker_core.specs.Steps.Evidence.{TaskKeeps, task_kind}
-use Rattle.worker_core.specs.Tasks.{IsAgentFirst, IsDecision, IsFirstOf, agent_first, claim_first, task_call, task_moved, under_after, volume_first, with_call, with_task}
+use Rattle.worker_core.specs.Tasks.{IsAgentFirst, IsDecision, IsFirstOf, IsPodFirst, agent_first, claim_first, erase_first, ops_first, task_call, task_moved, under_after, volume_first, with_call, with_task}
+use Rattle.worker_core.specs.Turns.{first_unlisted}
 use Rattle.worker_core.proofs.AgentLaws.{may_decide}
 use Rattle.worker_core.proofs.ByKind.{EpochStands, epoch_stands}
-use Rattle.worker_core.proofs.Owning.{Stood, stood_before}
+use Rattle.worker_core.proofs.OpsLaws.{may_decide as ops_may_decide}
+use Rattle.worker_core.proofs.Owning.{Stood, all_of_kind, stood_before}
 
 pub task_allowed : (t : Task) (mine : List Entry) (r : Request) → AreOfKind (task_kind t) mine → TaskKeeps t mine → task_call t ≡ Some r → RowAllows (task_kind t) mine r
 task_allowed (tasks.Binder m) mine r own kept call = row_allows m mine r kept call
 task_allowed (tasks.ClaimProtect op) mine r own kept call = (claim_allowed op mine r own kept call).1
 task_allowed (tasks.VolumeProtect op) mine r own kept call = (volume_allowed op mine r own kept call).1
 task_allowed (tasks.Agent op) mine r own kept call = (agent_allowed op mine r own kept call).1
+task_allowed (tasks.Provision op) mine r own kept call = (provision_allowed op mine r own kept call).1
+task_allowed (tasks.Erase op) mine r own kept call = (erase_allowed op mine r own kept call).1
+task_allowed (tasks.Schedule op) mine r own kept call = (calls_are_allowed op mine r own kept call).1
 
 task_goes : (t next : Task) (mine : List Entry) (e : Entry) → TaskKeeps t mine → task_call t ≡ Some e.request → e.told ≡ true → task_moved t e.reply ≡ Some next → TaskKeeps next (e ∷ mine)
 task_goes (tasks.ClaimProtect op) next mine e kept call told is = subst (λ t. TaskKeeps t (e ∷ mine)) (one (tasks.ClaimProtect (claim_moved op e.reply)) next is) (claim_goes_on op mine e kept call told)
 task_goes (tasks.VolumeProtect op) next mine e kept call told is = subst (λ t. TaskKeeps t (e ∷ mine)) (one (tasks.VolumeProtect (volume_moved op e.reply)) next is) (volume_goes_on op mine e kept call told)
 task_goes (tasks.Agent op) next mine e kept call told is = subst (λ t. TaskKeeps t (e ∷ mine)) (one (tasks.Agent (agent_moved op e.reply)) next is) (agent_goes_on op mine e kept call told)
+task_goes (tasks.Provision op) next mine e kept call told is = subst (λ t. TaskKeeps t (e ∷ mine)) (one (tasks.Provision (provision_moved op e.reply)) next is) (provision_goes_on op mine e kept call told)
+task_goes (tasks.Erase op) next mine e kept call told is = subst (λ t. TaskKeeps t (e ∷ mine)) (one (tasks.Erase (erase_moved op e.reply)) next is) (erase_goes_on op mine e kept call told)
+task_goes (tasks.Schedule op) next mine e kept call told is = subst (λ t. TaskKeeps t (e ∷ mine)) (one (tasks.Schedule (schedule_moved op e.reply)) next is) (evidence_goes_on op mine e kept call told)
 task_goes (tasks.Binder m) next mine e kept call told is = by (binder.moved m e.reply) refl is
   where
     by : (x : Option Machine) → binder.moved m e.reply ≡ x → option_map (λ k. tasks.Binder k) x ≡ Some next → TaskKeeps next (e ∷ mine)
@@ -74,6 +101,9 @@ task_stays : (t next : Task) (reply : Reply) → task_moved t reply ≡ Some nex
 task_stays (tasks.ClaimProtect op) next reply is = ap task_kind (sym (one (tasks.ClaimProtect (claim_moved op reply)) next is))
 task_stays (tasks.VolumeProtect op) next reply is = ap task_kind (sym (one (tasks.VolumeProtect (volume_moved op reply)) next is))
 task_stays (tasks.Agent op) next reply is = ap task_kind (sym (one (tasks.Agent (agent_moved op reply)) next is))
+task_stays (tasks.Provision op) next reply is = ap task_kind (sym (one (tasks.Provision (provision_moved op reply)) next is))
+task_stays (tasks.Erase op) next reply is = ap task_kind (sym (one (tasks.Erase (erase_moved op reply)) next is))
+task_stays (tasks.Schedule op) next reply is = ap task_kind (sym (one (tasks.Schedule (schedule_moved op reply)) next is))
 task_stays (tasks.Binder m) next reply is = by (binder.moved m reply) is
   where
     by : (x : Option Machine) → option_map (λ k. tasks.Binder k) x ≡ Some next → task_kind next ≡ seats.Binder
@@ -90,11 +120,24 @@ no_read _ kind none = refl
 no_agent_read : (r : Request) (kind : Kind) → AgentReadsNoKind r → reads_kind kind r ≡ false
 no_agent_read r kind none = no_read r kind (record { lists = none.lists; watches = none.watches })
 
+no_ops_read : (r : Request) (kind : Kind) → lists_or_watches r ≡ false → reads_kind kind r ≡ false
+no_ops_read (requests.List k namespace) kind none = absurd (true≢false none)
+no_ops_read (requests.Watch k from) kind none = absurd (true≢false none)
+no_ops_read _ kind none = refl
+
+no_write_read : (r : Request) (kind : Kind) → is_write r ≡ true → reads_kind kind r ≡ false
+no_write_read (requests.List k namespace) kind write = absurd (true≢false (sym write))
+no_write_read (requests.Watch k from) kind write = absurd (true≢false (sym write))
+no_write_read _ kind write = refl
+
 pub task_reads_none : (t : Task) (r : Request) (kind : Kind) → task_call t ≡ Some r → reads_kind kind r ≡ false
 task_reads_none (tasks.Binder m) r kind call = calls_read_no_kind m r kind call
 task_reads_none (tasks.ClaimProtect op) r kind call = no_read r kind (claim_calls_read_no_kind op r call)
 task_reads_none (tasks.VolumeProtect op) r kind call = no_read r kind (volume_calls_read_no_kind op r call)
 task_reads_none (tasks.Agent op) r kind call = no_agent_read r kind (agent_calls_read_no_kind op r call)
+task_reads_none (tasks.Provision op) r kind call = no_ops_read r kind (provision_calls_read_no_kind op r call)
+task_reads_none (tasks.Erase op) r kind call = no_ops_read r kind (erase_calls_read_no_kind op r call)
+task_reads_none (tasks.Schedule op) r kind call = no_write_read r kind (calls_are_writes op r call)
 
 -- what a decision begins
 
@@ -138,19 +181,44 @@ agent_begun node (Some epoch) (Some mounts) c mine key t stand may first = by (a
         let same : tasks.Agent op ≡ t = one (tasks.Agent op) t (sym (ap task_in first)) in
         subst (λ x. BeginsTask seats.Agent x mine) same (record { of_kind = refl; keeps = agent_decisions c mine node epoch mounts key op stand (may epoch refl) is })
 
-begun : (kind : SeatKind) (node : List ℕ) (m : Memory) (c : AllKnown) (mine : List Entry) (key : Key) (t : Task) → AllStandFor c mine → AreRows (all_objects c)
+-- a machine that ops begins
+
+erase_begun : (c : AllKnown) (mine : List Entry) (key : Key) (t : Task) → AllStandFor c mine → (x : Option EraseOp) → erase_begins (row_at key (all_objects c)) ≡ x
+    → firsts.Begins t ≡ erase_first x → BeginsTask seats.Ops t mine
+erase_begun c mine key t stand None is first = none_some (sym (ap task_in first))
+erase_begun c mine key t stand (Some op) is first =
+    let same : tasks.Erase op ≡ t = one (tasks.Erase op) t (sym (ap task_in first)) in
+    subst (λ x. BeginsTask seats.Ops x mine) same (record { of_kind = refl; keeps = erase_decisions c mine key op stand is })
+
+ops_begun : (c : AllKnown) (mine : List Entry) (key : Key) (t : Task) → AllStandFor c mine → OpsMayDecide mine → (x : Option ProvisionOp) → provision_begins (all_objects c) (row_at key (all_objects c)) ≡ x
+    → firsts.Begins t ≡ ops_first x (erase_begins (row_at key (all_objects c))) → BeginsTask seats.Ops t mine
+ops_begun c mine key t stand may None is first = erase_begun c mine key t stand _ refl first
+ops_begun c mine key t stand may (Some op) is first =
+    let same : tasks.Provision op ≡ t = one (tasks.Provision op) t (sym (ap task_in first)) in
+    subst (λ x. BeginsTask seats.Ops x mine) same (record { of_kind = refl; keeps = provision_decisions c mine key op stand may is })
+
+-- a machine that a scheduler begins
+pod_begun : (refused : List Tried) (c : AllKnown) (mine : List Entry) (key : Key) (t : Task) → AllStandFor c mine → AreRows (all_objects c) → AreOfKind seats.Scheduler mine
+    → IsPodFirst (all_objects c) refused (row_at key (all_objects c)) (firsts.Begins t) → BeginsTask seats.Scheduler t mine
+pod_begun refused c mine key (tasks.Schedule op) stand order own first = record { of_kind = refl; keeps = decisions_keep c mine refused key op stand order own first }
+pod_begun refused c mine key _ stand order own first = absurd first
+
+begun : (kind : SeatKind) (node : List ℕ) (m : Memory) (c : AllKnown) (mine : List Entry) (key : Key) (t : Task) → AllStandFor c mine → AreRows (all_objects c) → first_unlisted c (kinds_of kind) ≡ None
     → AreLicensed kind mine → AreOwn mine → StartsSo kind node mine → EpochStands kind node m mine → IsFirstOf kind node m (all_objects c) key (firsts.Begins t) → BeginsTask kind t mine
-begun seats.Binder node m c mine key (tasks.Binder k) stand order licensed own start epoch first = record { of_kind = refl; keeps = keep c mine key k stand order first }
-begun seats.Binder node m c mine key (tasks.ClaimProtect op) stand order licensed own start epoch first = absurd first
-begun seats.Binder node m c mine key (tasks.VolumeProtect op) stand order licensed own start epoch first = absurd first
-begun seats.Binder node m c mine key (tasks.Agent op) stand order licensed own start epoch first = absurd first
-begun seats.ClaimProtect node m c mine key t stand order licensed own start epoch first = claim_begun c mine key t stand _ refl first
-begun seats.VolumeProtect node m c mine key t stand order licensed own start epoch first = volume_begun c mine key t stand _ refl first
-begun seats.Agent node m c mine key t stand order licensed own start epoch first =
+begun seats.Binder node m c mine key (tasks.Binder k) stand order listed licensed own start epoch first = record { of_kind = refl; keeps = keep c mine key k stand order first }
+begun seats.Binder node m c mine key (tasks.ClaimProtect op) stand order listed licensed own start epoch first = absurd first
+begun seats.Binder node m c mine key (tasks.VolumeProtect op) stand order listed licensed own start epoch first = absurd first
+begun seats.Binder node m c mine key (tasks.Agent op) stand order listed licensed own start epoch first = absurd first
+begun seats.Binder node m c mine key (tasks.Provision op) stand order listed licensed own start epoch first = absurd first
+begun seats.Binder node m c mine key (tasks.Erase op) stand order listed licensed own start epoch first = absurd first
+begun seats.Binder node m c mine key (tasks.Schedule op) stand order listed licensed own start epoch first = absurd first
+begun seats.ClaimProtect node m c mine key t stand order listed licensed own start epoch first = claim_begun c mine key t stand _ refl first
+begun seats.VolumeProtect node m c mine key t stand order listed licensed own start epoch first = volume_begun c mine key t stand _ refl first
+begun seats.Agent node m c mine key t stand order listed licensed own start epoch first =
     agent_begun node m.epoch m.mounts c mine key t stand (λ e is. may_decide node e c mine key licensed own start (sym epoch ∙ is) stand) first
-begun seats.User node m c mine key t stand order licensed own start epoch first = absurd first
-begun seats.Ops node m c mine key t stand order licensed own start epoch first = absurd first
-begun seats.Scheduler node m c mine key t stand order licensed own start epoch first = absurd first
+begun seats.User node m c mine key t stand order listed licensed own start epoch first = absurd first
+begun seats.Ops node m c mine key t stand order listed licensed own start epoch first = ops_begun c mine key t stand (ops_may_decide c mine stand listed) _ refl first
+begun seats.Scheduler node m c mine key t stand order listed licensed own start epoch first = pod_begun m.tries.refused c mine key t stand order (all_of_kind seats.Scheduler mine licensed) first
 
 -- a key that queues another is a volume's, and the other a claim's
 
@@ -171,6 +239,14 @@ agents_queue_none {G = G} node (Some epoch) (Some mounts) row other first = by (
     by None first = none_some (sym (ap queued_in first))
     by (Some op) first = none_some (sym (ap queued_in first))
 
+erasures_queue_none : {G : Type 0} (other : Key) (x : Option EraseOp) → firsts.Queues other ≡ erase_first x → G
+erasures_queue_none other None first = none_some (sym (ap queued_in first))
+erasures_queue_none other (Some op) first = none_some (sym (ap queued_in first))
+
+ops_queue_none : {G : Type 0} (other : Key) (x : Option ProvisionOp) (y : Option EraseOp) → firsts.Queues other ≡ ops_first x y → G
+ops_queue_none other None y first = erasures_queue_none other y first
+ops_queue_none other (Some op) y first = none_some (sym (ap queued_in first))
+
 queued_by : (kind : SeatKind) (node : List ℕ) (m : Memory) (rows : List Object) (key other : Key) → IsFirstOf kind node m rows key (firsts.Queues other) → (kind_index key.kind ≡ 2) × (kind_index other.kind ≡ 3)
 queued_by seats.Binder node m rows key other first =
     let q = volumes_queue_claims rows key other first in
@@ -179,7 +255,7 @@ queued_by seats.ClaimProtect node m rows key other first = claims_queue_none oth
 queued_by seats.VolumeProtect node m rows key other first = volumes_queue_none other (volume_begins (row_at key rows)) first
 queued_by seats.Agent node m rows key other first = agents_queue_none node m.epoch m.mounts (row_at key rows) other first
 queued_by seats.User node m rows key other first = absurd first
-queued_by seats.Ops node m rows key other first = absurd first
+queued_by seats.Ops node m rows key other first = ops_queue_none other (provision_begins rows (row_at key rows)) (erase_begins (row_at key rows)) first
 queued_by seats.Scheduler node m rows key other first = absurd first
 
 pub queued_kinds : (role : Role) (memory : Memory) (rows : List Object) (key other : Key) → IsDecision role memory rows key (firsts.Queues other) → (kind_index key.kind ≡ 2) × (kind_index other.kind ≡ 3)
@@ -203,8 +279,8 @@ goes_on role u next mine e kept told asked is = by_task (task_moved u.task e.rep
     by_task (Some t) at h = by_call t (task_call t) refl (task_stays u.task t e.reply at ∙ kept.of_kind) (task_goes u.task t mine e kept.keeps (kept.call ∙ ap Some (sym asked)) told at) h
 
 pub keeps_under : (role : Role) (u : Under) (mine : List Entry) → Stood role mine → IsUnderWay role u mine → KeepsUnder role u mine
-keeps_under role u mine stood (Begun c stand order gives) =
-    let b = begun role.kind role.node (memory_of role mine) c mine u.key u.task stand order stood.licensed stood.own stood.start (epoch_stands role mine) gives.decided in
+keeps_under role u mine stood (Begun c stand order listed gives) =
+    let b = begun role.kind role.node (memory_of role mine) c mine u.key u.task stand order listed stood.licensed stood.own stood.start (epoch_stands role mine) gives.decided in
     record { of_kind = b.of_kind; keeps = b.keeps; call = gives.call }
 keeps_under role u mine stood (WentOn before e past split way told asked moves) =
     let past_stood = stood_before role e past (subst (Stood role) split stood) in
@@ -220,5 +296,5 @@ with_task_calls key None next h = none_some h
 with_task_calls key (Some t) next h = with_call_calls key t (task_call t) next refl h
 
 pub under_calls : (role : Role) (u : Under) (mine : List Entry) → IsUnderWay role u mine → task_call u.task ≡ Some u.call
-under_calls role u mine (Begun c stand order gives) = gives.call
+under_calls role u mine (Begun c stand order listed gives) = gives.call
 under_calls role u mine (WentOn before e past split way told asked moves) = with_task_calls before.key (task_moved before.task e.reply) u moves

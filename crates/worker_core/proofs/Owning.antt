@@ -3,6 +3,7 @@ use Rattle.std.proofs.Common.{◌≡◌, ◌<◌, ℕ, List, [], ◌∷◌, leng
 use Rattle.std.specs.Prelude.{◌==◌}
 use Rattle.call_types.specs.declared.entry.Entry.{Entry}
 use Rattle.call_types.specs.declared.setup.Setup.{Setup}
+use Rattle.binder_model.specs.Licence.{AreOfKind}
 use Rattle.binder_model.specs.Told.{own}
 use Rattle.binder_model.specs.World.{IsHistory}
 use Rattle.worker_core.specs.Stands.{AreLicensed, AreOwn, StandsFor, StartsSo}
@@ -50,6 +51,10 @@ own_past e mine all =
     let less = n.shorter in
     let few = all.short in
     record { setup = all.setup; past = n.past; seat = n.seat; imports = all.imports; short = omega (arith, less, few); history = n.history.0; own = n.own_before }
+
+pub all_of_kind : (kind : SeatKind) (mine : List Entry) → AreLicensed kind mine → AreOfKind kind mine
+all_of_kind kind [] l = tt
+all_of_kind kind (e ∷ mine) l = (l.1, all_of_kind kind mine l.0)
 
 -- what an actor knows of its entries, and of those that came before
 pub record Stood (role : Role) (mine : List Entry) : Type 0 where

@@ -61,6 +61,9 @@ task_takes_none node (tasks.Agent op) r is e = step_takes_none node op op.step r
 task_takes_none node (tasks.Binder m) r is e = absurd (true≢false (sym (ap is_agent is)))
 task_takes_none node (tasks.ClaimProtect op) r is e = absurd (true≢false (sym (ap is_agent is)))
 task_takes_none node (tasks.VolumeProtect op) r is e = absurd (true≢false (sym (ap is_agent is)))
+task_takes_none node (tasks.Provision op) r is e = absurd (true≢false (sym (ap is_agent is)))
+task_takes_none node (tasks.Erase op) r is e = absurd (true≢false (sym (ap is_agent is)))
+task_takes_none node (tasks.Schedule op) r is e = absurd (true≢false (sym (ap is_agent is)))
 
 read_takes_none : (node : List ℕ) (kind : Kind) (ask : Ask) → is_take_of node (read_request kind ask) ≡ false
 read_takes_none node kind asks.List = refl
@@ -91,7 +94,7 @@ remembers_epoch : (role : Role) (mine : List Entry) → role.kind ≡ seats.Agen
 remembers_epoch role mine is = subst (λ kind. EpochStands kind role.node (memory_of role mine) mine) is (epoch_stands role mine)
 
 under_took : (role : Role) (u : Under) (mine : List Entry) → role.kind ≡ seats.Agent → IsUnderWay role u mine → is_none (last_epoch role.node mine) ≡ false
-under_took role u mine is (Begun c stand order gives) =
+under_took role u mine is (Begun c stand order listed gives) =
     ap is_none (sym (remembers_epoch role mine is))
     ∙ decided_took role.node (memory_of role mine).epoch (memory_of role mine).mounts (row_at u.key (all_objects c)) (firsts.Begins u.task)
     (subst (λ kind. IsFirstOf kind role.node (memory_of role mine) (all_objects c) u.key (firsts.Begins u.task)) is gives.decided)

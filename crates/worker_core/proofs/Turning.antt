@@ -52,12 +52,12 @@ unlisted_follows seat c (k ∷ kinds) kind all e = by (is_listed c k) e (unliste
     by false h more = subst (λ x. follows seat x ≡ true) (one k kind h) all.0
 
 -- what begins by a decision is under way
-decided_way : (role : Role) (memory : Memory) (c : AllKnown) (mine : List Entry) → AllStandFor c mine → AreRows (all_objects c) → memory ≡ memory_of role mine
+decided_way : (role : Role) (memory : Memory) (c : AllKnown) (mine : List Entry) → AllStandFor c mine → AreRows (all_objects c) → first_unlisted c (kinds_of role.kind) ≡ None → memory ≡ memory_of role mine
     → (after : Work) (under : Option Under) (w : Work) → Decides role memory (all_objects c) after under w → AnyIsUnderWay role under mine
-decided_way role memory c mine stand order is after under w (Nothing empty same none) = subst (λ u. AnyIsUnderWay role u mine) (sym none) tt
-decided_way role memory c mine stand order is after under w (Begins u old gives same some) =
-    subst (λ x. AnyIsUnderWay role x mine) (sym some) (Begun c stand order (subst (λ m. GivesCall role m (all_objects c) u) is gives))
-decided_way role memory c mine stand order is after under w (Drops key first old none rest) = decided_way role memory c mine stand order is after under _ rest
+decided_way role memory c mine stand order listed is after under w (Nothing empty same none) = subst (λ u. AnyIsUnderWay role u mine) (sym none) tt
+decided_way role memory c mine stand order listed is after under w (Begins u old gives same some) =
+    subst (λ x. AnyIsUnderWay role x mine) (sym some) (Begun c stand order listed (subst (λ m. GivesCall role m (all_objects c) u) is gives))
+decided_way role memory c mine stand order listed is after under w (Drops key first old none rest) = decided_way role memory c mine stand order listed is after under _ rest
 
 -- another call is given
 given_stands : (s : State) (mine : List Entry) (given : Option Given) → StandsFor s mine → GivenStands s.role s.memory given s.under → StandsFor (record s { given = given }) mine
@@ -91,4 +91,4 @@ turn_stands s new answer mine order stands = by s.memory.stale s.under (start_ca
         subst (λ x. StandsFor x mine) (sym t.state) (given_stands s mine (Some (givens.Read kind)) stands (unlisted_follows s.role.kind s.caches (kinds_of s.role.kind) kind (kinds_follow s.role.kind) el, eu, es))
     by false None None None (Some kind) eu es el ep t =
         subst (λ x. StandsFor x mine) (sym t.state) (given_stands s mine (Some (givens.Read kind)) stands (follows_at s.pass.behind kind ep, eu, es))
-    by false None None None None eu es el ep t = keys t.work t.under (decided_way s.role s.memory s.caches mine stands.caches order stands.memory t.work t.under s.work t.decides) eu es t.then_
+    by false None None None None eu es el ep t = keys t.work t.under (decided_way s.role s.memory s.caches mine stands.caches order el stands.memory t.work t.under s.work t.decides) eu es t.then_

@@ -1,5 +1,5 @@
 -- What an actor is: the kind of its seat, and the node that an agent serves; the kinds of objects that it follows; and which
--- kinds of actors are built.
+-- kinds of seats have actors.
 -- Source: the informers of each controller in Kubernetes. The order of the kinds is a choice of this project.
 use Rattle.std.specs.Prelude.{ℕ, List, [], ◌∷◌, Option, slice_get, ⊤}
 use Rattle.kube_types.specs.declared.parts.Kind.{Kind}
@@ -18,12 +18,12 @@ kinds_of seats.ClaimProtect = kinds.PersistentVolumeClaim ∷ kinds.Pod ∷ []
 kinds_of seats.VolumeProtect = kinds.PersistentVolume ∷ []
 kinds_of seats.Agent = kinds.Pod ∷ []
 
--- the kinds of actors that are built
+-- the kinds of actors that are built: those of all controllers. A user is no actor
 abbrev pub IsBuiltKind : SeatKind → Type 0
 IsBuiltKind seats.User = ⊥
 IsBuiltKind seats.Binder = ⊤
-IsBuiltKind seats.Ops = ⊥
-IsBuiltKind seats.Scheduler = ⊥
+IsBuiltKind seats.Ops = ⊤
+IsBuiltKind seats.Scheduler = ⊤
 IsBuiltKind seats.ClaimProtect = ⊤
 IsBuiltKind seats.VolumeProtect = ⊤
 IsBuiltKind seats.Agent = ⊤

@@ -1,10 +1,12 @@
--- What the turns and the answers make of waiting and parked keys and of passes: rules that follow from how they are defined.
+-- What the turns and the answers make of waiting and parked keys and of passes, and what a scheduler remembers: rules that follow
+-- from how they are defined.
 -- A choice of this project.
 use Rattle.std.specs.Prelude.{ℕ, ◌≡◌, ◌≢◌, ◌⊎◌, ◌+◌, true, false, List, [], ◌∷◌, Some, None, length, ⊤}
 use Rattle.kube_types.specs.declared.key.Key.{Key}
 use Rattle.kube_types.specs.declared.parts.Kind.{Kind}
 use Rattle.call_types.specs.declared.request.Request.{Request}
 use Rattle.call_types.specs.declared.request.Request.TheVariants as requests
+use Rattle.call_types.specs.declared.request.SeatKind.TheVariants as seats
 use Rattle.call_types.specs.declared.reply.Refusal.TheVariants.{Gone}
 use Rattle.call_types.specs.declared.reply.Reply.{Reply}
 use Rattle.call_types.specs.declared.reply.Reply.TheVariants as replies
@@ -12,6 +14,8 @@ use Rattle.call_types.specs.declared.entry.Entry.{Entry}
 use Rattle.informer_cache.specs.Cache.{IsTold}
 use Rattle.binder_model.specs.Watching.{most_events}
 use Rattle.informer_cache.specs.All.{AllKnown, all_objects}
+use Rattle.pod_scheduler.specs.Tries.{tries_of}
+use Rattle.worker_core.specs.declared.role.Role.{Role}
 use Rattle.worker_core.specs.declared.task.First.{First}
 use Rattle.worker_core.specs.declared.task.Under.{Under}
 use Rattle.worker_core.specs.declared.turn.Given.TheVariants as givens
@@ -20,6 +24,7 @@ use Rattle.worker_core.specs.declared.turn.Next.TheVariants as nexts
 use Rattle.worker_core.specs.declared.turn.Outcome.{Outcome}
 use Rattle.worker_core.specs.declared.turn.Outcome.TheVariants as outcomes
 use Rattle.worker_core.specs.Absorbs.{absorbed, woken}
+use Rattle.worker_core.specs.Memories.{memory_of}
 use Rattle.worker_core.specs.Roles.{IsBuiltKind}
 use Rattle.worker_core.specs.Stands.{AreOwn, StandsFor}
 use Rattle.worker_core.specs.States.{State, asked, is_parked, waits}
@@ -76,6 +81,12 @@ pub record WakesKeys (s new : State) : Type 0 where
 
 abbrev pub WakesKeepKeys : Type 0
 WakesKeepKeys = (s : State) → WakesKeys s (woken s)
+
+-- the memory
+
+-- the nodes that a scheduler remembers are those that the entries of its seat tell
+abbrev pub TriesAreTold : Type 0
+TriesAreTold = (role : Role) (mine : List Entry) → role.kind ≡ seats.Scheduler → (memory_of role mine).tries ≡ tries_of mine
 
 -- the passes
 

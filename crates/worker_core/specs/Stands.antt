@@ -32,11 +32,12 @@ use Rattle.worker_core.specs.Memories.{Memory, memory_of, no_memory}
 use Rattle.worker_core.specs.Roles.{kind_at, kinds_of}
 use Rattle.worker_core.specs.States.{State, start_call}
 use Rattle.worker_core.specs.Tasks.{GivesCall, under_after}
+use Rattle.worker_core.specs.Turns.{first_unlisted}
 
--- what is under way began by a decision on caches and a memory that stood for the entries of then, and each entry since is
--- its own call, which was told
+-- what is under way began by a decision on caches and a memory that stood for the entries of then, with each kind that is
+-- followed listed, and each entry since is its own call, which was told
 pub data IsUnderWay (role : Role) : Under → List Entry → Type 0 where
-  Begun : {u : Under} {mine : List Entry} (c : AllKnown) → AllStandFor c mine → AreRows (all_objects c) → GivesCall role (memory_of role mine) (all_objects c) u → IsUnderWay role u mine
+  Begun : {u : Under} {mine : List Entry} (c : AllKnown) → AllStandFor c mine → AreRows (all_objects c) → first_unlisted c (kinds_of role.kind) ≡ None → GivesCall role (memory_of role mine) (all_objects c) u → IsUnderWay role u mine
   WentOn : {next : Under} {mine : List Entry} (u : Under) (e : Entry) (before : List Entry) → mine ≡ e ∷ before → IsUnderWay role u before → e.told ≡ true → e.request ≡ u.call → under_after u e.reply ≡ Some next → IsUnderWay role next mine
 
 abbrev pub AnyIsUnderWay : Role → Option Under → List Entry → Type 0

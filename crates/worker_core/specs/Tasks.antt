@@ -15,11 +15,19 @@ use Rattle.binder_machines.specs.FirstSteps.{IsFirst}
 use Rattle.binder_machines.specs.Machines as binder
 use Rattle.node_agent.specs.declared.agent.AgentOp.{AgentOp}
 use Rattle.node_agent.specs.Agents.{agent_begins, agent_call, agent_moved, agent_parks}
+use Rattle.pod_scheduler.specs.declared.tries.Tried.{Tried}
+use Rattle.pod_scheduler.specs.Decisions.{BeginsOn}
+use Rattle.pod_scheduler.specs.Schedules.{schedule_call, schedule_moved, schedule_parks}
 use Rattle.protect_sync.specs.declared.claims.ClaimGuardOp.{ClaimGuardOp}
 use Rattle.protect_sync.specs.declared.volumes.VolumeGuardOp.{VolumeGuardOp}
 use Rattle.protect_sync.specs.ClaimGuards.{claim_call, claim_moved, claim_parks}
 use Rattle.protect_sync.specs.Decisions.{claim_begins, volume_begins}
 use Rattle.protect_sync.specs.VolumeGuards.{volume_call, volume_moved, volume_parks}
+use Rattle.reclaim_ops.specs.declared.erase.EraseOp.{EraseOp}
+use Rattle.reclaim_ops.specs.declared.provision.ProvisionOp.{ProvisionOp}
+use Rattle.reclaim_ops.specs.Decisions.{claim_begins as provision_begins, volume_begins as erase_begins}
+use Rattle.reclaim_ops.specs.Erasures.{erase_call, erase_moved, erase_parks}
+use Rattle.reclaim_ops.specs.Provisions.{provision_call, provision_moved, provision_parks}
 use Rattle.worker_core.specs.declared.role.Role.{Role}
 use Rattle.worker_core.specs.declared.task.Task.{Task}
 use Rattle.worker_core.specs.declared.task.Task.TheVariants as tasks
@@ -34,14 +42,20 @@ task_call (tasks.Binder machine) = binder.call_of machine
 task_call (tasks.ClaimProtect op) = claim_call op
 task_call (tasks.VolumeProtect op) = volume_call op
 task_call (tasks.Agent op) = agent_call op
+task_call (tasks.Provision op) = provision_call op
+task_call (tasks.Erase op) = erase_call op
+task_call (tasks.Schedule op) = schedule_call op
 
--- what the answer to the next call makes of the task, or none where it has ended. A machine of protection or of an agent
--- that has ended has no next call
+-- what the answer to the next call makes of the task, or none where it has ended. But for the binder's a machine that has
+-- ended has no next call
 abbrev pub task_moved : Task → Reply → Option Task
 task_moved (tasks.Binder machine) reply = option_map (λ m. tasks.Binder m) (binder.moved machine reply)
 task_moved (tasks.ClaimProtect op) reply = Some (tasks.ClaimProtect (claim_moved op reply))
 task_moved (tasks.VolumeProtect op) reply = Some (tasks.VolumeProtect (volume_moved op reply))
 task_moved (tasks.Agent op) reply = Some (tasks.Agent (agent_moved op reply))
+task_moved (tasks.Provision op) reply = Some (tasks.Provision (provision_moved op reply))
+task_moved (tasks.Erase op) reply = Some (tasks.Erase (erase_moved op reply))
+task_moved (tasks.Schedule op) reply = Some (tasks.Schedule (schedule_moved op reply))
 
 -- the task has ended at this answer, and its key is to be parked: a refusal that it does not take as an answer
 abbrev pub task_parks : Task → Reply → Bool
@@ -49,6 +63,9 @@ task_parks (tasks.Binder machine) reply = binder.parks_at machine reply
 task_parks (tasks.ClaimProtect op) reply = claim_parks (claim_moved op reply).step
 task_parks (tasks.VolumeProtect op) reply = volume_parks (volume_moved op reply).step
 task_parks (tasks.Agent op) reply = agent_parks (agent_moved op reply).step
+task_parks (tasks.Provision op) reply = provision_parks (provision_moved op reply).step
+task_parks (tasks.Erase op) reply = erase_parks (erase_moved op reply).step
+task_parks (tasks.Schedule op) reply = schedule_parks (schedule_moved op reply).step
 
 -- the decision on a key
 
@@ -58,7 +75,7 @@ IsBinderFirst rows key (firsts.Queues other) = IsFirst rows (row_at key rows) (b
 IsBinderFirst rows key (firsts.Begins (tasks.Binder machine)) = IsFirst rows (row_at key rows) (binder_firsts.Begins machine)
 IsBinderFirst rows key (firsts.Begins task) = ⊥
 
--- protection and an agent begin a machine or drop the key, and queue no other
+-- the other actors begin a machine or drop the key, and queue no other
 
 abbrev pub claim_first : Option ClaimGuardOp → First
 claim_first None = firsts.Drops
@@ -72,17 +89,34 @@ abbrev pub agent_first : Option AgentOp → First
 agent_first None = firsts.Drops
 agent_first (Some op) = firsts.Begins (tasks.Agent op)
 
+abbrev pub erase_first : Option EraseOp → First
+erase_first None = firsts.Drops
+erase_first (Some op) = firsts.Begins (tasks.Erase op)
+
+-- the provisioner and reclaimer provisions for a claim and reclaims a volume; a key is of at most one of them
+abbrev pub ops_first : Option ProvisionOp → Option EraseOp → First
+ops_first None erasing = erase_first erasing
+ops_first (Some op) erasing = firsts.Begins (tasks.Provision op)
+
 -- an agent decides a pod by its epoch and by the mounts that it was told last, once it was told both
 abbrev pub IsAgentFirst : List ℕ → Option ℕ → Option (List MountRow) → Option Object → First → Type 0
 IsAgentFirst node (Some epoch) (Some mounts) row first = first ≡ agent_first (agent_begins node epoch mounts row)
 IsAgentFirst node epoch mounts row first = ⊥
 
+-- a scheduler decides a pod, and the search for its node begins after the one that was refused last; it drops any other key
+abbrev pub IsPodFirst : List Object → List Tried → Option Object → First → Type 0
+IsPodFirst rows refused row firsts.Drops = BeginsOn rows refused row None
+IsPodFirst rows refused row (firsts.Begins (tasks.Schedule op)) = BeginsOn rows refused row (Some op)
+IsPodFirst rows refused row first = ⊥
+
 abbrev pub IsFirstOf : SeatKind → List ℕ → Memory → List Object → Key → First → Type 0
 IsFirstOf seats.Binder node m rows key first = IsBinderFirst rows key first
+IsFirstOf seats.Ops node m rows key first = first ≡ ops_first (provision_begins rows (row_at key rows)) (erase_begins (row_at key rows))
+IsFirstOf seats.Scheduler node m rows key first = IsPodFirst rows m.tries.refused (row_at key rows) first
 IsFirstOf seats.ClaimProtect node m rows key first = first ≡ claim_first (claim_begins rows (row_at key rows))
 IsFirstOf seats.VolumeProtect node m rows key first = first ≡ volume_first (volume_begins (row_at key rows))
 IsFirstOf seats.Agent node m rows key first = IsAgentFirst node m.epoch m.mounts (row_at key rows) first
-IsFirstOf _ node m rows key first = ⊥
+IsFirstOf seats.User node m rows key first = ⊥
 
 -- what the decision on the key, by what the actor remembers and by these rows, comes to
 abbrev pub IsDecision : Role → Memory → List Object → Key → First → Type 0

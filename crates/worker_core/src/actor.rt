@@ -61,8 +61,7 @@ impl Model for Actor {
 }
 
 impl Actor {
-    /// An actor that was told nothing. The binder, claim protection, volume protection and the node agent are the
-    /// kinds that are built. `node` is that of an agent.
+    /// An actor that was told nothing. Each kind but that of users is built. `node` is that of an agent.
     pub fn new(alloc: Global, kind: SeatKind, node: &Text) -> Result<Actor, OutOfMemory>
         requires { IsBuiltKind kind }
         ensures is { IfOk result (λ actor. IsNew (record { kind = kind; node = node.now }) actor) }
@@ -97,7 +96,7 @@ impl Actor {
                 behind,
                 event: true,
             },
-            memory: Remembered::new(),
+            memory: Remembered::new(alloc),
             under: None,
             given: None,
         }
@@ -367,7 +366,7 @@ impl Actor {
             behind: kinds_of(self.role.kind).len(),
             event: true,
         };
-        self.memory = Remembered::new();
+        self.memory = Remembered::new(self.alloc);
         self.under = None;
         self.given = None;
     }

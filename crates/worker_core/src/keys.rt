@@ -13,7 +13,8 @@ ghost use Rattle.worker_core.specs.Turns.{Decides};
 use crate::memory::Remembered;
 use crate::role::Role;
 use crate::task::{
-    First, Under, first_of_agent, first_of_binder, first_of_claims, first_of_volumes,
+    First, Under, first_of_agent, first_of_binder, first_of_claims, first_of_ops,
+    first_of_scheduler, first_of_volumes,
 };
 use call_types::request::SeatKind;
 use informer_cache::caches::Caches;
@@ -50,10 +51,14 @@ fn first_for(
 {
     match role.kind {
         SeatKind::Binder => first_of_binder(alloc, caches, key),
+        SeatKind::Ops => first_of_ops(alloc, caches, key),
+        SeatKind::Scheduler => {
+            first_of_scheduler(alloc, caches, memory.tries.refused.as_slice(), key)
+        }
         SeatKind::ClaimProtect => first_of_claims(alloc, caches, key),
         SeatKind::VolumeProtect => first_of_volumes(alloc, caches, key),
         SeatKind::Agent => first_for_agent(alloc, &role.node, memory, caches, key),
-        SeatKind::User | SeatKind::Ops | SeatKind::Scheduler => Ok(First::Drops),
+        SeatKind::User => Ok(First::Drops),
     }
 }
 

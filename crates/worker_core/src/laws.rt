@@ -1,6 +1,6 @@
 //! What follows from the definitions of an actor's turns and answers alone.
 
-ghost use Rattle.worker_core.specs.Rules.{AnswersKeepKeys, EventsAreBrought, PassesBegin, PassesGoOn, TurnsKeepKeys, WakesKeepKeys, WatchesAreAnswered, WatchesFollowThePass};
+ghost use Rattle.worker_core.specs.Rules.{AnswersKeepKeys, EventsAreBrought, PassesBegin, PassesGoOn, TriesAreTold, TurnsKeepKeys, WakesKeepKeys, WatchesAreAnswered, WatchesFollowThePass};
 
 /// In a turn a key stops waiting only where its decision on the caches gave a call or gives none; none is parked.
 pub fn turns_keep_keys()
@@ -16,6 +16,12 @@ pub fn answers_keep_keys()
 /// A wake lets no key stop waiting, and parks none.
 pub fn wakes_keep_keys()
     ensures { WakesKeepKeys }
+{}
+
+/// The nodes that a scheduler remembers as selected and as refused are those that the entries of its seat tell.
+#[tactic(auto, using(crate::proofs::ByKind::tries_are_told))]
+pub fn tries_are_told()
+    ensures { TriesAreTold }
 {}
 
 /// A turn begins a pass only where none is under way and the last one brought an event.

@@ -2,8 +2,7 @@
 
 ghost use Rattle.std.specs.Prelude.{◌≡◌, ◌==◌, ◌&&◌, IfOk, OnOk, bytes_eq};
 ghost use Rattle.binder_model.specs.AgentLicence.{epoch_told, is_of_epoch};
-ghost use Rattle.worker_core.specs.Memories.{agent_remembers, is_stale_told, memory_after, mounts_told, no_memory};
-ghost use Rattle.worker_core.specs.Roles.{IsBuiltKind};
+ghost use Rattle.worker_core.specs.Memories.{agent_remembers, is_stale_told, memory_after, mounts_told, no_memory, scheduler_remembers};
 ghost use Rattle.worker_core.specs.States.{agent_start, start_call};
 
 use crate::role::Role;
@@ -12,35 +11,51 @@ use call_types::request::{Request, SeatKind};
 use kube_types::copies::{OutOfMemory, Plain};
 use kube_types::items::Items;
 use kube_types::text::Text;
+use pod_scheduler::tries::Tries;
 use std::alloc::Global;
 use std::marker::Model;
 
-/// Of an agent: its epoch, the mounts that it was told last, and whether it was told that its epoch is stale. It stays empty
-/// in the other kinds of actors.
-#[derive(Debug, Drop)]
+/// Of an agent: its epoch, the mounts that it was told last, and whether it was told that its epoch is stale. Of a
+/// scheduler: the nodes that it tried for claims. It stays empty in the other kinds of actors.
+#[derive(Debug)]
 pub(crate) struct Remembered {
     pub(crate) epoch: Option<u64>,
     pub(crate) mounts: Option<Items<MountRow>>,
     pub(crate) stale: bool,
+    pub(crate) tries: Tries,
+}
+
+impl Drop for Remembered {
+    fn drop(self) {
+        let Remembered {
+            epoch: _,
+            mounts,
+            stale: _,
+            tries,
+        } = self;
+        drop(mounts);
+        drop(tries);
+    }
 }
 
 impl Model for Remembered {
-    ghost use Rattle.std.specs.Prelude.{[]};
     ghost use Rattle.worker_core.specs.Memories.{Memory};
 
     ghost Value = { Memory };
 
-    ghost view = { λ m. record { epoch = m.epoch; mounts = m.mounts; stale = m.stale; chosen = []; refused = [] } };
+    ghost view = { λ m. record { epoch = m.epoch; mounts = m.mounts; stale = m.stale; tries = m.tries } };
 }
 
 impl Remembered {
-    pub(crate) fn new() -> Remembered
+    /// It takes no memory.
+    pub(crate) fn new(alloc: Global) -> Remembered
         ensures { result ≡ no_memory }
     {
         Remembered {
             epoch: None,
             mounts: None,
             stale: false,
+            tries: Tries::new(alloc),
         }
     }
 
@@ -62,13 +77,26 @@ impl Remembered {
         request: &Request,
         reply: &Reply,
     ) -> Result<(), OutOfMemory>
-        requires { IsBuiltKind role.now.kind }
         ensures { OnOk result (self.new ≡ memory_after role.now request.now reply.now self.old) }
     {
         match role.kind {
             SeatKind::Agent => self.take_agent(alloc, &role.node, request, reply),
+            SeatKind::Scheduler => self.take_scheduler(alloc, request, reply),
             _ => Ok(()),
         }
+    }
+
+    /// What a scheduler remembers: the nodes that the answer tells to be selected or refused.
+    fn take_scheduler(
+        &mut self,
+        alloc: Global,
+        request: &Request,
+        reply: &Reply,
+    ) -> Result<(), OutOfMemory>
+        ensures { OnOk result (self.new ≡ scheduler_remembers request.now reply.now self.old) }
+    {
+        self.tries.take(alloc, request, reply)?;
+        Ok(())
     }
 
     /// What an agent remembers: a new epoch begins with no mounts told.

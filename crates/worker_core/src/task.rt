@@ -4,8 +4,9 @@ ghost use Rattle.std.specs.Prelude.{◌≡◌, IfOk, Some};
 ghost use Rattle.kube_types.specs.Keys.{row_at};
 ghost use Rattle.node_agent.specs.Agents.{agent_begins};
 ghost use Rattle.protect_sync.specs.Decisions.{claim_begins, volume_begins};
+ghost use Rattle.reclaim_ops.specs.Decisions.{claim_begins as provision_begins, volume_begins as erase_begins};
 ghost use Rattle.worker_core.specs.declared.task.Task.TheVariants as tasks;
-ghost use Rattle.worker_core.specs.Tasks.{IsBinderFirst, agent_first, claim_first, task_call, task_moved, task_parks, under_after, volume_first, with_call, with_task};
+ghost use Rattle.worker_core.specs.Tasks.{IsBinderFirst, IsPodFirst, agent_first, claim_first, ops_first, task_call, task_moved, task_parks, under_after, volume_first, with_call, with_task};
 
 use binder_machines::decide as binder;
 use binder_machines::machine::Machine;
@@ -16,10 +17,16 @@ use kube_types::key::Key;
 use kube_types::lookup::Lookup;
 use kube_types::text::Text;
 use node_agent::agent::AgentOp;
-use node_agent::decide::decide_pod;
+use node_agent::decide as agents;
+use pod_scheduler::decide::decide_pod;
+use pod_scheduler::schedule::ScheduleOp;
+use pod_scheduler::tries::Tried;
 use protect_sync::claims::ClaimGuardOp;
 use protect_sync::decide::{decide_claim, decide_volume};
 use protect_sync::volumes::VolumeGuardOp;
+use reclaim_ops::decide as ops;
+use reclaim_ops::erase::EraseOp;
+use reclaim_ops::provision::ProvisionOp;
 use std::alloc::Global;
 
 /// A machine of one of the kinds of actors.
@@ -29,6 +36,9 @@ pub enum Task {
     ClaimProtect(ClaimGuardOp),
     VolumeProtect(VolumeGuardOp),
     Agent(AgentOp),
+    Provision(ProvisionOp),
+    Erase(EraseOp),
+    Schedule(ScheduleOp),
 }
 
 impl Drop for Task {
@@ -38,6 +48,9 @@ impl Drop for Task {
             Task::ClaimProtect(op) => drop(op),
             Task::VolumeProtect(op) => drop(op),
             Task::Agent(op) => drop(op),
+            Task::Provision(op) => drop(op),
+            Task::Erase(op) => drop(op),
+            Task::Schedule(op) => drop(op),
         }
     }
 }
@@ -84,6 +97,9 @@ impl Task {
             Task::ClaimProtect(op) => op.next(alloc),
             Task::VolumeProtect(op) => op.next(alloc),
             Task::Agent(op) => op.next(alloc),
+            Task::Provision(op) => op.next(alloc),
+            Task::Erase(op) => op.next(alloc),
+            Task::Schedule(op) => op.next(alloc),
         }
     }
 
@@ -97,6 +113,9 @@ impl Task {
             Task::ClaimProtect(op) => Ok(moved_claim(op, reply)),
             Task::VolumeProtect(op) => Ok(moved_volume(op, reply)),
             Task::Agent(op) => moved_agent(alloc, op, reply),
+            Task::Provision(op) => moved_provision(alloc, op, reply),
+            Task::Erase(op) => moved_erase(alloc, op, reply),
+            Task::Schedule(op) => Ok(moved_schedule(op, reply)),
         }
     }
 }
@@ -153,6 +172,45 @@ fn moved_agent(alloc: Global, mut op: AgentOp, reply: &Reply) -> Result<Moved, O
     })
 }
 
+/// The machine of a claim that is provisioned, after the answer.
+fn moved_provision(alloc: Global, mut op: ProvisionOp, reply: &Reply) -> Result<Moved, OutOfMemory>
+    ensures task { IfOk result (λ moved. moved.task ≡ task_moved (tasks.Provision op) reply.now) }
+    ensures parks { IfOk result (λ moved. moved.parks ≡ task_parks (tasks.Provision op) reply.now) }
+{
+    op.absorb(alloc, reply)?;
+    let parks = op.parks();
+    Ok(Moved {
+        task: Some(Task::Provision(op)),
+        parks,
+    })
+}
+
+/// The machine of a volume that is reclaimed, after the answer.
+fn moved_erase(alloc: Global, mut op: EraseOp, reply: &Reply) -> Result<Moved, OutOfMemory>
+    ensures task { IfOk result (λ moved. moved.task ≡ task_moved (tasks.Erase op) reply.now) }
+    ensures parks { IfOk result (λ moved. moved.parks ≡ task_parks (tasks.Erase op) reply.now) }
+{
+    op.absorb(alloc, reply)?;
+    let parks = op.parks();
+    Ok(Moved {
+        task: Some(Task::Erase(op)),
+        parks,
+    })
+}
+
+/// The machine of a pod that is scheduled, after the answer. It takes no memory.
+fn moved_schedule(mut op: ScheduleOp, reply: &Reply) -> Moved
+    ensures task { result.task ≡ task_moved (tasks.Schedule op) reply.now }
+    ensures parks { result.parks ≡ task_parks (tasks.Schedule op) reply.now }
+{
+    op.absorb(reply);
+    let parks = op.parks();
+    Moved {
+        task: Some(Task::Schedule(op)),
+        parks,
+    }
+}
+
 /// The binder's decision on a key.
 pub(crate) fn first_of_binder<L: Lookup>(
     alloc: Global,
@@ -207,9 +265,41 @@ pub(crate) fn first_of_agent<L: Lookup>(
 ) -> Result<First, OutOfMemory>
     ensures { IfOk result (λ first. first ≡ agent_first (agent_begins node.now epoch mounts.now (row_at key.now (L.rows lookup.now)))) }
 {
-    match decide_pod(alloc, lookup, node, epoch, mounts, key)? {
+    match agents::decide_pod(alloc, lookup, node, epoch, mounts, key)? {
         None => Ok(First::Drops),
         Some(op) => Ok(First::Begins(Task::Agent(op))),
+    }
+}
+
+/// The decision of the provisioner and reclaimer on a key.
+pub(crate) fn first_of_ops<L: Lookup>(
+    alloc: Global,
+    lookup: &L,
+    key: &Key,
+) -> Result<First, OutOfMemory>
+    ensures { IfOk result (λ first. first ≡ ops_first (provision_begins (L.rows lookup.now) (row_at key.now (L.rows lookup.now))) (erase_begins (row_at key.now (L.rows lookup.now)))) }
+{
+    if let Some(op) = ops::decide_claim(alloc, lookup, key)? {
+        return Ok(First::Begins(Task::Provision(op)));
+    }
+    match ops::decide_volume(alloc, lookup, key)? {
+        None => Ok(First::Drops),
+        Some(op) => Ok(First::Begins(Task::Erase(op))),
+    }
+}
+
+/// The scheduler's decision on a key, by the nodes that were refused, the last one first.
+pub(crate) fn first_of_scheduler<L: Lookup>(
+    alloc: Global,
+    lookup: &L,
+    refused: &[Tried],
+    key: &Key,
+) -> Result<First, OutOfMemory>
+    ensures { IfOk result (λ first. IsPodFirst (L.rows lookup.now) refused.now (row_at key.now (L.rows lookup.now)) first) }
+{
+    match decide_pod(alloc, lookup, refused, key)? {
+        None => Ok(First::Drops),
+        Some(op) => Ok(First::Begins(Task::Schedule(op))),
     }
 }
 

@@ -5,18 +5,18 @@ use Rattle.call_types.specs.declared.setup.Setup.{Setup}
 use Rattle.binder_model.specs.World.{world}
 use Rattle.world_core.specs.declared.drained.Drained.{Drained}
 use Rattle.world_core.specs.declared.drained.Drained.TheVariants.{Settled, Spent}
-use Rattle.settle_check.specs.SoFar.{IsSettledSoFar}
-use Rattle.settle_check.proofs.Restricted.{not_settled}
+use Rattle.binder_model.specs.Due.{IsSettled}
+use Rattle.settle_check.proofs.Settled.{not_settled}
 use Rattle.worker_threads.specs.declared.drainers.Drainer.{Drainer}
 use Rattle.worker_threads.specs.Drainers.{seats_of}
 use Rattle.worker_threads.specs.Longer.{IsLonger}
-use Rattle.worker_threads.specs.Rounds.{Drains, EndsHere, Goes, IsSettled, IsSpent, made_of}
+use Rattle.worker_threads.specs.Rounds.{Drains, EndsHere, Goes, NothingDue, IsSpent, made_of}
 use Rattle.worker_threads.proofs.Entries.{longer_then, not_longer}
 use Rattle.worker_threads.proofs.RoundFacts.{round_left, round_longer, round_seats}
 
 module _ (setup : Setup) (after : List Drainer) (past : List Entry) (left : ℕ) where
   pub drains_left : (ds : List Drainer) (h : List Entry) (b : ℕ) → Drains setup after past left ds h b → left ≤ b
-  drains_left ds h b (IsSettled settled same entries rest) = omega arith
+  drains_left ds h b (NothingDue settled same entries rest) = omega arith
   drains_left ds h b (IsSpent first due none same entries rest) = omega arith
   drains_left ds h b (Goes first due some between middle rest whole round more) =
       let low = drains_left _ _ _ more in
@@ -30,7 +30,7 @@ module _ (setup : Setup) (after : List Drainer) (past : List Entry) (left : ℕ)
 
   -- the entries are the earlier ones and then as many of the drainers' seats as calls were made
   pub drains_longer : (ds : List Drainer) (h : List Entry) (b : ℕ) → Drains setup after past left ds h b → IsLonger (seats_of ds) (b - left) h past
-  drains_longer ds h b (IsSettled settled same entries rest) = ends_longer (seats_of ds) h b entries rest
+  drains_longer ds h b (NothingDue settled same entries rest) = ends_longer (seats_of ds) h b entries rest
   drains_longer ds h b (IsSpent first due none same entries rest) = ends_longer (seats_of ds) h b entries rest
   drains_longer ds h b (Goes first due some between middle rest whole round more) =
       let low = drains_left _ _ _ more in
@@ -40,14 +40,14 @@ module _ (setup : Setup) (after : List Drainer) (past : List Entry) (left : ℕ)
       subst (λ n. IsLonger (seats_of ds) n h past) made (longer_then (seats_of ds) (b - rest) (rest - left) h middle past (round_longer _ _ _ _ _ _ _ round) then_)
 
   -- a drain that finds the world settled makes no call
-  pub drains_none : (ds : List Drainer) (h : List Entry) (b : ℕ) → Drains setup after past left ds h b → IsSettledSoFar setup (world setup h) → past ≡ h
-  drains_none ds h b (IsSettled settled same entries rest) nothing = entries
+  pub drains_none : (ds : List Drainer) (h : List Entry) (b : ℕ) → Drains setup after past left ds h b → IsSettled setup (world setup h) → past ≡ h
+  drains_none ds h b (NothingDue settled same entries rest) nothing = entries
   drains_none ds h b (IsSpent first due none same entries rest) nothing = entries
   drains_none ds h b (Goes first due some between middle rest whole round more) nothing = absurd (not_settled setup (world setup h) first due nothing)
 
 -- a drain that ends has made the rounds that it has made
 pub ends_here : (setup : Setup) (ds : List Drainer) (past : List Entry) (budget left : ℕ) (drained : Drained) → EndsHere setup past budget left (Some drained) → Drains setup ds past left ds past left
-ends_here setup ds past budget left (Settled made) ends = IsSettled ends.0 refl refl refl
+ends_here setup ds past budget left (Settled made) ends = NothingDue ends.0 refl refl refl
 ends_here setup ds past budget left (Spent made key due) ends =
     let count = ends.1 in
     let all = ends.0.0 in

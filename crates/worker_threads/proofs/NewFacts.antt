@@ -5,13 +5,14 @@ use Rattle.std.specs.Prelude.{slice_get}
 use Rattle.std.proofs.lemmas.List.{drop_all}
 use Rattle.std.proofs.Math.Seq.{drop-cons}
 use Rattle.call_types.specs.declared.entry.Entry.{Entry}
+use Rattle.call_types.specs.declared.request.SeatKind.{SeatKind}
 use Rattle.call_types.specs.declared.request.SeatKind.TheVariants as seats
 use Rattle.binder_model.specs.Told.{own}
 use Rattle.model_laws.proofs.Lists.{none_some, one}
 use Rattle.worker_core.specs.declared.role.Role.{Role}
 use Rattle.worker_core.specs.Stands.{StandsFor}
 use Rattle.worker_threads.specs.declared.drainers.Drainer.{Drainer}
-use Rattle.worker_threads.specs.Drainers.{AreAdded, AreNew, AreNewAgents, AreSeats, AreStanding, BeginsSteady, HaveNoEntries, IsNewAt, roles_of, seats_of}
+use Rattle.worker_threads.specs.Drainers.{AreAdded, AreNew, AreNewAgents, AreSeats, AreStanding, BeginsSteady, HaveNoEntries, IsAdded, IsNewAt, roles_of, seats_of}
 
 -- ---- the seats
 
@@ -39,20 +40,47 @@ agents_rise first (node ∷ nodes) (d ∷ ds) new =
     let is = new.0.at in
     (omega (arith, is), subst (λ (s : ℕ). Rise (s + 1) (seats_of ds)) (sym is) (agents_rise (first + 1) nodes ds new.1))
 
+-- a seat that is none of the others stands before them
+one_before : (s : ℕ) (seats : List ℕ) → ((i : ℕ) → slice_get seats i ≡ Some s → ⊥)
+    → ((i j seat : ℕ) → slice_get seats i ≡ Some seat → slice_get seats j ≡ Some seat → i ≡ j)
+    → (i j seat : ℕ) → slice_get (s ∷ seats) i ≡ Some seat → slice_get (s ∷ seats) j ≡ Some seat → i ≡ j
+one_before s seats other differ zero zero seat a b = refl
+one_before s seats other differ zero (suc j) seat a b = absurd (other j (b ∙ ap (λ (n : ℕ). Some n) (sym (one s seat a))))
+one_before s seats other differ (suc i) zero seat a b = absurd (other i (a ∙ ap (λ (n : ℕ). Some n) (sym (one s seat b))))
+one_before s seats other differ (suc i) (suc j) seat a b = ap suc (differ i j seat a b)
+
+-- a seat is none of those that begin higher, nor a lower one before these
+not_higher : (s low : ℕ) (seats : List ℕ) → s < low → Rise low seats → (i : ℕ) → slice_get seats i ≡ Some s → ⊥
+not_higher s low seats less rise i at = let high = above low seats i s rise at in absurd (omega (arith, less, high))
+
+nor_lower : (s lower : ℕ) (seats : List ℕ) → lower < s → ((i : ℕ) → slice_get seats i ≡ Some s → ⊥) → (i : ℕ) → slice_get (lower ∷ seats) i ≡ Some s → ⊥
+nor_lower s lower seats less other zero at = let is = one lower s at in absurd (omega (arith, less, is))
+nor_lower s lower seats less other (suc i) at = other i at
+
 -- the seats of new drainers
-pub new_seats : (first : ℕ) (nodes : List (List ℕ)) (ds : List Drainer) (new : AreNew first nodes ds) → seats_of ds ≡ first ∷ (first + 3) ∷ (first + 4) ∷ seats_of new.agents
+pub new_seats : (first : ℕ) (nodes : List (List ℕ)) (ds : List Drainer) (new : AreNew first nodes ds) → seats_of ds ≡ (first + 2) ∷ (first + 1) ∷ first ∷ (first + 3) ∷ (first + 4) ∷ seats_of new.agents
 new_seats first nodes ds new =
     ap seats_of new.are
-    ∙ ap (λ s. s ∷ new.claims.seat ∷ new.volumes.seat ∷ seats_of new.agents) new.binder_is.at
-    ∙ ap (λ s. first ∷ s ∷ new.volumes.seat ∷ seats_of new.agents) new.claims_is.at
-    ∙ ap (λ s. first ∷ (first + 3) ∷ s ∷ seats_of new.agents) new.volumes_is.at
+    ∙ ap (λ s. s ∷ new.ops.seat ∷ new.binder.seat ∷ new.claims.seat ∷ new.volumes.seat ∷ seats_of new.agents) new.scheduler_is.at
+    ∙ ap (λ s. (first + 2) ∷ s ∷ new.binder.seat ∷ new.claims.seat ∷ new.volumes.seat ∷ seats_of new.agents) new.ops_is.at
+    ∙ ap (λ s. (first + 2) ∷ (first + 1) ∷ s ∷ new.claims.seat ∷ new.volumes.seat ∷ seats_of new.agents) new.binder_is.at
+    ∙ ap (λ s. (first + 2) ∷ (first + 1) ∷ first ∷ s ∷ new.volumes.seat ∷ seats_of new.agents) new.claims_is.at
+    ∙ ap (λ s. (first + 2) ∷ (first + 1) ∷ first ∷ (first + 3) ∷ s ∷ seats_of new.agents) new.volumes_is.at
 
 pub new_differ : (first : ℕ) (nodes : List (List ℕ)) (ds : List Drainer) → AreNew first nodes ds → AreSeats (seats_of ds)
 new_differ first nodes ds new =
     let last : first + 5 ≡ first + 4 + 1 = omega arith in
     let agents = subst (λ (s : ℕ). Rise s (seats_of new.agents)) last (agents_rise (first + 5) nodes new.agents new.agents_are) in
-    subst AreSeats (sym (new_seats first nodes ds new))
-    (record { some = omega arith; differ = λ i j seat a b. differ first (first ∷ (first + 3) ∷ (first + 4) ∷ seats_of new.agents) i j seat (omega arith, (omega arith, (omega arith, agents))) a b })
+    let later = (first + 3) ∷ (first + 4) ∷ seats_of new.agents in
+    let low : Rise (first + 1) later = (omega arith, (omega arith, agents)) in
+    let high : Rise (first + 3) later = (omega arith, (omega arith, agents)) in
+    let second = nor_lower (first + 1) first later (omega arith) (not_higher (first + 1) (first + 3) later (omega arith) high) in
+    let third = nor_lower (first + 2) first later (omega arith) (not_higher (first + 2) (first + 3) later (omega arith) high) in
+    let two = one_before (first + 1) (first ∷ later) second (λ i j seat a b. differ first (first ∷ later) i j seat (omega arith, low) a b) in
+    subst AreSeats (sym (new_seats first nodes ds new)) (record {
+      some = omega arith;
+      differ = one_before (first + 2) ((first + 1) ∷ first ∷ later) (nor_lower (first + 2) (first + 1) (first ∷ later) (omega arith) third) two;
+    })
 
 -- ---- what they stand for
 
@@ -76,37 +104,52 @@ each_stands (x ∷ ds) all past none (suc place) d at = each_stands ds (λ i y t
 
 new_steady : (first : ℕ) (nodes : List (List ℕ)) (ds : List Drainer) → AreNew first nodes ds → BeginsSteady (roles_of ds)
 new_steady first nodes ds new = subst (λ (xs : List Drainer). BeginsSteady (roles_of xs)) (sym new.are) (record {
-  first = new.binder.actor.role;
+  first = new.scheduler.actor.role;
   is = refl;
-  steady = λ agent. let binder = ap (λ (r : Role). r.kind) new.binder_is.is_new.is in absurd (cc);
+  steady = λ agent. let scheduler = ap (λ (r : Role). r.kind) new.scheduler_is.is_new.is in absurd (cc);
 })
 
 pub new_stand : (first : ℕ) (nodes : List (List ℕ)) (ds : List Drainer) → AreNew first nodes ds → (past : List Entry) → HaveNoEntries (seats_of ds) past → AreStanding ds past
 new_stand first nodes ds new past none =
-    let all = one_more new.binder (new.claims ∷ new.volumes ∷ new.agents) new.binder_is.stands (one_more new.claims (new.volumes ∷ new.agents) new.claims_is.stands (one_more new.volumes new.agents new.volumes_is.stands (agents_stand (first + 5) nodes new.agents new.agents_are))) in
+    let volumes = one_more new.volumes new.agents new.volumes_is.stands (agents_stand (first + 5) nodes new.agents new.agents_are) in
+    let claims = one_more new.claims (new.volumes ∷ new.agents) new.claims_is.stands volumes in
+    let binder = one_more new.binder (new.claims ∷ new.volumes ∷ new.agents) new.binder_is.stands claims in
+    let ops = one_more new.ops (new.binder ∷ new.claims ∷ new.volumes ∷ new.agents) new.ops_is.stands binder in
+    let all = one_more new.scheduler (new.ops ∷ new.binder ∷ new.claims ∷ new.volumes ∷ new.agents) new.scheduler_is.stands ops in
     record { each = each_stands ds (subst AllStand (sym new.are) all) past none; steady = new_steady first nodes ds new }
 
 -- ---- how they are made
 
+pub one_added : (kind : SeatKind) (seat : ℕ) (node : List ℕ) (before after : List Drainer) (d : Drainer) → node ≡ [] → IsNewAt kind node seat d → after ≡ before ++ d ∷ [] → IsAdded kind seat before after
+one_added kind seat node before after d none new pushed = record { worker = d; are = pushed; new = subst (λ (n : List ℕ). IsNewAt kind n seat d) none new }
+
 -- each pushed after those before it
-three_items : (a b c : Drainer) (none ones two three : List Drainer) → none ≡ [] → ones ≡ none ++ a ∷ [] → two ≡ ones ++ b ∷ [] → three ≡ two ++ c ∷ [] → three ≡ a ∷ b ∷ c ∷ []
-three_items a b c none ones two three is_none is_one is_two is_three =
+five_items : (a b c d e : Drainer) (none ones two three four five : List Drainer) → none ≡ [] → ones ≡ none ++ a ∷ [] → two ≡ ones ++ b ∷ [] → three ≡ two ++ c ∷ [] → four ≡ three ++ d ∷ [] → five ≡ four ++ e ∷ []
+    → five ≡ a ∷ b ∷ c ∷ d ∷ e ∷ []
+five_items a b c d e none ones two three four five is_none is_one is_two is_three is_four is_five =
     let first : ones ≡ a ∷ [] = is_one ∙ ap (λ xs. xs ++ a ∷ []) is_none in
     let second : two ≡ a ∷ b ∷ [] = is_two ∙ ap (λ xs. xs ++ b ∷ []) first in
-    is_three ∙ ap (λ xs. xs ++ c ∷ []) second
+    let third : three ≡ a ∷ b ∷ c ∷ [] = is_three ∙ ap (λ xs. xs ++ c ∷ []) second in
+    let fourth : four ≡ a ∷ b ∷ c ∷ d ∷ [] = is_four ∙ ap (λ xs. xs ++ d ∷ []) third in
+    is_five ∙ ap (λ xs. xs ++ e ∷ []) fourth
 
-pub all_new : (a b c : Drainer) (first : ℕ) (nodes : List (List ℕ)) (node : List ℕ) (none ones two three items : List Drainer) → none ≡ [] → ones ≡ none ++ a ∷ [] → two ≡ ones ++ b ∷ [] → three ≡ two ++ c ∷ [] → AreAdded (first + 5) nodes three items
-    → node ≡ [] → IsNewAt seats.Binder node (first + 0) a → IsNewAt seats.ClaimProtect node (first + 3) b → IsNewAt seats.VolumeProtect node (first + 4) c → AreNew first nodes items
-all_new a b c first nodes node none ones two three items is_none is_one is_two is_three added no_node is_a is_b is_c = record {
-  binder = a;
-  claims = b;
-  volumes = c;
-  agents = added.agents;
-  are = added.are ∙ ap (λ xs. xs ++ added.agents) (three_items a b c none ones two three is_none is_one is_two is_three);
-  binder_is = let here : first + 0 ≡ first = omega arith in subst (λ n. IsNewAt seats.Binder [] n a) here (subst (λ (x : List ℕ). IsNewAt seats.Binder x (first + 0) a) no_node is_a);
-  claims_is = subst (λ (x : List ℕ). IsNewAt seats.ClaimProtect x (first + 3) b) no_node is_b;
-  volumes_is = subst (λ (x : List ℕ). IsNewAt seats.VolumeProtect x (first + 4) c) no_node is_c;
-  agents_are = added.new;
+pub all_new : (first : ℕ) (nodes : List (List ℕ)) (none ones two three four five items : List Drainer) → none ≡ [] → IsAdded seats.Scheduler (first + 2) none ones
+    → IsAdded seats.Ops (first + 1) ones two → IsAdded seats.Binder (first + 0) two three → IsAdded seats.ClaimProtect (first + 3) three four → IsAdded seats.VolumeProtect (first + 4) four five
+    → AreAdded (first + 5) nodes five items → AreNew first nodes items
+all_new first nodes none ones two three four five items is_none scheduler ops binder claims volumes agents = record {
+  scheduler = scheduler.worker;
+  ops = ops.worker;
+  binder = binder.worker;
+  claims = claims.worker;
+  volumes = volumes.worker;
+  agents = agents.agents;
+  are = agents.are ∙ ap (λ xs. xs ++ agents.agents) (five_items scheduler.worker ops.worker binder.worker claims.worker volumes.worker none ones two three four five is_none scheduler.are ops.are binder.are claims.are volumes.are);
+  scheduler_is = scheduler.new;
+  ops_is = ops.new;
+  binder_is = let here : first + 0 ≡ first = omega arith in subst (λ (n : ℕ). IsNewAt seats.Binder [] n binder.worker) here binder.new;
+  claims_is = claims.new;
+  volumes_is = volumes.new;
+  agents_are = agents.new;
 }
 
 -- agents so far, and one more

@@ -153,10 +153,10 @@ pub by_actor : (given : State) (h past : List Entry) (e : Entry) → past ≡ e 
 by_actor given h past e is built kind stands asks before = subst AreByActors (sym is) (before, by e.kind (sym kind) (subst IsBuiltKind (sym kind) built))
   where
     by : (k : SeatKind) → given.role.kind ≡ k → IsBuiltKind k → IsByActor k (own e.seat h) e.request
-    by seats.Binder same built = record { actor = given; binder = same; stands = stands; asks = asks }
+    by seats.Binder same built = record { actor = given; of_kind = same; stands = stands; asks = asks }
     by seats.ClaimProtect same built = tt
     by seats.VolumeProtect same built = tt
     by seats.User same built = absurd built
-    by seats.Ops same built = absurd built
-    by seats.Scheduler same built = absurd built
+    by seats.Ops same built = tt
+    by seats.Scheduler same built = record { actor = given; of_kind = same; stands = stands; asks = asks }
     by seats.Agent same built = tt

@@ -53,6 +53,12 @@ pub record IsNewAt (kind : SeatKind) (node : List ℕ) (seat : ℕ) (d : Drainer
   pub is_new : IsNew (record { kind = kind; node = node }) d.actor
   pub stands : StandsFor d.actor []
 
+-- such an actor, which serves no node, stands behind those before
+pub record IsAdded (kind : SeatKind) (seat : ℕ) (before after : List Drainer) : Type 0 where
+  pub worker : Drainer
+  pub are : after ≡ before ++ worker ∷ []
+  pub new : IsNewAt kind [] seat worker
+
 -- new agents of these nodes, in the order of the nodes, at the seats from this one on
 abbrev pub AreNewAgents : ℕ → List (List ℕ) → List Drainer → Type 0
 AreNewAgents seat [] ds = ds ≡ []
@@ -65,15 +71,19 @@ pub record AreAdded (seat : ℕ) (nodes : List (List ℕ)) (before after : List 
   pub are : after ≡ before ++ agents
   pub new : AreNewAgents seat nodes agents
 
--- new actors, in the order of a round: the binder, claim protection, volume protection, and an agent of each node. Their
--- seats are counted in the order binder, ops, scheduler, claim protection, volume protection, agents by node; an actor that
--- is not built keeps its number. Only agents serve a node
+-- new actors, in the order of a round: the scheduler, ops, the binder, claim protection, volume protection, and an agent of
+-- each node. Their seats are counted in another order: binder, ops, scheduler, claim protection, volume protection, agents by
+-- node. Only agents serve a node
 pub record AreNew (first_seat : ℕ) (nodes : List (List ℕ)) (ds : List Drainer) : Type 0 where
+  pub scheduler : Drainer
+  pub ops : Drainer
   pub binder : Drainer
   pub claims : Drainer
   pub volumes : Drainer
   pub agents : List Drainer
-  pub are : ds ≡ binder ∷ claims ∷ volumes ∷ agents
+  pub are : ds ≡ scheduler ∷ ops ∷ binder ∷ claims ∷ volumes ∷ agents
+  pub scheduler_is : IsNewAt seats.Scheduler [] (first_seat + 2) scheduler
+  pub ops_is : IsNewAt seats.Ops [] (first_seat + 1) ops
   pub binder_is : IsNewAt seats.Binder [] first_seat binder
   pub claims_is : IsNewAt seats.ClaimProtect [] (first_seat + 3) claims
   pub volumes_is : IsNewAt seats.VolumeProtect [] (first_seat + 4) volumes

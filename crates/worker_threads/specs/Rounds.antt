@@ -11,7 +11,7 @@ use Rattle.call_types.specs.declared.setup.Setup.{Setup}
 use Rattle.binder_model.specs.World.{world}
 use Rattle.world_core.specs.declared.drained.Drained.{Drained}
 use Rattle.world_core.specs.declared.drained.Drained.TheVariants.{Settled, Spent}
-use Rattle.settle_check.specs.SoFar.{IsFirstBuiltDue, IsSettledSoFar}
+use Rattle.binder_model.specs.Due.{IsFirstDue, IsSettled}
 use Rattle.worker_core.specs.declared.turn.Next.TheVariants.{Call, Idle}
 use Rattle.worker_core.specs.declared.turn.Outcome.TheVariants.{Told}
 use Rattle.worker_core.specs.Absorbs.{absorbed, woken}
@@ -41,9 +41,9 @@ pub data IsRound (past : List Entry) (left : ℕ) : List Drainer → List Entry 
 
 -- rounds are made while something is due and the budget is not spent
 pub data Drains (setup : Setup) (after : List Drainer) (past : List Entry) (left : ℕ) : List Drainer → List Entry → ℕ → Type 0 where
-  IsSettled : {ds : List Drainer} {h : List Entry} {b : ℕ} → IsSettledSoFar setup (world setup h) → after ≡ ds → past ≡ h → left ≡ b → Drains setup after past left ds h b
-  IsSpent : {ds : List Drainer} {h : List Entry} {b : ℕ} (first : Key × Due) → IsFirstBuiltDue setup (world setup h) (Some first) → b ≡ 0 → after ≡ ds → past ≡ h → left ≡ b → Drains setup after past left ds h b
-  Goes : {ds : List Drainer} {h : List Entry} {b : ℕ} (first : Key × Due) → IsFirstBuiltDue setup (world setup h) (Some first) → 0 < b
+  NothingDue : {ds : List Drainer} {h : List Entry} {b : ℕ} → IsSettled setup (world setup h) → after ≡ ds → past ≡ h → left ≡ b → Drains setup after past left ds h b
+  IsSpent : {ds : List Drainer} {h : List Entry} {b : ℕ} (first : Key × Due) → IsFirstDue setup (world setup h) (Some first) → b ≡ 0 → after ≡ ds → past ≡ h → left ≡ b → Drains setup after past left ds h b
+  Goes : {ds : List Drainer} {h : List Entry} {b : ℕ} (first : Key × Due) → IsFirstDue setup (world setup h) (Some first) → 0 < b
       → (between : List Drainer) (middle : List Entry) (rest : ℕ) (whole : Bool) → IsRound middle rest ds h b between whole
       → Drains setup after past left between middle rest → Drains setup after past left ds h b
 
@@ -54,10 +54,10 @@ made_of (Spent made key due) = made
 
 -- how a drain ends: settled where nothing is due, else with the budget spent and the first that is due
 abbrev pub EndsWith : Setup → List Entry → ℕ → Drained → Type 0
-EndsWith setup past budget (Settled made) = IsSettledSoFar setup (world setup past)
-EndsWith setup past budget (Spent made key due) = (made ≡ budget) × IsFirstBuiltDue setup (world setup past) (Some (key, due))
+EndsWith setup past budget (Settled made) = IsSettled setup (world setup past)
+EndsWith setup past budget (Spent made key due) = (made ≡ budget) × IsFirstDue setup (world setup past) (Some (key, due))
 
 -- what a drain finds between two rounds: it ends here, having made what is not left; or something is due, and calls are left
 abbrev pub EndsHere : Setup → List Entry → ℕ → ℕ → Option Drained → Type 0
 EndsHere setup past budget left (Some drained) = EndsWith setup past budget drained × (left + made_of drained ≡ budget)
-EndsHere setup past budget left None = (0 < left) × ((first : Key × Due) × IsFirstBuiltDue setup (world setup past) (Some first))
+EndsHere setup past budget left None = (0 < left) × ((first : Key × Due) × IsFirstDue setup (world setup past) (Some first))

@@ -2,7 +2,8 @@
 
 ghost use Rattle.std.specs.Prelude.{◌≡◌, ◌≤◌, ◌<◌, ◌-◌, ℕ, List, IfOk, OnOk, OnErr, Some};
 ghost use Rattle.binder_model.specs.Told.{own};
-ghost use Rattle.settle_check.specs.SoFar.{IsSettledSoFar, world_of};
+ghost use Rattle.binder_model.specs.Due.{IsSettled};
+ghost use Rattle.settle_check.specs.WorldOf.{world_of};
 ghost use Rattle.fitting_calls.specs.Calls.{AreByActors};
 ghost use Rattle.worker_threads.specs.Drainers.{AreStanding, seats_of};
 ghost use Rattle.worker_threads.specs.Longer.{HasGrown, IsLonger, IsOneOf};
@@ -32,7 +33,7 @@ pub fn drain(
     ensures entries { IfOk result (λ d. IsLonger (seats_of drainers.old) (made_of d) world.old.past world.new.past) }
     ensures others { (seat : ℕ) → (IsOneOf (seats_of drainers.old) seat → ⊥) → own seat world.new.past ≡ own seat world.old.past }
     ensures few { IfOk result (λ d. made_of d ≤ budget) }
-    ensures none { OnOk result (IsSettledSoFar world.old.setup (world_of world.old) → world.new.past ≡ world.old.past) }
+    ensures none { OnOk result (IsSettled world.old.setup (world_of world.old) → world.new.past ≡ world.old.past) }
     ensures err { OnErr result (HasGrown (seats_of drainers.old) world.old.past world.new.past) }
     ensures actors { AreByActors world.old.past → AreByActors world.new.past }
     ensures setup { world.new.setup ≡ world.old.setup }
@@ -60,7 +61,7 @@ fn ended(
     requires { left ≤ budget }
     ensures { IfOk result (λ ended. EndsHere world.now.setup world.now.past budget left ended) }
 {
-    match first_due(world) {
+    match first_due(alloc, world)? {
         None => Ok(Some(Drained::Settled {
             made: budget - left,
         })),

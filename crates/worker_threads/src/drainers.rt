@@ -3,7 +3,7 @@
 ghost use Rattle.std.specs.Prelude.{◌≡◌, ◌+◌, ◌<◌, ◌^◌, List, IfOk, OnOk, length};
 ghost use Rattle.call_types.specs.declared.entry.Entry.{Entry};
 ghost use Rattle.worker_core.specs.Roles.{IsBuiltKind};
-ghost use Rattle.worker_threads.specs.Drainers.{AreAdded, AreNew, AreStanding, HaveNoEntries, IsNewAt, seats_of};
+ghost use Rattle.worker_threads.specs.Drainers.{AreAdded, AreNew, AreStanding, HaveNoEntries, IsAdded, IsNewAt, seats_of};
 
 use call_types::request::SeatKind;
 use kube_types::copies::OutOfMemory;
@@ -53,8 +53,12 @@ impl Model for Drainers {
 }
 
 /// The seats of the actors, counted from the first one on: binder, ops, scheduler, claim protection, volume protection, and
-/// then the agents. An actor that is not built keeps its number.
+/// then the agents.
 const BINDER: u64 = 0;
+
+const OPS: u64 = 1;
+
+const SCHEDULER: u64 = 2;
 
 const CLAIMS: u64 = 3;
 
@@ -74,6 +78,22 @@ fn new_drainer(
 {
     let actor = Actor::new(alloc, kind, node)?;
     Ok(Drainer { seat, actor })
+}
+
+/// Adds a new actor of the kind, which serves no node, at the seat.
+fn add_worker(
+    alloc: Global,
+    list: &mut Vec<Drainer>,
+    kind: SeatKind,
+    seat: u64,
+) -> Result<(), OutOfMemory>
+    requires { IsBuiltKind kind }
+    ensures { OnOk result (IsAdded kind seat list.old.items list.new.items) }
+{
+    let none = Text::new(alloc, "")?;
+    let worker = new_drainer(alloc, kind, &none, seat)?;
+    list.push(worker)?;
+    Ok(())
 }
 
 /// Adds a new agent of each node, in the order of the nodes, at the seats from this one on.
@@ -102,14 +122,27 @@ impl Drainers {
         ensures are { IfOk result (λ drainers. AreNew first_seat nodes.now drainers) }
         ensures stand { IfOk result (λ drainers. (past : List Entry) → HaveNoEntries (seats_of drainers) past → AreStanding drainers past) }
     {
-        let none = Text::new(alloc, "")?;
-        let binder = new_drainer(alloc, SeatKind::Binder, &none, first_seat + BINDER)?;
-        let claims = new_drainer(alloc, SeatKind::ClaimProtect, &none, first_seat + CLAIMS)?;
-        let volumes = new_drainer(alloc, SeatKind::VolumeProtect, &none, first_seat + VOLUMES)?;
         let mut list = Vec::new(alloc);
-        list.push(binder)?;
-        list.push(claims)?;
-        list.push(volumes)?;
+        add_worker(
+            alloc,
+            &mut list,
+            SeatKind::Scheduler,
+            first_seat + SCHEDULER,
+        )?;
+        add_worker(alloc, &mut list, SeatKind::Ops, first_seat + OPS)?;
+        add_worker(alloc, &mut list, SeatKind::Binder, first_seat + BINDER)?;
+        add_worker(
+            alloc,
+            &mut list,
+            SeatKind::ClaimProtect,
+            first_seat + CLAIMS,
+        )?;
+        add_worker(
+            alloc,
+            &mut list,
+            SeatKind::VolumeProtect,
+            first_seat + VOLUMES,
+        )?;
         add_agents(alloc, &mut list, nodes, first_seat + AGENTS)?;
         Ok(Drainers { alloc, list })
     }

@@ -6,7 +6,8 @@
 //! no other seat's entries change; each drainer stands for its seat's entries again; a drain ends Settled exactly where
 //! nothing is due, else Spent exactly where the budget is. Not said: that any budget is enough to settle a world, nor that
 //! what only a stale agent could do is done: an agent whose node was taken by another answers Idle from then on.
-//! The actors that are built are the binder, claim protection, volume protection and the node agents. Threads come later.
+//! The actors are the scheduler, ops, the binder, claim protection, volume protection and the node agents. Threads come
+//! later.
 #![tactic(auto)]
 
 pub mod drain;

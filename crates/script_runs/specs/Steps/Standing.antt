@@ -25,7 +25,7 @@ use Rattle.script_runs.specs.Replays.{AreMoves, EndsAs, IsDrain, Progress, begun
 use Rattle.script_runs.specs.Steps.Living.{Lives}
 use Rattle.script_runs.specs.Steps.Playing.{EachPlayer, IsNewPlayer, Plays}
 
--- the actors that are built, in the order of their seats: four workers of each kind, and then the agents of these nodes
+-- all actors, in the order of their seats: four workers of each kind, and then the agents of these nodes
 
 abbrev pub workers_of : WorkerKind → List Actor
 workers_of kind = map (λ (w : WorkerData). Worker w) (four kind)
@@ -33,17 +33,17 @@ workers_of kind = map (λ (w : WorkerData). Worker w) (four kind)
 abbrev pub agents_for : List (List ℕ) → List Actor
 agents_for nodes = map (λ (node : List ℕ). Agent node) nodes
 
-unfoldable pub built_actors : List (List ℕ) → List Actor
-built_actors nodes = workers_of workers.Binder ++ (workers_of workers.Claims ++ (workers_of workers.Volumes ++ agents_for nodes))
+unfoldable pub actors_for : List (List ℕ) → List Actor
+actors_for nodes = workers_of workers.Binder ++ (workers_of workers.Ops ++ (workers_of workers.Scheduler ++ (workers_of workers.Claims ++ (workers_of workers.Volumes ++ agents_for nodes))))
 
 -- the place of an actor among them
 
 abbrev pub place_of_kind : WorkerKind → ℕ
 place_of_kind workers.Binder = 0
-place_of_kind workers.Ops = 0
-place_of_kind workers.Scheduler = 0
-place_of_kind workers.Claims = 4
-place_of_kind workers.Volumes = 8
+place_of_kind workers.Ops = 4
+place_of_kind workers.Scheduler = 8
+place_of_kind workers.Claims = 12
+place_of_kind workers.Volumes = 16
 
 abbrev pub place_of_number : WorkerNumber → ℕ
 place_of_number One = 0
@@ -58,7 +58,7 @@ place_of_node node (n ∷ nodes) = if bytes_eq n node then 0 else 1 + place_of_n
 
 abbrev pub place_of : List (List ℕ) → Actor → ℕ
 place_of nodes (Worker w) = place_of_kind w.kind + place_of_number w.number
-place_of nodes (Agent node) = 12 + place_of_node node nodes
+place_of nodes (Agent node) = 20 + place_of_node node nodes
 
 -- the parts of actors by the lines alone: each begins where the one before it ends
 
@@ -77,11 +77,11 @@ abbrev pub seat_past : List Line → List Actor → ℕ → ℕ
 seat_past lines [] first = first
 seat_past lines (actor ∷ actors) first = seat_past lines actors (end_of (part_from lines actor first))
 
-abbrev pub built_parts : Script → List Part
-built_parts script = parts_from script.lines (built_actors script.node_names) first_actor_seat
+abbrev pub all_parts : Script → List Part
+all_parts script = parts_from script.lines (actors_for script.node_names) first_actor_seat
 
 abbrev pub seat_of_drains : Script → ℕ
-seat_of_drains script = seat_past script.lines (built_actors script.node_names) first_actor_seat
+seat_of_drains script = seat_past script.lines (actors_for script.node_names) first_actor_seat
 
 abbrev pub parts_in : List Player → List Part
 parts_in players = map (λ (x : Player). x.part) players
@@ -110,9 +110,9 @@ IsBudget None budget = budget ≤ most_budget
 pub record Stands (script : Script) (option : Option ℕ) (p : Progress) (s : Stage) : Type 0 where
   pub past : s.world.past ≡ p.past
   pub setup : s.world.setup ≡ script.setup
-  pub parts : parts_in s.players.items ≡ built_parts script
+  pub parts : parts_in s.players.items ≡ all_parts script
   pub plays : EachPlayer (λ x. x.part.named ≡ true → Plays x s.world.past p.idle) s.players.items
-  pub lives : EachWithRole (λ role x. x.part.named ≡ true → Lives role x s.world.past) (built_actors script.node_names) s.players.items
+  pub lives : EachWithRole (λ role x. x.part.named ≡ true → Lives role x s.world.past) (actors_for script.node_names) s.players.items
   pub made : EachPlayer (λ x. x.made ≡ p.made x.part.name) s.players.items
   pub drainers : AreStanding s.drainers s.world.past
   pub seats : (seat : ℕ) → IsOneOf (seats_of s.drainers) seat → IsOneOf (drain_seats script) seat

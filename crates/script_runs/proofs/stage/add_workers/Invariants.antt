@@ -1,4 +1,4 @@
-use Rattle.std.proofs.Common.{◌≡◌, ◌≤◌, ◌+◌, ◌*◌, ℕ, List, drop, map}
+use Rattle.std.proofs.Common.{◌≤◌, ◌+◌, ◌*◌, ℕ, List, drop, map}
 use Rattle.script_lines.specs.declared.actors.Actor.TheVariants.{Worker}
 use Rattle.script_lines.specs.declared.actors.WorkerNumber.{WorkerNumber}
 use Rattle.script_runs.specs.declared.player.Player.{Player}

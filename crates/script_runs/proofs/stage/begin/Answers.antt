@@ -1,4 +1,4 @@
-use Rattle.std.proofs.Common.{ap, ◌∙◌, refl, sym}
+use Rattle.std.proofs.Common.{◌∙◌, refl, sym}
 use Rattle.script_runs.proofs.Beginning.{begins, new_made}
 use Rattle.script_runs.proofs.Casting.{drains_after}
 use Rattle.script_runs.proofs.stage.begin.Goals as goal
@@ -6,7 +6,7 @@ use Rattle.script_runs.proofs.stage.begin.Goals as goal
 pub returns-clause-stands : goal.returns-clause-stands
 returns-clause-stands c =
     begins c.args.script.now c.args.option _ c.in_ok-players.first c.in_ok-world.ensures.past c.in_ok-world.ensures.setup c.in_ok-players.ensures.added
-    c.in_ok-drainers.ensures.are (c.in_ok-players.ensures.added.seat ∙ sym (drains_after c.args.script.now c.requires.built)) c.in_ok-drainers.ensures.stand refl c.first_budget.ensures
+    c.in_ok-drainers.ensures.are (c.in_ok-players.ensures.added.seat ∙ sym (drains_after c.args.script.now)) c.in_ok-drainers.ensures.stand refl c.first_budget.ensures
 
 pub returns-clause-made : goal.returns-clause-made
 returns-clause-made c = new_made c.args.script.now.lines _ _ c.in_ok-players.first c.in_ok-players.players.items c.in_ok-players.ensures.added

@@ -1,21 +1,29 @@
-use Rattle.std.proofs.Common.{◌∙◌, ap}
+use Rattle.std.proofs.Common.{◌∙◌, ap, subst, sym, Option}
+use Rattle.std.proofs.lemmas.Result.{IfOk-weaker}
+use Rattle.kube_types.specs.declared.names.Due.{Due}
+use Rattle.kube_types.specs.declared.objects.Object.{Object}
+use Rattle.kube_types.specs.declared.objects.Object.TheVariants.{Claim, Pod}
+use Rattle.binder_model.specs.BinderDue.{volume_due}
+use Rattle.binder_model.specs.Due.{IsDue, or_due, reclaim_due, volume_guard_due}
 use Rattle.binder_model.specs.Store.{State}
-use Rattle.kube_types.specs.declared.objects.Object.TheVariants.{Volume, Claim, Pod}
-use Rattle.settle_check.specs.SoFar.{world_of}
-use Rattle.settle_check.specs.SoFarLaws.{due_so_far}
-use Rattle.settle_check.proofs.Restricted.{by_object}
+use Rattle.settle_check.specs.WorldOf.{world_of}
 use Rattle.settle_check.proofs.first.object_due.Goals as goal
 
 pub returns-in-Volume : goal.returns-in-Volume
 returns-in-Volume c =
-    by_object c.args.world.now.setup (world_of c.args.world.now) c.args.object.now (Volume c.in-Volume.volume) c.due_of_volume.result c.in-Volume.is
-    (c.due_of_volume.ensures ∙ ap (λ (s : State). due_so_far (record (world_of c.args.world.now) { store = s }) (Volume c.in-Volume.volume)) c.store.ensures)
+    let w = c.args.world.now in
+    let v = c.in-Volume.volume in
+    subst (λ (o : Object). IsDue w.setup (world_of w) o c.due_of_volume.result) (sym c.in-Volume.is)
+    (c.due_of_volume.ensures ∙ ap (λ (s : State). or_due (volume_due s.rows v) (or_due (reclaim_due v) (volume_guard_due v))) c.store.ensures)
 
 pub returns-in-Claim : goal.returns-in-Claim
 returns-in-Claim c =
-    by_object c.args.world.now.setup (world_of c.args.world.now) c.args.object.now (Claim c.in-Claim.claim) c.due_of_claim.result c.in-Claim.is
-    (c.due_of_claim.ensures ∙ ap (λ (s : State). due_so_far (record (world_of c.args.world.now) { store = s }) (Claim c.in-Claim.claim)) c.store-in-Claim.ensures)
+    let w = c.args.world.now in
+    IfOk-weaker c.due_of_claim.result (IsDue w.setup (world_of w) (Claim c.in-Claim.claim)) (IsDue w.setup (world_of w) c.args.object.now)
+    (λ (action : Option Due) is. subst (λ (o : Object). IsDue w.setup (world_of w) o action) (sym c.in-Claim.is) is) c.due_of_claim.ensures
 
 pub returns-in-Pod : goal.returns-in-Pod
 returns-in-Pod c =
-    by_object c.args.world.now.setup (world_of c.args.world.now) c.args.object.now (Pod c.in-Pod.pod) c.due_of_pod.result c.in-Pod.is c.due_of_pod.ensures
+    let w = c.args.world.now in
+    IfOk-weaker c.due_of_pod.result (IsDue w.setup (world_of w) (Pod c.in-Pod.pod)) (IsDue w.setup (world_of w) c.args.object.now)
+    (λ (action : Option Due) is. subst (λ (o : Object). IsDue w.setup (world_of w) o action) (sym c.in-Pod.is) is) c.due_of_pod.ensures

@@ -34,7 +34,7 @@ returns-clause-moved c =
     let w = c.world.result.now in
     let d = c.in_ok-drained.drained in
     let raises = c.raised-budget.ensures.value in
-    drain_moved c.args.script.now c.args.option s _ (made_of d) (drains_after c.args.script.now c.requires.built) (record {
+    drain_moved c.args.script.now c.args.option s _ (made_of d) (drains_after c.args.script.now) (record {
       budget = subst (λ (h : History). c.raised-budget.result ≡ raised c.args.option h.setup h.past s.budget) c.world.ensures.value raises;
       entries = c.in_ok-drained.ensures.entries;
       others = c.drain.ensures.others;

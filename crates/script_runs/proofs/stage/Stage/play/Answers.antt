@@ -1,7 +1,7 @@
 use Rattle.std.proofs.Common.{refl}
 use Rattle.std.proofs.lemmas.Result.{on_ok_weaker}
 use Rattle.script_text.specs.declared.script.Line.TheVariants.{Call, Turn, Drain}
-use Rattle.script_runs.proofs.Casting.{built_at, known_at, named_at, within_at}
+use Rattle.script_runs.proofs.Casting.{known_at, named_at, within_at}
 use Rattle.script_runs.proofs.Moving.{line_is, moves_there, stays}
 use Rattle.script_runs.proofs.stage.Stage.play.Goals as goal
 
@@ -16,12 +16,6 @@ returns-in-Call-clause-moved c =
     let line = Call c.in-Call.user c.in-Call.request in
     let at = line_is c.args.script.now.lines c.as_slice.result.now c.args.place c.index-as_slice-place.result line c.as_slice.ensures c.requires.place c.index-as_slice-place.is c.in-Call.is in
     on_ok_weaker c.call.result (moves_there c.args.script.now c.args.option c.args.place line c.args.self.now c.call.new.self at) c.call.ensures.moved
-
-pub turn-requires-clause-built : goal.turn-requires-clause-built
-turn-requires-clause-built c =
-    let line = Turn c.in-Turn.actor c.in-Turn.calls in
-    let at = line_is c.args.script.now.lines c.as_slice.result.now c.args.place c.index-as_slice-place.result line c.as_slice.ensures c.requires.place c.index-as_slice-place.is c.in-Turn.is in
-    built_at c.args.script.now.lines c.args.place line c.requires.built at
 
 pub turn-requires-clause-known : goal.turn-requires-clause-known
 turn-requires-clause-known c =

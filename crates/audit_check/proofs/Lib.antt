@@ -1,0 +1,5 @@
+pub mod OneRule
+pub mod Verdicts
+pub mod Breaks
+pub mod Judged
+pub mod Noted

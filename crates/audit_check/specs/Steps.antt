@@ -1,0 +1,3 @@
+-- For proofs alone.
+pub mod Noted
+pub mod Judged

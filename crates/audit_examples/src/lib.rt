@@ -1,0 +1,12 @@
+//! Computed examples of verdicts: cases that hold, and cases that must not.
+//!
+//! A function with nothing to do, whose contract has the examples.
+#![tactic(auto)]
+
+ghost use Rattle.audit_examples.specs.Verdicts.{VerdictExamples};
+
+/// Verdicts on lists that a binder makes.
+#[tactic(auto, using(crate::proofs::Verdicts::verdict_examples))]
+pub fn verdict_examples()
+    ensures { VerdictExamples }
+{}

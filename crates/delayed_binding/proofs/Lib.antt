@@ -1,0 +1,12 @@
+pub mod Allowed
+pub mod Bests
+pub mod Dues
+pub mod Fitting
+pub mod Known
+pub mod Nth
+pub mod Placing
+pub mod Rounds
+pub mod Scanning
+pub mod Sharing
+pub mod Unique
+pub mod Written

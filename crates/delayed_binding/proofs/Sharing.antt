@@ -1,0 +1,161 @@
+-- Claims get their shares one by one, and there is one way to share.
+use Rattle.std.proofs.Common.{ℕ, ◌≡◌, ◌∙◌, Bool, true, false, true≢false, ◌||◌, ◌==◌, List, [], ◌∷◌, ◌++◌, Some, None, inl, inr, refl, sym, ap, subst, append_assoc}
+use Rattle.std.proofs.lemmas.List.Folds.{list_any-append}
+use Rattle.kube_types.specs.declared.key.Key.{Key}
+use Rattle.kube_types.specs.declared.objects.Claim.{Claim as ClaimData}
+use Rattle.kube_types.specs.declared.objects.Node.{Node as NodeData}
+use Rattle.kube_types.specs.declared.objects.Object.{Object}
+use Rattle.kube_types.specs.declared.objects.Object.TheVariants.{Claim}
+use Rattle.kube_types.specs.Keys.{AreRows, key_of}
+use Rattle.binder_model.specs.Choice.{AreShares, IsProvisioned, Share, TakesVolume, can_provision}
+use Rattle.binder_model.specs.Matching.{IsBest, is_excluded}
+use Rattle.volume_match.specs.Volumes.{volume_at}
+use Rattle.model_laws.proofs.Lists.{one}
+use Rattle.delayed_binding.specs.Choices.{binds_of, pair_of, provisions_of, set_aside}
+use Rattle.delayed_binding.specs.Steps.Sharing.{AreSame, HaveNoShares, Held, IsGiven, IsLeft, IsSharedOut, IsUnserved, TakesBest, taken_by}
+use Rattle.delayed_binding.proofs.Bests.{AreSetAside, aside_more, best_same, one_best, set_aside_is}
+
+-- one share more
+
+module _ (rows : List Object) (n : NodeData) where
+  takes_more : (cs : List ClaimData) (shares : List Share) (taken : List ℕ) (c : ClaimData) (place : ℕ) → AreShares rows n taken cs shares → IsBest rows c (Some n) false (taken_by taken shares) (Some place) → AreShares rows n taken (cs ++ c ∷ []) (shares ++ TakesVolume place ∷ [])
+  takes_more [] [] taken c place are best = (best, tt)
+  takes_more [] (TakesVolume p ∷ shares) taken c place are best = absurd are
+  takes_more [] (IsProvisioned ∷ shares) taken c place are best = absurd are
+  takes_more (d ∷ ds) [] taken c place are best = absurd are
+  takes_more (d ∷ ds) (TakesVolume p ∷ shares) taken c place are best = (are.0, takes_more ds shares (p ∷ taken) c place are.1 best)
+  takes_more (d ∷ ds) (IsProvisioned ∷ shares) taken c place are best = (are.0, are.1, takes_more ds shares taken c place are.2 best)
+
+  provisions_more : (cs : List ClaimData) (shares : List Share) (taken : List ℕ) (c : ClaimData) → AreShares rows n taken cs shares → IsBest rows c (Some n) false (taken_by taken shares) None → can_provision rows c ≡ true → AreShares rows n taken (cs ++ c ∷ []) (shares ++ IsProvisioned ∷ [])
+  provisions_more [] [] taken c are none can = (none, can, tt)
+  provisions_more [] (TakesVolume p ∷ shares) taken c are none can = absurd are
+  provisions_more [] (IsProvisioned ∷ shares) taken c are none can = absurd are
+  provisions_more (d ∷ ds) [] taken c are none can = absurd are
+  provisions_more (d ∷ ds) (TakesVolume p ∷ shares) taken c are none can = (are.0, provisions_more ds shares (p ∷ taken) c are.1 none can)
+  provisions_more (d ∷ ds) (IsProvisioned ∷ shares) taken c are none can = (are.0, are.1, provisions_more ds shares taken c are.2 none can)
+
+  binds_more : (cs : List ClaimData) (shares : List Share) (taken : List ℕ) (c : ClaimData) (place : ℕ) → AreShares rows n taken cs shares → binds_of rows (cs ++ c ∷ []) (shares ++ TakesVolume place ∷ []) ≡ binds_of rows cs shares ++ pair_of c (volume_at rows place)
+  binds_more [] [] taken c place are = append_nil (pair_of c (volume_at rows place))
+    where
+      append_nil : (xs : List (Key × Key)) → xs ++ [] ≡ xs
+      append_nil [] = refl
+      append_nil (x ∷ xs) = ap (λ ys. x ∷ ys) (append_nil xs)
+  binds_more [] (TakesVolume p ∷ shares) taken c place are = absurd are
+  binds_more [] (IsProvisioned ∷ shares) taken c place are = absurd are
+  binds_more (d ∷ ds) [] taken c place are = absurd are
+  binds_more (d ∷ ds) (TakesVolume p ∷ shares) taken c place are = ap (λ bs. pair_of d (volume_at rows p) ++ bs) (binds_more ds shares (p ∷ taken) c place are.1) ∙ sym (append_assoc (pair_of d (volume_at rows p)) (binds_of rows ds shares) (pair_of c (volume_at rows place)))
+  binds_more (d ∷ ds) (IsProvisioned ∷ shares) taken c place are = binds_more ds shares taken c place are.2
+
+  binds_kept : (cs : List ClaimData) (shares : List Share) (taken : List ℕ) (c : ClaimData) → AreShares rows n taken cs shares → binds_of rows (cs ++ c ∷ []) (shares ++ IsProvisioned ∷ []) ≡ binds_of rows cs shares
+  binds_kept [] [] taken c are = refl
+  binds_kept [] (TakesVolume p ∷ shares) taken c are = absurd are
+  binds_kept [] (IsProvisioned ∷ shares) taken c are = absurd are
+  binds_kept (d ∷ ds) [] taken c are = absurd are
+  binds_kept (d ∷ ds) (TakesVolume p ∷ shares) taken c are = ap (λ bs. pair_of d (volume_at rows p) ++ bs) (binds_kept ds shares (p ∷ taken) c are.1)
+  binds_kept (d ∷ ds) (IsProvisioned ∷ shares) taken c are = binds_kept ds shares taken c are.2
+
+  keys_kept : (cs : List ClaimData) (shares : List Share) (taken : List ℕ) (c : ClaimData) (place : ℕ) → AreShares rows n taken cs shares → provisions_of (cs ++ c ∷ []) (shares ++ TakesVolume place ∷ []) ≡ provisions_of cs shares
+  keys_kept [] [] taken c place are = refl
+  keys_kept [] (TakesVolume p ∷ shares) taken c place are = absurd are
+  keys_kept [] (IsProvisioned ∷ shares) taken c place are = absurd are
+  keys_kept (d ∷ ds) [] taken c place are = absurd are
+  keys_kept (d ∷ ds) (TakesVolume p ∷ shares) taken c place are = keys_kept ds shares (p ∷ taken) c place are.1
+  keys_kept (d ∷ ds) (IsProvisioned ∷ shares) taken c place are = ap (λ ks. key_of (Claim d) ∷ ks) (keys_kept ds shares taken c place are.2)
+
+  keys_more : (cs : List ClaimData) (shares : List Share) (taken : List ℕ) (c : ClaimData) → AreShares rows n taken cs shares → provisions_of (cs ++ c ∷ []) (shares ++ IsProvisioned ∷ []) ≡ provisions_of cs shares ++ key_of (Claim c) ∷ []
+  keys_more [] [] taken c are = refl
+  keys_more [] (TakesVolume p ∷ shares) taken c are = absurd are
+  keys_more [] (IsProvisioned ∷ shares) taken c are = absurd are
+  keys_more (d ∷ ds) [] taken c are = absurd are
+  keys_more (d ∷ ds) (TakesVolume p ∷ shares) taken c are = keys_more ds shares (p ∷ taken) c are.1
+  keys_more (d ∷ ds) (IsProvisioned ∷ shares) taken c are = ap (λ ks. key_of (Claim d) ∷ ks) (keys_more ds shares taken c are.2)
+
+  taken_more : (shares : List Share) (taken : List ℕ) (place : ℕ) → taken_by taken (shares ++ TakesVolume place ∷ []) ≡ place ∷ taken_by taken shares
+  taken_more [] taken place = refl
+  taken_more (TakesVolume p ∷ shares) taken place = taken_more shares (p ∷ taken) place
+  taken_more (IsProvisioned ∷ shares) taken place = taken_more shares taken place
+
+  taken_kept : (shares : List Share) (taken : List ℕ) → taken_by taken (shares ++ IsProvisioned ∷ []) ≡ taken_by taken shares
+  taken_kept [] taken = refl
+  taken_kept (TakesVolume p ∷ shares) taken = taken_kept shares (p ∷ taken)
+  taken_kept (IsProvisioned ∷ shares) taken = taken_kept shares taken
+
+  same_more : (xs ys : List ℕ) (place : ℕ) → AreSame xs ys → AreSame (xs ++ place ∷ []) (place ∷ ys)
+  same_more xs ys place same k = list_any-append (λ p. p == k) xs (place ∷ []) ∙ turned (is_excluded xs k) (is_excluded ys k) (place == k) (same k)
+    where
+      turned : (a b p : Bool) → a ≡ b → (a || (p || false)) ≡ (p || b)
+      turned true true true e = refl
+      turned true true false e = refl
+      turned false false true e = refl
+      turned false false false e = refl
+      turned true false p e = absurd (true≢false e)
+      turned false true p e = absurd (true≢false (sym e))
+
+  -- none yet
+  pub shared_none : (held : Held) → held ≡ record { taken = set_aside rows; binds = []; provisions = [] } → IsSharedOut rows n [] held
+  shared_none held is = record { shares = []; are = tt; taken_are = λ place. ap (λ (h : Held). is_excluded h.taken place) is; binds_are = ap (λ (h : Held). h.binds) is; provisions_are = ap (λ (h : Held). h.provisions) is }
+
+  module _ (cs : List ClaimData) (held after : Held) (done : IsSharedOut rows n cs held) (c : ClaimData) where
+    -- the next one takes a volume
+    shared_taken : TakesBest rows n c held after → IsSharedOut rows n (cs ++ c ∷ []) after
+    shared_taken t = record {
+      shares = done.shares ++ TakesVolume t.place ∷ [];
+      are = takes_more cs done.shares (set_aside rows) c t.place done.are (best_same rows c (Some n) false held.taken (taken_by (set_aside rows) done.shares) done.taken_are (Some t.place) t.best);
+      taken_are = λ place. ap (λ (h : Held). is_excluded h.taken place) t.after_is ∙ (same_more held.taken (taken_by (set_aside rows) done.shares) t.place done.taken_are place ∙ sym (ap (λ ys. is_excluded ys place) (taken_more done.shares (set_aside rows) t.place)));
+      binds_are = ap (λ (h : Held). h.binds) t.after_is ∙ (ap (λ bs. bs ++ pair_of c (volume_at rows t.place)) done.binds_are ∙ sym (binds_more cs done.shares (set_aside rows) c t.place done.are));
+      provisions_are = ap (λ (h : Held). h.provisions) t.after_is ∙ (done.provisions_are ∙ sym (keys_kept cs done.shares (set_aside rows) c t.place done.are));
+    }
+
+    -- the next one is to be provisioned
+    shared_provisioned : IsLeft rows n c held after → IsSharedOut rows n (cs ++ c ∷ []) after
+    shared_provisioned t = record {
+      shares = done.shares ++ IsProvisioned ∷ [];
+      are = provisions_more cs done.shares (set_aside rows) c done.are (best_same rows c (Some n) false held.taken (taken_by (set_aside rows) done.shares) done.taken_are None t.none) t.can;
+      taken_are = λ place. ap (λ (h : Held). is_excluded h.taken place) t.after_is ∙ (done.taken_are place ∙ sym (ap (λ ys. is_excluded ys place) (taken_kept done.shares (set_aside rows))));
+      binds_are = ap (λ (h : Held). h.binds) t.after_is ∙ (done.binds_are ∙ sym (binds_kept cs done.shares (set_aside rows) c done.are));
+      provisions_are = ap (λ (h : Held). h.provisions) t.after_is ∙ (ap (λ ks. ks ++ key_of (Claim c) ∷ []) done.provisions_are ∙ sym (keys_more cs done.shares (set_aside rows) c done.are));
+    }
+
+    pub shared_more : IsGiven rows n c held after true → IsSharedOut rows n (cs ++ c ∷ []) after
+    shared_more g = elim g [ inl t ↦ shared_taken t | inr t ↦ shared_provisioned t ]
+
+  module _ (order : AreRows rows) where
+    -- two ways to share begin alike
+    blocked : (cs : List ClaimData) (done : List Share) (taken : List ℕ) (c : ClaimData) (rest : List ClaimData) → AreSetAside rows taken → AreShares rows n taken cs done → IsBest rows c (Some n) false (taken_by taken done) None → can_provision rows c ≡ false → (all : List Share) → AreShares rows n taken (cs ++ c ∷ rest) all → ⊥
+    blocked [] [] taken c rest aside are none cannot [] other = other
+    blocked [] [] taken c rest aside are none cannot (TakesVolume q ∷ all) other = none q other.0.volume other.0.candidate
+    blocked [] [] taken c rest aside are none cannot (IsProvisioned ∷ all) other = true≢false (sym other.1 ∙ cannot)
+    blocked [] (TakesVolume p ∷ done) taken c rest aside are none cannot all other = are
+    blocked [] (IsProvisioned ∷ done) taken c rest aside are none cannot all other = are
+    blocked (d ∷ ds) [] taken c rest aside are none cannot all other = are
+    blocked (d ∷ ds) (TakesVolume p ∷ done) taken c rest aside are none cannot [] other = other
+    blocked (d ∷ ds) (TakesVolume p ∷ done) taken c rest aside are none cannot (TakesVolume q ∷ all) other =
+        let same : q ≡ p = one q p (one_best rows order d (Some n) false taken aside (Some q) (Some p) other.0 are.0) in
+        blocked ds done (p ∷ taken) c rest (aside_more rows taken p aside) are.1 none cannot all (subst (λ k. AreShares rows n (k ∷ taken) (ds ++ c ∷ rest) all) same other.1)
+    blocked (d ∷ ds) (TakesVolume p ∷ done) taken c rest aside are none cannot (IsProvisioned ∷ all) other = other.0 p are.0.volume are.0.candidate
+    blocked (d ∷ ds) (IsProvisioned ∷ done) taken c rest aside are none cannot [] other = other
+    blocked (d ∷ ds) (IsProvisioned ∷ done) taken c rest aside are none cannot (TakesVolume q ∷ all) other = are.0 q other.0.volume other.0.candidate
+    blocked (d ∷ ds) (IsProvisioned ∷ done) taken c rest aside are none cannot (IsProvisioned ∷ all) other = blocked ds done taken c rest aside are.2 none cannot all other.2
+
+    -- where nothing serves the next one, the claims can have no shares
+    pub not_shared : (cs : List ClaimData) (held : Held) → IsSharedOut rows n cs held → (c : ClaimData) (rest : List ClaimData) → IsUnserved rows n c held → HaveNoShares rows n (cs ++ c ∷ rest)
+    not_shared cs held done c rest u all other =
+        blocked cs done.shares (set_aside rows) c rest (set_aside_is rows) done.are (best_same rows c (Some n) false held.taken (taken_by (set_aside rows) done.shares) done.taken_are None u.none) u.cannot all other
+
+    -- there is one way to share
+    pub one_sharing : (cs : List ClaimData) (taken : List ℕ) (a b : List Share) → AreSetAside rows taken → AreShares rows n taken cs a → AreShares rows n taken cs b → a ≡ b
+    one_sharing [] taken [] [] aside are others = refl
+    one_sharing [] taken (TakesVolume p ∷ a) b aside are others = absurd are
+    one_sharing [] taken (IsProvisioned ∷ a) b aside are others = absurd are
+    one_sharing [] taken [] (TakesVolume p ∷ b) aside are others = absurd others
+    one_sharing [] taken [] (IsProvisioned ∷ b) aside are others = absurd others
+    one_sharing (c ∷ cs) taken [] b aside are others = absurd are
+    one_sharing (c ∷ cs) taken (TakesVolume p ∷ a) [] aside are others = absurd others
+    one_sharing (c ∷ cs) taken (IsProvisioned ∷ a) [] aside are others = absurd others
+    one_sharing (c ∷ cs) taken (TakesVolume p ∷ a) (TakesVolume q ∷ b) aside are others =
+        let same : q ≡ p = one q p (one_best rows order c (Some n) false taken aside (Some q) (Some p) others.0 are.0) in
+        let rest = one_sharing cs (p ∷ taken) a b (aside_more rows taken p aside) are.1 (subst (λ k. AreShares rows n (k ∷ taken) cs b) same others.1) in
+        ap (λ s. TakesVolume p ∷ s) rest ∙ ap (λ k. TakesVolume k ∷ b) (sym same)
+    one_sharing (c ∷ cs) taken (TakesVolume p ∷ a) (IsProvisioned ∷ b) aside are others = absurd (others.0 p are.0.volume are.0.candidate)
+    one_sharing (c ∷ cs) taken (IsProvisioned ∷ a) (TakesVolume q ∷ b) aside are others = absurd (are.0 q others.0.volume others.0.candidate)
+    one_sharing (c ∷ cs) taken (IsProvisioned ∷ a) (IsProvisioned ∷ b) aside are others = ap (λ s. IsProvisioned ∷ s) (one_sharing cs taken a b aside are.2 others.2)

@@ -1,0 +1,5 @@
+pub mod ChoiceLaw
+pub mod Choices
+pub mod Steps
+pub mod WriteLaw
+pub mod Writes

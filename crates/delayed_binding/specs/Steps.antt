@@ -1,0 +1,4 @@
+pub mod Nth
+pub mod Places
+pub mod Scans
+pub mod Sharing

@@ -1,0 +1,70 @@
+-- How the claims that are not fixed are put in order and get their shares one by one. A choice of this project.
+use Rattle.std.specs.Prelude.{ℕ, suc, ◌≡◌, ◌⊎◌, Bool, true, false, List, [], ◌∷◌, ◌++◌, Some, None, if◌then◌else◌}
+use Rattle.std.specs.Ordering.{is_gt}
+use Rattle.kube_types.specs.declared.key.Key.{Key}
+use Rattle.kube_types.specs.declared.objects.Claim.{Claim as ClaimData}
+use Rattle.kube_types.specs.declared.objects.Node.{Node as NodeData}
+use Rattle.kube_types.specs.declared.objects.Object.{Object}
+use Rattle.kube_types.specs.declared.objects.Object.TheVariants.{Claim}
+use Rattle.kube_types.specs.Keys.{key_of}
+use Rattle.binder_model.specs.Choice.{AreShares, IsProvisioned, Share, TakesVolume, can_provision, claim_cmp}
+use Rattle.binder_model.specs.Matching.{IsBest, is_excluded}
+use Rattle.volume_match.specs.Volumes.{volume_at}
+use Rattle.delayed_binding.specs.declared.shares.Shares.{Shares}
+use Rattle.delayed_binding.specs.Choices.{binds_of, pair_of, provisions_of, set_aside}
+
+-- how many claims at the front the claim comes after
+abbrev pub place_in : ClaimData → List ClaimData → ℕ
+place_in c [] = 0
+place_in c (d ∷ ds) = if is_gt (claim_cmp c d) then suc (place_in c ds) else 0
+
+-- the places that are taken once these shares were given, the last one first
+abbrev pub taken_by : List ℕ → List Share → List ℕ
+taken_by taken [] = taken
+taken_by taken (TakesVolume place ∷ shares) = taken_by (place ∷ taken) shares
+taken_by taken (IsProvisioned ∷ shares) = taken_by taken shares
+
+-- the same places stand in both lists
+abbrev pub AreSame : List ℕ → List ℕ → Type 0
+AreSame xs ys = (place : ℕ) → is_excluded xs place ≡ is_excluded ys place
+
+-- which places are taken or set aside, and what is prepared
+pub record Held : Type 0 where
+  pub taken : List ℕ
+  pub binds : List (Key × Key)
+  pub provisions : List Key
+
+abbrev pub held_by : Shares → Held
+held_by s = record { taken = s.taken.items; binds = s.binds.items; provisions = s.provisions.items }
+
+-- once these claims have their shares
+pub record IsSharedOut (rows : List Object) (node : NodeData) (claims : List ClaimData) (held : Held) : Type 0 where
+  pub shares : List Share
+  pub are : AreShares rows node (set_aside rows) claims shares
+  pub taken_are : AreSame held.taken (taken_by (set_aside rows) shares)
+  pub binds_are : held.binds ≡ binds_of rows claims shares
+  pub provisions_are : held.provisions ≡ provisions_of claims shares
+
+-- the claims can have no shares
+abbrev pub HaveNoShares : List Object → NodeData → List ClaimData → Type 0
+HaveNoShares rows node claims = (shares : List Share) → AreShares rows node (set_aside rows) claims shares → ⊥
+
+-- one claim more: it takes the best volume that is left, or is to be provisioned, or nothing serves it
+
+pub record TakesBest (rows : List Object) (node : NodeData) (c : ClaimData) (before after : Held) : Type 0 where
+  pub place : ℕ
+  pub best : IsBest rows c (Some node) false before.taken (Some place)
+  pub after_is : after ≡ record { taken = before.taken ++ place ∷ []; binds = before.binds ++ pair_of c (volume_at rows place); provisions = before.provisions }
+
+pub record IsLeft (rows : List Object) (node : NodeData) (c : ClaimData) (before after : Held) : Type 0 where
+  pub none : IsBest rows c (Some node) false before.taken None
+  pub can : can_provision rows c ≡ true
+  pub after_is : after ≡ record before { provisions = before.provisions ++ key_of (Claim c) ∷ [] }
+
+pub record IsUnserved (rows : List Object) (node : NodeData) (c : ClaimData) (before : Held) : Type 0 where
+  pub none : IsBest rows c (Some node) false before.taken None
+  pub cannot : can_provision rows c ≡ false
+
+abbrev pub IsGiven : List Object → NodeData → ClaimData → Held → Held → Bool → Type 0
+IsGiven rows node c before after true = TakesBest rows node c before after ⊎ IsLeft rows node c before after
+IsGiven rows node c before after false = IsUnserved rows node c before

@@ -1,0 +1,285 @@
+//! What a node gives to the claims of a pod.
+
+ghost use Rattle.std.specs.Prelude.{◌≡◌, [], ◌∷◌, ◌++◌, IfOk, OnOk, IfSome, IfNone};
+ghost use Rattle.std.specs.Bool.{OnTrue};
+ghost use Rattle.std.specs.Option.{option_copied};
+ghost use Rattle.kube_types.specs.Bindings.{class_of_claim};
+ghost use Rattle.kube_types.specs.Keys.{AreRows, key_of, row_at};
+ghost use Rattle.kube_types.specs.declared.objects.Object.TheVariants.{Claim as ClaimObject};
+ghost use Rattle.binder_model.specs.Choice.{can_provision, claim_cmp, class_provisions, insert_claim, is_other};
+ghost use Rattle.binder_model.specs.ObjectKeys.{class_key};
+ghost use Rattle.volume_match.specs.Volumes.{volume_at};
+ghost use Rattle.delayed_binding.specs.Choices.{IsPreparedOn, others_in, pair_of};
+ghost use Rattle.delayed_binding.specs.Steps.Scans.{IsFirstInTurn, IsPreparedIf};
+ghost use Rattle.delayed_binding.specs.Steps.Sharing.{HaveNoShares, IsGiven, IsSharedOut, held_by, place_in};
+
+use crate::choice::Choice;
+use crate::nodes::node_in_turn;
+use crate::volumes::{all_fixed_admit, has_carrier, set_aside, volume_at};
+use kube_types::bindings::{NO_PROVISIONER, class_of_claim, is_completed};
+use kube_types::copies::{OutOfMemory, Plain};
+use kube_types::key::Key;
+use kube_types::lookup::Lookup;
+use kube_types::objects::{Claim, Meta, Node, Object, Volume};
+use kube_types::parts::Kind;
+use kube_types::text::Text;
+use plain_data::items::Items;
+use std::alloc::Global;
+use std::cmp::Ordering;
+use volume_match::{best, row_named};
+
+/// The claims that are neither completed nor carried by a volume, by rising size and name.
+pub(crate) fn others_in<L: Lookup>(
+    alloc: Global,
+    lookup: &L,
+    claims: &[Claim],
+) -> Result<Vec<Claim>, OutOfMemory>
+    ensures { IfOk result (λ others. others.items ≡ others_in (L.rows lookup.now) claims.now) }
+{
+    let mut others = Vec::new(alloc);
+    for place in (0..claims.len()).rev() {
+        let claim = &claims[place];
+        if is_other(lookup, claim) {
+            insert_claim(alloc, claim, &mut others)?;
+        }
+    }
+    Ok(others)
+}
+
+/// Puts the claim before those that it does not come after.
+fn insert_claim(alloc: Global, claim: &Claim, claims: &mut Vec<Claim>) -> Result<(), OutOfMemory>
+    ensures { OnOk result (claims.new.items ≡ insert_claim claim.now claims.old.items) }
+{
+    let place = place_in(claim, claims);
+    claims.insert(place, claim.copy(alloc)?)?;
+    Ok(())
+}
+
+fn is_other<L: Lookup>(lookup: &L, claim: &Claim) -> bool
+    ensures { result ≡ is_other (L.rows lookup.now) claim.now }
+{
+    !is_completed(claim) && !has_carrier(lookup, claim)
+}
+
+/// How many of the claims, at the front, the claim comes after.
+fn place_in(claim: &Claim, claims: &[Claim]) -> usize
+    ensures { result ≡ place_in claim.now claims.now }
+{
+    for (place, other) in claims.iter().enumerate() {
+        if !compare(claim, other).is_gt() {
+            return place;
+        }
+    }
+    claims.len()
+}
+
+/// The order in which claims take volumes.
+fn compare(left: &Claim, right: &Claim) -> Ordering
+    ensures { result ≡ claim_cmp left.now right.now }
+{
+    left.amount
+        .bytes
+        .cmp(&right.amount.bytes)
+        .then(left.meta.name.as_str().cmp(right.meta.name.as_str()))
+}
+
+/// What claims get on a node, and the places of the volumes that are taken or set aside.
+#[derive(Debug, Drop)]
+struct Shares {
+    taken: Vec<usize>,
+    binds: Vec<(Key, Key)>,
+    provisions: Vec<Key>,
+}
+
+impl Shares {
+    /// Gives the claim its share: the best volume that is left, else its own provisioning. False where nothing
+    /// serves it.
+    fn give<L: Lookup>(
+        &mut self,
+        alloc: Global,
+        lookup: &L,
+        node: &Node,
+        claim: &Claim,
+    ) -> Result<bool, OutOfMemory>
+        ensures { IfOk result (λ given. IsGiven (L.rows lookup.now) node.now claim.now (held_by self.old) (held_by self.new) given) }
+    {
+        match best(lookup, claim, Some(node), false, &self.taken) {
+            Some(place) => {
+                self.take(alloc, lookup, claim, place)?;
+                Ok(true)
+            }
+            None => self.provision(alloc, lookup, claim),
+        }
+    }
+
+    /// The claim takes the volume at this place.
+    fn take<L: Lookup>(
+        &mut self,
+        alloc: Global,
+        lookup: &L,
+        claim: &Claim,
+        place: usize,
+    ) -> Result<(), OutOfMemory>
+        ensures taken { OnOk result (self.new.taken.items ≡ self.old.taken.items ++ place ∷ []) }
+        ensures binds { OnOk result (self.new.binds.items ≡ self.old.binds.items ++ pair_of claim.now (volume_at (L.rows lookup.now) place)) }
+        ensures provisions { OnOk result (self.new.provisions.items ≡ self.old.provisions.items) }
+    {
+        self.bind(alloc, claim, volume_at(lookup, place))?;
+        self.taken.push(place)?;
+        Ok(())
+    }
+
+    fn bind(
+        &mut self,
+        alloc: Global,
+        claim: &Claim,
+        volume: Option<&Volume>,
+    ) -> Result<(), OutOfMemory>
+        ensures taken { OnOk result (self.new.taken.items ≡ self.old.taken.items) }
+        ensures binds { OnOk result (self.new.binds.items ≡ self.old.binds.items ++ pair_of claim.now (option_copied volume.entry)) }
+        ensures provisions { OnOk result (self.new.provisions.items ≡ self.old.provisions.items) }
+    {
+        match volume {
+            None => Ok(()),
+            Some(volume) => {
+                let claim = key_with(alloc, Kind::PersistentVolumeClaim, &claim.meta)?;
+                let volume = key_with(alloc, Kind::PersistentVolume, &volume.meta)?;
+                self.binds.push((claim, volume))?;
+                Ok(())
+            }
+        }
+    }
+
+    /// The claim is to be provisioned, if it can be.
+    fn provision<L: Lookup>(
+        &mut self,
+        alloc: Global,
+        lookup: &L,
+        claim: &Claim,
+    ) -> Result<bool, OutOfMemory>
+        ensures can { IfOk result (λ given. given ≡ can_provision (L.rows lookup.now) claim.now) }
+        ensures taken { OnOk result (self.new.taken.items ≡ self.old.taken.items) }
+        ensures binds { OnOk result (self.new.binds.items ≡ self.old.binds.items) }
+        ensures provisions { IfOk result (λ given. OnTrue given (self.new.provisions.items ≡ self.old.provisions.items ++ key_of (ClaimObject claim.now) ∷ [])) }
+    {
+        if !can_provision(lookup, claim) {
+            return Ok(false);
+        }
+        let key = key_with(alloc, Kind::PersistentVolumeClaim, &claim.meta)?;
+        self.provisions.push(key)?;
+        Ok(true)
+    }
+}
+
+fn key_with(alloc: Global, kind: Kind, meta: &Meta) -> Result<Key, OutOfMemory>
+    ensures { IfOk result (λ key. key ≡ record { kind = kind; namespace = meta.now.namespace; name = meta.now.name }) }
+{
+    Ok(Key {
+        kind,
+        namespace: meta.namespace.copy(alloc)?,
+        name: meta.name.copy(alloc)?,
+    })
+}
+
+/// Whether the claim can be provisioned, if no volume is there for it.
+fn can_provision<L: Lookup>(lookup: &L, claim: &Claim) -> bool
+    ensures { result ≡ can_provision (L.rows lookup.now) claim.now }
+{
+    claim.selector.is_none() && class_provisions(lookup, claim)
+}
+
+fn class_provisions<L: Lookup>(lookup: &L, claim: &Claim) -> bool
+    ensures { result ≡ class_provisions (row_at (class_key (class_of_claim claim.now)) (L.rows lookup.now)) }
+{
+    match row_named(lookup, Kind::StorageClass, "", class_of_claim(claim)) {
+        Some(Object::Class(class)) => !class.provisioner.is(NO_PROVISIONER),
+        _ => false,
+    }
+}
+
+/// What the claims get on the node, each the best volume that is left or its own provisioning.
+fn shares_on<L: Lookup>(
+    alloc: Global,
+    lookup: &L,
+    node: &Node,
+    claims: &[Claim],
+) -> Result<Option<Shares>, OutOfMemory>
+    ensures some { IfOk result (λ found. IfSome found (λ shares. IsSharedOut (L.rows lookup.now) node.now claims.now (held_by shares))) }
+    ensures none { IfOk result (λ found. IfNone found (HaveNoShares (L.rows lookup.now) node.now claims.now)) }
+{
+    let mut shares = Shares {
+        taken: set_aside(alloc, lookup)?,
+        binds: Vec::new(alloc),
+        provisions: Vec::new(alloc),
+    };
+    for claim in claims {
+        if !shares.give(alloc, lookup, node, claim)? {
+            return Ok(None);
+        }
+    }
+    Ok(Some(shares))
+}
+
+/// What is prepared on the node, where it serves all claims.
+pub(crate) fn prepared_on<L: Lookup>(
+    alloc: Global,
+    lookup: &L,
+    node: &Node,
+    claims: &[Claim],
+    others: &[Claim],
+) -> Result<Option<Choice>, OutOfMemory>
+    requires { others.now ≡ others_in (L.rows lookup.now) claims.now }
+    ensures { IfOk result (λ found. IsPreparedOn (L.rows lookup.now) claims.now node.now found) }
+{
+    if !all_fixed_admit(lookup, node, claims) {
+        return Ok(None);
+    }
+    match shares_on(alloc, lookup, node, others)? {
+        None => Ok(None),
+        Some(shares) => Ok(Some(Choice::Prepare {
+            node: node.meta.name.copy(alloc)?,
+            binds: Items::from_vec(shares.binds),
+            provisions: Items::from_vec(shares.provisions),
+        })),
+    }
+}
+
+/// What is prepared on the node at a place, where it is in turn and serves all claims.
+fn prepared_at<L: Lookup>(
+    alloc: Global,
+    lookup: &L,
+    claims: &[Claim],
+    others: &[Claim],
+    node: Option<&Node>,
+) -> Result<Option<Choice>, OutOfMemory>
+    requires { others.now ≡ others_in (L.rows lookup.now) claims.now }
+    ensures { IfOk result (λ found. IsPreparedIf (L.rows lookup.now) claims.now (option_copied node.entry) found) }
+{
+    match node {
+        None => Ok(None),
+        Some(node) => prepared_on(alloc, lookup, node, claims, others),
+    }
+}
+
+/// What is prepared on the first node that serves all claims, of those past the node that was refused last
+/// or of the others.
+pub(crate) fn first_in_turn<L: Lookup>(
+    alloc: Global,
+    lookup: &L,
+    claims: &[Claim],
+    others: &[Claim],
+    last: Option<&Text>,
+    past: bool,
+) -> Result<Option<Choice>, OutOfMemory>
+    requires { others.now ≡ others_in (L.rows lookup.now) claims.now }
+    ensures found { IfOk result (λ found. IsFirstInTurn (L.rows lookup.now) claims.now (option_copied last.entry) past found) }
+    ensures order { AreRows (L.rows lookup.now) }
+{
+    for place in 0..lookup.count(Kind::Node) {
+        let node = node_in_turn(lookup, last, past, place);
+        if let Some(choice) = prepared_at(alloc, lookup, claims, others, node)? {
+            return Ok(Some(choice));
+        }
+    }
+    Ok(None)
+}

@@ -1,0 +1,146 @@
+//! The volumes of the look-up, and which nodes they admit.
+
+ghost use Rattle.std.specs.Prelude.{◌≡◌, [], ◌∷◌, ◌++◌, if◌then◌else◌, IfOk, OnOk};
+ghost use Rattle.std.specs.List.{list_all};
+ghost use Rattle.std.specs.Option.{option_copied};
+ghost use Rattle.kube_types.specs.Keys.{AreRows};
+ghost use Rattle.binder_model.specs.Choice.{admits_if_carrying, fixed_admit, has_carrier, volume_admits};
+ghost use Rattle.volume_match.specs.Volumes.{volume_at};
+ghost use Rattle.delayed_binding.specs.Choices.{set_aside};
+ghost use Rattle.delayed_binding.specs.Steps.Places.{admits_at, carries_at, is_in_namespace};
+
+use kube_types::bindings::{carries, is_completed, is_empty};
+use kube_types::copies::OutOfMemory;
+use kube_types::key::meta_of;
+use kube_types::lookup::Lookup;
+use kube_types::objects::{Claim, Node, Object, Volume};
+use kube_types::parts::Kind;
+use label_rules::admits;
+use std::alloc::Global;
+use volume_match::row_named;
+
+/// The volume at a place among the volumes.
+pub(crate) fn volume_at<L: Lookup>(lookup: &L, place: usize) -> Option<&Volume>
+    ensures { option_copied result ≡ volume_at (L.rows lookup.now) place }
+{
+    match lookup.at(Kind::PersistentVolume, place) {
+        Some(Object::Volume(volume)) => Some(volume),
+        _ => None,
+    }
+}
+
+/// Whether a volume carries the claim.
+pub(crate) fn has_carrier<L: Lookup>(lookup: &L, claim: &Claim) -> bool
+    ensures { result ≡ has_carrier (L.rows lookup.now) claim.now }
+{
+    for place in 0..lookup.count(Kind::PersistentVolume) {
+        if carries_at(lookup, claim, place) {
+            return true;
+        }
+    }
+    false
+}
+
+/// Whether the volume at the place carries the claim.
+fn carries_at<L: Lookup>(lookup: &L, claim: &Claim, place: usize) -> bool
+    ensures { result ≡ carries_at claim.now (volume_at (L.rows lookup.now) place) }
+{
+    match volume_at(lookup, place) {
+        None => false,
+        Some(volume) => carries(volume, claim),
+    }
+}
+
+/// Whether each volume that carries the claim admits the node.
+fn carriers_admit<L: Lookup>(lookup: &L, node: &Node, claim: &Claim) -> bool
+    ensures { result ≡ list_all (admits_if_carrying node.now claim.now) (L.rows lookup.now) }
+{
+    for place in 0..lookup.count(Kind::PersistentVolume) {
+        if !admits_at(lookup, node, claim, place) {
+            return false;
+        }
+    }
+    true
+}
+
+/// Whether the volume at the place does not carry the claim, or admits the node.
+fn admits_at<L: Lookup>(lookup: &L, node: &Node, claim: &Claim, place: usize) -> bool
+    ensures { result ≡ admits_at node.now claim.now (volume_at (L.rows lookup.now) place) }
+{
+    match volume_at(lookup, place) {
+        None => true,
+        Some(volume) => {
+            !carries(volume, claim) || admits(volume.terms.as_ref(), &node.meta.labels)
+        }
+    }
+}
+
+/// Whether the volume that the claim names is there and admits the node.
+fn volume_admits<L: Lookup>(lookup: &L, node: &Node, claim: &Claim) -> bool
+    ensures { result ≡ volume_admits (L.rows lookup.now) node.now claim.now }
+{
+    match row_named(
+        lookup,
+        Kind::PersistentVolume,
+        "",
+        claim.volume_name.as_str(),
+    ) {
+        Some(Object::Volume(volume)) => admits(volume.terms.as_ref(), &node.meta.labels),
+        _ => false,
+    }
+}
+
+/// Whether the volumes that the claims name are there and admit the node.
+pub(crate) fn are_admitted<L: Lookup>(lookup: &L, node: &Node, claims: &[Claim]) -> bool
+    ensures { result ≡ list_all (volume_admits (L.rows lookup.now) node.now) claims.now }
+{
+    claims
+        .iter()
+        .all(|claim| volume_admits(lookup, node, claim))
+}
+
+/// Whether the volumes that are fixed for the claim admit the node.
+fn fixed_admit<L: Lookup>(lookup: &L, node: &Node, claim: &Claim) -> bool
+    ensures { result ≡ fixed_admit (L.rows lookup.now) node.now claim.now }
+{
+    (!is_completed(claim) || volume_admits(lookup, node, claim))
+        && carriers_admit(lookup, node, claim)
+}
+
+/// Whether the volumes that are fixed for the claims admit the node.
+pub(crate) fn all_fixed_admit<L: Lookup>(lookup: &L, node: &Node, claims: &[Claim]) -> bool
+    ensures { result ≡ list_all (fixed_admit (L.rows lookup.now) node.now) claims.now }
+{
+    claims.iter().all(|claim| fixed_admit(lookup, node, claim))
+}
+
+/// The places of the volumes that stand in a namespace, which no claim takes.
+pub(crate) fn set_aside<L: Lookup>(alloc: Global, lookup: &L) -> Result<Vec<usize>, OutOfMemory>
+    ensures places { IfOk result (λ places. places.items ≡ set_aside (L.rows lookup.now)) }
+    ensures order { AreRows (L.rows lookup.now) }
+{
+    let mut places = Vec::new(alloc);
+    for place in 0..lookup.count(Kind::PersistentVolume) {
+        let aside = is_in_namespace(lookup.at(Kind::PersistentVolume, place));
+        note_if(aside, place, &mut places)?;
+    }
+    Ok(places)
+}
+
+fn note_if(aside: bool, place: usize, places: &mut Vec<usize>) -> Result<(), OutOfMemory>
+    ensures { OnOk result (places.new.items ≡ (if aside then places.old.items ++ place ∷ [] else places.old.items)) }
+{
+    if aside {
+        places.push(place)?;
+    }
+    Ok(())
+}
+
+fn is_in_namespace(object: Option<&Object>) -> bool
+    ensures { result ≡ is_in_namespace (option_copied object.entry) }
+{
+    match object {
+        None => false,
+        Some(object) => !is_empty(&meta_of(object).namespace),
+    }
+}

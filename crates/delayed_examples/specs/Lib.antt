@@ -1,0 +1,3 @@
+pub mod Choosing
+pub mod Scenes
+pub mod Writing

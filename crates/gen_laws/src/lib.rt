@@ -1,0 +1,19 @@
+//! Laws of generated scripts.
+//!
+//! Each is a function with nothing to do, whose contract is the law. Not said: that the printed script is short enough to
+//! be read.
+#![tactic(auto)]
+
+ghost use Rattle.gen_laws.specs.Laws.{CountsLines, GeneratedIsScript};
+
+/// The script of each seed is one that a text can give.
+#[tactic(auto, using(crate::proofs::Whole::generated_is_script))]
+pub fn generated_is_script()
+    ensures { GeneratedIsScript }
+{}
+
+/// It has 712 lines.
+#[tactic(auto, using(crate::proofs::Whole::counts_lines))]
+pub fn counts_lines()
+    ensures { CountsLines }
+{}

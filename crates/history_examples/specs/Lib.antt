@@ -1,0 +1,5 @@
+pub mod Samples
+pub mod Requests
+pub mod Replies
+pub mod Lines
+pub mod Texts

@@ -1,0 +1,86 @@
+-- Imports that pass after those before them.
+use Rattle.std.proofs.Common.{◌≡◌, ◌<◌, ◌≤◌, ◌+◌, ℕ, suc, List, [], ◌∷◌, ◌++◌, Bool, true, false, ◌&&◌, if◌then◌else◌, Option, Some, None, Result, Ok, Err, length, get_or, take, drop, drop-cons, bytes_eq, refl, sym, ◌∙◌, ap, subst, arith}
+use Rattle.std.specs.Prelude.{IfOk, is_none, codes}
+use Rattle.std.proofs.Math.Seq.{drop-length}
+use Rattle.std.proofs.lemmas.List.{take_more}
+use Rattle.serde_json.specs.Data.{Data}
+use Rattle.kube_types.specs.declared.names.ImportFault.{ImportFault}
+use Rattle.kube_types.specs.declared.objects.Object.{Object}
+use Rattle.call_types.specs.declared.setup.Pool.{Pool}
+use Rattle.call_types.specs.declared.setup.Setup.{Setup}
+use Rattle.binder_model.specs.Imports.{import_fault, PassAfter, ImportsPass}
+use Rattle.object_text.specs.Reading.{value_of}
+use Rattle.history_text.specs.Entries.{setup_line}
+use Rattle.history_lines.specs.declared.errors.Unread.{Unread}
+use Rattle.history_lines.specs.Answers.{◌>>=◌, taken, Gives}
+use Rattle.history_lines.specs.Members.{Look, look_in, number_in, object_in, list_at, some_list_at}
+use Rattle.history_lines.specs.Entries.{pass_after, rise, pool_in, parts_with, parts_at, parts_in, setup_in, printed_as, setup_of}
+
+-- one of the imports, and those after it
+pub pass_more : (imports : List Object) (i : ℕ) (o : Object) → i < length imports → o ≡ get_or imports i o
+    → pass_after (take i imports) (drop i imports) ≡ (is_none (import_fault (take i imports) o) && pass_after (take (i + 1) imports) (drop (i + 1) imports))
+pass_more imports i o h is =
+    let next : suc i ≡ i + 1 = omega arith in
+    let front : take (i + 1) imports ≡ take i imports ++ o ∷ [] = take_more imports i o h ∙ ap (λ x. take i imports ++ x ∷ []) (sym is) in
+    let back : drop i imports ≡ o ∷ drop (i + 1) imports = drop-cons imports i o h ∙ ap (λ x. x ∷ drop (suc i) imports) (sym is) ∙ ap (λ n. o ∷ drop n imports) next in
+    ap (pass_after (take i imports)) back ∙ ap (λ b. is_none (import_fault (take i imports) o) && pass_after b (drop (i + 1) imports)) (sym front)
+
+-- none are left
+pub pass_all : (imports : List Object) (i : ℕ) → length imports ≤ i → i ≤ length imports → pass_after (take i imports) (drop i imports) ≡ true
+pass_all imports i low high =
+    let all : i ≡ length imports = omega arith in
+    ap (λ n. pass_after (take i imports) (drop n imports)) all ∙ ap (pass_after (take i imports)) (drop-length imports)
+
+-- ---- the test is the one that worlds ask for
+
+passing : (before os : List Object) → pass_after before os ≡ true → PassAfter before os
+passing before [] h = tt
+passing before (o ∷ os) h = by (import_fault before o) refl (λ more. passing (before ++ o ∷ []) os more) h
+  where
+    by : (fault : Option ImportFault) → import_fault before o ≡ fault
+        → (pass_after (before ++ o ∷ []) os ≡ true → PassAfter (before ++ o ∷ []) os)
+        → (is_none fault && pass_after (before ++ o ∷ []) os) ≡ true → PassAfter before (o ∷ os)
+    by None none rest more = (none, rest more)
+    by (Some fault) some rest more = absurd (cc)
+
+-- a step that gives something was given something
+step : {A B : Type 0} (o : Option A) (f : A → Option B) (b : B) → (o >>= f) ≡ Some b → (a : A) × (f a ≡ Some b)
+step None f b h = absurd (cc)
+step (Some a) f b h = (a, h)
+
+with_passing : (pools : List Pool) (faults : List ℕ) (imports : List Object) (s : Setup) → parts_with pools faults imports ≡ Some s → ImportsPass s.imports
+with_passing pools faults imports s h = by (rise faults) (pass_after [] imports) refl h
+  where
+    by : (r p : Bool) → pass_after [] imports ≡ p → (if r && p then Some (record { pools = pools; faults = faults; imports = imports }) else None) ≡ Some s → ImportsPass s.imports
+    by true true pass is = let same : imports ≡ s.imports = cc in subst ImportsPass same (passing [] imports pass)
+    by true false pass is = absurd (cc)
+    by false p pass is = absurd (cc)
+
+parts_passing : (m : Look) (s : Setup) → parts_at m ≡ Some s → ImportsPass s.imports
+parts_passing m s h =
+    let a = step (list_at number_in (codes "faults") m) (λ faults. some_list_at object_in (codes "imports") m >>= λ imports. list_at pool_in (codes "pools") m >>= λ pools. parts_with pools faults imports) s h in
+    let b = step (some_list_at object_in (codes "imports") m) (λ imports. list_at pool_in (codes "pools") m >>= λ pools. parts_with pools a.0 imports) s a.1 in
+    let c = step (list_at pool_in (codes "pools") m) (λ pools. parts_with pools a.0 b.0) s b.1 in
+    with_passing c.0 a.0 b.0 s c.1
+
+read_passing : (d : Data) (s : Setup) → setup_in d ≡ Some s → ImportsPass s.imports
+unfolding setup_in parts_in
+read_passing d s h = let a = step (look_in d (codes "setup")) parts_in s h in parts_passing (look_in a.0) s a.1
+
+printed_passing : (line : List ℕ) (o : Option Setup) (s : Setup) → ((t : Setup) → o ≡ Some t → ImportsPass t.imports) → (o >>= λ t. printed_as setup_line line t) ≡ Some s → ImportsPass s.imports
+printed_passing line None s passes h = absurd (cc)
+printed_passing line (Some t) s passes h = by (bytes_eq (setup_line t) line) h
+  where
+    by : (b : Bool) → (if b then Some t else None) ≡ Some s → ImportsPass s.imports
+    by true is = let same : t ≡ s = cc in passes s (ap Some same)
+    by false is = absurd (cc)
+
+setup_passes : (line : List ℕ) (s : Setup) → setup_of line ≡ Some s → ImportsPass s.imports
+unfolding setup_of
+setup_passes line s h =
+    let a = step (taken (value_of line)) (λ d. setup_in d >>= λ t. printed_as setup_line line t) s h in
+    printed_passing line (setup_in a.0) s (read_passing a.0) a.1
+
+pub read_passes : (line : List ℕ) (r : Result Setup Unread) → Gives r (setup_of line) → IfOk r (λ s. ImportsPass s.imports)
+read_passes line (Ok s) is = setup_passes line s is
+read_passes line (Err e) is = tt

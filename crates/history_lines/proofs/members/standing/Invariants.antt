@@ -1,0 +1,8 @@
+use Rattle.std.proofs.Common.{◌≡◌, drop}
+use Rattle.serde_json.specs.View.{view}
+use Rattle.history_lines.specs.Members.{standing, look_in}
+use Rattle.history_lines.proofs.members.standing.Given as goal
+
+-- the first that stands is among those that are left
+abbrev pub invariant-loop-one : goal.invariant-loop-one
+invariant-loop-one g l = standing g.T.LineWord.word (drop l.one-index l.all) (look_in (view l.value)) ≡ standing g.T.LineWord.word l.all (look_in (view l.value))

@@ -1,0 +1,6 @@
+pub mod Answers
+pub mod Words
+pub mod Members
+pub mod Requests
+pub mod Replies
+pub mod Entries

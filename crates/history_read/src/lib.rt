@@ -1,0 +1,12 @@
+//! Histories read back from their text.
+//!
+//! Promises: the setup and the entries of a text are those whose printed lines its lines are, up to the
+//! line `end`; else the first line at fault and the first of its reasons. A line that nests more than 127
+//! levels is no JSON text that is read, so it is refused as NotCanonical, whatever it says. Not said: that
+//! the entries are answered or allowed so, which is the audit's to judge.
+#![tactic(auto)]
+
+pub mod errors;
+pub mod lines;
+pub mod reading;
+pub mod refusals;

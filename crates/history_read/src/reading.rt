@@ -1,0 +1,113 @@
+//! The history of a text.
+
+ghost use Rattle.std.specs.Prelude.{◌≡◌, [], IfOk, bytes_eq, codes};
+ghost use Rattle.binder_model.specs.Imports.{ImportsPass};
+ghost use Rattle.history_lines.specs.Entries.{entry_of, setup_of};
+ghost use Rattle.history_read.specs.Answers.{HistoryGives, LineGives, error_at};
+ghost use Rattle.history_read.specs.Grammar.{entries_from, history_of, in_line, lines_of};
+
+use crate::errors::{BadLine, HistoryError, LineError, Reason};
+use crate::lines::first_line;
+use call_types::entry::Entry;
+use call_types::setup::Setup;
+use history_lines::entries::entry_of;
+use history_lines::errors::Unread;
+use history_lines::setups::setup_of;
+use history_type::History;
+use kube_types::items::Items;
+use std::alloc::Global;
+
+const MOST_LINE_BYTES: usize = 4_194_304;
+
+fn setup_in(alloc: Global, line: &[u8]) -> Result<Setup, LineError>
+    ensures gives { LineGives result (in_line setup_of line.now) }
+    ensures imports { IfOk result (λ s. ImportsPass s.imports) }
+{
+    if line.len() > MOST_LINE_BYTES {
+        return Err(LineError::Refused(Reason::TooLong));
+    }
+    match setup_of(alloc, line) {
+        Ok(setup) => Ok(setup),
+        Err(Unread::NotCanonical) => Err(LineError::Refused(Reason::NotCanonical)),
+        Err(Unread::OutOfMemory) => Err(LineError::OutOfMemory),
+    }
+}
+
+fn entry_in(alloc: Global, line: &[u8]) -> Result<Entry, LineError>
+    ensures { LineGives result (in_line entry_of line.now) }
+{
+    if line.len() > MOST_LINE_BYTES {
+        return Err(LineError::Refused(Reason::TooLong));
+    }
+    match entry_of(alloc, line) {
+        Ok(entry) => Ok(entry),
+        Err(Unread::NotCanonical) => Err(LineError::Refused(Reason::NotCanonical)),
+        Err(Unread::OutOfMemory) => Err(LineError::OutOfMemory),
+    }
+}
+
+fn is_end(line: &[u8]) -> bool
+    ensures { result ≡ bytes_eq line.now (codes "end") }
+{
+    let end: &[u8] = b"end";
+    line == end
+}
+
+/// The error of a line of this number.
+fn error_at(line: u64, e: LineError) -> HistoryError
+    ensures { result ≡ error_at line e }
+{
+    match e {
+        LineError::OutOfMemory => HistoryError::OutOfMemory,
+        LineError::Refused(reason) => HistoryError::BadLine(BadLine { line, reason }),
+    }
+}
+
+/// The entries of lines up to the line `end`, the first of which is the second of the whole text.
+#[tactic(auto, using(crate::proofs::FirstLine::no_lines))]
+fn entries_of(alloc: Global, text: &[u8]) -> Result<Items<Entry>, HistoryError>
+    ensures { HistoryGives result (entries_from 2 (lines_of text.now) []) }
+{
+    let mut found = Items::new(alloc);
+    let mut rest = text;
+    let mut line = 2;
+    while !rest.is_empty() {
+        let (first, after) = first_line(rest);
+        if is_end(first) {
+            return Ok(found);
+        }
+        match entry_in(alloc, first) {
+            Ok(entry) => found.push(entry)?,
+            Err(e) => return Err(error_at(line, e)),
+        }
+        rest = after;
+        line += 1;
+    }
+    Err(HistoryError::BadLine(BadLine {
+        line,
+        reason: Reason::MissingEnd,
+    }))
+}
+
+/// The history of a text. What stands behind its line `end` is not looked at. A world may begin with the
+/// imports of its setup.
+#[tactic(auto, using(crate::proofs::FirstLine::no_lines))]
+pub fn read_history(alloc: Global, text: &[u8]) -> Result<History, HistoryError>
+    ensures gives { HistoryGives result (history_of text.now) }
+    ensures imports { IfOk result (λ h. ImportsPass h.setup.imports) }
+{
+    if text.is_empty() {
+        return Err(HistoryError::BadLine(BadLine {
+            line: 1,
+            reason: Reason::MissingEnd,
+        }));
+    }
+    let (first, rest) = first_line(text);
+    match setup_in(alloc, first) {
+        Ok(setup) => {
+            let entries = entries_of(alloc, rest)?;
+            Ok(History { setup, entries })
+        }
+        Err(e) => Err(error_at(1, e)),
+    }
+}

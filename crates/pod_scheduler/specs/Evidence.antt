@@ -1,0 +1,28 @@
+-- The evidence that a machine keeps, in the entries of its seat, the newest first: each write that is still to be made is one that its row
+-- allows, and those after the next one are writes of volumes and claims, whose rows the writes before them leave as they are.
+-- A choice of this project.
+use Rattle.std.specs.Prelude.{List, [], ◌∷◌, drop, ⊤}
+use Rattle.std.specs.List.{AllByRecursion}
+use Rattle.call_types.specs.declared.entry.Entry.{Entry}
+use Rattle.call_types.specs.declared.request.Request.{Request}
+use Rattle.call_types.specs.declared.request.Request.TheVariants.{Update}
+use Rattle.binder_model.specs.Licence.{SchedulerMay}
+use Rattle.pod_scheduler.specs.declared.schedule.ScheduleOp.{ScheduleOp}
+use Rattle.pod_scheduler.specs.declared.schedule.ScheduleStep.{ScheduleStep}
+use Rattle.pod_scheduler.specs.declared.schedule.ScheduleStep.TheVariants as steps
+
+-- the write of a volume or of a claim, at a told object
+abbrev pub MayUpdate : List Entry → Request → Type 0
+MayUpdate mine (Update new given) = SchedulerMay mine (Update new given)
+MayUpdate mine request = ⊥
+
+abbrev pub MayWrite : List Entry → List Request → Type 0
+MayWrite mine [] = ⊤
+MayWrite mine (w ∷ writes) = SchedulerMay mine w × AllByRecursion (MayUpdate mine) writes
+
+abbrev pub StepKeeps : ScheduleStep → List Request → List Entry → Type 0
+StepKeeps (steps.Writes place) writes mine = MayWrite mine (drop place writes)
+StepKeeps step writes mine = ⊤
+
+abbrev pub ScheduleKeeps : ScheduleOp → List Entry → Type 0
+ScheduleKeeps op mine = StepKeeps op.step op.writes mine

@@ -1,0 +1,4 @@
+pub mod Beginning
+pub mod Moving
+pub mod Refusing
+pub mod Standing

@@ -1,0 +1,4 @@
+pub mod Beginnings
+pub mod Evidences
+pub mod Moves
+pub mod Refusals
