@@ -1,5 +1,5 @@
--- What the words ask for. Their grammar is that of `command_words`. The commands that are not built yet, run, audit and gen,
--- count as words outside it. A choice of this project.
+-- What the words ask for. Their grammar is that of `command_words`. The command that is not built yet, run, counts as a word
+-- outside it. A choice of this project.
 use Rattle.std.specs.Prelude.{◌≡◌, ⊤, List, map, Ok, Err, Option, Some, None, option_and_then, String, string_bytes}
 use Rattle.std.specs.declared.alloc.Global.{Global}
 use Rattle.std.specs.declared.result.Result.{Result}
@@ -11,15 +11,15 @@ use Rattle.command_words.specs.declared.words.WordsError.{WordsError}
 use Rattle.command_words.specs.declared.words.WordsError.TheVariants.{Usage, OutOfMemory}
 use Rattle.command_words.specs.Grammar.{words_of}
 use Rattle.binder_console.specs.declared.commands.Task.{Task}
-use Rattle.binder_console.specs.declared.commands.Task.TheVariants.{Replay, Check}
+use Rattle.binder_console.specs.declared.commands.Task.TheVariants.{Replay, Check, Audit, Gen}
 
 -- an option that the task does not use has no effect
 abbrev pub task_named : Command → Options → Option Task
 task_named commands.Replay options = Some (Replay options.budget)
 task_named commands.Check options = Some Check
 task_named commands.Run options = None
-task_named commands.Audit options = None
-task_named commands.Gen options = None
+task_named commands.Audit options = Some Audit
+task_named commands.Gen options = Some (Gen options.seed options.budget)
 
 abbrev pub task_by : Words → Option Task
 task_by said = task_named said.command said.options

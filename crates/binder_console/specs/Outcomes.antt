@@ -1,20 +1,24 @@
 -- How the program ends, and what it writes. The words, lines and limits are a choice of this project.
-use Rattle.std.specs.Prelude.{ℕ, ◌≡◌, ◌<◌, ◌≤◌, ◌^◌, ◌⊎◌, ⊤, List, [], ◌∷◌, ◌++◌, length, codes, IsErr, Option, Some, None, String}
+use Rattle.std.specs.Prelude.{ℕ, ◌≡◌, ◌⊎◌, ⊤, List, [], ◌∷◌, ◌++◌, codes, IsErr, Option, Some, None, String}
 use Rattle.std.specs.declared.alloc.Global.{Global}
 use Rattle.fault_io.specs.Faults.{Rose}
-use Rattle.fault_io.specs.Reading.{IsLeft, IsLongerThan}
 use Rattle.fault_io.specs.Writing.{Appends, WritesFront}
 use Rattle.object_text.specs.Listing.{list_of}
 use Rattle.script_text.specs.Grammar.{script_of}
+use Rattle.history_read.specs.Grammar.{history_of}
+use Rattle.world_core.specs.declared.drained.Drained.{Drained}
+use Rattle.world_core.specs.declared.drained.Drained.TheVariants.{Settled, Spent}
 use Rattle.binder_console.specs.declared.status.Status.{Status}
 use Rattle.binder_console.specs.declared.status.Status.TheVariants.{Done, Usage, Refused, Unsettled, ReadFault, WriteFault, Memory, AuditNo}
 use Rattle.binder_console.specs.declared.answers.Answer.{Answer}
 use Rattle.binder_console.specs.declared.answers.Answer.TheVariants as answers
 use Rattle.binder_console.specs.declared.commands.Task.{Task}
-use Rattle.binder_console.specs.declared.commands.Task.TheVariants.{Replay, Check}
+use Rattle.binder_console.specs.declared.commands.Task.TheVariants.{Replay, Check, Audit, Gen}
+use Rattle.binder_console.specs.Audits.{Audits, RefusesHistory}
 use Rattle.binder_console.specs.Checks.{ChecksList, RefusesList}
 use Rattle.binder_console.specs.Commands.{task_of}
-use Rattle.binder_console.specs.Replays.{Replays}
+use Rattle.binder_console.specs.Inputs.{IsInput, IsTooLong, IsTooMuch}
+use Rattle.binder_console.specs.Replays.{Generates, Replays}
 use Rattle.binder_console.specs.Scripts.{RefusesScript}
 
 -- the exit status
@@ -35,15 +39,6 @@ IsFault WriteFault = ⊤
 IsFault Memory = ⊤
 IsFault status = ⊥
 
--- 1 MiB
-abbrev pub most_input : ℕ
-most_input = 2 ^ 20
-
--- the bytes are all that the source has left, and they are not too many
-pub record IsInput (left : Option (List ℕ)) (input : List ℕ) : Type 0 where
-  pub whole : IsLeft left input
-  pub short : length input ≤ most_input
-
 -- ---- what is written
 
 abbrev pub line : List ℕ → List ℕ
@@ -59,26 +54,32 @@ too_long_text = line (codes "input: TooLong")
 abbrev pub Answers : Task → Status → List ℕ → List ℕ → Type 0
 Answers (Replay budget) status input text = Replays budget status input text
 Answers Check status input text = (status ≡ Done) × ChecksList input text
+Answers Audit status input text = Audits status input text
+Answers (Gen seed budget) status input text = Generates seed budget status text
 
 -- the task is not done of the input, and this is what is written
 abbrev pub Refuses : Task → List ℕ → List ℕ → Type 0
 Refuses (Replay budget) input text = RefusesScript input text
 Refuses Check input text = RefusesList input text
+Refuses Audit input text = RefusesHistory input text
+Refuses (Gen seed budget) input text = ⊥
 
 -- the task is not done of such an input
 abbrev pub IsNoInput : Task → List ℕ → Type 0
 IsNoInput (Replay budget) input = IsErr (script_of input)
 IsNoInput Check input = IsErr (list_of input)
+IsNoInput Audit input = IsErr (history_of input)
+IsNoInput (Gen seed budget) input = ⊥
 
--- the input is refused, with this text: more is left than is read, or the task is not done of it
+-- the input is refused, with this text: more is left than the task takes, or it is not done of it
 pub data RefusedWith (task : Task) (left : Option (List ℕ)) (text : List ℕ) : Type 0 where
-  TooLong : IsLongerThan most_input left → text ≡ too_long_text → RefusedWith task left text
-  OfInput : (input : List ℕ) → IsInput left input → Refuses task input text → RefusedWith task left text
+  TooLong : IsTooLong task left → text ≡ too_long_text → RefusedWith task left text
+  OfInput : (input : List ℕ) → IsInput task left input → Refuses task input text → RefusedWith task left text
 
 -- the task is done of the whole input with this status, and this is what is written
 pub record AnsweredWith (task : Task) (status : Status) (left : Option (List ℕ)) (text : List ℕ) : Type 0 where
   pub input : List ℕ
-  pub read : IsInput left input
+  pub read : IsInput task left input
   pub answered : Answers task status input text
 
 -- the text that is due: the usage line exactly where the words ask for nothing, else a refusal or what the task writes
@@ -95,7 +96,7 @@ pub record EndsWith (status : Status) (words : List (String Global)) (left writt
   pub input : List ℕ
   pub text : List ℕ
   pub asked : task_of words ≡ Some task
-  pub read : IsInput left input
+  pub read : IsInput task left input
   pub answered : Answers task status input text
   pub appended : Appends written now text
 
@@ -117,7 +118,7 @@ pub record EndsCut (words : List (String Global)) (left written now : Option (Li
 abbrev pub IsToBeRefused : Option Task → Option (List ℕ) → Type 0
 IsToBeRefused None left = ⊥
 IsToBeRefused (Some task) None = ⊥
-IsToBeRefused (Some task) (Some input) = (most_input < length input) ⊎ IsNoInput task input
+IsToBeRefused (Some task) (Some input) = IsTooMuch task input ⊎ IsNoInput task input
 
 -- the status is this one, or a fault
 abbrev pub IsOrFails : Status → Status → Type 0
@@ -129,7 +130,13 @@ IsOrFails want status = (status ≡ want) ⊎ IsFault status
 abbrev pub IsAnswer : Task → List ℕ → Answer → Type 0
 IsAnswer task input (answers.Output text) = Answers task Done input text
 IsAnswer task input (answers.Unsettled text) = Answers task Unsettled input text
+IsAnswer task input (answers.No text) = Answers task AuditNo input text
 IsAnswer task input (answers.Refusal text) = Refuses task input text
+
+-- the text of a replay, told apart by how its last drain ended
+abbrev pub answer_ended : Drained → List ℕ → Answer
+answer_ended (Settled made) text = answers.Output text
+answer_ended (Spent made key due) text = answers.Unsettled text
 
 -- the text was written, and the status is this one; or a front of it, and a write failed
 pub data Written (old new : Option (List ℕ)) (faults now : ℕ) (text : List ℕ) (want status : Status) : Type 0 where

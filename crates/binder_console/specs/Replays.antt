@@ -1,6 +1,6 @@
 -- What a replay promises, and what it writes. The newest entry of a history stands first.
 -- The format is a choice of this project.
-use Rattle.std.specs.Prelude.{ℕ, ◌≡◌, List, Option, length, reverse, Ok}
+use Rattle.std.specs.Prelude.{ℕ, ◌≡◌, List, [], Option, length, reverse, Ok}
 use Rattle.call_types.specs.declared.entry.Entry.{Entry}
 use Rattle.call_types.specs.declared.setup.Setup.{Setup}
 use Rattle.binder_model.specs.World.{World, world}
@@ -12,12 +12,15 @@ use Rattle.world_core.specs.declared.drained.Drained.TheVariants.{Settled, Spent
 use Rattle.history_text.specs.declared.summary.Ending.{Ending}
 use Rattle.history_text.specs.declared.summary.Ending.TheVariants as endings
 use Rattle.history_text.specs.declared.summary.Summary.{Summary}
-use Rattle.history_text.specs.Summaries.{summary_of}
+use Rattle.history_text.specs.Summaries.{summary_of, summary_lines}
 use Rattle.history_text.specs.Output.{final_lines, history_text, with_lines}
 use Rattle.script_text.specs.declared.script.Script.{Script}
 use Rattle.script_text.specs.Grammar.{script_of}
 use Rattle.script_runs.specs.Diligent.{IsDiligentReplay}
 use Rattle.script_runs.specs.Replays.{IsReplay}
+use Rattle.history_laws.specs.Given.{IsHistory}
+use Rattle.history_laws.specs.Texts.{IsTextOf}
+use Rattle.script_gen.specs.Generated.{generated}
 use Rattle.fitting_law.specs.Enough.{GetEnoughThroughout}
 use Rattle.binder_console.specs.declared.status.Status.{Status}
 use Rattle.binder_console.specs.declared.status.Status.TheVariants.{Done, Unsettled}
@@ -36,6 +39,10 @@ last_summary w ending = summary_of w.store.rows w.store.version (length w.device
 unfoldable pub replay_text : Setup → List Entry → Drained → List ℕ
 replay_text setup past ending = with_lines (history_text setup (reverse past)) (final_lines (world setup past).store.rows (last_summary (world setup past) ending))
 
+-- the numbers alone
+unfoldable pub summary_text : Setup → List Entry → Drained → List ℕ
+summary_text setup past ending = with_lines [] (summary_lines (last_summary (world setup past) ending))
+
 -- with nothing due, or with the calls of the drains spent and something due
 abbrev pub status_of : Drained → Status
 status_of (Settled made) = Done
@@ -43,20 +50,38 @@ status_of (Spent made key due) = Unsettled
 
 -- ---- the promise
 
--- The input is a script, and the text is that of one history from the script's setup. The history has the calls of the
--- script's lines in order, and then of a drain; each reply is the world's, and each controller asked only what it had been
--- told allowed; each actor that a turn line names was diligent in each of its lives; it is safe at every point, and each
--- completed claim has what it asked for. The status says how the last drain ended.
-pub record Replays (budget : Option ℕ) (status : Status) (input text : List ℕ) : Type 0 where
-  pub script : Script
-  pub past : List Entry
-  pub ending : Drained
-  pub read : script_of input ≡ Ok script
+-- The history has the calls of the script's lines in order, and then of a drain; each reply is the world's, and each
+-- controller asked only what it had been told allowed; each actor that a turn line names was diligent in each of its lives;
+-- it is safe at every point, and each completed claim has what it asked for.
+pub record IsPromised (script : Script) (budget : Option ℕ) (past : List Entry) (ending : Drained) : Type 0 where
   pub calls : IsReplay script budget past ending
   pub diligent : IsDiligentReplay script budget past ending
   pub run : Run script.setup past
   pub safe : Safe script.setup past
   -- no claim got less than it asked for, but where users bound a volume and a claim by hand
   pub enough : GetEnoughThroughout script.setup past
+
+-- the text has this history, and no other of values that a text can give, where the history has such values alone
+pub record IsTextOfOne (text : List ℕ) (setup : Setup) (entries : List Entry) : Type 0 where
+  pub text : IsTextOf text setup entries
+  pub only : IsHistory setup entries → (s : Setup) (es : List Entry) → IsHistory s es → IsTextOf text s es → (s ≡ setup) × (es ≡ entries)
+
+-- The input is a script, and the text is that of one history from the script's setup, of which all is promised. The status
+-- says how the last drain ended.
+pub record Replays (budget : Option ℕ) (status : Status) (input text : List ℕ) : Type 0 where
+  pub script : Script
+  pub past : List Entry
+  pub ending : Drained
+  pub read : script_of input ≡ Ok script
+  pub promised : IsPromised script budget past ending
   pub printed : text ≡ replay_text script.setup past ending
+  pub alone : IsTextOfOne text script.setup (reverse past)
+  pub ends : status ≡ status_of ending
+
+-- The text has the numbers of the replay of the seed's script. The status says how its last drain ended.
+pub record Generates (seed : ℕ) (budget : Option ℕ) (status : Status) (text : List ℕ) : Type 0 where
+  pub past : List Entry
+  pub ending : Drained
+  pub promised : IsPromised (generated seed) budget past ending
+  pub printed : text ≡ summary_text (generated seed).setup past ending
   pub ends : status ≡ status_of ending

@@ -14,6 +14,10 @@ pub enum Task {
     Replay { budget: Option<u64> },
     /// To print the objects of a manifest or of a list of manifests.
     Check,
+    /// To judge a history.
+    Audit,
+    /// To replay the script that the seed gives, and to print its summary alone. No input is read.
+    Gen { seed: u64, budget: Option<u64> },
 }
 
 /// The task of a command with its options, if it is built.
@@ -25,7 +29,12 @@ fn task_by(said: Words) -> Option<Task>
             budget: said.options.budget,
         }),
         Command::Check => Some(Task::Check),
-        Command::Run | Command::Audit | Command::Gen => None,
+        Command::Audit => Some(Task::Audit),
+        Command::Gen => Some(Task::Gen {
+            seed: said.options.seed,
+            budget: said.options.budget,
+        }),
+        Command::Run => None,
     }
 }
 

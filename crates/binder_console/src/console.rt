@@ -1,24 +1,22 @@
 //! The top call.
 
-ghost use Rattle.std.specs.Prelude.{◌≡◌, ◌≢◌, ◌≤◌, ◌⊎◌, [], None};
+ghost use Rattle.std.specs.Prelude.{◌≡◌, ◌≤◌, ◌⊎◌, IfSome, None};
 ghost use Rattle.fault_io.specs.Faults.{Rose};
-ghost use Rattle.fault_io.specs.Reading.{IsLeft};
 ghost use Rattle.fault_io.specs.Writing.{Appends, WritesFront};
 ghost use Rattle.binder_console.specs.Commands.{task_of};
+ghost use Rattle.binder_console.specs.Inputs.{AsksForNoInput, IsReadThrough};
 ghost use Rattle.binder_console.specs.Outcomes.{EndsCut, EndsRefused, EndsWith, IsOrFails, IsToBeRefused, Written, usage_text, too_long_text};
 
 use crate::answers::{Answer, answer_of};
 use crate::commands::read_task;
+use crate::inputs::read_input;
 use crate::status::Status;
 use command_words::words::WordsError;
-use fault_io::ends::{ReadError, Sink, Source, read_all, write_all};
+use fault_io::ends::{ReadError, Sink, Source, write_all};
 use fault_io::gate::Gate;
 use std::alloc::Global;
 use std::sync::Wait;
 use std::thread::Threads;
-
-/// How many bytes an input may have: 1 MiB.
-const MOST_INPUT: usize = 1048576;
 
 const USAGE: &str =
     "usage: pvbind replay|run|audit|check|gen [--workers N] [--seed N] [--calls N] [--budget N]\n";
@@ -41,6 +39,9 @@ fn end_with<K: Sink>(sink: &mut K, text: &[u8], status: Status) -> Status
 /// - `replay` reads a script, of at most 1 MiB and within the limits of scripts, and does its lines in order and then a
 ///   drain. `--budget` says how many calls all drains together may make. An option that a command does not use has no effect.
 /// - `check` prints the canonical line of each manifest.
+/// - `audit` reads a history, of at most 256 MiB and up to its line `end`, and judges it: `yes N entries`, or with status 7
+///   `no: entry N RULE`, the first entry that breaks it and the rule.
+/// - `gen` reads nothing: it replays the script that `--seed` gives, and prints the seven lines of its summary.
 ///
 /// The promise, with status 0 or 3 under `replay` (`EndsWith`, `Answers`, `Replays`): what was written is the text of one
 /// history and of its last world. Each reply in it is the world's, each controller asked only what it had been told
@@ -48,10 +49,15 @@ fn end_with<K: Sink>(sink: &mut K, text: &[u8], status: Status) -> Status
 /// and no mounted claim has left, and data were erased only for ended volumes with policy Delete. The history has one entry
 /// for each call of a user, in order, and of each turn and each drain the calls that the script says; each actor that a
 /// turn line names is diligent in each of its lives. With status 0 nothing is due at its end; with 3 the calls of the
-/// drains are spent, and the last line names what is due first.
+/// drains are spent, and the last line names what is due first. The same is promised of the history whose numbers `gen`
+/// prints (`Generates`).
+///
+/// Of an audit, with status 0 or 7 (`Audits`): the input is the text of one history. With 0 it is a run, and so all of the
+/// above but the calls of a script holds of it at every point; with 7 the entry named is the first that breaks it.
 ///
 /// Statuses: 0 done; 1 the usage line; 2 the input was refused, in one line; 3 unsettled; 4 a read failed, nothing is
-/// written; 5 a write failed, a front of what was due is written; 6 memory was wanting, nothing is written.
+/// written; 5 a write failed, a front of what was due is written; 6 memory was wanting, nothing is written; 7 the audited
+/// history is no run.
 ///
 /// The gate is not asked yet, and no thread is started.
 pub fn pvbind<R: Threads + Wait + Sync, S: Source, K: Sink, G: Gate>(
@@ -64,14 +70,16 @@ pub fn pvbind<R: Threads + Wait + Sync, S: Source, K: Sink, G: Gate>(
 ) -> Status
     ensures done { result ≡ Status.Done → EndsWith Status.Done words.now (S.left source.old) (K.written sink.old) (K.written sink.new) }
     ensures unsettled { result ≡ Status.Unsettled → EndsWith Status.Unsettled words.now (S.left source.old) (K.written sink.old) (K.written sink.new) }
-    ensures to_the_end { result ≡ Status.Done → IsLeft (S.left source.new) [] }
-    ensures unsettled_to_the_end { result ≡ Status.Unsettled → IsLeft (S.left source.new) [] }
+    ensures audited { result ≡ Status.AuditNo → EndsWith Status.AuditNo words.now (S.left source.old) (K.written sink.old) (K.written sink.new) }
+    ensures to_the_end { result ≡ Status.Done → IfSome (task_of words.now) (λ task. IsReadThrough task (S.left source.new)) }
+    ensures unsettled_to_the_end { result ≡ Status.Unsettled → IfSome (task_of words.now) (λ task. IsReadThrough task (S.left source.new)) }
+    ensures audited_to_the_end { result ≡ Status.AuditNo → IfSome (task_of words.now) (λ task. IsReadThrough task (S.left source.new)) }
 
     // Usage exactly where the words ask for nothing, but for want of memory and a fault of writing; the source is not read then.
     ensures usage { result ≡ Status.Usage → Appends (K.written sink.old) (K.written sink.new) usage_text }
     ensures misused { result ≡ Status.Usage → task_of words.now ≡ None }
     ensures misuse { task_of words.now ≡ None → (result ≡ Status.Usage) ⊎ ((result ≡ Status.WriteFault) ⊎ (result ≡ Status.Memory)) }
-    ensures unread { task_of words.now ≡ None → source.new ≡ source.old }
+    ensures unread { AsksForNoInput (task_of words.now) → source.new ≡ source.old }
 
     // Refused exactly where the input is too long or not one of which the task is done, but for want of memory and faults.
     ensures refused { result ≡ Status.Refused → EndsRefused words.now (S.left source.old) (K.written sink.old) (K.written sink.new) }
@@ -81,7 +89,6 @@ pub fn pvbind<R: Threads + Wait + Sync, S: Source, K: Sink, G: Gate>(
     ensures write { result ≡ Status.WriteFault → Rose (K.faults sink.old) (K.faults sink.new) }
     ensures cut { result ≡ Status.WriteFault → EndsCut words.now (S.left source.old) (K.written sink.old) (K.written sink.new) }
     ensures memory { result ≡ Status.Memory → sink.new ≡ sink.old }
-    ensures never { result ≢ Status.AuditNo }
 
     ensures reads_later { S.faults source.old ≤ S.faults source.new }
     ensures writes_later { K.faults sink.old ≤ K.faults sink.new }
@@ -91,7 +98,7 @@ pub fn pvbind<R: Threads + Wait + Sync, S: Source, K: Sink, G: Gate>(
         Err(WordsError::Usage) => return end_with(sink, USAGE.as_bytes(), Status::Usage),
         Err(WordsError::OutOfMemory) => return Status::Memory,
     };
-    let input = match read_all(alloc, source, MOST_INPUT) {
+    let input = match read_input(alloc, task, source) {
         Ok(input) => input,
         Err(ReadError::ReadFault) => return Status::ReadFault,
         Err(ReadError::OutOfMemory) => return Status::Memory,
@@ -100,6 +107,7 @@ pub fn pvbind<R: Threads + Wait + Sync, S: Source, K: Sink, G: Gate>(
     match answer_of(alloc, task, input.as_slice()) {
         Ok(Answer::Output(text)) => end_with(sink, text.as_slice(), Status::Done),
         Ok(Answer::Unsettled(text)) => end_with(sink, text.as_slice(), Status::Unsettled),
+        Ok(Answer::No(text)) => end_with(sink, text.as_slice(), Status::AuditNo),
         Ok(Answer::Refusal(text)) => end_with(sink, text.as_slice(), Status::Refused),
         Err(_) => Status::Memory,
     }

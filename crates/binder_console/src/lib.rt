@@ -6,10 +6,13 @@
 #![tactic(auto)]
 
 pub mod answers;
+mod auditing;
 pub mod checking;
 pub mod commands;
 pub mod console;
 pub mod errors;
+mod generating;
+mod inputs;
 mod printing;
 mod replaying;
 pub mod status;

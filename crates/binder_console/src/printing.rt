@@ -3,10 +3,11 @@
 ghost use Rattle.std.specs.Prelude.{◌≡◌, [], IfOk};
 ghost use Rattle.history_text.specs.Output.{with_line};
 ghost use Rattle.binder_model.specs.World.{world as world_of};
-ghost use Rattle.binder_console.specs.Replays.{ending_of, last_summary, replay_text};
+ghost use Rattle.binder_console.specs.Replays.{ending_of, last_summary, replay_text, summary_text};
 
 use history_text::counts::summary_of;
 use history_text::lines::{Lines, push_final, push_history};
+use history_text::summaries::push_summary;
 use history_text::summary::{Ending, Summary};
 use kube_types::copies::Plain;
 use plain_data::copies::OutOfMemory;
@@ -52,6 +53,17 @@ fn summary(alloc: Global, world: &World, ending: &Drained) -> Result<Summary, Ou
         counts.calls,
         ending,
     ))
+}
+
+/// The numbers of a world, and how its drains ended: seven lines.
+#[tactic(auto, unfolding(crate::specs::Replays::summary_text))]
+pub fn print_summary(alloc: Global, world: &World, ending: &Drained) -> Result<Bytes, OutOfMemory>
+    ensures { IfOk result (λ text. text ≡ summary_text world.now.setup world.now.past ending.now) }
+{
+    let summary = summary(alloc, world, ending)?;
+    let mut lines = Lines::new(alloc);
+    push_summary(&mut lines, alloc, &summary)?;
+    Ok(lines.into_bytes())
 }
 
 /// The history of a world, its objects and its numbers.

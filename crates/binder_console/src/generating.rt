@@ -1,0 +1,36 @@
+//! The replay of a generated script.
+
+ghost use Rattle.std.specs.Prelude.{◌≡◌, IfOk};
+ghost use Rattle.script_gen.specs.Generated.{generated};
+ghost use Rattle.script_parts.specs.Limits.{IsReadable};
+ghost use Rattle.binder_console.specs.Outcomes.{IsAnswer};
+
+use crate::answers::Answer;
+use crate::commands::Task;
+use crate::printing::print_summary;
+use crate::replaying::{answer_ended, play};
+use plain_data::copies::OutOfMemory;
+use script_gen::generate;
+use script_text::script::Script;
+use std::alloc::Global;
+
+/// The script of a seed, which keeps the limits of scripts.
+#[tactic(auto, using(crate::proofs::Generated::generated_is_readable))]
+fn generate_readable(alloc: Global, seed: u64) -> Result<Script, OutOfMemory>
+    ensures script { IfOk result (λ script. script ≡ generated seed) }
+    ensures readable { IfOk result IsReadable }
+{
+    let script = generate(alloc, seed)?;
+    Ok(script)
+}
+
+/// The summary of the replay of the script of a seed, told apart by how the last drain ended.
+#[tactic(auto, using(crate::proofs::Endings::by_ending))]
+pub fn generated(alloc: Global, seed: u64, budget: Option<u64>) -> Result<Answer, OutOfMemory>
+    ensures { (input : List ℕ) → IfOk result (IsAnswer (Task.Gen seed budget) input) }
+{
+    let script = generate_readable(alloc, seed)?;
+    let played = play(alloc, &script, budget)?;
+    let text = print_summary(alloc, played.world.world(), &played.ending)?;
+    Ok(answer_ended(&played.ending, text))
+}
