@@ -1,0 +1,6 @@
+mod Lists
+mod Objects
+mod Outcomes
+mod Devices
+mod Watched
+mod Effects
