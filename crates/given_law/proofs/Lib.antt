@@ -4,3 +4,7 @@ mod Outcomes
 mod Devices
 mod Watched
 mod Effects
+mod Told
+mod Writes
+mod Asking
+mod Runs
