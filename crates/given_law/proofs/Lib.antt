@@ -1,5 +1,5 @@
 mod Lists
-mod Objects
+pub mod Objects
 mod Outcomes
 mod Devices
 mod Watched
@@ -7,4 +7,4 @@ mod Effects
 mod Told
 mod Writes
 mod Asking
-mod Runs
+pub mod Runs
