@@ -72,6 +72,7 @@ one_of_a_drain seat own = record {
   budget = 1;
   raises = refl;
   entries = record { added = reads seat true ∷ []; are = refl; count = refl; of_seats = (own, refl, tt) };
+  users = refl;
   few = omega arith;
   ends = inr refl;
   none = λ settled. absurd (unsettled settled);
@@ -95,6 +96,7 @@ no_need = record {
   budget = 1;
   raises = refl;
   entries = record { added = []; are = refl; count = refl; of_seats = tt };
+  users = refl;
   few = omega arith;
   ends = inl nothing_due;
   none = λ settled. refl;
@@ -108,6 +110,7 @@ agents_drain = record {
   budget = 1;
   raises = refl;
   entries = record { added = reads 10 true ∷ []; are = refl; count = refl; of_seats = (inr (inr (inr (inr (inr (inl refl))))), refl, tt) };
+  users = refl;
   few = omega arith;
   ends = inr refl;
   none = λ settled. absurd (unsettled settled);
@@ -137,6 +140,7 @@ spent_drain = record {
   budget = 0;
   raises = refl;
   entries = record { added = []; are = refl; count = refl; of_seats = tt };
+  users = refl;
   few = omega arith;
   ends = inr refl;
   none = λ settled. refl;
