@@ -1,6 +1,6 @@
--- The seats of a script's actors are numbers of 64 bits, after those of the users.
+-- The seats of a script's actors are numbers of 64 bits.
 use Rattle.std.proofs.Common.{refl, sym, ap, ◌∙◌, inl, inr, subst, arith}
-use Rattle.std.specs.Prelude.{◌≡◌, ℕ, ◌+◌, ◌*◌, ◌^◌, ◌<◌, ◌≤◌, suc, Bool, true, false, bytes_eq, nat_lt, List, [], ◌∷◌, ◌++◌, Option, Some, None, length, map, if◌then◌else◌}
+use Rattle.std.specs.Prelude.{◌≡◌, ℕ, ◌+◌, ◌*◌, ◌<◌, ◌≤◌, suc, Bool, true, false, bytes_eq, nat_lt, List, [], ◌∷◌, ◌++◌, Option, Some, None, length, map, if◌then◌else◌}
 use Rattle.std.specs.declared.cmp.Ordering.{Ordering}
 use Rattle.std.specs.declared.cmp.Ordering.TheVariants.{Less, Equal, Greater}
 use Rattle.std.specs.Ordering.{match_ordering}
@@ -16,14 +16,10 @@ use Rattle.script_text.specs.declared.script.Line.TheVariants.{Call, Lose, Resta
 use Rattle.script_text.specs.declared.script.Script.{Script}
 use Rattle.script_text.specs.Said.{created_node, and_node, agents_after, agents_of, nodes_of, restart_of, restarts_of}
 use Rattle.script_laws.specs.Scripts.{IsScript}
-use Rattle.script_parts.specs.Parts.{is_named, lives_by, lives_in, all_actors, lives_before, all_lives, first_actor_seat, drain_seat, drain_seats, seats_from, part_of}
+use Rattle.script_parts.specs.Parts.{is_named, lives_by, lives_in, all_actors, lives_before, all_lives, drain_seat, drain_seats, seats_from, part_of}
 use Rattle.script_runs.specs.Calls.{restarts_before, seat_at}
 use Rattle.worker_threads.specs.Longer.{IsOneOf}
-
--- a seat of an actor
-pub record IsActorsSeat (seat : ℕ) : Type 0 where
-  pub low : first_actor_seat ≤ seat
-  pub high : seat < 2 ^ 64
+use Rattle.history_laws.specs.Given.{IsNumber}
 
 -- ---- how many there are
 
@@ -122,17 +118,14 @@ module _ (script : Script) (is : IsScript script) where
       omega (arith, few, agents, sum)
 
   -- a life's seat
-  pub life_seat : (actor : Actor) (n : ℕ) → IsActorsSeat (seat_at (part_of script actor) n)
+  pub life_seat : (actor : Actor) (n : ℕ) → IsNumber (seat_at (part_of script actor) n)
   life_seat actor n =
       let few = actors_few in
       let lines = lines_few in
       let before = before_few (actor_word actor) (all_actors script) script.lines lines_few in
       let restarts = restarts_few (actor_word actor) script.lines in
       let lives = before_restarts n (restarts_of (actor_word actor) script.lines) in
-      record { low = omega (arith, before); high = omega (arith, few, lines, before, restarts, lives) }
-
-  drain_low : first_actor_seat ≤ drain_seat script
-  drain_low = omega arith
+      omega (arith, few, lines, before, restarts, lives)
 
   drain_high : drain_seat script ≤ 16863257
   drain_high =
@@ -140,24 +133,20 @@ module _ (script : Script) (is : IsScript script) where
       let lives = all_few (all_actors script) script.lines lines_few in
       omega (arith, few, lives)
 
-  seats_between : (from : ℕ) (nodes : List (List ℕ)) (seat : ℕ) → IsOneOf (seats_from from nodes) seat → (from ≤ seat) × (seat < from + length nodes)
-  seats_between from [] seat h = absurd h
-  seats_between from (node ∷ nodes) seat (inl e) = (omega (arith, e), omega (arith, e))
-  seats_between from (node ∷ nodes) seat (inr later) = let rest = seats_between (from + 1) nodes seat later in let low = rest.0 in let high = rest.1 in (omega (arith, low), omega (arith, high))
+  seats_below : (from : ℕ) (nodes : List (List ℕ)) (seat : ℕ) → IsOneOf (seats_from from nodes) seat → seat < from + length nodes
+  seats_below from [] seat h = absurd h
+  seats_below from (node ∷ nodes) seat (inl e) = omega (arith, e)
+  seats_below from (node ∷ nodes) seat (inr later) = let rest = seats_below (from + 1) nodes seat later in omega (arith, rest)
 
   -- a drain's seat
-  pub drains_seat : (seat : ℕ) → IsOneOf (drain_seats script) seat → IsActorsSeat seat
-  drains_seat seat h = by (drain_seat script) drain_low drain_high nodes_few h
+  pub drains_seat : (seat : ℕ) → IsOneOf (drain_seats script) seat → IsNumber seat
+  drains_seat seat h = by (drain_seat script) drain_high nodes_few h
     where
-      by : (d : ℕ) → first_actor_seat ≤ d → d ≤ 16863257 → length script.node_names ≤ 4096
-          → IsOneOf (d ∷ (d + 1) ∷ (d + 2) ∷ (d + 3) ∷ (d + 4) ∷ seats_from (d + 5) script.node_names) seat → IsActorsSeat seat
-      by d low high few (inl e) = record { low = omega (arith, low, e); high = omega (arith, high, e) }
-      by d low high few (inr (inl e)) = record { low = omega (arith, low, e); high = omega (arith, high, e) }
-      by d low high few (inr (inr (inl e))) = record { low = omega (arith, low, e); high = omega (arith, high, e) }
-      by d low high few (inr (inr (inr (inl e)))) = record { low = omega (arith, low, e); high = omega (arith, high, e) }
-      by d low high few (inr (inr (inr (inr (inl e))))) = record { low = omega (arith, low, e); high = omega (arith, high, e) }
-      by d low high few (inr (inr (inr (inr (inr later))))) =
-          let rest = seats_between (d + 5) script.node_names seat later in
-          let above = rest.0 in
-          let below = rest.1 in
-          record { low = omega (arith, low, above); high = omega (arith, high, few, below) }
+      by : (d : ℕ) → d ≤ 16863257 → length script.node_names ≤ 4096
+          → IsOneOf (d ∷ (d + 1) ∷ (d + 2) ∷ (d + 3) ∷ (d + 4) ∷ seats_from (d + 5) script.node_names) seat → IsNumber seat
+      by d high few (inl e) = omega (arith, high, e)
+      by d high few (inr (inl e)) = omega (arith, high, e)
+      by d high few (inr (inr (inl e))) = omega (arith, high, e)
+      by d high few (inr (inr (inr (inl e)))) = omega (arith, high, e)
+      by d high few (inr (inr (inr (inr (inl e))))) = omega (arith, high, e)
+      by d high few (inr (inr (inr (inr (inr later))))) = let below = seats_below (d + 5) script.node_names seat later in omega (arith, high, few, below)

@@ -1,9 +1,8 @@
 -- What a replay brings about has only values that a text can give. Lists of entries begin with the newest.
 -- A choice of this project.
-use Rattle.std.specs.Prelude.{ℕ, ◌≡◌, ◌<◌, true, List, Option, All, length, reverse}
+use Rattle.std.specs.Prelude.{ℕ, ◌≡◌, ◌<◌, List, Option, length, reverse}
 use Rattle.call_types.specs.declared.entry.Entry.{Entry}
 use Rattle.call_types.specs.declared.setup.Setup.{Setup}
-use Rattle.binder_model.specs.Answers.{is_user}
 use Rattle.binder_model.specs.Promises.{most_entries}
 use Rattle.binder_model.specs.Run.{Run}
 use Rattle.world_core.specs.declared.drained.Drained.{Drained}
@@ -11,16 +10,11 @@ use Rattle.history_laws.specs.Given.{IsSetup, IsHistory}
 use Rattle.history_laws.specs.Texts.{IsTextOf}
 use Rattle.script_text.specs.declared.script.Script.{Script}
 use Rattle.script_laws.specs.Scripts.{IsScript}
-use Rattle.script_parts.specs.Parts.{first_actor_seat}
 use Rattle.script_runs.specs.Replays.{IsReplay}
 
 -- the setup of a script that a text can give, a text can give
 abbrev pub ScriptSetupsGive : Type 0
 ScriptSetupsGive = (script : Script) → IsScript script → IsSetup script.setup
-
--- a user's entry has the seat of a user: what IsReplay says of the entries of a drain is whose seats they have, and not of what kind they are
-abbrev pub HasUsersSeat : Entry → Type 0
-HasUsersSeat e = is_user e.kind ≡ true → e.seat < first_actor_seat
 
 -- what a replay brings about
 pub record IsReplayedRun (script : Script) (budget : Option ℕ) (past : List Entry) (ending : Drained) : Type 0 where
@@ -28,7 +22,6 @@ pub record IsReplayedRun (script : Script) (budget : Option ℕ) (past : List En
   pub replay : IsReplay script budget past ending
   pub run : Run script.setup past
   pub short : length past < most_entries
-  pub users : All HasUsersSeat past
 
 -- is a history that a text can give, the oldest entry first
 abbrev pub ReplaysGive : Type 0
