@@ -13,25 +13,23 @@ use Rattle.kube_types.specs.declared.objects.Meta.{Meta}
 use Rattle.kube_types.specs.declared.objects.Amount.{Amount}
 use Rattle.kube_types.specs.declared.objects.Volume.{Volume as VolumeData}
 use Rattle.kube_types.specs.declared.objects.Claim.{Claim as ClaimData}
-use Rattle.kube_types.specs.declared.objects.Object.TheVariants.{Class, Node, Volume, Claim, Pod}
-use Rattle.kube_types.specs.Bindings.{pv_protection, pvc_protection, selected_node, ref_uid, is_protected_volume, is_protected_claim}
+use Rattle.kube_types.specs.declared.objects.Object.TheVariants.{Node, Volume, Claim, Pod}
+use Rattle.kube_types.specs.Bindings.{selected_node, ref_uid, is_protected_volume, is_protected_claim}
 use Rattle.call_types.specs.declared.entry.Entry.{Entry}
 use Rattle.call_types.specs.declared.request.NewStatus.TheVariants as statuses
 use Rattle.call_types.specs.declared.request.SeatKind.{SeatKind}
 use Rattle.call_types.specs.declared.request.SeatKind.TheVariants as seats
 use Rattle.call_types.specs.declared.request.Request.{Request}
 use Rattle.call_types.specs.declared.request.Request.TheVariants as requests
-use Rattle.binder_model.specs.Answers.{is_user}
-use Rattle.binder_model.specs.ObjectKeys.{class_key, node_key, claim_key}
+use Rattle.binder_model.specs.ObjectKeys.{node_key, claim_key}
 use Rattle.binder_model.specs.Told.{ToldPod}
 use Rattle.binder_model.specs.At.{IsWrittenAt}
-use Rattle.binder_model.specs.BinderLicence.{IsTaken, MayTake, MayUnbind, IsBoundFor, MayComplete, IsShown, MayShow, MayLose}
-use Rattle.binder_model.specs.GuardLicence.{MayUnguardVolume, MayUnguardClaim}
-use Rattle.binder_model.specs.OpsLicence.{AreLabels, MayProvision, MayCreate, IsEndedOver, TellsErased, MayDelete, MayClearNode}
+use Rattle.binder_model.specs.BinderLicence.{IsTaken, MayTake, IsBoundFor, MayComplete, IsShown}
+use Rattle.binder_model.specs.OpsLicence.{AreLabels, MayProvision, MayCreate, IsEndedOver, TellsErased, MayClearNode}
 use Rattle.binder_model.specs.SchedulerLicence.{MaySelectNode, MayAssign}
 use Rattle.binder_model.specs.AgentLicence.{IsReadReady, AreReadReady, IsReadyPod, WasShownReady, since_epoch, IsEndingPod}
 use Rattle.binder_model.specs.Reading.{MayRead}
-use Rattle.binder_model.specs.Licence.{AtVolume, AtClaim, AtVolumeKey, AtClaimKey, BinderVolume, BinderClaimPhase, BinderMay, MayDeleteVolume, OpsMay, SchedulerMay, GuardsVolume, GuardsClaim, VolumeGuard, ClaimGuard, VolumeProtectMay, ClaimProtectMay, AgentMay, Licensed}
+use Rattle.binder_model.specs.Licence.{AtVolume, AtClaim, AtVolumeKey, AtClaimKey, BinderVolume, BinderClaimPhase, BinderMay, MayDeleteVolume, OpsMay, SchedulerMay, VolumeGuard, ClaimGuard, VolumeProtectMay, ClaimProtectMay, AgentMay}
 use Rattle.object_laws.specs.Given.{IsUid, IsMeta, IsAmount, IsVolume, IsClaim}
 use Rattle.history_laws.specs.Given.{IsNumber, IsRequest, IsEntry}
 use Rattle.given_law.specs.Laws.{LicensedAskGiven}

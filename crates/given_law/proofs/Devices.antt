@@ -1,6 +1,6 @@
 -- The walk over the devices' verbs: what they answer a text can give, and they stay such.
 use Rattle.std.proofs.Common.{arith}
-use Rattle.std.specs.Prelude.{ℕ, ◌+◌, ◌-◌, ◌==◌, ◌^◌, ◌<◌, ◌≤◌, max, Bool, true, false, not, List, [], ◌∷◌, Option, Some, None, IfSome, All, bytes_eq, nat_le, if◌then◌else◌}
+use Rattle.std.specs.Prelude.{ℕ, ◌+◌, ◌==◌, ◌^◌, ◌<◌, ◌≤◌, max, Bool, true, false, List, [], ◌∷◌, Option, Some, None, IfSome, All, bytes_eq, if◌then◌else◌}
 use Rattle.std.proofs.lemmas.List.Elements.{All-nil, All-cons, All-head, All-tail, All-append, All-filter, All-weaker}
 use Rattle.plain_data.specs.Pairs.{Pair}
 use Rattle.kube_types.specs.declared.uid.Uid.{Uid}
@@ -8,10 +8,8 @@ use Rattle.call_types.specs.declared.setup.Pool.{Pool}
 use Rattle.call_types.specs.declared.setup.Setup.{Setup}
 use Rattle.call_types.specs.declared.request.Request.{Request}
 use Rattle.call_types.specs.declared.request.Request.TheVariants as requests
-use Rattle.call_types.specs.declared.reply.MountRow.{MountRow}
 use Rattle.call_types.specs.declared.reply.Reply.{Reply}
-use Rattle.binder_model.specs.Devices.{Data, MountAt, Devices, DeviceAnswer, epoch_of, epoch_if_stale, rows_on, is_mounted_on, is_up_to, put_mount, with_mount, without_mount, would_serve, free_bytes, most_free, first_fit, data_named, is_planned, after_call, provision_new, provision, erase, unless_planned, unless_stale, take_node, with_mounts, device_answer}
-use Rattle.binder_model.specs.Same.{same_uid}
+use Rattle.binder_model.specs.Devices.{Data, MountAt, Devices, DeviceAnswer, epoch_of, epoch_if_stale, rows_on, is_mounted_on, put_mount, with_mount, without_mount, would_serve, free_bytes, most_free, first_fit, data_named, is_planned, after_call, provision_new, provision, erase, unless_planned, unless_stale, take_node, with_mounts, device_answer}
 use Rattle.object_laws.specs.Given.{IsUid}
 use Rattle.history_laws.specs.Given.{IsNumber, IsMountRow, IsRequest, IsReply, IsPool}
 use Rattle.given_law.specs.Keeping.{IsEpoch, IsMount, AreGivenDevices}

@@ -1,10 +1,9 @@
 -- Each call keeps a world whose values a text can give.
 use Rattle.std.proofs.Common.{refl, sym, arith}
-use Rattle.std.specs.Prelude.{◌≡◌, ℕ, ◌+◌, ◌^◌, ◌<◌, ◌≤◌, nat_lt, Bool, true, false, List, ◌∷◌, Option, Some, None, IfSome, All, codes, if◌then◌else◌}
+use Rattle.std.specs.Prelude.{◌≡◌, ℕ, ◌+◌, ◌^◌, ◌<◌, nat_lt, Bool, true, false, List, ◌∷◌, Option, Some, None, IfSome, All, codes, if◌then◌else◌}
 use lib.Pointwise.{pointwise_long}
 use Rattle.std.proofs.lemmas.List.Elements.{All-cons}
 use Rattle.kube_types.specs.declared.names.Field.TheVariants as fields
-use Rattle.kube_types.specs.declared.names.Rule.TheVariants as rules
 use Rattle.kube_types.specs.declared.parts.Kind.{Kind}
 use Rattle.kube_types.specs.declared.objects.Object.{Object}
 use Rattle.kube_types.specs.Keys.{meta_of, key_of, key_cmp}
@@ -19,13 +18,13 @@ use Rattle.call_types.specs.declared.reply.Refusal.TheVariants.{Invalid, Gone}
 use Rattle.call_types.specs.declared.reply.Reply.TheVariants.{Refused, Events}
 use Rattle.binder_model.specs.Store.{State}
 use Rattle.binder_model.specs.Answers.{Outcome, Says, Stores, Removes, is_user, reply_of, after, outcome}
-use Rattle.binder_model.specs.Devices.{Devices, DeviceAnswer, device_answer}
+use Rattle.binder_model.specs.Devices.{DeviceAnswer, device_answer}
 use Rattle.binder_model.specs.Watching.{oldest, told_events}
-use Rattle.binder_model.specs.World.{World, Effect, OnStore, OnDevices, SetsMoment, base, is_time, fits_shape, set_time, watch, stale_epoch, on_devices, effect, refused_rule, reply_to, log_after, world_after}
+use Rattle.binder_model.specs.World.{World, OnStore, OnDevices, SetsMoment, base, is_time, fits_shape, set_time, watch, stale_epoch, on_devices, effect, refused_rule, reply_to, log_after, world_after}
 use Rattle.model_laws.proofs.Imported.{pass_base}
 use Rattle.object_laws.specs.Given.{IsStamp, IsGiven}
 use Rattle.history_laws.specs.Given.{IsNumber, IsEvent, IsRequest, IsRefusal, IsSetup}
-use Rattle.given_law.specs.Keeping.{IsGivenStore, AreGivenDevices, IsGivenWorld, IsGivenEffect, CallsKeepGiven}
+use Rattle.given_law.specs.Keeping.{IsGivenStore, IsGivenWorld, IsGivenEffect, CallsKeepGiven}
 use Rattle.given_law.proofs.Lists.{put_all, without_all}
 use Rattle.given_law.proofs.Objects.{version_given}
 use Rattle.given_law.proofs.Outcomes.{IsGivenOutcome, outcome_given}

@@ -7,4 +7,5 @@ mod Effects
 mod Told
 mod Writes
 mod Asking
+pub mod Texts
 pub mod Runs

@@ -1,6 +1,6 @@
 -- The walk over the verbs of the store: what it says and what it writes a text can give, where a text can give the request.
 use Rattle.std.proofs.Common.{arith}
-use Rattle.std.specs.Prelude.{ℕ, ◌+◌, ◌^◌, ◌<◌, ◌≤◌, Bool, true, false, not, List, Option, Some, None, IfSome, All, bytes_eq}
+use Rattle.std.specs.Prelude.{ℕ, ◌+◌, ◌^◌, ◌≤◌, Bool, true, false, List, Option, Some, None, IfSome, All}
 use Rattle.std.proofs.lemmas.List.Elements.{All-filter}
 use Rattle.kube_types.specs.declared.uid.Uid.{Uid}
 use Rattle.kube_types.specs.declared.names.Field.{Field}
@@ -9,7 +9,7 @@ use Rattle.kube_types.specs.declared.parts.Kind.{Kind}
 use Rattle.kube_types.specs.declared.objects.Pod.{Pod as PodData}
 use Rattle.kube_types.specs.declared.objects.Object.{Object}
 use Rattle.kube_types.specs.declared.objects.Object.TheVariants.{Class, Node, Volume, Claim, Pod}
-use Rattle.kube_types.specs.Keys.{key_cmp, key_of, meta_of, row_at, rows_of, is_of_kind}
+use Rattle.kube_types.specs.Keys.{key_cmp, key_of, meta_of, rows_of, is_of_kind}
 use Rattle.kube_types.specs.Bindings.{is_deleting, is_uid}
 use Rattle.call_types.specs.declared.edit.Edit.{Edit}
 use Rattle.call_types.specs.declared.request.NewStatus.{NewStatus}

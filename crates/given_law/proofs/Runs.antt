@@ -1,16 +1,14 @@
 -- A run has only values that a text can give.
 use Rattle.std.proofs.Common.{refl, sym, subst, arith}
-use Rattle.std.specs.Prelude.{◌≡◌, ℕ, ◌+◌, ◌<◌, suc, Bool, true, false, List, [], ◌∷◌, All, length, if◌then◌else◌}
+use Rattle.std.specs.Prelude.{◌≡◌, ℕ, ◌+◌, ◌<◌, suc, Bool, true, false, List, [], ◌∷◌, All, length, reverse, if◌then◌else◌}
 use Rattle.std.proofs.lemmas.List.Elements.{All-nil, All-cons, All-head, All-tail}
 use Rattle.kube_types.specs.declared.objects.Object.{Object}
 use Rattle.kube_types.specs.Keys.{key_cmp, key_of, put_row}
 use Rattle.call_types.specs.declared.entry.Entry.{Entry}
 use Rattle.call_types.specs.declared.setup.Setup.{Setup}
-use Rattle.call_types.specs.declared.reply.Reply.{Reply}
 use Rattle.binder_model.specs.Answers.{is_user}
 use Rattle.binder_model.specs.Imports.{imported_object, is_dropped, rows_of_imports}
 use Rattle.binder_model.specs.Told.{own}
-use Rattle.binder_model.specs.Licence.{Licensed}
 use Rattle.binder_model.specs.Promises.{most_entries}
 use Rattle.binder_model.specs.Run.{Run}
 use Rattle.binder_model.specs.World.{base, first_world, world}
@@ -18,12 +16,13 @@ use Rattle.model_laws.proofs.Imported.{pass_base}
 use Rattle.object_laws.specs.Given.{IsGiven}
 use Rattle.history_laws.specs.Given.{IsRequest, IsReply, IsEvent, IsEntry, IsSetup}
 use Rattle.given_law.specs.Keeping.{IsEpoch, IsMount, IsGivenWorld}
-use Rattle.given_law.specs.Laws.{IsAskedGiven, RunsGive}
+use Rattle.given_law.specs.Laws.{IsAskedGiven, RunsGive, RunTextsHaveOne}
 use Rattle.given_law.proofs.Lists.{put_all, reverse_all}
 use Rattle.given_law.proofs.Objects.{imported_given}
 use Rattle.given_law.proofs.Effects.{calls_keep_given}
 use Rattle.given_law.proofs.Told.{own_all}
 use Rattle.given_law.proofs.Asking.{licensed_ask_given}
+use Rattle.given_law.proofs.Texts.{has_one}
 
 rows_given : (imports os : List Object) → All IsGiven os → All IsGiven (rows_of_imports imports os)
 rows_given imports [] h = h
@@ -66,4 +65,7 @@ past_given setup (e ∷ past) is short asked run =
     by here all false u = licensed_ask_given e.kind (own e.seat past) e.request u (own_all e.seat past all) run.2
 
 pub runs_give : RunsGive
-runs_give setup past is short asked run = record { setup = is; entries = reverse_all IsEntry past (past_given setup past is short asked run).entries }
+runs_give setup past h = record { setup = h.setup_given; entries = reverse_all IsEntry past (past_given setup past h.setup_given h.short h.asked h.run).entries }
+
+pub run_texts_have_one : RunTextsHaveOne
+run_texts_have_one setup past lines h = has_one setup (reverse past) lines (runs_give setup past h)

@@ -19,7 +19,7 @@ use Rattle.call_types.specs.declared.reply.Event.{Event}
 use Rattle.call_types.specs.declared.reply.Refusal.TheVariants as refusals
 use Rattle.call_types.specs.declared.reply.Reply.{Reply}
 use Rattle.call_types.specs.declared.reply.Reply.TheVariants as replies
-use Rattle.binder_model.specs.Told.{own, SomeOf, first_some, objects_of_event, objects_of_events, objects_in, TellsObject, ToldObject, IsVolumeWith, IsClaimWith, IsPodWith, ToldVolume, ToldClaim, ToldPod, After, IsNewest}
+use Rattle.binder_model.specs.Told.{own, first_some, objects_of_event, objects_of_events, objects_in, TellsObject, ToldObject, IsVolumeWith, IsClaimWith, IsPodWith, ToldVolume, ToldClaim, ToldPod, After, IsNewest}
 use Rattle.binder_model.specs.Reading.{Following, Unlisted, ListedAt, reached_on, follow_on, following_of, IsFrom}
 use Rattle.binder_model.specs.AgentLicence.{epoch_told, epoch_in, last_epoch, since_epoch, is_get_of, last_get}
 use Rattle.model_laws.proofs.Newest.{newest_told}

@@ -1,6 +1,6 @@
 -- What a controller makes of objects that a manifest can give, to be written.
 use Rattle.std.proofs.Common.{refl, arith}
-use Rattle.std.specs.Prelude.{ℕ, List, [], ◌∷◌, Bool, true, false, Option, Some, None, IfSome, if◌then◌else◌}
+use Rattle.std.specs.Prelude.{ℕ, List, [], Bool, true, false, Option, Some, None, IfSome, if◌then◌else◌}
 use Rattle.serde_json.specs.Data.{no_members}
 use Rattle.plain_data.specs.Pairs.{put_pair, without_key}
 use Rattle.kube_types.specs.declared.uid.Uid.{Uid}

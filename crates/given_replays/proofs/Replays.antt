@@ -1,6 +1,6 @@
 -- What a replay brings about has only values that a text can give.
 use Rattle.std.proofs.Common.{refl, sym, subst, ◌∙◌, inl, inr, true≢false, arith}
-use Rattle.std.specs.Prelude.{◌≡◌, ◌⊎◌, ℕ, ◌+◌, ◌≤◌, Bool, true, false, cond, List, [], ◌∷◌, ◌++◌, Option, All, reverse}
+use Rattle.std.specs.Prelude.{◌≡◌, ◌⊎◌, ℕ, ◌+◌, ◌≤◌, Bool, true, false, cond, List, [], ◌∷◌, ◌++◌, Option, All}
 use Rattle.std.proofs.lemmas.List.Elements.{All-nil, All-cons, All-head, All-tail}
 use Rattle.plain_data.specs.Pairs.{Pair}
 use Rattle.call_types.specs.declared.entry.Entry.{Entry}
@@ -12,7 +12,6 @@ use Rattle.binder_model.specs.Answers.{is_user}
 use Rattle.world_core.specs.declared.drained.Drained.{Drained}
 use Rattle.worker_threads.specs.Longer.{IsOneOf, AreToldOf, users_of}
 use Rattle.history_laws.specs.Given.{IsNumber, IsRequest}
-use Rattle.history_laws.proofs.OneHistory.{one_history}
 use Rattle.script_lines.specs.declared.actors.WorkerKind.{WorkerKind}
 use Rattle.script_lines.specs.declared.actors.WorkerKind.TheVariants as workers
 use Rattle.script_lines.specs.declared.actors.Actor.{Actor}
@@ -30,9 +29,9 @@ use Rattle.script_parts.specs.Fates.{fate_of}
 use Rattle.script_parts.specs.Parts.{kind_of_worker, kind_of, drain_seats, part_of}
 use Rattle.script_runs.specs.Calls.{seat_at, IsOneMore, IsCallWith, AreCalls, NoCalls, MoreCalls}
 use Rattle.script_runs.specs.Replays.{Progress, begun, IsTurn, IsDrain, IsMove, AreMoves, NoMoves, MoreMoves, IsReplay}
-use Rattle.given_law.specs.Laws.{IsAskedGiven}
-use Rattle.given_law.proofs.Runs.{runs_give}
-use Rattle.given_replays.specs.Laws.{IsReplayedRun, ReplaysGive, ReplaysAreRead}
+use Rattle.given_law.specs.Laws.{IsAskedGiven, IsGivenRun}
+use Rattle.given_law.proofs.Runs.{runs_give, run_texts_have_one}
+use Rattle.given_replays.specs.Laws.{IsReplayedRun, ReplaysGive, ReplayTextsHaveOne}
 use Rattle.given_replays.proofs.Setups.{count_most, script_setups_give, users_ask}
 use Rattle.given_replays.proofs.Seats.{life_seat, drains_seat}
 
@@ -152,11 +151,13 @@ asked (e ∷ past) seats users =
     let asks = first_asks e past users in
     All-cons IsAskedGiven e past (record { seat = All-head HasSeat e past seats; request = asks.0 }) (asked past (All-tail HasSeat e past seats) asks.1)
 
-pub replays_give : ReplaysGive
-replays_give script budget past ending h =
+replayed_run : (script : Script) (budget : Option ℕ) (past : List Entry) (ending : Drained) → IsReplayedRun script budget past ending → IsGivenRun script.setup past
+replayed_run script budget past ending h =
     let fine = replay_fine script budget past ending h.script_given h.replay in
-    runs_give script.setup past (script_setups_give script h.script_given) h.short (asked past fine.seats fine.users) h.run
+    record { setup_given = script_setups_give script h.script_given; short = h.short; asked = asked past fine.seats fine.users; run = h.run }
 
-pub replays_are_read : ReplaysAreRead
-replays_are_read script budget past ending text setup entries h has is also =
-    one_history text setup script.setup entries (reverse past) is (replays_give script budget past ending h) also has
+pub replays_give : ReplaysGive
+replays_give script budget past ending h = runs_give script.setup past (replayed_run script budget past ending h)
+
+pub replay_texts_have_one : ReplayTextsHaveOne
+replay_texts_have_one script budget past ending lines h = run_texts_have_one script.setup past lines (replayed_run script budget past ending h)

@@ -1,16 +1,16 @@
 -- What a replay brings about has only values that a text can give. Lists of entries begin with the newest.
 -- A choice of this project.
-use Rattle.std.specs.Prelude.{ℕ, ◌≡◌, ◌<◌, List, Option, length, reverse}
+use Rattle.std.specs.Prelude.{ℕ, ◌<◌, List, Option, length, reverse}
 use Rattle.call_types.specs.declared.entry.Entry.{Entry}
-use Rattle.call_types.specs.declared.setup.Setup.{Setup}
 use Rattle.binder_model.specs.Promises.{most_entries}
 use Rattle.binder_model.specs.Run.{Run}
 use Rattle.world_core.specs.declared.drained.Drained.{Drained}
 use Rattle.history_laws.specs.Given.{IsSetup, IsHistory}
-use Rattle.history_laws.specs.Texts.{IsTextOf}
+use Rattle.history_text.specs.Output.{history_text, with_lines}
 use Rattle.script_text.specs.declared.script.Script.{Script}
 use Rattle.script_laws.specs.Scripts.{IsScript}
 use Rattle.script_runs.specs.Replays.{IsReplay}
+use Rattle.given_law.specs.Laws.{HasOneHistory}
 
 -- the setup of a script that a text can give, a text can give
 abbrev pub ScriptSetupsGive : Type 0
@@ -27,9 +27,8 @@ pub record IsReplayedRun (script : Script) (budget : Option ℕ) (past : List En
 abbrev pub ReplaysGive : Type 0
 ReplaysGive = (script : Script) (budget : Option ℕ) (past : List Entry) (ending : Drained) → IsReplayedRun script budget past ending → IsHistory script.setup (reverse past)
 
--- so a text that has it has no other
-abbrev pub ReplaysAreRead : Type 0
-ReplaysAreRead =
-    (script : Script) (budget : Option ℕ) (past : List Entry) (ending : Drained) (text : List ℕ) (setup : Setup) (entries : List Entry)
-    → IsReplayedRun script budget past ending → IsTextOf text script.setup (reverse past)
-    → IsHistory setup entries → IsTextOf text setup entries → (setup ≡ script.setup) × (entries ≡ reverse past)
+-- and what is printed of it has it alone, whatever lines follow it
+abbrev pub ReplayTextsHaveOne : Type 0
+ReplayTextsHaveOne =
+    (script : Script) (budget : Option ℕ) (past : List Entry) (ending : Drained) (lines : List (List ℕ))
+    → IsReplayedRun script budget past ending → HasOneHistory (with_lines (history_text script.setup (reverse past)) lines) script.setup (reverse past)
