@@ -3,8 +3,8 @@
 //! Promises: each call keeps a world so, whatever is asked in it that a text can give (`calls_keep_given`); what the licence
 //! allows a controller is such a request, whatever its machine (`licensed_ask_given`); so a run of a setup and of users that
 //! a text can give is a history that a text can give (`runs_give`), and its printed text has no other
-//! (`run_texts_have_one`). Each is a function with nothing to do, whose contract is the law. Not said: that a printed line is short enough or nests little
-//! enough to be read.
+//! (`run_texts_have_one`). Each is a function with nothing to do, whose contract is the law. Not said: that a printed line is
+//! short enough or nests little enough to be read.
 #![tactic(auto)]
 
 ghost use Rattle.given_law.specs.Keeping.{CallsKeepGiven};
