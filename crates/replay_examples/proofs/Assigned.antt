@@ -98,6 +98,7 @@ no_call = record {
   budget = 0;
   raises = refl;
   entries = record { added = []; are = refl; count = refl; of_seats = tt };
+  users = refl;
   few = omega arith;
   ends = inr refl;
   none = λ settled. refl;
@@ -111,6 +112,7 @@ one_call = record {
   budget = 1;
   raises = refl;
   entries = record { added = pod_assigned; are = refl; count = refl; of_seats = (inr (inr (inl refl)), refl, tt) };
+  users = refl;
   few = omega arith;
   ends = inr refl;
   none = λ settled. absurd (unsettled settled);

@@ -11,6 +11,7 @@ use Rattle.kube_types.specs.declared.objects.Object.TheVariants.{Volume}
 use Rattle.kube_types.specs.Keys.{key_of, key_cmp}
 use Rattle.kube_types.proofs.KeyOrder.{row_at_key}
 use Rattle.call_types.specs.declared.entry.Entry.{Entry}
+use Rattle.call_types.specs.declared.request.SeatKind.TheVariants as seats
 use Rattle.binder_model.specs.BindWrites.{next_write, claim_write}
 use Rattle.binder_model.specs.BinderDue.{volume_due, reference_due, referred_due, claim_with, claim_due, named_due, completed_due}
 use Rattle.binder_model.specs.Due.{IsDue, IsFirstDue, IsSettled, or_due}
@@ -20,7 +21,7 @@ use Rattle.binder_model.specs.World.{world}
 use Rattle.model_examples.specs.DueActions.{pending_a}
 use Rattle.model_examples.specs.Samples.{key_a}
 use Rattle.model_examples.proofs.Tellings.{IsIn, differ, found_in, one}
-use Rattle.worker_threads.specs.Longer.{AreToldOf, IsOneOf}
+use Rattle.worker_threads.specs.Longer.{AreToldOf, IsOneOf, users_of}
 use Rattle.script_text.specs.declared.script.Script.{Script}
 use Rattle.script_parts.specs.Parts.{drain_seats}
 use Rattle.script_runs.specs.Replays.{IsDrain, NoMoves, Progress, begun}
@@ -72,6 +73,7 @@ one_of_a_drain seat own = record {
   budget = 1;
   raises = refl;
   entries = record { added = reads seat true ∷ []; are = refl; count = refl; of_seats = (own, refl, tt) };
+  users = refl;
   few = omega arith;
   ends = inr refl;
   none = λ settled. absurd (unsettled settled);
@@ -95,6 +97,7 @@ no_need = record {
   budget = 1;
   raises = refl;
   entries = record { added = []; are = refl; count = refl; of_seats = tt };
+  users = refl;
   few = omega arith;
   ends = inl nothing_due;
   none = λ settled. refl;
@@ -108,6 +111,7 @@ agents_drain = record {
   budget = 1;
   raises = refl;
   entries = record { added = reads 10 true ∷ []; are = refl; count = refl; of_seats = (inr (inr (inr (inr (inr (inl refl))))), refl, tt) };
+  users = refl;
   few = omega arith;
   ends = inr refl;
   none = λ settled. absurd (unsettled settled);
@@ -121,6 +125,7 @@ drain_cases = record {
   not_by_a_seat_after_them = λ d. let b = (seat_between 10 (told_of volume_script 1 1 (reads 10 true ∷ []) d).0).1 in absurd (omega (arith, b));
   by_the_agent_of_a_node = agents_drain;
   not_by_a_user = λ d. let b = (seat_between 4 (told_of volume_script 1 1 (reads 4 true ∷ []) d).0).0 in absurd (omega (arith, b));
+  not_by_a_user_at_such_a_seat = λ d. let e : record (reads 9 true) { kind = seats.User } ∷ [] ≡ [] = ap (λ (p : Progress). users_of p.past) d.is ∙ d.users in absurd (cc);
   not_with_its_answer_lost = λ d. absurd (true≢false (sym (told_of volume_script 1 1 (reads 5 false ∷ []) d).1));
   not_past_the_budget = λ d. let few = within_budget volume_script 0 1 (reads 5 true ∷ []) d in absurd (omega (arith, few));
   not_short_of_it_while_something_is_due = short;
@@ -137,6 +142,7 @@ spent_drain = record {
   budget = 0;
   raises = refl;
   entries = record { added = []; are = refl; count = refl; of_seats = tt };
+  users = refl;
   few = omega arith;
   ends = inr refl;
   none = λ settled. refl;

@@ -98,6 +98,7 @@ two_calls = record {
   budget = 2;
   raises = refl;
   entries = record { added = data_erased; are = refl; count = refl; of_seats = (inr (inl refl), refl, (inr (inl refl), refl, tt)) };
+  users = refl;
   few = omega arith;
   ends = inr refl;
   none = λ settled. absurd (unsettled (world setup []) begins settled);
@@ -111,6 +112,7 @@ three_calls = record {
   budget = 3;
   raises = refl;
   entries = record { added = volume_deleted; are = refl; count = refl; of_seats = (inr (inl refl), refl, (inr (inl refl), refl, (inr (inl refl), refl, tt))) };
+  users = refl;
   few = omega arith;
   ends = inr refl;
   none = λ settled. absurd (unsettled (world setup []) begins settled);

@@ -39,6 +39,7 @@ settled_replay script past made moves budget settled = record {
     budget = 2048;
     raises = budget;
     entries = record { added = []; are = refl; count = refl; of_seats = tt };
+    users = refl;
     few = omega arith;
     ends = inl settled;
     none = λ before. refl;

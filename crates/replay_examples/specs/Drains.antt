@@ -36,6 +36,7 @@ pub record DrainExamples : Type 0 where
   pub not_by_a_seat_after_them : Drains volume_script 1 1 (reads 10 true ∷ []) → ⊥
   pub by_the_agent_of_a_node : Drains node_script 1 1 (reads 10 true ∷ [])
   pub not_by_a_user : Drains volume_script 1 1 (reads 4 true ∷ []) → ⊥
+  pub not_by_a_user_at_such_a_seat : Drains volume_script 1 1 (record (reads 9 true) { kind = seats.User } ∷ []) → ⊥
   pub not_with_its_answer_lost : Drains volume_script 1 1 (reads 5 false ∷ []) → ⊥
   pub not_past_the_budget : Drains volume_script 0 1 (reads 5 true ∷ []) → ⊥
   pub not_short_of_it_while_something_is_due : Drains volume_script 1 0 [] → ⊥

@@ -14,7 +14,7 @@ use Rattle.model_laws.proofs.Lists.{none_some, one}
 use Rattle.worker_core.specs.Stands.{StandsFor}
 use Rattle.worker_threads.specs.declared.drainers.Drainer.{Drainer}
 use Rattle.worker_threads.specs.Drainers.{AreStanding, seats_of}
-use Rattle.worker_threads.specs.Longer.{AreToldOf, IsLonger, IsOneOf}
+use Rattle.worker_threads.specs.Longer.{AreToldOf, IsLonger, IsOneOf, users_of}
 use Rattle.script_text.specs.declared.script.Script.{Script}
 use Rattle.script_parts.specs.declared.part.Part.{Part}
 use Rattle.script_runs.specs.declared.player.Player.{Player}
@@ -272,6 +272,7 @@ widen some all (e ∷ entries) more told = (more e.seat told.0, told.1, widen so
 pub record HasDrained (script : Script) (option : Option ℕ) (old new : Stage) (made : ℕ) : Type 0 where
   pub budget : new.budget ≡ raised option old.world.setup old.world.past old.budget
   pub entries : IsLonger (seats_of old.drainers) made old.world.past new.world.past
+  pub users : users_of new.world.past ≡ users_of old.world.past
   pub others : (seat : ℕ) → (IsOneOf (seats_of old.drainers) seat → ⊥) → own seat new.world.past ≡ own seat old.world.past
   pub few : made ≤ new.budget - old.drained
   pub ends : IsSettled new.world.setup (world new.world.setup new.world.past) ⊎ (made ≡ new.budget - old.drained)
@@ -298,6 +299,7 @@ drain_moved script option old new made last d p stands = record {
       count = d.entries.count;
       of_seats = widen (seats_of old.drainers) (drain_seats script) d.entries.added stands.seats d.entries.of_seats;
     });
+    users = d.users ∙ ap users_of stands.past;
     few = let f = d.few in let r = d.room in let e = stands.drained in omega (arith, f, r, e);
     ends = ends d.ends;
     none = λ settled. d.none (subst (λ s. IsSettled s (world s old.world.past)) (sym stands.setup) (subst (λ h. IsSettled script.setup (world script.setup h)) (sym stands.past) settled)) ∙ stands.past;

@@ -11,7 +11,7 @@ use Rattle.binder_model.specs.World.{world}
 use Rattle.world_core.specs.declared.drained.Drained.{Drained}
 use Rattle.world_core.specs.declared.drained.Drained.TheVariants.{Settled, Spent}
 use Rattle.binder_model.specs.Due.{IsFirstDue, IsSettled}
-use Rattle.worker_threads.specs.Longer.{IsLonger}
+use Rattle.worker_threads.specs.Longer.{IsLonger, users_of}
 use Rattle.script_text.specs.declared.script.Line.{Line}
 use Rattle.script_text.specs.declared.script.Line.TheVariants.{Call, Lose, Restart, Turn, Drain}
 use Rattle.script_text.specs.declared.script.Script.{Script}
@@ -70,13 +70,15 @@ IsTurn part calls before after = MakesAll part calls before after ⊎ MakesFewer
 
 -- ---- a drain
 
--- the budget is raised; then come calls of the drains' seats, all told, until the world is settled or the budget is spent
+-- the budget is raised; then come calls of the drains' seats, all told and none of them a user's, until the world is settled or
+-- the budget is spent
 pub record IsDrain (script : Script) (option : Option ℕ) (before after : Progress) : Type 0 where
   pub past : List Entry
   pub made : ℕ
   pub budget : ℕ
   pub raises : budget ≡ raised option script.setup before.past before.budget
   pub entries : IsLonger (drain_seats script) made before.past past
+  pub users : users_of past ≡ users_of before.past
   pub few : before.drained + made ≤ budget
   pub ends : IsSettled script.setup (world script.setup past) ⊎ (before.drained + made ≡ budget)
   pub none : IsSettled script.setup (world script.setup before.past) → past ≡ before.past

@@ -1,10 +1,14 @@
 -- A history that has grown by calls of some seats.
-use Rattle.std.proofs.Common.{◌≡◌, ◌∙◌, ◌+◌, ℕ, List, [], ◌∷◌, ◌++◌, true, refl, sym, ap, subst, inl, append_assoc, length-append, arith, Result, Ok, Err}
+use Rattle.std.proofs.Common.{◌≡◌, ◌∙◌, ◌+◌, ℕ, List, [], ◌∷◌, ◌++◌, Bool, true, false, true≢false, cond, refl, sym, ap, subst, inl, append_assoc, length-append, arith, Result, Ok, Err}
 use Rattle.std.specs.Prelude.{OnErr}
 use Rattle.call_types.specs.declared.entry.Entry.{Entry}
+use Rattle.call_types.specs.declared.request.SeatKind.{SeatKind}
+use Rattle.call_types.specs.declared.request.SeatKind.TheVariants as seats
+use Rattle.binder_model.specs.Answers.{is_user}
 use Rattle.binder_model.specs.Told.{own}
 use Rattle.model_laws.proofs.Evidence.{own_other}
-use Rattle.worker_threads.specs.Longer.{AreToldOf, HasGrown, IsLonger, IsOneOf}
+use Rattle.worker_core.specs.Roles.{IsBuiltKind}
+use Rattle.worker_threads.specs.Longer.{AreToldOf, HasGrown, IsLonger, IsOneOf, users_of}
 
 told_append : (seats : List ℕ) (es fs : List Entry) → AreToldOf seats es → AreToldOf seats fs → AreToldOf seats (es ++ fs)
 told_append seats [] fs a b = b
@@ -56,6 +60,24 @@ others_as_before seats seat other (e ∷ es) h told =
 
 pub grown_others : (seats : List ℕ) (h past : List Entry) → HasGrown seats h past → (seat : ℕ) → (IsOneOf seats seat → ⊥) → own seat past ≡ own seat h
 grown_others seats h past g seat other = ap (own seat) g.longer.are ∙ others_as_before seats seat other g.longer.added h g.longer.of_seats
+
+-- an actor's call is no user's
+
+built_other : (kind : SeatKind) → IsBuiltKind kind → is_user kind ≡ false
+built_other seats.User built = absurd built
+built_other seats.Binder built = refl
+built_other seats.Ops built = refl
+built_other seats.Scheduler built = refl
+built_other seats.ClaimProtect built = refl
+built_other seats.VolumeProtect built = refl
+built_other seats.Agent built = refl
+
+pub users_as_before : (h past : List Entry) (e : Entry) → past ≡ e ∷ h → IsBuiltKind e.kind → users_of past ≡ users_of h
+users_as_before h past e is built = ap users_of is ∙ by (is_user e.kind) (built_other e.kind built)
+  where
+    by : (b : Bool) → b ≡ false → cond b (e ∷ users_of h) (users_of h) ≡ users_of h
+    by true other = absurd (true≢false other)
+    by false other = refl
 
 pub on_err : {T E : Type 0} (X : Type 0) (r : Result T E) → X → OnErr r X
 on_err X (Ok t) x = tt

@@ -1,7 +1,8 @@
 -- A history that has grown by calls of some seats, whose answers were told. The newest entry stands first.
 -- A choice of this project.
-use Rattle.std.specs.Prelude.{ℕ, ◌≡◌, true, List, [], ◌∷◌, ◌++◌, length, ⊤}
+use Rattle.std.specs.Prelude.{ℕ, ◌≡◌, true, List, [], ◌∷◌, ◌++◌, filter, length, ⊤}
 use Rattle.call_types.specs.declared.entry.Entry.{Entry}
+use Rattle.binder_model.specs.Answers.{is_user}
 use Rattle.binder_model.specs.Told.{SomeOf}
 
 -- the seat is one of these
@@ -24,3 +25,7 @@ pub record IsLonger (seats : List ℕ) (made : ℕ) (earlier entries : List Entr
 pub record HasGrown (seats : List ℕ) (earlier entries : List Entry) : Type 0 where
   pub made : ℕ
   pub longer : IsLonger seats made earlier entries
+
+-- the entries of users
+abbrev pub users_of : List Entry → List Entry
+users_of entries = filter (λ e. is_user e.kind) entries

@@ -6,7 +6,7 @@ ghost use Rattle.binder_model.specs.Due.{IsSettled};
 ghost use Rattle.settle_check.specs.WorldOf.{world_of};
 ghost use Rattle.fitting_calls.specs.Calls.{AreByActors};
 ghost use Rattle.worker_threads.specs.Drainers.{AreStanding, seats_of};
-ghost use Rattle.worker_threads.specs.Longer.{HasGrown, IsLonger, IsOneOf};
+ghost use Rattle.worker_threads.specs.Longer.{HasGrown, IsLonger, IsOneOf, users_of};
 ghost use Rattle.worker_threads.specs.Rounds.{Drains, EndsHere, EndsWith, made_of};
 
 use crate::drainers::Drainers;
@@ -35,6 +35,7 @@ pub fn drain(
     ensures few { IfOk result (λ d. made_of d ≤ budget) }
     ensures none { OnOk result (IsSettled world.old.setup (world_of world.old) → world.new.past ≡ world.old.past) }
     ensures err { OnErr result (HasGrown (seats_of drainers.old) world.old.past world.new.past) }
+    ensures users { users_of world.new.past ≡ users_of world.old.past }
     ensures actors { AreByActors world.old.past → AreByActors world.new.past }
     ensures setup { world.new.setup ≡ world.old.setup }
     ensures seats { seats_of drainers.new ≡ seats_of drainers.old }

@@ -7,7 +7,7 @@ ghost use Rattle.binder_model.specs.Told.{own};
 ghost use Rattle.worker_core.specs.Absorbs.{woken};
 ghost use Rattle.fitting_calls.specs.Calls.{AreByActors};
 ghost use Rattle.worker_threads.specs.Drainers.{AreIdle, AreSeats, AreStanding, IsIdleNow, IsStanding, roles_of, seats_of};
-ghost use Rattle.worker_threads.specs.Longer.{HasGrown, IsLonger, IsOneOf};
+ghost use Rattle.worker_threads.specs.Longer.{HasGrown, IsLonger, IsOneOf, users_of};
 ghost use Rattle.worker_threads.specs.Rounds.{IsRound, Runs};
 
 use crate::drainers::{Drainer, Drainers};
@@ -40,6 +40,7 @@ pub fn round(
     ensures idle { IfOk result (λ r. r.whole ≡ true → AreIdle drainers.new world.new.past) }
     ensures part { IfOk result (λ r. r.whole ≡ false → r.made ≡ budget) }
     ensures err { OnErr result (HasGrown (seats_of drainers.old) world.old.past world.new.past) }
+    ensures users { users_of world.new.past ≡ users_of world.old.past }
     ensures actors { AreByActors world.old.past → AreByActors world.new.past }
     ensures setup { world.new.setup ≡ world.old.setup }
     ensures seats { seats_of drainers.new ≡ seats_of drainers.old }
@@ -64,6 +65,7 @@ fn turns(
     ensures idle { IfOk result (λ ran. ran.idle ≡ true → AreIdle drainers.new.items world.new.past) }
     ensures some { IfOk result (λ ran. 0 < budget → ran.left < budget) }
     ensures grown { HasGrown (seats_of drainers.old.items) world.old.past world.new.past }
+    ensures users { users_of world.new.past ≡ users_of world.old.past }
     ensures actors { AreByActors world.old.past → AreByActors world.new.past }
     ensures setup { world.new.setup ≡ world.old.setup }
     ensures seats { seats_of drainers.new.items ≡ seats_of drainers.old.items }
@@ -87,6 +89,7 @@ fn turn(world: &mut KeptWorld, drainer: &mut Drainer, budget: u64) -> Result<Ran
     ensures some { IfOk result (λ ran. drainer.old.actor.role.kind ≢ Agent → 0 < budget → ran.left < budget) }
     ensures role { OnOk result (drainer.new.actor.role ≡ drainer.old.actor.role) }
     ensures grown { HasGrown (drainer.old.seat ∷ []) world.old.past world.new.past }
+    ensures users { users_of world.new.past ≡ users_of world.old.past }
     ensures actors { AreByActors world.old.past → AreByActors world.new.past }
     ensures setup { world.new.setup ≡ world.old.setup }
     ensures seat { drainer.new.seat ≡ drainer.old.seat }

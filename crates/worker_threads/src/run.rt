@@ -9,7 +9,7 @@ ghost use Rattle.binder_model.specs.World.{IsHistory};
 ghost use Rattle.worker_core.specs.Roles.{IsBuiltKind};
 ghost use Rattle.worker_core.specs.Stands.{MayBeIdle, StandsFor};
 ghost use Rattle.fitting_calls.specs.Calls.{AreByActors};
-ghost use Rattle.worker_threads.specs.Longer.{IsLonger, HasGrown};
+ghost use Rattle.worker_threads.specs.Longer.{IsLonger, HasGrown, users_of};
 ghost use Rattle.worker_threads.specs.Rounds.{Runs};
 
 use call_types::reply::Reply;
@@ -42,6 +42,7 @@ pub(crate) fn run(
     ensures idle { IfOk result (λ ran. ran.idle ≡ true → MayBeIdle actor.new.role actor.new.memory (own seat world.new.past)) }
     ensures role { OnOk result (actor.new.role ≡ actor.old.role) }
     ensures grown { HasGrown (seat ∷ []) world.old.past world.new.past }
+    ensures users { users_of world.new.past ≡ users_of world.old.past }
     ensures actors { AreByActors world.old.past → AreByActors world.new.past }
     ensures setup { world.new.setup ≡ world.old.setup }
 {

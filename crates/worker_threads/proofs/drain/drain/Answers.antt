@@ -44,6 +44,9 @@ returns-in_err-rounded-in-None-clause-err c =
     (grown_then (seats_of c.args.drainers.now) c.args.world.now.past c.rounds.world.past c.round.new.world.past c.rounds.invariant.grown
     (subst (λ (seats : List ℕ). HasGrown seats c.rounds.world.past c.round.new.world.past) c.rounds.invariant.seats c.in_err-rounded-in-None.ensures.err))
 
+pub returns-in_err-rounded-in-None-clause-users : goal.returns-in_err-rounded-in-None-clause-users
+returns-in_err-rounded-in-None-clause-users c = c.round.ensures.users ∙ c.rounds.invariant.users
+
 pub rounds-preserved : goal.rounds-preserved
 rounds-preserved c =
     let i = c.rounds.invariant in
@@ -61,5 +64,6 @@ rounds-preserved c =
       setup = r.setup ∙ i.setup;
       grown = grown_then (seats_of c.args.drainers.now) c.args.world.now.past c.rounds.world.past c.round.new.world.past i.grown
           (record { made = made; longer = subst (λ (seats : List ℕ). IsLonger seats made c.rounds.world.past c.round.new.world.past) i.seats r.entries });
+      users = c.round.ensures.users ∙ i.users;
       actors = λ before. c.round.ensures.actors (i.actors before);
     }

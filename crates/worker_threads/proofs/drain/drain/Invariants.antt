@@ -3,7 +3,7 @@ use Rattle.fitting_calls.specs.Calls.{AreByActors}
 use Rattle.call_types.specs.declared.entry.Entry.{Entry}
 use Rattle.worker_threads.specs.declared.drainers.Drainer.{Drainer}
 use Rattle.worker_threads.specs.Drainers.{AreStanding, seats_of}
-use Rattle.worker_threads.specs.Longer.{HasGrown}
+use Rattle.worker_threads.specs.Longer.{HasGrown, users_of}
 use Rattle.worker_threads.specs.Rounds.{Drains}
 use Rattle.worker_threads.proofs.drain.drain.Given as goal
 
@@ -15,6 +15,7 @@ invariant-rounds l = record {
   seats : seats_of l.drainers ≡ seats_of l.initial.drainers;
   setup : l.world.setup ≡ l.initial.world.setup;
   grown : HasGrown (seats_of l.initial.drainers) l.initial.world.past l.world.past;
+  users : users_of l.world.past ≡ users_of l.initial.world.past;
   actors : AreByActors l.initial.world.past → AreByActors l.world.past;
 }
 

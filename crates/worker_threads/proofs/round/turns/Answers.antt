@@ -22,6 +22,7 @@ loop-place-init c = record {
   roles = refl;
   setup = refl;
   grown = not_grown (seats_of c.args.drainers.now.items) c.args.world.now.past c.args.world.now.past refl;
+  users = refl;
   actors = λ before. before;
 }
 
@@ -41,6 +42,9 @@ returns-in_err-ran-clause-grown c =
     let wide = grown_wider (d.seat ∷ []) (seats_of items) (one_of_seats items c.loop-place.place d at) c.loop-place.world.past c.turn.new.world.past c.turn.ensures.grown in
     grown_then (seats_of c.args.drainers.now.items) c.args.world.now.past c.loop-place.world.past c.turn.new.world.past i.grown
     (subst (λ (seats : List ℕ). HasGrown seats c.loop-place.world.past c.turn.new.world.past) i.seats wide)
+
+pub returns-in_err-ran-clause-users : goal.returns-in_err-ran-clause-users
+returns-in_err-ran-clause-users c = c.turn.ensures.users ∙ c.loop-place.invariant.users
 
 pub returns-in_err-ran-clause-seats : goal.returns-in_err-ran-clause-seats
 returns-in_err-ran-clause-seats c =
@@ -82,6 +86,7 @@ loop-place-preserved c =
       roles = roles_set items place d ran at r.role ∙ i.roles;
       setup = r.setup ∙ i.setup;
       grown = grown_then (seats_of c.args.drainers.now.items) c.args.world.now.past h new i.grown (subst (λ (seats : List ℕ). HasGrown seats h new) i.seats wide);
+      users = c.turn.ensures.users ∙ i.users;
       actors = λ before. c.turn.ensures.actors (i.actors before);
     }
 

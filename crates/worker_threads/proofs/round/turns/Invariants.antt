@@ -4,7 +4,7 @@ use Rattle.call_types.specs.declared.entry.Entry.{Entry}
 use Rattle.worker_core.specs.Stands.{StandsFor}
 use Rattle.worker_threads.specs.declared.drainers.Drainer.{Drainer}
 use Rattle.worker_threads.specs.Drainers.{roles_of, seats_of}
-use Rattle.worker_threads.specs.Longer.{HasGrown}
+use Rattle.worker_threads.specs.Longer.{HasGrown, users_of}
 use Rattle.worker_threads.specs.Rounds.{IsRound}
 use Rattle.worker_threads.proofs.RoundFacts.{EachBelow, IsIdleAt}
 use Rattle.worker_threads.proofs.round.turns.Given as goal
@@ -20,5 +20,6 @@ invariant-loop-place l = record {
   roles : roles_of l.drainers.items ≡ roles_of l.initial.drainers.items;
   setup : l.world.setup ≡ l.initial.world.setup;
   grown : HasGrown (seats_of l.initial.drainers.items) l.initial.world.past l.world.past;
+  users : users_of l.world.past ≡ users_of l.initial.world.past;
   actors : AreByActors l.initial.world.past → AreByActors l.world.past;
 }

@@ -6,7 +6,7 @@ use Rattle.worker_core.specs.Roles.{IsBuiltKind}
 use Rattle.worker_core.specs.States.{call_in}
 use Rattle.worker_core.specs.Turns.{IsTurn}
 use Rattle.worker_threads.specs.Rounds.{Asks, IsIdle, IsSpent, Runs, told_entry}
-use Rattle.worker_threads.proofs.Entries.{grown_more}
+use Rattle.worker_threads.proofs.Entries.{grown_more, users_as_before}
 use Rattle.worker_threads.proofs.RunFacts.{by_actor, entry_told, idle_after, stands_on, still_kind, still_role, turn_kind, turn_role}
 use Rattle.worker_threads.proofs.run.run.Goals as goal
 
@@ -24,6 +24,9 @@ returns-in-Idle-clause-idle c = λ still.
 
 pub returns-in_err-absorb-in-Call-clause-grown : goal.returns-in_err-absorb-in-Call-clause-grown
 returns-in_err-absorb-in-Call-clause-grown c = grown_more c.args.seat _ _ _ _ c.loop-left.invariant.grown c.in_ok-reply-in-Call.ensures.entry refl refl
+
+pub returns-in_err-absorb-in-Call-clause-users : goal.returns-in_err-absorb-in-Call-clause-users
+returns-in_err-absorb-in-Call-clause-users c = users_as_before _ _ _ c.in_ok-reply-in-Call.ensures.entry c.requires.built ∙ c.loop-left.invariant.users
 
 -- the call that was made is one of the actor, also where its answer is not absorbed
 pub returns-in_err-absorb-in-Call-clause-actors : goal.returns-in_err-absorb-in-Call-clause-actors
@@ -62,6 +65,7 @@ loop-left-preserved-in_ok-absorb-in-Call c =
       history = c.in_ok-reply-in-Call.ensures.history;
       setup = c.ask.ensures.setup ∙ i.setup;
       grown = grown_more c.args.seat _ h new e i.grown entry refl refl;
+      users = users_as_before h new e entry (subst IsBuiltKind kinds.0 c.requires.built) ∙ i.users;
       actors = λ before. by_actor given h new e entry (subst IsBuiltKind kinds.0 c.requires.built) refl (c.in_ok-next.ensures.stands mine i.stands) (sym c.in_ok-next.ensures.asked ∙ ap call_in c.in-Call.is) (i.actors before);
     }
 

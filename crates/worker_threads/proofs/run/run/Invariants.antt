@@ -5,7 +5,7 @@ use Rattle.binder_model.specs.Told.{own}
 use Rattle.binder_model.specs.World.{IsHistory}
 use Rattle.worker_core.specs.Stands.{StandsFor}
 use Rattle.worker_core.specs.States.{State}
-use Rattle.worker_threads.specs.Longer.{HasGrown}
+use Rattle.worker_threads.specs.Longer.{HasGrown, users_of}
 use Rattle.worker_threads.specs.Rounds.{Runs}
 use Rattle.worker_threads.proofs.run.run.Given as goal
 
@@ -19,6 +19,7 @@ invariant-loop-left l = record {
   history : IsHistory l.world.setup l.world.past;
   setup : l.world.setup ≡ l.initial.world.setup;
   grown : HasGrown (l.seat ∷ []) l.initial.world.past l.world.past;
+  users : users_of l.world.past ≡ users_of l.initial.world.past;
   actors : AreByActors l.initial.world.past → AreByActors l.world.past;
 }
 

@@ -37,6 +37,7 @@ returns-clause-moved c =
     drain_moved c.args.script.now c.args.option s _ (made_of d) (drains_after c.args.script.now) (record {
       budget = subst (λ (h : History). c.raised-budget.result ≡ raised c.args.option h.setup h.past s.budget) c.world.ensures.value raises;
       entries = c.in_ok-drained.ensures.entries;
+      users = c.drain.ensures.users;
       others = c.drain.ensures.others;
       few = c.in_ok-drained.ensures.few;
       ends = ends_by c.drain.new.world.setup c.drain.new.world.past (c.raised-budget.result - s.drained) d c.in_ok-drained.ensures.ends;

@@ -1,0 +1,11 @@
+mod Lists
+pub mod Objects
+mod Outcomes
+mod Devices
+mod Watched
+mod Effects
+mod Told
+mod Writes
+mod Asking
+pub mod Texts
+pub mod Runs

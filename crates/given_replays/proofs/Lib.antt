@@ -1,0 +1,3 @@
+mod Setups
+mod Seats
+mod Replays
