@@ -1,4 +1,4 @@
 pub mod Ends
-pub mod Endings
 pub mod Generated
+pub mod Promised
 pub mod Refusals

@@ -18,8 +18,7 @@ use Rattle.script_text.specs.declared.script.Script.{Script}
 use Rattle.script_text.specs.Grammar.{script_of}
 use Rattle.script_runs.specs.Diligent.{IsDiligentReplay}
 use Rattle.script_runs.specs.Replays.{IsReplay}
-use Rattle.history_laws.specs.Given.{IsHistory}
-use Rattle.history_laws.specs.Texts.{IsTextOf}
+use Rattle.given_law.specs.Laws.{HasOneHistory}
 use Rattle.script_gen.specs.Generated.{generated}
 use Rattle.fitting_law.specs.Enough.{GetEnoughThroughout}
 use Rattle.binder_console.specs.declared.status.Status.{Status}
@@ -61,11 +60,6 @@ pub record IsPromised (script : Script) (budget : Option ℕ) (past : List Entry
   -- no claim got less than it asked for, but where users bound a volume and a claim by hand
   pub enough : GetEnoughThroughout script.setup past
 
--- the text has this history, and no other of values that a text can give, where the history has such values alone
-pub record IsTextOfOne (text : List ℕ) (setup : Setup) (entries : List Entry) : Type 0 where
-  pub text : IsTextOf text setup entries
-  pub only : IsHistory setup entries → (s : Setup) (es : List Entry) → IsHistory s es → IsTextOf text s es → (s ≡ setup) × (es ≡ entries)
-
 -- The input is a script, and the text is that of one history from the script's setup, of which all is promised. The status
 -- says how the last drain ended.
 pub record Replays (budget : Option ℕ) (status : Status) (input text : List ℕ) : Type 0 where
@@ -75,7 +69,8 @@ pub record Replays (budget : Option ℕ) (status : Status) (input text : List �
   pub read : script_of input ≡ Ok script
   pub promised : IsPromised script budget past ending
   pub printed : text ≡ replay_text script.setup past ending
-  pub alone : IsTextOfOne text script.setup (reverse past)
+  -- no other setup and entries that a text can give have this text
+  pub alone : HasOneHistory text script.setup (reverse past)
   pub ends : status ≡ status_of ending
 
 -- The text has the numbers of the replay of the seed's script. The status says how its last drain ended.

@@ -8,9 +8,10 @@ ghost use Rattle.binder_console.specs.Outcomes.{IsAnswer};
 use crate::answers::Answer;
 use crate::commands::Task;
 use crate::printing::print_summary;
-use crate::replaying::{answer_ended, play};
+use crate::replaying::answer_ended;
 use plain_data::copies::OutOfMemory;
 use script_gen::generate;
+use script_runs::replay::replay;
 use script_text::script::Script;
 use std::alloc::Global;
 
@@ -25,12 +26,12 @@ fn generate_readable(alloc: Global, seed: u64) -> Result<Script, OutOfMemory>
 }
 
 /// The summary of the replay of the script of a seed, told apart by how the last drain ended.
-#[tactic(auto, using(crate::proofs::Endings::by_ending))]
+#[tactic(auto, using(crate::proofs::Promised::gen_answers))]
 pub fn generated(alloc: Global, seed: u64, budget: Option<u64>) -> Result<Answer, OutOfMemory>
     ensures { (input : List ℕ) → IfOk result (IsAnswer (Task.Gen seed budget) input) }
 {
     let script = generate_readable(alloc, seed)?;
-    let played = play(alloc, &script, budget)?;
-    let text = print_summary(alloc, played.world.world(), &played.ending)?;
-    Ok(answer_ended(&played.ending, text))
+    let replayed = replay(alloc, &script, budget)?;
+    let text = print_summary(alloc, replayed.world.world(), &replayed.ending)?;
+    Ok(answer_ended(&replayed.ending, text))
 }

@@ -1,7 +1,8 @@
 //! The text of a replay.
 
-ghost use Rattle.std.specs.Prelude.{◌≡◌, [], IfOk};
+ghost use Rattle.std.specs.Prelude.{◌≡◌, ◌<◌, [], IfOk, length};
 ghost use Rattle.history_text.specs.Output.{with_line};
+ghost use Rattle.binder_model.specs.Promises.{most_entries};
 ghost use Rattle.binder_model.specs.World.{world as world_of};
 ghost use Rattle.binder_console.specs.Replays.{ending_of, last_summary, replay_text, summary_text};
 
@@ -69,7 +70,8 @@ pub fn print_summary(alloc: Global, world: &World, ending: &Drained) -> Result<B
 /// The history of a world, its objects and its numbers.
 #[tactic(auto, unfolding(crate::specs::Replays::replay_text))]
 pub fn print_replay(alloc: Global, world: &World, ending: &Drained) -> Result<Bytes, OutOfMemory>
-    ensures { IfOk result (λ text. text ≡ replay_text world.now.setup world.now.past ending.now) }
+    ensures text { IfOk result (λ text. text ≡ replay_text world.now.setup world.now.past ending.now) }
+    ensures short { IfOk result (λ text. length world.now.past < most_entries) }
 {
     let summary = summary(alloc, world, ending)?;
     let mut lines = Lines::new(alloc);

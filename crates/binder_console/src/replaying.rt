@@ -4,7 +4,6 @@ ghost use Rattle.std.specs.Prelude.{◌≡◌, Ok, Err, IfOk};
 ghost use Rattle.script_text.specs.Grammar.{script_of};
 ghost use Rattle.script_parts.specs.Limits.{IsReadable};
 ghost use Rattle.binder_console.specs.Outcomes.{IsAnswer, answer_ended};
-ghost use Rattle.binder_console.specs.Replays.{IsPromised};
 ghost use Rattle.binder_console.specs.Scripts.{IfNotReplayed, script_refusal_text};
 
 use crate::answers::Answer;
@@ -12,7 +11,7 @@ use crate::commands::Task;
 use crate::printing::{print_line, print_replay};
 use plain_data::copies::OutOfMemory;
 use plain_data::text::Bytes;
-use script_runs::replay::{Replayed, replay};
+use script_runs::replay::replay;
 use script_text::errors::{BadLine, ScriptError};
 use script_text::reading::read_script;
 use script_text::refusals::refusal_line;
@@ -31,16 +30,6 @@ fn read_readable(alloc: Global, input: &[u8]) -> Result<Script, ScriptError>
     Ok(script)
 }
 
-/// The replay of a script, and what is promised of its history.
-#[tactic(auto, using(fitting_calls::proofs::Turns::actors_give_enough))]
-pub fn play(alloc: Global, script: &Script, budget: Option<u64>) -> Result<Replayed, OutOfMemory>
-    requires readable { IsReadable script.now }
-    ensures promised { IfOk result (λ r. IsPromised script.now budget r.world.past r.ending) }
-    ensures setup { IfOk result (λ r. r.world.setup ≡ script.now.setup) }
-{
-    replay(alloc, script, budget)
-}
-
 /// A text to be written, told apart by how the last drain ended.
 pub fn answer_ended(ending: &Drained, text: Bytes) -> Answer
     ensures { result ≡ answer_ended ending.now text }
@@ -56,15 +45,15 @@ pub fn answer_ended(ending: &Drained, text: Bytes) -> Answer
 }
 
 /// The text of the replay of an input, told apart by how the last drain ended.
-#[tactic(auto, using(crate::proofs::Endings::by_ending))]
+#[tactic(auto, using(crate::proofs::Promised::replay_answers))]
 pub fn replayed(alloc: Global, input: &[u8], budget: Option<u64>) -> Result<Answer, ScriptError>
     ensures ok { IfOk result (IsAnswer (Task.Replay budget) input.now) }
     ensures refused { IfNotReplayed result (λ bad. script_of input.now ≡ Err bad) }
 {
     let script = read_readable(alloc, input)?;
-    let played = play(alloc, &script, budget)?;
-    let text = print_replay(alloc, played.world.world(), &played.ending)?;
-    Ok(answer_ended(&played.ending, text))
+    let replayed = replay(alloc, &script, budget)?;
+    let text = print_replay(alloc, replayed.world.world(), &replayed.ending)?;
+    Ok(answer_ended(&replayed.ending, text))
 }
 
 /// The line of a refusal.

@@ -1,0 +1,85 @@
+-- What a replay answers, with what is promised of its history.
+use Rattle.std.proofs.Common.{◌≡◌, ℕ, ◌<◌, List, Option, Result, Ok, Err, IfOk, length, reverse, subst, sym}
+use Rattle.call_types.specs.declared.entry.Entry.{Entry}
+use Rattle.call_types.specs.declared.setup.Setup.{Setup}
+use Rattle.binder_model.specs.Promises.{most_entries}
+use Rattle.binder_model.specs.World.{world}
+use Rattle.binder_model.specs.Run.{Run}
+use Rattle.binder_model.specs.Safe.{Safe}
+use Rattle.world_core.specs.declared.drained.Drained.{Drained}
+use Rattle.world_core.specs.declared.drained.Drained.TheVariants.{Settled, Spent}
+use Rattle.fitting_calls.specs.Calls.{AreByActors}
+use Rattle.fitting_calls.proofs.Turns.{actors_give_enough}
+use Rattle.history_text.specs.Output.{final_lines}
+use Rattle.script_lines.specs.declared.errors.BadLine.{BadLine}
+use Rattle.script_text.specs.declared.script.Script.{Script}
+use Rattle.script_text.specs.Grammar.{script_of}
+use Rattle.script_laws.specs.Scripts.{IsScript}
+use Rattle.script_laws.proofs.TextsGive.{ScriptGiven, script_gives}
+use Rattle.script_runs.specs.Diligent.{IsDiligentReplay}
+use Rattle.script_runs.specs.Replays.{IsReplay}
+use Rattle.script_gen.specs.Generated.{generated}
+use Rattle.given_law.specs.Laws.{HasOneHistory}
+use Rattle.given_replays.proofs.Replays.{replay_texts_have_one}
+use Rattle.binder_console.specs.declared.commands.Task.{Task}
+use Rattle.binder_console.specs.declared.commands.Task.TheVariants.{Replay, Gen}
+use Rattle.binder_console.specs.Outcomes.{Answers, IsAnswer, answer_ended}
+use Rattle.binder_console.specs.Replays.{IsPromised, last_summary, replay_text, status_of, summary_text}
+
+by_ending : (task : Task) (input text : List ℕ) (ending : Drained) → Answers task (status_of ending) input text → IsAnswer task input (answer_ended ending text)
+by_ending task input text (Settled made) h = h
+by_ending task input text (Spent made key due) h = h
+
+-- what is read is a script that a text can give
+read_is_script : (bytes : List ℕ) (script : Script) → script_of bytes ≡ Ok script → IsScript script
+read_is_script bytes script e = by (script_of bytes) (script_gives bytes) e
+  where
+    by : (r : Result Script BadLine) → IfOk r ScriptGiven → r ≡ Ok script → IsScript script
+    by (Ok s) given is = let same : s ≡ script = cc in subst IsScript same given.script
+    by (Err b) given is = absurd cc
+
+-- the facts of a replay that its call gives
+pub record IsPlayed (script : Script) (budget : Option ℕ) (setup : Setup) (past : List Entry) (ending : Drained) : Type 0 where
+  pub calls : IsReplay script budget past ending
+  pub diligent : IsDiligentReplay script budget past ending
+  pub actors : AreByActors past
+  pub setup : setup ≡ script.setup
+  pub run : Run setup past
+  pub safe : Safe setup past
+
+promised : (script : Script) (budget : Option ℕ) (past : List Entry) (ending : Drained) → IsPlayed script budget script.setup past ending → IsPromised script budget past ending
+promised script budget past ending p =
+    record { calls = p.calls; diligent = p.diligent; run = p.run; safe = p.safe; enough = actors_give_enough script.setup past p.run p.actors }
+
+has_one : (script : Script) (budget : Option ℕ) (past : List Entry) (ending : Drained) (text : List ℕ)
+    → IsScript script → IsPlayed script budget script.setup past ending → length past < most_entries → text ≡ replay_text script.setup past ending → HasOneHistory text script.setup (reverse past)
+unfolding replay_text
+has_one script budget past ending text is p short printed =
+    let finals : List (List ℕ) = final_lines (world script.setup past).store.rows (last_summary (world script.setup past) ending) in
+    subst (λ (t : List ℕ). HasOneHistory t script.setup (reverse past)) (sym printed)
+    (replay_texts_have_one script budget past ending finals (record { script_given = is; replay = p.calls; run = p.run; short = short }))
+
+pub replay_answers : (script : Script) (budget : Option ℕ) (setup : Setup) (past : List Entry) (ending : Drained) (input text : List ℕ)
+    → script_of input ≡ Ok script → IsPlayed script budget setup past ending → length past < most_entries → text ≡ replay_text setup past ending
+    → IsAnswer (Replay budget) input (answer_ended ending text)
+replay_answers script budget setup past ending input text read p short printed = by setup p.setup p printed
+  where
+    by : (s : Setup) → s ≡ script.setup → IsPlayed script budget s past ending → text ≡ replay_text s past ending → IsAnswer (Replay budget) input (answer_ended ending text)
+    by s refl p printed = by_ending (Replay budget) input text ending (record {
+      script = script;
+      past = past;
+      ending = ending;
+      read = read;
+      promised = promised script budget past ending p;
+      printed = printed;
+      alone = has_one script budget past ending text (read_is_script input script read) p short printed;
+      ends = refl;
+    })
+
+pub gen_answers : (seed : ℕ) (script : Script) (budget : Option ℕ) (setup : Setup) (past : List Entry) (ending : Drained) (input text : List ℕ)
+    → script ≡ generated seed → IsPlayed script budget setup past ending → text ≡ summary_text setup past ending
+    → IsAnswer (Gen seed budget) input (answer_ended ending text)
+gen_answers seed script budget setup past ending input text is p printed = by script setup is p.setup p printed
+  where
+    by : (sc : Script) (s : Setup) → sc ≡ generated seed → s ≡ sc.setup → IsPlayed sc budget s past ending → text ≡ summary_text s past ending → IsAnswer (Gen seed budget) input (answer_ended ending text)
+    by sc s refl refl p printed = by_ending (Gen seed budget) input text ending (record { past = past; ending = ending; promised = promised (generated seed) budget past ending p; printed = printed; ends = refl })
