@@ -2,7 +2,8 @@
 //! of what the protection controllers, the node agents, the provisioner and reclaimer and the scheduler decide and go on
 //! with, how an agent starts, and when it is silent.
 //!
-//! Each is a function with nothing to do, whose contract has the examples.
+//! Promises: the cases of each function here, from `news_examples` on: it has nothing to do, and its contract has them.
+//! Not said: anything of other cases.
 #![tactic(auto)]
 
 ghost use Rattle.actor_examples.specs.Memories.{AgentExamples, SchedulerExamples};

@@ -1,6 +1,7 @@
 //! Computed examples of verdicts: cases that hold, and cases that must not.
 //!
-//! A function with nothing to do, whose contract has the examples.
+//! Promises: the cases of `verdict_examples`, a function with nothing to do, whose contract has them. Not said: anything of
+//! other cases.
 #![tactic(auto)]
 
 ghost use Rattle.audit_examples.specs.Verdicts.{VerdictExamples};

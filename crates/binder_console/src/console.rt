@@ -46,14 +46,17 @@ fn end_with<K: Sink>(sink: &mut K, text: &[u8], status: Status) -> Status
 /// The promise, with status 0 or 3 under `replay` (`EndsWith`, `Answers`, `Replays`): what was written is the text of one
 /// history and of its last world. Each reply in it is the world's, each controller asked only what it had been told
 /// allowed, and at every point each completed claim names a Bound volume of its own that carries its UID, no Bound volume
-/// and no mounted claim has left, and data were erased only for ended volumes with policy Delete. The history has one entry
-/// for each call of a user, in order, and of each turn and each drain the calls that the script says; each actor that a
-/// turn line names is diligent in each of its lives. With status 0 nothing is due at its end; with 3 the calls of the
-/// drains are spent, and the last line names what is due first. The same is promised of the history whose numbers `gen`
-/// prints (`Generates`).
+/// and no mounted claim has left, and data were erased only for ended volumes with policy Delete. No completed claim got a
+/// volume of fewer bytes or of another volume mode than it asked for, but where users bound both by hand (`enough`). The
+/// history has one entry for each call of a user, in order, and of each turn and each drain the calls that the script says;
+/// each actor that a turn line names is diligent in each of its lives. With status 0 nothing is due at its end; with 3 the
+/// calls of the drains are spent, and the last line names what is due first. The same is promised of the history whose
+/// numbers `gen` prints (`Generates`). What `replay` writes is the text of this history alone, and of no other that a text
+/// can give (`alone`).
 ///
-/// Of an audit, with status 0 or 7 (`Audits`): the input is the text of one history. With 0 it is a run, and so all of the
-/// above but the calls of a script holds of it at every point; with 7 the entry named is the first that breaks it.
+/// Of an audit, with status 0 or 7 (`Audits`): the input is the text of one history, and of no other. With 0 it is a run: the
+/// replies are the world's, controllers asked what they had been told allowed, and it is as safe as above at every point.
+/// Of sizes, of diligence and of a script nothing is said there. With 7 the entry named is the first that breaks it.
 ///
 /// Statuses: 0 done; 1 the usage line; 2 the input was refused, in one line; 3 unsettled; 4 a read failed, nothing is
 /// written; 5 a write failed, a front of what was due is written; 6 memory was wanting, nothing is written; 7 the audited

@@ -1,7 +1,8 @@
 //! Computed examples of delayed binding: what is chosen for a pod, and what is written to prepare a node; cases that hold, and
 //! cases that must not.
 //!
-//! Each is a function with nothing to do, whose contract has the examples.
+//! Promises: the cases of each function here, from `first_step_examples` on: it has nothing to do, and its contract has them.
+//! Not said: anything of other cases.
 #![tactic(auto)]
 
 ghost use Rattle.delayed_examples.specs.Choosing.{FirstStepExamples, NodeExamples, PrepareExamples, RoundExamples, WaitExamples};

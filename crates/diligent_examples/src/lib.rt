@@ -1,6 +1,7 @@
 //! Computed examples of diligent lives and of played ones.
 //!
-//! Each is a function with nothing to do, whose contract has the examples.
+//! Promises: the cases of each function here, from `watch_examples` on: it has nothing to do, and its contract has them.
+//! Not said: anything of other cases.
 #![tactic(auto)]
 
 ghost use Rattle.diligent_examples.specs.Agents.{AgentDueExamples, AgentLifeExamples, AgentPlayedExamples};

@@ -1,8 +1,11 @@
 //! A claim never gets less than it asked for.
 //!
-//! Where each write that gives a volume the reference of a claim was decided on a volume that fits, or on one of the two
-//! cases of `specs/Fitting` in which Kubernetes does not ask for the size, each completed claim names a volume of at least
-//! its bytes and of its volume mode, but for those that were bound by hand on both sides (`runs_get_enough`).
+//! Promises: where each write that gives a volume the reference of a claim was decided on a volume that fits, or on one of the
+//! two cases of `specs/Fitting` in which Kubernetes does not ask for the size, each completed claim names a volume of at least
+//! its bytes and of its volume mode, but for those that were bound by hand on both sides (`runs_get_enough`); so does each
+//! volume fit the claim of its reference (`runs_refer_fitting`). Not said: that references are so given, which
+//! `fitting_calls` says of actors; anything of access modes, classes and selectors, of claims that were imported as Lost,
+//! and of those to which an imported volume refers that does not fit.
 #![tactic(auto)]
 
 ghost use Rattle.fitting_law.specs.Enough.{RunsGetEnough, RunsReferFitting};

@@ -1,6 +1,7 @@
 //! Computed examples of the definitions of generated scripts: cases that hold, and cases that must not.
 //!
-//! Each is a function with nothing to do, whose contract has the examples.
+//! Promises: the cases of each function here, `draw_examples` and `line_examples`: it has nothing to do, and its contract has them.
+//! Not said: anything of other cases.
 #![tactic(auto)]
 
 ghost use Rattle.gen_examples.specs.Draws.{DrawExamples};

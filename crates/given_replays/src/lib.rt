@@ -1,8 +1,9 @@
 //! A history that a replay brings about has only values that a text can give, so its printed text has no other.
 //!
-//! Each is a function with nothing to do, whose contract is the law. The law of runs (`given_law::runs_give`) does the
-//! work; here stands what a script's lines give it: the setup, the seats, and the users' requests. Not said: that a printed
-//! line is short enough or nests little enough to be read.
+//! Promises: `replays_give` and `replay_texts_have_one`, each a function with nothing to do, whose contract is the law. The law
+//! of runs (`given_law::runs_give`) does the work; here stands what a script's lines give it: the setup
+//! (`script_setups_give`), the seats, and the users' requests. Not said: that a printed line is short enough or nests little
+//! enough to be read.
 #![tactic(auto)]
 
 ghost use Rattle.given_replays.specs.Laws.{ReplayTextsHaveOne, ReplaysGive, ScriptSetupsGive};

@@ -1,6 +1,7 @@
 //! Computed examples of the definitions of histories: which lines are setups and entries, and what texts are.
 //!
-//! Each is a function with nothing to do, whose contract has the examples.
+//! Promises: the cases of each function here, from `setup_examples` on: it has nothing to do, and its contract has them.
+//! Not said: anything of other cases.
 #![tactic(auto)]
 
 ghost use Rattle.history_examples.specs.Lines.{EntryExamples, SetupExamples};

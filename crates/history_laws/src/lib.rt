@@ -1,7 +1,9 @@
 //! Laws of the texts of histories: what is printed is read again, and a text has at most one history.
 //!
-//! Each is a function with nothing to do, whose contract is the law. Not said: that a printed line is short
-//! enough to be read, and that a history which came about has only values that a text can give.
+//! Promises: `printed_is_read`, within the limits of what is read, and `one_history`; what is read is what the text has
+//! (`read_is_printed`), and a text can give it (`read_gives`). Each is a function with nothing to do, whose contract is the
+//! law. Not said: that a printed line is short enough to be read, and that a history which came about has only values
+//! that a text can give, which `given_law` says of runs.
 #![tactic(auto)]
 
 ghost use Rattle.history_laws.specs.Laws.{OneHistory, PrintedIsRead, ReadGives, ReadIsOnly, ReadIsPrinted, TextIsRead};

@@ -1,8 +1,8 @@
 //! The text of a history and of a run's final state.
 //!
-//! Promises: setup, entries, final objects and summary are written exactly as their canonical lines. Not
-//! said: that the entries are a history, and that an object which many entries tell is printed once and
-//! copied, which is for speed alone.
+//! Promises: `lines::print_history` and `print_objects_and_summary` write setup, entries, final objects and
+//! summary exactly as their canonical lines. Not said: that the entries are a history, and that an object
+//! which many entries tell is printed once and copied, which is for speed alone.
 #![tactic(auto)]
 
 pub mod asks;

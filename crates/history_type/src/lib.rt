@@ -1,6 +1,7 @@
 //! A history as it is handed over: what its world began with, and the entries of its calls.
 //!
-//! Not said: that it is the history of any world. `audit_check` judges that.
+//! Promises: nothing beside the type; `History` has a setup and entries, the oldest first. Not said: that it is the history
+//! of any world. `audit_check` judges that.
 #![tactic(auto)]
 
 use call_types::entry::Entry;

@@ -3,7 +3,7 @@
 //!
 //! Promises: `Evidence::judge` answers as `licence_rules::licensed` does for the entries that were noted,
 //! whatever they are, and takes no memory; `note` puts one entry more behind them. Not said: how long a
-//! judgement takes (see `evidence`), and that the entries are those of one seat.
+//! judgement takes, and that the entries are those of one seat.
 #![tactic(auto)]
 
 mod agents;

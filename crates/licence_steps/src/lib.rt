@@ -1,7 +1,8 @@
 //! What each row of the licence, and the guard of users, lets a write do to an object.
 //!
-//! One lemma for each row says what the write makes of the object, in the words of the invariant. So a run keeps the
-//! invariant (`runs_are_good`).
+//! One lemma for each row says what the write makes of the object, in the words of the invariant. Promises: so a run keeps
+//! the invariant (`runs_are_good`). Not said: that its first world meets the invariant, which is
+//! `safety_law::imports_start_well`.
 #![tactic(auto)]
 
 ghost use Rattle.licence_steps.specs.Runs.{RunsAreGood};

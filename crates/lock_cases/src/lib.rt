@@ -1,4 +1,7 @@
-//! Cases of the lock: a counter behind it, on one thread and on two. It has tests alone.
+//! Cases of the lock: a counter behind it, on one thread and on two.
+//!
+//! It has tests alone, so no call and no promise. Not said: anything of other values and other interleavings; what holds of
+//! the lock is said by `seat_lock`.
 #![tactic(auto)]
 
 #[cfg(test)]

@@ -1,6 +1,7 @@
 //! Computed examples of the definitions of the model: what is allowed, and what each single condition refuses.
 //!
-//! Each is a function with nothing to do, whose contract has the examples.
+//! Promises: the cases of each function here, from `claim_ref_examples` on: it has nothing to do, and its contract has them.
+//! Not said: anything of other cases.
 #![tactic(auto)]
 
 ghost use Rattle.model_examples.specs.AgentRows.{FinishPodExamples, MountsExamples, UnmountExamples};

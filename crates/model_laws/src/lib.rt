@@ -1,6 +1,9 @@
 //! Laws over the definitions of the store, of worlds and of histories, and computed examples of them.
 //!
-//! Each is a function with nothing to do, whose contract is the law.
+//! Promises: among others, refusals change nothing (`refusals_change_nothing`), no UID is given twice
+//! (`uids_are_given_once`), reads tell what stands (`gets_tell_what_stands`, `lists_tell_what_stands`), and what a seat was
+//! told stood (`told_is_true`). Each is a function with nothing to do, whose contract is the law. Not said: that code meets
+//! the definitions, and that a run is safe, which is `safety_law`'s to say.
 #![tactic(auto)]
 
 ghost use Rattle.model_laws.specs.Calls.{DoneStands, DoneWritesOrDeletesAgain, LeftIsGone, OnlyTheBackEndCounts, WritesLeaveOthers};

@@ -1,8 +1,9 @@
 //! Mounts and pods: no mounted claim leaves.
 //!
-//! A mount is that of a scheduled pod which stands on the node, for claims that it names (`mounts_are_pods`). A claim
+//! Promises: a mount is that of a scheduled pod which stands on the node, for claims that it names (`mounts_are_pods`). A claim
 //! without its guard is not mounted, and no holder of a node has the evidence to mount it; so no mounted claim leaves
-//! (`mounted_claims_stay`).
+//! (`mounted_claims_stay`). Not said: that at first nothing is mounted and each claim guarded, which is
+//! `safety_law::imports_start_well`; and that a mount ever ends.
 #![tactic(auto)]
 
 ghost use Rattle.mount_law.specs.Mounts.{MountsArePods, MountedClaimsStay};

@@ -1,6 +1,9 @@
 //! Laws of the texts of objects: what is printed is read again, and what was read can be printed.
 //!
-//! Each is a function with nothing to do, whose contract is the law.
+//! Promises: `line_is_read` and `text_is_read_again`, where the line is no longer than a manifest may be; two objects have
+//! two lines (`lines_are_apart`); a value is refused with the first fault in the order of the table
+//! (`reading_follows_the_table`). Each is a function with nothing to do, whose contract is the law. Not said: that a line is
+//! short enough to be read, and that an object is valid for the store.
 #![tactic(auto)]
 
 ghost use Rattle.object_laws.specs.Again.{ListIsReadAgain, TextIsReadAgain};

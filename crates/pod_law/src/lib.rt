@@ -1,8 +1,9 @@
 //! What a seat knows of pods by what it was told.
 //!
-//! A deletion stays (`deletions_stay`); so a pod that the newest telling of its key shows staying was never told deleting
-//! (`staying_was_never_deleting`). Both are of every history, whatever was asked in it. An agent that asks what it may is told
-//! of pods by lists of all of them and by watches alone (`agents_are_told_by_reads`).
+//! Promises: a deletion stays (`deletions_stay`); so a pod that the newest telling of its key shows staying was never told
+//! deleting (`staying_was_never_deleting`), where lists of all pods and watches alone told of pods. Both are of every history,
+//! whatever was asked in it. An agent that asks what it may is so told (`agents_are_told_by_reads`). Not said: that a seat
+//! is told of each deletion, or that a told pod still stands.
 #![tactic(auto)]
 
 ghost use Rattle.pod_law.specs.Deletion.{DeletionsStay, StayingWasNeverDeleting};

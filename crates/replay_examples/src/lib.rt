@@ -1,6 +1,7 @@
 //! Computed examples of what the history of a replayed script has.
 //!
-//! Each is a function with nothing to do, whose contract has the examples.
+//! Promises: the cases of each function here, from `seat_examples` on: it has nothing to do, and its contract has them.
+//! Not said: anything of other cases.
 #![tactic(auto)]
 
 ghost use Rattle.replay_examples.specs.Calls.{CallExamples, EndExamples, SeatExamples};

@@ -1,7 +1,8 @@
 //! Computed examples of the scheduler's machine: what it writes, what it makes of answers, what begins on a pod, what a seat must
 //! have been told, and which nodes count as refused.
 //!
-//! Each is a function with nothing to do, whose contract has the examples.
+//! Promises: the cases of each function here, from `call_examples` on: it has nothing to do, and its contract has them.
+//! Not said: anything of other cases.
 #![tactic(auto)]
 
 ghost use Rattle.schedule_examples.specs.Beginnings.{BindExamples, SelectExamples};

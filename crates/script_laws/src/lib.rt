@@ -1,7 +1,8 @@
 //! Laws of the texts of scripts: what is printed is read again.
 //!
-//! Each is a function with nothing to do, whose contract is the law. Not said: that a printed script is short
-//! enough to be read, which `specs/Limits` asks.
+//! Promises: `script_is_read` and `script_is_read_again`, within the limits of what is read; what a text gives is a script
+//! that a text can give (`script_gives`). Each is a function with nothing to do, whose contract is the law. Not said: that a
+//! printed script is short enough to be read, which `specs/Limits` asks.
 #![tactic(auto)]
 
 ghost use Rattle.script_laws.specs.Laws.{LineMeansItself, ScriptGives, ScriptIsRead, ScriptIsReadAgain};

@@ -1,7 +1,9 @@
 //! One world: a store, its watch log and the devices, moved by one whole call at a time, and the history of the calls.
 //!
-//! `world::World` answers each request as the definitions do, and keeps each call as an entry; `kept::KeptWorld` is a world
-//! whose history is a run, so that it is safe; `laws` hands the safety law on; `drained::Drained` is how a drain of it ended.
+//! Promises: `world::World::call` answers each request as the definitions do, and keeps each call as an entry;
+//! `kept::KeptWorld` takes licensed calls alone, so that its history is a run and safe (`KeptWorld::world`); `laws` hands the
+//! safety law on; `drained::Drained` is how a drain of it ended. Not said: that memory is there for a call, and that the
+//! calls on a `World` are licensed.
 #![tactic(auto)]
 
 pub mod drained;

@@ -1,10 +1,10 @@
 //! How one call moves the world: the ground of the safety law.
 //!
-//! The verbs are walked here and nowhere above: each call comes to what was asked, past the tests of its verb
+//! Promises: the verbs are walked here and nowhere above: each call comes to what was asked, past the tests of its verb
 //! (`calls_come_to_what_was_asked`). So the store moves by one write or not at all (`calls_move_the_store`), a written
 //! object is a first version or the next one of what stands (`writes_follow`), epochs and mounts move by the calls of
 //! agents alone (`calls_move_the_devices`), and what an answer tells that is no watch's stands at that moment
-//! (`answers_tell_the_moment`).
+//! (`answers_tell_the_moment`). Not said: that a call was licensed.
 #![tactic(auto)]
 
 ghost use Rattle.world_moves.specs.Writes.{CallsComeToWhatWasAsked};
