@@ -1,4 +1,5 @@
 -- What a mount asks of each claim that was read, as the code tests it.
+-- A choice of this project, as the rows are.
 use Rattle.std.specs.Prelude.{ℕ, ◌≡◌, ◌<◌, ◌⊎◌, ◌++◌, List, [], ◌∷◌, Some, true, false, get_or, length, reverse, take}
 use Rattle.kube_types.specs.declared.uid.Uid.{Uid}
 use Rattle.kube_types.specs.declared.objects.Claim.{Claim as ClaimData}

@@ -1,4 +1,5 @@
 -- Verdicts on short histories, beside verdicts that they do not get.
+-- A choice of this project, as the verdicts are.
 use Rattle.std.specs.Prelude.{ℕ, [], ◌∷◌, true, None}
 use Rattle.kube_types.specs.declared.names.LicenceRule.TheVariants.{Reading, Kind}
 use Rattle.kube_types.specs.declared.parts.Kind.TheVariants as kinds

@@ -1,4 +1,5 @@
 -- What the devices keep, as the lists of the definitions, and the one change that a call makes.
+-- A choice of this project.
 use Rattle.std.specs.Prelude.{ℕ, ◌+◌, Bool, true, false, List, [], ◌∷◌, ◌++◌, map, length, if◌then◌else◌}
 use Rattle.plain_data.specs.Pairs.{text_cmp}
 use Rattle.plain_data.specs.Rows.{IsRising, IsAt, IsGap}

@@ -1,4 +1,5 @@
 -- A source and a sink in memory, as others see them.
+-- A choice of this project.
 use Rattle.std.specs.Prelude.{ℕ, List, drop, length, min}
 use Rattle.fault_io.specs.Faults.{one_more}
 

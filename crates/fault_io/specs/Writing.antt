@@ -1,4 +1,5 @@
 -- What was written to a sink, where it tells it, and what writes do to that.
+-- A choice of this project.
 use Rattle.std.specs.Prelude.{◌≡◌, ℕ, ◌<◌, List, ◌++◌, length, take, ⊤, Option, Some, None, MatchResult}
 use Rattle.std.specs.declared.result.Result.{Result}
 

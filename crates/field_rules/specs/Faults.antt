@@ -1,4 +1,5 @@
 -- A test that finds a fault, followed by another, and names read byte by byte.
+-- Source: Kubernetes documentation, "Object Names and IDs" (DNS subdomain names); that names are so read is a choice of this project.
 use Rattle.std.specs.Prelude.{ℕ, ◌==◌, Bool, Option, Some, None, if◌then◌else◌}
 use Rattle.std.specs.declared.result.Result.{Result}
 use Rattle.std.specs.declared.result.Result.TheVariants.{Ok, Err}

@@ -1,4 +1,5 @@
 -- The first draws of some seeds, beside numbers that they are not.
+-- A choice of this project, as the definitions are.
 use Rattle.std.specs.Prelude.{◌≡◌, ◌≢◌, ◌/◌, ◌^◌}
 use Rattle.script_gen.specs.Draws.{state_after, draw}
 

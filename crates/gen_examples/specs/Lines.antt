@@ -1,4 +1,5 @@
 -- Lines of generated scripts, beside lines that they are not.
+-- A choice of this project, as the definitions are.
 use Rattle.std.specs.Prelude.{◌≡◌, ◌≢◌, true, false, None, codes}
 use Rattle.kube_types.specs.declared.objects.Object.TheVariants.{Volume, Claim, Pod}
 use Rattle.call_types.specs.declared.request.Request.TheVariants.{Delete}

@@ -1,4 +1,5 @@
 -- What printing and reading histories say of each other.
+-- A choice of this project: the history format.
 use Rattle.std.specs.Prelude.{◌≡◌, ℕ, List, ◌++◌, All, Ok}
 use Rattle.call_types.specs.declared.entry.Entry.{Entry}
 use Rattle.call_types.specs.declared.setup.Setup.{Setup}

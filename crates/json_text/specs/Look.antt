@@ -1,4 +1,5 @@
 -- What a value is that may be absent.
+-- A choice of this project.
 use Rattle.std.specs.Prelude.{ℕ, List, Bool, Option, Some, None, option_and_then}
 use Rattle.serde_json.specs.Data.{Data, null, boolean, number, string, array, object, Items, Members}
 use Rattle.serde_json.specs.Find.{as_number, as_u64, as_bool, as_str, as_array, as_object}

@@ -1,4 +1,5 @@
 -- What the owned values stand for.
+-- A choice of this project.
 use Rattle.std.specs.Prelude.{ℕ, List, Bool, true, false, if◌then◌else◌}
 use Rattle.serde_json.specs.Data.{Data, null, boolean, number, string, array, object, Members, no_members, member, put}
 use Rattle.serde_json.specs.View.{view, members_view}

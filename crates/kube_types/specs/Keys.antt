@@ -1,4 +1,5 @@
 -- Keys of objects, in order.
+-- Source: Kubernetes API, ObjectMeta, and Kubernetes documentation, "Object Names and IDs"; the order is a choice of this project.
 use Rattle.std.specs.Prelude.{ℕ, ◌==◌, ◌<◌, ◌≤◌, ◌&&◌, List, Option, Bool, bytes_eq, filter}
 use Rattle.std.specs.List.Sorted.{IsPartitionPoint}
 use Rattle.std.specs.declared.cmp.Ordering.{Ordering}

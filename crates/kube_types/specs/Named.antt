@@ -1,4 +1,5 @@
 -- The value that a printed word names: the words of `Words`, read back. Each word stands there alone.
+-- A choice of this project; the sources of the words stand in `Words`.
 use Rattle.std.specs.Prelude.{◌≡◌, ℕ, List, [], ◌∷◌, Bool, true, false, Option, Some, None, bytes_eq, if◌then◌else◌}
 use Rattle.kube_types.specs.declared.parts.Kind.{Kind}
 use Rattle.kube_types.specs.declared.parts.Kind.TheVariants as kinds

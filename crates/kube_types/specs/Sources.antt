@@ -1,4 +1,5 @@
 -- The data of a volume.
+-- Source: Kubernetes API, PersistentVolumeSource; for sources without a driver, what tells the data apart is a choice of this project.
 use Rattle.std.specs.Prelude.{ℕ, List, ◌++◌, codes}
 use Rattle.kube_types.specs.declared.parts.SourceKind.{SourceKind}
 use Rattle.kube_types.specs.declared.parts.SourceKind.TheVariants.{Csi, Nfs, Local, HostPath}

@@ -1,4 +1,5 @@
 -- Unique ids, as UUIDs.
+-- Source: RFC 9562, sections 4 and 5.8, and the crate `uuid` for the forms that are read; the serial in it is a choice of this project.
 use Rattle.std.specs.Prelude.{◌≡◌, ℕ, ◌+◌, ◌^◌, ◌<◌, List, Option, Some, option_map}
 use Rattle.std.specs.Int.{from_be_bytes, to_be_bytes, w128}
 use Rattle.uuid.specs.Text.{hyphenated_text, lower, parsed}

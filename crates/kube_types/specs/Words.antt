@@ -1,4 +1,5 @@
 -- The printed words.
+-- Source: Kubernetes API, for its kinds and values; the words of refusals and rules are a choice of this project.
 use Rattle.std.specs.Prelude.{ℕ, List, [], ◌∷◌, ◌++◌, Bool, true, false, if◌then◌else◌, codes}
 use Rattle.kube_types.specs.declared.parts.Modes.{Modes}
 use Rattle.kube_types.specs.declared.parts.Kind.{Kind}

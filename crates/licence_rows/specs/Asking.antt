@@ -1,4 +1,5 @@
 -- The told objects because of which others are read or made, as the code looks for them.
+-- A choice of this project, as the rows are.
 use Rattle.std.specs.Prelude.{◌≡◌, List, [], Option, Some}
 use Rattle.kube_types.specs.declared.uid.Uid.{Uid}
 use Rattle.kube_types.specs.declared.key.Key.{Key}

@@ -1,4 +1,5 @@
 -- What the scheduler's rows ask, part by part, as the code tests it.
+-- A choice of this project, as the rows are.
 use Rattle.std.specs.Prelude.{ℕ, ◌≡◌, List, [], Some, true, false}
 use Rattle.plain_data.specs.Pairs.{put_pair}
 use Rattle.kube_types.specs.declared.uid.Uid.{Uid}

@@ -1,4 +1,5 @@
 -- What is asked of a pod because of which a node agent reads a claim, part by part, as the code tests it.
+-- A choice of this project, as the rows are.
 use Rattle.std.specs.Prelude.{◌≡◌, List, is_some, true}
 use Rattle.kube_types.specs.declared.key.Key.{Key}
 use Rattle.kube_types.specs.declared.parts.Kind.TheVariants as kinds

@@ -1,4 +1,5 @@
 -- What the licence comes to: a run keeps the invariant.
+-- A choice of this project, as the definitions are; their sources stand in `binder_model`.
 use Rattle.std.specs.Prelude.{◌+◌, ◌<◌, List, [], length}
 use Rattle.call_types.specs.declared.entry.Entry.{Entry}
 use Rattle.call_types.specs.declared.setup.Setup.{Setup}

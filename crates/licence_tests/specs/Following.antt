@@ -1,4 +1,5 @@
 -- Where a seat stands with a kind, as the code has it.
+-- A choice of this project, as the rows are.
 use Rattle.std.specs.Prelude.{ℕ, Option, Some, None}
 use Rattle.binder_model.specs.Reading.{Following, Unlisted, ListedAt}
 

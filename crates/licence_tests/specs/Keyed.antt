@@ -1,4 +1,5 @@
 -- Keys by their parts, and what was told of a key as the code has it.
+-- A choice of this project, as the rows are.
 use Rattle.std.specs.Prelude.{ℕ, List, Option, Some, None}
 use Rattle.std.specs.Option.{option_copied}
 use denote.Ref.{Bor}

@@ -1,4 +1,5 @@
 -- The last entry of which a condition holds. The entries stand oldest first.
+-- A choice of this project, as the rows are.
 use Rattle.std.specs.Prelude.{ℕ, ◌≡◌, ◌<◌, ◌+◌, List, get_or, length, reverse, drop}
 use Rattle.call_types.specs.declared.entry.Entry.{Entry}
 use Rattle.binder_model.specs.Told.{SomeOf}

@@ -1,4 +1,5 @@
 -- Histories of a counter, the newest entry first. The tests put such a counter behind the lock.
+-- A choice of this project.
 use Rattle.std.specs.Prelude.{◌≡◌, ℕ, ◌+◌, ◌%◌, ◌^◌, List, [], ◌∷◌}
 use Rattle.seat_lock.specs.declared.keeps.Entry.{Entry}
 

@@ -1,4 +1,5 @@
 -- Where a setup has no imports, the definitions say what they would say without them.
+-- A choice of this project, as the definitions are; their sources stand in `binder_model`.
 use Rattle.std.specs.Prelude.{ℕ, ◌≡◌, ◌-◌, true, false, List, [], Option}
 use Rattle.kube_types.specs.declared.uid.Uid.{Uid}
 use Rattle.kube_types.specs.declared.objects.Claim.{Claim as ClaimData}

@@ -1,5 +1,6 @@
 -- Worked runs, computed: what the definitions say of small literal worlds. Each shows a run that the rows of this
 -- project's tests have too.
+-- A choice of this project, as the definitions are; their sources stand in `binder_model`.
 use Rattle.std.specs.Prelude.{ℕ, ◌≡◌, ◌*◌, ◌^◌, true, false, List, [], ◌∷◌, ◌++◌, Some, None, codes}
 use Rattle.std.specs.declared.cmp.Ordering.TheVariants.{Less}
 use Rattle.plain_data.specs.Pairs.{Pair}

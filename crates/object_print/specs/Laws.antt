@@ -1,4 +1,5 @@
 -- What holds of the texts of objects.
+-- A choice of this project.
 use Rattle.std.specs.Prelude.{◌≡◌, false}
 use Rattle.serde_json.specs.Written.{has_float}
 use Rattle.json_text.specs.Canonical.{IsCanonical, IsLine}

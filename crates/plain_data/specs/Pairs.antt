@@ -1,4 +1,5 @@
 -- Pairs of a key and a value, both texts.
+-- A choice of this project.
 use Rattle.std.specs.Prelude.{ℕ, List, Option, option_map}
 use Rattle.std.specs.declared.cmp.Ordering.{Ordering}
 use Rattle.std.specs.Ordering.{nat_cmp}

@@ -1,4 +1,5 @@
 -- What printing and reading say of each other.
+-- A choice of this project: the script format.
 use Rattle.std.specs.Prelude.{◌≡◌, ℕ, List, true, All, Ok}
 use Rattle.std.specs.Str.{is_utf8}
 use Rattle.plain_data.specs.Pairs.{Pair}

@@ -1,4 +1,5 @@
 -- Keys by their parts.
+-- A choice of this project.
 use Rattle.kube_types.specs.declared.key.Key.{Key}
 use Rattle.seat_index.specs.declared.parts.Parts.{Parts}
 

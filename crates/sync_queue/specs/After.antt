@@ -1,4 +1,5 @@
 -- What a queue is once the borrow of a key has ended.
+-- A choice of this project.
 use Rattle.std.specs.Prelude.{◌≡◌, ⊤}
 use Rattle.std.specs.Borrow.{Fml, MutBor, follows_so}
 use mathlib.Core.Option.{none}

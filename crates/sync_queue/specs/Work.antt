@@ -1,4 +1,5 @@
 -- The work queue of a controller, as three lists of keys.
+-- Source: client-go, util/workqueue; that a key can be parked is a choice of this project.
 use Rattle.std.specs.Prelude.{◌≡◌, Bool, true, false, List, [], ◌∷◌, ◌++◌, Option, None, Some, if◌then◌else◌, map}
 use Rattle.std.specs.List.{list_any}
 use Rattle.kube_types.specs.declared.key.Key.{Key}

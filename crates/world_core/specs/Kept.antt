@@ -1,4 +1,5 @@
 -- A world as its callers see it, and what it keeps.
+-- A choice of this project.
 use Rattle.std.specs.Prelude.{ℕ, ◌<◌, List, length}
 use Rattle.call_types.specs.declared.entry.Entry.{Entry}
 use Rattle.call_types.specs.declared.setup.Setup.{Setup}

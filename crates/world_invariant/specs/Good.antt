@@ -1,4 +1,5 @@
 -- A history along which the invariant held and the store moved as it may; and what it is that a seat was told the truth.
+-- A choice of this project, as the definitions are; their sources stand in `binder_model`.
 use Rattle.std.specs.Prelude.{◌≡◌, List, [], ◌∷◌}
 use Rattle.kube_types.specs.declared.objects.Object.{Object}
 use Rattle.call_types.specs.declared.entry.Entry.{Entry}

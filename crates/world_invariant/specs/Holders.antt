@@ -1,4 +1,5 @@
 -- Who holds a node: the seat that was told the node's current epoch.
+-- A choice of this project, as the definitions are; their sources stand in `binder_model`.
 use Rattle.std.specs.Prelude.{ℕ, ◌≡◌, List, Some}
 use Rattle.call_types.specs.declared.entry.Entry.{Entry}
 use Rattle.call_types.specs.declared.setup.Setup.{Setup}

@@ -1,4 +1,5 @@
 -- What an answer tells of the moment: each object in it stands in the store before the call or after it.
+-- A choice of this project, as the definitions are; their sources stand in `binder_model`.
 use Rattle.std.specs.Prelude.{◌≡◌, ◌⊎◌, false, Some}
 use Rattle.kube_types.specs.declared.objects.Object.{Object}
 use Rattle.kube_types.specs.Keys.{key_of, row_at}

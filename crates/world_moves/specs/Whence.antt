@@ -1,4 +1,5 @@
 -- Whose place a written object takes: none, as a new object, or that of an older version of it.
+-- A choice of this project, as the definitions are; their sources stand in `binder_model`.
 use Rattle.std.specs.Prelude.{◌≡◌, ◌⊎◌, ◌+◌, true, Some, None}
 use Rattle.kube_types.specs.declared.objects.Object.{Object}
 use Rattle.kube_types.specs.Keys.{meta_of, key_of, row_at}
