@@ -1,7 +1,8 @@
 //! What a page of a seat's entries shows of a write at a told object, and the newest told of each kind.
 //!
-//! Promises: where a function of `at` answers true, or an object, the write is at an object that was told,
-//! of which the condition holds; where one of `newest` answers an object, it is the newest told of its key.
+//! Promises: where a function of `at` answers true (`shows_volume`, `shows_claim`), or an object, the write is at
+//! an object that was told, of which the condition holds; where one of `newest` answers an object, it is the
+//! newest told of its key (`newest_volume`, `newest_claim`).
 //! Not said: that each told object is found.
 #![tactic(auto)]
 

@@ -1,8 +1,8 @@
-//! Computed examples of the machines of the provisioner and reclaimer: what they ask, what they make of answers, what begins, and what a
-//! seat must have been told.
+//! Computed examples of the machines of the provisioner and reclaimer: what they ask, what they make of answers, what
+//! begins, and what a seat must have been told.
 //!
-//! Promises: the cases of each function here, from `provision_call_examples` on: it has nothing to do, and its contract has them.
-//! Not said: anything of other cases.
+//! Promises: the cases of each function here, from `provision_call_examples` on: it has nothing to do, and its contract has
+//! them. Not said: anything of other cases.
 #![tactic(auto)]
 
 ghost use Rattle.reclaim_examples.specs.Beginnings.{ProvisionBeginExamples, ReclaimBeginExamples};

@@ -1,7 +1,8 @@
 //! Lines of scripts: what their members give, and why one is refused.
 //!
-//! Promises: each reader gives what `specs/Members` says of the line's JSON, or the first refusal; a refusal
-//! is printed by its name. Not said: what a line means after others, which is `script_text`'s to say.
+//! Promises: each reader (`edit_at`, `object_at`, `actor_at`) gives what `specs/Members` says of the line's JSON, or the
+//! first refusal; `refusal_line` prints a refusal by its name. Not said: what a line means after others, which is
+//! `script_text`'s to say.
 #![tactic(auto)]
 
 pub mod actors;
