@@ -54,9 +54,9 @@ fn end_with<K: Sink>(sink: &mut K, text: &[u8], status: Status) -> Status
 /// numbers `gen` prints (`Generates`). What `replay` writes is the text of this history alone, and of no other that a text
 /// can give (`alone`).
 ///
-/// Of an audit, with status 0 or 7 (`Audits`): the input is the text of one history, and of no other. With 0 it is a run: the
-/// replies are the world's, controllers asked what they had been told allowed, and it is as safe as above at every point.
-/// Of sizes, of diligence and of a script nothing is said there. With 7 the entry named is the first that breaks it.
+/// Of an audit, with status 0 or 7 (`Audits`): the input is the text of one history, and of no other. With 0 it is a run: each
+/// reply is the world's, each controller asked only what it had been told allowed, and it is safe as above at every point;
+/// of sizes, diligence and a script nothing is said. With 7 the entry named is the first that breaks it.
 ///
 /// Statuses: 0 done; 1 the usage line; 2 the input was refused, in one line; 3 unsettled; 4 a read failed, nothing is
 /// written; 5 a write failed, a front of what was due is written; 6 memory was wanting, nothing is written; 7 the audited
