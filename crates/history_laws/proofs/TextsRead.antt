@@ -78,7 +78,7 @@ text_is_read text s es is shallow fine h =
     ∙ ap (λ r. at_line 1 r (λ x. with_setup x (entries_from 2 (map entry_line es ++ codes "end" ∷ last.0) []))) (line_in setup_of (setup_line s) s own.short (setup_read s is.setup shallow.setup own.utf8))
     ∙ ap (with_setup s) (entries_read 2 es last.0 [] is.entries shallow.entries others)
 
-printed_text : (s : Setup) (es : List Entry) (more : List ℕ) → IsTextOf (history_text s es ++ more) s es
+pub printed_text : (s : Setup) (es : List Entry) (more : List ℕ) → IsTextOf (history_text s es ++ more) s es
 unfolding history_lines
 printed_text s es more =
     let before : List ℕ = with_lines [] (lines_before_end s es) in

@@ -150,7 +150,8 @@ lines_known agents before (line ∷ lines) are = (line_known agents before line 
 
 -- ---- the script
 
-script_readable : (script : Script) → IsScript script → IsReadable script
+-- a script that a text can give is readable
+pub script_readable : (script : Script) → IsScript script → IsReadable script
 script_readable script is =
     let nodes = sym is.nodes in
     let agents = agents_of script.lines in
