@@ -28,7 +28,6 @@ pub fn runs_give()
 {}
 
 /// What is printed of such a run has it, and no other history that a text can give, whatever lines follow.
-#[tactic(auto, using(crate::proofs::Runs::run_texts_have_one))]
 pub fn run_texts_have_one()
     ensures { RunTextsHaveOne }
 {}
