@@ -27,11 +27,7 @@ fn most_input(task: Task) -> Option<usize>
 }
 
 /// The input of the task: all that the source has left, or nothing where the task reads none.
-pub fn read_input<S: Source>(
-    alloc: Global,
-    task: Task,
-    source: &mut S,
-) -> Result<Bytes, ReadError>
+pub fn read_input<S: Source>(alloc: Global, task: Task, source: &mut S) -> Result<Bytes, ReadError>
     ensures whole { IfOk result (λ bytes. IsInput task (S.left source.old) bytes) }
     ensures end { OnOk result (IsReadThrough task (S.left source.new)) }
 
