@@ -32,7 +32,7 @@ fn verdict_line(alloc: Global, verdict: Verdict, count: u64) -> Result<String, O
 }
 
 /// The verdict on the history of an input.
-#[tactic(auto, using(history_laws::proofs::OneHistory::read_is_only))]
+#[tactic(auto, using(history_laws::proofs::ReadGives::read_is_only))]
 pub fn audited(alloc: Global, input: &[u8]) -> Result<Answer, HistoryError>
     ensures ok { IfOk result (IsAnswer Task.Audit input.now) }
     ensures refused { IfNoHistory result (λ bad. history_of input.now ≡ Err bad) }

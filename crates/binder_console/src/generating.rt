@@ -1,6 +1,6 @@
 //! The replay of a generated script.
 
-ghost use Rattle.std.specs.Prelude.{◌≡◌, IfOk};
+ghost use Rattle.std.specs.Prelude.{ℕ, List, ◌≡◌, IfOk};
 ghost use Rattle.script_gen.specs.Generated.{generated};
 ghost use Rattle.script_parts.specs.Limits.{IsReadable};
 ghost use Rattle.binder_console.specs.Outcomes.{IsAnswer};

@@ -1,6 +1,6 @@
 //! The input of a task.
 
-ghost use Rattle.std.specs.Prelude.{◌≡◌, ◌≤◌, OnOk, IfOk};
+ghost use Rattle.std.specs.Prelude.{ℕ, List, ◌≡◌, ◌≤◌, OnOk, IfOk, IsErr, Some, Err};
 ghost use Rattle.fault_io.specs.Faults.{Rose};
 ghost use Rattle.binder_console.specs.Inputs.{IsInput, IsReadThrough, IsTooLong, IsTooMuch, ReadsNothing, most_input};
 
