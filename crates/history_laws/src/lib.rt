@@ -1,7 +1,7 @@
 //! Laws of the texts of histories: what is printed is read again, and a text has at most one history.
 //!
 //! Each is a function with nothing to do, whose contract is the law. Not said: that a printed line is short
-//! enough to be read. That a history which comes about has only values that a text can give, `given_law` says.
+//! enough to be read, and that a history which came about has only values that a text can give.
 #![tactic(auto)]
 
 ghost use Rattle.history_laws.specs.Laws.{OneHistory, PrintedIsRead, ReadGives, ReadIsOnly, ReadIsPrinted, TextIsRead};
