@@ -20,7 +20,6 @@ pub fn replays_give()
 {}
 
 /// What is printed of it has it, and no other history that a text can give, whatever lines follow.
-#[tactic(auto, using(crate::proofs::Replays::replay_texts_have_one))]
 pub fn replay_texts_have_one()
     ensures { ReplayTextsHaveOne }
 {}
