@@ -1,20 +1,15 @@
 //! Histories that are read, printed and audited, to be timed.
 //!
-//! `make` and a number write the history of so many generated scripts, which are done one after the other in one world.
 //! `read`, `print` or `audit` and a number read a history from standard input, and then do that with it so often; a line
 //! says how many entries it has, and how many were read, how many bytes were printed, or how many verdicts were Yes. With
 //! no word each is done once.
 #![tactic(auto)]
 
-mod joined;
-mod making;
-mod plain;
 mod tasks;
 
-use crate::making::made;
 use crate::tasks::{Counted, Task, count};
-use fault_io::ends::{ReadError, read_all, write_all};
-use fault_io::standard::{StdSink, StdSource};
+use fault_io::ends::{ReadError, read_all};
+use fault_io::standard::StdSource;
 use history_read::errors::HistoryError;
 use history_read::refusals::refusal_line;
 use kube_types::copies::OutOfMemory;
@@ -28,22 +23,6 @@ fn number(word: Option<String>) -> u64 {
     match word {
         None => 1,
         Some(word) => word.parse::<u64>().unwrap_or(1),
-    }
-}
-
-fn write(rt: &HostRuntime, text: &Bytes) -> io::Result<()> {
-    let mut sink = StdSink::new(rt.stdout());
-    match write_all(&mut sink, text.as_slice()) {
-        Ok(()) => Ok(()),
-        Err(_) => println!(rt; "not written"),
-    }
-}
-
-fn make(rt: &HostRuntime, parts: u64) -> io::Result<()> {
-    match made(rt.alloc(), parts) {
-        Ok(Some(text)) => write(rt, &text),
-        Ok(None) => println!(rt; "too many lines"),
-        Err(OutOfMemory) => println!(rt; "no memory"),
     }
 }
 
@@ -89,7 +68,6 @@ fn main(rt: HostRuntime) -> io::Result<()> {
     match words.next() {
         None => try_input(&rt, None, 1),
         Some(word) => match word.as_str() {
-            "make" => make(&rt, number(words.next())),
             "read" => try_input(&rt, Some(Task::Read), number(words.next())),
             "print" => try_input(&rt, Some(Task::Print), number(words.next())),
             "audit" => try_input(&rt, Some(Task::Audit), number(words.next())),
