@@ -1,3 +1,4 @@
+pub mod Audited
 pub mod Ends
 pub mod Generated
 pub mod Promised

@@ -1,8 +1,8 @@
 -- What a replay answers, with what is promised of its history.
-use Rattle.std.proofs.Common.{◌≡◌, ℕ, ◌<◌, List, Option, Result, Ok, Err, IfOk, length, reverse, subst, sym}
+use Rattle.std.proofs.Common.{◌≡◌, ◌∙◌, ℕ, ◌<◌, List, Option, Result, Ok, Err, IfOk, length, reverse, refl, ap, subst, sym}
 use Rattle.call_types.specs.declared.entry.Entry.{Entry}
 use Rattle.call_types.specs.declared.setup.Setup.{Setup}
-use Rattle.binder_model.specs.Promises.{most_entries}
+use Rattle.binder_model.specs.Promises.{IsRunOf, most_entries}
 use Rattle.binder_model.specs.World.{world}
 use Rattle.binder_model.specs.Run.{Run}
 use Rattle.binder_model.specs.Safe.{Safe}
@@ -43,13 +43,14 @@ pub record IsPlayed (script : Script) (budget : Option ℕ) (setup : Setup) (pas
   pub calls : IsReplay script budget past ending
   pub diligent : IsDiligentReplay script budget past ending
   pub actors : AreByActors past
-  pub setup : setup ≡ script.setup
+  pub from : setup ≡ script.setup
+  pub of : IsRunOf setup past
   pub run : Run setup past
   pub safe : Safe setup past
 
 promised : (script : Script) (budget : Option ℕ) (past : List Entry) (ending : Drained) → IsPlayed script budget script.setup past ending → IsPromised script budget past ending
 promised script budget past ending p =
-    record { calls = p.calls; diligent = p.diligent; run = p.run; safe = p.safe; enough = actors_give_enough script.setup past p.run p.actors }
+    record { calls = p.calls; diligent = p.diligent; run = p.run; safe = p.safe; enough = actors_give_enough script.setup past p.of p.actors }
 
 has_one : (script : Script) (budget : Option ℕ) (past : List Entry) (ending : Drained) (text : List ℕ)
     → IsScript script → IsPlayed script budget script.setup past ending → length past < most_entries → text ≡ replay_text script.setup past ending → HasOneHistory text script.setup (reverse past)
@@ -59,27 +60,37 @@ has_one script budget past ending text is p short printed =
     subst (λ (t : List ℕ). HasOneHistory t script.setup (reverse past)) (sym printed)
     (replay_texts_have_one script budget past ending finals (record { script_given = is; replay = p.calls; run = p.run; short = short }))
 
+-- from the setup of the script itself
+from_script : (script : Script) (budget : Option ℕ) (setup : Setup) (past : List Entry) (ending : Drained) → IsPlayed script budget setup past ending → IsPlayed script budget script.setup past ending
+from_script script budget setup past ending p = subst (λ (s : Setup). IsPlayed script budget s past ending) p.from p
+
 pub replay_answers : (script : Script) (budget : Option ℕ) (setup : Setup) (past : List Entry) (ending : Drained) (input text : List ℕ)
     → script_of input ≡ Ok script → IsPlayed script budget setup past ending → length past < most_entries → text ≡ replay_text setup past ending
     → IsAnswer (Replay budget) input (answer_ended ending text)
-replay_answers script budget setup past ending input text read p short printed = by setup p.setup p printed
-  where
-    by : (s : Setup) → s ≡ script.setup → IsPlayed script budget s past ending → text ≡ replay_text s past ending → IsAnswer (Replay budget) input (answer_ended ending text)
-    by s refl p printed = by_ending (Replay budget) input text ending (record {
+replay_answers script budget setup past ending input text read played short printed =
+    let p : IsPlayed script budget script.setup past ending = from_script script budget setup past ending played in
+    let same : text ≡ replay_text script.setup past ending = printed ∙ ap (λ (s : Setup). replay_text s past ending) played.from in
+    by_ending (Replay budget) input text ending (record {
       script = script;
       past = past;
       ending = ending;
       read = read;
       promised = promised script budget past ending p;
-      printed = printed;
-      alone = has_one script budget past ending text (read_is_script input script read) p short printed;
+      printed = same;
+      alone = has_one script budget past ending text (read_is_script input script read) p short same;
       ends = refl;
     })
 
 pub gen_answers : (seed : ℕ) (script : Script) (budget : Option ℕ) (setup : Setup) (past : List Entry) (ending : Drained) (input text : List ℕ)
     → script ≡ generated seed → IsPlayed script budget setup past ending → text ≡ summary_text setup past ending
     → IsAnswer (Gen seed budget) input (answer_ended ending text)
-gen_answers seed script budget setup past ending input text is p printed = by script setup is p.setup p printed
-  where
-    by : (sc : Script) (s : Setup) → sc ≡ generated seed → s ≡ sc.setup → IsPlayed sc budget s past ending → text ≡ summary_text s past ending → IsAnswer (Gen seed budget) input (answer_ended ending text)
-    by sc s refl refl p printed = by_ending (Gen seed budget) input text ending (record { past = past; ending = ending; promised = promised (generated seed) budget past ending p; printed = printed; ends = refl })
+gen_answers seed script budget setup past ending input text is played printed =
+    let p : IsPlayed (generated seed) budget (generated seed).setup past ending =
+        subst (λ (s : Script). IsPlayed s budget s.setup past ending) is (from_script script budget setup past ending played) in
+    by_ending (Gen seed budget) input text ending (record {
+      past = past;
+      ending = ending;
+      promised = promised (generated seed) budget past ending p;
+      printed = printed ∙ ap (λ (s : Setup). summary_text s past ending) (played.from ∙ ap (λ (s : Script). s.setup) is);
+      ends = refl;
+    })

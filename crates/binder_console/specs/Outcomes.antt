@@ -6,6 +6,8 @@ use Rattle.fault_io.specs.Writing.{Appends, WritesFront}
 use Rattle.object_text.specs.Listing.{list_of}
 use Rattle.script_text.specs.Grammar.{script_of}
 use Rattle.history_read.specs.Grammar.{history_of}
+use Rattle.audit_check.specs.declared.verdict.Verdict.{Verdict}
+use Rattle.audit_check.specs.declared.verdict.Verdict.TheVariants.{Yes, No}
 use Rattle.world_core.specs.declared.drained.Drained.{Drained}
 use Rattle.world_core.specs.declared.drained.Drained.TheVariants.{Settled, Spent}
 use Rattle.binder_console.specs.declared.status.Status.{Status}
@@ -132,6 +134,11 @@ IsAnswer task input (answers.Output text) = Answers task Done input text
 IsAnswer task input (answers.Unsettled text) = Answers task Unsettled input text
 IsAnswer task input (answers.No text) = Answers task AuditNo input text
 IsAnswer task input (answers.Refusal text) = Refuses task input text
+
+-- the text of an audit, told apart by its verdict
+abbrev pub answer_judged : Verdict → List ℕ → Answer
+answer_judged Yes text = answers.Output text
+answer_judged (No number rule) text = answers.No text
 
 -- the text of a replay, told apart by how its last drain ended
 abbrev pub answer_ended : Drained → List ℕ → Answer

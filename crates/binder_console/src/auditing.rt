@@ -3,7 +3,7 @@
 ghost use Rattle.std.specs.Prelude.{◌≡◌, Err, IfOk, string_bytes};
 ghost use Rattle.history_read.specs.Grammar.{history_of};
 ghost use Rattle.binder_console.specs.Audits.{IfNoHistory, history_refusal_text, verdict_line};
-ghost use Rattle.binder_console.specs.Outcomes.{IsAnswer};
+ghost use Rattle.binder_console.specs.Outcomes.{IsAnswer, answer_judged};
 
 use crate::answers::Answer;
 use crate::commands::Task;
@@ -31,8 +31,17 @@ fn verdict_line(alloc: Global, verdict: Verdict, count: u64) -> Result<String, O
     }
 }
 
+/// A text to be written, told apart by the verdict.
+fn answer_judged(verdict: Verdict, text: Bytes) -> Answer
+    ensures { result ≡ answer_judged verdict text }
+{
+    match verdict {
+        Verdict::Yes => Answer::Output(text),
+        Verdict::No { entry: _, rule: _ } => Answer::No(text),
+    }
+}
+
 /// The verdict on the history of an input.
-#[tactic(auto, using(history_laws::proofs::OneHistory::read_is_only))]
 pub fn audited(alloc: Global, input: &[u8]) -> Result<Answer, HistoryError>
     ensures ok { IfOk result (IsAnswer Task.Audit input.now) }
     ensures refused { IfNoHistory result (λ bad. history_of input.now ≡ Err bad) }
@@ -41,10 +50,7 @@ pub fn audited(alloc: Global, input: &[u8]) -> Result<Answer, HistoryError>
     let verdict = audit(alloc, &history)?;
     let line = verdict_line(alloc, verdict, history.entries.as_slice().len() as u64)?;
     let text = print_line(alloc, line.as_str())?;
-    match verdict {
-        Verdict::Yes => Ok(Answer::Output(text)),
-        Verdict::No { entry: _, rule: _ } => Ok(Answer::No(text)),
-    }
+    Ok(answer_judged(verdict, text))
 }
 
 /// The line of a refusal.

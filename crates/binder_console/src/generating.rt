@@ -1,6 +1,6 @@
 //! The replay of a generated script.
 
-ghost use Rattle.std.specs.Prelude.{◌≡◌, IfOk};
+ghost use Rattle.std.specs.Prelude.{ℕ, List, ◌≡◌, IfOk};
 ghost use Rattle.script_gen.specs.Generated.{generated};
 ghost use Rattle.script_parts.specs.Limits.{IsReadable};
 ghost use Rattle.binder_console.specs.Outcomes.{IsAnswer};
@@ -26,7 +26,6 @@ fn generate_readable(alloc: Global, seed: u64) -> Result<Script, OutOfMemory>
 }
 
 /// The summary of the replay of the script of a seed, told apart by how the last drain ended.
-#[tactic(auto, using(crate::proofs::Promised::gen_answers))]
 pub fn generated(alloc: Global, seed: u64, budget: Option<u64>) -> Result<Answer, OutOfMemory>
     ensures { (input : List ℕ) → IfOk result (IsAnswer (Task.Gen seed budget) input) }
 {

@@ -1,6 +1,6 @@
 //! The input of a task.
 
-ghost use Rattle.std.specs.Prelude.{◌≡◌, ◌≤◌, OnOk, IfOk};
+ghost use Rattle.std.specs.Prelude.{ℕ, List, ◌≡◌, ◌≤◌, OnOk, IfOk, IsErr, Some, Err};
 ghost use Rattle.fault_io.specs.Faults.{Rose};
 ghost use Rattle.binder_console.specs.Inputs.{IsInput, IsReadThrough, IsTooLong, IsTooMuch, ReadsNothing, most_input};
 
@@ -27,11 +27,7 @@ fn most_input(task: Task) -> Option<usize>
 }
 
 /// The input of the task: all that the source has left, or nothing where the task reads none.
-pub fn read_input<S: Source>(
-    alloc: Global,
-    task: Task,
-    source: &mut S,
-) -> Result<Bytes, ReadError>
+pub fn read_input<S: Source>(alloc: Global, task: Task, source: &mut S) -> Result<Bytes, ReadError>
     ensures whole { IfOk result (λ bytes. IsInput task (S.left source.old) bytes) }
     ensures end { OnOk result (IsReadThrough task (S.left source.new)) }
 

@@ -1,43 +1,50 @@
 //! The lines of a node agent.
 
 use crate::binder::read_claim;
-use crate::objects::{claim_key, pod, pod_key, ready_claim, text, uid_of, volume, volume_key};
 use crate::seat::{Answer, Seat};
-use crate::words::{Words, number, word};
+use crate::words::{Words, name_in, number_in, uid_in, word};
 use call_types::reply::{MountRow, Reply};
 use call_types::request::Request;
 use kube_types::items::Items;
 use kube_types::objects::Object;
-use kube_types::parts::Kind;
+use kube_types::parts::{Kind, VolumePhase};
+use kube_types::text::Text;
+use sample_objects::claims::bound_claim;
+use sample_objects::keys::{claim_key, pod_key, volume_key};
+use sample_objects::parts::mark_deleted;
+use sample_objects::pods::pod;
+use sample_objects::volumes::volume_for;
 
 /// `took NODE EPOCH`: a TakeNode was answered.
 fn took(seat: &mut Seat, words: &mut Words<'_>) -> Answer {
-    let node = text(seat.alloc, word(words))?;
-    let epoch = number(word(words));
+    let node = Text::new(seat.alloc, name_in(words))?;
+    let epoch = number_in(words);
     seat.note(Request::TakeNode { node }, Reply::Epoch(epoch), true)
 }
 
 /// `pods VERSION`: a list of all pods told none.
 fn pods(seat: &mut Seat, words: &mut Words<'_>) -> Answer {
     let items = Items::new(seat.alloc);
-    seat.list(Kind::Pod, items, number(word(words)))
+    seat.list(Kind::Pod, items, number_in(words))
 }
 
 /// `pod NAME UID VERSION NODE CLAIM STATE`: a watch told the pod, which stays or `ends`.
 fn told_pod(seat: &mut Seat, words: &mut Words<'_>) -> Answer {
-    let (name, uid) = (word(words), word(words));
-    let (version, node) = (number(word(words)), word(words));
-    let (claim, state) = (word(words), word(words));
-    let object = pod(seat.alloc, name, uid, version, node, claim, state)?;
-    seat.watch_one(Object::Pod(object), version)
+    let (name, uid, version) = (name_in(words), uid_in(words), number_in(words));
+    let (node, claim, state) = (name_in(words), name_in(words), word(words));
+    let mut told = pod(seat.alloc, name, uid, version, node, claim)?;
+    if state == "ends" {
+        mark_deleted(seat.alloc, &mut told.meta)?;
+    }
+    seat.watch_one(Object::Pod(told), version)
 }
 
 /// `mounted NODE EPOCH POD`: the mounts of the node were told, of this pod alone, or none.
 fn mounted(seat: &mut Seat, words: &mut Words<'_>) -> Answer {
-    let node = text(seat.alloc, word(words))?;
-    let epoch = number(word(words));
+    let node = Text::new(seat.alloc, name_in(words))?;
+    let epoch = number_in(words);
     let mut rows = Items::new(seat.alloc);
-    match uid_of(word(words)) {
+    match uid_in(words) {
         None => {}
         Some(pod) => {
             let claims = Items::new(seat.alloc);
@@ -50,9 +57,9 @@ fn mounted(seat: &mut Seat, words: &mut Words<'_>) -> Answer {
 
 /// `mounting NODE EPOCH POD`: a Mount of the pod was asked, and its answer was lost.
 fn mounting(seat: &mut Seat, words: &mut Words<'_>) -> Answer {
-    let node = text(seat.alloc, word(words))?;
-    let epoch = number(word(words));
-    match uid_of(word(words)) {
+    let node = Text::new(seat.alloc, name_in(words))?;
+    let epoch = number_in(words);
+    match uid_in(words) {
         None => Ok("no pod"),
         Some(pod) => {
             let claims = Items::new(seat.alloc);
@@ -69,9 +76,9 @@ fn mounting(seat: &mut Seat, words: &mut Words<'_>) -> Answer {
 
 /// `finished POD NODE EPOCH`: a FinishPod was asked, and its answer was lost.
 fn finished(seat: &mut Seat, words: &mut Words<'_>) -> Answer {
-    let pod = uid_of(word(words));
-    let node = text(seat.alloc, word(words))?;
-    let epoch = number(word(words));
+    let pod = uid_in(words);
+    let node = Text::new(seat.alloc, name_in(words))?;
+    let epoch = number_in(words);
     match pod {
         None => Ok("no pod"),
         Some(uid) => {
@@ -88,19 +95,22 @@ fn finished(seat: &mut Seat, words: &mut Words<'_>) -> Answer {
 
 /// `ready NAME UID VERSION VOLUME`: a Get of the claim found it bound and protected.
 fn ready(seat: &mut Seat, words: &mut Words<'_>) -> Answer {
-    let (name, uid) = (word(words), word(words));
-    let (version, named) = (number(word(words)), word(words));
-    let found = Object::Claim(ready_claim(seat.alloc, name, uid, version, named)?);
+    let (name, uid, version) = (name_in(words), uid_in(words), number_in(words));
     let key = claim_key(seat.alloc, name)?;
-    seat.note(Request::Get { key }, Reply::Found(found), true)
+    let found = bound_claim(seat.alloc, name, uid, version, "", name_in(words))?;
+    seat.note(
+        Request::Get { key },
+        Reply::Found(Object::Claim(found)),
+        true,
+    )
 }
 
 /// `carrier NAME UID VERSION CLAIM CLAIM-UID`: a Get of the volume found it, bound to the claim.
 fn carrier(seat: &mut Seat, words: &mut Words<'_>) -> Answer {
-    let (name, uid, version) = (word(words), word(words), number(word(words)));
-    let (claim, claim_uid) = (word(words), word(words));
-    let found = volume(seat.alloc, name, uid, version, "Bound", claim, claim_uid)?;
+    let (name, uid, version) = (name_in(words), uid_in(words), number_in(words));
+    let (phase, claim, claim_uid) = (VolumePhase::Bound, name_in(words), uid_in(words));
     let key = volume_key(seat.alloc, name)?;
+    let found = volume_for(seat.alloc, name, uid, version, phase, claim, claim_uid)?;
     seat.note(
         Request::Get { key },
         Reply::Found(Object::Volume(found)),
@@ -110,9 +120,9 @@ fn carrier(seat: &mut Seat, words: &mut Words<'_>) -> Answer {
 
 /// `finish POD NODE EPOCH`: the pod is finished. `unmount POD NODE EPOCH`: it is unmounted.
 fn ends(seat: &Seat, verb: &str, words: &mut Words<'_>) -> Answer {
-    let pod = uid_of(word(words));
-    let node = text(seat.alloc, word(words))?;
-    let epoch = number(word(words));
+    let pod = uid_in(words);
+    let node = Text::new(seat.alloc, name_in(words))?;
+    let epoch = number_in(words);
     match pod {
         None => Ok("no pod"),
         Some(pod) => match verb {
@@ -132,11 +142,11 @@ fn ends(seat: &Seat, verb: &str, words: &mut Words<'_>) -> Answer {
 
 /// `mount POD NODE EPOCH CLAIM-UID`: the pod's one claim is mounted.
 fn mount(seat: &Seat, words: &mut Words<'_>) -> Answer {
-    let pod = uid_of(word(words));
-    let node = text(seat.alloc, word(words))?;
-    let epoch = number(word(words));
+    let pod = uid_in(words);
+    let node = Text::new(seat.alloc, name_in(words))?;
+    let epoch = number_in(words);
     let mut claims = Items::new(seat.alloc);
-    match uid_of(word(words)) {
+    match uid_in(words) {
         None => {}
         Some(claim) => claims.push(claim)?,
     }
@@ -153,7 +163,7 @@ fn mount(seat: &Seat, words: &mut Words<'_>) -> Answer {
 
 /// `claim NAME` and `volume NAME` are read.
 fn gets(seat: &Seat, verb: &str, words: &mut Words<'_>) -> Answer {
-    let name = word(words);
+    let name = name_in(words);
     let key = match verb {
         "volume" => volume_key(seat.alloc, name)?,
         _ => claim_key(seat.alloc, name)?,

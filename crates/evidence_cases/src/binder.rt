@@ -1,47 +1,46 @@
 //! The lines of a binder.
 
-use crate::objects::{claim, claim_key, phase, volume, volume_key};
 use crate::seat::{Answer, Seat};
-use crate::words::{Words, number, word};
+use crate::words::{Words, name_in, number_in, phase_in, uid_in};
 use call_types::reply::{Events, Refusal, Reply};
 use call_types::request::{NewStatus, Request, SeatKind};
 use kube_types::items::Items;
 use kube_types::objects::Object;
 use kube_types::parts::Kind;
+use sample_objects::claims::claim;
+use sample_objects::keys::{claim_key, volume_key};
+use sample_objects::volumes::volume_for;
 
 /// `volume NAME UID VERSION PHASE CLAIM CLAIM-UID`: a list of all volumes told this one.
 pub fn told_volume(seat: &mut Seat, words: &mut Words<'_>) -> Answer {
-    let (name, uid) = (word(words), word(words));
-    let (version, phase) = (number(word(words)), word(words));
-    let (claim, claim_uid) = (word(words), word(words));
-    let object = volume(seat.alloc, name, uid, version, phase, claim, claim_uid)?;
+    let (name, uid, version) = (name_in(words), uid_in(words), number_in(words));
+    let (phase, claim, claim_uid) = (phase_in(words), name_in(words), uid_in(words));
+    let object = volume_for(seat.alloc, name, uid, version, phase, claim, claim_uid)?;
     seat.list_one(Object::Volume(object), version)
 }
 
 /// `claim NAME UID VERSION VOLUME`: a list of all claims told this one, completed where it names a volume.
 pub fn told_claim(seat: &mut Seat, words: &mut Words<'_>) -> Answer {
-    let (name, uid) = (word(words), word(words));
-    let (version, named) = (number(word(words)), word(words));
-    let object = claim(seat.alloc, name, uid, version, named)?;
+    let (name, uid, version) = (name_in(words), uid_in(words), number_in(words));
+    let object = claim(seat.alloc, name, uid, version, "", name_in(words))?;
     seat.list_one(Object::Claim(object), version)
 }
 
 /// `read NAME UID VERSION VOLUME`: a Get of the claim found this one, or where the UID is absent none.
 pub fn read_claim(seat: &mut Seat, words: &mut Words<'_>, told: bool) -> Answer {
-    let (name, uid) = (word(words), word(words));
-    let (version, named) = (number(word(words)), word(words));
+    let (name, uid, version) = (name_in(words), uid_in(words), number_in(words));
     let key = claim_key(seat.alloc, name)?;
     let request = Request::Get { key };
-    if uid == "-" {
+    if uid.is_none() {
         return seat.note(request, Reply::Refused(Refusal::NotFound), told);
     }
-    let found = Object::Claim(claim(seat.alloc, name, uid, version, named)?);
-    seat.note(request, Reply::Found(found), told)
+    let found = claim(seat.alloc, name, uid, version, "", name_in(words))?;
+    seat.note(request, Reply::Found(Object::Claim(found)), told)
 }
 
 /// `gone FROM`: a watch of the volumes was answered that the version is too old.
 fn gone(seat: &mut Seat, words: &mut Words<'_>) -> Answer {
-    let from = number(word(words));
+    let from = number_in(words);
     let request = Request::Watch {
         kind: Kind::PersistentVolume,
         from,
@@ -52,7 +51,7 @@ fn gone(seat: &mut Seat, words: &mut Words<'_>) -> Answer {
 
 /// `watched FROM UPTO`: a watch of the volumes told nothing up to a version.
 fn watched(seat: &mut Seat, words: &mut Words<'_>) -> Answer {
-    let (from, upto) = (number(word(words)), number(word(words)));
+    let (from, upto) = (number_in(words), number_in(words));
     let request = Request::Watch {
         kind: Kind::PersistentVolume,
         from,
@@ -63,12 +62,12 @@ fn watched(seat: &mut Seat, words: &mut Words<'_>) -> Answer {
 
 /// `write NAME PHASE VERSION`: the phase of a volume is written at a version.
 pub fn write_phase(seat: &Seat, words: &mut Words<'_>) -> Answer {
-    let name = word(words);
-    let phase = phase(word(words));
+    let name = name_in(words);
+    let phase = phase_in(words);
     let request = Request::UpdateStatus {
         key: volume_key(seat.alloc, name)?,
         status: NewStatus::Volume(phase),
-        version: Some(number(word(words))),
+        version: Some(number_in(words)),
     };
     seat.judge(&request)
 }
@@ -84,11 +83,11 @@ fn asks(seat: &Seat, verb: &str, words: &mut Words<'_>) -> Answer {
         "list" => seat.judge(&list),
         "other" => seat.judge_as(SeatKind::Ops, &list),
         "watch" => {
-            let from = number(word(words));
+            let from = number_in(words);
             seat.judge(&Request::Watch { kind, from })
         }
         _ => {
-            let key = claim_key(seat.alloc, word(words))?;
+            let key = claim_key(seat.alloc, name_in(words))?;
             seat.judge(&Request::Get { key })
         }
     }

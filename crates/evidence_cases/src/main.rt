@@ -8,7 +8,6 @@
 
 mod agents;
 mod binder;
-mod objects;
 mod ops;
 mod scheduler;
 mod seat;

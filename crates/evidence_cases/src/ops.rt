@@ -1,73 +1,86 @@
 //! The lines of the provisioner and reclaimer.
 
-use crate::objects::{
-    claim_wanting, class, data, data_name, made_volume, node, node_labels, ops_volume, text,
-    uid_of, volume_key,
-};
 use crate::seat::{Answer, Seat};
-use crate::words::{Words, number, word};
+use crate::words::{Words, name_in, number_in, phase_in, uid_in, word};
 use call_types::reply::{Refusal, Reply};
 use call_types::request::{NewStatus, Request};
 use kube_types::items::Items;
-use kube_types::objects::Object;
-use kube_types::parts::{Kind, VolumePhase};
+use kube_types::objects::{Object, Volume};
+use kube_types::pairs::Pairs;
+use kube_types::parts::{Kind, Policy, VolumePhase};
+use kube_types::text::Text;
+use kube_types::uid::Uid;
+use plain_data::copies::OutOfMemory;
+use sample_objects::claims::wanting_claim;
+use sample_objects::keys::{data_name, uid_of, volume_key};
+use sample_objects::parts::{BYTES, PROVISIONER, data, data_source, zone_labels};
+use sample_objects::pods::{class, node};
+use sample_objects::volumes::{made_volume, volume_for};
+use std::alloc::Global;
 
 /// `class NAME PROVISIONER DELAYED VERSION`: a list of all classes told this one.
 pub fn told_class(seat: &mut Seat, words: &mut Words<'_>) -> Answer {
-    let (name, provisioner) = (word(words), word(words));
-    let (delayed, version) = (word(words) == "yes", number(word(words)));
-    let object = class(seat.alloc, name, provisioner, delayed, version)?;
+    let (name, provisioner) = (name_in(words), name_in(words));
+    let (delayed, version) = (word(words) == "yes", number_in(words));
+    let object = class(seat.alloc, name, None, version, provisioner, delayed)?;
     seat.list_one(Object::Class(object), version)
 }
 
 /// `node NAME ZONE VERSION`: a list of all nodes told this one.
 pub fn told_node(seat: &mut Seat, words: &mut Words<'_>) -> Answer {
-    let (name, zone, version) = (word(words), word(words), number(word(words)));
-    let object = node(seat.alloc, name, zone, version)?;
+    let (name, zone, version) = (name_in(words), name_in(words), number_in(words));
+    let object = node(seat.alloc, name, None, version, zone)?;
     seat.list_one(Object::Node(object), version)
 }
 
 /// `nodes VERSION`: a list of all nodes told none.
 fn nodes(seat: &mut Seat, words: &mut Words<'_>) -> Answer {
     let items = Items::new(seat.alloc);
-    seat.list(Kind::Node, items, number(word(words)))
+    seat.list(Kind::Node, items, number_in(words))
 }
 
 /// `wants NAME UID VERSION NODE`: a watch told the claim, of the class `fast`, which wants a volume.
 pub fn wants(seat: &mut Seat, words: &mut Words<'_>) -> Answer {
-    let (name, uid) = (word(words), word(words));
-    let (version, node) = (number(word(words)), word(words));
-    let object = claim_wanting(seat.alloc, name, uid, version, node)?;
+    let (name, uid, version) = (name_in(words), uid_in(words), number_in(words));
+    let object = wanting_claim(seat.alloc, name, uid, version, name_in(words))?;
     seat.watch_one(Object::Claim(object), version)
+}
+
+/// The labels of a node in the zone, or of no node.
+fn labels(alloc: Global, zone: &str) -> Result<Option<Pairs>, OutOfMemory> {
+    if zone.is_empty() {
+        return Ok(None);
+    }
+    Ok(Some(zone_labels(alloc, zone)?))
 }
 
 /// A Provision for the claim of the UID.
 fn provision(
     seat: &Seat,
-    uid: &str,
+    uid: Option<Uid>,
     provisioner: &str,
     zone: &str,
-) -> Result<Request, plain_data::copies::OutOfMemory> {
+) -> Result<Request, OutOfMemory> {
     Ok(Request::Provision {
         name: data_name(seat.alloc, uid)?,
-        provisioner: text(seat.alloc, provisioner)?,
-        bytes: 5_368_709_120,
-        labels: node_labels(seat.alloc, zone)?,
+        provisioner: Text::new(seat.alloc, provisioner)?,
+        bytes: BYTES,
+        labels: labels(seat.alloc, zone)?,
     })
 }
 
 /// `provision UID PROVISIONER ZONE`: data are provisioned for the claim of the UID.
 fn provisions(seat: &Seat, words: &mut Words<'_>) -> Answer {
-    let (uid, provisioner, zone) = (word(words), word(words), word(words));
+    let (uid, provisioner, zone) = (uid_in(words), name_in(words), name_in(words));
     let request = provision(seat, uid, provisioner, zone)?;
     seat.judge(&request)
 }
 
 /// `provisioned UID DATA`: a Provision for the UID gave the data; `exhausted UID`: no pool has the bytes.
 fn provisioned(seat: &mut Seat, words: &mut Words<'_>) -> Answer {
-    let (uid, id) = (word(words), word(words));
-    let request = provision(seat, uid, "csi", "-")?;
-    if id == "-" {
+    let (uid, id) = (uid_in(words), name_in(words));
+    let request = provision(seat, uid, PROVISIONER, "")?;
+    if id.is_empty() {
         return seat.note(
             request,
             Reply::Refused(Refusal::Exhausted { free: 0 }),
@@ -83,27 +96,37 @@ fn provisioned(seat: &mut Seat, words: &mut Words<'_>) -> Answer {
 
 /// `create NAME UID DATA`: the volume is created that is made for the claim over the data.
 fn creates(seat: &Seat, words: &mut Words<'_>) -> Answer {
-    let (name, uid, id) = (word(words), word(words), word(words));
+    let (name, uid, id) = (name_in(words), uid_in(words), name_in(words));
     let object = Object::Volume(made_volume(seat.alloc, name, uid, id)?);
     seat.judge(&Request::Create { object })
 }
 
 /// `clear NAME UID VERSION`: the node that was chosen is dropped from the claim, at the version.
 fn clears(seat: &Seat, words: &mut Words<'_>) -> Answer {
-    let (name, uid, version) = (word(words), word(words), number(word(words)));
-    let object = Object::Claim(claim_wanting(seat.alloc, name, uid, version, "-")?);
+    let (name, uid, version) = (name_in(words), uid_in(words), number_in(words));
+    let object = Object::Claim(wanting_claim(seat.alloc, name, uid, version, "")?);
     seat.judge(&Request::Update {
         object,
         version: Some(version),
     })
 }
 
+/// A volume over the data with policy Delete, for the claim `c` of the UID 7: the words behind the verb.
+fn volume_over(alloc: Global, name: &str, words: &mut Words<'_>) -> Result<Volume, OutOfMemory> {
+    let (uid, version, phase) = (uid_in(words), number_in(words), phase_in(words));
+    let mut volume = volume_for(alloc, name, uid, version, phase, "c", Some(uid_of(7)))?;
+    volume.policy = Policy::Delete;
+    volume.source = data_source(alloc, name_in(words))?;
+    Ok(volume)
+}
+
 /// `told NAME UID VERSION PHASE DATA`: a watch told the volume over the data. `found ..`: a Get found it.
 /// `lost ..`: a Get found it, and its answer was lost.
 fn told_volume(seat: &mut Seat, verb: &str, words: &mut Words<'_>) -> Answer {
-    let (name, uid, version) = (word(words), word(words), number(word(words)));
-    let (phase, id) = (word(words), word(words));
-    let object = Object::Volume(ops_volume(seat.alloc, name, uid, version, phase, id)?);
+    let name = name_in(words);
+    let volume = volume_over(seat.alloc, name, words)?;
+    let version = volume.meta.version;
+    let object = Object::Volume(volume);
     if verb == "told" {
         return seat.watch_one(object, version);
     }
@@ -114,7 +137,7 @@ fn told_volume(seat: &mut Seat, verb: &str, words: &mut Words<'_>) -> Answer {
 
 /// `erased DATA`: an Erase of the data was done; `fault DATA`: it failed.
 fn erased(seat: &mut Seat, verb: &str, words: &mut Words<'_>) -> Answer {
-    let id = data(seat.alloc, word(words))?;
+    let id = data(seat.alloc, name_in(words))?;
     let reply = match verb {
         "erased" => Reply::Erased { removed: true },
         _ => Reply::Refused(Refusal::BackFault { planned: 1 }),
@@ -124,30 +147,30 @@ fn erased(seat: &mut Seat, verb: &str, words: &mut Words<'_>) -> Answer {
 
 /// `erase DATA`: the data are erased.
 fn erases(seat: &Seat, words: &mut Words<'_>) -> Answer {
-    let id = data(seat.alloc, word(words))?;
+    let id = data(seat.alloc, name_in(words))?;
     seat.judge(&Request::Erase { id })
 }
 
 /// `fail NAME VERSION`: phase Failed is written at the version.
 fn fails(seat: &Seat, words: &mut Words<'_>) -> Answer {
-    let key = volume_key(seat.alloc, word(words))?;
+    let key = volume_key(seat.alloc, name_in(words))?;
     seat.judge(&Request::UpdateStatus {
         key,
         status: NewStatus::Volume(VolumePhase::Failed),
-        version: Some(number(word(words))),
+        version: Some(number_in(words)),
     })
 }
 
 /// `delete NAME UID`: the volume is deleted.
 fn deletes(seat: &Seat, words: &mut Words<'_>) -> Answer {
-    let key = volume_key(seat.alloc, word(words))?;
-    let uid = uid_of(word(words));
+    let key = volume_key(seat.alloc, name_in(words))?;
+    let uid = uid_in(words);
     seat.judge(&Request::Delete { key, uid })
 }
 
 /// `get NAME`: the volume is read.
 fn gets(seat: &Seat, words: &mut Words<'_>) -> Answer {
-    let key = volume_key(seat.alloc, word(words))?;
+    let key = volume_key(seat.alloc, name_in(words))?;
     seat.judge(&Request::Get { key })
 }
 

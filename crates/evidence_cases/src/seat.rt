@@ -1,11 +1,11 @@
 //! A seat: its kind, and what it was told.
 
-use crate::objects::rule_word;
 use call_types::entry::Entry;
 use call_types::reply::{Change, Event, Events, Reply};
 use call_types::request::{Request, SeatKind};
 use kube_types::items::Items;
 use kube_types::key::kind_of;
+use kube_types::names::LicenceRule;
 use kube_types::objects::{Object, Version};
 use kube_types::parts::Kind;
 use licence_evidence::Evidence;
@@ -14,6 +14,28 @@ use std::alloc::Global;
 
 /// What is judged, and how it is written.
 pub type Answer = Result<&'static str, OutOfMemory>;
+
+/// The rules that the cases show.
+fn rule_word(rule: LicenceRule) -> &'static str {
+    match rule {
+        LicenceRule::Available => "Available",
+        LicenceRule::PhaseBound => "PhaseBound",
+        LicenceRule::Released => "Released",
+        LicenceRule::Reading => "Reading",
+        LicenceRule::Kind => "Kind",
+        LicenceRule::Mount => "Mount",
+        LicenceRule::FinishPod => "FinishPod",
+        LicenceRule::Provision => "Provision",
+        LicenceRule::CreateVolume => "CreateVolume",
+        LicenceRule::Erase => "Erase",
+        LicenceRule::Failed => "Failed",
+        LicenceRule::DeleteVolume => "DeleteVolume",
+        LicenceRule::SelectedNode => "SelectedNode",
+        LicenceRule::ClaimRef => "ClaimRef",
+        LicenceRule::BindPod => "BindPod",
+        _ => "another rule",
+    }
+}
 
 #[derive(Drop)]
 pub struct Seat {

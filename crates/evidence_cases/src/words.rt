@@ -1,5 +1,9 @@
 //! The words of a line.
 
+use kube_types::parts::VolumePhase;
+use kube_types::uid::Uid;
+use sample_objects::keys::uid_of;
+
 /// The words that were not read yet. Behind the last one each is absent.
 #[derive(Drop)]
 pub struct Words<'a> {
@@ -20,6 +24,38 @@ pub fn word<'a>(words: &mut Words<'a>) -> &'a str {
     }
 }
 
-pub fn number(word: &str) -> u64 {
+fn number(word: &str) -> u64 {
     word.parse::<u64>().unwrap_or(0)
+}
+
+pub fn number_in(words: &mut Words<'_>) -> u64 {
+    number(word(words))
+}
+
+/// The next word, empty where it is absent.
+pub fn name_in<'a>(words: &mut Words<'a>) -> &'a str {
+    let name = word(words);
+    match name {
+        "-" => "",
+        _ => name,
+    }
+}
+
+/// The id of the number that is the next word.
+pub fn uid_in(words: &mut Words<'_>) -> Option<Uid> {
+    let serial = word(words);
+    match serial {
+        "-" => None,
+        _ => Some(uid_of(number(serial))),
+    }
+}
+
+pub fn phase_in(words: &mut Words<'_>) -> VolumePhase {
+    match word(words) {
+        "Available" => VolumePhase::Available,
+        "Bound" => VolumePhase::Bound,
+        "Released" => VolumePhase::Released,
+        "Failed" => VolumePhase::Failed,
+        _ => VolumePhase::Pending,
+    }
 }

@@ -202,9 +202,9 @@ mounts mine node pod uids recent (e ∷ before) all are h =
     let is = All-head IsEntry e before are in
     elim h [
       | inl here ↦ (
-        let r = tells_pod (IsReadyPod mine recent node pod uids) e is here.1 in
-        (uid_told pod true r.0.meta r.1.1.meta r.1.0.on_node.same, ready_uids recent r.0.meta.namespace r.0.claims uids all r.1.0.ready)
-      )
+          let r = tells_pod (IsReadyPod mine recent node pod uids) e is here.1 in
+          (uid_told pod true r.0.meta r.1.1.meta r.1.0.on_node.same, ready_uids recent r.0.meta.namespace r.0.claims uids all r.1.0.ready)
+          )
       | inr more ↦ mounts mine node pod uids (recent ++ e ∷ []) before (All-append IsEntry recent (e ∷ []) all (All-cons IsEntry e [] is (All-nil IsEntry))) (All-tail IsEntry e before are) more
     ]
 

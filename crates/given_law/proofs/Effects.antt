@@ -121,7 +121,7 @@ module _ (setup : Setup) (is : IsSetup setup) (most : ℕ) (few : most < 2 ^ 62)
   asked kind request None k r =
       let version = h.store.version in
       on_store most w (outcome w.store kind request w.moment (stale_epoch w.devices request)) h
-        (outcome_given w.store kind request w.moment (stale_epoch w.devices request) (omega (arith, version, few)) h.store.rows h.moment (stale_is request) r)
+      (outcome_given w.store kind request w.moment (stale_epoch w.devices request) (omega (arith, version, few)) h.store.rows h.moment (stale_is request) r)
 
 pub calls_keep_given : CallsKeepGiven
 unfolding effect

@@ -1,3 +1,3 @@
 mod Setups
 mod Seats
-mod Replays
+pub mod Replays

@@ -128,13 +128,13 @@ moves_fine script option end agents is earlier lines now given (NoMoves none sam
 moves_fine script option end agents is earlier lines now given (MoreMoves line rest next here move more) h =
     let these = subst (AreLinesAfter agents earlier) here given in
     moves_fine script option end agents is (earlier ++ line ∷ []) rest next these.2 more
-      (line_fine script option agents earlier line now next is these.0 move h)
+    (line_fine script option agents earlier line now next is these.0 move h)
 
 replay_fine : (script : Script) (budget : Option ℕ) (past : List Entry) (ending : Drained) → IsScript script → IsReplay script budget past ending → AreFine past
 replay_fine script budget past ending is replay =
     subst AreFine (sym replay.history)
     (drain_fine script budget replay.lines_done replay.end is replay.last
-      (moves_fine script budget replay.lines_done (agents_of script.lines) is [] script.lines (begun budget) is.lines replay.moves nothing_fine))
+    (moves_fine script budget replay.lines_done (agents_of script.lines) is [] script.lines (begun budget) is.lines replay.moves nothing_fine))
 
 -- ---- the history
 

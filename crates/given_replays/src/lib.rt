@@ -9,19 +9,16 @@
 ghost use Rattle.given_replays.specs.Laws.{ReplayTextsHaveOne, ReplaysGive, ScriptSetupsGive};
 
 /// A text can give the setup of a script that a text can give.
-#[tactic(auto, using(crate::proofs::Setups::script_setups_give))]
 pub fn script_setups_give()
     ensures { ScriptSetupsGive }
 {}
 
 /// A replayed script's history has only values that a text can give.
-#[tactic(auto, using(crate::proofs::Replays::replays_give))]
 pub fn replays_give()
     ensures { ReplaysGive }
 {}
 
 /// What is printed of it has it, and no other history that a text can give, whatever lines follow.
-#[tactic(auto, using(crate::proofs::Replays::replay_texts_have_one))]
 pub fn replay_texts_have_one()
     ensures { ReplayTextsHaveOne }
 {}

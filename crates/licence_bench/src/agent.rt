@@ -2,18 +2,21 @@
 //! is unmounted and finished.
 
 use crate::bench::Bench;
-use crate::objects::{bound, key_of, pod, uid_of};
+use crate::objects::{NODE, bound, pod};
 use call_types::reply::{Change, MountRow, Reply};
 use call_types::request::Request;
 use kube_types::copies::{OutOfMemory, Plain};
 use kube_types::items::Items;
+use kube_types::key::key_of;
 use kube_types::objects::{Object, Pod};
 use kube_types::parts::Kind;
 use kube_types::text::Text;
 use kube_types::uid::Uid;
+use sample_objects::keys::uid_of;
+use sample_objects::parts::mark_deleted;
 
 fn node(bench: &Bench) -> Result<Text, OutOfMemory> {
-    Text::new(bench.alloc, "n1")
+    Text::new(bench.alloc, NODE)
 }
 
 /// The object is read.
@@ -75,7 +78,7 @@ fn round(bench: &mut Bench, from: u64, number: u64) -> Result<u64, OutOfMemory> 
     get(bench, Object::Claim(claim))?;
     get(bench, Object::Volume(volume))?;
     mount(bench, uid, uid)?;
-    pod.meta.deleted = Some(Text::new(bench.alloc, "2026-01-01T09:00:00Z")?);
+    mark_deleted(bench.alloc, &mut pod.meta)?;
     pod.meta.version = bench.next();
     let from = watch(bench, from, Change::Modified, &pod)?;
     finish(bench, uid, &pod)?;

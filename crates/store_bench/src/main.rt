@@ -4,11 +4,10 @@
 use call_types::edit::Edit;
 use call_types::request::{Request, SeatKind};
 use kube_types::copies::OutOfMemory;
-use kube_types::key::Key;
-use kube_types::objects::{Amount, Meta, Object, Source, Volume};
-use kube_types::pairs::Pairs;
-use kube_types::parts::{Kind, Modes, Policy, SourceKind, VolumePhase};
-use kube_types::text::{Names, Text};
+use kube_types::objects::Object;
+use kube_types::text::Text;
+use sample_objects::keys::{numbered, volume_key};
+use sample_objects::volumes::volume;
 use std::alloc::Global;
 use std::{env, io};
 use version_store::outcome::is_for_store;
@@ -16,75 +15,20 @@ use version_store::store::Store;
 
 const MOMENT: &str = "2026-01-01T08:00:00Z";
 
-const ONE_WRITER: Modes = Modes {
-    rwo: true,
-    rox: false,
-    rwx: false,
-    rwop: false,
-};
-
-fn name(alloc: Global, number: u64) -> Result<Text, OutOfMemory> {
-    let name = format!(in alloc; "v{number}")?;
-    Text::new(alloc, &name)
-}
-
-fn meta(alloc: Global, number: u64) -> Result<Meta, OutOfMemory> {
-    Ok(Meta {
-        namespace: Text::new(alloc, "")?,
-        name: name(alloc, number)?,
-        uid: None,
-        version: 0,
-        created: Text::new(alloc, "")?,
-        deleted: None,
-        labels: Pairs::new(alloc),
-        annotations: Pairs::new(alloc),
-        finalizers: Names::new(alloc),
-    })
-}
-
-fn amount(alloc: Global) -> Result<Amount, OutOfMemory> {
-    Ok(Amount {
-        text: Text::new(alloc, "5Gi")?,
-        bytes: 5_368_709_120,
-    })
-}
-
-fn source(alloc: Global) -> Result<Source, OutOfMemory> {
-    Ok(Source {
-        kind: SourceKind::Nfs,
-        first: Text::new(alloc, "files")?,
-        second: Text::new(alloc, "/a")?,
-    })
-}
-
 /// The creation of the volume of this number.
 fn create(alloc: Global, number: u64) -> Result<Request, OutOfMemory> {
-    let object = Object::Volume(Volume {
-        meta: meta(alloc, number)?,
-        amount: amount(alloc)?,
-        modes: ONE_WRITER,
-        block: false,
-        class: Text::new(alloc, "fast")?,
-        policy: Policy::Retain,
-        claim_ref: None,
-        source: source(alloc)?,
-        terms: None,
-        extra: Text::new(alloc, "{}")?,
-        phase: VolumePhase::Pending,
-    });
+    let name = numbered(alloc, "v", number)?;
+    let object = Object::Volume(volume(alloc, name.as_str(), None, 0)?);
     Ok(Request::Create { object })
 }
 
 /// The edit that labels the volume of this number.
 fn label(alloc: Global, number: u64, round: u64) -> Result<Request, OutOfMemory> {
-    let key = Key {
-        kind: Kind::PersistentVolume,
-        namespace: Text::new(alloc, "")?,
-        name: name(alloc, number)?,
-    };
+    let name = numbered(alloc, "v", number)?;
+    let key = volume_key(alloc, name.as_str())?;
     let edit = Edit::SetLabel {
         key: Text::new(alloc, "round")?,
-        value: name(alloc, round)?,
+        value: numbered(alloc, "v", round)?,
     };
     Ok(Request::Edit { key, edit })
 }

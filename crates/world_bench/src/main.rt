@@ -7,11 +7,12 @@ use call_types::request::{Request, SeatKind};
 use call_types::setup::Setup;
 use kube_types::copies::OutOfMemory;
 use kube_types::items::Items;
-use kube_types::key::Key;
-use kube_types::objects::{Amount, Meta, Node, Object, Source, Volume};
-use kube_types::pairs::Pairs;
-use kube_types::parts::{Kind, Modes, Policy, SourceKind, VolumePhase};
-use kube_types::text::{Names, Text};
+use kube_types::objects::Object;
+use kube_types::parts::Kind;
+use kube_types::text::Text;
+use sample_objects::keys::{numbered, volume_key};
+use sample_objects::pods::node;
+use sample_objects::volumes::volume;
 use std::alloc::Global;
 use std::{env, io};
 use world_core::world::World;
@@ -21,88 +22,24 @@ const VOLUMES: u64 = 256;
 
 const NODES: u64 = 4;
 
-const ONE_WRITER: Modes = Modes {
-    rwo: true,
-    rox: false,
-    rwx: false,
-    rwop: false,
-};
-
-fn volume_name(alloc: Global, number: u64) -> Result<Text, OutOfMemory> {
-    let name = format!(in alloc; "v{number}")?;
-    Text::new(alloc, &name)
-}
-
-fn node_name(alloc: Global, number: u64) -> Result<Text, OutOfMemory> {
-    let name = format!(in alloc; "n{number}")?;
-    Text::new(alloc, &name)
-}
-
-fn meta(alloc: Global, name: Text) -> Result<Meta, OutOfMemory> {
-    Ok(Meta {
-        namespace: Text::new(alloc, "")?,
-        uid: None,
-        version: 0,
-        created: Text::new(alloc, "")?,
-        deleted: None,
-        labels: Pairs::new(alloc),
-        annotations: Pairs::new(alloc),
-        finalizers: Names::new(alloc),
-        name,
-    })
-}
-
-fn amount(alloc: Global) -> Result<Amount, OutOfMemory> {
-    Ok(Amount {
-        text: Text::new(alloc, "5Gi")?,
-        bytes: 5_368_709_120,
-    })
-}
-
-fn source(alloc: Global) -> Result<Source, OutOfMemory> {
-    Ok(Source {
-        kind: SourceKind::Nfs,
-        first: Text::new(alloc, "files")?,
-        second: Text::new(alloc, "/a")?,
-    })
-}
-
 fn create_volume(alloc: Global, number: u64) -> Result<Request, OutOfMemory> {
-    let name = volume_name(alloc, number)?;
-    let object = Object::Volume(Volume {
-        meta: meta(alloc, name)?,
-        amount: amount(alloc)?,
-        modes: ONE_WRITER,
-        block: false,
-        class: Text::new(alloc, "fast")?,
-        policy: Policy::Retain,
-        claim_ref: None,
-        source: source(alloc)?,
-        terms: None,
-        extra: Text::new(alloc, "{}")?,
-        phase: VolumePhase::Pending,
-    });
+    let name = numbered(alloc, "v", number)?;
+    let object = Object::Volume(volume(alloc, name.as_str(), None, 0)?);
     Ok(Request::Create { object })
 }
 
 fn create_node(alloc: Global, number: u64) -> Result<Request, OutOfMemory> {
-    let name = node_name(alloc, number)?;
-    let object = Object::Node(Node {
-        meta: meta(alloc, name)?,
-        extra: Text::new(alloc, "{}")?,
-    });
+    let name = numbered(alloc, "n", number)?;
+    let object = Object::Node(node(alloc, name.as_str(), None, 0, "")?);
     Ok(Request::Create { object })
 }
 
 fn label(alloc: Global, number: u64, round: u64) -> Result<Request, OutOfMemory> {
-    let key = Key {
-        kind: Kind::PersistentVolume,
-        namespace: Text::new(alloc, "")?,
-        name: volume_name(alloc, number)?,
-    };
+    let name = numbered(alloc, "v", number)?;
+    let key = volume_key(alloc, name.as_str())?;
     let edit = Edit::SetLabel {
         key: Text::new(alloc, "round")?,
-        value: volume_name(alloc, round)?,
+        value: numbered(alloc, "v", round)?,
     };
     Ok(Request::Edit { key, edit })
 }
@@ -117,7 +54,7 @@ fn create_or_label(alloc: Global, round: u64) -> Result<Request, OutOfMemory> {
 }
 
 fn on_node(alloc: Global, round: u64) -> Result<Request, OutOfMemory> {
-    let node = node_name(alloc, 0)?;
+    let node = numbered(alloc, "n", 0)?;
     if round == 0 {
         Ok(Request::TakeNode { node })
     } else {

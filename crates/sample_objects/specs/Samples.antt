@@ -1,0 +1,29 @@
+-- What is said of sample objects and keys. A choice of this project.
+use Rattle.std.specs.Prelude.{ℕ, ◌≡◌, List, [], ◌++◌, Option, Some, None, codes}
+use Rattle.kube_types.specs.declared.uid.Uid.{Uid}
+use Rattle.kube_types.specs.declared.key.Key.{Key}
+use Rattle.kube_types.specs.declared.parts.Kind.TheVariants as kinds
+use Rattle.kube_types.specs.declared.objects.Meta.{Meta}
+use Rattle.kube_types.specs.Uids.{uid_text}
+
+-- the object has this name, this id and this version
+abbrev pub IsStamped : List ℕ → Option Uid → ℕ → Meta → Type 0
+IsStamped name uid version m = (m.name ≡ name) × (m.uid ≡ uid) × (m.version ≡ version)
+
+-- the namespace of claims and pods
+abbrev pub namespace : List ℕ
+namespace = codes "default"
+
+abbrev pub volume_key : List ℕ → Key
+volume_key name = record { kind = kinds.PersistentVolume; namespace = []; name = name }
+
+abbrev pub claim_key : List ℕ → Key
+claim_key name = record { kind = kinds.PersistentVolumeClaim; namespace = namespace; name = name }
+
+abbrev pub pod_key : List ℕ → Key
+pod_key name = record { kind = kinds.Pod; namespace = namespace; name = name }
+
+-- the name of the data and of the volume that are made for the claim of this id
+abbrev pub data_name : Option Uid → List ℕ
+data_name None = codes "pvc-"
+data_name (Some uid) = codes "pvc-" ++ uid_text uid
