@@ -86,7 +86,7 @@ pub gen_answers : (seed : ℕ) (script : Script) (budget : Option ℕ) (setup : 
     → IsAnswer (Gen seed budget) input (answer_ended ending text)
 gen_answers seed script budget setup past ending input text is played printed =
     let p : IsPlayed (generated seed) budget (generated seed).setup past ending =
-        subst (λ (s : Script). IsPlayed s budget s.setup past ending) is (from_script script budget setup past ending played) in
+    subst (λ (s : Script). IsPlayed s budget s.setup past ending) is (from_script script budget setup past ending played) in
     by_ending (Gen seed budget) input text ending (record {
       past = past;
       ending = ending;

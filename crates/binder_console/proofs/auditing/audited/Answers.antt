@@ -16,5 +16,5 @@ returns-clause-ok c =
     let read : history_of c.args.input.now ≡ Ok h = c.in_ok-history.ensures.gives in
     let safe : v ≡ Yes → Safe h.setup (reverse h.entries) = λ e. c.in_ok-verdict.ensures.safe (ap Ok e) in
     let printed : c.in_ok-text.text ≡ verdict_text v (length h.entries) =
-        c.in_ok-text.ensures ∙ ap (with_line []) (c.as_str.ensures.value ∙ c.in_ok-line.ensures ∙ ap (λ (es : List _). verdict_line v (length es)) c.as_slice.ensures) in
+    c.in_ok-text.ensures ∙ ap (with_line []) (c.as_str.ensures.value ∙ c.in_ok-line.ensures ∙ ap (λ (es : List _). verdict_line v (length es)) c.as_slice.ensures) in
     subst (IsAnswer Audit c.args.input.now) (sym c.answer_judged.ensures) (audit_answers c.args.input.now c.in_ok-text.text h v read c.in_ok-verdict.ensures.verdict safe printed)
