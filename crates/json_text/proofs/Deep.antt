@@ -1,28 +1,20 @@
 -- Texts of canonical values, however deep they nest: a text has one, and nests no deeper than is read where it is read.
-use Rattle.std.proofs.Common.{◌≡◌, ℕ, zero, suc, ◌≤◌, ◌<◌, ◌^◌, max, List, [], ◌∷◌, length, Bool, true, false, Option, Some, None, option_map, option_and_then, refl, sym, ap, ◌∙◌, subst, arith, append-nil, decimal, pos, negsuc, ◌==◌}
+use Rattle.std.proofs.Common.{◌≡◌, ℕ, zero, suc, ◌≤◌, max, List, [], ◌∷◌, length, Option, Some, None, option_and_then, refl, sym, ap, ◌∙◌, subst, arith, append-nil}
 use Rattle.std.specs.Bool.{⊤}
-use Rattle.std.specs.Char.{digit_value}
-use Rattle.std.specs.Str.Parse.{IsNumeral}
-use Rattle.std.proofs.lemmas.Fmt.{decimal_is_IsNumeral}
-use Rattle.std.proofs.lemmas.Bool.{eqb-true}
-use Rattle.json.specs.Word.{after_number}
 use Rattle.json.specs.Token.{Token}
 use Rattle.json.specs.Lex.{tokens}
 use Rattle.json.specs.Json.{Json, array, object, Items, item, Members, member, Parse, parse_map, if_last, after_end_array, read_key, items_step, members_step, items, members, value_with, value}
 use Rattle.json.specs.Tree as tree
-use Rattle.json.specs.Print.{IsNumber}
 use Rattle.json.proofs.Nesting.{value-depth}
 use Rattle.json.proofs.Printed.Tokens.{tokens-print}
 use Rattle.json.proofs.Printed.Trees.{value-json_tokens, ArePrintable-json_tokens}
-use Rattle.json.proofs.Printed.Decimals.{IsNumber-decimal}
 use Rattle.serde_json.specs.Data as values
-use Rattle.serde_json.specs.Data.{Data, Num}
-use Rattle.serde_json.specs.Read.{read, of_json, of_items, of_members, max_depth}
-use Rattle.serde_json.specs.Written.{outline, items_outline, members_outline, compact_text}
-use Rattle.serde_json.proofs.Numbers.{number_of-decimal, number_of-negative}
+use Rattle.serde_json.specs.Data.{Data}
+use Rattle.serde_json.specs.Read.{read, of_json, max_depth}
+use Rattle.serde_json.specs.Written.{outline, compact_text}
 use Rattle.serde_json.proofs.Texts.{print-outline}
-use Rattle.json_text.specs.Canonical.{IsWhole, IsCanonical, AreCanonical, AreMembers}
-use Rattle.json_text.proofs.ReadBack.{join, join-nil, join-one, Parted, put-join, parted_more, parted_none}
+use Rattle.json_text.specs.Canonical.{IsCanonical}
+use Rattle.json_text.proofs.ReadBack.{depth-outline, numbers_in, of_json-outline}
 
 -- ---- a reader that allows more levels reads the same
 
@@ -102,93 +94,6 @@ tree_shallow d j p is =
     let same : p ≡ (j, []) = one_some p (j, []) (value deep (tree.json_tokens j)) more all in
     value-depth d (tree.json_tokens j) [] j (is ∙ ap Some same)
 
--- ---- the tree that a canonical value is printed from
-
-negative_is : (n : ℕ) → n < 2 ^ 64 → IsNumber (45 ∷ decimal n)
-unfolding after_number
-negative_is n h = signed (decimal n) (decimal_is_IsNumeral n h).0 (IsNumber-decimal n h)
-  where
-    signed : (s : List ℕ) → IsNumeral 10 s → IsNumber s → IsNumber (45 ∷ s)
-    signed [] some k = absurd (omega (arith, some.0))
-    signed (x ∷ xs) some k = by (x == 45) refl
-      where
-        not_digit : digit_value 45 < 10 → ⊥
-        not_digit l = omega arith
-
-        by : (b : Bool) → (x == 45) ≡ b → IsNumber (45 ∷ x ∷ xs)
-        by true e = absurd (not_digit (subst (λ y. digit_value y < 10) (eqb-true x 45 e) some.1.0))
-        by false e = rw e at k
-
-number_is : (n : Num) → IsWhole n → tree.HasNumbers (outline (values.number n))
-number_is (values.unsigned n) h = IsNumber-decimal n h
-number_is (values.negative (pos n)) h = absurd h
-number_is (values.negative (negsuc n)) h = negative_is (suc n) (omega arith)
-number_is (values.float x) h = absurd h
-
-mutual
-  numbers_in : (d : Data) → IsCanonical d → tree.HasNumbers (outline d)
-  numbers_in values.null h = tt
-  numbers_in (values.boolean b) h = tt
-  numbers_in (values.number n) h = number_is n h
-  numbers_in (values.string s) h = tt
-  numbers_in (values.array ds) h = numbers_in_items ds h
-  numbers_in (values.object ms) h = numbers_in_members ms h
-
-  numbers_in_items : (ds : values.Items) → AreCanonical ds → tree.ItemsHaveNumbers (items_outline ds)
-  numbers_in_items values.no_items h = tt
-  numbers_in_items (values.item d ds) h = (numbers_in d h.0, numbers_in_items ds h.1)
-
-  numbers_in_members : (ms : values.Members) → AreMembers ms → tree.MembersHaveNumbers (members_outline ms)
-  numbers_in_members values.no_members h = tt
-  numbers_in_members (values.member k d ms) h = (numbers_in d h.0, numbers_in_members ms h.2)
-
-mutual
-  depth-outline : (d : Data) → tree.depth (outline d) ≡ values.depth d
-  depth-outline values.null = refl
-  depth-outline (values.boolean b) = refl
-  depth-outline (values.number n) = refl
-  depth-outline (values.string s) = refl
-  depth-outline (values.array ds) = ap suc (items_depth-outline ds)
-  depth-outline (values.object ms) = ap suc (members_depth-outline ms)
-
-  items_depth-outline : (ds : values.Items) → tree.items_depth (items_outline ds) ≡ values.items_depth ds
-  items_depth-outline values.no_items = refl
-  items_depth-outline (values.item d ds) = ap (λ a. max a (tree.items_depth (items_outline ds))) (depth-outline d) ∙ ap (max (values.depth d)) (items_depth-outline ds)
-
-  members_depth-outline : (ms : values.Members) → tree.members_depth (members_outline ms) ≡ values.members_depth ms
-  members_depth-outline values.no_members = refl
-  members_depth-outline (values.member k d ms) = ap (λ a. max a (tree.members_depth (members_outline ms))) (depth-outline d) ∙ ap (max (values.depth d)) (members_depth-outline ms)
-
-number_back : (n : Num) → IsWhole n → of_json (outline (values.number n)) ≡ Some (values.number n)
-number_back (values.unsigned n) h = ap (option_map values.number) (number_of-decimal n h)
-number_back (values.negative (pos n)) h = absurd h
-number_back (values.negative (negsuc n)) h = ap (option_map values.number) (number_of-negative n h)
-number_back (values.float x) h = absurd h
-
-mutual
-  unfolding Parted join
-
-  of_json-outline : (d : Data) → IsCanonical d → of_json (outline d) ≡ Some d
-  of_json-outline values.null h = refl
-  of_json-outline (values.boolean b) h = refl
-  of_json-outline (values.number n) h = number_back n h
-  of_json-outline (values.string s) h = refl
-  of_json-outline (values.array ds) h = ap (option_map values.array) (of_items-outline ds h)
-  of_json-outline (values.object ms) h = ap (option_map values.object) (of_members-outline ms values.no_members h (parted_none ms))
-
-  of_items-outline : (ds : values.Items) → AreCanonical ds → of_items (items_outline ds) ≡ Some ds
-  of_items-outline values.no_items h = refl
-  of_items-outline (values.item d ds) h =
-      ap (option_and_then (λ e. option_map (values.item e) (of_items (items_outline ds)))) (of_json-outline d h.0) ∙ ap (option_map (values.item d)) (of_items-outline ds h.1)
-
-  of_members-outline : (ms done : values.Members) → AreMembers ms → Parted done ms → of_members (members_outline ms) done ≡ Some (join done ms)
-  of_members-outline values.no_members done h p = ap Some (sym (join-nil done))
-  of_members-outline (values.member k d ms) done h p =
-      ap (option_and_then (λ e. of_members (members_outline ms) (values.put k e done))) (of_json-outline d h.0)
-      ∙ ap (of_members (members_outline ms)) (put-join done k d p.0)
-      ∙ of_members-outline ms (join done (values.member k d values.no_members)) h.2 (parted_more ms done k d h.1 p.1)
-      ∙ ap Some (join-one done k d ms)
-
 -- ---- a text has one value
 
 text_tokens : (d : Data) → IsCanonical d → tokens (compact_text d) ≡ tree.json_tokens (outline d)
@@ -201,6 +106,7 @@ tree_of d n h shallow = ap (value n) (text_tokens d h ∙ sym (append-nil (tree.
 one_tree : (i j : Json) (o : Option (Json × List Token)) → o ≡ Some (i, []) → o ≡ Some (j, []) → i ≡ j
 one_tree i j o p q = ap (λ (x : Json × List Token). x.0) (one_some {X = Json × List Token} (i, []) (j, []) o p q)
 
+-- two canonical values of one text are one
 pub one_value_of : (d e : Data) → IsCanonical d → IsCanonical e → compact_text d ≡ compact_text e → d ≡ e
 one_value_of d e hd he same =
     let n : ℕ = max (values.depth d) (values.depth e) in
