@@ -1,17 +1,16 @@
 //! The writes of a binding as requests. Each is made at the version of the object that it changes.
 
 ghost use Rattle.std.specs.Prelude.{◌≡◌, IfOk, OnOk};
-ghost use Rattle.binder_model.specs.ObjectKeys.{claim_key, volume_key};
-ghost use Rattle.binder_model.specs.BindWrites.{annotated_meta, annotated_meta_if, completed_with, next_write, ref_to, taken_for, write_bound, write_claim_status, write_completion, write_reference};
+ghost use Rattle.binder_model.specs.BindWrites.{annotated_meta, annotated_meta_if, completed_with, next_write, taken_for, write_bound, write_claim_status, write_completion, write_reference};
 ghost use Rattle.bind_writes.specs.Writes.{write_of};
 
 use crate::step::{Write, next_step};
 use call_types::request::{NewStatus, Request};
-use kube_types::bindings::{BIND_COMPLETED, BOUND_BY_CONTROLLER, YES, is_empty};
+use kube_types::bindings::{BIND_COMPLETED, BOUND_BY_CONTROLLER, YES, is_empty, ref_to};
 use kube_types::copies::{OutOfMemory, Plain};
-use kube_types::key::Key;
-use kube_types::objects::{Claim, Meta, Object, Ref, Volume};
-use kube_types::parts::{ClaimPhase, Kind, VolumePhase};
+use kube_types::key::{claim_key, volume_key};
+use kube_types::objects::{Claim, Meta, Object, Volume};
+use kube_types::parts::{ClaimPhase, VolumePhase};
 use kube_types::text::Text;
 use std::alloc::Global;
 
@@ -94,7 +93,7 @@ pub fn write_claim_status(
     ensures { IfOk result (λ write. write ≡ write_claim_status volume.now claim.now) }
 {
     Ok(Request::UpdateStatus {
-        key: claim_key(alloc, &claim.meta)?,
+        key: claim_key(alloc, &claim.meta.namespace, &claim.meta.name)?,
         status: NewStatus::Claim {
             phase: ClaimPhase::Bound,
             modes: volume.modes,
@@ -152,34 +151,4 @@ fn annotate_if(
         annotate(alloc, meta, name)?;
     }
     Ok(())
-}
-
-fn ref_to(alloc: Global, claim: &Claim) -> Result<Ref, OutOfMemory>
-    ensures { IfOk result (λ reference. reference ≡ ref_to claim.now) }
-{
-    Ok(Ref {
-        namespace: claim.meta.namespace.copy(alloc)?,
-        name: claim.meta.name.copy(alloc)?,
-        uid: claim.meta.uid,
-    })
-}
-
-pub(crate) fn volume_key(alloc: Global, name: &Text) -> Result<Key, OutOfMemory>
-    ensures { IfOk result (λ key. key ≡ volume_key name.now) }
-{
-    Ok(Key {
-        kind: Kind::PersistentVolume,
-        namespace: Text::new(alloc, "")?,
-        name: name.copy(alloc)?,
-    })
-}
-
-fn claim_key(alloc: Global, meta: &Meta) -> Result<Key, OutOfMemory>
-    ensures { IfOk result (λ key. key ≡ claim_key meta.now.namespace meta.now.name) }
-{
-    Ok(Key {
-        kind: Kind::PersistentVolumeClaim,
-        namespace: meta.namespace.copy(alloc)?,
-        name: meta.name.copy(alloc)?,
-    })
 }

@@ -4,10 +4,10 @@ ghost use Rattle.std.specs.Prelude.{◌≡◌, IfOk};
 ghost use Rattle.kube_types.specs.Bindings.{bound_by_controller, has_key};
 ghost use Rattle.binder_model.specs.BindWrites.{unbound_volume, without_uid, write_available, write_unbound};
 
-use crate::request::volume_key;
 use call_types::request::{NewStatus, Request};
 use kube_types::bindings::BOUND_BY_CONTROLLER;
 use kube_types::copies::{OutOfMemory, Plain};
+use kube_types::key::volume_key;
 use kube_types::objects::{Object, Ref, Volume};
 use kube_types::parts::VolumePhase;
 use kube_types::text::Text;

@@ -2,14 +2,13 @@
 
 ghost use Rattle.std.specs.Prelude.{◌≡◌};
 ghost use Rattle.kube_types.specs.Bindings.{is_empty};
-ghost use Rattle.binder_model.specs.Matching.{waits_for_pod};
 ghost use Rattle.claim_sync.specs.ClaimDecision.{IsChoice};
 
-use kube_types::bindings::{class_of_claim, is_empty};
+use kube_types::bindings::is_empty;
 use kube_types::lookup::Lookup;
-use kube_types::objects::{Claim, Object};
+use kube_types::objects::Claim;
 use kube_types::parts::Kind;
-use volume_match::{best, place_named, row_named};
+use volume_match::{best, place_named, waits_for_pod};
 
 /// The place of the best match where the claim names no volume, else of the volume that it names.
 pub(crate) fn bind_place<L: Lookup>(lookup: &L, claim: &Claim) -> Option<usize>
@@ -24,15 +23,5 @@ pub(crate) fn bind_place<L: Lookup>(lookup: &L, claim: &Claim) -> Option<usize>
             "",
             claim.volume_name.as_str(),
         )
-    }
-}
-
-/// Whether the claim's class is delayed.
-fn waits_for_pod<L: Lookup>(lookup: &L, claim: &Claim) -> bool
-    ensures { result ≡ waits_for_pod (L.rows lookup.now) claim.now }
-{
-    match row_named(lookup, Kind::StorageClass, "", class_of_claim(claim)) {
-        Some(Object::Class(class)) => class.delayed,
-        _ => false,
     }
 }

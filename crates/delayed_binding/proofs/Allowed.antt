@@ -11,7 +11,6 @@ use Rattle.kube_types.specs.declared.parts.VolumePhase.{VolumePhase}
 use Rattle.kube_types.specs.declared.parts.VolumePhase.TheVariants as phases
 use Rattle.kube_types.specs.declared.objects.Class.{Class as ClassData}
 use Rattle.kube_types.specs.declared.objects.Claim.{Claim as ClaimData}
-use Rattle.kube_types.specs.declared.objects.Meta.{Meta}
 use Rattle.kube_types.specs.declared.objects.Node.{Node as NodeData}
 use Rattle.kube_types.specs.declared.objects.Pod.{Pod as PodData}
 use Rattle.kube_types.specs.declared.objects.Ref.{Ref}
@@ -27,18 +26,19 @@ use Rattle.call_types.specs.declared.request.Request.{Request}
 use Rattle.call_types.specs.declared.request.Request.TheVariants.{Update}
 use Rattle.binder_model.specs.At.{IsWrittenAt}
 use Rattle.binder_model.specs.BinderLicence.{IsFreeFor, IsTaken, MayTake}
-use Rattle.binder_model.specs.BindWrites.{annotated_meta_if, taken_for, write_reference}
+use Rattle.binder_model.specs.BindWrites.{taken_for, write_reference}
 use Rattle.binder_model.specs.Choice.{AreShares, admits_node, are_completed, carries_claim, claim_in, claim_named, claims_of, has_carrier, is_missing, is_served_elsewhere, is_under_way, lacks_claim, volume_admits}
 use Rattle.binder_model.specs.Fields.{has_twice}
 use Rattle.binder_model.specs.Licence.{SchedulerMay}
 use Rattle.binder_model.specs.Matching.{eligible, fits, is_admitted_on, is_delayed, is_selected, may_serve}
 use Rattle.binder_model.specs.ObjectKeys.{class_key, node_key, claim_key, volume_key}
 use Rattle.binder_model.specs.SchedulerLicence.{AreReadyOn, MaySelectNode}
-use Rattle.binder_model.specs.Told.{IsClaimWith, IsNewest, IsVolumeWith, ToldClaim, ToldVolume}
+use Rattle.binder_model.specs.Told.{IsNewest, ToldClaim, ToldVolume}
 use Rattle.volume_match.specs.Volumes.{as_volume}
-use Rattle.model_laws.proofs.Evidence.{told_claim, told_map, told_volume}
+use Rattle.model_laws.proofs.Evidence.{told_claim, told_volume}
 use Rattle.model_laws.proofs.Lists.{none_some, one}
-use Rattle.model_laws.proofs.Newest.{newest_told}
+use Rattle.model_laws.proofs.Identity.{placed_same}
+use Rattle.model_laws.proofs.Newest.{newest_claim, newest_volume}
 use Rattle.delayed_binding.specs.declared.choice.Choice.{Choice}
 use Rattle.delayed_binding.specs.declared.choice.Choice.TheVariants.{Assign, Prepare, Wait, NoNode}
 use Rattle.delayed_binding.specs.Choices.{IsAssigned, IsChoice, IsChoiceAt, IsCompleted, IsPrepared, IsSearching, IsServedElsewhere, IsUnderWay, LacksClaim, Stage, binds_of, others_in, provisions_of, set_aside}
@@ -47,14 +47,6 @@ use Rattle.delayed_binding.specs.Writes.{bind_write, joined, node_write, placed_
 use Rattle.delayed_binding.proofs.Known.{Each, IsSome, IsSought, claim_of_row, others_apart, others_sought, others_stored, some_others}
 use Rattle.delayed_binding.proofs.Scanning.{carriers_are_volumes}
 use Rattle.delayed_binding.proofs.Written.{IsBound, IsOf, IsToProvision, OfFirst, OfSecond, bound_at, item_of, one_bind, one_provision, provided_at, some_write}
-
--- what was told newest was told
-
-newest_claim : (mine : List Entry) (key : Key) (c : ClaimData) → IsNewest mine key (Claim c) → ToldClaim (λ o. o ≡ c) mine
-newest_claim mine key c is = told_map {P = λ x. x ≡ Claim c} {Q = IsClaimWith (λ d. d ≡ c)} (λ o same. subst (IsClaimWith (λ d. d ≡ c)) (sym same) refl) mine (newest_told mine key (Claim c) is)
-
-newest_volume : (mine : List Entry) (key : Key) (v : VolumeData) → IsNewest mine key (Volume v) → ToldVolume (λ o. o ≡ v) mine
-newest_volume mine key v is = told_map {P = λ x. x ≡ Volume v} {Q = IsVolumeWith (λ u. u ≡ v)} (λ o same. subst (IsVolumeWith (λ u. u ≡ v)) (sym same) refl) mine (newest_told mine key (Volume v) is)
 
 -- a reference, on an eligible volume for a claim that no volume carries
 
@@ -92,15 +84,11 @@ free_for : (r : Option Ref) (c : ClaimData) (phase : VolumePhase) → ((refers_f
 free_for None c phase serves out = tt
 free_for (Some r) c phase serves out = free_by (names_claim r c) r.uid c (own_of (refers_for (Some r) c) (is_ended phase) (is_available phase) serves) out
 
-placed_same : (b : Bool) (m : Meta) → ((annotated_meta_if b bound_by_controller m).namespace ≡ m.namespace) × ((annotated_meta_if b bound_by_controller m).name ≡ m.name)
-placed_same true m = (refl, refl)
-placed_same false m = (refl, refl)
-
 reference_allowed : (mine : List Entry) (v : VolumeData) (c : ClaimData) (n : NodeData) → ToldVolume (λ o. o ≡ v) mine → ToldClaim (λ o. o ≡ c) mine → is_known c ≡ true → eligible v c (Some n) ≡ true → carries v c ≡ false → SchedulerMay mine (write_reference v c)
 unfolding taken_for
 reference_allowed mine v c n volume claim known e out =
     let new = taken_for v c in
-    let same = placed_same (is_none v.claim_ref) v.meta in
+    let same = placed_same (is_none v.claim_ref) bound_by_controller v.meta in
     let serves = serves_of v c n e in
     let taken : IsTaken v new c = record { known = known; free = free_for v.claim_ref c v.phase serves out; change = refl } in
     let row : MayTake mine v new = record { live = lives (is_for v c) (is_ended v.phase) (is_available v.phase) (is_none v.claim_ref) (available_lives v.phase) serves; told = told_claim (IsTaken v new) c mine claim taken } in
@@ -373,7 +361,7 @@ module _ (rows : List Object) (order : AreRows rows) (p : PodData) (last : Optio
         ap (λ x. reference_write x (as_volume (row_at pair.1 later))) (ap claim_in (claim_same ∙ claim_row))
         ∙ ap (λ x. reference_write (Some c) x) (ap as_volume (volume_same ∙ volume_row)) in
         answered (write_reference v c) request (sym seen ∙ e)
-        (reference_allowed mine v c node (newest_volume mine pair.1 v (newest_of pair.1 (Volume v) volume_same volume_row)) (newest_claim mine pair.0 c (newest_of pair.0 (Claim c) claim_same claim_row))
+        (reference_allowed mine v c node (newest_volume (λ u. u ≡ v) mine pair.1 v (newest_of pair.1 (Volume v) volume_same volume_row) refl) (newest_claim (λ d. d ≡ c) mine pair.0 c (newest_of pair.0 (Claim c) claim_same claim_row) refl)
         b.holds.known b.eligible (uncarried rows c v b.place b.holds.uncarried b.there))
 
     provision_allowed : (key : Key) (j : ℕ) (request : Request) → nth ≡ length bs + j → slice_get ps j ≡ Some key → node_write later name key ≡ Some request → SchedulerMay mine request
@@ -387,7 +375,7 @@ module _ (rows : List Object) (order : AreRows rows) (p : PodData) (last : Optio
         let seen : node_write later name key ≡ Some (Update (Claim (placed_on name c)) (Some c.meta.version)) =
         ap (selecting_write name) (ap claim_in (claim_same ∙ claim_row)) in
         answered (Update (Claim (placed_on name c)) (Some c.meta.version)) request (sym seen ∙ e)
-        (node_allowed mine c node name x.class (newest_claim mine key c (newest_of key (Claim c) claim_same claim_row)) s.prepared.named d.holds.undone
+        (node_allowed mine c node name x.class (newest_claim (λ d. d ≡ c) mine key c (newest_of key (Claim c) claim_same claim_row) refl) s.prepared.named d.holds.undone
         (newest_of (class_key (class_of_claim c)) (Class x.class) (kept.rest (class_key (class_of_claim c)) refl) x.is) x.delayed
         (newest_of (node_key node.meta.name) (Node node) (kept.rest (node_key node.meta.name) refl) s.prepared.first.there))
 

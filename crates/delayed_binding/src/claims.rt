@@ -5,16 +5,15 @@ ghost use Rattle.std.specs.List.{list_all, list_any};
 ghost use Rattle.std.specs.Option.{option_copied};
 ghost use Rattle.kube_types.specs.Bindings.{is_completed};
 ghost use Rattle.binder_model.specs.Choice.{claim_named, claims_of, is_missing, is_served_elsewhere, is_under_way, lacks_claim};
-ghost use Rattle.binder_model.specs.Matching.{waits_for_pod};
 
 use crate::volumes::has_carrier;
-use kube_types::bindings::{SELECTED_NODE, class_of_claim, is_completed, is_deleting, is_empty};
+use kube_types::bindings::{SELECTED_NODE, is_completed, is_deleting, is_empty};
 use kube_types::copies::{OutOfMemory, Plain};
 use kube_types::lookup::Lookup;
 use kube_types::objects::{Claim, Object, Pod};
 use kube_types::parts::Kind;
 use std::alloc::Global;
-use volume_match::row_named;
+use volume_match::{row_named, waits_for_pod};
 
 /// The claim with this name.
 pub fn claim_named<'a, L: Lookup>(lookup: &'a L, namespace: &str, name: &str) -> Option<&'a Claim>
@@ -91,16 +90,6 @@ fn is_served_elsewhere<L: Lookup>(lookup: &L, claim: &Claim) -> bool
     ensures { result ≡ is_served_elsewhere (L.rows lookup.now) claim.now }
 {
     !is_completed(claim) && (!is_empty(&claim.volume_name) || !waits_for_pod(lookup, claim))
-}
-
-/// Whether the claim's class is delayed.
-fn waits_for_pod<L: Lookup>(lookup: &L, claim: &Claim) -> bool
-    ensures { result ≡ waits_for_pod (L.rows lookup.now) claim.now }
-{
-    match row_named(lookup, Kind::StorageClass, "", class_of_claim(claim)) {
-        Some(Object::Class(class)) => class.delayed,
-        _ => false,
-    }
 }
 
 fn is_under_way<L: Lookup>(lookup: &L, claim: &Claim) -> bool

@@ -9,7 +9,6 @@ use Rattle.kube_types.specs.declared.uid.Uid.{Uid}
 use Rattle.kube_types.specs.declared.key.Key.{Key}
 use Rattle.kube_types.specs.declared.parts.Kind.TheVariants as kinds
 use Rattle.kube_types.specs.declared.parts.VolumePhase.TheVariants as volumes
-use Rattle.kube_types.specs.declared.objects.Meta.{Meta}
 use Rattle.kube_types.specs.declared.objects.Volume.{Volume as VolumeData}
 use Rattle.kube_types.specs.declared.objects.Claim.{Claim as ClaimData}
 use Rattle.kube_types.specs.declared.objects.Object.{Object}
@@ -27,7 +26,7 @@ use Rattle.call_types.specs.declared.reply.Refusal.TheVariants as refusals
 use Rattle.call_types.specs.declared.reply.Reply.{Reply}
 use Rattle.call_types.specs.declared.reply.Reply.TheVariants as replies
 use Rattle.binder_model.specs.Answers.{is_other_version, with_status}
-use Rattle.binder_model.specs.BindWrites.{annotated_meta_if, claim_write, completed_with, is_completed_with, next_write, ref_to, shows_bound, taken_for, write_bound, write_claim_status, write_completion, write_reference}
+use Rattle.binder_model.specs.BindWrites.{claim_write, completed_with, is_completed_with, next_write, ref_to, shows_bound, taken_for, write_bound, write_claim_status, write_completion, write_reference}
 use Rattle.binder_model.specs.ObjectKeys.{claim_key, volume_key}
 use Rattle.binder_model.specs.Store.{at_version, updated_object, with_meta, with_status_of}
 use Rattle.binder_model.specs.Told.{IsClaimWith, IsVolumeWith, ToldObject, own}
@@ -39,6 +38,7 @@ use Rattle.model_laws.specs.Calls.{IsSecondDelete}
 use Rattle.model_laws.specs.Stood.{Stood}
 use Rattle.model_laws.proofs.Evidence.{told_map}
 use Rattle.model_laws.proofs.Histories.{rows_stand_in_order}
+use Rattle.model_laws.proofs.Identity.{placed_same}
 use Rattle.model_laws.proofs.Lists.{none_some, one}
 use Rattle.model_laws.proofs.Replies.{DoneBy, Wrote, Again, writing}
 use Rattle.model_laws.proofs.Stood.{one_version_one_object}
@@ -201,14 +201,10 @@ phased_reference v w new n fits e =
 other_kind : {G : Type 0} (a b : Object) → key_of a ≡ key_of b → (kind_index (key_of a).kind ≡ kind_index (key_of b).kind → ⊥) → G
 other_kind a b e no_kind = absurd (no_kind (ap (λ k. kind_index k.kind) e))
 
-placed_same : (b : Bool) (m : Meta) → ((annotated_meta_if b bound_by_controller m).namespace ≡ m.namespace) × ((annotated_meta_if b bound_by_controller m).name ≡ m.name)
-placed_same true m = (refl, refl)
-placed_same false m = (refl, refl)
-
 completed_key : (c : ClaimData) (v : VolumeData) → key_of (Claim c) ≡ key_of (Claim (completed_with c v))
 unfolding completed_with
 completed_key c v =
-    let same = placed_same (is_empty c.volume_name) c.meta in
+    let same = placed_same (is_empty c.volume_name) bound_by_controller c.meta in
     λ i. record { kind = kinds.PersistentVolumeClaim; namespace = sym same.0 i; name = sym same.1 i }
 
 taken_reference : (v : VolumeData) (c : ClaimData) → (taken_for v c).claim_ref ≡ Some (ref_to c)

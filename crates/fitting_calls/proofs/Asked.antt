@@ -5,7 +5,6 @@ use Rattle.plain_data.specs.Pairs.{without_key}
 use Rattle.kube_types.specs.declared.uid.Uid.{Uid}
 use Rattle.kube_types.specs.declared.parts.VolumePhase.{VolumePhase}
 use Rattle.kube_types.specs.declared.parts.VolumePhase.TheVariants as volumes
-use Rattle.kube_types.specs.declared.objects.Meta.{Meta}
 use Rattle.kube_types.specs.declared.objects.Ref.{Ref}
 use Rattle.kube_types.specs.declared.objects.Volume.{Volume as VolumeData}
 use Rattle.kube_types.specs.declared.objects.Claim.{Claim as ClaimData}
@@ -13,9 +12,10 @@ use Rattle.kube_types.specs.Bindings.{bound_by_controller, carries, has_key, is_
 use Rattle.call_types.specs.declared.entry.Entry.{Entry}
 use Rattle.call_types.specs.declared.request.Request.{Request}
 use Rattle.binder_model.specs.At.{IsWrittenAt}
-use Rattle.binder_model.specs.BindWrites.{annotated_meta_if, claim_write, is_completed_with, next_write, shows_bound, taken_for, unbound_volume, without_uid, write_bound, write_claim_status, write_completion, write_reference, write_unbound}
+use Rattle.binder_model.specs.BindWrites.{claim_write, is_completed_with, next_write, shows_bound, taken_for, unbound_volume, without_uid, write_bound, write_claim_status, write_completion, write_reference, write_unbound}
 use Rattle.binder_model.specs.Told.{ToldClaim}
 use Rattle.model_laws.proofs.Evidence.{told_claim, told_volume}
+use Rattle.model_laws.proofs.Identity.{placed_same}
 use Rattle.model_laws.proofs.Lists.{none_some, one}
 use Rattle.binder_machines.specs.declared.machine.Machine.{Machine}
 use Rattle.binder_machines.specs.declared.machine.Machine.TheVariants.{Frees, Binds, MarksBound, ReadsClaim, Releases, Unbinds, ReadsVolume, Loses}
@@ -33,10 +33,6 @@ tested mine false a r gives e = none_some e
 
 -- the first write of a binding
 
-placed_same : (b : Bool) (m : Meta) → ((annotated_meta_if b bound_by_controller m).namespace ≡ m.namespace) × ((annotated_meta_if b bound_by_controller m).name ≡ m.name)
-placed_same true m = (refl, refl)
-placed_same false m = (refl, refl)
-
 pub reference_gives : (v : VolumeData) (c : ClaimData) (mine : List Entry) → ToldThis v mine → ToldThisClaim c mine → Suits v c → GivesSo mine (write_reference v c)
 unfolding taken_for
 reference_gives v c mine volume claim suits = by c.meta.uid
@@ -45,7 +41,7 @@ reference_gives v c mine volume claim suits = by c.meta.uid
     by None = tt
     by (Some u) =
         let new = taken_for v c in
-        let same = placed_same (is_none v.claim_ref) v.meta in
+        let same = placed_same (is_none v.claim_ref) bound_by_controller v.meta in
         told_volume (λ o. IsWrittenAt (Some v.meta.version) new.meta.namespace new.meta.name o.meta × ToldClaim (IsGiven o new) mine) v mine volume
         (record { version = refl; placed = sym same.0; named = sym same.1 }, told_claim (IsGiven v new) c mine claim (record { change = refl; suits = suits }))
 

@@ -4,7 +4,6 @@ use Rattle.std.proofs.Common.{◌≡◌, ◌∙◌, ℕ, zero, suc, Bool, true, 
 use Rattle.std.specs.Prelude.{slice_get}
 use Rattle.std.specs.List.{AllByRecursion}
 use Rattle.kube_types.specs.declared.uid.Uid.{Uid}
-use Rattle.kube_types.specs.declared.key.Key.{Key}
 use Rattle.kube_types.specs.declared.objects.Volume.{Volume as VolumeData}
 use Rattle.kube_types.specs.declared.objects.Pod.{Pod as PodData}
 use Rattle.kube_types.specs.declared.objects.Object.{Object}
@@ -16,11 +15,11 @@ use Rattle.call_types.specs.declared.request.Request.{Request}
 use Rattle.call_types.specs.declared.request.Request.TheVariants as requests
 use Rattle.call_types.specs.declared.reply.Reply.{Reply}
 use Rattle.binder_model.specs.At.{IsWrittenAt}
-use Rattle.binder_model.specs.Told.{IsNewest, IsVolumeWith, ToldClaim}
+use Rattle.binder_model.specs.Told.{ToldClaim}
 use Rattle.binder_machines.specs.Evidence.{ToldThis, ToldThisClaim}
-use Rattle.model_laws.proofs.Evidence.{told_map}
+use Rattle.model_laws.proofs.Evidence.{told_map, volume_map}
 use Rattle.model_laws.proofs.Lists.{none_some, one}
-use Rattle.model_laws.proofs.Newest.{newest_told}
+use Rattle.model_laws.proofs.Newest.{newest_claim, newest_volume}
 use Rattle.delayed_binding.specs.declared.choice.Choice.{Choice}
 use Rattle.delayed_binding.specs.declared.choice.Choice.TheVariants.{Assign, Prepare, Wait, NoNode}
 use Rattle.delayed_binding.specs.Choices.{IsChoice}
@@ -35,7 +34,6 @@ use Rattle.pod_scheduler.specs.Decisions.{BeginsIf, BeginsOn, are_known, begun_w
 use Rattle.pod_scheduler.specs.Schedules.{call_at, schedule_call, schedule_moved}
 use Rattle.pod_scheduler.proofs.Allowed.{write_of_is}
 use Rattle.pod_scheduler.proofs.Present.{each_present, prepare_is}
-use Rattle.reclaim_ops.proofs.Tellings.{newest_claim}
 use Rattle.fitting_law.specs.Fitting.{GivesSo, GivesTo, IsGiven}
 use Rattle.fitting_calls.proofs.Asked.{reference_gives}
 use Rattle.fitting_calls.proofs.Decided.{fits_is}
@@ -44,15 +42,12 @@ use Rattle.fitting_calls.proofs.Decided.{fits_is}
 abbrev pub AllGive : List Entry → List Request → Type 0
 AllGive mine writes = AllByRecursion (GivesSo mine) writes
 
-newest_volume : (mine : List Entry) (key : Key) (v : VolumeData) → IsNewest mine key (Volume v) → ToldThis v mine
-newest_volume mine key v is = told_map {P = λ x. x ≡ Volume v} {Q = IsVolumeWith (λ u. u ≡ v)} (λ o same. subst (IsVolumeWith (λ u. u ≡ v)) (sym same) refl) mine (newest_told mine key (Volume v) is)
-
 -- on the rows that show what was told newest
 module _ (rows : List Object) (mine : List Entry) (shows : ShowsNewest rows mine) where
   -- a reference of a volume of the rows to a claim of the rows that it fits
   fitting_gives : (request : Request) → IsFitting rows request → GivesSo mine request
   fitting_gives request f =
-      let volume : ToldThis f.volume mine = newest_volume mine (key_of (Volume f.volume)) f.volume (sym (shows (key_of (Volume f.volume))) ∙ f.volume_there) in
+      let volume : ToldThis f.volume mine = newest_volume (λ v. v ≡ f.volume) mine (key_of (Volume f.volume)) f.volume (sym (shows (key_of (Volume f.volume))) ∙ f.volume_there) refl in
       let claim : ToldThisClaim f.claim mine = newest_claim (λ c. c ≡ f.claim) mine (key_of (Claim f.claim)) f.claim (sym (shows (key_of (Claim f.claim))) ∙ f.claim_there) refl in
       subst (GivesSo mine) (sym f.is) (reference_gives f.volume f.claim mine volume claim (inl (fits_is f.volume f.claim f.fits)))
 
@@ -100,10 +95,6 @@ module _ (rows : List Object) (mine : List Entry) (shows : ShowsNewest rows mine
   begun_gives order refused None op b = none_some (sym b)
 
 -- what was told stays told
-
-volume_map : {P Q : VolumeData → Type 0} → ((v : VolumeData) → P v → Q v) → (o : Object) → IsVolumeWith P o → IsVolumeWith Q o
-volume_map f (Volume v) h = f v h
-volume_map f _ h = absurd h
 
 module _ (mine : List Entry) (e : Entry) where
   gives_on : (request : Request) → GivesSo mine request → GivesSo (e ∷ mine) request

@@ -21,11 +21,11 @@ use Rattle.kube_types.specs.Keys.{meta_of}
 use Rattle.kube_types.specs.Bindings.{bind_completed, bound_by_controller, selected_node, yes}
 use Rattle.binder_model.specs.BindWrites.{annotated_meta_if}
 use Rattle.binder_model.specs.Fields.{update_fault, changed_field, faulty, same_claim_spec}
-use Rattle.binder_model.specs.Same.{same_option, same_modes, same_amount, same_selector, same_ref, same_uid}
+use Rattle.binder_model.specs.Same.{same_option, same_modes, same_amount, same_selector, same_ref}
 use Rattle.binder_model.specs.Guard.{annotations_before, clears_released, changes_annotation, has_uid}
 use Rattle.world_moves.proofs.Tests.{same_text}
 use Rattle.world_invariant.specs.Was.{Refers}
-use Rattle.licence_steps.proofs.Users.{Passes}
+use Rattle.licence_steps.proofs.Users.{Passes, same_refs, same_texts}
 use Rattle.fitting_law.specs.Fitting.{is_marked}
 
 -- fields that an update keeps
@@ -93,30 +93,6 @@ taken_marks None m e = absurd (true≢false (sym e))
 taken_marks (Some r) m e = refl
 
 -- what the guard leaves of a user's write
-
-same_texts : (a b : Option (List ℕ)) → same_option bytes_eq a b ≡ true → a ≡ b
-same_texts None None e = refl
-same_texts None (Some b) e = absurd (true≢false (sym e))
-same_texts (Some a) None e = absurd (true≢false (sym e))
-same_texts (Some a) (Some b) e = ap (λ (x : List ℕ). Some x) (same_text a b e)
-
-same_uids : (a b : Option Uid) → same_option same_uid a b ≡ true → a ≡ b
-same_uids None None e = refl
-same_uids None (Some b) e = absurd (true≢false (sym e))
-same_uids (Some a) None e = absurd (true≢false (sym e))
-same_uids (Some a) (Some b) e = let n : a.0 ≡ b.0 = grind (arith, nat_tests) in ap (λ (k : ℕ). Some (record { 0 = k })) n
-
-same_refs : (a b : Option Ref) → same_option same_ref a b ≡ true → a ≡ b
-same_refs None None e = refl
-same_refs None (Some b) e = absurd (true≢false (sym e))
-same_refs (Some a) None e = absurd (true≢false (sym e))
-same_refs (Some a) (Some b) e =
-    let t = and_parts (bytes_eq a.namespace b.namespace && bytes_eq a.name b.name) (same_option same_uid a.uid b.uid) e in
-    let s = and_parts (bytes_eq a.namespace b.namespace) (bytes_eq a.name b.name) t.0 in
-    let n = same_text a.namespace b.namespace s.0 in
-    let m = same_text a.name b.name s.1 in
-    let u = same_uids a.uid b.uid t.1 in
-    λ i. Some (record { namespace = n i; name = m i; uid = u i })
 
 -- where no reference is cleared, the mark stays as it is
 pub mark_same : (old : Option Object) (new : Object) → clears_released old new ≡ false → Passes old new

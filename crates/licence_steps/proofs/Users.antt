@@ -55,7 +55,9 @@ xor_false true false e = absurd (true≢false e)
 xor_false false true e = absurd (true≢false e)
 xor_false false false e = refl
 
-same_texts : (a b : Option (List ℕ)) → same_option bytes_eq a b ≡ true → a ≡ b
+-- what the tests of options tell
+
+pub same_texts : (a b : Option (List ℕ)) → same_option bytes_eq a b ≡ true → a ≡ b
 same_texts None None e = refl
 same_texts None (Some b) e = absurd (true≢false (sym e))
 same_texts (Some a) None e = absurd (true≢false (sym e))
@@ -67,7 +69,7 @@ same_uids None (Some b) e = absurd (true≢false (sym e))
 same_uids (Some a) None e = absurd (true≢false (sym e))
 same_uids (Some a) (Some b) e = let n : a.0 ≡ b.0 = grind (arith, nat_tests) in ap (λ (k : ℕ). Some (record { 0 = k })) n
 
-same_refs : (a b : Option Ref) → same_option same_ref a b ≡ true → a ≡ b
+pub same_refs : (a b : Option Ref) → same_option same_ref a b ≡ true → a ≡ b
 same_refs None None e = refl
 same_refs None (Some b) e = absurd (true≢false (sym e))
 same_refs (Some a) None e = absurd (true≢false (sym e))

@@ -1,9 +1,13 @@
 -- What is said of sample objects and keys. A choice of this project.
-use Rattle.std.specs.Prelude.{ℕ, ◌≡◌, List, [], ◌++◌, Option, Some, None, codes}
+use Rattle.std.specs.Prelude.{ℕ, ◌≡◌, List, [], ◌∷◌, ◌++◌, Option, Some, None, codes}
 use Rattle.kube_types.specs.declared.uid.Uid.{Uid}
 use Rattle.kube_types.specs.declared.key.Key.{Key}
 use Rattle.kube_types.specs.declared.parts.Kind.TheVariants as kinds
+use Rattle.kube_types.specs.declared.parts.SourceKind.TheVariants as sources
+use Rattle.plain_data.specs.Pairs.{Pair}
 use Rattle.kube_types.specs.declared.objects.Meta.{Meta}
+use Rattle.kube_types.specs.declared.objects.Ref.{Ref}
+use Rattle.kube_types.specs.declared.objects.Source.{Source}
 use Rattle.kube_types.specs.Uids.{uid_text}
 
 -- the object has this name, this id and this version
@@ -27,3 +31,17 @@ pod_key name = record { kind = kinds.Pod; namespace = namespace; name = name }
 abbrev pub data_name : Option Uid → List ℕ
 data_name None = codes "pvc-"
 data_name (Some uid) = codes "pvc-" ++ uid_text uid
+
+-- a folder of a file server
+abbrev pub folder : Source
+folder = record { kind = sources.Nfs; first = codes "files"; second = codes "/a" }
+
+-- a reference to the claim of this name, if any
+abbrev pub reference_to : List ℕ → Option Uid → Option Ref
+reference_to [] uid = None
+reference_to claim uid = Some (record { namespace = namespace; name = claim; uid = uid })
+
+-- the label of the zone, if any
+abbrev pub zone_labels : List ℕ → List Pair
+zone_labels [] = []
+zone_labels zone = (codes "zone", zone) ∷ []

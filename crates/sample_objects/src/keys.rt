@@ -1,6 +1,6 @@
 //! Names, ids and keys.
 
-ghost use Rattle.std.specs.Prelude.{◌≡◌, ◌<◌, IfOk};
+ghost use Rattle.std.specs.Prelude.{◌≡◌, ◌<◌, ◌++◌, IfOk, decimal};
 ghost use Rattle.kube_types.specs.Uids.{uid_of_serial};
 ghost use Rattle.sample_objects.specs.Samples.{claim_key, data_name, pod_key, volume_key};
 
@@ -29,7 +29,9 @@ pub fn uid_of(number: u64) -> Uid
 }
 
 /// The name of a letter and a number.
-pub fn numbered(alloc: Global, letter: &str, number: u64) -> Result<Text, OutOfMemory> {
+pub fn numbered(alloc: Global, letter: &str, number: u64) -> Result<Text, OutOfMemory>
+    ensures { IfOk result (λ name. name ≡ letter.now ++ decimal number) }
+{
     let name = format!(in alloc; "{letter}{number}")?;
     Text::new(alloc, &name)
 }

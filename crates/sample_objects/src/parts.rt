@@ -3,7 +3,7 @@
 ghost use Rattle.std.specs.Prelude.{◌≡◌, ◌∷◌, ◌++◌, [], IfOk, OnOk, true};
 ghost use Rattle.plain_data.specs.Pairs.{put_pair};
 ghost use Rattle.kube_types.specs.Bindings.{is_deleting};
-ghost use Rattle.sample_objects.specs.Samples.{IsStamped};
+ghost use Rattle.sample_objects.specs.Samples.{IsStamped, folder, reference_to, zone_labels};
 
 use crate::keys::NAMESPACE;
 use kube_types::copies::OutOfMemory;
@@ -103,7 +103,9 @@ pub fn amount(alloc: Global) -> Result<Amount, OutOfMemory>
 }
 
 /// A folder of a file server.
-pub fn folder(alloc: Global) -> Result<Source, OutOfMemory> {
+pub fn folder(alloc: Global) -> Result<Source, OutOfMemory>
+    ensures { IfOk result (λ source. source ≡ folder) }
+{
     Ok(Source {
         kind: SourceKind::Nfs,
         first: Text::new(alloc, "files")?,
@@ -133,7 +135,9 @@ pub fn data_source(alloc: Global, id: &str) -> Result<Source, OutOfMemory>
 }
 
 /// A reference to the claim of this name, if any.
-pub fn reference(alloc: Global, claim: &str, uid: Option<Uid>) -> Result<Option<Ref>, OutOfMemory> {
+pub fn reference(alloc: Global, claim: &str, uid: Option<Uid>) -> Result<Option<Ref>, OutOfMemory>
+    ensures { IfOk result (λ reference. reference ≡ reference_to claim.now uid) }
+{
     if claim.is_empty() {
         return Ok(None);
     }
@@ -145,7 +149,9 @@ pub fn reference(alloc: Global, claim: &str, uid: Option<Uid>) -> Result<Option<
 }
 
 /// The label of the zone, if any.
-pub fn zone_labels(alloc: Global, zone: &str) -> Result<Pairs, OutOfMemory> {
+pub fn zone_labels(alloc: Global, zone: &str) -> Result<Pairs, OutOfMemory>
+    ensures { IfOk result (λ labels. labels ≡ zone_labels zone.now) }
+{
     let mut labels = Pairs::new(alloc);
     if !zone.is_empty() {
         labels.set(&Text::new(alloc, "zone")?, &Text::new(alloc, zone)?)?;

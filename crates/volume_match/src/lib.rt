@@ -11,4 +11,4 @@ mod named;
 
 pub use choice::best;
 pub use eligible::{covers, fits, satisfies};
-pub use named::{place_named, row_named};
+pub use named::{place_named, row_named, waits_for_pod};

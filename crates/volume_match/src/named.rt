@@ -3,12 +3,14 @@
 ghost use Rattle.std.specs.Prelude.{◌≡◌, true, None, IfSome, IfNone, slice_get};
 ghost use Rattle.std.specs.Option.{option_copied};
 ghost use Rattle.kube_types.specs.Keys.{row_at, rows_of};
+ghost use Rattle.binder_model.specs.Matching.{waits_for_pod};
 ghost use Rattle.volume_match.specs.Named.{key_at, has_key_at};
 ghost use Rattle.volume_match.specs.Steps.Search.{key_order_at};
 
+use kube_types::bindings::class_of_claim;
 use kube_types::key::{kind_index, kind_of, meta_of};
 use kube_types::lookup::Lookup;
-use kube_types::objects::Object;
+use kube_types::objects::{Claim, Object};
 use kube_types::parts::Kind;
 use std::cmp::Ordering;
 
@@ -61,5 +63,15 @@ fn key_order(object: Option<&Object>, kind: Kind, namespace: &str, name: &str) -
                 .then(meta.namespace.as_str().cmp(namespace))
                 .then(meta.name.as_str().cmp(name))
         }
+    }
+}
+
+/// Whether the claim's class is delayed: the claim waits for a pod that uses it.
+pub fn waits_for_pod<L: Lookup>(lookup: &L, claim: &Claim) -> bool
+    ensures { result ≡ waits_for_pod (L.rows lookup.now) claim.now }
+{
+    match row_named(lookup, Kind::StorageClass, "", class_of_claim(claim)) {
+        Some(Object::Class(class)) => class.delayed,
+        _ => false,
     }
 }

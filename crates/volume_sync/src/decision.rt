@@ -2,7 +2,7 @@
 
 ghost use Rattle.std.specs.Prelude.{◌≡◌, is_some};
 ghost use Rattle.std.specs.Option.{option_copied};
-ghost use Rattle.kube_types.specs.Bindings.{is_available, is_ended};
+ghost use Rattle.kube_types.specs.Bindings.{is_available};
 ghost use Rattle.binder_model.specs.BinderDue.{is_reclaimed};
 ghost use Rattle.volume_sync.specs.VolumeDecision.{has_uid, volume_decision};
 ghost use Rattle.volume_sync.specs.Steps.Conditions.{is_settled, names, names_none, conditions_on};
@@ -10,7 +10,7 @@ ghost use Rattle.volume_sync.specs.Steps.Conditions.{is_settled, names, names_no
 use crate::action::VolumeAction;
 use crate::seen::seen_claim;
 use crate::table::volume_table;
-use kube_types::bindings::{PROVISIONED_BY, is_empty, is_protected_volume};
+use kube_types::bindings::{PROVISIONED_BY, is_empty, is_ended, is_protected_volume};
 use kube_types::lookup::{Live, Lookup};
 use kube_types::objects::{Claim, Volume};
 use kube_types::parts::{Policy, VolumePhase};
@@ -57,15 +57,6 @@ fn has_uid(volume: &Volume) -> bool
     match &volume.claim_ref {
         None => false,
         Some(reference) => reference.uid.is_some(),
-    }
-}
-
-fn is_ended(phase: VolumePhase) -> bool
-    ensures { result ≡ is_ended phase }
-{
-    match phase {
-        VolumePhase::Released | VolumePhase::Failed => true,
-        _ => false,
     }
 }
 
