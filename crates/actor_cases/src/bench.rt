@@ -187,14 +187,16 @@ impl Seat {
 
     /// Makes one call; false where the actor is idle.
     fn step(&mut self, world: &mut World) -> Result<bool, OutOfMemory> {
-        let request = match self.actor.next()? {
-            Next::Idle => return Ok(false),
-            Next::Call(request) => request,
-        };
-        self.made = self.made.wrapping_add(1);
-        let outcome = made(world, self.number, self.kind, &request, self.loss())?;
-        self.actor.absorb(&request, outcome)?;
-        Ok(true)
+        let next = self.actor.next()?;
+        match &next {
+            Next::Idle => Ok(false),
+            Next::Call(request) => {
+                self.made = self.made.wrapping_add(1);
+                let outcome = made(world, self.number, self.kind, request, self.loss())?;
+                self.actor.absorb(request, outcome)?;
+                Ok(true)
+            }
+        }
     }
 
     /// Whether the present call is lost, and then whether after its effect.

@@ -7,7 +7,6 @@ use Rattle.kube_types.specs.declared.uid.Uid.{Uid}
 use Rattle.kube_types.specs.declared.parts.VolumePhase.{VolumePhase}
 use Rattle.kube_types.specs.declared.parts.VolumePhase.TheVariants as volumes
 use Rattle.kube_types.specs.declared.objects.Ref.{Ref}
-use Rattle.kube_types.specs.declared.objects.Meta.{Meta}
 use Rattle.kube_types.specs.declared.objects.Volume.{Volume as VolumeData}
 use Rattle.kube_types.specs.declared.objects.Claim.{Claim as ClaimData}
 use Rattle.kube_types.specs.Bindings.{bound_by_controller, has_key, is_empty, is_for, is_ended, is_bound, is_protected_volume, carries, ref_uid}
@@ -17,16 +16,19 @@ use Rattle.call_types.specs.declared.request.Request.TheVariants.{Get}
 use Rattle.call_types.specs.declared.request.SeatKind.TheVariants.{Binder}
 use Rattle.binder_model.specs.At.{IsWrittenAt}
 use Rattle.binder_model.specs.ObjectKeys.{claim_key, volume_key}
-use Rattle.binder_model.specs.BindWrites.{annotated_meta_if, claim_write, completed_with, is_completed_with, next_write, shows_bound, taken_for, unbound_volume, without_uid, write_bound, write_claim_status, write_completion, write_reference, write_unbound}
+use Rattle.binder_model.specs.BindWrites.{claim_write, completed_with, is_completed_with, next_write, shows_bound, taken_for, unbound_volume, without_uid, write_bound, write_claim_status, write_completion, write_reference, write_unbound}
 use Rattle.binder_model.specs.BinderLicence.{IsTaken, MayTake, MayBind, MayComplete, MayShow, MayLose, MayUnbind, IsHere, IsBoundFor, IsShown}
 use Rattle.binder_model.specs.Licence.{AreOfKind, AtVolumeKey, BinderMay, BinderPhase, BinderVolume, Licensed}
 use Rattle.model_laws.proofs.Evidence.{told_claim, told_volume}
+use Rattle.model_laws.proofs.Identity.{placed_same}
 use Rattle.model_laws.proofs.Lists.{none_some, one}
 use Rattle.binder_machines.specs.declared.machine.Machine.{Machine}
 use Rattle.binder_machines.specs.declared.machine.Machine.TheVariants.{Frees, Binds, MarksBound, ReadsClaim, Releases, Unbinds, ReadsVolume, Loses}
 use Rattle.binder_machines.specs.Machines.{call_of, may_bind, phase_call, read_of, write_lost, write_phase}
 use Rattle.binder_machines.specs.Evidence.{Keeps, MayReadClaim, ToldThis, ToldThisClaim}
-use Rattle.binder_machines.proofs.Tests.{either, empty_is, bytes_are, carried, free}
+use Rattle.world_invariant.proofs.Carried.{carried}
+use Rattle.world_moves.proofs.Tests.{same_text}
+use Rattle.binder_machines.proofs.Tests.{either, empty_is, free, uid_of}
 
 -- the tests of a binding, as facts
 record Open (v : VolumeData) (c : ClaimData) : Type 0 where
@@ -44,7 +46,7 @@ open_of v c e =
       known = first.0;
       placed = empty_is v.meta.namespace first.1;
       reference = front.1;
-      named = elim (either _ _ all.1) [ inl none ↦ inl (empty_is c.volume_name none) | inr own ↦ inr (bytes_are c.volume_name v.meta.name own) ];
+      named = elim (either _ _ all.1) [ inl none ↦ inl (empty_is c.volume_name none) | inr own ↦ inr (same_text c.volume_name v.meta.name own) ];
     }
 
 answered : (mine : List Entry) (a b : Request) → Some a ≡ Some b → BinderMay mine a → BinderMay mine b
@@ -56,10 +58,6 @@ tested mine false a r may e = none_some e
 
 -- the four writes
 
-placed_same : (b : Bool) (m : Meta) → ((annotated_meta_if b bound_by_controller m).namespace ≡ m.namespace) × ((annotated_meta_if b bound_by_controller m).name ≡ m.name)
-placed_same true m = (refl, refl)
-placed_same false m = (refl, refl)
-
 by_uid : (mine : List Entry) (new o : VolumeData) (uid : Option Uid) → is_some uid ≡ true → MayTake mine o new → BinderVolume uid mine new o
 by_uid mine new o None known row = absurd (true≢false (sym known))
 by_uid mine new o (Some uid) known row = row
@@ -68,7 +66,7 @@ reference_allowed : (v : VolumeData) (c : ClaimData) (mine : List Entry) → Tol
 unfolding taken_for
 reference_allowed v c mine volume claim opened other live =
     let new = taken_for v c in
-    let same = placed_same (is_none v.claim_ref) v.meta in
+    let same = placed_same (is_none v.claim_ref) bound_by_controller v.meta in
     let taken : IsTaken v new c = record { known = opened.known; free = free v.claim_ref c v refl opened.reference other; change = refl } in
     let row : MayTake mine v new = record { live = live; told = told_claim (IsTaken v new) c mine claim taken } in
     told_volume (λ o. IsWrittenAt (Some v.meta.version) new.meta.namespace new.meta.name o.meta × BinderVolume (ref_uid new.claim_ref) mine new o) v mine volume
@@ -82,13 +80,13 @@ bound_allowed : (v : VolumeData) (c : ClaimData) (mine : List Entry) → ToldThi
 bound_allowed v c mine volume claim opened carry live guarded =
     let has = carried v c carry in
     volume_status v mine (MayBind mine) volume opened.placed
-    (record { live = live; guarded = guarded; uid = has.uid; refers = has.refers; told = told_claim (IsHere v.meta.name has.uid) c mine claim (record { claim = has.has; names = opened.named }) })
+    (record { live = live; guarded = guarded; uid = has.uid; refers = uid_of v has.reference has.uid has.refers.is has.refers.known; told = told_claim (IsHere v.meta.name has.uid) c mine claim (record { claim = has.its; names = opened.named }) })
 
 completion_allowed : (v : VolumeData) (c : ClaimData) (mine : List Entry) → ToldThis v mine → ToldThisClaim c mine → Open v c → carries v c ≡ true → is_bound v.phase ≡ true → BinderMay mine (write_completion v c)
 unfolding completed_with
 completion_allowed v c mine volume claim opened carry bound =
     let new = completed_with c v in
-    let same = placed_same (is_empty c.volume_name) c.meta in
+    let same = placed_same (is_empty c.volume_name) bound_by_controller c.meta in
     let row : MayComplete mine c new = told_volume (IsBoundFor c new) v mine volume (record { bound = bound; carries = carry; names = opened.named; change = refl }) in
     told_claim (λ o. IsWrittenAt (Some c.meta.version) new.meta.namespace new.meta.name o.meta × MayComplete mine o new) c mine claim
     (record { version = refl; placed = sym same.0; named = sym same.1 }, row)
@@ -96,7 +94,7 @@ completion_allowed v c mine volume claim opened carry bound =
 status_allowed : (v : VolumeData) (c : ClaimData) (mine : List Entry) → ToldThis v mine → ToldThisClaim c mine → carries v c ≡ true → is_bound v.phase ≡ true → is_completed_with c v ≡ true → BinderMay mine (write_claim_status v c)
 status_allowed v c mine volume claim carry bound done =
     let parts = and_parts _ _ done in
-    let shown : IsShown c v.modes (Some v.amount) v = record { named = sym (bytes_are c.volume_name v.meta.name parts.1); bound = bound; carries = carry; same_modes = refl; same_amount = refl } in
+    let shown : IsShown c v.modes (Some v.amount) v = record { named = sym (same_text c.volume_name v.meta.name parts.1); bound = bound; carries = carry; same_modes = refl; same_amount = refl } in
     let row : MayShow mine c v.modes (Some v.amount) = record { completed = parts.0; told = told_volume (IsShown c v.modes (Some v.amount)) v mine volume shown } in
     (refl, told_claim (λ o. IsWrittenAt (Some c.meta.version) c.meta.namespace c.meta.name o.meta × MayShow mine o v.modes (Some v.amount)) c mine claim (record { version = refl; placed = refl; named = refl }, row))
 

@@ -18,7 +18,7 @@ use Rattle.call_types.specs.declared.entry.Entry.{Entry}
 use Rattle.binder_model.specs.ObjectKeys.{claim_key}
 use Rattle.binder_model.specs.BinderDue.{claim_with}
 use Rattle.binder_model.specs.Reading.{LacksUid}
-use Rattle.binder_model.specs.Told.{IsClaimWith, IsNewest, IsVolumeWith, newest, object_of}
+use Rattle.binder_model.specs.Told.{IsNewest, newest, object_of}
 use Rattle.informer_cache.specs.All.{AllKnown, AllStandFor, all_objects}
 use Rattle.claim_sync.specs.ClaimDecision.{claim_decision}
 use Rattle.claim_sync.specs.declared.action.ClaimStep.{ClaimStep}
@@ -26,26 +26,18 @@ use Rattle.claim_sync.specs.declared.action.ClaimStep.TheVariants as steps
 use Rattle.volume_sync.specs.VolumeDecision.{claim_by_reference, claim_by_uid, or_else, seen_claim, has_uid, volume_decision}
 use Rattle.volume_sync.specs.declared.action.VolumeAction.{VolumeAction}
 use Rattle.volume_sync.specs.declared.action.VolumeAction.TheVariants as actions
-use Rattle.model_laws.proofs.Evidence.{told_map}
 use Rattle.model_laws.proofs.Lists.{none_some}
-use Rattle.model_laws.proofs.Newest.{newest_told}
+use Rattle.model_laws.proofs.Newest.{newest_claim, newest_volume}
 use Rattle.binder_machines.specs.declared.decide.First.{First}
 use Rattle.binder_machines.specs.declared.decide.First.TheVariants.{Begins}
 use Rattle.binder_machines.specs.declared.machine.Machine.{Machine}
 use Rattle.binder_machines.specs.declared.machine.Machine.TheVariants.{Binds, ReadsClaim, ReadsVolume}
 use Rattle.binder_machines.specs.Machines.{machine_for}
-use Rattle.binder_machines.specs.Evidence.{Keeps, MayReadVolume, ToldThis, ToldThisClaim}
+use Rattle.binder_machines.specs.Evidence.{Keeps, MayReadVolume, ToldThis}
 use Rattle.binder_machines.specs.FirstSteps.{IsClaimFirst, IsFirst, first_of, lost_for, queue_of, volume_first}
 use Rattle.binder_machines.proofs.Moves.{Seen, becomes, decided_keeps, found, lacks}
 use Rattle.binder_machines.proofs.Shown.{completed_of, is_for_completed}
 use Rattle.binder_machines.proofs.Tests.{empty_is}
-
--- what was told newest was told
-newest_volume : (mine : List Entry) (key : Key) (v : VolumeData) → IsNewest mine key (Volume v) → ToldThis v mine
-newest_volume mine key v is = told_map {P = λ x. x ≡ Volume v} {Q = IsVolumeWith (λ u. u ≡ v)} (λ o same. subst (IsVolumeWith (λ u. u ≡ v)) (sym same) refl) mine (newest_told mine key (Volume v) is)
-
-newest_claim : (mine : List Entry) (key : Key) (c : ClaimData) → IsNewest mine key (Claim c) → ToldThisClaim c mine
-newest_claim mine key c is = told_map {P = λ x. x ≡ Claim c} {Q = IsClaimWith (λ d. d ≡ c)} (λ o same. subst (IsClaimWith (λ d. d ≡ c)) (sym same) refl) mine (newest_told mine key (Claim c) is)
 
 -- the machine that begins, if one does
 abbrev pub machine_in : First → Option Machine
@@ -98,7 +90,7 @@ module _ (rows : List Object) (mine : List Entry) (order : AreRows rows) (shows 
   volume_keeps key v machine at = decided_keeps v false (seen_claim rows v NotAsked) mine machine told lacking seen
     where
       told : ToldThis v mine
-      told = newest_volume mine key v (newest_row key (Volume v) at)
+      told = newest_volume (λ u. u ≡ v) mine key v (newest_row key (Volume v) at) refl
 
       lacking : is_ended v.phase ≡ false → has_uid v ≡ true → seen_claim rows v NotAsked ≡ None → Some (ReadsClaim v) ≡ Some machine → Keeps machine mine
       lacking live has none s =
@@ -129,7 +121,7 @@ module _ (rows : List Object) (mine : List Entry) (order : AreRows rows) (shows 
           let k = known_of v has in
           let place = claim_key k.reference.namespace k.reference.name in
           let f = found k.uid c (row_at place rows) (sym (seen_row rows v k) ∙ is) in
-          record { reference = k.reference; uid = k.uid; refers = k.refers; known = k.known; has = f.has; claim = newest_claim mine place c (newest_row place (Claim c) f.is) }
+          record { reference = k.reference; uid = k.uid; refers = k.refers; known = k.known; has = f.has; claim = newest_claim (λ d. d ≡ c) mine place c (newest_row place (Claim c) f.is) refl }
 
   volume_begins : (key : Key) (v : VolumeData) (machine : Machine) → row_at key rows ≡ Some (Volume v) → Begins machine ≡ volume_first v (volume_decision rows v NotAsked) → Keeps machine mine
   volume_begins key v machine at = by (volume_decision rows v NotAsked) refl
@@ -151,7 +143,7 @@ module _ (rows : List Object) (mine : List Entry) (order : AreRows rows) (shows 
 
   may_read : (key : Key) (c : ClaimData) → row_at key rows ≡ Some (Claim c) → is_completed c ≡ true → MayReadVolume c mine
   may_read key c at done = record {
-    claim = newest_claim mine key c (newest_row key (Claim c) at);
+    claim = newest_claim (λ d. d ≡ c) mine key c (newest_row key (Claim c) at) refl;
     completed = done;
     asks = record { claim = c; newest_claim = own_row key (Claim c) at; completed = done; named = refl };
   }
@@ -160,7 +152,7 @@ module _ (rows : List Object) (mine : List Entry) (order : AreRows rows) (shows 
   lost_keeps key c at done = by (is_empty c.volume_name) refl
     where
       by : (none : Bool) → is_empty c.volume_name ≡ none → Keeps (lost_for none c) mine
-      by true n = (newest_claim mine key c (newest_row key (Claim c) at), record { completed = done; why = inl (empty_is c.volume_name n); same_modes = refl; same_amount = refl })
+      by true n = (newest_claim (λ d. d ≡ c) mine key c (newest_row key (Claim c) at) refl, record { completed = done; why = inl (empty_is c.volume_name n); same_modes = refl; same_amount = refl })
       by false n = may_read key c at done
 
   claim_begins : (key : Key) (c : ClaimData) (machine : Machine) → row_at key rows ≡ Some (Claim c) → IsClaimFirst rows c (claim_decision rows c NotAsked) (Begins machine) → Keeps machine mine
@@ -174,7 +166,7 @@ module _ (rows : List Object) (mine : List Entry) (order : AreRows rows) (shows 
           let v = e.volume in
           let stands = row_at_place kinds.PersistentVolume e.place (Volume v) rows order e.there in
           becomes (Binds v c) machine mine (sym (ap machine_in e.begins))
-          (newest_volume mine (key_of (Volume v)) v (newest_row (key_of (Volume v)) (Volume v) stands), newest_claim mine key c (newest_row key (Claim c) at))
+          (newest_volume (λ u. u ≡ v) mine (key_of (Volume v)) v (newest_row (key_of (Volume v)) (Volume v) stands) refl, newest_claim (λ d. d ≡ c) mine key c (newest_row key (Claim c) at) refl)
 
   begins_keep : (key : Key) (o : Option Object) (machine : Machine) → row_at key rows ≡ o → IsFirst rows o (Begins machine) → Keeps machine mine
   begins_keep key (Some (Volume v)) machine at e = volume_begins key v machine at e

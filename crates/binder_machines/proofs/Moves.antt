@@ -32,7 +32,8 @@ use Rattle.binder_machines.specs.declared.machine.Machine.{Machine}
 use Rattle.binder_machines.specs.declared.machine.Machine.TheVariants.{Frees, Binds, MarksBound, ReadsClaim, Releases, Unbinds, ReadsVolume, Loses}
 use Rattle.binder_machines.specs.Machines.{call_of, claim_in, claim_read, confirmed_for, machine_for, moved, read_of, unbound_to, volume_read}
 use Rattle.binder_machines.specs.Evidence.{Keeps, MayReadClaim, MayReadVolume, ToldThis, ToldThisClaim}
-use Rattle.binder_machines.proofs.Tests.{bytes_are, bytes_differ, empty_is, filled_is, uid_differs, uid_is}
+use Rattle.world_moves.proofs.Tests.{same_text, uid_is}
+use Rattle.binder_machines.proofs.Tests.{bytes_differ, empty_is, filled_is, uid_differs, uid_of}
 
 -- what an answer tells was told
 tells : (P : Object → Type 0) (e : Entry) (reply : Reply) → e.told ≡ true → e.reply ≡ reply → SomeOf P (objects_in reply) → TellsObject P e
@@ -49,9 +50,6 @@ pub record Seen (v : VolumeData) (c : ClaimData) (mine : List Entry) : Type 0 wh
   pub known : reference.uid ≡ Some uid
   pub has : HasUid uid c
   pub claim : ToldThisClaim c mine
-
-uid_of : (v : VolumeData) (r : Ref) (uid : Uid) → v.claim_ref ≡ Some r → r.uid ≡ Some uid → ref_uid v.claim_ref ≡ Some uid
-uid_of v r uid refers known = ap ref_uid refers ∙ known
 
 elsewhere : (v : VolumeData) (c : ClaimData) (mine : List Entry) → (s : Seen v c mine) → is_empty c.volume_name ≡ false → bytes_eq c.volume_name v.meta.name ≡ false → IsElsewhere v.meta.name s.uid c
 elsewhere v c mine s filled other = record { claim = s.has; named = filled_is c.volume_name filled; other = bytes_differ c.volume_name v.meta.name other }
@@ -73,7 +71,7 @@ claimed_keeps v c mine next told live s = by (is_empty c.volume_name) (bytes_eq 
             guarded = g;
             uid = s.uid;
             refers = uid_of v s.reference s.uid s.refers s.known;
-            told = told_claim (IsHere v.meta.name s.uid) c mine s.claim (record { claim = s.has; names = inr (bytes_are c.volume_name v.meta.name t) });
+            told = told_claim (IsHere v.meta.name s.uid) c mine s.claim (record { claim = s.has; names = inr (same_text c.volume_name v.meta.name t) });
           },
         )
     by false false bound guarded true n t g r e =

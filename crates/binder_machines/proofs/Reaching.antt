@@ -1,5 +1,5 @@
 -- No call of a machine reads a whole kind, and the key that is queued in a volume's place is a claim's.
-use Rattle.std.proofs.Common.{◌≡◌, List, Bool, true, false, Option, Some, None, refl, sym, ◌∙◌, ap, if◌then◌else◌}
+use Rattle.std.proofs.Common.{◌≡◌, Bool, true, false, Option, Some, None, refl, sym, ◌∙◌, ap, if◌then◌else◌}
 use Rattle.std.specs.Prelude.{◌&&◌, ◌||◌, not, is_some, ⊤}
 use Rattle.kube_types.specs.declared.key.Key.{Key}
 use Rattle.kube_types.specs.declared.parts.Kind.{Kind}
@@ -25,10 +25,10 @@ use Rattle.volume_sync.specs.declared.action.VolumeAction.{VolumeAction}
 use Rattle.volume_sync.specs.declared.action.VolumeAction.TheVariants as actions
 use Rattle.model_laws.proofs.Lists.{none_some, one}
 use Rattle.binder_machines.specs.declared.decide.First.{First}
-use Rattle.binder_machines.specs.declared.decide.First.TheVariants.{Drops, Queues, Begins}
+use Rattle.binder_machines.specs.declared.decide.First.TheVariants.{Queues}
 use Rattle.binder_machines.specs.declared.machine.Machine.{Machine}
 use Rattle.binder_machines.specs.declared.machine.Machine.TheVariants.{Frees, Binds, MarksBound, ReadsClaim, Releases, Unbinds, ReadsVolume, Loses}
-use Rattle.binder_machines.specs.FirstSteps.{IsClaimFirst, IsFirst, claim_first, first_of, queue_of, volume_first}
+use Rattle.binder_machines.specs.FirstSteps.{IsClaimFirst, IsFirst, first_of, queue_of, volume_first}
 use Rattle.binder_machines.specs.KindLaw.{CallsReadNoKind, VolumesQueueClaims, reads_kind}
 use Rattle.binder_machines.specs.Machines.{call_of, machine_for, may_bind, phase_call, read_of, write_phase}
 

@@ -9,7 +9,6 @@ use Rattle.kube_types.specs.declared.objects.Ref.{Ref}
 use Rattle.kube_types.specs.declared.objects.Volume.{Volume as VolumeData}
 use Rattle.kube_types.specs.declared.objects.Claim.{Claim as ClaimData}
 use Rattle.kube_types.specs.Bindings.{is_empty, is_uid, is_for, carries, names_claim, uid_fits, uid_carries, ref_uid}
-use Rattle.binder_model.specs.At.{HasUid}
 use Rattle.binder_model.specs.BinderLicence.{IsFreeFor}
 
 pub either : (a b : Bool) → (a || b) ≡ true → (a ≡ true) ⊎ (b ≡ true)
@@ -24,37 +23,17 @@ pub filled_is : (xs : List ℕ) → is_empty xs ≡ false → xs ≡ [] → ⊥
 filled_is [] e is = true≢false e
 filled_is (x ∷ xs) e is = true≢false (sym (ap is_empty is) ∙ e)
 
-pub bytes_are : (a b : List ℕ) → bytes_eq a b ≡ true → a ≡ b
-bytes_are a b e = (bytes_eq-Decides a b).0 e
-
 pub bytes_differ : (a b : List ℕ) → bytes_eq a b ≡ false → a ≡ b → ⊥
 bytes_differ a b e is = true≢false (sym ((bytes_eq-Decides a b).1 is) ∙ e)
-
-pub uid_is : (given : Option Uid) (uid : Uid) → is_uid given uid ≡ true → given ≡ Some uid
-uid_is None uid e = absurd (true≢false (sym e))
-uid_is (Some u) uid e = ap (λ n. Some (record { 0 = n })) ((Decides-eqb u.0 uid.0).0 e)
 
 pub uid_differs : (given : Option Uid) (uid : Uid) → is_uid given uid ≡ false → given ≡ Some uid → ⊥
 uid_differs given uid e is =
     let test : is_uid (Some uid) uid ≡ true = (Decides-eqb uid.0 uid.0).1 refl in
     true≢false (sym (ap (λ u. is_uid u uid) is ∙ test) ∙ e)
 
--- a reference that carries the claim has its UID
-pub record Carried (v : VolumeData) (c : ClaimData) : Type 0 where
-  pub uid : Uid
-  pub refers : ref_uid v.claim_ref ≡ Some uid
-  pub has : HasUid uid c
-
-pub carried : (v : VolumeData) (c : ClaimData) → carries v c ≡ true → Carried v c
-carried v c e = by v.claim_ref refl e
-  where
-    by_uid : (r : Ref) (uid : Option Uid) → v.claim_ref ≡ Some r → r.uid ≡ uid → uid_carries uid c ≡ true → Carried v c
-    by_uid r None is has t = absurd (true≢false (sym t))
-    by_uid r (Some uid) is has t = record { uid = uid; refers = ap ref_uid is ∙ has; has = uid_is c.meta.uid uid t }
-
-    by : (o : Option Ref) → v.claim_ref ≡ o → carries (record v { claim_ref = o }) c ≡ true → Carried v c
-    by None is t = absurd (true≢false (sym t))
-    by (Some r) is t = by_uid r r.uid is refl (and_parts (names_claim r c) (uid_carries r.uid c) t).1
+-- the UID in the reference of a volume
+pub uid_of : (v : VolumeData) (r : Ref) (uid : Uid) → v.claim_ref ≡ Some r → r.uid ≡ Some uid → ref_uid v.claim_ref ≡ Some uid
+uid_of v r uid refers known = ap ref_uid refers ∙ known
 
 -- a volume that may be bound and does not carry the claim is free for it
 pub free : (o : Option Ref) (c : ClaimData) (v : VolumeData) → v.claim_ref ≡ o → (is_none v.claim_ref || is_for v c) ≡ true → carries v c ≡ false → IsFreeFor o c

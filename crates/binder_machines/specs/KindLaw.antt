@@ -1,6 +1,6 @@
 -- What an actor may rely on, whichever machines there are: no call of theirs lists or watches a whole kind, so that none counts as a
 -- read of the actor's own; and the key that is queued in a volume's place is a claim's. A choice of this project.
-use Rattle.std.specs.Prelude.{◌≡◌, Bool, false, List, Option, Some, None}
+use Rattle.std.specs.Prelude.{◌≡◌, Bool, false, List, Some, None}
 use Rattle.kube_types.specs.declared.key.Key.{Key}
 use Rattle.kube_types.specs.declared.parts.Kind.{Kind}
 use Rattle.kube_types.specs.declared.parts.Kind.TheVariants as kinds

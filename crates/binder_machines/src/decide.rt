@@ -11,11 +11,10 @@ ghost use Rattle.binder_machines.specs.FirstSteps.{IsClaimFirst, IsFirst, first_
 ghost use Rattle.binder_machines.specs.Machines.{machine_for};
 
 use crate::machine::{Machine, machine_for};
-use crate::requests::claim_key;
 use claim_sync::{ClaimAction, decide_claim};
 use kube_types::bindings::is_empty;
 use kube_types::copies::{OutOfMemory, Plain};
-use kube_types::key::Key;
+use kube_types::key::{Key, claim_key};
 use kube_types::lookup::{Live, Lookup};
 use kube_types::objects::{Claim, Object, Ref, Volume};
 use kube_types::parts::Kind;
@@ -23,7 +22,7 @@ use std::alloc::Global;
 use volume_sync::{VolumeAction, decide_volume};
 
 /// What is done about a key: nothing, another key is queued, or a machine begins.
-#[derive(Debug, Drop)]
+#[derive(Drop)]
 pub enum First {
     Drops,
     Queues(Key),

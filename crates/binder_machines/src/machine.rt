@@ -17,7 +17,6 @@ use std::alloc::Global;
 use volume_sync::VolumeAction;
 
 /// What the binder has under way for one key, with the objects on which it goes on.
-#[derive(Debug)]
 pub enum Machine {
     /// Phase Available is to be written.
     Frees(Volume),

@@ -1,17 +1,15 @@
 //! The calls of the machines, and what they ask of the objects.
 
 ghost use Rattle.std.specs.Prelude.{◌≡◌, IfOk};
-ghost use Rattle.binder_model.specs.ObjectKeys.{claim_key, volume_key};
 ghost use Rattle.binder_machines.specs.Machines.{bind_call, claim_call, may_bind, phase_call, read_of, volume_call, write_lost};
 
 use bind_writes::next_write;
 use call_types::request::{NewStatus, Request};
 use kube_types::bindings::{is_empty, is_for};
-use kube_types::copies::{OutOfMemory, Plain, copy_option};
-use kube_types::key::Key;
+use kube_types::copies::{OutOfMemory, copy_option};
+use kube_types::key::{claim_key, volume_key};
 use kube_types::objects::{Claim, Ref, Volume};
-use kube_types::parts::{ClaimPhase, Kind, VolumePhase};
-use kube_types::text::Text;
+use kube_types::parts::{ClaimPhase, VolumePhase};
 use std::alloc::Global;
 
 /// The next write of the binding. None where the pair is not one to be bound.
@@ -36,26 +34,6 @@ fn may_bind(volume: &Volume, claim: &Claim) -> bool
         && is_empty(&volume.meta.namespace)
         && (volume.claim_ref.is_none() || is_for(volume, claim))
         && (is_empty(&claim.volume_name) || claim.volume_name.is(volume.meta.name.as_str()))
-}
-
-fn volume_key(alloc: Global, name: &Text) -> Result<Key, OutOfMemory>
-    ensures { IfOk result (λ key. key ≡ volume_key name.now) }
-{
-    Ok(Key {
-        kind: Kind::PersistentVolume,
-        namespace: Text::new(alloc, "")?,
-        name: name.copy(alloc)?,
-    })
-}
-
-pub(crate) fn claim_key(alloc: Global, namespace: &Text, name: &Text) -> Result<Key, OutOfMemory>
-    ensures { IfOk result (λ key. key ≡ claim_key namespace.now name.now) }
-{
-    Ok(Key {
-        kind: Kind::PersistentVolumeClaim,
-        namespace: namespace.copy(alloc)?,
-        name: name.copy(alloc)?,
-    })
 }
 
 /// The read of the claim that the volume's reference names. None where the volume has a namespace or

@@ -30,12 +30,24 @@ pub enum Ask {
 }
 
 /// What was told of the objects of one kind: of each key the newest, also of those that are absent.
-#[derive(Debug, Drop)]
 pub struct Cache {
     alloc: Global,
     rows: Rows,
     lists: Lists,
     from: Option<Version>,
+}
+
+impl Drop for Cache {
+    fn drop(self) {
+        let Cache {
+            alloc: _,
+            rows,
+            lists,
+            from: _,
+        } = self;
+        drop(rows);
+        drop(lists);
+    }
 }
 
 impl Model for Cache {

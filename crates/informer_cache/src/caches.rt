@@ -29,7 +29,6 @@ use std::marker::Model;
 /// few steps always. `note`, `forget` and each event are a search, and where the key is new a move of
 /// the rows after it. A list of a whole kind of n objects takes n searches; the list of a namespace
 /// takes as many, with a copy of each row that it leaves, and a move of rows for each new key.
-#[derive(Debug, Drop)]
 pub struct Caches {
     alloc: Global,
     classes: Cache,
@@ -37,6 +36,24 @@ pub struct Caches {
     volumes: Cache,
     claims: Cache,
     pods: Cache,
+}
+
+impl Drop for Caches {
+    fn drop(self) {
+        let Caches {
+            alloc: _,
+            classes,
+            nodes,
+            volumes,
+            claims,
+            pods,
+        } = self;
+        drop(classes);
+        drop(nodes);
+        drop(volumes);
+        drop(claims);
+        drop(pods);
+    }
 }
 
 impl Model for Caches {

@@ -17,7 +17,7 @@ use std::cmp::Ordering;
 use std::marker::Model;
 
 /// A namespace, and the version of its newest list.
-#[derive(Debug, Drop)]
+#[derive(Drop)]
 pub struct Space {
     pub namespace: Text,
     pub version: Version,
@@ -124,10 +124,16 @@ pub fn covers(namespace: &Option<Text>, key: &Key) -> bool
 }
 
 /// The versions of the newest lists: of the whole kind, and of each namespace of which one was told.
-#[derive(Debug, Drop)]
 pub struct Lists {
     whole: Option<Version>,
     spaces: Vec<Space>,
+}
+
+impl Drop for Lists {
+    fn drop(self) {
+        let Lists { whole: _, spaces } = self;
+        drop(spaces);
+    }
 }
 
 impl Model for Lists {

@@ -11,7 +11,7 @@ use kube_types::rows::{Ranked, place_of};
 use std::cmp::Ordering;
 
 /// A key, and the version at which it was told.
-#[derive(Debug, Drop)]
+#[derive(Drop)]
 pub struct Mark {
     pub key: Key,
     pub version: Version,

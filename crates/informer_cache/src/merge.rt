@@ -20,7 +20,7 @@ use kube_types::text::Text;
 use std::alloc::Global;
 
 /// What is known, and a list that is told: of a namespace, or of all.
-#[derive(Debug, Drop)]
+#[derive(Drop)]
 pub struct View<'a> {
     pub rows: &'a Rows,
     pub lists: &'a Lists,

@@ -19,11 +19,22 @@ use std::marker::Model;
 
 /// The objects of one kind in the order of their keys, and of each key that was told of by itself
 /// the version at which that was. A key with a version and no object is absent.
-#[derive(Debug, Drop)]
 pub struct Rows {
     kind: Kind,
     marks: Vec<Mark>,
     objects: Vec<Object>,
+}
+
+impl Drop for Rows {
+    fn drop(self) {
+        let Rows {
+            kind: _,
+            marks,
+            objects,
+        } = self;
+        drop(marks);
+        drop(objects);
+    }
 }
 
 impl Model for Rows {

@@ -1,6 +1,6 @@
 //! What is told of single keys: by answers to own writes, and by events.
 
-ghost use Rattle.std.specs.Prelude.{◌≡◌, ◌≤◌, Some, None, IfSome, OnOk, length, option_map, if◌then◌else◌};
+ghost use Rattle.std.specs.Prelude.{◌≡◌, Some, None, IfSome, OnOk, option_map, if◌then◌else◌};
 ghost use Rattle.std.specs.Option.{option_copied};
 ghost use Rattle.kube_types.specs.declared.key.Key.{Key};
 ghost use Rattle.kube_types.specs.Keys.{key_of};

@@ -7,7 +7,7 @@ ghost use Rattle.informer_cache.specs.Knowledge.{telling_of};
 use kube_types::objects::{Object, Version};
 
 /// The object that stands under a key, or none, as it was told at a version.
-#[derive(Clone, Copy, Debug)]
+#[derive(Clone, Copy)]
 pub struct Told<'a> {
     pub version: Version,
     pub object: Option<&'a Object>,

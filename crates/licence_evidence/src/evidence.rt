@@ -19,7 +19,6 @@ use std::alloc::Global;
 use std::marker::Model;
 
 /// The entries of one seat, with an index. Contracts see the list of the entries, the newest first.
-#[derive(Debug)]
 pub struct Evidence {
     alloc: Global,
     entries: Items<Entry>,

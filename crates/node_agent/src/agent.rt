@@ -4,20 +4,20 @@ ghost use Rattle.std.specs.Prelude.{◌≡◌, IfOk, OnOk};
 ghost use Rattle.binder_model.specs.AgentLicence.{has_row};
 ghost use Rattle.node_agent.specs.Agents.{after_last, after_mounts, after_unmount, agent_at, agent_call, agent_moved, agent_parks, at_start, finish_call, mount_call, step_after};
 
-use crate::reads::{after_claim, claim_key, pod_key, ready_by, step_for, uids_of, volume_key};
+use crate::reads::{after_claim, pod_key, ready_by, step_for, uids_of};
 use crate::step::{AgentStep, ReadyClaim};
 use call_types::reply::{MountRow, Reply};
 use call_types::request::Request;
 use kube_types::bindings::is_deleting;
 use kube_types::copies::{OutOfMemory, Plain};
 use kube_types::items::Items;
+use kube_types::key::{claim_key, volume_key};
 use kube_types::objects::Pod;
 use kube_types::text::Text;
 use kube_types::uid::Uid;
 use std::alloc::Global;
 
 /// A pod of the node, the claims of it that were found ready, in order, and what is to be done next.
-#[derive(Debug)]
 pub struct AgentOp {
     pub node: Text,
     pub epoch: u64,

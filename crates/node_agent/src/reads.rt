@@ -3,7 +3,7 @@
 ghost use Rattle.std.specs.Prelude.{◌≡◌, IfOk};
 ghost use Rattle.std.specs.Option.{option_copied};
 ghost use Rattle.binder_model.specs.BindWrites.{is_claim_bound};
-ghost use Rattle.binder_model.specs.ObjectKeys.{claim_key, pod_key, volume_key};
+ghost use Rattle.binder_model.specs.ObjectKeys.{pod_key};
 ghost use Rattle.node_agent.specs.Agents.{after_claim, is_claim_read, is_ready, is_volume_read, next_step, ready_by, ready_claim, step_for, uids_of};
 
 use crate::step::{AgentStep, ReadyClaim};
@@ -152,26 +152,6 @@ fn ready_claim(alloc: Global, name: &Text, claim: &Claim) -> Result<Option<Ready
             volume: claim.volume_name.copy(alloc)?,
         })),
     }
-}
-
-pub(crate) fn claim_key(alloc: Global, namespace: &Text, name: &Text) -> Result<Key, OutOfMemory>
-    ensures { IfOk result (λ key. key ≡ claim_key namespace.now name.now) }
-{
-    Ok(Key {
-        kind: Kind::PersistentVolumeClaim,
-        namespace: namespace.copy(alloc)?,
-        name: name.copy(alloc)?,
-    })
-}
-
-pub(crate) fn volume_key(alloc: Global, name: &Text) -> Result<Key, OutOfMemory>
-    ensures { IfOk result (λ key. key ≡ volume_key name.now) }
-{
-    Ok(Key {
-        kind: Kind::PersistentVolume,
-        namespace: Text::new(alloc, "")?,
-        name: name.copy(alloc)?,
-    })
 }
 
 pub(crate) fn pod_key(alloc: Global, pod: &Pod) -> Result<Key, OutOfMemory>

@@ -5,7 +5,6 @@ use kube_types::text::Text;
 use kube_types::uid::Uid;
 
 /// A claim that was found ready, and the name of its volume, which was found carrying it.
-#[derive(Debug)]
 pub struct ReadyClaim {
     pub claim: Text,
     pub uid: Uid,
@@ -25,7 +24,6 @@ impl Drop for ReadyClaim {
 }
 
 /// What is to be done next, or how the machine has ended.
-#[derive(Debug)]
 pub enum AgentStep {
     /// The claim of this name is to be read.
     ReadsClaim(Text),

@@ -1,5 +1,5 @@
 -- The next call of a machine is allowed by its evidence, and is a write; a machine whose key is parked has ended.
-use Rattle.std.proofs.Common.{ℕ, zero, suc, ◌≡◌, Bool, true, false, true≢false, List, [], ◌∷◌, drop, Option, Some, None, refl, sym, ap, subst, if◌then◌else◌}
+use Rattle.std.proofs.Common.{ℕ, zero, suc, ◌≡◌, Bool, true, false, true≢false, List, [], ◌∷◌, drop, Option, Some, None, refl, sym, subst, if◌then◌else◌}
 use Rattle.std.specs.Prelude.{slice_get}
 use Rattle.std.specs.List.{AllByRecursion}
 use Rattle.call_types.specs.declared.entry.Entry.{Entry}

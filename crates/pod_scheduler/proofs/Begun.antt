@@ -17,13 +17,13 @@ use Rattle.call_types.specs.declared.request.Request.TheVariants as requests
 use Rattle.call_types.specs.declared.request.SeatKind.TheVariants.{Scheduler}
 use Rattle.binder_model.specs.Choice.{claim_named, claims_of}
 use Rattle.binder_model.specs.Licence.{AreOfKind, SchedulerMay}
-use Rattle.informer_cache.specs.All.{AllKnown, AllStandFor, all_objects}
+use Rattle.informer_cache.specs.All.{all_objects}
 use Rattle.model_laws.proofs.Lists.{none_some, one}
 use Rattle.delayed_binding.specs.declared.choice.Choice.{Choice}
 use Rattle.delayed_binding.specs.declared.choice.Choice.TheVariants.{Assign, Prepare, Wait, NoNode}
 use Rattle.delayed_binding.specs.Choices.{IsChoice}
 use Rattle.delayed_binding.specs.WriteLaw.{ShowsNewest, is_known}
-use Rattle.delayed_binding.specs.Writes.{joined, prepare_write, writes_of}
+use Rattle.delayed_binding.specs.Writes.{prepare_write, writes_of}
 use Rattle.delayed_binding.proofs.Allowed.{assigned_pods_are_allowed, chosen_writes_are_allowed}
 use Rattle.delayed_binding.proofs.Unique.{choices_are_unique}
 use Rattle.pod_scheduler.specs.declared.schedule.ScheduleOp.{ScheduleOp}
@@ -31,7 +31,7 @@ use Rattle.pod_scheduler.specs.declared.tries.Tried.{Tried}
 use Rattle.pod_scheduler.specs.BeginLaw.{BegunHaveCalls, DecisionsAreUnique, DecisionsKeep}
 use Rattle.pod_scheduler.specs.Decisions.{BeginsFor, BeginsIf, BeginsOn, are_known, begun_with, binding, is_known_in, last_refused, present, writes_for}
 use Rattle.pod_scheduler.specs.Evidence.{MayUpdate, MayWrite, ScheduleKeeps}
-use Rattle.pod_scheduler.specs.Schedules.{is_write, schedule_call, write_of}
+use Rattle.pod_scheduler.specs.Schedules.{is_write, schedule_call}
 use Rattle.pod_scheduler.proofs.Allowed.{each_may}
 use Rattle.pod_scheduler.proofs.Present.{each_present, is_update, writes_are_updates}
 

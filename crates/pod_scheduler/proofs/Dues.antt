@@ -1,33 +1,28 @@
 -- Where the look-up is the store itself, what begins on a pod is what is due for it.
-use Rattle.std.proofs.Common.{ℕ, zero, suc, ◌≡◌, ◌∙◌, ◌<◌, ◌+◌, Bool, true, false, true≢false, List, [], ◌∷◌, ◌++◌, length, map, Option, Some, None, refl, sym, ap, subst, arith, if◌then◌else◌}
+use Rattle.std.proofs.Common.{ℕ, zero, ◌≡◌, ◌∙◌, ◌<◌, ◌+◌, Bool, true, false, true≢false, List, [], ◌∷◌, length, map, Option, Some, None, refl, sym, ap, subst, arith, if◌then◌else◌}
 use Rattle.std.specs.Prelude.{◌↔◌, is_some, slice_get}
 use Rattle.std.proofs.lemmas.List.{length-append, length-map}
 use Rattle.kube_types.specs.declared.uid.Uid.{Uid}
 use Rattle.kube_types.specs.declared.key.Key.{Key}
 use Rattle.kube_types.specs.declared.names.Due.{Due}
-use Rattle.kube_types.specs.declared.names.Due.TheVariants as dues
 use Rattle.kube_types.specs.declared.objects.Pod.{Pod as PodData}
-use Rattle.kube_types.specs.declared.objects.Object.{Object}
 use Rattle.kube_types.specs.declared.objects.Object.TheVariants.{Pod}
 use Rattle.kube_types.specs.Bindings.{is_scheduled}
-use Rattle.kube_types.specs.Keys.{AreRows, key_of}
+use Rattle.kube_types.specs.Keys.{AreRows}
 use Rattle.call_types.specs.declared.setup.Setup.{Setup}
 use Rattle.call_types.specs.declared.request.Request.{Request}
 use Rattle.call_types.specs.declared.request.Request.TheVariants as requests
-use Rattle.binder_model.specs.Due.{CanPrepare, IsDue}
+use Rattle.binder_model.specs.Due.{IsDue}
 use Rattle.binder_model.specs.World.{World}
-use Rattle.model_laws.proofs.Lists.{none_some, one}
 use Rattle.delayed_binding.specs.declared.choice.Choice.{Choice}
 use Rattle.delayed_binding.specs.declared.choice.Choice.TheVariants.{Assign, Prepare, Wait, NoNode}
-use Rattle.delayed_binding.specs.ChoiceLaw.{HaveNoNamespace, IsDueBy}
+use Rattle.delayed_binding.specs.ChoiceLaw.{IsDueBy}
 use Rattle.delayed_binding.specs.Choices.{IsChoice}
-use Rattle.delayed_binding.specs.WriteLaw.{HasWrite, written_keys}
+use Rattle.delayed_binding.specs.WriteLaw.{written_keys}
 use Rattle.delayed_binding.specs.Writes.{joined, prepare_write, writes_of}
 use Rattle.delayed_binding.proofs.Allowed.{prepared_have_writes, prepared_writes_are_there}
 use Rattle.delayed_binding.proofs.Dues.{choices_are_due}
-use Rattle.pod_scheduler.specs.declared.schedule.ScheduleOp.{ScheduleOp}
-use Rattle.pod_scheduler.specs.declared.tries.Tried.{Tried}
-use Rattle.pod_scheduler.specs.Decisions.{BeginsFor, BeginsIf, are_known, begun_with, binding, last_refused, present, writes_for}
+use Rattle.pod_scheduler.specs.Decisions.{BeginsIf, begun_with, binding, last_refused, present, writes_for}
 use Rattle.pod_scheduler.specs.DueLaw.{AreUidsKnown, BeginsWhatIsDue, IsDueAt, first_call}
 use Rattle.pod_scheduler.specs.Schedules.{schedule_call}
 use Rattle.pod_scheduler.proofs.Present.{is_update, writes_are_updates}

@@ -17,24 +17,14 @@ use Rattle.binder_model.specs.At.{IsWrittenAt}
 use Rattle.binder_model.specs.BinderLicence.{MayTake}
 use Rattle.binder_model.specs.ObjectKeys.{class_key, node_key}
 use Rattle.binder_model.specs.SchedulerLicence.{MaySelectNode}
-use Rattle.binder_model.specs.Told.{IsClaimWith, IsNewest, IsVolumeWith, Telling, ToldClaim, ToldVolume, later, newest, object_of, tells_of, told_of}
-use Rattle.model_laws.proofs.Evidence.{told_map}
+use Rattle.binder_model.specs.Told.{IsNewest, Telling, later, newest, object_of, tells_of, told_of}
+use Rattle.model_laws.proofs.Evidence.{claim_map, told_map, volume_map}
 use Rattle.pod_scheduler.specs.declared.schedule.ScheduleOp.{ScheduleOp}
 use Rattle.pod_scheduler.specs.declared.schedule.ScheduleStep.{ScheduleStep}
 use Rattle.pod_scheduler.specs.declared.schedule.ScheduleStep.TheVariants as steps
 use Rattle.pod_scheduler.specs.Evidence.{MayUpdate, MayWrite, ScheduleKeeps, StepKeeps}
 use Rattle.pod_scheduler.specs.Schedules.{is_refused, is_written, schedule_call, schedule_moved, step_after}
 use Rattle.pod_scheduler.proofs.Allowed.{each_may}
-
--- what holds of each volume, and of each claim, holds of the object
-
-volume_map : {P Q : VolumeData → Type 0} → ((v : VolumeData) → P v → Q v) → (o : Object) → IsVolumeWith P o → IsVolumeWith Q o
-volume_map f (Volume v) h = f v h
-volume_map f _ h = absurd h
-
-claim_map : {P Q : ClaimData → Type 0} → ((c : ClaimData) → P c → Q c) → (o : Object) → IsClaimWith P o → IsClaimWith Q o
-claim_map f (Claim c) h = f c h
-claim_map f _ h = absurd h
 
 -- the entry tells nothing of classes and nodes
 record IsQuiet (e : Entry) : Type 0 where

@@ -1,11 +1,10 @@
 -- What stands selected was selected by the seat, and what counts as refused was then told without the node.
-use Rattle.std.proofs.Common.{ℕ, ◌≡◌, ◌∙◌, ◌⊎◌, Bool, true, false, true≢false, not, ◌&&◌, List, [], ◌∷◌, Option, Some, None, inl, inr, refl, sym, ap, subst, if◌then◌else◌}
+use Rattle.std.proofs.Common.{ℕ, ◌≡◌, ◌∙◌, ◌⊎◌, Bool, true, false, not, List, [], ◌∷◌, Option, Some, None, inl, inr, refl, sym, ap, subst, if◌then◌else◌}
 use Rattle.std.proofs.lemmas.Bool.Decides.{Decides-eqb}
 use Rattle.kube_types.specs.declared.uid.Uid.{Uid}
 use Rattle.kube_types.specs.declared.objects.Claim.{Claim as ClaimData}
 use Rattle.kube_types.specs.declared.objects.Object.{Object}
 use Rattle.kube_types.specs.declared.objects.Object.TheVariants.{Class, Node, Volume, Claim, Pod}
-use Rattle.call_types.specs.declared.entry.Entry.{Entry}
 use Rattle.call_types.specs.declared.request.Request.{Request}
 use Rattle.call_types.specs.declared.request.Request.TheVariants.{Update}
 use Rattle.call_types.specs.declared.reply.Reply.{Reply}
@@ -15,7 +14,7 @@ use Rattle.binder_model.specs.Told.{After, IsClaimWith, SomeOf, objects_in}
 use Rattle.model_laws.proofs.Lists.{IsIn, none_some, one, some_filter}
 use Rattle.pod_scheduler.specs.declared.tries.Tried.{Tried}
 use Rattle.pod_scheduler.specs.declared.tries.Tries.{Tries}
-use Rattle.pod_scheduler.specs.Tries.{is_of, is_refusal, node_in, refuse_if, refused_in, renewed, see, see_all, see_claim, select, select_if, tried_of, tries_after, tries_of, without}
+use Rattle.pod_scheduler.specs.Tries.{is_of, is_refusal, node_in, refuse_if, refused_in, see, see_all, see_claim, select, select_if, tried_of, tries_after, tries_of}
 use Rattle.pod_scheduler.specs.TryLaw.{HasNode, IsWithout, RefusedWereRefused, SelectedWereSelected, Selecting, Selects, TellsRefused}
 
 -- what is found

@@ -2,7 +2,7 @@
 -- claim where it stood selected and the claim, not completed, is then seen with another node or with none: by whatever answer tells the
 -- claim as it was written later. So what a watch tells of the time before says nothing.
 -- A choice of this project, after the scheduler's volume binding plugin, which tries another node once `selected-node` is taken back.
-use Rattle.std.specs.Prelude.{ℕ, Bool, true, false, not, ◌&&◌, nat_lt, List, [], ◌∷◌, Option, Some, None, bytes_eq, filter, if◌then◌else◌}
+use Rattle.std.specs.Prelude.{ℕ, Bool, true, not, ◌&&◌, nat_lt, List, [], ◌∷◌, Option, Some, None, bytes_eq, filter, if◌then◌else◌}
 use Rattle.plain_data.specs.Pairs.{value_at}
 use Rattle.kube_types.specs.declared.uid.Uid.{Uid}
 use Rattle.kube_types.specs.declared.objects.Claim.{Claim as ClaimData}

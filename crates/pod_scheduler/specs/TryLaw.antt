@@ -1,6 +1,6 @@
 -- Each node that counts as refused was selected by the seat for that claim, and then the seat was told the claim, as it was written later,
 -- not completed and without this node. A choice of this project.
-use Rattle.std.specs.Prelude.{ℕ, ◌≡◌, true, List, Some}
+use Rattle.std.specs.Prelude.{◌≡◌, true, List, Some}
 use Rattle.kube_types.specs.declared.objects.Claim.{Claim as ClaimData}
 use Rattle.kube_types.specs.declared.objects.Object.TheVariants.{Claim}
 use Rattle.call_types.specs.declared.entry.Entry.{Entry}

@@ -23,7 +23,6 @@ pub enum ScheduleStep {
 
 /// The writes for a pod, in order, and which of them is to be made next: those that prepare a node, or the one that
 /// binds the pod to its node.
-#[derive(Debug)]
 pub struct ScheduleOp {
     pub writes: Items<Request>,
     pub step: ScheduleStep,

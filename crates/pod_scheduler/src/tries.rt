@@ -16,7 +16,7 @@ use kube_types::uid::Uid;
 use std::alloc::Global;
 
 /// A node that was selected for a claim, by the claim's UID, and the version that the claim had then.
-#[derive(Debug, Drop)]
+#[derive(Drop)]
 pub struct Tried {
     pub claim: Uid,
     pub node: Text,
@@ -38,7 +38,6 @@ impl Plain for Tried {
 }
 
 /// The nodes that stand selected, and those that were refused, the last one first; of a claim at most one each.
-#[derive(Debug)]
 pub struct Tries {
     pub selected: Items<Tried>,
     pub refused: Items<Tried>,

@@ -16,11 +16,10 @@ use Rattle.call_types.specs.declared.entry.Entry.{Entry}
 use Rattle.call_types.specs.declared.request.Request.TheVariants.{List as ListOf}
 use Rattle.binder_model.specs.Due.{claim_guard_due, guard_due, volume_guard_due}
 use Rattle.binder_model.specs.GuardLicence.{uses}
-use Rattle.binder_model.specs.Told.{IsClaimWith, IsVolumeWith, IsNewest, ToldClaim, ToldVolume}
+use Rattle.binder_model.specs.Told.{ToldClaim, ToldVolume}
 use Rattle.informer_cache.specs.All.{AllKnown, AllStandFor, all_objects}
-use Rattle.model_laws.proofs.Evidence.{told_map}
 use Rattle.model_laws.proofs.Lists.{none_some, one}
-use Rattle.model_laws.proofs.Newest.{newest_told}
+use Rattle.model_laws.proofs.Newest.{newest_claim, newest_volume}
 use Rattle.protect_sync.specs.declared.claims.ClaimGuardOp.{ClaimGuardOp}
 use Rattle.protect_sync.specs.declared.claims.ClaimGuardStep.{ClaimGuardStep}
 use Rattle.protect_sync.specs.declared.claims.ClaimGuardStep.TheVariants as claims
@@ -38,13 +37,6 @@ pub staying : (deleting guarded needed : Bool) → deleting ≡ false → guard_
 staying true guarded needed e = cc
 staying false true needed e = refl
 staying false false needed e = refl
-
--- what was told newest was told
-newest_claim : (mine : List Entry) (key : Key) (c : ClaimData) → IsNewest mine key (Claim c) → ToldClaim (λ o. o ≡ c) mine
-newest_claim mine key c is = told_map {P = λ x. x ≡ Claim c} {Q = IsClaimWith (λ d. d ≡ c)} (λ o same. subst (IsClaimWith (λ d. d ≡ c)) (sym same) refl) mine (newest_told mine key (Claim c) is)
-
-newest_volume : (mine : List Entry) (key : Key) (v : VolumeData) → IsNewest mine key (Volume v) → ToldVolume (λ o. o ≡ v) mine
-newest_volume mine key v is = told_map {P = λ x. x ≡ Volume v} {Q = IsVolumeWith (λ u. u ≡ v)} (λ o same. subst (IsVolumeWith (λ u. u ≡ v)) (sym same) refl) mine (newest_told mine key (Volume v) is)
 
 claim_becomes : (a b : ClaimGuardOp) (mine : List Entry) → Some a ≡ Some b → ClaimKeeps a mine → ClaimKeeps b mine
 claim_becomes a b mine e kept = subst (λ (k : ClaimGuardOp). ClaimKeeps k mine) (one a b e) kept
@@ -67,7 +59,7 @@ pub claim_decisions : (caches : AllKnown) (mine : List Entry) (key : Key) (op : 
 claim_decisions caches mine key op stand = by (row_at key (all_objects caches)) refl
   where
     by : (row : Option Object) → row_at key (all_objects caches) ≡ row → claim_begins (all_objects caches) row ≡ Some op → ClaimKeeps op mine
-    by (Some (Claim c)) at e = claim_keeps c (list_any (uses c) (all_objects caches)) mine op (newest_claim mine key c (sym (stand.rows key) ∙ at)) e
+    by (Some (Claim c)) at e = claim_keeps c (list_any (uses c) (all_objects caches)) mine op (newest_claim (λ d. d ≡ c) mine key c (sym (stand.rows key) ∙ at) refl) e
     by None at e = none_some e
     by (Some (Class x)) at e = none_some e
     by (Some (Node x)) at e = none_some e
@@ -89,7 +81,7 @@ pub volume_decisions : (caches : AllKnown) (mine : List Entry) (key : Key) (op :
 volume_decisions caches mine key op stand = by (row_at key (all_objects caches)) refl
   where
     by : (row : Option Object) → row_at key (all_objects caches) ≡ row → volume_begins row ≡ Some op → VolumeKeeps op mine
-    by (Some (Volume v)) at e = volume_keeps v mine op (newest_volume mine key v (sym (stand.rows key) ∙ at)) e
+    by (Some (Volume v)) at e = volume_keeps v mine op (newest_volume (λ u. u ≡ v) mine key v (sym (stand.rows key) ∙ at) refl) e
     by None at e = none_some e
     by (Some (Class x)) at e = none_some e
     by (Some (Node x)) at e = none_some e

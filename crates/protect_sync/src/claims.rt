@@ -32,7 +32,7 @@ pub enum ClaimGuardStep {
 }
 
 /// A claim on which protection is due, and what is to be done next.
-#[derive(Debug, Drop)]
+#[derive(Drop)]
 pub struct ClaimGuardOp {
     pub claim: Claim,
     pub step: ClaimGuardStep,

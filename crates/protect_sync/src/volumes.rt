@@ -29,7 +29,7 @@ pub enum VolumeGuardStep {
 }
 
 /// A volume on which protection is due, and what is to be done next.
-#[derive(Debug, Drop)]
+#[derive(Drop)]
 pub struct VolumeGuardOp {
     pub volume: Volume,
     pub step: VolumeGuardStep,

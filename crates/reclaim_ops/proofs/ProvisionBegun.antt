@@ -21,6 +21,7 @@ use Rattle.binder_model.specs.Provisioning.{is_wanting, provisions}
 use Rattle.binder_model.specs.Told.{IsNewest, newest, object_of}
 use Rattle.informer_cache.specs.All.{AllKnown, AllStandFor, all_objects}
 use Rattle.model_laws.proofs.Lists.{none_some, one}
+use Rattle.model_laws.proofs.Newest.{newest_claim}
 use Rattle.reclaim_ops.specs.declared.provision.ProvisionOp.{ProvisionOp}
 use Rattle.reclaim_ops.specs.declared.provision.ProvisionStep.{ProvisionStep}
 use Rattle.reclaim_ops.specs.declared.provision.ProvisionStep.TheVariants as steps
@@ -30,7 +31,6 @@ use Rattle.reclaim_ops.specs.Evidence.{IsCurrent, MayDecide, ProvisionKeeps, Pro
 use Rattle.reclaim_ops.specs.Provisions.{call_at, provision_call, provision_parks}
 use Rattle.reclaim_ops.proofs.Listings.{absent, listed_is_told}
 use Rattle.reclaim_ops.proofs.ProvisionMoves.{wanting_undone}
-use Rattle.reclaim_ops.proofs.Tellings.{newest_claim}
 
 becomes : (a b : ProvisionOp) (mine : List Entry) → Some a ≡ Some b → ProvisionKeeps a mine → ProvisionKeeps b mine
 becomes a b mine e kept = subst (λ (k : ProvisionOp). ProvisionKeeps k mine) (one a b e) kept

@@ -18,12 +18,13 @@ use Rattle.binder_model.specs.ObjectKeys.{class_key, claim_key}
 use Rattle.binder_model.specs.OpsLicence.{AreLabels, GaveData, IsExhausted}
 use Rattle.binder_model.specs.Provisioning.{data_name, is_wanting}
 use Rattle.model_laws.proofs.Lists.{none_some, one}
+use Rattle.model_laws.proofs.Newest.{newest_claim}
 use Rattle.reclaim_ops.specs.declared.provision.ProvisionOp.{ProvisionOp}
 use Rattle.reclaim_ops.specs.declared.provision.ProvisionStep.{ProvisionStep}
 use Rattle.reclaim_ops.specs.declared.provision.ProvisionStep.TheVariants as steps
 use Rattle.reclaim_ops.specs.Evidence.{MayAsk, MayClear, MayCreateOver, ProvisionKeeps, ProvisionStepKeeps}
 use Rattle.reclaim_ops.specs.Provisions.{ask_call, call_at, provision_call, provision_moved, step_after}
-use Rattle.reclaim_ops.proofs.Tellings.{newest_claim, still_newest}
+use Rattle.reclaim_ops.proofs.Tellings.{still_newest}
 
 -- a claim that wants a volume is not completed
 pub wanting_undone : (c : ClaimData) → is_wanting c ≡ true → is_completed c ≡ false

@@ -1,13 +1,13 @@
 //! What of reclaiming is due for a volume.
 
 ghost use Rattle.std.specs.Prelude.{◌≡◌, is_some};
-ghost use Rattle.kube_types.specs.Bindings.{is_delete, is_ended, ref_uid};
+ghost use Rattle.kube_types.specs.Bindings.{is_delete, ref_uid};
 ghost use Rattle.binder_model.specs.Due.{reclaim_due};
 
-use kube_types::bindings::is_deleting;
+use kube_types::bindings::{is_deleting, is_ended};
 use kube_types::names::Due;
 use kube_types::objects::{Ref, Volume};
-use kube_types::parts::{Policy, VolumePhase};
+use kube_types::parts::Policy;
 
 /// What of reclaiming is due for the volume.
 pub fn reclaim_due(volume: &Volume) -> Option<Due>
@@ -28,15 +28,6 @@ pub(crate) fn is_to_reclaim(volume: &Volume) -> bool
         && is_delete(volume.policy)
         && has_uid(&volume.claim_ref)
         && !is_deleting(&volume.meta)
-}
-
-fn is_ended(phase: VolumePhase) -> bool
-    ensures { result ≡ is_ended phase }
-{
-    match phase {
-        VolumePhase::Released | VolumePhase::Failed => true,
-        _ => false,
-    }
 }
 
 fn is_delete(policy: Policy) -> bool

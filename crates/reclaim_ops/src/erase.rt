@@ -34,7 +34,7 @@ pub enum EraseStep {
 }
 
 /// A volume that is to be reclaimed, and what is to be done next.
-#[derive(Debug, Drop)]
+#[derive(Drop)]
 pub struct EraseOp {
     pub volume: Volume,
     pub step: EraseStep,

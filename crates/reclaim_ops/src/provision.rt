@@ -16,7 +16,6 @@ use kube_types::uid::Uid;
 use std::alloc::Global;
 
 /// What is to be done next, or how the machine has ended.
-#[derive(Debug)]
 pub enum ProvisionStep {
     /// Data are to be asked for, on a node with these labels where one was chosen.
     Provisions(Option<Pairs>),
@@ -44,7 +43,6 @@ impl Drop for ProvisionStep {
 }
 
 /// A claim that is to be provisioned, its UID and its class, and what is to be done next.
-#[derive(Debug)]
 pub struct ProvisionOp {
     pub claim: Claim,
     pub uid: Uid,

@@ -3,14 +3,13 @@
 ghost use Rattle.std.specs.Prelude.{◌≡◌, [], IfOk};
 ghost use Rattle.plain_data.specs.Pairs.{put_pair};
 ghost use Rattle.kube_types.specs.Bindings.{bound_by_controller, provisioned_by, yes};
-ghost use Rattle.binder_model.specs.BindWrites.{ref_to};
 ghost use Rattle.binder_model.specs.Provisioning.{data_name, provisioned_meta, provisioned_volume, terms_for};
 ghost use Rattle.reclaim_ops.specs.Steps.Volumes.{csi_source, label_expr};
 
-use kube_types::bindings::{BOUND_BY_CONTROLLER, PROVISIONED_BY, YES};
+use kube_types::bindings::{BOUND_BY_CONTROLLER, PROVISIONED_BY, YES, ref_to};
 use kube_types::copies::{OutOfMemory, Plain};
 use kube_types::items::Items;
-use kube_types::objects::{Claim, Class, DataId, Expr, Meta, NodeTerms, Ref, Source, Volume};
+use kube_types::objects::{Claim, Class, DataId, Expr, Meta, NodeTerms, Source, Volume};
 use kube_types::pairs::Pairs;
 use kube_types::parts::{Op, SourceKind, VolumePhase};
 use kube_types::text::{Names, Text};
@@ -81,16 +80,6 @@ fn annotations_for(alloc: Global, provisioner: &Text) -> Result<Pairs, OutOfMemo
     pairs.set(&provisioned_by, provisioner)?;
     pairs.set(&bound_by_controller, &yes)?;
     Ok(pairs)
-}
-
-fn ref_to(alloc: Global, claim: &Claim) -> Result<Ref, OutOfMemory>
-    ensures { IfOk result (λ reference. reference ≡ ref_to claim.now) }
-{
-    Ok(Ref {
-        namespace: claim.meta.namespace.copy(alloc)?,
-        name: claim.meta.name.copy(alloc)?,
-        uid: claim.meta.uid,
-    })
 }
 
 fn source_of(alloc: Global, id: &DataId) -> Result<Source, OutOfMemory>

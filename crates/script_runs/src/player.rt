@@ -18,7 +18,6 @@ use world_core::kept::KeptWorld;
 
 /// An actor with its part: the seat of its life, and how many calls it has made, lost ones too. After a turn in which it was
 /// idle it is woken at once, as no other call changes it before its next turn.
-#[derive(Debug)]
 pub(crate) struct Player {
     pub part: Part,
     pub seat: u64,

@@ -19,7 +19,6 @@ use std::alloc::Global;
 
 /// What is looked up in place of the entries. Where the caches do not know, or there is no kind, the
 /// entries themselves are read.
-#[derive(Debug)]
 pub struct Index {
     pub pages: Pages,
     pub caches: Caches,

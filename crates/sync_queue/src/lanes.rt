@@ -31,12 +31,26 @@ pub(crate) type Stages = IndexMap<Slot<'static>, Stage>;
 
 /// The keys of a queue: the stage of each, and the lists on which they stand. Each list has room
 /// for all keys, so that a key goes from one to another without memory.
-#[derive(Debug, Drop)]
 pub(crate) struct Lanes {
     pub stages: Stages,
     pub waiting: VecDeque<Key>,
     pub taken: VecDeque<Key>,
     pub parked: VecDeque<Key>,
+}
+
+impl Drop for Lanes {
+    fn drop(self) {
+        let Lanes {
+            stages,
+            waiting,
+            taken,
+            parked,
+        } = self;
+        drop(stages);
+        drop(waiting);
+        drop(taken);
+        drop(parked);
+    }
 }
 
 impl Lanes {

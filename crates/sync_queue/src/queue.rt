@@ -15,10 +15,16 @@ use std::marker::Model;
 /// are taken, and those that are parked until they are added or all are woken.
 ///
 /// Only `add` takes memory. A look-up is by hash, so what is called constant below is so on average.
-#[derive(Debug, Drop)]
 pub struct Queue {
     alloc: Global,
     lanes: Lanes,
+}
+
+impl Drop for Queue {
+    fn drop(self) {
+        let Queue { alloc: _, lanes } = self;
+        drop(lanes);
+    }
 }
 
 impl Model for Queue {

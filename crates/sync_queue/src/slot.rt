@@ -14,16 +14,30 @@ use std::hash::{Hash, Hasher};
 use std::marker::Model;
 
 /// A key that is owned, or one that is only asked for.
-#[derive(Debug, Drop)]
 enum Held<'q> {
     Own(Key),
     Lent(&'q Key),
 }
 
+impl<'q> Drop for Held<'q> {
+    fn drop(self) {
+        match self {
+            Held::Own(key) => drop(key),
+            Held::Lent(_) => {}
+        }
+    }
+}
+
 /// A key of the map. The map owns its keys, and is asked for a key that is lent.
-#[derive(Debug, Drop)]
 pub(crate) struct Slot<'q> {
     held: Held<'q>,
+}
+
+impl<'q> Drop for Slot<'q> {
+    fn drop(self) {
+        let Slot { held } = self;
+        drop(held);
+    }
 }
 
 impl<'q> Model for Slot<'q> {

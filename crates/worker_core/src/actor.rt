@@ -1,6 +1,6 @@
 //! The actor.
 
-ghost use Rattle.std.specs.Prelude.{◌≡◌, List, [], ◌∷◌, Some, None, IfOk, OnOk, false, length, true};
+ghost use Rattle.std.specs.Prelude.{◌≡◌, List, [], ◌∷◌, Some, None, IfOk, OnOk, false, true};
 ghost use Rattle.kube_types.specs.declared.parts.Kind.{Kind};
 ghost use Rattle.call_types.specs.declared.entry.Entry.{Entry};
 ghost use Rattle.call_types.specs.declared.reply.Reply.{Reply};
@@ -37,7 +37,6 @@ use sync_queue::queue::Queue;
 ///
 /// Beside the decision on a key a call takes a constant number of look-ups by key, and no cache is copied. An answer to a
 /// list or a watch takes what the caches and the queue take for each object that it tells.
-#[derive(Debug, Drop)]
 pub struct Actor {
     alloc: Global,
     role: Role,
@@ -47,6 +46,26 @@ pub struct Actor {
     memory: Remembered,
     under: Option<Under>,
     given: Option<Given>,
+}
+
+impl Drop for Actor {
+    fn drop(self) {
+        let Actor {
+            alloc: _,
+            role,
+            caches,
+            queue,
+            pass: _,
+            memory,
+            under,
+            given: _,
+        } = self;
+        drop(role);
+        drop(caches);
+        drop(queue);
+        drop(memory);
+        drop(under);
+    }
 }
 
 impl Model for Actor {

@@ -17,7 +17,6 @@ use std::marker::Model;
 
 /// Of an agent: its epoch, the mounts that it was told last, and whether it was told that its epoch is stale. Of a
 /// scheduler: the nodes that it tried for claims. It stays empty in the other kinds of actors.
-#[derive(Debug)]
 pub(crate) struct Remembered {
     pub(crate) epoch: Option<u64>,
     pub(crate) mounts: Option<Items<MountRow>>,

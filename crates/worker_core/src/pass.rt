@@ -2,9 +2,7 @@
 
 ghost use Rattle.std.specs.Prelude.{◌≡◌, ◌<◌, List, length, slice_get, true};
 ghost use Rattle.call_types.specs.declared.reply.Event.{Event};
-ghost use Rattle.informer_cache.specs.All.{cache_of};
 ghost use Rattle.worker_core.specs.Absorbs.{is_passing, pass_after, watched};
-ghost use Rattle.worker_core.specs.Roles.{kinds_of};
 ghost use Rattle.worker_core.specs.States.{read_of_kind};
 ghost use Rattle.worker_core.specs.Turns.{first_unlisted, is_listed};
 

@@ -9,7 +9,6 @@ use kube_types::parts::Kind;
 use kube_types::text::Text;
 
 /// The kind of an actor's seat, and the node that an agent serves.
-#[derive(Debug)]
 pub struct Role {
     pub kind: SeatKind,
     pub node: Text,

@@ -30,7 +30,6 @@ use reclaim_ops::provision::ProvisionOp;
 use std::alloc::Global;
 
 /// A machine of one of the kinds of actors.
-#[derive(Debug)]
 pub enum Task {
     Binder(Machine),
     ClaimProtect(ClaimGuardOp),
@@ -56,7 +55,6 @@ impl Drop for Task {
 }
 
 /// A task under way, the key for which it is, and its next call.
-#[derive(Debug)]
 pub struct Under {
     pub key: Key,
     pub task: Task,
@@ -73,7 +71,7 @@ impl Drop for Under {
 }
 
 /// What is done about a key: nothing, another key is queued, or a task begins.
-#[derive(Debug, Drop)]
+#[derive(Drop)]
 pub enum First {
     Drops,
     Queues(Key),
@@ -81,7 +79,7 @@ pub enum First {
 }
 
 /// A task after an answer, or none where it has ended; and whether its key is to be parked, where it ends at this answer.
-#[derive(Debug, Drop)]
+#[derive(Drop)]
 pub struct Moved {
     pub task: Option<Task>,
     pub parks: bool,
@@ -327,7 +325,7 @@ fn with_task(alloc: Global, key: &Key, task: Option<Task>) -> Result<Option<Unde
 }
 
 /// What is under way for the key after an answer, or none where the task has ended; and whether the key is then to be parked.
-#[derive(Debug, Drop)]
+#[derive(Drop)]
 pub(crate) struct After {
     pub(crate) key: Key,
     pub(crate) next: Option<Under>,

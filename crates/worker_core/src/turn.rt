@@ -20,15 +20,31 @@ pub enum Given {
 }
 
 /// What an actor asks next.
-#[derive(Debug, Drop)]
 pub enum Next {
     Call(Request),
     Idle,
 }
 
+impl Drop for Next {
+    fn drop(self) {
+        match self {
+            Next::Call(request) => drop(request),
+            Next::Idle => {}
+        }
+    }
+}
+
 /// What came of a call: its answer was told, or it was lost, before its effect or after it.
-#[derive(Debug, Drop)]
 pub enum Outcome {
     Told(Reply),
     Lost,
+}
+
+impl Drop for Outcome {
+    fn drop(self) {
+        match self {
+            Outcome::Told(reply) => drop(reply),
+            Outcome::Lost => {}
+        }
+    }
 }

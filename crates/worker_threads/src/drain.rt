@@ -1,6 +1,6 @@
 //! Rounds while something is due.
 
-ghost use Rattle.std.specs.Prelude.{◌≡◌, ◌≤◌, ◌<◌, ◌-◌, ℕ, List, IfOk, OnOk, OnErr, Some};
+ghost use Rattle.std.specs.Prelude.{◌≡◌, ◌≤◌, ◌<◌, ◌-◌, ℕ, IfOk, OnOk, OnErr, Some};
 ghost use Rattle.binder_model.specs.Told.{own};
 ghost use Rattle.binder_model.specs.Due.{IsSettled};
 ghost use Rattle.settle_check.specs.WorldOf.{world_of};

@@ -1,6 +1,6 @@
 //! The actors of a drain.
 
-ghost use Rattle.std.specs.Prelude.{◌≡◌, ◌+◌, ◌<◌, ◌^◌, List, IfOk, OnOk, length};
+ghost use Rattle.std.specs.Prelude.{◌+◌, ◌<◌, ◌^◌, List, IfOk, OnOk, length};
 ghost use Rattle.call_types.specs.declared.entry.Entry.{Entry};
 ghost use Rattle.worker_core.specs.Roles.{IsBuiltKind};
 ghost use Rattle.worker_threads.specs.Drainers.{AreAdded, AreNew, AreStanding, HaveNoEntries, IsAdded, IsNewAt, seats_of};
@@ -13,7 +13,6 @@ use std::marker::Model;
 use worker_core::actor::Actor;
 
 /// An actor and its seat.
-#[derive(Debug)]
 pub struct Drainer {
     pub seat: u64,
     pub actor: Actor,

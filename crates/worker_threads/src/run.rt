@@ -1,6 +1,6 @@
 //! One actor that is run on a world.
 
-ghost use Rattle.std.specs.Prelude.{◌≡◌, ◌≤◌, ◌<◌, ◌-◌, true, [], ◌∷◌, IfOk, OnOk, OnErr, length};
+ghost use Rattle.std.specs.Prelude.{◌≡◌, ◌<◌, ◌-◌, true, [], ◌∷◌, IfOk, OnOk, OnErr, length};
 ghost use Rattle.binder_model.specs.Imports.{ImportsPass};
 ghost use Rattle.binder_model.specs.Licence.{Licensed};
 ghost use Rattle.binder_model.specs.Promises.{most_entries};
@@ -9,7 +9,7 @@ ghost use Rattle.binder_model.specs.World.{IsHistory};
 ghost use Rattle.worker_core.specs.Roles.{IsBuiltKind};
 ghost use Rattle.worker_core.specs.Stands.{MayBeIdle, StandsFor};
 ghost use Rattle.fitting_calls.specs.Calls.{AreByActors};
-ghost use Rattle.worker_threads.specs.Longer.{IsLonger, HasGrown, users_of};
+ghost use Rattle.worker_threads.specs.Longer.{HasGrown, users_of};
 ghost use Rattle.worker_threads.specs.Rounds.{Runs};
 
 use call_types::reply::Reply;

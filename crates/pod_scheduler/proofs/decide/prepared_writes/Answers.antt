@@ -1,4 +1,4 @@
-use Rattle.std.proofs.Common.{ℕ, ◌≡◌, ◌∙◌, ◌++◌, take, sym, ap, arith}
+use Rattle.std.proofs.Common.{◌≡◌, ◌∙◌, ◌++◌, take, sym, ap, arith}
 use Rattle.delayed_binding.specs.Writes.{writes_of}
 use Rattle.pod_scheduler.specs.Decisions.{present}
 use Rattle.pod_scheduler.specs.Steps.Listed.{listed}
