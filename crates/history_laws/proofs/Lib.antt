@@ -8,7 +8,6 @@ pub mod Texts
 pub mod TextsRead
 pub mod Printed
 pub mod OneHistory
-pub mod Deep
 pub mod ReadParts
 pub mod ReadCalls
 pub mod ReadGives

@@ -12,7 +12,7 @@ use Rattle.history_lines.specs.Entries.{entry_in, setup_in}
 use Rattle.history_read.specs.Grammar.{lines_of}
 use Rattle.history_laws.specs.Given.{IsEntry, IsSetup}
 use Rattle.history_laws.specs.Laws.{OneHistory}
-use Rattle.history_laws.proofs.Deep.{one_value_of}
+use Rattle.json_text.proofs.Deep.{one_value_of}
 use Rattle.history_laws.proofs.EntriesBack.{entry_back, setup_back}
 use Rattle.history_laws.proofs.GoodLines.{entry_good, setup_good}
 use Rattle.history_laws.proofs.TextsRead.{not_end, end_first, lines_are}

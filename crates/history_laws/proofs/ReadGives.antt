@@ -26,7 +26,7 @@ use Rattle.history_type.specs.declared.History.{History}
 use Rattle.history_read.specs.Grammar.{lines_of, in_line, at_line, entries_from, with_setup, history_in, history_of}
 use Rattle.history_laws.specs.Given.{IsNumber, IsRequest, IsReply, IsEntry, IsPool, IsSetup, IsHistory, IsShallow, AreShallow}
 use Rattle.history_laws.specs.Laws.{ReadGives, ReadIsOnly}
-use Rattle.history_laws.proofs.Deep.{read_shallow}
+use Rattle.json_text.proofs.Deep.{read_shallow}
 use Rattle.history_laws.proofs.GoodLines.{entry_good, good_setup}
 use Rattle.history_laws.proofs.LinesRead.{entry_printed, setup_printed, in_line_gives}
 use Rattle.history_laws.proofs.OneHistory.{one_history}

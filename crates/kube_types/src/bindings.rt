@@ -1,11 +1,14 @@
 //! The words of bindings: classes, completed, for, carries, protected.
 
-ghost use Rattle.std.specs.Prelude.{◌≡◌};
-ghost use Rattle.kube_types.specs.Bindings.{carries, class_of_claim, class_of_volume, is_completed, is_deleting, is_empty, is_for, is_protected_claim, is_protected_volume, is_scheduled, is_uid, names_claim};
+ghost use Rattle.std.specs.Prelude.{◌≡◌, IfOk};
+ghost use Rattle.kube_types.specs.Bindings.{carries, class_of_claim, class_of_volume, is_completed, is_deleting, is_empty, is_ended, is_for, is_protected_claim, is_protected_volume, is_scheduled, is_uid, names_claim};
 
 use crate::objects::{Claim, Meta, Pod, Ref, Volume};
+use crate::parts::VolumePhase;
 use crate::uid::Uid;
+use plain_data::copies::{OutOfMemory, Plain};
 use plain_data::text::Text;
+use std::alloc::Global;
 
 /// The annotation of a claim whose binding was written whole.
 pub const BIND_COMPLETED: &str = "pv.kubernetes.io/bind-completed";
@@ -142,4 +145,25 @@ pub fn carries(volume: &Volume, claim: &Claim) -> bool
                 }
         }
     }
+}
+
+/// Whether the phase is one in which a volume serves no claim any more: Released or Failed.
+pub fn is_ended(phase: VolumePhase) -> bool
+    ensures { result ≡ is_ended phase }
+{
+    match phase {
+        VolumePhase::Released | VolumePhase::Failed => true,
+        _ => false,
+    }
+}
+
+/// The reference to a claim, with its id.
+pub fn ref_to(alloc: Global, claim: &Claim) -> Result<Ref, OutOfMemory>
+    ensures { IfOk result (λ reference. reference ≡ record { namespace = claim.now.meta.namespace; name = claim.now.meta.name; uid = claim.now.meta.uid }) }
+{
+    Ok(Ref {
+        namespace: claim.meta.namespace.copy(alloc)?,
+        name: claim.meta.name.copy(alloc)?,
+        uid: claim.meta.uid,
+    })
 }

@@ -1,6 +1,7 @@
 //! Keys of objects, and their order.
 
-ghost use Rattle.std.specs.Prelude.{◌≡◌, ◌<◌, IfOk};
+ghost use Rattle.std.specs.Prelude.{◌≡◌, ◌<◌, [], IfOk};
+ghost use Rattle.kube_types.specs.declared.parts.Kind.TheVariants as kinds;
 ghost use Rattle.kube_types.specs.Keys.{kind_index, kind_of, meta_of, key_of, key_cmp, same_key, same_kind};
 
 use crate::objects::{Meta, Object};
@@ -124,6 +125,28 @@ pub fn key_of(alloc: Global, object: &Object) -> Result<Key, OutOfMemory>
         kind: kind_of(object),
         namespace: meta.namespace.copy(alloc)?,
         name: meta.name.copy(alloc)?,
+    })
+}
+
+/// The key of the volume of this name.
+pub fn volume_key(alloc: Global, name: &Text) -> Result<Key, OutOfMemory>
+    ensures { IfOk result (λ k. k ≡ record { kind = kinds.PersistentVolume; namespace = []; name = name.now }) }
+{
+    Ok(Key {
+        kind: Kind::PersistentVolume,
+        namespace: Text::new(alloc, "")?,
+        name: name.copy(alloc)?,
+    })
+}
+
+/// The key of the claim of this namespace and name.
+pub fn claim_key(alloc: Global, namespace: &Text, name: &Text) -> Result<Key, OutOfMemory>
+    ensures { IfOk result (λ k. k ≡ record { kind = kinds.PersistentVolumeClaim; namespace = namespace.now; name = name.now }) }
+{
+    Ok(Key {
+        kind: Kind::PersistentVolumeClaim,
+        namespace: namespace.copy(alloc)?,
+        name: name.copy(alloc)?,
     })
 }
 

@@ -13,11 +13,13 @@ use Rattle.model_laws.proofs.Lists.{some_map}
 pub told_map : {P Q : Object → Type 0} → ((o : Object) → P o → Q o) → (mine : List Entry) → ToldObject P mine → ToldObject Q mine
 told_map {P = P} {Q = Q} f mine told = some_map {P = TellsObject P} {Q = TellsObject Q} (λ e t. (t.0, some_map f _ t.1)) mine told
 
-volume_map : {P Q : VolumeData → Type 0} → ((v : VolumeData) → P v → Q v) → (o : Object) → IsVolumeWith P o → IsVolumeWith Q o
+-- what holds of each volume, and of each claim, holds of the object
+
+pub volume_map : {P Q : VolumeData → Type 0} → ((v : VolumeData) → P v → Q v) → (o : Object) → IsVolumeWith P o → IsVolumeWith Q o
 volume_map f (Volume v) h = f v h
 volume_map f _ h = absurd h
 
-claim_map : {P Q : ClaimData → Type 0} → ((c : ClaimData) → P c → Q c) → (o : Object) → IsClaimWith P o → IsClaimWith Q o
+pub claim_map : {P Q : ClaimData → Type 0} → ((c : ClaimData) → P c → Q c) → (o : Object) → IsClaimWith P o → IsClaimWith Q o
 claim_map f (Claim c) h = f c h
 claim_map f _ h = absurd h
 

@@ -17,8 +17,14 @@ use Rattle.binder_model.specs.Store.{with_meta, at_version, marked_object, creat
 use Rattle.binder_model.specs.Fields.{faulty, update_fault, changed_field}
 use Rattle.binder_model.specs.Edits.{edited_object, with_volume_name}
 use Rattle.binder_model.specs.Answers.{with_status}
+use Rattle.binder_model.specs.BindWrites.{annotated_meta_if}
 use Rattle.model_laws.specs.Histories.{NamesOnce, KeepsIdentity}
 use Rattle.model_laws.proofs.Versions.{meta-with_meta}
+
+-- an annotation changes neither namespace nor name
+pub placed_same : (b : Bool) (name : List ℕ) (m : Meta) → ((annotated_meta_if b name m).namespace ≡ m.namespace) × ((annotated_meta_if b name m).name ≡ m.name)
+placed_same true name m = (refl, refl)
+placed_same false name m = (refl, refl)
 
 pub kind-with_meta : (o : Object) (m : Meta) → kind_of (with_meta o m) ≡ kind_of o
 unfolding with_meta

@@ -1,8 +1,11 @@
 -- The newest told object of a key was told.
-use Rattle.std.proofs.Common.{refl, inl, inr, ◌∙◌}
+use Rattle.std.proofs.Common.{refl, sym, subst, inl, inr, ◌∙◌}
 use Rattle.std.specs.Prelude.{ℕ, ◌≡◌, ◌⊎◌, Bool, true, false, List, [], ◌∷◌, Option, Some, None, nat_lt, if◌then◌else◌}
 use Rattle.kube_types.specs.declared.key.Key.{Key}
+use Rattle.kube_types.specs.declared.objects.Volume.{Volume as VolumeData}
+use Rattle.kube_types.specs.declared.objects.Claim.{Claim as ClaimData}
 use Rattle.kube_types.specs.declared.objects.Object.{Object}
+use Rattle.kube_types.specs.declared.objects.Object.TheVariants.{Volume, Claim}
 use Rattle.kube_types.specs.Keys.{meta_of, row_at}
 use Rattle.call_types.specs.declared.entry.Entry.{Entry}
 use Rattle.call_types.specs.declared.request.Request.{Request}
@@ -11,7 +14,8 @@ use Rattle.call_types.specs.declared.reply.Change.TheVariants as changes
 use Rattle.call_types.specs.declared.reply.Event.{Event}
 use Rattle.call_types.specs.declared.reply.Reply.{Reply}
 use Rattle.call_types.specs.declared.reply.Reply.TheVariants.{Done, Left, Listed, Events}
-use Rattle.binder_model.specs.Told.{ToldObject, TellsObject, Telling, presence, later, listing, of_event, told_by_events, tells_of, told_of, newest, object_of, IsNewest, objects_in, objects_of_event, objects_of_events}
+use Rattle.binder_model.specs.Told.{ToldObject, ToldVolume, ToldClaim, IsVolumeWith, IsClaimWith, TellsObject, Telling, presence, later, listing, of_event, told_by_events, tells_of, told_of, newest, object_of, IsNewest, objects_in, objects_of_event, objects_of_events}
+use Rattle.model_laws.proofs.Evidence.{told_map}
 use Rattle.model_laws.proofs.Readings.{found_stands}
 use Rattle.model_laws.proofs.Lists.{IsIn, one, none_some, some_left, some_right}
 
@@ -65,3 +69,11 @@ newest_told (x ∷ mine) key o e = elim (later_of (told_of x key) (newest mine k
   | inl here ↦ inl (entry_told x key o here)
   | inr more ↦ inr (newest_told mine key o more)
 ]
+
+-- what holds of the newest told volume, and of the newest told claim, holds of a told one
+
+pub newest_volume : (P : VolumeData → Type 0) (mine : List Entry) (key : Key) (v : VolumeData) → IsNewest mine key (Volume v) → P v → ToldVolume P mine
+newest_volume P mine key v is holds = told_map {P = λ x. x ≡ Volume v} {Q = IsVolumeWith P} (λ o same. subst (IsVolumeWith P) (sym same) holds) mine (newest_told mine key (Volume v) is)
+
+pub newest_claim : (P : ClaimData → Type 0) (mine : List Entry) (key : Key) (c : ClaimData) → IsNewest mine key (Claim c) → P c → ToldClaim P mine
+newest_claim P mine key c is holds = told_map {P = λ x. x ≡ Claim c} {Q = IsClaimWith P} (λ o same. subst (IsClaimWith P) (sym same) holds) mine (newest_told mine key (Claim c) is)

@@ -5,7 +5,8 @@ use Rattle.serde_json.specs.Written.{compact_text}
 use Rattle.std.specs.Str.{is_utf8}
 use Rattle.std.proofs.lemmas.Bool.{le-ltb}
 use Rattle.json_text.specs.Canonical.{IsLine}
-use Rattle.json_text.proofs.ReadBack.{read-compact_text, compact_text_once}
+use Rattle.json_text.proofs.Deep.{one_value_of}
+use Rattle.json_text.proofs.ReadBack.{read-compact_text}
 use Rattle.json_text.proofs.Good.{no_float_good}
 use Rattle.kube_types.specs.Keys.{kind_of}
 use Rattle.kube_types.specs.declared.parts.Kind.{Kind}
@@ -31,7 +32,7 @@ unfolding object_line
 lines_are_apart o p ho hp same =
     let good = object_good o ho in
     let other = object_good p hp in
-    let values : object_data o ≡ object_data p = compact_text_once (object_data o) (object_data p) good.canonical other.canonical good.shallow other.shallow same in
+    let values : object_data o ≡ object_data p = one_value_of (object_data o) (object_data p) good.canonical other.canonical same in
     same_object o p (object_of (object_data o)) (object_back o ho) (ap object_of values ∙ object_back p hp)
 
 pub line_is_read : (o : Object) → IsGiven o → is_utf8 (object_line o) ≡ true → length (object_line o) ≤ most_bytes → read_text_of (object_line o) ≡ Ok o
