@@ -6,7 +6,7 @@ ghost use Rattle.call_types.specs.declared.entry.Entry.{Entry};
 ghost use Rattle.call_types.specs.declared.request.SeatKind.{SeatKind as SeatKinds};
 ghost use Rattle.binder_model.specs.Licence.{AreOfKind};
 ghost use Rattle.informer_cache.specs.All.{AllStandFor};
-ghost use Rattle.seat_index.specs.Steps.Indexed.{IsIndexOf};
+ghost use Rattle.seat_index.specs.Indexed.{IsIndexOf};
 
 use crate::pages::Pages;
 use crate::tellings::learn;
@@ -19,7 +19,6 @@ use std::alloc::Global;
 
 /// What is looked up in place of the entries. Where the caches do not know, or there is no kind, the
 /// entries themselves are read.
-#[derive(Debug)]
 pub struct Index {
     pub pages: Pages,
     pub caches: Caches,
