@@ -19,15 +19,16 @@ use Rattle.binder_model.specs.ObjectKeys.{claim_key}
 use Rattle.seat_places.specs.declared.topics.Topic.{Topic}
 use Rattle.seat_places.specs.declared.topics.Matter.TheVariants as matters
 use Rattle.seat_places.specs.Topics.{about_key, about_name, about_pod, last_of}
-use Rattle.seat_places.specs.Places.{IsQuietBehind, IsUpto, StandsAt, TellsAt, finishes, gets, mounts, takes, tells_unmounted}
+use Rattle.seat_places.specs.Places.{TellsAt}
+use Rattle.seat_places.specs.Steps.Since.{IsQuietBehind, IsUpto, StandsAt, finishes, gets, mounts, takes, tells_unmounted}
 use Rattle.seat_places.proofs.Since.{last_behind, last_never, last_since, read_stands, stands_some}
 use Rattle.seat_places.proofs.Hearing.{finishes_heard, gets_heard, mounts_heard, takes_heard}
 use Rattle.seat_places.proofs.Uses.{above_told, epoch_since, never_is, read_ready, shown_since, told_ready, unmounted_since}
 use Rattle.model_laws.proofs.Evidence.{told_map}
-use Rattle.seat_index.specs.Steps.Parts.{IsPart}
+use Rattle.seat_index.specs.Parts.{IsPart}
 use Rattle.seat_index.proofs.Growing.{told_grows}
 use Rattle.seat_index.proofs.Telling.{done_tells}
-use Rattle.agent_evidence.specs.Seen.{AreReadBehind, IsRead, IsShown, IsTakenAt, IsToMount, IsUnmounted, IsVolumeRead, TellsNaming}
+use Rattle.agent_evidence.specs.Steps.Seen.{AreReadBehind, IsRead, IsShown, IsTakenAt, IsToMount, IsUnmounted, IsVolumeRead, TellsNaming}
 
 pub taken_by : (entries : List Entry) (node : List ℕ) (epoch : ℕ) (t : Topic) (answer : Option ℕ) (place : ℕ) (d : Entry) → t ≡ about_name matters.Taken node → answer ≡ last_of t (reverse entries) → answer ≡ Some place → place < length entries → epoch_in node (get_or entries place d) ≡ Some epoch → IsTakenAt (reverse entries) node epoch place
 taken_by entries node epoch t answer place d about looked found within is = record {

@@ -1,3 +1,3 @@
+pub mod Indexed
 pub mod Pods
-pub mod Seen
 pub mod Steps

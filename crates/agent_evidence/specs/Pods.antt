@@ -1,4 +1,5 @@
--- For proofs alone: pods that were told, each at its place.
+-- Pods that were told, each at its place.
+-- A choice of this project.
 use Rattle.std.specs.Prelude.{List, [], ◌∷◌, ⊤}
 use Rattle.kube_types.specs.declared.objects.Object.TheVariants.{Pod}
 use Rattle.call_types.specs.declared.entry.Entry.{Entry}

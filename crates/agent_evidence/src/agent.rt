@@ -5,17 +5,17 @@ ghost use Rattle.kube_types.specs.declared.objects.Object.TheVariants as objects
 ghost use Rattle.call_types.specs.declared.entry.Entry.{Entry};
 ghost use Rattle.call_types.specs.declared.reply.Reply.TheVariants as replies;
 ghost use Rattle.binder_model.specs.AgentLicence.{AreReadReady, IsEndingPod, IsPodOn, IsReadReady, MayMount, MayReadMounts, MayUnmount, WasShownReady, epoch_in, last_epoch, never_finished, since_epoch};
-ghost use Rattle.binder_model.specs.BindWrites.{is_claim_bound};
 ghost use Rattle.binder_model.specs.ObjectKeys.{claim_key};
 ghost use Rattle.binder_model.specs.Told.{ToldPod as WasTold};
 ghost use Rattle.informer_cache.specs.All.{AllStandFor};
-ghost use Rattle.seat_places.specs.Places.{IsPodList, gets};
+ghost use Rattle.seat_places.specs.Steps.Since.{IsPodList, gets};
 ghost use Rattle.agent_evidence.specs.Pods.{AreTold};
-ghost use Rattle.agent_evidence.specs.Steps.Indexed.{IsAgentIndexOf};
-ghost use Rattle.agent_evidence.specs.Seen.{AreReadBehind, IsListed, IsRead, IsShown, IsStaying, IsStayingPod, IsTakenAt, IsToMount, IsVolumeRead, key_at};
+ghost use Rattle.agent_evidence.specs.Indexed.{IsAgentIndexOf};
+ghost use Rattle.agent_evidence.specs.Steps.Seen.{AreReadBehind, IsListed, IsRead, IsShown, IsStaying, IsStayingPod, IsTakenAt, IsToMount, IsVolumeRead, key_at};
 
 use crate::index::AgentIndex;
 use crate::pods::ToldPod;
+use agent_licence::mounting::is_claim_bound;
 use call_types::entry::Entry;
 use call_types::reply::Reply;
 use call_types::request::Request;
@@ -26,7 +26,7 @@ use kube_types::bindings::{
 use kube_types::copies::Plain;
 use kube_types::key::same_kind;
 use kube_types::objects::{Claim, Object, Pod};
-use kube_types::parts::{ClaimPhase, Kind};
+use kube_types::parts::Kind;
 use kube_types::text::Text;
 use kube_types::uid::Uid;
 use seat_index::newest::newest_of;
@@ -159,15 +159,6 @@ fn read_behind<'a>(
             }
             Some((place, &entries[place].reply))
         }
-    }
-}
-
-fn is_claim_bound(phase: ClaimPhase) -> bool
-    ensures { result ≡ is_claim_bound phase }
-{
-    match phase {
-        ClaimPhase::Bound => true,
-        _ => false,
     }
 }
 

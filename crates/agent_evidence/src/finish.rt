@@ -1,10 +1,10 @@
 //! Where the index shows that an agent may finish a pod.
 
-ghost use Rattle.std.specs.Prelude.{◌≡◌, ◌<◌, IsTrue, reverse, true};
+ghost use Rattle.std.specs.Prelude.{IsTrue, reverse, true};
 ghost use Rattle.binder_model.specs.AgentLicence.{MayFinish};
-ghost use Rattle.seat_places.specs.Places.{IsQuietBehind, mounts, tells_unmounted};
-ghost use Rattle.agent_evidence.specs.Steps.Indexed.{IsAgentIndexOf};
-ghost use Rattle.agent_evidence.specs.Seen.{IsUnmounted};
+ghost use Rattle.seat_places.specs.Steps.Since.{IsQuietBehind, mounts, tells_unmounted};
+ghost use Rattle.agent_evidence.specs.Indexed.{IsAgentIndexOf};
+ghost use Rattle.agent_evidence.specs.Steps.Seen.{IsUnmounted};
 
 use crate::agent::{taken_at, told_ending};
 use crate::index::AgentIndex;

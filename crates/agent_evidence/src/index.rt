@@ -2,7 +2,7 @@
 
 ghost use Rattle.std.specs.Prelude.{◌≡◌, [], ◌∷◌, List, OnOk, length};
 ghost use Rattle.call_types.specs.declared.entry.Entry.{Entry};
-ghost use Rattle.agent_evidence.specs.Steps.Indexed.{IsAgentIndexOf};
+ghost use Rattle.agent_evidence.specs.Indexed.{IsAgentIndexOf};
 
 use crate::pods::Pods;
 use call_types::entry::Entry;
@@ -11,7 +11,6 @@ use seat_places::lasts::Lasts;
 use std::alloc::Global;
 
 /// What is looked up in place of the entries.
-#[derive(Debug)]
 pub struct AgentIndex {
     pub lasts: Lasts,
     pub pods: Pods,

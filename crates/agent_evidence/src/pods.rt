@@ -1,6 +1,6 @@
 //! The pods that were told, by their ids.
 
-ghost use Rattle.std.specs.Prelude.{◌≡◌, [], ◌∷◌, ◌++◌, ℕ, List, IfOk, OnOk, length};
+ghost use Rattle.std.specs.Prelude.{◌≡◌, [], ◌∷◌, ◌++◌, List, IfOk, OnOk, length};
 ghost use Rattle.std.specs.List.Sorted.{IsSearchInRange};
 ghost use Rattle.kube_types.specs.declared.objects.Object.{Object};
 ghost use Rattle.kube_types.specs.declared.objects.Object.TheVariants as objects;
@@ -21,7 +21,6 @@ use std::cmp::Ordering;
 use std::marker::Model;
 
 /// A pod, and the place of the entry that told it.
-#[derive(Debug)]
 pub struct ToldPod {
     pub place: usize,
     pub pod: Pod,
@@ -35,7 +34,6 @@ impl Drop for ToldPod {
 }
 
 /// The tellings of the pod with this id, the oldest first.
-#[derive(Debug)]
 pub struct PodPage {
     pub uid: Uid,
     pub told: Items<ToldPod>,
@@ -59,9 +57,15 @@ impl Ranked<Uid> for PodPage {
 }
 
 /// Pages in the order of their ids.
-#[derive(Debug, Drop)]
 pub struct Pods {
     list: Vec<PodPage>,
+}
+
+impl Drop for Pods {
+    fn drop(self) {
+        let Pods { list } = self;
+        drop(list);
+    }
 }
 
 impl Model for Pods {

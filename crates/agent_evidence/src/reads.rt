@@ -4,9 +4,9 @@ ghost use Rattle.std.specs.Prelude.{◌≡◌, ◌<◌, List, IfSome, IsTrue, le
 ghost use Rattle.call_types.specs.declared.entry.Entry.{Entry};
 ghost use Rattle.binder_model.specs.Reading.{AsksForMount, NamesClaim};
 ghost use Rattle.binder_model.specs.Told.{SomeOf, ToldObject, ToldPod as WasTold};
-ghost use Rattle.seat_index.specs.Steps.Parts.{ArePages, IsPart};
-ghost use Rattle.agent_evidence.specs.Steps.Indexed.{IsAgentIndexOf};
-ghost use Rattle.agent_evidence.specs.Seen.{TellsNaming};
+ghost use Rattle.seat_index.specs.Parts.{ArePages, IsPart};
+ghost use Rattle.agent_evidence.specs.Indexed.{IsAgentIndexOf};
+ghost use Rattle.agent_evidence.specs.Steps.Seen.{TellsNaming};
 
 use crate::agent::is_taken;
 use crate::index::AgentIndex;

@@ -13,9 +13,8 @@ use Rattle.call_types.specs.declared.reply.Reply.TheVariants as replies
 use Rattle.binder_model.specs.AgentLicence.{AreReadReady, IsReadReady, IsReadyPod, ListedPods, WasShownReady, is_get_of, is_pod_list, last_get, since_get}
 use Rattle.binder_model.specs.ObjectKeys.{claim_key, pod_key, volume_key}
 use Rattle.binder_model.specs.Told.{IsNewest, IsPodWith, TellsObject, ToldPod, objects_in}
-use Rattle.model_laws.proofs.Lists.{none_some}
+use Rattle.model_laws.proofs.Lists.{none_some, some_map}
 use Rattle.licence_tests.proofs.Fronts.{cut_at, newer}
-use Rattle.licence_tests.proofs.Tried.{some_map}
 use Rattle.agent_licence.specs.Mounting.{IsFirstList, IsFirstReady, IsSameShown, IsShownIn}
 
 pub ready_lengths : (recent : List Entry) (namespace : List ℕ) (names : List (List ℕ)) (uids : List Uid) → AreReadReady recent namespace names uids → length names ≡ length uids
@@ -87,7 +86,7 @@ module _ (mine : List Entry) (node : List ℕ) (pod : Uid) (claims : List Uid) w
   -- a pod that is ready by fewer entries was told earlier too: it is ready there
   earlier_ready : (recent older : List Entry) (shown : PodData) → IsReadyPod mine recent node pod claims shown → ToldPod (IsSameShown node pod shown) older → IsShownIn mine node pod claims recent older
   earlier_ready recent [] shown r h = elim h [ ]
-  earlier_ready recent (y ∷ ys) shown r (inl t) = inl (t.0, some_map (IsPodWith (IsSameShown node pod shown)) (IsPodWith (IsReadyPod mine recent node pod claims)) (objects_in y.reply) (pod_same recent shown r) t.1)
+  earlier_ready recent (y ∷ ys) shown r (inl t) = inl (t.0, some_map {P = IsPodWith (IsSameShown node pod shown)} {Q = IsPodWith (IsReadyPod mine recent node pod claims)} (pod_same recent shown r) (objects_in y.reply) t.1)
   earlier_ready recent (y ∷ ys) shown r (inr h) = inr (earlier_ready (recent ++ y ∷ []) ys shown (ready_longer recent (y ∷ []) shown r) h)
 
   first_pod : (recent older : List Entry) (e : Entry) → (IsShownIn mine node pod claims (recent ++ e ∷ []) older → ⊥) → (o : Object) → IsPodWith (IsReadyPod mine recent node pod claims) o → IsPodWith (IsFirstReady mine recent older node pod claims) o
@@ -106,7 +105,7 @@ module _ (mine : List Entry) (node : List ℕ) (pod : Uid) (claims : List Uid) w
 
   -- none of the older entries shows such a pod, and this one tells none as the first: none up to it does
   pub none_shown : (recent older : List Entry) (e : Entry) → (IsShownIn mine node pod claims (recent ++ e ∷ []) older → ⊥) → (TellsObject (IsPodWith (IsFirstReady mine recent older node pod claims)) e → ⊥) → IsShownIn mine node pod claims recent (e ∷ older) → ⊥
-  none_shown recent older e none not (inl t) = not (t.0, some_map (IsPodWith (IsReadyPod mine recent node pod claims)) (IsPodWith (IsFirstReady mine recent older node pod claims)) (objects_in e.reply) (first_pod recent older e none) t.1)
+  none_shown recent older e none not (inl t) = not (t.0, some_map {P = IsPodWith (IsReadyPod mine recent node pod claims)} {Q = IsPodWith (IsFirstReady mine recent older node pod claims)} (first_pod recent older e none) (objects_in e.reply) t.1)
   none_shown recent older e none not (inr h) = none h
 
   shown_behind : (recent xs ys : List Entry) → IsShownIn mine node pod claims (recent ++ xs) ys → IsShownIn mine node pod claims recent (xs ++ ys)
@@ -114,7 +113,7 @@ module _ (mine : List Entry) (node : List ℕ) (pod : Uid) (claims : List Uid) w
   shown_behind recent (x ∷ xs) ys h = inr (shown_behind (recent ++ x ∷ []) xs ys (subst (λ r. IsShownIn mine node pod claims r ys) (sym (append_assoc recent (x ∷ []) xs)) h))
 
   pub shown_at : (recent older : List Entry) (e : Entry) → TellsObject (IsPodWith (IsFirstReady mine recent older node pod claims)) e → IsShownIn mine node pod claims [] (recent ++ e ∷ older)
-  shown_at recent older e t = shown_behind [] recent (e ∷ older) (inl (t.0, some_map (IsPodWith (IsFirstReady mine recent older node pod claims)) (IsPodWith (IsReadyPod mine recent node pod claims)) (objects_in e.reply) (ready_pod recent older) t.1))
+  shown_at recent older e t = shown_behind [] recent (e ∷ older) (inl (t.0, some_map {P = IsPodWith (IsFirstReady mine recent older node pod claims)} {Q = IsPodWith (IsReadyPod mine recent node pod claims)} (ready_pod recent older) (objects_in e.reply) t.1))
 
   -- a pod is shown only after the first list of pods
 

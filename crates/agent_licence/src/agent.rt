@@ -1,10 +1,7 @@
 //! Where a node agent may mount, unmount and finish pods.
 
-ghost use Rattle.std.specs.Prelude.{◌≡◌, ◌↔◌, ◌&&◌, IsTrue, Some, [], reverse, true};
-ghost use Rattle.std.specs.List.{list_any};
-ghost use Rattle.binder_model.specs.AgentLicence.{AreReadReady, IsEndingPod, IsPodOn, IsReadReady, IsReadyPod, ListedPods, MayFinish, MayMount, MayReadMounts, MayUnmount, WasShownReady, has_row, is_finish_of, is_mount_of, is_of_epoch, is_pod_list, lacks_pod, last_epoch, never_finished, since_epoch, was_told_unmounted};
-ghost use Rattle.binder_model.specs.BindWrites.{is_claim_bound};
-ghost use Rattle.binder_model.specs.ObjectKeys.{claim_key, volume_key};
+ghost use Rattle.std.specs.Prelude.{◌≡◌, ◌↔◌, ◌&&◌, IsTrue, Some, reverse, true};
+ghost use Rattle.binder_model.specs.AgentLicence.{IsEndingPod, MayFinish, MayUnmount, has_row, is_mount_of, is_of_epoch, lacks_pod, last_epoch, was_told_unmounted};
 
 use call_types::entry::Entry;
 use call_types::reply::{MountRow, Reply};
@@ -129,7 +126,7 @@ pub fn tells_unmounted(node: &Text, epoch: u64, pod: Uid, entry: &Entry) -> bool
 }
 
 /// Whether a list of the node's mounts without the pod was told after each Mount of the pod.
-#[tactic(auto, using(licence_tests::proofs::Fronts::newest_first))]
+#[tactic(auto, using(model_laws::proofs::Evidence::newest_first))]
 fn was_told_unmounted(since: &[Entry], node: &Text, epoch: u64, pod: Uid) -> bool
     ensures { result ≡ was_told_unmounted node.now epoch pod (reverse since.now) }
 {

@@ -22,7 +22,8 @@ use licence_tests::told::tells;
 use plain_data::copies::Plain;
 use plain_data::text::Text;
 
-fn is_claim_bound(phase: ClaimPhase) -> bool
+/// Whether a claim of this phase is bound.
+pub fn is_claim_bound(phase: ClaimPhase) -> bool
     ensures { result ≡ is_claim_bound phase }
 {
     match phase {
@@ -46,7 +47,7 @@ fn is_finish_of(pod: Uid, request: &Request) -> bool
 }
 
 /// Whether the seat never asked to finish the pod.
-#[tactic(auto, using(licence_tests::proofs::Fronts::newest_first))]
+#[tactic(auto, using(model_laws::proofs::Evidence::newest_first))]
 fn never_finished(mine: &[Entry], pod: Uid) -> bool
     ensures { result ≡ never_finished pod (reverse mine.now) }
 {
@@ -295,7 +296,7 @@ fn is_pod_list(request: &Request, reply: &Reply) -> bool
 }
 
 /// Where the first list of all pods stands that was told.
-#[tactic(auto, using(licence_tests::proofs::Fronts::newest_first))]
+#[tactic(auto, using(model_laws::proofs::Evidence::newest_first))]
 fn first_list(since: &[Entry]) -> Option<usize>
     ensures { MatchOption result (ListedPods (reverse since.now) → ⊥) (IsFirstList since.now) }
 {

@@ -8,7 +8,7 @@ use Rattle.call_types.specs.declared.setup.Setup.{Setup}
 use Rattle.binder_model.specs.World.{world, effect, reply_to}
 use Rattle.binder_model.specs.Told.{own}
 use Rattle.binder_model.specs.Licence.{IsRefusedBy, Licensed}
-use Rattle.licence_tests.proofs.Fronts.{newest_first}
+use Rattle.model_laws.proofs.Evidence.{newest_first}
 use Rattle.world_core.specs.Kept.{reply_in}
 use Rattle.audit_check.specs.declared.auditor.Auditor.{Auditor}
 use Rattle.audit_check.specs.declared.seats.Seats.{Seats}

@@ -14,7 +14,7 @@ use Rattle.binder_model.specs.SchedulerLicence.{AreReadyOn, IsReadyOn, MayAssign
 use Rattle.binder_model.specs.Told.{IsNewest}
 use Rattle.licence_rows.specs.Scheduling.{IsAssignable, SelectsNode}
 use Rattle.licence_rows.proofs.Picks.{assign_row, select_row}
-use Rattle.licence_evidence.specs.Kept.{IsAdmitted}
+use Rattle.licence_evidence.specs.Steps.Kept.{IsAdmitted}
 
 pub select_by : (mine : List Entry) (o new : ClaimData) (name : List ℕ) → value_at selected_node new.meta.annotations ≡ Some name → SelectsNode mine o new name → MaySelectNode mine o new
 select_by mine o new name found selects = (select_row mine o new name true found ((λ t. selects), (λ h. refl))).0 refl

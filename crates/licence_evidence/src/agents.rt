@@ -3,9 +3,9 @@
 ghost use Rattle.std.specs.Prelude.{◌≡◌, [], ◌∷◌, List, IsTrue, OnOk, length, reverse};
 ghost use Rattle.call_types.specs.declared.entry.Entry.{Entry};
 ghost use Rattle.binder_model.specs.Licence.{AgentMay, Licensed, OpsMay, RowAllows};
-ghost use Rattle.seat_index.specs.Steps.Indexed.{IsIndexOf};
-ghost use Rattle.agent_evidence.specs.Steps.Indexed.{IsAgentIndexOf};
-ghost use Rattle.licence_evidence.specs.Kept.{AreAgentsOf};
+ghost use Rattle.seat_index.specs.Indexed.{IsIndexOf};
+ghost use Rattle.agent_evidence.specs.Indexed.{IsAgentIndexOf};
+ghost use Rattle.licence_evidence.specs.Steps.Kept.{AreAgentsOf};
 
 use agent_evidence::agent::{is_current, may_mount, may_unmount};
 use agent_evidence::finish::may_finish;
@@ -20,7 +20,6 @@ use seat_index::index::Index;
 use std::alloc::Global;
 
 /// The index by places. Where it is not known, the entries themselves are read.
-#[derive(Debug)]
 pub struct Agents {
     pub index: AgentIndex,
     pub known: bool,

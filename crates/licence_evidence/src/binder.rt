@@ -7,7 +7,7 @@ ghost use Rattle.call_types.specs.declared.request.NewStatus.TheVariants as stat
 ghost use Rattle.call_types.specs.declared.request.Request.TheVariants as requests;
 ghost use Rattle.binder_model.specs.Licence.{AtClaim, AtClaimKey, AtVolume, AtVolumeKey, BinderMay};
 ghost use Rattle.binder_model.specs.BinderLicence.{MayBind, MayComplete, MayFree, MayLose, MayRelease, MayShow, MayTake, MayUnbind};
-ghost use Rattle.seat_index.specs.Steps.Parts.{ArePages, IsPart};
+ghost use Rattle.seat_index.specs.Parts.{ArePages, IsPart};
 
 use call_types::entry::Entry;
 use call_types::request::NewStatus;

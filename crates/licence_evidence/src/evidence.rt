@@ -3,8 +3,8 @@
 ghost use Rattle.std.specs.Prelude.{◌≡◌, [], ◌∷◌, IsTrue, MatchResult, OnErr, OnOk, length, reverse, true};
 ghost use Rattle.call_types.specs.declared.entry.Entry.{Entry};
 ghost use Rattle.binder_model.specs.Licence.{IsRefusedBy, Licensed};
-ghost use Rattle.seat_index.specs.Steps.Indexed.{IsIndexOf};
-ghost use Rattle.licence_evidence.specs.Kept.{AreAgentsOf};
+ghost use Rattle.seat_index.specs.Indexed.{IsIndexOf};
+ghost use Rattle.licence_evidence.specs.Steps.Kept.{AreAgentsOf};
 
 use crate::agents::{Agents, erased_over, is_placed};
 use crate::shown::is_shown;
@@ -43,8 +43,8 @@ impl Drop for Evidence {
 impl Model for Evidence {
     ghost use Rattle.std.specs.Prelude.{List, reverse};
     ghost use Rattle.call_types.specs.declared.entry.Entry.{Entry};
-    ghost use Rattle.seat_index.specs.Steps.Indexed.{IsIndexOf};
-    ghost use Rattle.licence_evidence.specs.Kept.{AreAgentsOf};
+    ghost use Rattle.seat_index.specs.Indexed.{IsIndexOf};
+    ghost use Rattle.licence_evidence.specs.Steps.Kept.{AreAgentsOf};
 
     ghost Value = { List Entry };
 

@@ -5,7 +5,7 @@ ghost use Rattle.kube_types.specs.Bindings.{is_protected_claim, is_protected_vol
 ghost use Rattle.call_types.specs.declared.entry.Entry.{Entry};
 ghost use Rattle.call_types.specs.declared.request.Request.TheVariants as requests;
 ghost use Rattle.binder_model.specs.Licence.{AtClaim, AtVolume, ClaimGuard, ClaimProtectMay, VolumeGuard, VolumeProtectMay};
-ghost use Rattle.seat_index.specs.Steps.Parts.{ArePages};
+ghost use Rattle.seat_index.specs.Parts.{ArePages};
 
 use kube_types::objects::{Claim, Object, Version, Volume};
 use kube_types::parts::Kind;

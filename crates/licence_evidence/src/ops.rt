@@ -5,8 +5,8 @@ ghost use Rattle.call_types.specs.declared.entry.Entry.{Entry};
 ghost use Rattle.call_types.specs.declared.request.NewStatus.TheVariants as statuses;
 ghost use Rattle.call_types.specs.declared.request.Request.TheVariants as requests;
 ghost use Rattle.binder_model.specs.Licence.{OpsMay};
-ghost use Rattle.seat_index.specs.Steps.Indexed.{IsIndexOf};
-ghost use Rattle.seat_index.specs.Steps.Parts.{ArePages};
+ghost use Rattle.seat_index.specs.Indexed.{IsIndexOf};
+ghost use Rattle.seat_index.specs.Parts.{ArePages};
 
 use crate::reading::reads;
 use call_types::request::{NewStatus, Request, SeatKind};

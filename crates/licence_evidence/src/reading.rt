@@ -11,8 +11,8 @@ ghost use Rattle.call_types.specs.declared.request.Request.TheVariants as reques
 ghost use Rattle.call_types.specs.declared.request.SeatKind.TheVariants as seats;
 ghost use Rattle.binder_model.specs.Reading.{AsksForClaim, AsksForEnded, AsksForVolume, IsFrom, IsUnlisted, LacksUid, MayGet, MayRead, following_of};
 ghost use Rattle.informer_cache.specs.All.{AllStandFor, all_objects};
-ghost use Rattle.seat_index.specs.Steps.Indexed.{IsIndexOf};
-ghost use Rattle.seat_index.specs.Steps.Parts.{ArePages};
+ghost use Rattle.seat_index.specs.Indexed.{IsIndexOf};
+ghost use Rattle.seat_index.specs.Parts.{ArePages};
 
 use call_types::entry::Entry;
 use call_types::reply::Reply;

@@ -7,8 +7,8 @@ ghost use Rattle.binder_model.specs.Licence.{AtClaim, SchedulerMay};
 ghost use Rattle.binder_model.specs.SchedulerLicence.{AreReadyOn, IsReadyOn, MayAssign, MaySelectNode};
 ghost use Rattle.informer_cache.specs.All.{AllStandFor};
 ghost use Rattle.licence_rows.specs.Scheduling.{IsAssignable, IsDelayed, IsNodeTold, SelectsNode};
-ghost use Rattle.seat_index.specs.Steps.Indexed.{IsIndexOf};
-ghost use Rattle.licence_evidence.specs.Kept.{IsAdmitted};
+ghost use Rattle.seat_index.specs.Indexed.{IsIndexOf};
+ghost use Rattle.licence_evidence.specs.Steps.Kept.{IsAdmitted};
 
 use crate::binder::takes;
 use informer_cache::caches::Caches;

@@ -3,7 +3,7 @@
 ghost use Rattle.std.specs.Prelude.{List, IsTrue};
 ghost use Rattle.call_types.specs.declared.entry.Entry.{Entry};
 ghost use Rattle.binder_model.specs.Licence.{AgentMay, BinderMay, ClaimProtectMay, Licensed, RowAllows, SchedulerMay, VolumeProtectMay};
-ghost use Rattle.seat_index.specs.Steps.Indexed.{IsIndexOf};
+ghost use Rattle.seat_index.specs.Indexed.{IsIndexOf};
 
 use crate::binder::{binder_status, binder_update};
 use crate::guards::{claim_protect_update, volume_protect_update};

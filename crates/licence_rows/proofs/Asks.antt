@@ -12,10 +12,10 @@ use Rattle.call_types.specs.declared.entry.Entry.{Entry}
 use Rattle.binder_model.specs.ObjectKeys.{claim_key, volume_key}
 use Rattle.binder_model.specs.Reading.{AsksForClaim, AsksForVolume, LacksUid}
 use Rattle.binder_model.specs.Told.{SomeOf, IsClaimWith, IsNewest, IsVolumeWith, TellsObject, ToldClaim, ToldObject, ToldVolume, newest, object_of}
+use Rattle.model_laws.proofs.Evidence.{told_map}
 use Rattle.model_laws.proofs.Lists.{one}
 use Rattle.model_laws.proofs.Newest.{newest_told}
 use Rattle.licence_tests.specs.Keyed.{key_at}
-use Rattle.licence_tests.proofs.Tried.{told_map}
 use Rattle.licence_rows.specs.Asking.{IsLacking, IsNamingClaim, IsNewestWith, SomeNewest}
 use Rattle.licence_rows.proofs.NewestKeys.{newest_keyed}
 
@@ -55,7 +55,7 @@ claim_told P mine h = let o = told_gives (IsClaimWith P) mine h in claim_of P o.
 pub newest_some : (P Q : Object → Type 0) (mine : List Entry) (told : Bool) → (IsTrue told ↔ ToldObject (λ o. P o × IsNewestWith (λ x. P x × Q x) mine (key_of o)) mine) → (IsTrue told ↔ SomeNewest (λ o. P o × Q o) mine)
 newest_some P Q mine told is = (
   (λ t. let o = told_gives (λ o. P o × IsNewestWith (λ x. P x × Q x) mine (key_of o)) mine (is.0 t) in there o.0 o.1),
-  (λ s. is.1 (told_map (λ o. o ≡ s.0) (λ o. P o × IsNewestWith (λ x. P x × Q x) mine (key_of o)) mine (λ o e. subst (λ x. P x × IsNewestWith (λ y. P y × Q y) mine (key_of x)) (sym e) (s.1.1.0, (s.0, s.1))) (newest_told mine (key_of s.0) s.0 s.1.0))),
+  (λ s. is.1 (told_map {P = λ o. o ≡ s.0} {Q = λ o. P o × IsNewestWith (λ x. P x × Q x) mine (key_of o)} (λ o e. subst (λ x. P x × IsNewestWith (λ y. P y × Q y) mine (key_of x)) (sym e) (s.1.1.0, (s.0, s.1))) mine (newest_told mine (key_of s.0) s.0 s.1.0))),
 )
   where
     there : (o : Object) → P o × IsNewestWith (λ x. P x × Q x) mine (key_of o) → SomeNewest (λ x. P x × Q x) mine

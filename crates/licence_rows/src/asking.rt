@@ -9,9 +9,9 @@ ghost use Rattle.kube_types.specs.Bindings.{is_completed};
 ghost use Rattle.licence_rows.specs.Asking.{IsLacking, IsNamingClaim};
 
 use crate::newest::some_newest;
-use crate::parts::{is_delete, is_ended, is_known, ref_uid};
+use crate::parts::{is_delete, is_known, ref_uid};
 use call_types::entry::Entry;
-use kube_types::bindings::{is_completed, is_deleting};
+use kube_types::bindings::{is_completed, is_deleting, is_ended};
 use kube_types::key::Key;
 use kube_types::objects::{Claim, Object, Ref, Volume};
 use kube_types::parts::Kind;

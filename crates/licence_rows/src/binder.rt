@@ -5,16 +5,14 @@ ghost use Rattle.call_types.specs.declared.request.Request.TheVariants as reques
 ghost use Rattle.binder_model.specs.BinderDue.{is_reclaimed};
 ghost use Rattle.binder_model.specs.ObjectKeys.{claim_key, volume_key};
 ghost use Rattle.binder_model.specs.BinderLicence.{IsBoundFor, IsCompletedVersion, IsFreeFor, IsGone, IsHere, IsNotCarrying, IsReferring, IsShown, IsTaken, MayBind, MayComplete, MayFree, MayLose, MayRelease, MayShow, MayTake, MayUnbind, WasReadGone, WasReadLost};
-ghost use Rattle.binder_model.specs.Told.{IsLiveAnswer, TellsLive, ToldClaim, ToldVolume};
+ghost use Rattle.binder_model.specs.Told.{TellsLive, ToldClaim};
 ghost use Rattle.binder_model.specs.At.{IsElsewhere};
 
-use crate::parts::{
-    Elsewhere, is_bound, is_ended, is_known, is_reclaimed, is_same_object, ref_uid,
-};
+use crate::parts::{Elsewhere, is_bound, is_known, is_reclaimed, is_same_object, ref_uid};
 use call_types::entry::Entry;
 use call_types::reply::{Refusal, Reply};
 use call_types::request::Request;
-use kube_types::bindings::{carries, is_completed, is_protected_volume, names_claim};
+use kube_types::bindings::{carries, is_completed, is_ended, is_protected_volume, names_claim};
 use kube_types::objects::{Amount, Claim, Object, Ref, Volume};
 use kube_types::parts::{Kind, Modes};
 use kube_types::uid::Uid;
@@ -122,7 +120,8 @@ impl<'a> VolumeTest for Bind<'a> {
     ghost allows = { λ t v. MayBind (reverse t.mine.now) v };
 
     fn test(&self, volume: &Volume) -> bool {
-        if is_ended(volume.phase) {
+        let phase = volume.phase;
+        if is_ended(phase) {
             return false;
         }
         if !is_protected_volume(volume) {

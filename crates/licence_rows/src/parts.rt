@@ -1,8 +1,8 @@
 //! Words that several rows share.
 
 ghost use Rattle.std.specs.Prelude.{◌≡◌, ◌↔◌, IsTrue};
-ghost use Rattle.kube_types.specs.Bindings.{is_bound, is_delete, is_ended, ref_uid};
-ghost use Rattle.binder_model.specs.At.{HasUid, IsElsewhere, IsSameObject};
+ghost use Rattle.kube_types.specs.Bindings.{is_bound, is_delete, ref_uid};
+ghost use Rattle.binder_model.specs.At.{IsElsewhere, IsSameObject};
 ghost use Rattle.binder_model.specs.BinderDue.{is_reclaimed};
 
 use kube_types::bindings::PROVISIONED_BY;
@@ -11,15 +11,6 @@ use kube_types::parts::{Policy, VolumePhase};
 use kube_types::uid::Uid;
 use licence_tests::rows::ClaimTest;
 use plain_data::copies::Plain;
-
-pub fn is_ended(phase: VolumePhase) -> bool
-    ensures { result ≡ is_ended phase }
-{
-    match phase {
-        VolumePhase::Released | VolumePhase::Failed => true,
-        _ => false,
-    }
-}
 
 pub fn is_bound(phase: VolumePhase) -> bool
     ensures { result ≡ is_bound phase }

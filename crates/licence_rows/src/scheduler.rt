@@ -9,7 +9,7 @@ use crate::parts::is_known;
 use call_types::entry::Entry;
 use kube_types::bindings::{SELECTED_NODE, class_of_claim, is_completed};
 use kube_types::key::Key;
-use kube_types::objects::{Claim, Node, Pod, Volume};
+use kube_types::objects::{Claim, Node, Pod};
 use kube_types::uid::Uid;
 use label_rules::admits;
 use licence_tests::changes::{is_annotated, is_claim_meta};

@@ -8,7 +8,7 @@ use Rattle.call_types.specs.declared.entry.Entry.{Entry}
 use Rattle.binder_model.specs.AgentLicence.{last_epoch}
 use Rattle.binder_model.specs.Reading.{NamesClaim}
 use Rattle.binder_model.specs.Told.{IsPodWith, ToldObject, ToldPod}
-use Rattle.licence_tests.proofs.Tried.{told_map}
+use Rattle.model_laws.proofs.Evidence.{told_map}
 use Rattle.licence_rules.specs.Naming.{AreOnOneNode, IsNaming, IsOnTaken}
 
 -- pods on one node are on a taken one alike
@@ -25,8 +25,8 @@ taken_alike mine (Claim p) x same taken = absurd same
 
 pub names_claim : (mine : List Entry) (key : Key) (b : Bool) → (IsTrue b ↔ ToldObject (λ o. IsPodWith (IsNaming key) o × IsPodWith (IsOnTaken mine) o) mine) → (IsTrue b ↔ ToldPod (NamesClaim mine key) mine)
 names_claim mine key b is = (
-  (λ t. told_map (λ o. IsPodWith (IsNaming key) o × IsPodWith (IsOnTaken mine) o) (IsPodWith (NamesClaim mine key)) mine there (is.0 t)),
-  (λ h. is.1 (told_map (IsPodWith (NamesClaim mine key)) (λ o. IsPodWith (IsNaming key) o × IsPodWith (IsOnTaken mine) o) mine back h)),
+  (λ t. told_map {P = λ o. IsPodWith (IsNaming key) o × IsPodWith (IsOnTaken mine) o} {Q = IsPodWith (NamesClaim mine key)} there mine (is.0 t)),
+  (λ h. is.1 (told_map {P = IsPodWith (NamesClaim mine key)} {Q = λ o. IsPodWith (IsNaming key) o × IsPodWith (IsOnTaken mine) o} back mine h)),
 )
   where
     there : (o : Object) → IsPodWith (IsNaming key) o × IsPodWith (IsOnTaken mine) o → IsPodWith (NamesClaim mine key) o

@@ -1,6 +1,6 @@
 //! Which row judges a controller's request, and whether it allows it.
 
-ghost use Rattle.std.specs.Prelude.{◌≡◌, ◌↔◌, IsTrue, reverse};
+ghost use Rattle.std.specs.Prelude.{◌↔◌, IsTrue, reverse};
 ghost use Rattle.kube_types.specs.declared.objects.Object.TheVariants as objects;
 ghost use Rattle.call_types.specs.declared.request.NewStatus.TheVariants as statuses;
 ghost use Rattle.call_types.specs.declared.request.Request.TheVariants as requests;

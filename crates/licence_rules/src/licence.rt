@@ -17,7 +17,7 @@ use licence_rows::parts::ref_uid;
 use plain_data::copies::Plain;
 
 /// Whether all entries have this kind.
-#[tactic(auto, using(licence_tests::proofs::Fronts::newest_first))]
+#[tactic(auto, using(model_laws::proofs::Evidence::newest_first))]
 fn are_of_kind(kind: SeatKind, mine: &[Entry]) -> bool
     ensures { IsTrue result ↔ AreOfKind kind (reverse mine.now) }
 {

@@ -1,5 +1,5 @@
--- What holds of something told, and rows of volumes and of claims as rows of objects.
-use Rattle.std.proofs.Common.{◌↔◌, IsTrue, Bool, List, [], ◌∷◌, Option, ℕ, inl, inr}
+-- Rows of volumes and of claims as rows of objects.
+use Rattle.std.proofs.Common.{◌↔◌, IsTrue, Bool, List, Option, ℕ}
 use Rattle.kube_types.specs.declared.objects.Claim.{Claim as ClaimData}
 use Rattle.kube_types.specs.declared.objects.Volume.{Volume as VolumeData}
 use Rattle.kube_types.specs.declared.objects.Object.{Object}
@@ -7,15 +7,8 @@ use Rattle.kube_types.specs.declared.objects.Object.TheVariants.{Class, Node, Vo
 use Rattle.kube_types.specs.Keys.{meta_of}
 use Rattle.call_types.specs.declared.entry.Entry.{Entry}
 use Rattle.binder_model.specs.At.{IsWrittenAt}
-use Rattle.binder_model.specs.Told.{IsClaimWith, IsVolumeWith, SomeOf, TellsObject, ToldClaim, ToldObject, ToldVolume, objects_in}
-
-pub some_map : {X : Type 0} (P Q : X → Type 0) (xs : List X) → ((x : X) → P x → Q x) → SomeOf P xs → SomeOf Q xs
-some_map P Q [] f h = h
-some_map P Q (x ∷ xs) f (inl p) = inl (f x p)
-some_map P Q (x ∷ xs) f (inr h) = inr (some_map P Q xs f h)
-
-pub told_map : (P Q : Object → Type 0) (mine : List Entry) → ((o : Object) → P o → Q o) → ToldObject P mine → ToldObject Q mine
-told_map P Q mine f h = some_map (TellsObject P) (TellsObject Q) mine (λ e t. (t.0, some_map P Q (objects_in e.reply) f t.1)) h
+use Rattle.binder_model.specs.Told.{IsClaimWith, IsVolumeWith, ToldClaim, ToldObject, ToldVolume}
+use Rattle.model_laws.proofs.Evidence.{told_map}
 
 volume_in : (given : Option ℕ) (namespace name : List ℕ) (R : VolumeData → Type 0) (o : Object) → IsWrittenAt given namespace name (meta_of o) × IsVolumeWith R o → IsVolumeWith (λ v. IsWrittenAt given namespace name v.meta × R v) o
 volume_in given namespace name R (Volume v) p = p
@@ -34,8 +27,8 @@ volume_out given namespace name R (Pod x) p = absurd p
 pub volume_at : (given : Option ℕ) (namespace name : List ℕ) (R : VolumeData → Type 0) (mine : List Entry) (b : Bool) → (IsTrue b ↔ ToldObject (λ o. IsWrittenAt given namespace name (meta_of o) × IsVolumeWith R o) mine)
     → (IsTrue b ↔ ToldVolume (λ v. IsWrittenAt given namespace name v.meta × R v) mine)
 volume_at given namespace name R mine b is = (
-  (λ t. told_map (λ o. IsWrittenAt given namespace name (meta_of o) × IsVolumeWith R o) (IsVolumeWith (λ v. IsWrittenAt given namespace name v.meta × R v)) mine (volume_in given namespace name R) (is.0 t)),
-  (λ h. is.1 (told_map (IsVolumeWith (λ v. IsWrittenAt given namespace name v.meta × R v)) (λ o. IsWrittenAt given namespace name (meta_of o) × IsVolumeWith R o) mine (volume_out given namespace name R) h)),
+  (λ t. told_map {P = λ o. IsWrittenAt given namespace name (meta_of o) × IsVolumeWith R o} {Q = IsVolumeWith (λ v. IsWrittenAt given namespace name v.meta × R v)} (volume_in given namespace name R) mine (is.0 t)),
+  (λ h. is.1 (told_map {P = IsVolumeWith (λ v. IsWrittenAt given namespace name v.meta × R v)} {Q = λ o. IsWrittenAt given namespace name (meta_of o) × IsVolumeWith R o} (volume_out given namespace name R) mine h)),
 )
 
 claim_in : (given : Option ℕ) (namespace name : List ℕ) (R : ClaimData → Type 0) (o : Object) → IsWrittenAt given namespace name (meta_of o) × IsClaimWith R o → IsClaimWith (λ c. IsWrittenAt given namespace name c.meta × R c) o
@@ -55,6 +48,6 @@ claim_out given namespace name R (Pod x) p = absurd p
 pub claim_at : (given : Option ℕ) (namespace name : List ℕ) (R : ClaimData → Type 0) (mine : List Entry) (b : Bool) → (IsTrue b ↔ ToldObject (λ o. IsWrittenAt given namespace name (meta_of o) × IsClaimWith R o) mine)
     → (IsTrue b ↔ ToldClaim (λ c. IsWrittenAt given namespace name c.meta × R c) mine)
 claim_at given namespace name R mine b is = (
-  (λ t. told_map (λ o. IsWrittenAt given namespace name (meta_of o) × IsClaimWith R o) (IsClaimWith (λ c. IsWrittenAt given namespace name c.meta × R c)) mine (claim_in given namespace name R) (is.0 t)),
-  (λ h. is.1 (told_map (IsClaimWith (λ c. IsWrittenAt given namespace name c.meta × R c)) (λ o. IsWrittenAt given namespace name (meta_of o) × IsClaimWith R o) mine (claim_out given namespace name R) h)),
+  (λ t. told_map {P = λ o. IsWrittenAt given namespace name (meta_of o) × IsClaimWith R o} {Q = IsClaimWith (λ c. IsWrittenAt given namespace name c.meta × R c)} (claim_in given namespace name R) mine (is.0 t)),
+  (λ h. is.1 (told_map {P = IsClaimWith (λ c. IsWrittenAt given namespace name c.meta × R c)} {Q = λ o. IsWrittenAt given namespace name (meta_of o) × IsClaimWith R o} (claim_out given namespace name R) mine h)),
 )

@@ -11,7 +11,6 @@ use crate::walks::{is_appended, is_put_twice, is_without_key, is_without_name};
 use kube_types::bindings::{BIND_COMPLETED, BOUND_BY_CONTROLLER, YES};
 use kube_types::objects::{Claim, Meta, Ref, Volume};
 use plain_data::copies::{Plain, same_option};
-use plain_data::text::Text;
 
 /// Whether the metadata differ in annotations and finalizers alone.
 fn is_meta_rest(old: &Meta, new: &Meta) -> bool

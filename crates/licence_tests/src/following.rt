@@ -81,7 +81,7 @@ fn follow_on(
 
 /// Where the seat with these entries, the oldest first, stands with a kind: the version of its list,
 /// and the one that a watch has reached since.
-#[tactic(auto, using(crate::proofs::Fronts::newest_first))]
+#[tactic(auto, using(model_laws::proofs::Evidence::newest_first))]
 pub fn following_of(mine: &[Entry], kind: Kind) -> Option<(Version, Option<Version>)>
     ensures { as_following result ≡ following_of (reverse mine.now) kind }
 {

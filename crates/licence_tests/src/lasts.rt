@@ -1,6 +1,6 @@
 //! The last epoch of a node, the last read of a key, and the entries since.
 
-ghost use Rattle.std.specs.Prelude.{◌≡◌, ◌↔◌, ◌&&◌, IsTrue, MatchOption, None, Some, is_some, reverse, true};
+ghost use Rattle.std.specs.Prelude.{◌≡◌, ◌&&◌, MatchOption, None, Some, is_some, reverse, true};
 ghost use Rattle.binder_model.specs.AgentLicence.{epoch_in, epoch_told, is_get_of, last_epoch, last_get, since_epoch, since_get};
 ghost use Rattle.kube_types.specs.Keys.{same_key};
 ghost use Rattle.licence_tests.specs.Keyed.{key_at};

@@ -4,7 +4,7 @@ ghost use Rattle.std.specs.Prelude.{◌≡◌, List, ℕ, None, reverse, if◌th
 ghost use Rattle.std.specs.Option.{option_copied};
 ghost use Rattle.std.specs.Ordering.{is_eq};
 ghost use Rattle.kube_types.specs.Keys.{key_cmp, key_of, row_at, same_key};
-ghost use Rattle.binder_model.specs.Told.{later, listing, lists_key, newest, object_of, of_event, presence, tells_of, told_by_events, told_of};
+ghost use Rattle.binder_model.specs.Told.{later, listing, lists_key, newest, object_of, of_event, tells_of, told_by_events, told_of};
 ghost use Rattle.licence_tests.specs.Keyed.{as_telling, key_at};
 
 use call_types::entry::Entry;

@@ -17,7 +17,7 @@ use Rattle.binder_model.specs.OpsLicence.{EraseDone, EraseFailed, IsEndedOver, I
 use Rattle.binder_model.specs.Provisioning.{data_name}
 use Rattle.binder_model.specs.Told.{After, IsClaimWith, IsVolumeWith, ToldClaim}
 use Rattle.ops_licence.specs.Providing.{Creates, GaveShown, TellsShown}
-use Rattle.seat_index.specs.Steps.Parts.{IsPart}
+use Rattle.seat_index.specs.Parts.{IsPart}
 use Rattle.seat_index.proofs.Growing.{IsOfReads, after_grows}
 
 -- no answer of a write is one of the back end

@@ -21,7 +21,7 @@ use Rattle.ops_licence.proofs.Providing.{NodeLabels, clear_row, labels_row, prov
 use Rattle.seat_places.specs.declared.topics.Topic.{Topic}
 use Rattle.seat_places.specs.declared.topics.Matter.TheVariants as matters
 use Rattle.seat_places.specs.Topics.{about_data, last_of}
-use Rattle.seat_places.specs.Places.{finds}
+use Rattle.seat_places.specs.Steps.Since.{finds}
 use Rattle.seat_places.proofs.Hearing.{finds_heard}
 use Rattle.seat_places.proofs.Since.{last_since, read_stands}
 use Rattle.seat_places.proofs.Uses.{found_since}

@@ -1,13 +1,13 @@
 //! Where the index shows that the node chosen for a claim may be dropped.
 
-ghost use Rattle.std.specs.Prelude.{◌≡◌, List, IsTrue, Some, false, reverse};
+ghost use Rattle.std.specs.Prelude.{List, IsTrue, Some, false};
 ghost use Rattle.call_types.specs.declared.entry.Entry.{Entry};
 ghost use Rattle.binder_model.specs.Licence.{AtClaim};
 ghost use Rattle.binder_model.specs.OpsLicence.{IsThisClaim, IsUnserved, MayClearNode, TellsExhausted};
 ghost use Rattle.binder_model.specs.Provisioning.{data_name};
 ghost use Rattle.binder_model.specs.Told.{After, ToldClaim};
-ghost use Rattle.seat_index.specs.Steps.Indexed.{IsIndexOf};
-ghost use Rattle.seat_index.specs.Steps.Parts.{ArePages};
+ghost use Rattle.seat_index.specs.Indexed.{IsIndexOf};
+ghost use Rattle.seat_index.specs.Parts.{ArePages};
 
 use kube_types::bindings::{SELECTED_NODE, is_completed};
 use kube_types::objects::{Claim, Version};

@@ -4,8 +4,8 @@ ghost use Rattle.std.specs.Prelude.{◌≡◌, List, IsTrue, Some, reverse};
 ghost use Rattle.call_types.specs.declared.entry.Entry.{Entry};
 ghost use Rattle.binder_model.specs.OpsLicence.{MayCreate};
 ghost use Rattle.informer_cache.specs.All.{AllStandFor};
-ghost use Rattle.seat_index.specs.Steps.Indexed.{IsIndexOf};
-ghost use Rattle.seat_index.specs.Steps.Parts.{IsPart};
+ghost use Rattle.seat_index.specs.Indexed.{IsIndexOf};
+ghost use Rattle.seat_index.specs.Parts.{IsPart};
 
 use call_types::entry::Entry;
 use informer_cache::caches::Caches;

@@ -9,7 +9,7 @@ ghost use Rattle.binder_model.specs.OpsLicence.{AreLabels, MayProvision};
 ghost use Rattle.binder_model.specs.Told.{IsNewest};
 ghost use Rattle.informer_cache.specs.All.{AllStandFor};
 ghost use Rattle.ops_licence.specs.Providing.{IsAsked, IsProvided, IsProvidedBy};
-ghost use Rattle.seat_index.specs.Steps.Indexed.{IsIndexOf};
+ghost use Rattle.seat_index.specs.Indexed.{IsIndexOf};
 
 use call_types::entry::Entry;
 use call_types::reply::Reply;

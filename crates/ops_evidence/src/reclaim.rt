@@ -5,7 +5,7 @@ ghost use Rattle.call_types.specs.declared.entry.Entry.{Entry};
 ghost use Rattle.binder_model.specs.Licence.{AtVolumeKey, MayDeleteVolume};
 ghost use Rattle.binder_model.specs.OpsLicence.{MayErase, MayFail};
 ghost use Rattle.binder_model.specs.Told.{last_found};
-ghost use Rattle.seat_index.specs.Steps.Parts.{ArePages};
+ghost use Rattle.seat_index.specs.Parts.{ArePages};
 ghost use Rattle.seat_places.specs.Rows.{AreLastsOf};
 
 use call_types::entry::Entry;

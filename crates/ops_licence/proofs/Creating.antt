@@ -21,7 +21,7 @@ use Rattle.binder_model.specs.OpsLicence.{GaveData, MayCreate, TellsData}
 use Rattle.binder_model.specs.Provisioning.{data_name, provisioned_volume, terms_for}
 use Rattle.binder_model.specs.Told.{After, IsNewest, ToldClaim}
 use Rattle.licence_rows.proofs.Picks.{claim_is, class_is}
-use Rattle.licence_rows.proofs.Rows.{some_is}
+use Rattle.model_laws.proofs.Lists.{one}
 use Rattle.ops_licence.specs.Providing.{Creates, GaveShown, TellsShown, made_volume, source_of}
 
 -- the data and the place that an answer gave
@@ -105,7 +105,7 @@ pub create_none : (mine : List Entry) (new : VolumeData) → new.claim_ref ≡ N
 create_none mine new none row = true≢false (ap is_some (sym (create_refers mine new row) ∙ none))
 
 create_ref : (mine : List Entry) (new : VolumeData) (r : Ref) (row : MayCreate mine new) → new.claim_ref ≡ Some r → r ≡ ref_to row.claim
-create_ref mine new r row refers = some_is r (ref_to row.claim) (sym refers ∙ create_refers mine new row)
+create_ref mine new r row refers = one r (ref_to row.claim) (sym refers ∙ create_refers mine new row)
 
 pub create_unknown : (mine : List Entry) (new : VolumeData) (r : Ref) → new.claim_ref ≡ Some r → r.uid ≡ None → MayCreate mine new → ⊥
 create_unknown mine new r refers none row = true≢false (ap is_some (sym row.known ∙ sym (ap (λ (x : Ref). x.uid) (create_ref mine new r row refers)) ∙ none))
@@ -128,12 +128,12 @@ create_row mine new r uid c class b refers known newest class_newest is = ((λ t
   where
     there : Creates mine c uid class new → MayCreate mine new
     there k =
-        let same : r ≡ ref_to c = some_is r (ref_to c) (sym refers ∙ made_refers c uid class new k.made) in
+        let same : r ≡ ref_to c = one r (ref_to c) (sym refers ∙ made_refers c uid class new k.made) in
         creates_there mine new c uid class (subst (λ (x : Ref). IsNewest mine (claim_key x.namespace x.name) (Claim c)) same newest) class_newest k
 
     back : MayCreate mine new → Creates mine c uid class new
     back row =
         let claims : row.claim ≡ c = create_claim mine new r c row refers newest in
         let classes : row.class ≡ class = class_is mine (class_key (class_of_claim c)) row.class class (subst (λ (x : ClaimData). IsNewest mine (class_key (class_of_claim x)) (Class row.class)) claims row.class_newest) class_newest in
-        let uids : row.uid ≡ uid = some_is row.uid uid (sym row.known ∙ ap (λ (x : Ref). x.uid) (sym (create_ref mine new r row refers)) ∙ known) in
+        let uids : row.uid ≡ uid = one row.uid uid (sym row.known ∙ ap (λ (x : Ref). x.uid) (sym (create_ref mine new r row refers)) ∙ known) in
         subst (λ x. Creates mine x uid class new) claims (subst (λ x. Creates mine row.claim uid x new) classes (subst (λ u. Creates mine row.claim u row.class new) uids (creates_back mine new row)))

@@ -13,7 +13,7 @@ use Rattle.call_types.specs.declared.reply.Reply.TheVariants.{Erased}
 use Rattle.binder_model.specs.OpsLicence.{EraseDone, IsEndedOver, MayDelete, TellsErased}
 use Rattle.binder_model.specs.Told.{After, IsVolumeWith, ToldObject, ToldVolume}
 use Rattle.licence_tests.proofs.Afters.{after_told}
-use Rattle.licence_tests.proofs.Tried.{told_map}
+use Rattle.model_laws.proofs.Evidence.{told_map}
 use Rattle.licence_rows.proofs.Asks.{told_gives}
 use Rattle.ops_licence.specs.Providing.{IsEnded, IsOverSame, WasEnded, WasErased}
 
@@ -32,7 +32,7 @@ erased_alike mine uid (Pod v) x same e = absurd same
 pub delete_row : (mine : List Entry) (uid : Uid) (b : Bool) → (IsTrue b ↔ ToldObject (λ o. IsVolumeWith (IsEnded uid) o × IsVolumeWith (WasErased mine uid) o) mine) → (IsTrue b ↔ MayDelete mine uid)
 delete_row mine uid b is = (
   (λ t. let o = told_gives (λ o. IsVolumeWith (IsEnded uid) o × IsVolumeWith (WasErased mine uid) o) mine (is.0 t) in there o.0 o.1.1),
-  (λ row. is.1 (told_map (IsVolumeWith (IsEndedOver uid row.id)) (λ o. IsVolumeWith (IsEnded uid) o × IsVolumeWith (WasErased mine uid) o) mine (back row)
+  (λ row. is.1 (told_map {P = IsVolumeWith (IsEndedOver uid row.id)} {Q = λ o. IsVolumeWith (IsEnded uid) o × IsVolumeWith (WasErased mine uid) o} (back row) mine
       (after_told (IsVolumeWith (IsEndedOver uid row.id)) (TellsErased row.id) mine row.erased))),
 )
   where

@@ -14,7 +14,7 @@ use Rattle.binder_model.specs.Told.{IsClaimWith, IsNewest}
 use Rattle.licence_rows.specs.Asking.{SomeNewest}
 use Rattle.licence_rows.proofs.Asks.{claim_newest, newest_claim}
 use Rattle.licence_rows.proofs.Picks.{class_is, node_is}
-use Rattle.licence_rows.proofs.Rows.{some_is}
+use Rattle.model_laws.proofs.Lists.{one}
 use Rattle.ops_licence.specs.Providing.{IsAsked, IsAskedFor, IsProvided, IsProvidedBy}
 
 -- the labels of a node of this name
@@ -30,7 +30,7 @@ label_row mine name labels node b newest is = (
 pub labels_row : (mine : List Entry) (c : ClaimData) (name : List ℕ) (labels : Option (List Pair)) (b : Bool) → value_at selected_node c.meta.annotations ≡ Some name → (IsTrue b ↔ NodeLabels mine name labels) → (IsTrue b ↔ AreLabels mine c true labels)
 labels_row mine c name labels b found is = (
   (λ t. (name, found, is.0 t)),
-  (λ s. is.1 (subst (λ n. NodeLabels mine n labels) (some_is _ _ (sym s.1 ∙ found)) s.2)),
+  (λ s. is.1 (subst (λ n. NodeLabels mine n labels) (one _ _ (sym s.1 ∙ found)) s.2)),
 )
 
 pub provided_row : (mine : List Entry) (c : ClaimData) (provisioner : List ℕ) (labels : Option (List Pair)) (class : ClassData) (b : Bool) → IsNewest mine (class_key (class_of_claim c)) (Class class)
@@ -43,7 +43,7 @@ provided_row mine c provisioner labels class b newest is = (
 pub asked_row : (name : List ℕ) (bytes : ℕ) (c : ClaimData) (uid : Uid) (b : Bool) → c.meta.uid ≡ Some uid → (IsTrue b ↔ IsAskedFor name bytes c uid) → (IsTrue b ↔ IsAsked name bytes c)
 asked_row name bytes c uid b known is = (
   (λ t. (uid, (known, is.0 t))),
-  (λ row. is.1 (subst (λ u. IsAskedFor name bytes c u) (some_is row.0 uid (sym row.1.0 ∙ known)) row.1.1)),
+  (λ row. is.1 (subst (λ u. IsAskedFor name bytes c u) (one row.0 uid (sym row.1.0 ∙ known)) row.1.1)),
 )
 
 pub provision_row : (mine : List Entry) (name provisioner : List ℕ) (bytes : ℕ) (labels : Option (List Pair)) (b : Bool)
@@ -79,5 +79,5 @@ pub clear_row : (mine : List Entry) (o new : ClaimData) (uid : Uid) (node : List
     → (IsTrue b ↔ IsUnserved mine o uid node) → (IsTrue b ↔ MayClearNode mine o new)
 clear_row mine o new uid node b undone known selected change is = (
   (λ t. record { undone = undone; uid = uid; known = known; node = node; selected = selected; why = is.0 t; change = change }),
-  (λ row. is.1 (subst (λ n. IsUnserved mine o uid n) (some_is _ _ (sym row.selected ∙ selected)) (subst (λ u. IsUnserved mine o u row.node) (some_is row.uid uid (sym row.known ∙ known)) row.why))),
+  (λ row. is.1 (subst (λ n. IsUnserved mine o uid n) (one _ _ (sym row.selected ∙ selected)) (subst (λ u. IsUnserved mine o u row.node) (one row.uid uid (sym row.known ∙ known)) row.why))),
 )

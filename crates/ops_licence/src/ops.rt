@@ -8,9 +8,9 @@ ghost use Rattle.plain_data.specs.Pairs.{without_key};
 ghost use Rattle.kube_types.specs.Bindings.{selected_node};
 ghost use Rattle.kube_types.specs.Sources.{data_id_of};
 ghost use Rattle.binder_model.specs.ObjectKeys.{node_key};
-ghost use Rattle.binder_model.specs.OpsLicence.{AreLabels, EraseDone, EraseFailed, IsEndedOver, IsExhausted, IsThisClaim, IsThisVolume, IsUnserved, MayClearNode, MayDelete, MayErase, MayFail, MayProvision, TellsEraseFailed, TellsErased, TellsExhausted};
+ghost use Rattle.binder_model.specs.OpsLicence.{AreLabels, IsEndedOver, IsThisClaim, IsThisVolume, IsUnserved, MayClearNode, MayDelete, MayErase, MayFail, MayProvision, TellsEraseFailed, TellsErased, TellsExhausted};
 ghost use Rattle.binder_model.specs.Provisioning.{data_name, is_wanting, provisions};
-ghost use Rattle.binder_model.specs.Told.{After, IsNewest, IsNewestAbsent, IsVolumeWith, ToldClaim, ToldVolume, found_over, last_found};
+ghost use Rattle.binder_model.specs.Told.{After, IsNewest, IsNewestAbsent, IsVolumeWith, ToldClaim, found_over, last_found};
 ghost use Rattle.ops_licence.specs.Providing.{IsAsked, IsAskedFor, IsEnded, IsOverSame, IsProvided, IsProvidedBy, WasEnded, WasErased};
 
 use crate::ids::{is_data_name, is_id_of};
@@ -18,14 +18,14 @@ use call_types::entry::Entry;
 use call_types::reply::{Refusal, Reply};
 use call_types::request::Request;
 use kube_types::bindings::{
-    NO_PROVISIONER, SELECTED_NODE, class_of_claim, is_completed, is_deleting,
+    NO_PROVISIONER, SELECTED_NODE, class_of_claim, is_completed, is_deleting, is_ended,
 };
 use kube_types::objects::{Claim, Class, DataId, Object, Volume};
 use kube_types::parts::Kind;
 use kube_types::uid::Uid;
 use licence_rows::asking::is_to_erase;
 use licence_rows::newest::{newest_class, newest_node, some_newest};
-use licence_rows::parts::{is_delete, is_ended, is_known};
+use licence_rows::parts::{is_delete, is_known};
 use licence_tests::changes::{is_claim_meta, is_unannotated};
 use licence_tests::entries::{EntryTest, after, last_place};
 use licence_tests::newest::newest;
@@ -204,7 +204,7 @@ pub fn found_over<'a>(id: &DataId, entry: &'a Entry) -> Option<&'a Volume>
 }
 
 /// The last volume with this data id that a Get found.
-#[tactic(auto, using(licence_tests::proofs::Fronts::newest_first))]
+#[tactic(auto, using(model_laws::proofs::Evidence::newest_first))]
 fn last_found<'a>(mine: &'a [Entry], id: &DataId) -> Option<&'a Volume>
     ensures { option_copied result ≡ last_found id.now (reverse mine.now) }
 {

@@ -1,2 +1,3 @@
 pub mod Absence
 pub mod Rows
+pub mod Versions

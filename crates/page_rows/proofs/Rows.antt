@@ -7,9 +7,9 @@ use Rattle.call_types.specs.declared.entry.Entry.{Entry}
 use Rattle.binder_model.specs.At.{IsWrittenAt}
 use Rattle.binder_model.specs.Told.{IsClaimWith, ToldClaim, ToldObject}
 use Rattle.model_laws.proofs.Evidence.{told_map}
-use Rattle.seat_index.specs.Steps.Parts.{IsPart}
+use Rattle.seat_index.specs.Parts.{IsPart}
 use Rattle.seat_index.proofs.Growing.{told_grows}
-use Rattle.page_rows.specs.Written.{IsClaimOf}
+use Rattle.page_rows.specs.Steps.Written.{IsClaimOf}
 
 pub claim_by : (given : Option ℕ) (namespace name : List ℕ) (o : Object) (claim : ClaimData) → IsClaimOf o namespace name claim → given ≡ Some (meta_of o).version → (small mine : List Entry) → ToldObject (λ x. x ≡ o) small → IsPart small mine → ToldClaim (λ c. IsWrittenAt given namespace name c.meta × (c ≡ claim)) mine
 claim_by given namespace name o claim of at small mine told part =

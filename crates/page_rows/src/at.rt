@@ -1,13 +1,16 @@
 //! Writes at a told object of a page.
 
-ghost use Rattle.std.specs.Prelude.{◌≡◌, List, IfSome, IsTrue, Some, reverse};
+ghost use Rattle.std.specs.Prelude.{◌≡◌, List, IfSome, IsTrue, MatchOption, Some, reverse};
+ghost use Rattle.kube_types.specs.declared.objects.Claim.{Claim as ClaimData};
+ghost use Rattle.kube_types.specs.declared.objects.Object.TheVariants as objects;
+ghost use Rattle.kube_types.specs.declared.objects.Volume.{Volume as VolumeData};
 ghost use Rattle.kube_types.specs.Keys.{meta_of};
 ghost use Rattle.call_types.specs.declared.entry.Entry.{Entry};
 ghost use Rattle.binder_model.specs.At.{IsWrittenAt};
 ghost use Rattle.binder_model.specs.Licence.{AtClaimKey, AtVolumeKey};
 ghost use Rattle.binder_model.specs.Told.{ToldClaim, ToldVolume};
-ghost use Rattle.seat_index.specs.Steps.Parts.{IsPart};
-ghost use Rattle.page_rows.specs.Written.{IsClaimOf};
+ghost use Rattle.seat_index.specs.Parts.{IsPart};
+ghost use Rattle.page_rows.specs.Steps.Written.{IsClaimOf};
 
 use call_types::entry::Entry;
 use kube_types::copies::Plain;
@@ -15,7 +18,9 @@ use kube_types::key::{Key, meta_of};
 use kube_types::objects::{Claim, Object, Version, Volume};
 use kube_types::parts::Kind;
 use kube_types::text::Text;
-use licence_tests::rows::{ClaimTest, VolumeTest, told_claim_at, told_volume_at};
+use licence_tests::rows::{
+    ClaimTest, OfClaims, OfVolumes, VolumeTest, told_claim_at, told_volume_at,
+};
 use licence_tests::told::{ObjectTest, find_told};
 
 /// The object has this version.
@@ -35,20 +40,68 @@ impl ObjectTest for AtVersion {
     }
 }
 
-/// A volume of the version on a page, by which the pages are chosen that its row needs. Whatever it
-/// answers, the row decides.
-pub fn volume_at<'a>(page: &'a [Entry], given: Option<Version>) -> Option<&'a Volume> {
-    match find_told(&AtVersion { given }, page) {
-        Some(Object::Volume(volume)) => Some(volume),
+impl VolumeTest for AtVersion {
+    ghost allows = { λ t v. t.given ≡ Some v.meta.version };
+
+    fn test(&self, volume: &Volume) -> bool {
+        match self.given {
+            None => false,
+            Some(given) => given == volume.meta.version,
+        }
+    }
+}
+
+impl ClaimTest for AtVersion {
+    ghost allows = { λ t c. t.given ≡ Some c.meta.version };
+
+    fn test(&self, claim: &Claim) -> bool {
+        match self.given {
+            None => false,
+            Some(given) => given == claim.meta.version,
+        }
+    }
+}
+
+/// The volume that the object is.
+fn as_volume<'a>(object: &'a Object) -> Option<&'a Volume>
+    ensures { MatchOption result ((volume : VolumeData) → object.now ≡ objects.Volume volume → ⊥) (λ volume. object.now ≡ objects.Volume volume.now) }
+{
+    match object {
+        Object::Volume(volume) => Some(volume),
         _ => None,
     }
 }
 
-/// A claim of the version on a page, likewise.
-pub fn claim_at<'a>(page: &'a [Entry], given: Option<Version>) -> Option<&'a Claim> {
-    match find_told(&AtVersion { given }, page) {
-        Some(Object::Claim(claim)) => Some(claim),
+/// The claim that the object is.
+fn as_claim<'a>(object: &'a Object) -> Option<&'a Claim>
+    ensures { MatchOption result ((claim : ClaimData) → object.now ≡ objects.Claim claim → ⊥) (λ claim. object.now ≡ objects.Claim claim.now) }
+{
+    match object {
+        Object::Claim(claim) => Some(claim),
         _ => None,
+    }
+}
+
+/// A volume of the version that the page tells, by which the pages are chosen that its row needs. Whichever it
+/// is, the row decides.
+pub fn volume_at<'a>(page: &'a [Entry], given: Option<Version>) -> Option<&'a Volume>
+    ensures { MatchOption result (ToldVolume (λ v. given ≡ Some v.meta.version) (reverse page.now) → ⊥) (λ volume. (given ≡ Some volume.now.meta.version) × ToldVolume (λ v. v ≡ volume.now) (reverse page.now)) }
+{
+    let at = AtVersion { given };
+    match find_told(&OfVolumes { test: &at }, page) {
+        None => None,
+        Some(found) => as_volume(found),
+    }
+}
+
+/// A claim of the version that the page tells, likewise.
+pub fn claim_at<'a>(page: &'a [Entry], given: Option<Version>) -> Option<&'a Claim>
+    ensures { MatchOption result (ToldClaim (λ c. given ≡ Some c.meta.version) (reverse page.now) → ⊥) (λ claim. (given ≡ Some claim.now.meta.version) × ToldClaim (λ c. c ≡ claim.now) (reverse page.now)) }
+{
+    let at = AtVersion { given };
+    match find_told(&OfClaims { test: &at }, page) {
+        None => None,
+        Some(found) => as_claim(found),
     }
 }
 

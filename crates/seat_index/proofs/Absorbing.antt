@@ -1,5 +1,5 @@
 -- Caches and the kind of a seat, after one entry more.
-use Rattle.std.proofs.Common.{◌≡◌, List, [], ◌∷◌, Bool, true, false, Option, Some, None, refl, sym, ◌∙◌, ap, subst, if◌then◌else◌}
+use Rattle.std.proofs.Common.{◌≡◌, List, [], ◌∷◌, false, Option, Some, None, sym, ◌∙◌, ap, subst, if◌then◌else◌}
 use Rattle.call_types.specs.declared.entry.Entry.{Entry}
 use Rattle.call_types.specs.declared.request.SeatKind.{SeatKind}
 use Rattle.binder_model.specs.Licence.{AreOfKind}

@@ -1,13 +1,12 @@
 -- What a part of the entries tells, they tell.
-use Rattle.std.proofs.Common.{◌≡◌, List, [], ◌∷◌, inl, inr, true, sym, subst}
-use Rattle.std.specs.Prelude.{◌⊎◌}
+use Rattle.std.proofs.Common.{◌≡◌, List, inl, inr, sym, subst}
 use Rattle.kube_types.specs.declared.objects.Object.{Object}
 use Rattle.call_types.specs.declared.entry.Entry.{Entry}
 use Rattle.call_types.specs.declared.reply.Reply.{Reply}
 use Rattle.call_types.specs.declared.reply.Reply.TheVariants.{Done}
-use Rattle.binder_model.specs.Told.{After, SomeOf, TellsObject, ToldObject, objects_in}
+use Rattle.binder_model.specs.Told.{After, SomeOf, ToldObject, objects_in}
 use Rattle.model_laws.proofs.Evidence.{told_map}
-use Rattle.seat_index.specs.Steps.Parts.{IsPart, Begins, Skips, Keeps, Tells}
+use Rattle.seat_index.specs.Parts.{IsPart, Begins, Skips, Keeps, Tells}
 
 only : (P : Object → Type 0) (reply : Reply) (o : Object) → reply ≡ Done o → SomeOf P (objects_in reply) → P o
 only P reply o is h = elim (subst (λ r. SomeOf P (objects_in r)) is h) [ inl p ↦ p | inr q ↦ absurd q ]

@@ -4,4 +4,5 @@ pub mod Licences
 pub mod Paging
 pub mod Reading
 pub mod Rows
+pub mod Stripped
 pub mod Telling

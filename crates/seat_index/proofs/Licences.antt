@@ -1,5 +1,5 @@
 -- The licence of a seat, by its kind and its row.
-use Rattle.std.proofs.Common.{◌≡◌, List, [], ◌∷◌, Option, Some, true, sym, subst}
+use Rattle.std.proofs.Common.{List}
 use Rattle.call_types.specs.declared.entry.Entry.{Entry}
 use Rattle.call_types.specs.declared.request.Request.{Request}
 use Rattle.call_types.specs.declared.request.SeatKind.{SeatKind}

@@ -1,5 +1,5 @@
 -- Pages that get one entry more.
-use Rattle.std.proofs.Common.{◌≡◌, ℕ, zero, suc, ◌<◌, List, [], ◌∷◌, ◌++◌, length, get_or, set, reverse, arith, refl, sym, ◌∙◌, ap, subst}
+use Rattle.std.proofs.Common.{◌≡◌, ℕ, zero, suc, ◌<◌, List, [], ◌∷◌, ◌++◌, length, get_or, set, reverse, arith, sym, ◌∙◌, ap, subst}
 use Rattle.std.proofs.lemmas.List.{reverse-append}
 use Rattle.std.specs.List.{insert}
 use Rattle.kube_types.specs.declared.objects.Object.{Object}
@@ -7,7 +7,7 @@ use Rattle.call_types.specs.declared.entry.Entry.{Entry}
 use Rattle.call_types.specs.declared.reply.Reply.TheVariants.{Done}
 use Rattle.binder_model.specs.Told.{ToldObject}
 use Rattle.seat_index.specs.declared.pages.Page.{Page}
-use Rattle.seat_index.specs.Steps.Parts.{IsPart, Begins, Skips, Keeps, Tells, ArePages, MayStandBehind}
+use Rattle.seat_index.specs.Parts.{IsPart, Begins, Skips, Keeps, Tells, ArePages, MayStandBehind}
 
 pub pages_grow : (mine after : List Entry) → ((small : List Entry) → IsPart small mine → IsPart small after) → (ps : List Page) → ArePages ps mine → ArePages ps after
 pages_grow mine after grows [] h = tt

@@ -1,5 +1,5 @@
 -- What caches that stand for the entries show of the reads of a controller.
-use Rattle.std.proofs.Common.{◌≡◌, ℕ, List, [], ◌∷◌, Bool, true, false, true≢false, Option, Some, None, inl, inr, sym, ◌∙◌, ap, subst}
+use Rattle.std.proofs.Common.{◌≡◌, ℕ, List, Bool, true, false, true≢false, Option, Some, None, inl, inr, sym, ◌∙◌, ap, subst}
 use Rattle.kube_types.specs.declared.uid.Uid.{Uid}
 use Rattle.kube_types.specs.declared.key.Key.{Key}
 use Rattle.kube_types.specs.declared.parts.Kind.{Kind}
@@ -18,12 +18,12 @@ use Rattle.binder_model.specs.Licence.{Licensed}
 use Rattle.binder_model.specs.ObjectKeys.{claim_key, volume_key}
 use Rattle.binder_model.specs.OpsLicence.{IsToErase}
 use Rattle.binder_model.specs.Reading.{AsksForClaim, AsksForEnded, AsksForVolume, Following, Unlisted, ListedAt, IsDeletingIn, IsFrom, IsUnlisted, LacksUid, MayRead, following_of}
-use Rattle.binder_model.specs.Told.{IsClaimWith, newest, object_of}
+use Rattle.binder_model.specs.Told.{IsClaimWith}
 use Rattle.informer_cache.specs.All.{AllKnown, AllStandFor, all_objects, cache_of}
 use Rattle.informer_cache.specs.Cache.{ask_from, ask_of, watch_from}
 use Rattle.informer_cache.specs.declared.cache.Ask.{Ask}
 use Rattle.informer_cache.specs.declared.cache.Ask.TheVariants as asks
-use Rattle.seat_index.specs.Steps.Parts.{IsPart}
+use Rattle.seat_index.specs.Parts.{IsPart}
 use Rattle.seat_index.proofs.Growing.{told_grows}
 
 is_list : Ask → Bool

@@ -1,6 +1,5 @@
 -- What a row of the licence allows by a part of the entries, it allows by the entries.
-use Rattle.std.proofs.Common.{◌≡◌, ℕ, List, [], ◌∷◌, Bool, true, false, Option, Some, None, inl, inr, subst}
-use Rattle.std.specs.Prelude.{◌⊎◌}
+use Rattle.std.proofs.Common.{ℕ, List, Bool, true, false, Option, Some, inl, inr, subst}
 use Rattle.kube_types.specs.declared.key.Key.{Key}
 use Rattle.kube_types.specs.declared.parts.Modes.{Modes}
 use Rattle.kube_types.specs.declared.parts.Kind.TheVariants as kinds
@@ -10,18 +9,17 @@ use Rattle.kube_types.specs.declared.objects.Claim.{Claim as ClaimData}
 use Rattle.kube_types.specs.declared.objects.Object.{Object}
 use Rattle.kube_types.specs.declared.objects.Object.TheVariants.{Class, Node, Volume, Claim, Pod}
 use Rattle.call_types.specs.declared.entry.Entry.{Entry}
-use Rattle.call_types.specs.declared.reply.Reply.{Reply}
 use Rattle.call_types.specs.declared.reply.Reply.TheVariants.{Done}
 use Rattle.call_types.specs.declared.request.Request.{Request}
 use Rattle.call_types.specs.declared.request.Request.TheVariants as requests
 use Rattle.binder_model.specs.At.{IsElsewhere, IsWrittenAt}
 use Rattle.binder_model.specs.ObjectKeys.{claim_key, volume_key}
 use Rattle.binder_model.specs.BinderLicence.{IsBoundFor, IsCompletedVersion, IsGone, IsHere, IsNotCarrying, IsReferring, IsShown, IsTaken, MayBind, MayComplete, MayLose, MayRelease, MayShow, MayTake, MayUnbind}
-use Rattle.binder_model.specs.GuardLicence.{IsDeletingVersion, IsPodList, MayUnguardClaim, TellsUnused}
+use Rattle.binder_model.specs.GuardLicence.{IsDeletingVersion, IsPodList, TellsUnused}
 use Rattle.binder_model.specs.Licence.{ClaimGuard}
 use Rattle.binder_model.specs.Told.{IsClaimWith, IsLiveAnswer, IsVolumeWith, TellsLive, ToldClaim, ToldVolume}
 use Rattle.model_laws.proofs.Evidence.{told_map}
-use Rattle.seat_index.specs.Steps.Parts.{IsPart}
+use Rattle.seat_index.specs.Parts.{IsPart}
 use Rattle.seat_index.proofs.Growing.{IsOfReads, after_grows, told_grows}
 
 live_reads : (key : Key) (P : Option Object → Type 0) → IsOfReads (TellsLive key P)

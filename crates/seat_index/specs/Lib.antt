@@ -1,2 +1,3 @@
+pub mod Indexed
 pub mod Keyed
-pub mod Steps
+pub mod Parts

@@ -6,7 +6,7 @@ ghost use Rattle.call_types.specs.declared.entry.Entry.{Entry};
 ghost use Rattle.call_types.specs.declared.request.SeatKind.{SeatKind as SeatKinds};
 ghost use Rattle.binder_model.specs.Licence.{AreOfKind};
 ghost use Rattle.informer_cache.specs.All.{AllStandFor};
-ghost use Rattle.seat_index.specs.Steps.Indexed.{IsIndexOf};
+ghost use Rattle.seat_index.specs.Indexed.{IsIndexOf};
 
 use crate::pages::Pages;
 use crate::tellings::learn;

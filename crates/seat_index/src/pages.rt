@@ -3,7 +3,7 @@
 ghost use Rattle.std.specs.Prelude.{◌≡◌, [], ◌∷◌, ◌++◌, List, IfOk, OnOk, length, reverse};
 ghost use Rattle.std.specs.List.Sorted.{IsSearchInRange};
 ghost use Rattle.call_types.specs.declared.entry.Entry.{Entry};
-ghost use Rattle.seat_index.specs.Steps.Parts.{ArePages, IsPart, MayStandBehind};
+ghost use Rattle.seat_index.specs.Parts.{ArePages, IsPart, MayStandBehind};
 
 use crate::parts::{Parts, uid_in, wanted_by};
 use call_types::entry::Entry;
@@ -19,7 +19,6 @@ use std::cmp::Ordering;
 use std::marker::Model;
 
 /// What was told that speaks of one key, the oldest first.
-#[derive(Debug)]
 pub struct Page {
     pub key: Key,
     pub entries: Items<Entry>,
@@ -48,9 +47,15 @@ impl<'a> Ranked<Parts<'a>> for Page {
 }
 
 /// Pages in the order of their keys.
-#[derive(Debug, Drop)]
 pub struct Pages {
     list: Vec<Page>,
+}
+
+impl Drop for Pages {
+    fn drop(self) {
+        let Pages { list } = self;
+        drop(list);
+    }
 }
 
 impl Model for Pages {

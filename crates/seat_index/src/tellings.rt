@@ -5,7 +5,7 @@ ghost use Rattle.kube_types.specs.declared.objects.Object.{Object};
 ghost use Rattle.call_types.specs.declared.entry.Entry.{Entry};
 ghost use Rattle.call_types.specs.declared.reply.Reply.TheVariants.{Done};
 ghost use Rattle.binder_model.specs.Told.{SomeOf, ToldObject, objects_in, objects_of_event, objects_of_events};
-ghost use Rattle.seat_index.specs.Steps.Parts.{ArePages};
+ghost use Rattle.seat_index.specs.Parts.{ArePages};
 
 use crate::pages::Pages;
 use crate::parts::{Parts, uid_in, wanted_by};

@@ -23,7 +23,7 @@ use Rattle.binder_model.specs.AgentLicence.{epoch_told, is_finish_of, is_get_of,
 use Rattle.seat_places.specs.declared.topics.Topic.{Topic}
 use Rattle.seat_places.specs.declared.topics.Matter.TheVariants as matters
 use Rattle.seat_places.specs.Topics.{about_data, about_key, about_name, about_pod, asked_topic, found_topic, if_told, is_about, read_topic, speaks, topic_cmp}
-use Rattle.seat_places.specs.Places.{finds, finishes, gets, mounts, takes}
+use Rattle.seat_places.specs.Steps.Since.{finds, finishes, gets, mounts, takes}
 use Rattle.seat_places.proofs.Order.{topic_cmp_total}
 use Rattle.seat_places.proofs.Since.{Hears}
 

@@ -9,7 +9,8 @@ use Rattle.call_types.specs.declared.entry.Entry.{Entry}
 use Rattle.seat_places.specs.declared.topics.Topic.{Topic}
 use Rattle.seat_places.specs.declared.lasts.Last.{Last}
 use Rattle.seat_places.specs.Topics.{asked_topic, found_topic, if_told, is_about, last_of, read_topic, topic_cmp}
-use Rattle.seat_places.specs.Rows.{AreLastsOf, Puts, last_row, place_in, place_of, put_last, topic_of}
+use Rattle.seat_places.specs.Rows.{AreLastsOf, place_in, place_of, topic_of}
+use Rattle.seat_places.specs.Steps.Putting.{Puts, last_row, put_last}
 use Rattle.seat_places.proofs.Order.{equal_topics, topic_cmp_total}
 
 pub place_put : (t u : Topic) (place : ℕ) (rows : List Last) → place_in t (put_last u place rows) ≡ (if is_eq (topic_cmp u t) then Some place else place_in t rows)

@@ -6,7 +6,7 @@ use Rattle.call_types.specs.declared.entry.Entry.{Entry}
 use Rattle.seat_places.specs.declared.topics.Topic.{Topic}
 use Rattle.seat_places.specs.Topics.{last_of, speaks}
 use Rattle.binder_model.specs.Told.{SomeOf}
-use Rattle.seat_places.specs.Places.{Here, IsNever, IsQuietBehind, IsUpto, Later, Since, StandsAt}
+use Rattle.seat_places.specs.Steps.Since.{Here, IsNever, IsQuietBehind, IsUpto, Later, Since, StandsAt}
 
 pub stands_below : (mine : List Entry) (place : ℕ) (entry : Entry) → StandsAt mine place entry → place < length mine
 stands_below [] place entry h = absurd h

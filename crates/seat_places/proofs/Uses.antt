@@ -18,7 +18,8 @@ use Rattle.kube_types.specs.Bindings.{carries, is_completed, is_deleting, is_pro
 use Rattle.binder_model.specs.BindWrites.{is_claim_bound}
 use Rattle.binder_model.specs.ObjectKeys.{claim_key, volume_key}
 use Rattle.binder_model.specs.AgentLicence.{IsReadReady, IsReadyPod, ListedPods, WasShownReady, epoch_in, last_epoch, last_get, never_finished, since_epoch, since_get, was_told_unmounted}
-use Rattle.seat_places.specs.Places.{Above, Done, Here, IsNever, IsPodList, IsQuietBehind, Later, More, Since, StandsAt, TellsAt, finds, finishes, gets, mounts, takes, tells_unmounted}
+use Rattle.seat_places.specs.Places.{TellsAt}
+use Rattle.seat_places.specs.Steps.Since.{Above, Done, Here, IsNever, IsPodList, IsQuietBehind, Later, More, Since, StandsAt, finds, finishes, gets, mounts, takes, tells_unmounted}
 use Rattle.seat_places.proofs.Since.{since_below, stands_below}
 
 -- the last epoch

@@ -1,4 +1,5 @@
--- For proofs alone: what entries speak of, and where the last one that speaks of it stands.
+-- What entries speak of, and where the last one that speaks of it stands.
+-- A choice of this project.
 use Rattle.std.specs.Prelude.{ℕ, Bool, false, ◌||◌, List, [], ◌∷◌, Option, Some, None, length, if◌then◌else◌}
 use Rattle.std.specs.declared.cmp.Ordering.{Ordering}
 use Rattle.std.specs.Ordering.{is_eq, nat_cmp, ordering_then}

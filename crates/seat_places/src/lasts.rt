@@ -4,7 +4,8 @@ ghost use Rattle.std.specs.Prelude.{◌≡◌, [], ◌∷◌, List, IfErr, IfOk,
 ghost use Rattle.std.specs.List.Sorted.{IsSearchInRange};
 ghost use Rattle.call_types.specs.declared.entry.Entry.{Entry};
 ghost use Rattle.seat_places.specs.Topics.{found_topic, last_of, object_topic, topic_by};
-ghost use Rattle.seat_places.specs.Rows.{AreLasts, AreLastsOf, IsLastAt, IsLastGap, Puts, last_row, place_in, put_last};
+ghost use Rattle.seat_places.specs.Rows.{AreLasts, AreLastsOf, place_in};
+ghost use Rattle.seat_places.specs.Steps.Putting.{IsLastAt, IsLastGap, Puts, last_row, put_last};
 
 use crate::topics::{About, Matter, Topic, asked_topic, matter_index, read_topic};
 use call_types::entry::Entry;
@@ -21,7 +22,6 @@ use std::cmp::Ordering;
 use std::marker::Model;
 
 /// A topic, and where the last entry on it stands.
-#[derive(Debug)]
 pub struct Last {
     pub topic: Topic,
     pub place: usize,
@@ -207,9 +207,15 @@ fn learn(
 }
 
 /// The place of the last entry on each topic.
-#[derive(Debug, Drop)]
 pub struct Lasts {
     rows: Vec<Last>,
+}
+
+impl Drop for Lasts {
+    fn drop(self) {
+        let Lasts { rows } = self;
+        drop(rows);
+    }
 }
 
 impl Model for Lasts {

@@ -33,7 +33,6 @@ pub enum Matter {
 }
 
 /// A topic: the matter, and the object or the pod.
-#[derive(Debug)]
 pub struct Topic {
     pub matter: Matter,
     pub key: Key,

@@ -15,17 +15,16 @@ use Rattle.call_types.specs.declared.setup.Setup.{Setup}
 use Rattle.binder_model.specs.Told.{SomeOf}
 use Rattle.binder_model.specs.World.{World}
 use Rattle.model_laws.proofs.Evidence.{some_at}
+use Rattle.model_laws.proofs.Lists.{one}
 use Rattle.model_laws.proofs.Readings.{after_member, found_stands, member_stands}
 use Rattle.settle_check.specs.declared.first.FirstDue.{FirstDue}
 use Rattle.binder_model.specs.Due.{IsDue, IsFirstDue}
-use Rattle.settle_check.specs.Steps.Scan.{IsFirstIn, first_key, first_pair}
+use Rattle.settle_check.specs.First.{first_key}
+use Rattle.settle_check.specs.Steps.Scan.{IsFirstIn, first_pair}
 
 -- of two keys not each is less than the other
 not_below : {K : Type 0} {cmp : K → K → Ordering} → IsTotalOrder cmp → (a b : K) → cmp a b ≡ Less → cmp b a ≡ Less → ⊥
 not_below {cmp = cmp} o a b e f = let above : cmp b a ≡ Greater = rw (o.antisymm b a, e) refl in true≢false (ap is_lt (sym f ∙ above))
-
-some_is : {X : Type 0} (a b : X) → Some a ≡ Some b → a ≡ b
-some_is a b e = cc
 
 -- no row stands before the first one
 none_before : (x : Object) (xs : List Object) → AreRows (x ∷ xs) → (earlier : Key) (other : Object) → row_at earlier (x ∷ xs) ≡ Some other → key_cmp earlier (key_of x) ≡ Less → ⊥
@@ -67,7 +66,7 @@ module _ (P : Object → Option Due → Type 0) where
   pub first_at : (rows : List Object) → AreRows rows → (o : Object) (action : Due) → IsFirstIn P rows (Some (o, action)) → IsFirstAt rows o action
   first_at [] order o action first = absurd cc
   first_at (x ∷ xs) order o action (inl here) =
-      subst (λ (p : Object × Due). IsFirstAt (x ∷ xs) p.0 p.1) (sym (some_is _ _ here.answers)) (here_at x xs order here.action here.due)
+      subst (λ (p : Object × Due). IsFirstAt (x ∷ xs) p.0 p.1) (sym (one _ _ here.answers)) (here_at x xs order here.action here.due)
   first_at (x ∷ xs) order o action (inr rest) = later_at x xs order rest.0 o action (first_at xs order.1 o action rest.1)
 
   pub none_due : (rows : List Object) → IsFirstIn P rows None → (o : Object) → SomeOf (λ x. x ≡ o) rows → P o None

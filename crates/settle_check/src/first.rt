@@ -4,7 +4,8 @@ ghost use Rattle.std.specs.Prelude.{◌≡◌, IfOk, Some};
 ghost use Rattle.kube_types.specs.Keys.{key_of, row_at};
 ghost use Rattle.binder_model.specs.Due.{IsDue, IsFirstDue};
 ghost use Rattle.settle_check.specs.WorldOf.{world_of};
-ghost use Rattle.settle_check.specs.Steps.Scan.{IsFirstIn, first_key, first_pair};
+ghost use Rattle.settle_check.specs.First.{first_key};
+ghost use Rattle.settle_check.specs.Steps.Scan.{IsFirstIn, first_pair};
 
 use crate::objects::{due_of_claim, due_of_pod, due_of_volume};
 use kube_types::copies::OutOfMemory;

@@ -11,7 +11,7 @@ use plain_data::copies::{OutOfMemory, Plain};
 use std::alloc::Global;
 
 /// The entries of the seat, the oldest first.
-#[tactic(auto, using(licence_tests::proofs::Fronts::newest_first, crate::proofs::Seats::pushed))]
+#[tactic(auto, using(model_laws::proofs::Evidence::newest_first, crate::proofs::Seats::pushed))]
 pub fn own(alloc: Global, entries: &[Entry], seat: u64) -> Result<Vec<Entry>, OutOfMemory>
     ensures { IfOk result (λ mine. reverse mine.items ≡ own seat (reverse entries.now)) }
 {

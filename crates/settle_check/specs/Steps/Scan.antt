@@ -1,11 +1,9 @@
 -- The first object of a list for which something is due, and what a read told. For the proofs alone.
 use Rattle.std.specs.Prelude.{◌≡◌, ◌⊎◌, List, [], ◌∷◌, Option, Some, None}
-use Rattle.kube_types.specs.declared.key.Key.{Key}
 use Rattle.kube_types.specs.declared.names.Due.{Due}
 use Rattle.kube_types.specs.declared.objects.Object.{Object}
 use Rattle.kube_types.specs.declared.lookup.Live.{Live}
 use Rattle.kube_types.specs.declared.lookup.Live.TheVariants.{NotAsked, Absent, Present}
-use Rattle.kube_types.specs.Keys.{key_of}
 use Rattle.settle_check.specs.declared.first.FirstDue.{FirstDue}
 
 -- the object that a read told
@@ -17,10 +15,6 @@ object_read (Present o) = Some o.now
 abbrev pub first_pair : Option FirstDue → Option (Object × Due)
 first_pair None = None
 first_pair (Some first) = Some (first.object.now, first.action)
-
-abbrev pub first_key : Option FirstDue → Option (Key × Due)
-first_key None = None
-first_key (Some first) = Some (key_of first.object.now, first.action)
 
 -- this object is the first, with this action
 pub record IsHere (IsDue : Object → Option Due → Type 0) (o : Object) (answer : Option (Object × Due)) : Type 0 where

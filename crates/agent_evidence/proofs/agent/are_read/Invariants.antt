@@ -1,7 +1,7 @@
 use Rattle.std.proofs.Common.{◌≤◌, ◌-◌, List, drop, length, reverse}
 use Rattle.call_types.specs.declared.entry.Entry.{Entry}
 use Rattle.binder_model.specs.AgentLicence.{AreReadReady}
-use Rattle.seat_places.specs.Places.{Above}
+use Rattle.seat_places.specs.Steps.Since.{Above}
 use Rattle.agent_evidence.proofs.agent.are_read.Given as goal
 
 -- what is left of both is to be tested still

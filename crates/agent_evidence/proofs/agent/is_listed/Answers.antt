@@ -1,5 +1,5 @@
 use Rattle.std.proofs.Common.{◌<◌, length, arith, subst}
-use Rattle.seat_places.specs.Places.{IsPodList}
+use Rattle.seat_places.specs.Steps.Since.{IsPodList}
 use Rattle.seat_places.proofs.Since.{read_stands}
 use Rattle.agent_evidence.proofs.agent.is_listed.Goals as goal
 

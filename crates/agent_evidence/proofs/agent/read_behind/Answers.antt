@@ -1,8 +1,8 @@
 use Rattle.std.proofs.Common.{◌≡◌, ◌<◌, length, true, ◌∙◌, arith, sym, reverse, subst}
 use Rattle.std.proofs.lemmas.List.{get_or_default}
 use Rattle.call_types.specs.declared.entry.Entry.{Entry}
-use Rattle.seat_places.specs.Places.{gets}
-use Rattle.agent_evidence.specs.Seen.{key_at}
+use Rattle.seat_places.specs.Steps.Since.{gets}
+use Rattle.agent_evidence.specs.Steps.Seen.{key_at}
 use Rattle.agent_evidence.proofs.Sight.{read_by}
 use Rattle.agent_evidence.proofs.agent.read_behind.Goals as goal
 

@@ -1,5 +1,5 @@
 use Rattle.std.proofs.Common.{reverse, sym, subst}
-use Rattle.seat_places.specs.Places.{IsUpto}
+use Rattle.seat_places.specs.Steps.Since.{IsUpto}
 use Rattle.agent_evidence.proofs.Sight.{quiet_by}
 use Rattle.agent_evidence.proofs.finish.is_quiet_behind.Goals as goal
 

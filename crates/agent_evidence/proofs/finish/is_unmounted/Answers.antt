@@ -1,6 +1,6 @@
 use Rattle.std.proofs.Common.{◌≡◌, ◌<◌, length, true, arith, sym, ◌∙◌, subst}
 use Rattle.call_types.specs.declared.entry.Entry.{Entry}
-use Rattle.seat_places.specs.Places.{tells_unmounted}
+use Rattle.seat_places.specs.Steps.Since.{tells_unmounted}
 use Rattle.agent_evidence.proofs.Sight.{unmounted_by}
 use Rattle.agent_evidence.proofs.finish.is_unmounted.Goals as goal
 

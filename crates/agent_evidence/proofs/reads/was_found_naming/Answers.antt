@@ -1,5 +1,5 @@
 use Rattle.std.proofs.Common.{◌<◌, length, arith, subst}
-use Rattle.agent_evidence.specs.Seen.{TellsNaming}
+use Rattle.agent_evidence.specs.Steps.Seen.{TellsNaming}
 use Rattle.agent_evidence.proofs.Sight.{naming_by}
 use Rattle.agent_evidence.proofs.reads.was_found_naming.Goals as goal
 

@@ -1,6 +1,7 @@
 use Rattle.std.proofs.Common.{◌≡◌, ◌+◌, ◌∷◌, ◌++◌, [], take, drop, reverse, refl, sym, ◌∙◌, ap, subst, true≢false, arith}
 use Rattle.binder_model.specs.Told.{IsPodWith, TellsObject}
-use Rattle.licence_tests.proofs.Fronts.{cut_at, newer, newest_first}
+use Rattle.licence_tests.proofs.Fronts.{cut_at, newer}
+use Rattle.model_laws.proofs.Evidence.{newest_first}
 use Rattle.agent_licence.specs.Mounting.{IsFirstReady, IsShownIn}
 use Rattle.agent_licence.proofs.Shown.{none_shown, shown_at}
 use Rattle.agent_licence.proofs.mounting.is_shown_in.Goals as goal

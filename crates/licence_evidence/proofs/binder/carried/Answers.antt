@@ -1,4 +1,4 @@
-use Rattle.seat_index.specs.Steps.Parts.{Begins}
+use Rattle.seat_index.specs.Parts.{Begins}
 use Rattle.licence_evidence.proofs.binder.carried.Goals as goal
 
 pub returns-in-None : goal.returns-in-None

@@ -1,5 +1,5 @@
 use Rattle.std.proofs.Common.{◌≡◌, refl, sym, arith}
-use Rattle.licence_tests.proofs.Fronts.{some_at}
+use Rattle.model_laws.proofs.Evidence.{some_at}
 use Rattle.licence_tests.proofs.told.find_of.Goals as goal
 
 pub returns-then-test : goal.returns-then-test

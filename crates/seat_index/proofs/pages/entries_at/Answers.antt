@@ -1,5 +1,5 @@
 use Rattle.std.proofs.Common.{reverse, sym, subst}
-use Rattle.seat_index.specs.Steps.Parts.{IsPart, Begins}
+use Rattle.seat_index.specs.Parts.{IsPart, Begins}
 use Rattle.seat_index.proofs.Paging.{page_at}
 use Rattle.seat_index.proofs.pages.entries_at.Goals as goal
 

@@ -2,7 +2,7 @@ use Rattle.std.proofs.Common.{◌≡◌, ℕ, List, Option, subst}
 use Rattle.std.proofs.lemmas.Result.{on_ok_weaker}
 use Rattle.seat_places.specs.declared.topics.Topic.{Topic}
 use Rattle.seat_places.specs.declared.lasts.Last.{Last}
-use Rattle.seat_places.specs.Rows.{Puts}
+use Rattle.seat_places.specs.Steps.Putting.{Puts}
 use Rattle.seat_places.proofs.Putting.{lost_lasts, told_lasts}
 use Rattle.seat_places.proofs.lasts.learn.Goals as goal
 

@@ -3,7 +3,8 @@ use Rattle.std.specs.List.{insert}
 use Rattle.plain_data.proofs.RowFacts.{put_at, put_gap, rising_put}
 use Rattle.seat_places.specs.declared.topics.Topic.{Topic}
 use Rattle.seat_places.specs.declared.lasts.Last.{Last}
-use Rattle.seat_places.specs.Rows.{AreLasts, IsLastAt, IsLastGap, last_row, put_last, topic_of}
+use Rattle.seat_places.specs.Rows.{AreLasts, topic_of}
+use Rattle.seat_places.specs.Steps.Putting.{IsLastAt, IsLastGap, last_row, put_last}
 use Rattle.seat_places.specs.Topics.{topic_by}
 use Rattle.seat_places.proofs.Order.{topic_cmp_total}
 use Rattle.seat_places.proofs.lasts.put_at.Goals as goal

@@ -2,7 +2,7 @@ use Rattle.std.proofs.Common.{ap, sym, subst}
 use Rattle.std.specs.Prelude.{Option, option_map}
 use Rattle.std.proofs.lemmas.Result.{on_ok_weaker}
 use Rattle.seat_places.specs.declared.topics.Topic.{Topic}
-use Rattle.seat_places.specs.Rows.{Puts}
+use Rattle.seat_places.specs.Steps.Putting.{Puts}
 use Rattle.seat_places.specs.Topics.{topic_by}
 use Rattle.seat_places.proofs.lasts.put_some.Goals as goal
 

@@ -4,7 +4,8 @@ use Rattle.model_laws.proofs.Histories.{rows_stand_in_order}
 use Rattle.settle_check.specs.declared.first.FirstDue.{FirstDue}
 use Rattle.binder_model.specs.Due.{IsDue, IsFirstDue}
 use Rattle.settle_check.specs.WorldOf.{world_of}
-use Rattle.settle_check.specs.Steps.Scan.{IsFirstIn, first_key, first_pair}
+use Rattle.settle_check.specs.First.{first_key}
+use Rattle.settle_check.specs.Steps.Scan.{IsFirstIn, first_pair}
 use Rattle.settle_check.proofs.Scanned.{first_in_rows}
 use Rattle.settle_check.proofs.first.first_due.Goals as goal
 

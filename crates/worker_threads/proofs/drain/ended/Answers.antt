@@ -3,7 +3,7 @@ use Rattle.kube_types.specs.declared.key.Key.{Key}
 use Rattle.settle_check.specs.declared.first.FirstDue.{FirstDue}
 use Rattle.binder_model.specs.Due.{IsFirstDue}
 use Rattle.settle_check.specs.WorldOf.{world_of}
-use Rattle.settle_check.specs.Steps.Scan.{first_key}
+use Rattle.settle_check.specs.First.{first_key}
 use Rattle.worker_threads.proofs.drain.ended.Goals as goal
 
 pub returns-in-None : goal.returns-in-None

@@ -18,7 +18,7 @@ use Rattle.binder_model.specs.Told.{IsNewest}
 use Rattle.binder_model.specs.AgentLicence.{AreReadReady, IsPodOn, epoch_in}
 use Rattle.binder_model.specs.Reading.{FoundNaming}
 use Rattle.agent_evidence.specs.declared.pods.ToldPod.{ToldPod}
-use Rattle.seat_places.specs.Places.{Above, IsPodList, IsQuietBehind, Since, StandsAt, gets, mounts, takes, tells_unmounted}
+use Rattle.seat_places.specs.Steps.Since.{Above, IsPodList, IsQuietBehind, Since, StandsAt, gets, mounts, takes, tells_unmounted}
 
 abbrev pub key_at : Kind → List ℕ → List ℕ → Key
 key_at kind namespace name = record { kind = kind; namespace = namespace; name = name }

@@ -1,4 +1,5 @@
--- For proofs alone: what an agent's index is of the entries that it was given, newest first.
+-- What an agent's index is of the entries that it was given, newest first.
+-- A choice of this project.
 use Rattle.std.specs.Prelude.{List}
 use Rattle.call_types.specs.declared.entry.Entry.{Entry}
 use Rattle.seat_places.specs.Rows.{AreLastsOf}

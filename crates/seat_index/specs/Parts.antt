@@ -1,4 +1,5 @@
--- For proofs alone: parts of what a seat was told, by which a row of the licence may be judged.
+-- Parts of what a seat was told, by which a row of the licence may be judged.
+-- A choice of this project.
 use Rattle.std.specs.Prelude.{◌≡◌, List, [], ◌∷◌, reverse, ⊤}
 use Rattle.kube_types.specs.declared.objects.Object.{Object}
 use Rattle.call_types.specs.declared.entry.Entry.{Entry}

@@ -8,7 +8,7 @@ use Rattle.label_rules.specs.Selectors.{admits}
 use Rattle.call_types.specs.declared.entry.Entry.{Entry}
 use Rattle.binder_model.specs.ObjectKeys.{volume_key}
 use Rattle.binder_model.specs.Told.{IsNewest}
-use Rattle.agent_evidence.specs.Steps.Indexed.{IsAgentIndexOf}
+use Rattle.agent_evidence.specs.Indexed.{IsAgentIndexOf}
 use Rattle.licence_evidence.specs.declared.agents.Agents.{Agents}
 
 abbrev pub AreAgentsOf : Agents → List Entry → Type 0
