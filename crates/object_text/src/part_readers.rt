@@ -109,7 +109,8 @@ const NO_MODES: Modes = Modes {
     rwop: false,
 };
 
-fn modes_of(values: &[Value]) -> Result<Modes, ObjectError>
+/// The access modes that the values name.
+pub fn modes_of(values: &[Value]) -> Result<Modes, ObjectError>
     ensures { Gives result (modes_from (items_view values.now) no_modes) }
 {
     let mut modes = NO_MODES;
