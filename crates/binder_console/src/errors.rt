@@ -4,7 +4,7 @@ use object_text::errors::ListError;
 use plain_data::copies::OutOfMemory;
 
 /// Why nothing is printed of a list of manifests.
-#[derive(Clone, Copy, Debug, PartialEq, Eq)]
+#[derive(Clone, Copy)]
 pub enum CheckError {
     /// An item was refused, and it is the first.
     Refused(ListError),

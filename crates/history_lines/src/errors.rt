@@ -5,7 +5,7 @@ use object_text::errors::ObjectError;
 use std::alloc::AllocError;
 
 /// Why a line, or a value in it, was not read.
-#[derive(Clone, Copy, Debug, PartialEq, Eq)]
+#[derive(Clone, Copy, PartialEq, Eq)]
 pub enum Unread {
     OutOfMemory,
     /// It is not the text of an entry or a setup.

@@ -5,7 +5,7 @@ ghost use Rattle.serde_json.specs.View.{view, items_view};
 ghost use Rattle.json_text.specs.Look.{text_in};
 ghost use Rattle.object_text.specs.declared.errors.Member.TheVariants as members;
 ghost use Rattle.object_text.specs.MemberReaders.{pairs_at};
-ghost use Rattle.object_text.specs.PartReaders.{with_mode, modes_from, no_modes};
+ghost use Rattle.object_text.specs.PartReaders.{modes_from, no_modes};
 ghost use Rattle.history_lines.specs.Answers.{Gives, GivesBy, taken};
 ghost use Rattle.history_lines.specs.Members.{look_in, standing, text_at, filled_at, some_text_at, number_in, number_at, some_number_at, flag_at, uid_in, uid_at, some_uid_at, quantity_in, some_amount_at, object_in, object_at, items_from, list_in, list_at, some_list_at, modes_at, some_labels_at, kind_at, key_at, data_id_at, topology_at};
 
@@ -21,7 +21,7 @@ use kube_types::text::Text;
 use kube_types::uid::Uid;
 use object_text::errors::Member;
 use object_text::member_readers::pairs_at;
-use object_text::part_readers::amount_counted;
+use object_text::part_readers::{amount_counted, modes_of};
 use object_text::reading::object_of;
 use serde_json::Value;
 use std::alloc::Global;
@@ -264,36 +264,11 @@ pub fn some_list_at<T: FromJson>(
     }
 }
 
-fn with_mode(word: &str, mut modes: Modes) -> Result<Modes, Unread>
-    ensures { Gives result (taken (with_mode word.now modes)) }
-{
-    if word == "ReadWriteOnce" {
-        modes.rwo = true;
-    } else if word == "ReadOnlyMany" {
-        modes.rox = true;
-    } else if word == "ReadWriteMany" {
-        modes.rwx = true;
-    } else if word == "ReadWriteOncePod" {
-        modes.rwop = true;
-    } else {
-        return Err(Unread::NotCanonical);
-    }
-    Ok(modes)
-}
-
-fn modes_of(values: &[Value]) -> Result<Modes, Unread>
+#[tactic(auto, using(crate::proofs::Taken::taken_fails))]
+fn modes_in(values: &[Value]) -> Result<Modes, Unread>
     ensures { Gives result (taken (modes_from (items_view values.now) no_modes)) }
 {
-    let mut modes = Modes {
-        rwo: false,
-        rox: false,
-        rwx: false,
-        rwop: false,
-    };
-    for value in values {
-        modes = with_mode(word_in(Some(value))?, modes)?;
-    }
-    Ok(modes)
+    Ok(modes_of(values)?)
 }
 
 /// Access modes.
@@ -301,7 +276,7 @@ pub fn modes_at(value: &Value, name: &str) -> Result<Modes, Unread>
     ensures { Gives result (modes_at name.now (look_in (view value.now))) }
 {
     match items_in(value.get(name)) {
-        Some(values) => modes_of(values),
+        Some(values) => modes_in(values),
         None => Err(Unread::NotCanonical),
     }
 }

@@ -33,7 +33,7 @@ fn value_named<T: LineWord>(all: &[T], word: &str) -> Option<T>
 }
 
 /// What is asked, by the member `do`.
-#[derive(Clone, Copy, Debug, PartialEq, Eq)]
+#[derive(Clone, Copy)]
 pub enum AskWord {
     Create,
     Update,
@@ -83,7 +83,7 @@ impl LineWord for AskWord {
 }
 
 /// An edit, by the member that stands.
-#[derive(Clone, Copy, Debug, PartialEq, Eq)]
+#[derive(Clone, Copy)]
 pub enum EditWord {
     AddFinalizer,
     DropFinalizer,
@@ -119,7 +119,7 @@ impl LineWord for EditWord {
 }
 
 /// A reply, by the member that stands.
-#[derive(Clone, Copy, Debug, PartialEq, Eq)]
+#[derive(Clone, Copy)]
 pub enum ReplyWord {
     Done,
     Left,
@@ -157,7 +157,7 @@ impl LineWord for ReplyWord {
 }
 
 /// A refusal, by the member `refused`.
-#[derive(Clone, Copy, Debug, PartialEq, Eq)]
+#[derive(Clone, Copy)]
 pub enum RefusalWord {
     NotFound,
     AlreadyExists,

@@ -24,9 +24,15 @@ use std::marker::Model;
 const PLACES: usize = 1024;
 
 /// Text that grows by lines. After want of memory a part of a line may stand there.
-#[derive(Drop)]
 pub struct Lines {
     out: JsonText,
+}
+
+impl Drop for Lines {
+    fn drop(self) {
+        let Lines { out } = self;
+        drop(out);
+    }
 }
 
 impl Model for Lines {

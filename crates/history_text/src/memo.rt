@@ -14,17 +14,29 @@ use object_print::print_object;
 use std::alloc::Global;
 
 /// An object and its text.
-#[derive(Drop)]
 struct Kept<'a> {
     object: &'a Object,
     text: Bytes,
     ghost is_text: { text ≡ object_line object.now },
 }
 
+impl<'a> Drop for Kept<'a> {
+    fn drop(self) {
+        let Kept { object: _, text } = self;
+        drop(text);
+    }
+}
+
 /// Texts of objects, one for each remainder of the versions by the number of places.
-#[derive(Drop)]
 pub struct Memo<'a> {
     places: Vec<Option<Kept<'a>>>,
+}
+
+impl<'a> Drop for Memo<'a> {
+    fn drop(self) {
+        let Memo { places } = self;
+        drop(places);
+    }
 }
 
 #[tactic(auto, unfolding(object_print::specs::Objects::object_line))]

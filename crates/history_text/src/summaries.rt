@@ -1,7 +1,7 @@
 //! The lines of a summary.
 
 ghost use Rattle.std.specs.Prelude.{◌≡◌, OnOk, IfOk, string_bytes};
-ghost use Rattle.history_text.specs.Output.{with_lines};
+ghost use Rattle.history_text.specs.Output.{with_line, with_lines};
 ghost use Rattle.history_text.specs.Summaries.{full_name, writes_line, objects_line, volumes_line, claims_line, pods_line, data_line, unsettled_line, ending_line, count_lines, end_lines, summary_lines};
 
 use crate::lines::Lines;
@@ -95,21 +95,27 @@ fn ending_line(alloc: Global, ending: &Ending) -> Result<String, OutOfMemory>
     }
 }
 
+fn push_text(lines: &mut Lines, text: String) -> Result<(), OutOfMemory>
+    ensures ok { OnOk result (lines.new ≡ with_line lines.old (string_bytes text)) }
+{
+    lines.push(text.as_bytes())
+}
+
 fn push_counts(lines: &mut Lines, alloc: Global, summary: &Summary) -> Result<(), OutOfMemory>
     ensures ok { OnOk result (lines.new ≡ with_lines lines.old (count_lines summary.now)) }
 {
-    lines.push(writes_line(alloc, summary.writes)?.as_bytes())?;
-    lines.push(objects_line(alloc, summary.objects)?.as_bytes())?;
-    lines.push(volumes_line(alloc, &summary.volumes)?.as_bytes())?;
-    lines.push(claims_line(alloc, &summary.claims)?.as_bytes())
+    push_text(lines, writes_line(alloc, summary.writes)?)?;
+    push_text(lines, objects_line(alloc, summary.objects)?)?;
+    push_text(lines, volumes_line(alloc, &summary.volumes)?)?;
+    push_text(lines, claims_line(alloc, &summary.claims)?)
 }
 
 fn push_ends(lines: &mut Lines, alloc: Global, summary: &Summary) -> Result<(), OutOfMemory>
     ensures ok { OnOk result (lines.new ≡ with_lines lines.old (end_lines summary.now)) }
 {
-    lines.push(pods_line(alloc, summary.pods, summary.mounted)?.as_bytes())?;
-    lines.push(data_line(alloc, summary.stored, summary.calls)?.as_bytes())?;
-    lines.push(ending_line(alloc, &summary.ending)?.as_bytes())
+    push_text(lines, pods_line(alloc, summary.pods, summary.mounted)?)?;
+    push_text(lines, data_line(alloc, summary.stored, summary.calls)?)?;
+    push_text(lines, ending_line(alloc, &summary.ending)?)
 }
 
 /// Puts the seven lines of a summary at the end.

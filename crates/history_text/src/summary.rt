@@ -4,7 +4,7 @@ use kube_types::key::Key;
 use kube_types::names::Due;
 
 /// The number of volumes in each phase.
-#[derive(Clone, Copy, Debug, PartialEq, Eq)]
+#[derive(Clone, Copy)]
 pub struct VolumeCounts {
     pub pending: u64,
     pub available: u64,
@@ -14,7 +14,7 @@ pub struct VolumeCounts {
 }
 
 /// The number of claims in each phase.
-#[derive(Clone, Copy, Debug, PartialEq, Eq)]
+#[derive(Clone, Copy)]
 pub struct ClaimCounts {
     pub pending: u64,
     pub bound: u64,
@@ -23,16 +23,27 @@ pub struct ClaimCounts {
 
 /// How a run ended: with nothing left to do, or after so many calls with the action `due` for the
 /// object of the key.
-#[derive(Debug, Drop)]
 pub enum Ending {
     Settled,
     Unsettled { calls: u64, key: Key, due: Due },
 }
 
+impl Drop for Ending {
+    fn drop(self) {
+        match self {
+            Ending::Settled => {}
+            Ending::Unsettled {
+                calls: _,
+                key,
+                due: _,
+            } => drop(key),
+        }
+    }
+}
+
 /// The numbers of a run. `writes` is the version of the store, `mounted` the number of mounted pods
 /// over all nodes, `stored` the number of data that are there, and `calls` the number of calls of
 /// Provision and Erase.
-#[derive(Debug, Drop)]
 pub struct Summary {
     pub writes: u64,
     pub objects: u64,
@@ -43,4 +54,21 @@ pub struct Summary {
     pub stored: u64,
     pub calls: u64,
     pub ending: Ending,
+}
+
+impl Drop for Summary {
+    fn drop(self) {
+        let Summary {
+            writes: _,
+            objects: _,
+            volumes: _,
+            claims: _,
+            pods: _,
+            mounted: _,
+            stored: _,
+            calls: _,
+            ending,
+        } = self;
+        drop(ending);
+    }
 }

@@ -1,6 +1,6 @@
 -- Objects of every kind, and their lines.
 -- Source: Kubernetes API, StorageClass, Node, Pod; the line is a choice of this project.
-use Rattle.std.specs.Prelude.{ℕ, List, [], ◌∷◌, ◌++◌, Bool, true, false, Option, Some, None, codes}
+use Rattle.std.specs.Prelude.{ℕ, List, [], ◌∷◌, ◌++◌, true, false, Option, Some, None, codes}
 use Rattle.serde_json.specs.Data.{Data, string, object, Members}
 use Rattle.serde_json.specs.Written.{compact_text}
 use Rattle.json_text.specs.Build.{put_all}

@@ -1,6 +1,6 @@
 -- Parts of the specs of objects.
 -- Source: Kubernetes API, PersistentVolumeSpec, PersistentVolumeClaimSpec, LabelSelector, NodeSelector.
-use Rattle.std.specs.Prelude.{ℕ, List, [], ◌∷◌, Bool, true, false, codes, option_map}
+use Rattle.std.specs.Prelude.{ℕ, List, [], ◌∷◌, codes, option_map}
 use Rattle.serde_json.specs.Data.{Data, string}
 use Rattle.kube_types.specs.Words.{mode_words, op_word}
 use Rattle.kube_types.specs.declared.parts.Modes.{Modes}

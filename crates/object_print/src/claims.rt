@@ -1,7 +1,7 @@
 //! Claims as JSON.
 
-ghost use Rattle.std.specs.Prelude.{◌≡◌, ◌++◌, [], Some, OnOk, codes};
-ghost use Rattle.json_text.specs.Members.{with_option, with_options};
+ghost use Rattle.std.specs.Prelude.{◌≡◌, [], Some, OnOk, codes};
+ghost use Rattle.json_text.specs.Members.{with_options};
 ghost use Rattle.json_text.specs.Writing.{written, with_some, with_all, with_value};
 ghost use Rattle.object_print.specs.Claims.{claim_front, claim_back, got_modes, claim_status_pairs, claim_spec, claim_status};
 

@@ -1,7 +1,7 @@
 //! Metadata as JSON.
 
 ghost use Rattle.std.specs.Prelude.{◌≡◌, OnOk, codes};
-ghost use Rattle.json_text.specs.Members.{with_option, with_options};
+ghost use Rattle.json_text.specs.Members.{with_options};
 ghost use Rattle.json_text.specs.Writing.{written, with_some, with_all};
 ghost use Rattle.object_print.specs.Metadata.{filled_or_always, front_pairs, back_pairs, head_pairs};
 

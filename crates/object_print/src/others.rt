@@ -1,9 +1,9 @@
 //! Storage classes, nodes and pods as JSON.
 
-ghost use Rattle.std.specs.Prelude.{◌≡◌, ◌++◌, [], false, OnOk, codes};
+ghost use Rattle.std.specs.Prelude.{◌≡◌, [], false, OnOk, codes};
 ghost use Rattle.serde_json.specs.Data.{string};
 ghost use Rattle.json_text.specs.Members.{within, filled_object, extra_members, with_options};
-ghost use Rattle.json_text.specs.Writing.{written, with_some, with_all, with_value};
+ghost use Rattle.json_text.specs.Writing.{written, with_some, with_value};
 ghost use Rattle.object_print.specs.Metadata.{head_pairs};
 ghost use Rattle.object_print.specs.Objects.{class_back, class_data, node_spec, pod_spec};
 

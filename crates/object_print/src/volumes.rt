@@ -1,7 +1,7 @@
 //! Volumes as JSON.
 
-ghost use Rattle.std.specs.Prelude.{◌≡◌, ◌++◌, [], Some, OnOk, codes};
-ghost use Rattle.json_text.specs.Members.{with_option, with_options};
+ghost use Rattle.std.specs.Prelude.{◌≡◌, [], Some, OnOk, codes};
+ghost use Rattle.json_text.specs.Members.{with_options};
 ghost use Rattle.json_text.specs.Writing.{written, with_some, with_value};
 ghost use Rattle.object_print.specs.Volumes.{volume_front, volume_back, volume_spec, volume_status};
 

@@ -7,7 +7,7 @@ use kube_types::copies::OutOfMemory;
 use std::alloc::AllocError;
 
 /// A member that readers look at. `Source` stands for the sources of a volume together.
-#[derive(Clone, Copy, Debug, PartialEq, Eq)]
+#[derive(Clone, Copy, PartialEq, Eq)]
 pub enum Member {
     Kind,
     ApiVersion,
@@ -126,7 +126,7 @@ impl Member {
 }
 
 /// Why an object could not be read, the first that applies.
-#[derive(Clone, Copy, Debug, PartialEq, Eq)]
+#[derive(Clone, Copy, PartialEq, Eq)]
 pub enum ObjectError {
     /// Memory ran out.
     OutOfMemory,
@@ -172,7 +172,7 @@ impl From<AllocError> for ObjectError {
 
 /// The item of a list that could not be read, counted from 1, and why. After want of memory the
 /// number says nothing.
-#[derive(Clone, Copy, Debug, PartialEq, Eq)]
+#[derive(Clone, Copy)]
 pub struct ListError {
     pub item: usize,
     pub reason: ObjectError,

@@ -1,10 +1,11 @@
 //! The members that are kept as they are.
 
-ghost use Rattle.std.specs.Prelude.{◌≡◌, IfOk, false, option_map};
+ghost use Rattle.std.specs.Prelude.{◌≡◌, IfOk, false, map, option_map};
 ghost use Rattle.serde_json.specs.View.{view};
 ghost use Rattle.serde_json.specs.Written.{has_float};
 ghost use Rattle.json_text.specs.Trees.{members_in, others};
 ghost use Rattle.object_text.specs.ExtraMembers.{is_volume_member, is_claim_member, is_class_member, is_listed, extra_text, extra_at};
+ghost use Rattle.object_text.specs.Steps.Among.{is_one_of};
 ghost use Rattle.object_text.specs.Steps.Whole.{IsWholePlace};
 
 use json_text::build::{Fields, KnownNames};
@@ -25,40 +26,58 @@ pub enum Listed {
     Node,
 }
 
+/// Whether the name is one of these, or the last.
+fn is_one_of(name: &str, names: &[&str], last: &str) -> bool
+    ensures { result ≡ is_one_of name.now (map (λ n. n.now) names.now) last.now }
+{
+    for one in names {
+        if name == *one {
+            return true;
+        }
+    }
+    name == last
+}
+
 fn is_volume_member(kind: SourceKind, name: &str) -> bool
     ensures { result ≡ is_volume_member kind name.now }
 {
-    name == "capacity"
-        || name == "accessModes"
-        || name == "volumeMode"
-        || name == "storageClassName"
-        || name == "persistentVolumeReclaimPolicy"
-        || name == "claimRef"
-        || name == "nodeAffinity"
-        || name == kind.name()
+    let names = [
+        "capacity",
+        "accessModes",
+        "volumeMode",
+        "storageClassName",
+        "persistentVolumeReclaimPolicy",
+        "claimRef",
+        "nodeAffinity",
+    ];
+    is_one_of(name, &names, kind.name())
 }
 
 fn is_claim_member(name: &str) -> bool
     ensures { result ≡ is_claim_member name.now }
 {
-    name == "accessModes"
-        || name == "volumeMode"
-        || name == "resources"
-        || name == "storageClassName"
-        || name == "selector"
-        || name == "volumeName"
+    let names = [
+        "accessModes",
+        "volumeMode",
+        "resources",
+        "storageClassName",
+        "selector",
+    ];
+    is_one_of(name, &names, "volumeName")
 }
 
 fn is_class_member(name: &str) -> bool
     ensures { result ≡ is_class_member name.now }
 {
-    name == "kind"
-        || name == "apiVersion"
-        || name == "metadata"
-        || name == "provisioner"
-        || name == "reclaimPolicy"
-        || name == "volumeBindingMode"
-        || name == "parameters"
+    let names = [
+        "kind",
+        "apiVersion",
+        "metadata",
+        "provisioner",
+        "reclaimPolicy",
+        "volumeBindingMode",
+    ];
+    is_one_of(name, &names, "parameters")
 }
 
 impl KnownNames for Listed {

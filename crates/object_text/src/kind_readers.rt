@@ -26,7 +26,6 @@ use std::alloc::Global;
 // ---- volumes
 
 /// What a volume offers.
-#[derive(Drop)]
 pub struct VolumeShape {
     pub amount: Amount,
     pub modes: Modes,
@@ -35,12 +34,66 @@ pub struct VolumeShape {
     pub policy: Policy,
 }
 
+impl Drop for VolumeShape {
+    fn drop(self) {
+        let VolumeShape {
+            amount,
+            modes: _,
+            block: _,
+            class,
+            policy: _,
+        } = self;
+        drop(amount);
+        drop(class);
+    }
+}
+
+impl VolumeShape {
+    fn into_parts(self) -> (Amount, Modes, bool, Text, Policy)
+        ensures { result ≡ (self.amount, self.modes, self.block, self.class, self.policy) }
+    {
+        let VolumeShape {
+            amount,
+            modes,
+            block,
+            class,
+            policy,
+        } = self;
+        (amount, modes, block, class, policy)
+    }
+}
+
 /// What a volume is tied to.
-#[derive(Drop)]
 pub struct VolumeTies {
     pub claim_ref: Option<Ref>,
     pub source: Source,
     pub terms: Option<NodeTerms>,
+}
+
+impl Drop for VolumeTies {
+    fn drop(self) {
+        let VolumeTies {
+            claim_ref,
+            source,
+            terms,
+        } = self;
+        drop(claim_ref);
+        drop(source);
+        drop(terms);
+    }
+}
+
+impl VolumeTies {
+    fn into_parts(self) -> (Option<Ref>, Source, Option<NodeTerms>)
+        ensures { result ≡ (self.claim_ref, self.source, self.terms) }
+    {
+        let VolumeTies {
+            claim_ref,
+            source,
+            terms,
+        } = self;
+        (claim_ref, source, terms)
+    }
 }
 
 #[tactic(auto, unfolding(crate::specs::KindReaders::volume_shape))]
@@ -77,11 +130,43 @@ fn volume_ties(alloc: Global, spec: Option<&Value>) -> Result<VolumeTies, Object
 }
 
 /// The spec of a volume.
-#[derive(Drop)]
 pub struct VolumeSpec {
     pub shape: VolumeShape,
     pub ties: VolumeTies,
     pub extra: Text,
+}
+
+impl Drop for VolumeSpec {
+    fn drop(self) {
+        let VolumeSpec { shape, ties, extra } = self;
+        drop(shape);
+        drop(ties);
+        drop(extra);
+    }
+}
+
+impl VolumeSpec {
+    /// The volume with this metadata and phase.
+    fn into_volume(self, meta: Meta, phase: VolumePhase) -> Volume
+        ensures { result ≡ volume_with meta self phase }
+    {
+        let VolumeSpec { shape, ties, extra } = self;
+        let (amount, modes, block, class, policy) = shape.into_parts();
+        let (claim_ref, source, terms) = ties.into_parts();
+        Volume {
+            meta,
+            amount,
+            modes,
+            block,
+            class,
+            policy,
+            claim_ref,
+            source,
+            terms,
+            extra,
+            phase,
+        }
+    }
 }
 
 #[tactic(auto, unfolding(crate::specs::KindReaders::volume_spec_of))]
@@ -104,37 +189,6 @@ fn volume_status_of(value: &Value) -> Result<VolumePhase, ObjectError>
     volume_phase_at(status)
 }
 
-fn volume_with(meta: Meta, spec: VolumeSpec, phase: VolumePhase) -> Volume
-    ensures { result ≡ volume_with meta spec phase }
-{
-    let VolumeSpec { shape, ties, extra } = spec;
-    let VolumeShape {
-        amount,
-        modes,
-        block,
-        class,
-        policy,
-    } = shape;
-    let VolumeTies {
-        claim_ref,
-        source,
-        terms,
-    } = ties;
-    Volume {
-        meta,
-        amount,
-        modes,
-        block,
-        class,
-        policy,
-        claim_ref,
-        source,
-        terms,
-        extra,
-        phase,
-    }
-}
-
 /// The volume of a value.
 #[tactic(auto, using(crate::proofs::Refusals::phase_fails), unfolding(crate::specs::KindReaders::volume_of))]
 pub fn volume_of(alloc: Global, value: &Value) -> Result<Volume, ObjectError>
@@ -144,7 +198,7 @@ pub fn volume_of(alloc: Global, value: &Value) -> Result<Volume, ObjectError>
     let meta = meta_of(alloc, false, value)?;
     let spec = volume_spec_of(alloc, value)?;
     match volume_status_of(value) {
-        Ok(phase) => Ok(volume_with(meta, spec, phase)),
+        Ok(phase) => Ok(spec.into_volume(meta, phase)),
         Err(e) => Err(e),
     }
 }
@@ -160,19 +214,67 @@ pub struct ClaimShape {
 }
 
 /// What ties a claim to volumes.
-#[derive(Drop)]
 pub struct ClaimTies {
     pub class: Option<Text>,
     pub selector: Option<Selector>,
     pub volume_name: Text,
 }
 
+impl Drop for ClaimTies {
+    fn drop(self) {
+        let ClaimTies {
+            class,
+            selector,
+            volume_name,
+        } = self;
+        drop(class);
+        drop(selector);
+        drop(volume_name);
+    }
+}
+
+impl ClaimTies {
+    fn into_parts(self) -> (Option<Text>, Option<Selector>, Text)
+        ensures { result ≡ (self.class, self.selector, self.volume_name) }
+    {
+        let ClaimTies {
+            class,
+            selector,
+            volume_name,
+        } = self;
+        (class, selector, volume_name)
+    }
+}
+
 /// The status of a claim.
-#[derive(Drop)]
 pub struct ClaimStatus {
     pub phase: ClaimPhase,
     pub got_modes: Modes,
     pub got: Option<Amount>,
+}
+
+impl Drop for ClaimStatus {
+    fn drop(self) {
+        let ClaimStatus {
+            phase: _,
+            got_modes: _,
+            got,
+        } = self;
+        drop(got);
+    }
+}
+
+impl ClaimStatus {
+    fn into_parts(self) -> (ClaimPhase, Modes, Option<Amount>)
+        ensures { result ≡ (self.phase, self.got_modes, self.got) }
+    {
+        let ClaimStatus {
+            phase,
+            got_modes,
+            got,
+        } = self;
+        (phase, got_modes, got)
+    }
 }
 
 #[tactic(auto, unfolding(crate::specs::KindReaders::claim_shape))]
@@ -238,16 +340,8 @@ pub fn claim_of(alloc: Global, value: &Value) -> Result<Claim, ObjectError>
         block,
         amount,
     } = shape;
-    let ClaimTies {
-        class,
-        selector,
-        volume_name,
-    } = ties;
-    let ClaimStatus {
-        phase,
-        got_modes,
-        got,
-    } = status;
+    let (class, selector, volume_name) = ties.into_parts();
+    let (phase, got_modes, got) = status.into_parts();
     Ok(Claim {
         meta,
         modes,

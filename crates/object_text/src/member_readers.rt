@@ -310,7 +310,12 @@ const MOST_VERSION: u64 = 0x4000_0000_0000_0000;
 fn are_digits(bytes: &[u8]) -> bool
     ensures { result ≡ list_all is_ascii_digit bytes.now }
 {
-    bytes.iter().all(|byte| byte.is_ascii_digit())
+    for byte in bytes {
+        if !byte.is_ascii_digit() {
+            return false;
+        }
+    }
+    true
 }
 
 #[tactic(auto, using(crate::proofs::Versions::version_accepted, crate::proofs::Versions::version_large))]

@@ -3,7 +3,7 @@
 ghost use Rattle.std.specs.Prelude.{◌≡◌, option_map};
 ghost use Rattle.serde_json.specs.View.{view};
 ghost use Rattle.object_text.specs.Answers.{Gives};
-ghost use Rattle.object_text.specs.MetaReaders.{kept_namespace, namespace_at, identity_at, marks_at, meta_of};
+ghost use Rattle.object_text.specs.MetaReaders.{namespace_at, identity_at, marks_at, meta_with, meta_of};
 
 use crate::errors::{Member, ObjectError};
 use crate::member_readers::{
@@ -18,7 +18,6 @@ use serde_json::Value;
 use std::alloc::Global;
 
 /// What tells an object from others.
-#[derive(Drop)]
 pub struct Identity {
     pub name: Text,
     pub namespace: Text,
@@ -26,14 +25,84 @@ pub struct Identity {
     pub version: u64,
 }
 
+impl Drop for Identity {
+    fn drop(self) {
+        let Identity {
+            name,
+            namespace,
+            uid: _,
+            version: _,
+        } = self;
+        drop(name);
+        drop(namespace);
+    }
+}
+
 /// The rest of the metadata.
-#[derive(Drop)]
 pub struct Marks {
     pub created: Text,
     pub deleted: Option<Text>,
     pub labels: Pairs,
     pub annotations: Pairs,
     pub finalizers: Names,
+}
+
+impl Drop for Marks {
+    fn drop(self) {
+        let Marks {
+            created,
+            deleted,
+            labels,
+            annotations,
+            finalizers,
+        } = self;
+        drop(created);
+        drop(deleted);
+        drop(labels);
+        drop(annotations);
+        drop(finalizers);
+    }
+}
+
+impl Marks {
+    fn into_parts(self) -> (Text, Option<Text>, Pairs, Pairs, Names)
+        ensures { result ≡ (self.created, self.deleted, self.labels, self.annotations, self.finalizers) }
+    {
+        let Marks {
+            created,
+            deleted,
+            labels,
+            annotations,
+            finalizers,
+        } = self;
+        (created, deleted, labels, annotations, finalizers)
+    }
+}
+
+impl Identity {
+    /// The metadata with these marks.
+    fn with_marks(self, marks: Marks) -> Meta
+        ensures { result ≡ meta_with self marks }
+    {
+        let Identity {
+            name,
+            namespace,
+            uid,
+            version,
+        } = self;
+        let (created, deleted, labels, annotations, finalizers) = marks.into_parts();
+        Meta {
+            namespace,
+            name,
+            uid,
+            version,
+            created,
+            deleted,
+            labels,
+            annotations,
+            finalizers,
+        }
+    }
 }
 
 fn namespace_at(alloc: Global, namespaced: bool, place: Option<&Value>) -> Result<Text, ObjectError>
@@ -93,28 +162,5 @@ pub fn meta_of(alloc: Global, namespaced: bool, object: &Value) -> Result<Meta, 
     let metadata = needed_object(Some(object), Member::Metadata)?;
     let identity = identity_at(alloc, namespaced, Some(metadata))?;
     let marks = marks_at(alloc, Some(metadata))?;
-    let Identity {
-        name,
-        namespace,
-        uid,
-        version,
-    } = identity;
-    let Marks {
-        created,
-        deleted,
-        labels,
-        annotations,
-        finalizers,
-    } = marks;
-    Ok(Meta {
-        namespace,
-        name,
-        uid,
-        version,
-        created,
-        deleted,
-        labels,
-        annotations,
-        finalizers,
-    })
+    Ok(identity.with_marks(marks))
 }

@@ -1,9 +1,9 @@
 //! Parts of the specs of objects from values.
 
-ghost use Rattle.std.specs.Prelude.{◌≡◌, [], Some, Ok, option_map};
+ghost use Rattle.std.specs.Prelude.{◌≡◌, [], option_map};
 ghost use Rattle.serde_json.specs.View.{view, items_view};
 ghost use Rattle.object_text.specs.Answers.{Gives};
-ghost use Rattle.object_text.specs.PartReaders.{quantity_text, amount_from, amount_in, quantity_at, optional_quantity, with_mode, no_modes, modes_from, modes_at, optional_modes, known, block_at, policy_at, class_policies, class_policy_at, delayed_at, volume_phase_at, claim_phase_at, op_at, ref_at, claim_ref_at, two_texts, one_text, there, source_at, expr_of, exprs_from, exprs_at, term_of, terms_from, terms_at, selector_of, selector_at, claim_name_of, claims_from, claims_at};
+ghost use Rattle.object_text.specs.PartReaders.{amount_from, amount_in, quantity_at, optional_quantity, with_mode, no_modes, modes_from, modes_at, optional_modes, known, block_at, policy_at, class_policy_at, delayed_at, volume_phase_at, claim_phase_at, op_at, ref_at, claim_ref_at, two_texts, one_text, there, source_at, expr_of, exprs_from, exprs_at, term_of, terms_from, terms_at, selector_of, selector_at, claim_name_of, claims_from, claims_at};
 ghost use Rattle.quantity_text.specs.Quantity.{amount_of};
 
 use crate::errors::{Member, ObjectError};
@@ -109,7 +109,8 @@ const NO_MODES: Modes = Modes {
     rwop: false,
 };
 
-fn modes_of(values: &[Value]) -> Result<Modes, ObjectError>
+/// The access modes that the values name.
+pub fn modes_of(values: &[Value]) -> Result<Modes, ObjectError>
     ensures { Gives result (modes_from (items_view values.now) no_modes) }
 {
     let mut modes = NO_MODES;

@@ -1,6 +1,6 @@
 //! The object of a manifest.
 
-ghost use Rattle.std.specs.Prelude.{◌≡◌, Ok, Err, Some, false, IfOk, IfErr};
+ghost use Rattle.std.specs.Prelude.{◌≡◌, Ok, Err, false, IfOk, IfErr};
 ghost use Rattle.serde_json.specs.View.{view};
 ghost use Rattle.serde_json.specs.Written.{has_float};
 ghost use Rattle.json_text.specs.Trees.{tree_data};

@@ -11,7 +11,7 @@ use kube_types::words::{Worded, value_named};
 use std::alloc::Global;
 
 /// A kind of controller that works for no node of its own.
-#[derive(Clone, Copy, Debug, PartialEq, Eq)]
+#[derive(Clone, Copy, PartialEq, Eq)]
 pub enum WorkerKind {
     Binder,
     Ops,
@@ -21,7 +21,7 @@ pub enum WorkerKind {
 }
 
 /// Which of the four workers of a kind.
-#[derive(Clone, Copy, Debug, PartialEq, Eq)]
+#[derive(Clone, Copy, PartialEq, Eq)]
 pub enum WorkerNumber {
     One,
     Two,
@@ -30,14 +30,13 @@ pub enum WorkerNumber {
 }
 
 /// A worker.
-#[derive(Clone, Copy, Debug, PartialEq, Eq)]
+#[derive(Clone, Copy, PartialEq, Eq)]
 pub struct Worker {
     pub kind: WorkerKind,
     pub number: WorkerNumber,
 }
 
 /// A worker, or the agent of a node.
-#[derive(Debug)]
 pub enum Actor {
     Worker(Worker),
     Agent { node: Text },

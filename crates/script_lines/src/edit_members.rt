@@ -6,7 +6,7 @@ ghost use Rattle.script_lines.specs.Members.{edit_member};
 use crate::line_member::LineMember;
 
 /// An edit member.
-#[derive(Clone, Copy, Debug, PartialEq, Eq)]
+#[derive(Clone, Copy)]
 pub enum EditMember {
     AddFinalizer,
     DropFinalizer,

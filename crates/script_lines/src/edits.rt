@@ -6,7 +6,7 @@ ghost use Rattle.script_lines.specs.declared.line_member.LineMember.TheVariants 
 ghost use Rattle.serde_json.specs.View.{view};
 ghost use Rattle.kube_types.specs.Named.{policy_named};
 ghost use Rattle.script_lines.specs.Answers.{Gives};
-ghost use Rattle.script_lines.specs.Members.{all_edits, edit_member, stands, the_one, edit_member_at, two_texts_in, policy_from, cleared, edit_of, edit_from, edit_at};
+ghost use Rattle.script_lines.specs.Members.{edit_member, stands, the_one, edit_member_at, two_texts_in, policy_from, cleared, edit_of, edit_from, edit_at};
 
 use crate::edit_members::EditMember;
 use crate::errors::{LineError, Reason};

@@ -6,7 +6,7 @@ use object_text::errors::ObjectError;
 use std::alloc::AllocError;
 
 /// Why a line of a script is refused, the first that applies.
-#[derive(Clone, Copy, Debug, PartialEq, Eq)]
+#[derive(Clone, Copy)]
 pub enum Reason {
     /// The line has more than 16,384 bytes.
     TooLong,
@@ -41,14 +41,14 @@ pub enum Reason {
 }
 
 /// The first line at fault, counted from 1, and why.
-#[derive(Clone, Copy, Debug, PartialEq, Eq)]
+#[derive(Clone, Copy)]
 pub struct BadLine {
     pub line: u64,
     pub reason: Reason,
 }
 
 /// Why no script was read.
-#[derive(Clone, Copy, Debug, PartialEq, Eq)]
+#[derive(Clone, Copy)]
 pub enum ScriptError {
     OutOfMemory,
     BadLine(BadLine),
@@ -77,7 +77,7 @@ impl From<OutOfMemory> for ScriptError {
 }
 
 /// Why a line was not taken.
-#[derive(Clone, Copy, Debug, PartialEq, Eq)]
+#[derive(Clone, Copy)]
 pub enum LineError {
     OutOfMemory,
     Refused(Reason),

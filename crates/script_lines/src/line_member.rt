@@ -7,7 +7,7 @@ use object_text::errors::Member;
 
 /// A member that readers of lines look at. `Edit` stands for the edit members together; a member of a
 /// manifest is `Of` that.
-#[derive(Clone, Copy, Debug, PartialEq, Eq)]
+#[derive(Clone, Copy)]
 pub enum LineMember {
     Do,
     Object,

@@ -6,7 +6,7 @@ ghost use Rattle.script_lines.specs.Verbs.{verb_word, verb_named};
 use kube_types::words::{Worded, value_named};
 
 /// What a line does, by its member `do`.
-#[derive(Clone, Copy, Debug, PartialEq, Eq)]
+#[derive(Clone, Copy)]
 pub enum Verb {
     Create,
     Update,

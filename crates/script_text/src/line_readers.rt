@@ -5,7 +5,7 @@ ghost use Rattle.serde_json.specs.View.{view};
 ghost use Rattle.script_lines.specs.declared.errors.Reason.TheVariants.{BadValue};
 ghost use Rattle.script_lines.specs.Answers.{Gives, unless};
 ghost use Rattle.script_text.specs.Steps.Results.{line_result};
-ghost use Rattle.script_text.specs.LineReaders.{create_line, condition_of, update_line, edit_line, delete_line, get_line, list_line, time_line, pool_line, fault_line, lose_line, restart_line, turn_line, verb_from, verb_at, as_line, meaning_by};
+ghost use Rattle.script_text.specs.LineReaders.{create_line, condition_of, update_line, edit_line, delete_line, get_line, list_line, time_line, pool_line, fault_line, lose_line, restart_line, turn_line, verb_from, verb_at, meaning_by};
 ghost use Rattle.script_lines.specs.declared.line_member.LineMember.TheVariants as members;
 ghost use Rattle.script_lines.specs.Actors.{actor_word};
 ghost use Rattle.script_lines.specs.Members.{new_call_at};
@@ -145,8 +145,8 @@ fn pool_line(alloc: Global, line: &Value) -> Result<Meaning, LineError>
     let name = text_at(alloc, line, LineMember::Of(Member::Name))?;
     let provisioner = text_at(alloc, line, LineMember::Of(Member::Provisioner))?;
     let amount = size_at(alloc, line)?;
-    let topology = topology_at(alloc, line)?;
     let size = amount.text.copy(alloc)?;
+    let topology = topology_at(alloc, line)?;
     Ok(Meaning::Pool {
         size,
         pool: Pool {

@@ -75,7 +75,12 @@ fn number_place(rows: &[NumberRow], name: &str) -> Result<usize, usize>
 pub(crate) fn is_given(number: u64, numbers: &[u64]) -> bool
     ensures { result ≡ is_given number numbers.now }
 {
-    numbers.iter().any(|given| *given == number)
+    for given in numbers {
+        if *given == number {
+            return true;
+        }
+    }
+    false
 }
 
 fn numbers_of<'a>(rows: &'a [NumberRow], name: &str) -> Option<&'a Items<u64>>

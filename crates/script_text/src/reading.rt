@@ -42,7 +42,12 @@ fn is_blank(byte: u8) -> bool
 fn are_blank(line: &[u8]) -> bool
     ensures { result ≡ list_all is_blank line.now }
 {
-    line.iter().all(|byte| is_blank(*byte))
+    for byte in line {
+        if !is_blank(*byte) {
+            return false;
+        }
+    }
+    true
 }
 
 #[tactic(auto, using(script_lines::proofs::Taken::taken_fails))]

@@ -15,7 +15,6 @@ use script_lines::errors::LineError;
 use std::alloc::Global;
 
 /// A line of a script that is done in its turn, or that says what becomes of an actor's calls.
-#[derive(Debug)]
 pub enum Line {
     /// A user's call.
     Call {
@@ -60,7 +59,6 @@ impl Drop for Line {
 
 /// What one line of a text means: a pool, with its size as it was written; the number of a Provision or
 /// Erase call that fails; or a line of the script.
-#[derive(Debug)]
 pub enum Meaning {
     Pool { pool: Pool, size: Text },
     Fault { call: u64 },
@@ -101,7 +99,6 @@ impl Meaning {
 
 /// What a script says: what the world begins with, and its lines in order. Beside them stand the nodes that
 /// its create lines name, in order, and the sizes of the pools as they were written.
-#[derive(Debug)]
 pub struct Script {
     pub setup: Setup,
     pub lines: Items<Line>,
@@ -134,7 +131,6 @@ impl Script {
 }
 
 /// A script, and the number that each of its lines has in the text, counted from 1.
-#[derive(Debug)]
 pub struct Numbered {
     pub script: Script,
     pub numbers: Items<u64>,
