@@ -44,15 +44,11 @@ use Rattle.delayed_binding.specs.declared.choice.Choice.TheVariants.{Assign, Pre
 use Rattle.delayed_binding.specs.Choices.{IsAssigned, IsChoice, IsChoiceAt, IsCompleted, IsPrepared, IsSearching, IsServedElsewhere, IsUnderWay, LacksClaim, Stage, binds_of, others_in, provisions_of, set_aside}
 use Rattle.delayed_binding.specs.WriteLaw.{AreKept, AssignedPodsAreAllowed, ChosenWritesAreAllowed, HasWrite, IsUnwritten, PreparedHaveWrites, PreparedWritesAreAllowed, PreparedWritesAreThere, ShowsNewest, WritesAreApart, is_known, written_keys}
 use Rattle.delayed_binding.specs.Writes.{bind_write, joined, node_write, placed_on, prepare_write, reference_write, selecting_write}
-use Rattle.delayed_binding.proofs.Known.{Each, IsSome, IsSought, claim_of_row, others_apart, others_sought, others_stored, some_others}
+use Rattle.delayed_binding.proofs.Known.{Each, IsSome, IsSought, claim_of_row, others_apart, others_sought, others_stored, some_others, and_right}
 use Rattle.delayed_binding.proofs.Scanning.{carriers_are_volumes}
 use Rattle.delayed_binding.proofs.Written.{IsBound, IsOf, IsToProvision, OfFirst, OfSecond, bound_at, item_of, one_bind, one_provision, provided_at, some_write}
 
 -- a reference, on an eligible volume for a claim that no volume carries
-
-and_right : (a b : Bool) → (a && b) ≡ true → b ≡ true
-and_right true b e = e
-and_right false b e = absurd (true≢false (sym e))
 
 serves_of : (v : VolumeData) (c : ClaimData) (n : NodeData) → eligible v c (Some n) ≡ true → may_serve v c ≡ true
 serves_of v c n e = and_right (not (is_deleting v.meta) && is_protected_volume v && fits v c && is_selected c.selector v.meta.labels && is_admitted_on v (Some n)) (may_serve v c) e

@@ -1,5 +1,5 @@
 -- A volume is given only to a claim that it fits: the references that are written are those of eligible volumes.
-use Rattle.std.proofs.Common.{ℕ, ◌≡◌, ◌∙◌, Bool, true, false, true≢false, not, ◌&&◌, List, map, Option, Some, None, refl, sym, ap, subst}
+use Rattle.std.proofs.Common.{ℕ, ◌≡◌, ◌∙◌, Bool, true, false, not, ◌&&◌, List, map, Option, Some, None, refl, sym, ap, subst}
 use Rattle.std.specs.Prelude.{slice_get}
 use Rattle.kube_types.specs.declared.key.Key.{Key}
 use Rattle.kube_types.specs.declared.parts.Kind.TheVariants as kinds
@@ -23,7 +23,7 @@ use Rattle.delayed_binding.specs.Choices.{others_in, set_aside}
 use Rattle.delayed_binding.specs.WriteLaw.{FitsIfReference, IsFitting, ReferencesFit}
 use Rattle.delayed_binding.specs.Writes.{bind_write, node_write, prepare_write, reference_write, selecting_write}
 use Rattle.delayed_binding.proofs.Allowed.{IsSearch, joined_some, made_of, searched}
-use Rattle.delayed_binding.proofs.Known.{IsStored, others_stored}
+use Rattle.delayed_binding.proofs.Known.{IsStored, others_stored, and_right}
 use Rattle.delayed_binding.proofs.Written.{IsBound, IsOf, OfFirst, OfSecond, bound_at, item_of}
 
 -- an eligible volume fits
@@ -31,10 +31,6 @@ use Rattle.delayed_binding.proofs.Written.{IsBound, IsOf, OfFirst, OfSecond, bou
 and_left : (a b : Bool) → (a && b) ≡ true → a ≡ true
 and_left true b e = refl
 and_left false b e = e
-
-and_right : (a b : Bool) → (a && b) ≡ true → b ≡ true
-and_right true b e = e
-and_right false b e = absurd (true≢false (sym e))
 
 fits_of : (v : VolumeData) (c : ClaimData) (n : NodeData) → eligible v c (Some n) ≡ true → fits v c ≡ true
 fits_of v c n e =

@@ -1,5 +1,5 @@
 -- A claim for which a volume is sought gets a call on all rows that show the same as rows in order.
-use Rattle.std.proofs.Common.{◌≡◌, ◌⊎◌, ℕ, zero, suc, List, [], ◌∷◌, Bool, true, false, true≢false, Some, None, inl, inr, refl, sym, ◌∙◌, ap, slice_get, is_some, if◌then◌else◌}
+use Rattle.std.proofs.Common.{◌≡◌, ℕ, zero, suc, List, [], ◌∷◌, Bool, true, false, true≢false, Some, None, inl, inr, refl, sym, ◌∙◌, ap, slice_get, is_some, if◌then◌else◌}
 use Rattle.std.specs.Prelude.{◌&&◌, ◌||◌, not, is_none, bytes_eq}
 use Rattle.std.specs.List.{list_any}
 use Rattle.std.specs.Ordering.{is_eq}
@@ -17,6 +17,7 @@ use Rattle.binder_model.specs.BindWrites.{claim_write, next_write, shows_bound, 
 use Rattle.binder_model.specs.Matching.{eligible, fits, is_admitted_on, is_selected, may_serve}
 use Rattle.binder_machines.specs.Machines.{bind_call, may_bind}
 use Rattle.model_laws.proofs.Lists.{none_some, one}
+use Rattle.binder_machines.proofs.Tests.{either}
 
 -- lists of rows
 
@@ -55,10 +56,6 @@ placed_row kind i o (y ∷ ys) e = by (is_of_kind kind y) i e (λ j. placed_row 
 both : (a b : Bool) → (a && b) ≡ true → (a ≡ true) × (b ≡ true)
 both true b e = (refl, e)
 both false b e = absurd (true≢false (sym e))
-
-either : (a b : Bool) → (a || b) ≡ true → (a ≡ true) ⊎ (b ≡ true)
-either true b e = inl refl
-either false b e = inr e
 
 no : (a : Bool) → not a ≡ true → a ≡ false
 no true e = absurd (true≢false (sym e))

@@ -1,5 +1,5 @@
 -- What a binding goes on with carries its claim: the answer to each of its writes tells what was written.
-use Rattle.std.proofs.Common.{◌≡◌, ◌⊎◌, ℕ, List, [], ◌∷◌, Bool, true, false, true≢false, Option, Some, None, inl, inr, refl, sym, ◌∙◌, ap, subst, if◌then◌else◌, arith}
+use Rattle.std.proofs.Common.{◌≡◌, ◌⊎◌, ℕ, List, Bool, true, false, true≢false, Option, Some, None, inl, inr, refl, sym, ◌∙◌, ap, subst, if◌then◌else◌, arith}
 use Rattle.std.specs.Prelude.{◌==◌, ◌||◌, ◌&&◌, not, bytes_eq, is_some, ⊤}
 use Rattle.std.proofs.lemmas.Bool.{and_parts, not-false}
 use Rattle.std.proofs.lemmas.Bool.Decides.{Decides-eqb, nat_tests}
@@ -54,6 +54,7 @@ use Rattle.binder_machines.specs.declared.machine.Machine.TheVariants.{Frees, Bi
 use Rattle.binder_machines.specs.Evidence.{Keeps, ToldThis, ToldThisClaim}
 use Rattle.binder_machines.specs.Machines.{bind_call, call_of, claim_read, confirmed_for, machine_for, may_bind, moved, unbound_to, volume_read}
 use Rattle.fitting_calls.proofs.Decided.{MachineSuits, for_suits}
+use Rattle.binder_machines.proofs.Tests.{empty_is}
 
 -- an entry of a seat in its history, and the seat's entries before it
 pub record IsAnswered (e : Entry) (before : List Entry) : Type 0 where
@@ -164,10 +165,6 @@ is_open v c r = by (may_bind v c) refl
         let front = and_parts _ _ (and_parts _ _ (and_parts _ _ may).0).0 in
         record { write = which_write v c r e; known = front.0; placed = front.1 }
     by false may e = none_some e
-
-empty_is : (xs : List ℕ) → is_empty xs ≡ true → xs ≡ []
-empty_is [] e = refl
-empty_is (x ∷ xs) e = absurd (true≢false (sym e))
 
 -- the reference to a claim carries it
 pub reference_carries : (c : ClaimData) → is_some c.meta.uid ≡ true → refers_carrying (Some (ref_to c)) c ≡ true

@@ -32,11 +32,13 @@ use Rattle.binder_machines.specs.declared.decide.First.{First}
 use Rattle.binder_machines.specs.declared.decide.First.TheVariants.{Begins}
 use Rattle.binder_machines.specs.declared.machine.Machine.{Machine}
 use Rattle.binder_machines.specs.declared.machine.Machine.TheVariants.{Binds}
-use Rattle.binder_machines.specs.FirstSteps.{IsClaimFirst, IsFirst, first_of, lost_for, queue_of, volume_first}
+use Rattle.binder_machines.specs.FirstSteps.{IsClaimFirst, IsFirst, lost_for, queue_of, volume_first}
 use Rattle.binder_machines.specs.Machines.{machine_for}
 use Rattle.world_moves.proofs.Objects.{some_volume}
 use Rattle.fitting_law.specs.Fitting.{Fits, IsReservedFor, Suits}
 use Rattle.fitting_law.proofs.Fields.{beq_same}
+use Rattle.binder_machines.proofs.Begun.{first_back}
+use Rattle.binder_machines.proofs.Tests.{either}
 
 -- the volume may be given to the claim, or was
 abbrev pub SuitsOrHas : VolumeData → ClaimData → Type 0
@@ -77,10 +79,6 @@ for_it v c e = by v.claim_ref refl e
 no_reference : (x : Option Ref) → is_none x ≡ true → x ≡ None
 no_reference None e = refl
 no_reference (Some r) e = absurd (true≢false (sym e))
-
-either : (a b : Bool) → (a || b) ≡ true → (a ≡ true) ⊎ (b ≡ true)
-either true b e = inl refl
-either false b e = inr e
 
 is_bind : ClaimStep → Bool
 is_bind steps.Bind = true
@@ -160,10 +158,6 @@ for_suits v actions.Available machine e = subst MachineSuits (one _ machine e) t
 for_suits v actions.Bound machine e = subst MachineSuits (one _ machine e) tt
 for_suits v actions.Release machine e = subst MachineSuits (one _ machine e) tt
 for_suits v actions.Unbind machine e = subst MachineSuits (one _ machine e) tt
-
-first_back : (m : Option Machine) (machine : Machine) → Begins machine ≡ first_of m → m ≡ Some machine
-first_back None machine e = none_some (sym (ap machine_in e))
-first_back (Some k) machine e = sym (ap machine_in e)
 
 queues : {G : Type 0} (r : Option Ref) (machine : Machine) → Begins machine ≡ queue_of r → G
 queues None machine e = none_some (sym (ap machine_in e))

@@ -9,7 +9,6 @@ use Rattle.plain_data.specs.Pairs.{Pair, value_at, put_pair, without_key}
 use Rattle.plain_data.specs.Pairs as pairs
 use Rattle.plain_data.proofs.RowLookups.{find-put, find-put_other, find-without_other}
 use Rattle.kube_types.specs.declared.uid.Uid.{Uid}
-use Rattle.kube_types.specs.declared.names.Field.{Field}
 use Rattle.kube_types.specs.declared.objects.Amount.{Amount}
 use Rattle.kube_types.specs.declared.objects.Meta.{Meta}
 use Rattle.kube_types.specs.declared.objects.Ref.{Ref}
@@ -20,20 +19,15 @@ use Rattle.kube_types.specs.declared.objects.Object.TheVariants.{Volume, Claim}
 use Rattle.kube_types.specs.Keys.{meta_of}
 use Rattle.kube_types.specs.Bindings.{bind_completed, bound_by_controller, selected_node, yes}
 use Rattle.binder_model.specs.BindWrites.{annotated_meta_if}
-use Rattle.binder_model.specs.Fields.{update_fault, changed_field, faulty, same_claim_spec}
+use Rattle.binder_model.specs.Fields.{update_fault, changed_field, same_claim_spec}
 use Rattle.binder_model.specs.Same.{same_option, same_modes, same_amount, same_selector, same_ref}
 use Rattle.binder_model.specs.Guard.{annotations_before, clears_released, changes_annotation, has_uid}
-use Rattle.world_moves.proofs.Tests.{same_text}
 use Rattle.world_invariant.specs.Was.{Refers}
 use Rattle.licence_steps.proofs.Users.{Passes, same_refs, same_texts}
+use Rattle.licence_steps.proofs.Allowed.{faulty_none}
 use Rattle.fitting_law.specs.Fitting.{is_marked}
 
 -- fields that an update keeps
-
-faulty_none : (b : Bool) (f : Field) (next : Option Field) → faulty b f next ≡ None → (b ≡ false) × (next ≡ None)
-unfolding faulty
-faulty_none true f next e = absurd (true≢false (ap is_some e))
-faulty_none false f next e = (refl, e)
 
 pub beq_same : (a b : Bool) → beq a b ≡ true → a ≡ b
 beq_same true true e = refl
@@ -78,14 +72,8 @@ completion_leaves_mark ps = ap (λ x. option_map (λ (p : Pair). p.1) x) (find-p
 pub select_leaves_mark : (node : List ℕ) (ps : List Pair) → value_at bound_by_controller (put_pair selected_node node ps) ≡ value_at bound_by_controller ps
 select_leaves_mark node ps = ap (λ x. option_map (λ (p : Pair). p.1) x) (find-put_other nat_list_cmp_total pairs.pair_key bound_by_controller (selected_node, node) ps refl)
 
-pub select_leaves_completion : (node : List ℕ) (ps : List Pair) → value_at bind_completed (put_pair selected_node node ps) ≡ value_at bind_completed ps
-select_leaves_completion node ps = ap (λ x. option_map (λ (p : Pair). p.1) x) (find-put_other nat_list_cmp_total pairs.pair_key bind_completed (selected_node, node) ps refl)
-
 pub clear_leaves_mark : (ps : List Pair) → value_at bound_by_controller (without_key selected_node ps) ≡ value_at bound_by_controller ps
 clear_leaves_mark ps = ap (λ x. option_map (λ (p : Pair). p.1) x) (find-without_other nat_list_cmp_total pairs.pair_key selected_node bound_by_controller ps refl)
-
-pub clear_leaves_completion : (ps : List Pair) → value_at bind_completed (without_key selected_node ps) ≡ value_at bind_completed ps
-clear_leaves_completion ps = ap (λ x. option_map (λ (p : Pair). p.1) x) (find-without_other nat_list_cmp_total pairs.pair_key selected_node bind_completed ps refl)
 
 -- a volume that had a reference is not marked anew
 pub taken_marks : (x : Option Ref) (m : Meta) → is_some x ≡ true → is_marked (annotated_meta_if (is_none x) bound_by_controller m) ≡ is_marked m

@@ -9,7 +9,7 @@ use Rattle.kube_types.specs.declared.objects.Volume.{Volume as VolumeData}
 use Rattle.kube_types.specs.declared.objects.Claim.{Claim as ClaimData}
 use Rattle.kube_types.specs.declared.objects.Object.{Object}
 use Rattle.kube_types.specs.declared.objects.Object.TheVariants.{Class, Node, Volume, Claim, Pod}
-use Rattle.kube_types.specs.Keys.{meta_of, key_of, kind_index, row_at}
+use Rattle.kube_types.specs.Keys.{meta_of, key_of, row_at}
 use Rattle.kube_types.specs.Bindings.{bind_completed, bound_by_controller, has_key, is_completed, ref_uid}
 use Rattle.kube_types.proofs.KeyOrder.{row_at_key}
 use Rattle.call_types.specs.declared.entry.Entry.{Entry}
@@ -33,7 +33,7 @@ use Rattle.world_invariant.proofs.Known.{invariant_of}
 use Rattle.licence_steps.proofs.Allowed.{made}
 use Rattle.licence_steps.proofs.Runs.{known, run_good}
 use Rattle.model_laws.proofs.Stood.{few_writes}
-use Rattle.safety_law.proofs.FirstWorld.{first_world_is_good}
+use Rattle.safety_law.proofs.FirstWorld.{first_world_is_good, other_kind}
 use Rattle.safety_law.proofs.Law.{room_for}
 use Rattle.safety_law.proofs.Safety.{bindings_stand}
 use Rattle.fitting_law.specs.Fitting.{Fits, AreFitting, is_marked}
@@ -57,9 +57,6 @@ record IsClaimImport (imports : List Object) (c : ClaimData) : Type 0 where
   mode : c.block ≡ origin.block
   uid : c.meta.uid ≡ origin.meta.uid
   annotations : c.meta.annotations ≡ origin.meta.annotations
-
-other_kind : {G : Type 0} (a b : Object) → a ≡ b → (kind_index (key_of a).kind ≡ kind_index (key_of b).kind → ⊥) → G
-other_kind a b e no_kind = absurd (no_kind (ap (λ o. kind_index (key_of o).kind) e))
 
 abbrev bytes_in : Object → ℕ
 bytes_in (Volume v) = v.amount.bytes

@@ -49,14 +49,14 @@ use Rattle.world_invariant.specs.Invariant.{Invariant}
 use Rattle.world_invariant.specs.Good.{IsTrue}
 use Rattle.world_invariant.proofs.Known.{told_volume, told_claim}
 use Rattle.licence_steps.proofs.Rows.{stored_volume, no_ref_uid}
-use Rattle.licence_steps.proofs.Claims.{stored_claim}
+use Rattle.licence_steps.proofs.Claims.{stored_claim, select_keeps, clear_keeps}
 use Rattle.licence_steps.proofs.Users.{passes, completion_same, no_uid_given}
 use Rattle.licence_steps.proofs.Allowed.{Known, at_claim}
 use Rattle.kube_types.proofs.KeyOrder.{row_at_key}
 use Rattle.model_laws.proofs.Stood.{one_version_one_object}
 use Rattle.world_invariant.proofs.Came.{row_was}
 use Rattle.fitting_law.specs.Fitting.{Fits, Suits, IsGiven, GivesTo, GivesFitting, is_marked}
-use Rattle.fitting_law.proofs.Fields.{volume_fixed, claim_fixed, value_put, completion_leaves_mark, select_leaves_mark, select_leaves_completion, clear_leaves_mark, clear_leaves_completion, taken_marks, mark_same, user_keeps}
+use Rattle.fitting_law.proofs.Fields.{volume_fixed, claim_fixed, value_put, completion_leaves_mark, select_leaves_mark, clear_leaves_mark, taken_marks, mark_same, user_keeps}
 
 -- the volume was given to the claim of this UID, which it suits. The mark is put on it only where it had no reference
 pub record WasGiven (setup : Setup) (past : List Entry) (old new : VolumeData) (uid : Uid) : Type 0 where
@@ -222,12 +222,12 @@ complete_marks setup past mine true_of o new n row =
 select_marks : (mine : List Entry) (o new : ClaimData) (n : ℕ) → MaySelectNode mine o new → MarksMove o (stored_claim o new n)
 select_marks mine o new n row = kept_marks o (stored_claim o new n)
     (ap (λ (x : ClaimData). value_at bound_by_controller x.meta.annotations) row.change ∙ select_leaves_mark row.node.meta.name o.meta.annotations)
-    (ap (λ (x : ClaimData). value_at bind_completed x.meta.annotations) row.change ∙ select_leaves_completion row.node.meta.name o.meta.annotations)
+    (ap (λ (x : ClaimData). value_at bind_completed x.meta.annotations) row.change ∙ select_keeps row.node.meta.name o.meta.annotations)
 
 clear_marks : (mine : List Entry) (o new : ClaimData) (n : ℕ) → MayClearNode mine o new → MarksMove o (stored_claim o new n)
 clear_marks mine o new n row = kept_marks o (stored_claim o new n)
     (ap (λ (x : ClaimData). value_at bound_by_controller x.meta.annotations) row.change ∙ clear_leaves_mark o.meta.annotations)
-    (ap (λ (x : ClaimData). value_at bind_completed x.meta.annotations) row.change ∙ clear_leaves_completion o.meta.annotations)
+    (ap (λ (x : ClaimData). value_at bind_completed x.meta.annotations) row.change ∙ clear_keeps o.meta.annotations)
 
 guard_marks : (mine : List Entry) (o new : ClaimData) (n : ℕ) (guards : Bool) → ClaimGuard guards mine new o → MarksMove o (stored_claim o new n)
 guard_marks mine o new n true row = same_annotations o (stored_claim o new n) (ap (λ (m : Meta). m.annotations) row.guard.change)

@@ -1,6 +1,6 @@
 -- The seats of a script's actors are numbers of 64 bits.
-use Rattle.std.proofs.Common.{refl, sym, ap, ◌∙◌, inl, inr, subst, arith}
-use Rattle.std.specs.Prelude.{◌≡◌, ℕ, ◌+◌, ◌*◌, ◌<◌, ◌≤◌, suc, Bool, true, false, bytes_eq, nat_lt, List, [], ◌∷◌, ◌++◌, Option, Some, None, length, map, if◌then◌else◌}
+use Rattle.std.proofs.Common.{ap, inl, inr, arith}
+use Rattle.std.specs.Prelude.{◌≡◌, ℕ, ◌+◌, ◌*◌, ◌<◌, ◌≤◌, suc, Bool, true, false, bytes_eq, nat_lt, List, [], ◌∷◌, Option, Some, None, length, map, if◌then◌else◌}
 use Rattle.std.specs.declared.cmp.Ordering.{Ordering}
 use Rattle.std.specs.declared.cmp.Ordering.TheVariants.{Less, Equal, Greater}
 use Rattle.std.specs.Ordering.{match_ordering}
@@ -12,14 +12,14 @@ use Rattle.script_lines.specs.declared.actors.Actor.{Actor}
 use Rattle.script_lines.specs.declared.actors.Actor.TheVariants.{Worker, Agent}
 use Rattle.script_lines.specs.Actors.{actor_word, agent_word, all_workers}
 use Rattle.script_text.specs.declared.script.Line.{Line}
-use Rattle.script_text.specs.declared.script.Line.TheVariants.{Call, Lose, Restart, Turn, Drain}
 use Rattle.script_text.specs.declared.script.Script.{Script}
-use Rattle.script_text.specs.Said.{created_node, and_node, agents_after, agents_of, nodes_of, restart_of, restarts_of}
+use Rattle.script_text.specs.Said.{created_node, and_node, agents_after, agents_of, nodes_of, restarts_of}
 use Rattle.script_laws.specs.Scripts.{IsScript}
-use Rattle.script_parts.specs.Parts.{is_named, lives_by, lives_in, all_actors, lives_before, all_lives, drain_seat, drain_seats, seats_from, part_of}
+use Rattle.script_parts.specs.Parts.{is_named, lives_in, all_actors, lives_before, all_lives, drain_seat, drain_seats, seats_from, part_of}
 use Rattle.script_runs.specs.Calls.{restarts_before, seat_at}
 use Rattle.worker_threads.specs.Longer.{IsOneOf}
 use Rattle.history_laws.specs.Given.{IsNumber}
+use Rattle.script_runs.proofs.Casting.{few_restarts, few_lives}
 
 -- ---- how many there are
 
@@ -43,33 +43,10 @@ agents_few agents (line ∷ lines) =
     let rest = agents_few (and_node agents (created_node line)) lines in
     omega (arith, here, rest)
 
-one_restart : (name : List ℕ) (line : Line) → length (restart_of name line) ≤ 1
-one_restart name (Restart actor after) = by (bytes_eq (actor_word actor) name)
-  where
-    by : (b : Bool) → length (if b then after ∷ [] else []) ≤ 1
-    by true = omega arith
-    by false = omega arith
-one_restart name (Call user request) = omega arith
-one_restart name (Lose actor call after) = omega arith
-one_restart name (Turn actor calls) = omega arith
-one_restart name Drain = omega arith
-
-restarts_few : (name : List ℕ) (lines : List Line) → length (restarts_of name lines) ≤ length lines
-restarts_few name [] = omega arith
-restarts_few name (line ∷ lines) =
-    let here = one_restart name line in
-    let rest = restarts_few name lines in
-    let long = length-append (restart_of name line) (restarts_of name lines) in
-    omega (arith, here, rest, long)
-
-lives_few : (named : Bool) (restarts : ℕ) → lives_by named restarts ≤ 1 + restarts
-lives_few true restarts = omega arith
-lives_few false restarts = omega arith
-
 in_few : (name : List ℕ) (lines : List Line) → length lines ≤ 4096 → lives_in name lines ≤ 4097
 in_few name lines few =
-    let lives = lives_few (is_named name lines) (length (restarts_of name lines)) in
-    let restarts = restarts_few name lines in
+    let lives = few_lives (is_named name lines) (length (restarts_of name lines)) in
+    let restarts = few_restarts name lines in
     omega (arith, lives, restarts, few)
 
 before_few : (name : List ℕ) (actors : List Actor) (lines : List Line) → length lines ≤ 4096 → lives_before name actors lines ≤ 4097 * length actors
@@ -123,7 +100,7 @@ module _ (script : Script) (is : IsScript script) where
       let few = actors_few in
       let lines = lines_few in
       let before = before_few (actor_word actor) (all_actors script) script.lines lines_few in
-      let restarts = restarts_few (actor_word actor) script.lines in
+      let restarts = few_restarts (actor_word actor) script.lines in
       let lives = before_restarts n (restarts_of (actor_word actor) script.lines) in
       omega (arith, few, lines, before, restarts, lives)
 

@@ -1,5 +1,5 @@
 -- Lines, each with its line feed, and what the text gives of them.
-use Rattle.std.proofs.Common.{◌≡◌, ℕ, ◌+◌, List, [], ◌∷◌, ◌++◌, length, Bool, false, eqb, refl, sym, ap, ◌∙◌, append_assoc, append-nil, arith}
+use Rattle.std.proofs.Common.{◌≡◌, ℕ, ◌+◌, List, [], ◌∷◌, ◌++◌, Bool, false, eqb, refl, sym, ap, ◌∙◌, append_assoc, append-nil}
 use Rattle.std.specs.List.{All, slice_split}
 use Rattle.std.proofs.lemmas.Bool.{ne_eqb}
 use Rattle.std.proofs.lemmas.List.Elements.{All-nil, All-cons, All-head, All-tail}
@@ -7,6 +7,7 @@ use Rattle.std.proofs.lemmas.List.Splits.{slice_split_at, length-slice_split}
 use Rattle.json_text.specs.Canonical.{IsLine}
 use Rattle.history_text.specs.Output.{with_line, with_lines}
 use Rattle.history_read.specs.Grammar.{lines_in, lines_of}
+use Rattle.history_read.proofs.FirstLine.{lines_more}
 
 abbrev pub joined : List (List ℕ) → List ℕ
 joined [] = []
@@ -23,11 +24,6 @@ no_feed : (line : List ℕ) → IsLine line → All (λ b. is_feed b ≡ false) 
 unfolding IsLine
 no_feed [] h = All-nil (λ b. is_feed b ≡ false)
 no_feed (x ∷ xs) h = All-cons (λ b. is_feed b ≡ false) x xs (ne_eqb x 10 h.0) (no_feed xs h.1)
-
--- parts behind a first one stay as they are
-lines_more : (line : List ℕ) (parts : List (List ℕ)) (n : ℕ) → length parts ≡ n + 1 → lines_in (line ∷ parts) ≡ line ∷ lines_in parts
-lines_more line [] n h = absurd (omega arith)
-lines_more line (part ∷ parts) n h = refl
 
 -- a line that ends in a line feed
 pub line_first : (line rest : List ℕ) → IsLine line → lines_of (line ++ 10 ∷ rest) ≡ line ∷ lines_of rest

@@ -14,7 +14,7 @@ abbrev is_feed : ℕ → Bool
 is_feed b = eqb b 10
 
 -- parts behind a first one stay as they are
-lines_more : (line : List ℕ) (parts : List (List ℕ)) (n : ℕ) → length parts ≡ n + 1 → lines_in (line ∷ parts) ≡ line ∷ lines_in parts
+pub lines_more : (line : List ℕ) (parts : List (List ℕ)) (n : ℕ) → length parts ≡ n + 1 → lines_in (line ∷ parts) ≡ line ∷ lines_in parts
 lines_more line [] n h = absurd (omega arith)
 lines_more line (part ∷ parts) n h = refl
 

@@ -110,7 +110,7 @@ module _ (setup : Setup) (past mine : List Entry) (inv : Invariant setup past) (
       let same : t.0 ≡ a = same_claim_object t.0 a (at_one setup past inv (Claim t.0) (Claim a) key given t.1 t.2.0.version (claim_at t.0 key given k t.2.0) is v) in
       subst Row same t.2.1
 
-faulty_none : (b : Bool) (f : Field) (next : Option Field) → faulty b f next ≡ None → (b ≡ false) × (next ≡ None)
+pub faulty_none : (b : Bool) (f : Field) (next : Option Field) → faulty b f next ≡ None → (b ≡ false) × (next ≡ None)
 unfolding faulty
 faulty_none true f next e = absurd (true≢false (ap is_some e))
 faulty_none false f next e = (refl, e)

@@ -1,6 +1,6 @@
 -- What each row of the licence lets a controller make of a claim, as a step.
 use Rattle.std.proofs.Common.{sym, refl, subst, inl, inr, ap, ◌∙◌, true≢false}
-use Rattle.std.specs.Prelude.{ℕ, ◌≡◌, Bool, true, false, List, is_some, option_map}
+use Rattle.std.specs.Prelude.{ℕ, ◌≡◌, true, false, List, is_some, option_map}
 use Rattle.std.proofs.lemmas.Cmp.{nat_list_cmp_total}
 use Rattle.plain_data.specs.Pairs.{Pair, value_at, put_pair, without_key}
 use Rattle.plain_data.specs.Pairs as pairs
@@ -14,7 +14,7 @@ use Rattle.kube_types.specs.Keys.{key_of}
 use Rattle.kube_types.specs.Bindings.{is_completed, bind_completed, bound_by_controller, selected_node, pvc_protection, is_empty, is_protected_claim}
 use Rattle.call_types.specs.declared.entry.Entry.{Entry}
 use Rattle.call_types.specs.declared.setup.Setup.{Setup}
-use Rattle.binder_model.specs.BindWrites.{completed_with, annotated_meta_if}
+use Rattle.binder_model.specs.BindWrites.{completed_with}
 use Rattle.binder_model.specs.BinderLicence.{MayComplete, IsBoundFor}
 use Rattle.binder_model.specs.GuardLicence.{IsDeletingVersion, TellsUnused, MayUnguardClaim}
 use Rattle.binder_model.specs.Licence.{GuardsClaim}
@@ -26,6 +26,7 @@ use Rattle.world_invariant.proofs.KeptBindings.{carries_on}
 use Rattle.world_invariant.specs.Good.{IsTrue}
 use Rattle.world_invariant.proofs.Known.{told_volume}
 use Rattle.licence_steps.proofs.Rows.{annotated_guards}
+use Rattle.model_laws.proofs.Identity.{placed_same}
 
 -- what an update and a status leave in the store
 abbrev pub stored_claim : ClaimData → ClaimData → ℕ → ClaimData
@@ -40,15 +41,10 @@ completed_guards : (o : ClaimData) (v : VolumeData) → is_protected_claim (comp
 unfolding completed_with
 completed_guards o v = annotated_guards pvc_protection (is_empty o.volume_name) bound_by_controller o.meta
 
--- the annotations of a completion leave namespace and name
-annotated_key : (b : Bool) (name : List ℕ) (m : Meta) → ((annotated_meta_if b name m).namespace ≡ m.namespace) × ((annotated_meta_if b name m).name ≡ m.name)
-annotated_key true name m = (refl, refl)
-annotated_key false name m = (refl, refl)
-
 completed_key : (o : ClaimData) (v : VolumeData) (n : ℕ) → key_of (Claim (stored_claim o (completed_with o v) n)) ≡ key_of (Claim o)
 unfolding completed_with
 completed_key o v n =
-    let k = annotated_key (is_empty o.volume_name) bound_by_controller o.meta in
+    let k = placed_same (is_empty o.volume_name) bound_by_controller o.meta in
     λ i. record { kind = kinds.PersistentVolumeClaim; namespace = k.0 i; name = k.1 i }
 
 completed_name : (o : ClaimData) (v : VolumeData) → (completed_with o v).volume_name ≡ v.meta.name
@@ -74,10 +70,10 @@ complete_step setup past mine true_of o new n row =
 
 -- the selected node is another annotation
 
-select_keeps : (node : List ℕ) (ps : List Pair) → value_at bind_completed (put_pair selected_node node ps) ≡ value_at bind_completed ps
+pub select_keeps : (node : List ℕ) (ps : List Pair) → value_at bind_completed (put_pair selected_node node ps) ≡ value_at bind_completed ps
 select_keeps node ps = ap (λ x. option_map (λ (p : Pair). p.1) x) (find-put_other nat_list_cmp_total pairs.pair_key bind_completed (selected_node, node) ps refl)
 
-clear_keeps : (ps : List Pair) → value_at bind_completed (without_key selected_node ps) ≡ value_at bind_completed ps
+pub clear_keeps : (ps : List Pair) → value_at bind_completed (without_key selected_node ps) ≡ value_at bind_completed ps
 clear_keeps ps = ap (λ x. option_map (λ (p : Pair). p.1) x) (find-without_other nat_list_cmp_total pairs.pair_key selected_node bind_completed ps refl)
 
 -- the rows SelectedNode

@@ -143,7 +143,7 @@ abbrev ValuesUtf8 : MemberList → Type 0
 ValuesUtf8 [] = ⊤
 ValuesUtf8 (p ∷ ps) = IfSome p.1 HasUtf8 × ValuesUtf8 ps
 
-put_some_utf8 : (k : List ℕ) (o : Option Data) (ms : Members) → IsUtf8 k → IfSome o HasUtf8 → MembersUtf8 ms → MembersUtf8 (put_some k o ms)
+pub put_some_utf8 : (k : List ℕ) (o : Option Data) (ms : Members) → IsUtf8 k → IfSome o HasUtf8 → MembersUtf8 ms → MembersUtf8 (put_some k o ms)
 unfolding put_some
 put_some_utf8 k None ms hk h hm = hm
 put_some_utf8 k (Some d) ms hk h hm = put_utf8 k d ms hk h hm
@@ -236,7 +236,7 @@ mode_words_utf8 : (m : Modes) → Each IsUtf8 (mode_words m)
 mode_words_utf8 m =
     each_append IsUtf8 _ _ (each_append IsUtf8 _ _ (each_append IsUtf8 _ _ (word_if_utf8 m.rwo _ refl) (word_if_utf8 m.rox _ refl)) (word_if_utf8 m.rwx _ refl)) (word_if_utf8 m.rwop _ refl)
 
-policy_utf8 : (p : Policy) → IsUtf8 (policy_word p)
+pub policy_utf8 : (p : Policy) → IsUtf8 (policy_word p)
 policy_utf8 policies.Retain = IsUtf8-are_ascii _ refl
 policy_utf8 policies.Delete = IsUtf8-are_ascii _ refl
 policy_utf8 policies.Recycle = IsUtf8-are_ascii _ refl
@@ -267,11 +267,11 @@ binding_mode_utf8 : (b : Bool) → IsUtf8 (binding_mode b)
 binding_mode_utf8 true = IsUtf8-are_ascii _ refl
 binding_mode_utf8 false = IsUtf8-are_ascii _ refl
 
-uid_utf8 : (u : Uid) → HasUtf8 (uid_data u)
+pub uid_utf8 : (u : Uid) → HasUtf8 (uid_data u)
 unfolding uid_text
 uid_utf8 u = IsUtf8-from_ascii _ (hyphenated_ascii lower (to_be_bytes w128 u.0) (inl refl))
 
-uid_option_utf8 : (o : Option Uid) → IfSome (option_map uid_data o) HasUtf8
+pub uid_option_utf8 : (o : Option Uid) → IfSome (option_map uid_data o) HasUtf8
 uid_option_utf8 None = tt
 uid_option_utf8 (Some u) = uid_utf8 u
 

@@ -40,7 +40,7 @@ TextIf o = IfSome o IsUtf8
 
 -- ---- members
 
-member_utf8 : (k : List ℕ) (ms : Members) → MembersUtf8 ms → PlaceUtf8 (get_member k ms)
+pub member_utf8 : (k : List ℕ) (ms : Members) → MembersUtf8 ms → PlaceUtf8 (get_member k ms)
 member_utf8 k no_members h = tt
 member_utf8 k (member l d ms) h = placed (slice_cmp nat_cmp k l) (member_utf8 k ms h.2)
   where

@@ -22,7 +22,7 @@ use Rattle.reclaim_ops.specs.BeginLaw.{EraseCallsReadNoKind, lists_or_watches}
 use Rattle.reclaim_ops.specs.Erasures.{call_at, erase_call, fail_call, volume_key}
 use Rattle.reclaim_ops.specs.Evidence.{EraseKeeps, EraseStepKeeps, MayDeleteErased, MayEraseData, MayRead, MayWriteFailed}
 
-answered : (mine : List Entry) (a b : Request) → Some a ≡ Some b → OpsMay mine a → OpsMay mine b
+pub answered : (mine : List Entry) (a b : Request) → Some a ≡ Some b → OpsMay mine a → OpsMay mine b
 answered mine a b e may = subst (λ r. OpsMay mine r) (one a b e) may
 
 reads : (v : VolumeData) (mine : List Entry) → MayRead v mine → OpsMay mine (requests.Get (volume_key v))

@@ -1,5 +1,5 @@
 -- The next call of a claim's machine is allowed by its evidence; and it neither lists nor watches.
-use Rattle.std.proofs.Common.{◌≡◌, ℕ, List, false, Option, Some, refl, sym, ap, subst}
+use Rattle.std.proofs.Common.{◌≡◌, ℕ, List, false, Option, Some, refl, sym, ap}
 use Rattle.plain_data.specs.Pairs.{Pair}
 use Rattle.kube_types.specs.declared.uid.Uid.{Uid}
 use Rattle.kube_types.specs.declared.objects.DataId.{DataId}
@@ -20,9 +20,7 @@ use Rattle.reclaim_ops.specs.declared.provision.ProvisionStep.TheVariants as ste
 use Rattle.reclaim_ops.specs.BeginLaw.{ProvisionCallsReadNoKind, lists_or_watches}
 use Rattle.reclaim_ops.specs.Evidence.{MayAsk, MayClear, MayCreateOver, ProvisionKeeps, ProvisionStepKeeps}
 use Rattle.reclaim_ops.specs.Provisions.{ask_call, call_at, clear_call, create_call, provision_call, unselected}
-
-answered : (mine : List Entry) (a b : Request) → Some a ≡ Some b → OpsMay mine a → OpsMay mine b
-answered mine a b e may = subst (λ r. OpsMay mine r) (one a b e) may
+use Rattle.reclaim_ops.proofs.EraseAllowed.{answered}
 
 asks : (c : ClaimData) (uid : Uid) (x : ClassData) (labels : Option (List Pair)) (mine : List Entry) → MayAsk c uid x labels mine → OpsMay mine (ask_call c uid x labels)
 asks c uid x labels mine kept = record {

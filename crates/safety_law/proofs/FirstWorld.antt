@@ -64,7 +64,7 @@ record IsClaimImport (imports : List Object) (c : ClaimData) : Type 0 where
   among : IsIn (Claim origin) imports
   is : c ≡ imported_claim imports origin
 
-other_kind : {G : Type 0} (a b : Object) → a ≡ b → (kind_index (key_of a).kind ≡ kind_index (key_of b).kind → ⊥) → G
+pub other_kind : {G : Type 0} (a b : Object) → a ≡ b → (kind_index (key_of a).kind ≡ kind_index (key_of b).kind → ⊥) → G
 other_kind a b e no_kind = absurd (no_kind (ap (λ o. kind_index (key_of o).kind) e))
 
 volume_import : (imports : List Object) (v : VolumeData) → ComesFrom imports imports (Volume v) → IsVolumeImport imports v

@@ -25,7 +25,7 @@ use Rattle.script_laws.specs.Given.{IsCount, IsLineAfter}
 use Rattle.script_laws.specs.Limits.{IsShort, IsShortObject, LineHasShortObject, CallFits, LineFits, ScriptFits}
 use Rattle.script_laws.specs.Scripts.{AreLinesAfter}
 
-count_small : (most n : ℕ) → IsCount most n → n ≤ most
+pub count_small : (most n : ℕ) → IsCount most n → n ≤ most
 count_small most n is = leb-true n most (and_parts (nat_le 1 n) (nat_le n most) is).1
 
 -- ---- objects

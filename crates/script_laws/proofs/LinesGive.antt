@@ -1,27 +1,22 @@
 -- What the readers of lines give are lines that a text can give, and their JSON is UTF-8.
-use Rattle.std.proofs.Common.{ℕ, ◌<◌, ◌≤◌, ◌^◌, ◌==◌, nat_le, List, [], ◌∷◌, ◌++◌, Bool, true, false, if◌then◌else◌, Option, Some, None, IfSome, Result, Ok, IfOk, IsUtf8, codes, decimal, option_map, inl, refl, arith}
+use Rattle.std.proofs.Common.{ℕ, ◌<◌, ◌≤◌, ◌^◌, ◌==◌, nat_le, List, [], ◌∷◌, ◌++◌, Bool, true, false, if◌then◌else◌, Option, Some, None, IfSome, Result, Ok, IfOk, IsUtf8, codes, decimal, option_map, refl, arith}
 use Rattle.std.specs.Bool.{⊤}
 use Rattle.std.proofs.lemmas.Bool.{and_parts, leb-true}
 use Rattle.std.proofs.lemmas.Str.{IsUtf8-from_ascii}
 use Rattle.std.proofs.lemmas.Fmt.{IsAscii-decimal}
 use Rattle.json.proofs.Printed.Utf8.{IsUtf8-are_ascii}
-use Rattle.std.specs.Int.{to_be_bytes, w128}
-use Rattle.uuid.specs.Text.{lower}
-use Rattle.uuid.proofs.TextLemmas.{hyphenated_ascii}
 use Rattle.serde_json.specs.Written.{has_float}
 use Rattle.serde_json.specs.Data.{Data, null, boolean, number, string, array, object, Members, no_members}
 use Rattle.json_text.specs.Build.{number_data, put_some, put_all}
 use Rattle.json_text.specs.Members.{MemberList, text, whole, object_of}
 use Rattle.plain_data.specs.Pairs.{Pair}
-use Rattle.kube_types.specs.Uids.{uid_text}
 use Rattle.kube_types.specs.Named.{policy_named}
-use Rattle.kube_types.specs.Words.{kind_word, policy_word}
+use Rattle.kube_types.specs.Words.{kind_word}
 use Rattle.kube_types.specs.declared.parts.Kind.{Kind}
 use Rattle.kube_types.specs.declared.parts.Kind.TheVariants as kinds
 use Rattle.kube_types.specs.declared.parts.Policy.{Policy}
 use Rattle.kube_types.specs.declared.parts.Policy.TheVariants as policies
 use Rattle.kube_types.specs.declared.key.Key.{Key}
-use Rattle.kube_types.specs.declared.uid.Uid.{Uid}
 use Rattle.kube_types.specs.declared.objects.Object.{Object}
 use Rattle.call_types.specs.declared.edit.Edit.{Edit}
 use Rattle.call_types.specs.declared.edit.Edit.TheVariants as edits
@@ -32,8 +27,8 @@ use Rattle.object_text.specs.declared.errors.Member.TheVariants as manifests
 use Rattle.object_text.specs.Reading.{value_of}
 use Rattle.object_laws.specs.Given.{IsUid}
 use Rattle.object_laws.proofs.GivesParts.{of_ok}
-use Rattle.object_laws.proofs.Utf8Texts.{HasUtf8, MembersUtf8, put_utf8}
-use Rattle.object_laws.proofs.Utf8Objects.{line_utf8}
+use Rattle.object_laws.proofs.Utf8Texts.{HasUtf8, MembersUtf8}
+use Rattle.object_laws.proofs.Utf8Objects.{line_utf8, policy_utf8, put_some_utf8, uid_option_utf8}
 use Rattle.object_laws.proofs.Utf8Kinds.{value_read_utf8}
 use Rattle.object_laws.proofs.Canonical.{object_good}
 use Rattle.json_text.proofs.ReadBack.{read-compact_text}
@@ -61,11 +56,6 @@ use Rattle.script_laws.proofs.MembersGive.{text_of_gives, text_gives, count_give
 abbrev pub PairsUtf8 : MemberList → Type 0
 PairsUtf8 [] = ⊤
 PairsUtf8 (p ∷ ps) = IsUtf8 p.0 × IfSome p.1 HasUtf8 × PairsUtf8 ps
-
-put_some_utf8 : (k : List ℕ) (o : Option Data) (ms : Members) → IsUtf8 k → IfSome o HasUtf8 → MembersUtf8 ms → MembersUtf8 (put_some k o ms)
-unfolding put_some
-put_some_utf8 k None ms hk h hm = hm
-put_some_utf8 k (Some d) ms hk h hm = put_utf8 k d ms hk h hm
 
 put_all_utf8 : (ps : MemberList) (ms : Members) → PairsUtf8 ps → MembersUtf8 ms → MembersUtf8 (put_all ps ms)
 put_all_utf8 [] ms h hm = hm
@@ -97,11 +87,6 @@ kind_utf8 kinds.Node = IsUtf8-are_ascii _ refl
 kind_utf8 kinds.PersistentVolume = IsUtf8-are_ascii _ refl
 kind_utf8 kinds.PersistentVolumeClaim = IsUtf8-are_ascii _ refl
 kind_utf8 kinds.Pod = IsUtf8-are_ascii _ refl
-
-policy_utf8 : (p : Policy) → IsUtf8 (policy_word p)
-policy_utf8 policies.Retain = IsUtf8-are_ascii _ refl
-policy_utf8 policies.Delete = IsUtf8-are_ascii _ refl
-policy_utf8 policies.Recycle = IsUtf8-are_ascii _ refl
 
 if_text_utf8 : (b : Bool) (s : List ℕ) → IsUtf8 s → IfSome (if b then text s else None) HasUtf8
 if_text_utf8 true s h = h
@@ -140,14 +125,6 @@ unfolding object_line
 object_utf8 o h =
     let good = object_good o h.given.given in
     of_ok HasUtf8 (value_of (object_line o)) (object_data o) (value_read_utf8 (object_line o)) (rw (line_utf8 o h.given.given h.utf8, read-compact_text (object_data o) good.canonical good.shallow) refl)
-
-uid_utf8 : (u : Uid) → HasUtf8 (uid_data u)
-unfolding uid_text
-uid_utf8 u = IsUtf8-from_ascii _ (hyphenated_ascii lower (to_be_bytes w128 u.0) (inl refl))
-
-uid_option_utf8 : (o : Option Uid) → IfSome (option_map uid_data o) HasUtf8
-uid_option_utf8 None = tt
-uid_option_utf8 (Some u) = uid_utf8 u
 
 -- ---- edits
 

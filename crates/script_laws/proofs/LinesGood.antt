@@ -1,6 +1,5 @@
 -- A printed line is canonical, and nests one level deeper than its object.
-use Rattle.std.proofs.Common.{ℕ, suc, ◌<◌, ◌≤◌, ◌^◌, ◌==◌, nat_le, List, [], ◌∷◌, ◌++◌, Bool, true, false, if◌then◌else◌, Option, Some, None, option_map, codes, arith}
-use Rattle.std.proofs.lemmas.Bool.{and_parts, leb-true}
+use Rattle.std.proofs.Common.{ℕ, suc, ◌<◌, ◌^◌, ◌==◌, List, [], ◌∷◌, ◌++◌, Bool, true, false, if◌then◌else◌, Option, Some, None, option_map, codes, arith}
 use Rattle.serde_json.specs.Data.{boolean, string}
 use Rattle.json_text.specs.Build.{number_data, Good, GoodOption, GoodPairs}
 use Rattle.json_text.specs.Members.{MemberList, text, whole}
@@ -25,6 +24,7 @@ use Rattle.script_text.specs.declared.script.Line.{Line}
 use Rattle.script_text.specs.declared.script.Line.TheVariants.{Call, Lose, Restart, Turn, Drain}
 use Rattle.script_print.specs.Printing.{user_pairs, line_key_pairs, call_pairs, line_pairs, line_data, pool_pairs, pool_data, fault_data}
 use Rattle.script_laws.specs.Given.{IsCount, IsLineObject, IsUsersCall, IsLineAfter}
+use Rattle.script_laws.proofs.Lengths.{count_small}
 
 -- ---- members
 
@@ -33,9 +33,6 @@ good_number k small = record { canonical = small; shallow = omega arith }
 
 good_boolean : {n : ℕ} (b : Bool) → Good n (boolean b)
 good_boolean b = record { canonical = tt; shallow = omega arith }
-
-count_small : (most n : ℕ) → IsCount most n → n ≤ most
-count_small most n is = leb-true n most (and_parts (nat_le 1 n) (nat_le n most) is).1
 
 good_count : {n : ℕ} (most k : ℕ) → most < 2 ^ 64 → IsCount most k → Good n (number_data k)
 good_count most k small is = let le = count_small most k is in good_number k (omega arith)

@@ -30,7 +30,7 @@ use Rattle.script_text.specs.declared.script.Line.{Line}
 use Rattle.script_text.specs.declared.script.Meaning.{Meaning}
 use Rattle.script_text.specs.declared.script.Meaning.TheVariants as meanings
 use Rattle.script_text.specs.declared.script.Script.{Script}
-use Rattle.script_text.specs.Said.{Said, nothing_said, and_said, and_node, created_node, agents_after, agents_of, losses_of, restarts_of, numbered_of}
+use Rattle.script_text.specs.Said.{Said, nothing_said, and_said, and_node, created_node, agents_of, losses_of, restarts_of, numbered_of}
 use Rattle.script_text.specs.Steps.Indexed.{AreFaults}
 use Rattle.script_text.specs.LineReaders.{create_line, update_line, edit_line, delete_line, get_line, list_line, time_line, pool_line, fault_line, lose_line, restart_line, turn_line, verb_at, as_line, meaning_by, meaning_of}
 use Rattle.script_text.specs.Grammar.{most_line_bytes, most_lines, most_pools, most_faults, passed, limit_of, line_limit, unless_passed, is_blank, line_value, and_filled, and_line, create_by, own_create, node_from, agents_beside, agents_in, lines_of, at_line, said_from, numbered_from, read_numbered_of, script_from, script_of}
@@ -43,6 +43,7 @@ use Rattle.script_laws.proofs.MembersGive.{AreAgents}
 use Rattle.script_laws.proofs.LinesGive.{LineGiven, create_gives, update_gives, edit_gives, delete_gives, get_gives, list_gives, time_gives, lose_gives, restart_gives, turn_gives, drain_given}
 use Rattle.script_laws.proofs.LinesRead.{blank_node}
 use Rattle.script_laws.proofs.SetupGives.{PoolGiven, IsPool, pool_gives, IsFault, fault_gives}
+use Rattle.script_text.proofs.Indexes.{agents_more}
 
 -- ---- what one line means
 
@@ -406,10 +407,6 @@ value_node agents said d h = verb_step agents said d (verb_at d) h
 -- the agents with what a line creates are those of the lines with it
 abbrev StillAgents : Said → Option (List ℕ) → Said → Type 0
 StillAgents said node now = and_node (agents_of said.lines) node ≡ agents_of now.lines
-
-agents_more : (agents : List Pair) (lines : List Line) (line : Line) → agents_after agents (lines ++ line ∷ []) ≡ and_node (agents_after agents lines) (created_node line)
-agents_more agents [] line = refl
-agents_more agents (l ∷ ls) line = agents_more (and_node agents (created_node l)) ls line
 
 meaning_agents : (said : Said) (n : ℕ) (meaning : Meaning) → StillAgents said (meaning_node meaning) (and_said said n meaning)
 unfolding meaning_node

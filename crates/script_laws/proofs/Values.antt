@@ -17,8 +17,8 @@ use Rattle.object_text.specs.declared.errors.ObjectError.{ObjectError}
 use Rattle.object_laws.proofs.PartsRead.{IsTaken, HasTakenParts, read_taken, taken_reads, taken_parts, taken_member}
 use Rattle.object_laws.proofs.Gives.{IsSound}
 use Rattle.object_laws.proofs.GivesParts.{if_ok}
-use Rattle.object_laws.proofs.Utf8Texts.{HasUtf8, MembersUtf8}
-use Rattle.object_laws.proofs.Utf8Readers.{PlaceUtf8}
+use Rattle.object_laws.proofs.Utf8Texts.{HasUtf8}
+use Rattle.object_laws.proofs.Utf8Readers.{member_utf8}
 use Rattle.object_laws.proofs.Utf8Kinds.{value_read_utf8}
 use Rattle.script_laws.proofs.Kept.{IsSoundLess}
 use Rattle.script_lines.specs.declared.line_member.LineMember.{LineMember}
@@ -75,15 +75,6 @@ line_was_read text = by (value_of text) (taken_value text) (value_read_utf8 text
     by (Err e) t u = tt
 
 -- ---- members
-
-member_utf8 : (k : List ℕ) (ms : Members) → MembersUtf8 ms → PlaceUtf8 (get_member k ms)
-member_utf8 k no_members h = tt
-member_utf8 k (member l d ms) h = placed (slice_cmp nat_cmp k l) (member_utf8 k ms h.2)
-  where
-    placed : (o : Ordering) → PlaceUtf8 (get_member k ms) → PlaceUtf8 (match_ordering o (get_member k ms) (Some d) (get_member k ms))
-    placed Less rest = rest
-    placed Equal rest = h.1
-    placed Greater rest = rest
 
 abbrev IsShallow : ℕ → Data → Type 0
 IsShallow n d = depth d ≤ n

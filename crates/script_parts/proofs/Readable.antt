@@ -30,6 +30,7 @@ use Rattle.script_laws.specs.Scripts.{AreLinesAfter, IsScript}
 use Rattle.script_laws.proofs.MembersGive.{AreAgents}
 use Rattle.script_laws.proofs.TextsGive.{ScriptGiven, agents_and, script_gives}
 use Rattle.script_parts.specs.Limits.{AreInOrder, AreWithinLimits, IsKnown, IsReadable, IsWithinLimits, NameKnown, NamesKnown}
+use Rattle.script_text.proofs.Indexes.{agents_more}
 
 -- ---- numbers of lines
 
@@ -53,10 +54,6 @@ lines_within agents before [] are = tt
 lines_within agents before (line ∷ lines) are = (line_within agents before line are.0, lines_within agents (before ++ line ∷ []) lines are.2)
 
 -- ---- the nodes of lines
-
-agents_more : (agents : List Pair) (lines : List Line) (line : Line) → agents_after agents (lines ++ line ∷ []) ≡ and_node (agents_after agents lines) (created_node line)
-agents_more agents [] line = refl
-agents_more agents (l ∷ ls) line = agents_more (and_node agents (created_node l)) ls line
 
 same_agents : (lines : List Line) (line : Line) → created_node line ≡ None → length (agents_of lines) ≤ 8 → length (agents_of (lines ++ line ∷ [])) ≤ 8
 same_agents lines line none few =

@@ -273,7 +273,7 @@ few_restarts name (line ∷ lines) =
     let long = length-append (restart_of name line) (restarts_of name lines) in
     omega (arith, here, rest, long)
 
-few_lives : (named : Bool) (restarts : ℕ) → lives_by named restarts ≤ 1 + restarts
+pub few_lives : (named : Bool) (restarts : ℕ) → lives_by named restarts ≤ 1 + restarts
 few_lives true restarts = omega arith
 few_lives false restarts = omega arith
 

@@ -1,5 +1,5 @@
 mod Beginning
-mod Casting
+pub mod Casting
 mod Calling
 mod Ending
 mod Lived
@@ -7,7 +7,7 @@ mod Lives
 mod Moving
 mod Needs
 mod Orders
-mod Since
+pub mod Since
 mod Staging
 mod Stepping
 mod Turning

@@ -9,7 +9,7 @@ use Rattle.call_types.specs.declared.request.Request.{Request}
 use Rattle.call_types.specs.declared.request.Request.TheVariants as requests
 use Rattle.call_types.specs.declared.request.SeatKind.{SeatKind}
 use Rattle.call_types.specs.declared.reply.Reply.{Reply}
-use Rattle.binder_model.specs.Reading.{Following, Unlisted, ListedAt, following_of, follows}
+use Rattle.binder_model.specs.Reading.{Unlisted, following_of, follows}
 use Rattle.binder_machines.specs.KindLaw.{reads_kind}
 use Rattle.informer_cache.specs.declared.cache.Ask.{Ask}
 use Rattle.informer_cache.specs.declared.cache.Ask.TheVariants as asks
@@ -35,6 +35,7 @@ use Rattle.worker_core.proofs.ByKind.{placed, start_reads_none}
 use Rattle.worker_core.proofs.Machines.{task_reads_none, under_calls}
 use Rattle.worker_core.proofs.Passes.{kept_pass, untold_pass, watch_pass}
 use Rattle.worker_core.proofs.Quiet.{alike, quiet_listed, quiet_on, unread}
+use Rattle.worker_core.proofs.Absorbing.{list_unlisted}
 use Rattle.script_runs.specs.Calls.{IsQuietSince}
 use Rattle.script_runs.specs.Steps.Playing.{StandsSince}
 
@@ -70,11 +71,6 @@ no_news kind (e ∷ recent) earlier quiet = by (e.told && reads_kind kind e.requ
 abbrev is_list : Ask → Bool
 is_list asks.List = true
 is_list (asks.Watch from) = false
-
-list_unlisted : (f : Following) → ask_from (watch_from f) ≡ asks.List → f ≡ Unlisted
-list_unlisted Unlisted e = refl
-list_unlisted (ListedAt version None) e = absurd (true≢false (sym (ap is_list e)))
-list_unlisted (ListedAt version (Some upto)) e = absurd (true≢false (sym (ap is_list e)))
 
 -- a list of a kind that is not listed
 list_recent : (role : Role) (pass : Pass) (recent earlier : List Entry) (e : Entry) (kind : Kind) → IsBuiltKind role.kind → PassStands role pass recent → AreLicensed role.kind (recent ++ earlier) → following_of (recent ++ earlier) kind ≡ Unlisted → e.request ≡ requests.List kind None → PassStands role pass (e ∷ recent)

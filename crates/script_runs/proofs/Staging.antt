@@ -1,5 +1,5 @@
 -- What the moves of a script leave standing.
-use Rattle.std.proofs.Common.{◌≡◌, ◌≢◌, ◌⊎◌, ℕ, ◌<◌, ◌≤◌, ◌+◌, ◌-◌, zero, suc, List, [], ◌∷◌, length, set, Bool, true, false, true≢false, Option, Some, inl, inr, refl, sym, ◌∙◌, ap, subst, arith}
+use Rattle.std.proofs.Common.{◌≡◌, ◌≢◌, ◌⊎◌, ℕ, ◌<◌, ◌≤◌, ◌+◌, ◌-◌, zero, suc, List, [], ◌∷◌, length, set, Bool, true, false, Option, Some, inl, inr, refl, sym, ◌∙◌, ap, subst, arith}
 use Rattle.std.specs.Prelude.{◌==◌, bytes_eq, slice_get}
 use Rattle.std.proofs.lemmas.Bool.Decides.{Decides-eqb}
 use Rattle.std.proofs.lemmas.Slice.Eq.{bytes_eq-Decides}
@@ -36,6 +36,7 @@ use Rattle.script_runs.proofs.Casting.{in_order, names_differ, names_in}
 use Rattle.script_runs.proofs.Lived.{lives_on}
 use Rattle.script_runs.proofs.Lives.{seat_within}
 use Rattle.script_runs.proofs.Orders.{get_set_other, get_set_same, life_between, one_owner, other_name, part_at_place, parts_set}
+use Rattle.worker_threads.proofs.RoundFacts.{same_or_not}
 
 -- ---- the parts of a script
 
@@ -139,13 +140,6 @@ module _ (script : Script) (option : Option ℕ) (user : ℕ) (request : Request
       drains_above seat own = after_users (all_lives (all_actors script) script.lines) seat (drains_last script seat own)
 
 -- ---- an actor's turn
-
-same_or_not : (i j : ℕ) → (i ≡ j) ⊎ (i ≢ j)
-same_or_not i j = by (i == j) refl
-  where
-    by : (b : Bool) → (i == j) ≡ b → (i ≡ j) ⊎ (i ≢ j)
-    by true e = inl ((Decides-eqb i j).0 e)
-    by false e = inr (λ is. true≢false (sym ((Decides-eqb i j).1 is) ∙ e))
 
 -- a player of a list in which one has been put is that one, or stands at another place
 pub set_cases : (xs : List Player) (place : ℕ) (after : Player) (j : ℕ) (y : Player) → place < length xs → slice_get (set xs place after) j ≡ Some y → ((j ≡ place) × (after ≡ y)) ⊎ ((j ≢ place) × (slice_get xs j ≡ Some y))

@@ -21,7 +21,7 @@ use Rattle.script_lines.specs.declared.errors.Reason.TheVariants.{TooManyObjects
 use Rattle.script_text.specs.Grammar.{most_objects, most_nodes, most_losses, most_restarts, most_calls, create_limit, line_limit}
 use Rattle.script_text.proofs.NumberRows.{numbers_more}
 
-agents_more : (agents : List Pair) (lines : List Line) (line : Line) → agents_after agents (lines ++ line ∷ []) ≡ and_node (agents_after agents lines) (created_node line)
+pub agents_more : (agents : List Pair) (lines : List Line) (line : Line) → agents_after agents (lines ++ line ∷ []) ≡ and_node (agents_after agents lines) (created_node line)
 agents_more agents [] line = refl
 agents_more agents (l ∷ ls) line = agents_more (and_node agents (created_node l)) ls line
 

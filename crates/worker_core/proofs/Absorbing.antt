@@ -64,7 +64,7 @@ abbrev is_list : Ask → Bool
 is_list asks.List = true
 is_list (asks.Watch from) = false
 
-list_unlisted : (f : Following) → ask_from (watch_from f) ≡ asks.List → f ≡ Unlisted
+pub list_unlisted : (f : Following) → ask_from (watch_from f) ≡ asks.List → f ≡ Unlisted
 list_unlisted Unlisted e = refl
 list_unlisted (ListedAt version None) e = absurd (true≢false (sym (ap is_list e)))
 list_unlisted (ListedAt version (Some upto)) e = absurd (true≢false (sym (ap is_list e)))

@@ -16,16 +16,13 @@ use Rattle.worker_core.specs.declared.task.First.TheVariants as firsts
 use Rattle.worker_core.specs.Absorbs.{all_added, kind_added, kinds_added}
 use Rattle.worker_core.specs.States.{is_parked, waits}
 use Rattle.worker_core.specs.Turns.{dropped}
+use Rattle.binder_machines.proofs.Tests.{either}
 
 pub is_key : (a b : Key) → same_key a b ≡ true → a ≡ b
 is_key a b e = (same_key-Decides a b).0 e
 
 in_front : (key : Key) (xs ys : List Key) → list_any (same_key key) xs ≡ true → list_any (same_key key) (xs ++ ys) ≡ true
 in_front key xs ys e = any-append (same_key key) xs ys ∙ ap (λ b. b || list_any (same_key key) ys) e
-
-either : (a b : Bool) → (a || b) ≡ true → (a ≡ true) ⊎ (b ≡ true)
-either true b e = inl refl
-either false b e = inr e
 
 only : (b : Bool) → (b || false) ≡ true → b ≡ true
 only true e = refl

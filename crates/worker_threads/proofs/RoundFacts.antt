@@ -88,7 +88,7 @@ seat_at ds i d at = slice_get-map (λ (x : Drainer). x.seat) ds i ∙ ap (option
 some_is : {X : Type 0} (a b : X) → Some a ≡ Some b → a ≡ b
 some_is a b e = cc
 
-same_or_not : (i j : ℕ) → (i ≡ j) ⊎ (i ≢ j)
+pub same_or_not : (i j : ℕ) → (i ≡ j) ⊎ (i ≢ j)
 same_or_not i j = by (i == j) refl
   where
     by : (b : Bool) → (i == j) ≡ b → (i ≡ j) ⊎ (i ≢ j)
