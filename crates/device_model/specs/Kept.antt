@@ -12,8 +12,8 @@ use Rattle.binder_model.specs.Devices.{Data, MountAt, Devices, DeviceAnswer, epo
 use Rattle.device_model.specs.declared.kept.StoredData.{StoredData}
 use Rattle.device_model.specs.declared.devices.DeviceCounts.{DeviceCounts}
 use Rattle.device_model.specs.declared.mounts.NodeRows.{NodeRows}
-use Rattle.device_model.specs.declared.kept.Move.{Move}
-use Rattle.device_model.specs.declared.kept.Move.TheVariants as moves
+use Rattle.device_model.specs.declared.devices.Move.{Move}
+use Rattle.device_model.specs.declared.devices.Move.TheVariants as moves
 
 -- the devices with what they began with
 pub record State : Type 0 where

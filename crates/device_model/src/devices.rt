@@ -1,14 +1,14 @@
 //! The devices and their calls.
 
-ghost use Rattle.std.specs.Prelude.{◌≡◌, ◌+◌, ◌<◌, ◌^◌, ◌++◌, true, [], Some, IfOk, OnOk, OnErr, codes, decimal, length, map, option_map};
+ghost use Rattle.std.specs.Prelude.{◌≡◌, ◌+◌, ◌<◌, ◌^◌, true, [], Some, IfOk, OnOk, OnErr, map, option_map};
 ghost use Rattle.std.specs.Option.{option_copied};
 ghost use Rattle.call_types.specs.declared.reply.Reply.TheVariants as replies;
 ghost use Rattle.call_types.specs.declared.reply.Refusal.TheVariants as refusals;
-ghost use Rattle.binder_model.specs.Devices.{DeviceAnswer, data_named, device_answer, epoch_of, erase, first_fit, fresh_id, has_data, no_devices, pool_fits, provision, provision_new, put_mount, epoch_if_stale, take_node, rows_on, topology_at, unless_planned, unless_stale, with_mount, with_mounts, without_mount};
+ghost use Rattle.binder_model.specs.Devices.{data_named, device_answer, epoch_of, erase, first_fit, fresh_id, has_data, no_devices, pool_fits, provision, provision_new, put_mount, epoch_if_stale, take_node, rows_on, topology_at, unless_planned, unless_stale, with_mount, with_mounts, without_mount};
 ghost use Rattle.device_model.specs.Kept.{State, after, answer_after, counts, is_for_back_end, is_for_devices, is_for_mounts, mount_at, taken_epoch};
 
 use crate::epochs::epoch_of;
-use crate::kept::{Move, StoredData};
+use crate::kept::StoredData;
 use crate::mounts::{Mounts, rows_with, rows_without};
 use crate::pools::{
     count_there, data_named, erase_all, first_fit, has_id, has_name, is_planned, most_free,
@@ -18,7 +18,7 @@ use call_types::reply::{MountRow, Refusal, Reply};
 use call_types::request::Request;
 use call_types::setup::{Pool, Setup};
 use itoa::Buffer;
-use kube_types::copies::{OutOfMemory, Plain, copy_all, copy_option};
+use kube_types::copies::{OutOfMemory, Plain, copy_all};
 use kube_types::items::Items;
 use kube_types::objects::DataId;
 use kube_types::pairs::Pairs;
@@ -36,7 +36,6 @@ pub struct DeviceCounts {
 }
 
 /// The back ends and the nodes. Contracts see what they began with, and the lists of the definitions.
-#[derive(Debug)]
 pub struct Devices {
     alloc: Global,
     setup: Setup,
@@ -84,6 +83,60 @@ pub fn is_for_devices(request: &Request) -> bool
         Request::Mount { .. } => true,
         Request::Unmount { .. } => true,
         _ => false,
+    }
+}
+
+/// The one change of a call. `Counts`, `Gives` and `Erases` count a call of a back end, too.
+pub enum Move {
+    Stays,
+    Counts,
+    Gives(StoredData),
+    Erases(DataId),
+    Takes(Text, u64),
+    Mounts(Text, MountRow),
+    Unmounts(Text, Uid),
+}
+
+impl Drop for Move {
+    fn drop(self) {
+        match self {
+            Move::Stays | Move::Counts => {}
+            Move::Gives(data) => drop(data),
+            Move::Erases(id) => drop(id),
+            Move::Takes(node, _) => drop(node),
+            Move::Mounts(node, row) => {
+                drop(node);
+                drop(row);
+            }
+            Move::Unmounts(node, _) => drop(node),
+        }
+    }
+}
+
+impl Move {
+    /// Makes the change. It may take memory, and then nothing has changed.
+    fn make(self, devices: &mut Devices) -> Result<(), OutOfMemory>
+        requires { devices.old.devices.calls < 2 ^ 63 }
+        ensures setup { devices.new.setup ≡ devices.old.setup }
+        ensures ok { OnOk result (devices.new.devices ≡ after devices.old.devices self) }
+        ensures err { OnErr result (devices.new ≡ devices.old) }
+    {
+        match self {
+            Move::Stays => (),
+            Move::Counts => devices.calls += 1,
+            Move::Gives(data) => {
+                devices.stored.insert(0, data)?;
+                devices.calls += 1;
+            }
+            Move::Erases(id) => {
+                erase_all(&mut devices.stored, &id);
+                devices.calls += 1;
+            }
+            Move::Takes(node, epoch) => devices.epochs.insert(0, (node, epoch))?,
+            Move::Mounts(node, row) => devices.mounts.put(devices.alloc, node, row)?,
+            Move::Unmounts(node, pod) => devices.mounts.take_out(&node, pod),
+        }
+        Ok(())
     }
 }
 
@@ -326,31 +379,6 @@ impl Devices {
         }
     }
 
-    /// Makes the change. It may take memory, and then nothing has changed.
-    fn apply(&mut self, change: Move) -> Result<(), OutOfMemory>
-        requires { self.old.devices.calls < 2 ^ 63 }
-        ensures setup { self.new.setup ≡ self.old.setup }
-        ensures ok { OnOk result (self.new.devices ≡ after self.old.devices change) }
-        ensures err { OnErr result (self.new ≡ self.old) }
-    {
-        match change {
-            Move::Stays => (),
-            Move::Counts => self.calls += 1,
-            Move::Gives(data) => {
-                self.stored.insert(0, data)?;
-                self.calls += 1;
-            }
-            Move::Erases(id) => {
-                erase_all(&mut self.stored, &id);
-                self.calls += 1;
-            }
-            Move::Takes(node, epoch) => self.epochs.insert(0, (node, epoch))?,
-            Move::Mounts(node, row) => self.mounts.put(self.alloc, node, row)?,
-            Move::Unmounts(node, pod) => self.mounts.take_out(&node, pod),
-        }
-        Ok(())
-    }
-
     /// Answers a request of devices. No world has made as many calls as the numbers here allow.
     pub fn call(&mut self, request: &Request) -> Result<Reply, OutOfMemory>
         requires request { is_for_devices request.now ≡ true }
@@ -361,7 +389,7 @@ impl Devices {
         ensures err { OnErr result (self.new ≡ self.old) }
     {
         let (change, reply) = self.outcome(request)?;
-        self.apply(change)?;
+        change.make(self)?;
         Ok(reply)
     }
 

@@ -1,12 +1,9 @@
-//! What the devices keep, and the change that a call makes.
+//! What the devices keep.
 
-use call_types::reply::MountRow;
 use kube_types::objects::DataId;
 use kube_types::text::Text;
-use kube_types::uid::Uid;
 
 /// Data that the pool at a place gave; there until they are erased.
-#[derive(Debug)]
 pub struct StoredData {
     pub id: DataId,
     pub name: Text,
@@ -27,16 +24,4 @@ impl Drop for StoredData {
         drop(id);
         drop(name);
     }
-}
-
-/// The one change of a call. `Counts`, `Gives` and `Erases` count a call of a back end, too.
-#[derive(Debug, Drop)]
-pub enum Move {
-    Stays,
-    Counts,
-    Gives(StoredData),
-    Erases(DataId),
-    Takes(Text, u64),
-    Mounts(Text, MountRow),
-    Unmounts(Text, Uid),
 }

@@ -17,7 +17,6 @@ use std::cmp::Ordering;
 use std::marker::Model;
 
 /// The rows of a node, in the order of mounting.
-#[derive(Debug)]
 pub struct NodeRows {
     pub node: Text,
     pub rows: Vec<MountRow>,
@@ -147,7 +146,7 @@ pub fn rows_without(
 }
 
 /// What is mounted, by node, and on a node in the order of mounting. Contracts see the one list of these rows.
-#[derive(Debug, Drop)]
+#[derive(Drop)]
 pub struct Mounts {
     nodes: Vec<NodeRows>,
 }

@@ -3,7 +3,7 @@
 ghost use Rattle.std.specs.Prelude.{◌≡◌, ◌&&◌, bytes_eq, map, option_map};
 ghost use Rattle.std.specs.List.{list_any};
 ghost use Rattle.std.specs.Option.{option_copied};
-ghost use Rattle.binder_model.specs.Devices.{data_named, erase_one, data_after_erase, first_fit, free_bytes, has_id, is_planned, most_free, same_id, serves, topology_at, used_bytes, would_serve};
+ghost use Rattle.binder_model.specs.Devices.{data_named, erase_one, data_after_erase, first_fit, free_bytes, has_id, is_planned, most_free, same_id, serves, topology_at, would_serve};
 ghost use Rattle.device_model.specs.Kept.{count_there, stored_data};
 
 use crate::kept::StoredData;

@@ -8,39 +8,43 @@ ghost use Rattle.kube_types.specs.Keys.{meta_of};
 ghost use Rattle.binder_model.specs.Store.{with_meta, with_finalizer};
 ghost use Rattle.binder_model.specs.Edits.{edited_object, with_volume_name, without_name};
 
+use crate::writes::meta_mut;
 use call_types::edit::Edit;
 use field_rules::add_finalizer;
 use kube_types::bindings::BOUND_BY_CONTROLLER;
 use kube_types::copies::{OutOfMemory, Plain};
 use kube_types::key::meta_of;
-use kube_types::objects::{Object, Ref, Volume};
+use kube_types::objects::{Claim, Object, Ref, Volume};
 use kube_types::pairs::Pairs;
 use kube_types::parts::Policy;
 use kube_types::text::{Names, Text};
 use std::alloc::Global;
 
-#[tactic(auto, unfolding(binder_model::specs::Store::with_meta))]
 fn with_finalizers(mut object: Object, finalizers: Names) -> Object
     ensures { result ≡ with_meta object (record (meta_of object) { finalizers = finalizers }) }
 {
-    set_meta!(object, finalizers);
+    meta_mut(&mut object).finalizers = finalizers;
     object
 }
 
-#[tactic(auto, unfolding(binder_model::specs::Store::with_meta))]
 fn with_labels(mut object: Object, labels: Pairs) -> Object
     ensures { result ≡ with_meta object (record (meta_of object) { labels = labels }) }
 {
-    set_meta!(object, labels);
+    meta_mut(&mut object).labels = labels;
     object
 }
 
-#[tactic(auto, unfolding(binder_model::specs::Store::with_meta))]
 fn with_annotations(mut object: Object, annotations: Pairs) -> Object
     ensures { result ≡ with_meta object (record (meta_of object) { annotations = annotations }) }
 {
-    set_meta!(object, annotations);
+    meta_mut(&mut object).annotations = annotations;
     object
+}
+
+fn set_volume_name(claim: &mut Claim, name: Text)
+    ensures { claim.new ≡ record claim.old { volume_name = name } }
+{
+    claim.volume_name = name;
 }
 
 #[tactic(auto, unfolding(binder_model::specs::Edits::with_volume_name))]
@@ -55,18 +59,17 @@ fn with_volume_name(
         Object::Claim(claim) => {
             let name = name.copy(alloc)?;
             let mut claim = claim.copy(alloc)?;
-            claim.volume_name = name;
+            set_volume_name(&mut claim, name);
             Ok(Some(Object::Claim(claim)))
         }
         _ => Ok(None),
     }
 }
 
-fn with_reference(mut volume: Volume, reference: Option<Ref>) -> Volume
-    ensures { result ≡ record volume { claim_ref = reference } }
+fn set_reference(volume: &mut Volume, reference: Option<Ref>)
+    ensures { volume.new ≡ record volume.old { claim_ref = reference } }
 {
     volume.claim_ref = reference;
-    volume
 }
 
 fn with_added_finalizer(alloc: Global, name: &Text, object: &Object) -> Result<Object, OutOfMemory>
@@ -140,6 +143,12 @@ fn with_dropped_annotation(
     Ok(with_annotations(object.copy(alloc)?, annotations))
 }
 
+fn set_policy(volume: &mut Volume, policy: Policy)
+    ensures { volume.new ≡ record volume.old { policy = policy } }
+{
+    volume.policy = policy;
+}
+
 #[tactic(auto, unfolding(binder_model::specs::Edits::edited_object))]
 fn with_policy(
     alloc: Global,
@@ -151,7 +160,7 @@ fn with_policy(
     match object {
         Object::Volume(volume) => {
             let mut volume = volume.copy(alloc)?;
-            volume.policy = policy;
+            set_policy(&mut volume, policy);
             Ok(Some(Object::Volume(volume)))
         }
         _ => Ok(None),
@@ -174,7 +183,8 @@ fn with_named_claim(
                 name: name.copy(alloc)?,
                 uid: None,
             };
-            let volume = with_reference(volume.copy(alloc)?, Some(reference));
+            let mut volume = volume.copy(alloc)?;
+            set_reference(&mut volume, Some(reference));
             Ok(Some(Object::Volume(volume)))
         }
         _ => Ok(None),
@@ -191,12 +201,12 @@ fn without_maker(alloc: Global, annotations: &Pairs) -> Result<Pairs, OutOfMemor
     Ok(left)
 }
 
-/// The volume without its reference, and with these annotations.
-fn without_reference(mut volume: Volume, annotations: Pairs) -> Volume
-    ensures { result ≡ record volume { claim_ref = None; meta = record volume.meta { annotations = annotations } } }
+/// Drops the volume's reference, and gives it these annotations.
+fn drop_reference(volume: &mut Volume, annotations: Pairs)
+    ensures { volume.new ≡ record volume.old { claim_ref = None; meta = record volume.old.meta { annotations = annotations } } }
 {
     volume.meta.annotations = annotations;
-    with_reference(volume, None)
+    volume.claim_ref = None;
 }
 
 #[tactic(auto, unfolding(binder_model::specs::Edits::edited_object))]
@@ -206,7 +216,8 @@ fn without_claim(alloc: Global, object: &Object) -> Result<Option<Object>, OutOf
     match object {
         Object::Volume(volume) => {
             let annotations = without_maker(alloc, &volume.meta.annotations)?;
-            let volume = without_reference(volume.copy(alloc)?, annotations);
+            let mut volume = volume.copy(alloc)?;
+            drop_reference(&mut volume, annotations);
             Ok(Some(Object::Volume(volume)))
         }
         _ => Ok(None),

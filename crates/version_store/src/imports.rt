@@ -1,13 +1,14 @@
 //! The store with which a world of imports begins.
 
-ghost use Rattle.std.specs.Prelude.{◌≡◌, ◌∷◌, IfOk, OnOk};
+ghost use Rattle.std.specs.Prelude.{◌≡◌, IfOk, OnOk};
 ghost use Rattle.std.specs.List.{list_any};
 ghost use Rattle.kube_types.specs.Bindings.{is_bound, pv_protection, pvc_protection, ref_uid};
-ghost use Rattle.kube_types.specs.Keys.{AreRows};
-ghost use Rattle.binder_model.specs.Store.{with_finalizer};
-ghost use Rattle.binder_model.specs.Imports.{base_of, binds_claim, greatest_number, imported_meta, imported_object, imported_phase, is_dropped, is_imported_as_lost, reference_of, rows_of_imports, serial_of, serial_or_zero};
+ghost use Rattle.kube_types.specs.Keys.{AreRows, meta_of};
+ghost use Rattle.binder_model.specs.Store.{with_finalizer, with_meta};
+ghost use Rattle.binder_model.specs.Imports.{base_of, binds_claim, greatest_number, imported_meta, imported_object, imported_phase, is_dropped, reference_of, rows_of_imports, serial_of, serial_or_zero};
 ghost use Rattle.version_store.specs.Steps.Made.{with_import};
 
+use crate::writes::meta_mut;
 use field_rules::add_finalizer;
 use finalizer_rules::leaves;
 use kube_types::bindings::{
@@ -168,8 +169,18 @@ fn imported_claim(alloc: Global, imports: &[Object], claim: &Claim) -> Result<Cl
     Ok(imported)
 }
 
+/// The object with the metadata of an import.
+fn with_imported_meta(alloc: Global, object: &Object) -> Result<Object, OutOfMemory>
+    ensures { IfOk result (λ o. o ≡ with_meta object.now (imported_meta (meta_of object.now))) }
+{
+    let meta = imported_meta(alloc, meta_of(object))?;
+    let mut imported = object.copy(alloc)?;
+    *meta_mut(&mut imported) = meta;
+    Ok(imported)
+}
+
 /// What is made of an imported object.
-#[tactic(auto, unfolding(binder_model::specs::Imports::imported_object))]
+#[tactic(auto, unfolding(binder_model::specs::Imports::imported_object, binder_model::specs::Store::with_meta))]
 fn imported_object(
     alloc: Global,
     imports: &[Object],
@@ -178,26 +189,9 @@ fn imported_object(
     ensures { IfOk result (λ o. o ≡ imported_object imports.now object.now) }
 {
     match object {
-        Object::Class(class) => {
-            let meta = imported_meta(alloc, &class.meta)?;
-            let mut imported = class.copy(alloc)?;
-            imported.meta = meta;
-            Ok(Object::Class(imported))
-        }
-        Object::Node(node) => {
-            let meta = imported_meta(alloc, &node.meta)?;
-            let mut imported = node.copy(alloc)?;
-            imported.meta = meta;
-            Ok(Object::Node(imported))
-        }
         Object::Volume(volume) => Ok(Object::Volume(imported_volume(alloc, volume)?)),
         Object::Claim(claim) => Ok(Object::Claim(imported_claim(alloc, imports, claim)?)),
-        Object::Pod(pod) => {
-            let meta = imported_meta(alloc, &pod.meta)?;
-            let mut imported = pod.copy(alloc)?;
-            imported.meta = meta;
-            Ok(Object::Pod(imported))
-        }
+        _ => with_imported_meta(alloc, object),
     }
 }
 

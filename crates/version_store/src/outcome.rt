@@ -1,15 +1,20 @@
-//! What a request comes to.
+//! What a request comes to, and the write that it makes.
 
-ghost use Rattle.std.specs.Prelude.{◌≡◌};
-ghost use Rattle.binder_model.specs.Answers.{is_for_store, reply_of};
-ghost use Rattle.version_store.specs.Steps.Made.{outcome_of};
+ghost use Rattle.std.specs.Prelude.{◌≡◌, ◌+◌, ◌^◌, ◌<◌, IfOk, OnOk, OnErr};
+ghost use Rattle.kube_types.specs.Keys.{AreRows, key_of, put_row, without_row};
+ghost use Rattle.call_types.specs.declared.reply.Reply.TheVariants as replies;
+ghost use Rattle.binder_model.specs.Answers.{after, is_for_store, reply_of};
+ghost use Rattle.version_store.specs.Steps.Made.{outcome_of, state_of};
 
 use call_types::reply::{Change, Reply};
 use call_types::request::Request;
-use kube_types::objects::Object;
+use kube_types::copies::OutOfMemory;
+use kube_types::key::key_of;
+use kube_types::objects::{Object, Version};
+use kube_types::table::{put_in, take_out};
+use std::alloc::Global;
 
 /// What a request comes to: an answer that changes nothing, or one object that is written.
-#[derive(Debug, Drop)]
 pub enum Made {
     /// This is answered, and nothing changes.
     Says(Reply),
@@ -17,6 +22,58 @@ pub enum Made {
     Stores(Change, Object),
     /// The object leaves with this write.
     Removes(Object),
+}
+
+impl Drop for Made {
+    fn drop(self) {
+        match self {
+            Made::Says(reply) => drop(reply),
+            Made::Stores(_, object) => drop(object),
+            Made::Removes(object) => drop(object),
+        }
+    }
+}
+
+/// Puts in the object of the next write, and answers a copy of it.
+fn store_row(
+    alloc: Global,
+    rows: &mut Vec<Object>,
+    version: &mut Version,
+    object: Object,
+) -> Result<Reply, OutOfMemory>
+    requires rows { AreRows rows.old.items }
+    requires room { version.old + 1 < 2 ^ 62 }
+    ensures reply { IfOk result (λ reply. reply ≡ replies.Done object) }
+    ensures rows { OnOk result (rows.new.items ≡ put_row object rows.old.items) }
+    ensures version { OnOk result (version.new ≡ version.old + 1) }
+    ensures err { OnErr result ((rows.new.items ≡ rows.old.items) × (version.new ≡ version.old)) }
+    ensures rising { AreRows rows.new.items }
+{
+    let key = key_of(alloc, &object)?;
+    let told = put_in(alloc, rows, &key, object)?;
+    *version += 1;
+    Ok(Reply::Done(told))
+}
+
+/// Takes out the object that leaves with the next write, and answers it as it leaves.
+fn remove_row(
+    alloc: Global,
+    rows: &mut Vec<Object>,
+    version: &mut Version,
+    object: Object,
+) -> Result<Reply, OutOfMemory>
+    requires rows { AreRows rows.old.items }
+    requires room { version.old + 1 < 2 ^ 62 }
+    ensures reply { IfOk result (λ reply. reply ≡ replies.Left object) }
+    ensures rows { OnOk result (rows.new.items ≡ without_row (key_of object) rows.old.items) }
+    ensures version { OnOk result (version.new ≡ version.old + 1) }
+    ensures err { OnErr result ((rows.new.items ≡ rows.old.items) × (version.new ≡ version.old)) }
+    ensures rising { AreRows rows.new.items }
+{
+    let key = key_of(alloc, &object)?;
+    let _ = take_out(rows, &key);
+    *version += 1;
+    Ok(Reply::Left(object))
 }
 
 impl Made {
@@ -29,6 +86,28 @@ impl Made {
             Made::Says(reply) => reply,
             Made::Stores(_, object) => Reply::Done(object),
             Made::Removes(object) => Reply::Left(object),
+        }
+    }
+
+    /// Makes the one write of the outcome, if any, in the rows, and answers it.
+    #[tactic(auto, unfolding(binder_model::specs::Answers::after, binder_model::specs::Answers::reply_of))]
+    pub(crate) fn write(
+        self,
+        alloc: Global,
+        rows: &mut Vec<Object>,
+        version: &mut Version,
+    ) -> Result<Reply, OutOfMemory>
+        requires rows { AreRows rows.old.items }
+        requires room { version.old + 1 < 2 ^ 62 }
+        ensures state { OnOk result (state_of rows.new.items version.new ≡ after (state_of rows.old.items version.old) (outcome_of self)) }
+        ensures reply { IfOk result (λ reply. reply ≡ reply_of (outcome_of self)) }
+        ensures err { OnErr result ((rows.new.items ≡ rows.old.items) × (version.new ≡ version.old)) }
+        ensures rising { AreRows rows.new.items }
+    {
+        match self {
+            Made::Says(reply) => Ok(reply),
+            Made::Stores(_, object) => store_row(alloc, rows, version, object),
+            Made::Removes(object) => remove_row(alloc, rows, version, object),
         }
     }
 }

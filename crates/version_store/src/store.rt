@@ -1,9 +1,8 @@
 //! The store.
 
-ghost use Rattle.std.specs.Prelude.{◌≡◌, ◌+◌, ◌-◌, ◌^◌, ◌<◌, true, IfOk, OnOk, OnErr, length, slice_get};
+ghost use Rattle.std.specs.Prelude.{◌≡◌, ◌-◌, ◌^◌, ◌<◌, true, IfOk, OnOk, OnErr, length, slice_get};
 ghost use Rattle.std.specs.Option.{option_copied};
-ghost use Rattle.kube_types.specs.Keys.{AreRows, key_of, put_row, row_at, rows_of, without_row};
-ghost use Rattle.call_types.specs.declared.reply.Reply.TheVariants as replies;
+ghost use Rattle.kube_types.specs.Keys.{row_at, rows_of};
 ghost use Rattle.binder_model.specs.Store.{no_store};
 ghost use Rattle.binder_model.specs.Imports.{base_of, rows_of_imports};
 ghost use Rattle.binder_model.specs.Answers.{after, is_for_store, outcome, reply_of};
@@ -15,22 +14,32 @@ use crate::verbs::outcome;
 use call_types::reply::Reply;
 use call_types::request::{Request, SeatKind};
 use kube_types::copies::OutOfMemory;
-use kube_types::key::{Key, key_of};
+use kube_types::key::Key;
 use kube_types::lookup::Lookup;
 use kube_types::objects::{Object, Version};
 use kube_types::parts::Kind;
-use kube_types::table::{at_of_kind, count_of_kind, put_in, row, take_out};
+use kube_types::table::{at_of_kind, count_of_kind, row};
 use kube_types::text::Text;
 use std::alloc::Global;
 use std::marker::Model;
 
 /// Objects by key, and the number of their writes. Contracts see it as the objects in the order of
 /// their keys, and the version.
-#[derive(Debug, Drop)]
 pub struct Store {
     alloc: Global,
     rows: Vec<Object>,
     version: Version,
+}
+
+impl Drop for Store {
+    fn drop(self) {
+        let Store {
+            alloc: _,
+            rows,
+            version: _,
+        } = self;
+        drop(rows);
+    }
 }
 
 impl Model for Store {
@@ -42,48 +51,6 @@ impl Model for Store {
     ghost view = { λ s. record { rows = s.rows.items; version = s.version } };
 
     ghost invariant = { λ s. AreRows s.rows.items };
-}
-
-/// Puts in the object of the next write, and answers a copy of it.
-fn store_row(
-    alloc: Global,
-    rows: &mut Vec<Object>,
-    version: &mut Version,
-    object: Object,
-) -> Result<Reply, OutOfMemory>
-    requires rows { AreRows rows.old.items }
-    requires room { version.old + 1 < 2 ^ 62 }
-    ensures reply { IfOk result (λ reply. reply ≡ replies.Done object) }
-    ensures rows { OnOk result (rows.new.items ≡ put_row object rows.old.items) }
-    ensures version { OnOk result (version.new ≡ version.old + 1) }
-    ensures err { OnErr result ((rows.new.items ≡ rows.old.items) × (version.new ≡ version.old)) }
-    ensures rising { AreRows rows.new.items }
-{
-    let key = key_of(alloc, &object)?;
-    let told = put_in(alloc, rows, &key, object)?;
-    *version += 1;
-    Ok(Reply::Done(told))
-}
-
-/// Takes out the object that leaves with the next write, and answers it as it leaves.
-fn remove_row(
-    alloc: Global,
-    rows: &mut Vec<Object>,
-    version: &mut Version,
-    object: Object,
-) -> Result<Reply, OutOfMemory>
-    requires rows { AreRows rows.old.items }
-    requires room { version.old + 1 < 2 ^ 62 }
-    ensures reply { IfOk result (λ reply. reply ≡ replies.Left object) }
-    ensures rows { OnOk result (rows.new.items ≡ without_row (key_of object) rows.old.items) }
-    ensures version { OnOk result (version.new ≡ version.old + 1) }
-    ensures err { OnErr result ((rows.new.items ≡ rows.old.items) × (version.new ≡ version.old)) }
-    ensures rising { AreRows rows.new.items }
-{
-    let key = key_of(alloc, &object)?;
-    let _ = take_out(rows, &key);
-    *version += 1;
-    Ok(Reply::Left(object))
 }
 
 impl Store {
@@ -141,22 +108,13 @@ impl Store {
     }
 
     /// Makes the one write of an outcome, if any, and answers it.
-    #[tactic(auto, unfolding(binder_model::specs::Answers::after, binder_model::specs::Answers::reply_of))]
     pub fn apply(&mut self, made: Made) -> Result<Reply, OutOfMemory>
         requires { self.old.version < 2 ^ 62 - 1 }
         ensures state { OnOk result (self.new ≡ after self.old (outcome_of made)) }
         ensures reply { IfOk result (λ reply. reply ≡ reply_of (outcome_of made)) }
         ensures err { OnErr result (self.new ≡ self.old) }
     {
-        match made {
-            Made::Says(reply) => Ok(reply),
-            Made::Stores(_, object) => {
-                store_row(self.alloc, &mut self.rows, &mut self.version, object)
-            }
-            Made::Removes(object) => {
-                remove_row(self.alloc, &mut self.rows, &mut self.version, object)
-            }
-        }
+        made.write(self.alloc, &mut self.rows, &mut self.version)
     }
 
     /// Answers a request that is the store's. A FinishPod's epoch has been tested before.

@@ -10,7 +10,7 @@ ghost use Rattle.kube_types.specs.declared.names.Rule.TheVariants as rules;
 ghost use Rattle.call_types.specs.declared.reply.Refusal.TheVariants as refusals;
 ghost use Rattle.call_types.specs.declared.reply.Reply.TheVariants as replies;
 ghost use Rattle.binder_model.specs.Store.{at_version};
-ghost use Rattle.binder_model.specs.Answers.{Says, is_user, guard_on, is_other_version, is_other_uid, write_outcome, written_if_fits, create, update, update_status, edit, edit_to, delete, get, list, listed_rows, is_in_namespace, pod_with, bind, finish, outcome, refuse};
+ghost use Rattle.binder_model.specs.Answers.{Says, is_user, guard_on, is_other_version, is_other_uid, write_outcome, written_if_fits, create, update, update_status, edit, edit_to, delete, get, list, listed_rows, pod_with, bind, finish, outcome, refuse};
 ghost use Rattle.version_store.specs.Steps.Made.{is_listed, is_wanted, outcome_of, state_of};
 
 use crate::classes::{default_class_name, lacks_named_node, lacks_node};

@@ -1,32 +1,49 @@
 //! What a write makes of an object.
 
 ghost use Rattle.std.specs.Prelude.{◌≡◌, ◌<◌, ◌^◌, Some, IfOk};
+ghost use Rattle.std.specs.Borrow.{sem};
 ghost use Rattle.std.specs.Option.{option_copied};
+ghost use Rattle.kube_types.specs.declared.objects.Object.TheVariants as objects;
 ghost use Rattle.kube_types.specs.Keys.{meta_of};
 ghost use Rattle.binder_model.specs.Store.{with_meta, at_version, marked_object, without_status, created_object, with_status_of, updated_object};
 ghost use Rattle.binder_model.specs.Answers.{with_status};
+ghost use Rattle.version_store.specs.Steps.Made.{LendsMeta};
 
 use call_types::request::NewStatus;
 use field_rules::admit;
 use kube_types::copies::{OutOfMemory, Plain, copy_option};
 use kube_types::key::meta_of;
-use kube_types::objects::{Amount, Claim, Object, Version};
+use kube_types::objects::{Amount, Claim, Meta, Object, Version, Volume};
 use kube_types::parts::{ClaimPhase, Modes, VolumePhase};
 use kube_types::text::Text;
 use kube_types::uid::Uid;
 use std::alloc::Global;
 
+/// The metadata of an object, to be written.
+#[tactic(auto, unfolding(binder_model::specs::Store::with_meta))]
+pub fn meta_mut(object: &mut Object) -> &mut Meta
+    ensures* lends { sem 𝓛 (LendsMeta object.entry result) }
+    ensures value { result.now ≡ meta_of object.old }
+{
+    match object {
+        Object::Class(x) => &mut x.meta,
+        Object::Node(x) => &mut x.meta,
+        Object::Volume(x) => &mut x.meta,
+        Object::Claim(x) => &mut x.meta,
+        Object::Pod(x) => &mut x.meta,
+    }
+}
+
 /// The object at this version.
-#[tactic(auto, unfolding(binder_model::specs::Store::at_version, binder_model::specs::Store::with_meta))]
+#[tactic(auto, unfolding(binder_model::specs::Store::at_version))]
 pub fn at_version(mut object: Object, version: Version) -> Object
     ensures { result ≡ at_version object version }
 {
-    set_meta!(object, version);
+    meta_mut(&mut object).version = version;
     object
 }
 
 /// The object with what is not a user's to choose.
-#[tactic(auto, unfolding(binder_model::specs::Store::with_meta))]
 fn with_identity(
     mut object: Object,
     uid: Option<Uid>,
@@ -36,12 +53,16 @@ fn with_identity(
 ) -> Object
     ensures { result ≡ with_meta object (record (meta_of object) { uid = uid; version = version; created = created; deleted = deleted }) }
 {
-    set_meta!(object, uid, version, created, deleted);
+    let meta = meta_mut(&mut object);
+    meta.uid = uid;
+    meta.version = version;
+    meta.created = created;
+    meta.deleted = deleted;
     object
 }
 
 /// The object at this version, to be deleted since this moment.
-#[tactic(auto, unfolding(binder_model::specs::Store::marked_object, binder_model::specs::Store::with_meta))]
+#[tactic(auto, unfolding(binder_model::specs::Store::marked_object))]
 pub fn marked_object(
     alloc: Global,
     object: &Object,
@@ -50,27 +71,52 @@ pub fn marked_object(
 ) -> Result<Object, OutOfMemory>
     ensures { IfOk result (λ o. o ≡ marked_object object.now version moment.now) }
 {
-    let meta = meta_of(object);
-    let uid = meta.uid;
-    let created = meta.created.copy(alloc)?;
-    let deleted = Some(moment.copy(alloc)?);
-    let object = object.copy(alloc)?;
-    Ok(with_identity(object, uid, version, created, deleted))
+    let deleted = moment.copy(alloc)?;
+    let mut marked = object.copy(alloc)?;
+    let meta = meta_mut(&mut marked);
+    meta.version = version;
+    meta.deleted = Some(deleted);
+    Ok(marked)
 }
 
-/// The claim with this status.
-fn with_claim_status(
-    mut claim: Claim,
-    phase: ClaimPhase,
-    modes: Modes,
-    amount: Option<Amount>,
-) -> Claim
-    ensures { result ≡ record claim { phase = phase; got_modes = modes; got = amount } }
+fn set_phase(volume: &mut Volume, phase: VolumePhase)
+    ensures { volume.new ≡ record volume.old { phase = phase } }
+{
+    volume.phase = phase;
+}
+
+/// The volume in this phase.
+fn volume_at(alloc: Global, volume: &Volume, phase: VolumePhase) -> Result<Volume, OutOfMemory>
+    ensures { IfOk result (λ v. v ≡ record volume.now { phase = phase }) }
+{
+    let mut volume = volume.copy(alloc)?;
+    set_phase(&mut volume, phase);
+    Ok(volume)
+}
+
+/// Gives the claim this status.
+fn set_claim_status(claim: &mut Claim, phase: ClaimPhase, modes: Modes, amount: Option<Amount>)
+    ensures { claim.new ≡ record claim.old { phase = phase; got_modes = modes; got = amount } }
 {
     claim.phase = phase;
     claim.got_modes = modes;
     claim.got = amount;
-    claim
+}
+
+/// The claim with this status.
+fn claim_at(
+    alloc: Global,
+    claim: &Claim,
+    phase: ClaimPhase,
+    modes: Modes,
+    amount: &Option<Amount>,
+) -> Result<Claim, OutOfMemory>
+    ensures { IfOk result (λ c. c ≡ record claim.now { phase = phase; got_modes = modes; got = amount.now }) }
+{
+    let amount = copy_option(alloc, amount)?;
+    let mut claim = claim.copy(alloc)?;
+    set_claim_status(&mut claim, phase, modes, amount);
+    Ok(claim)
 }
 
 /// The object with the status of a new one.
@@ -80,9 +126,7 @@ fn without_status(alloc: Global, object: &Object) -> Result<Object, OutOfMemory>
 {
     match object {
         Object::Volume(volume) => {
-            let mut volume = volume.copy(alloc)?;
-            volume.phase = VolumePhase::Pending;
-            Ok(Object::Volume(volume))
+            Ok(Object::Volume(volume_at(alloc, volume, VolumePhase::Pending)?))
         }
         Object::Claim(claim) => {
             let none = Modes {
@@ -91,8 +135,7 @@ fn without_status(alloc: Global, object: &Object) -> Result<Object, OutOfMemory>
                 rwx: false,
                 rwop: false,
             };
-            let claim = claim.copy(alloc)?;
-            Ok(Object::Claim(with_claim_status(claim, ClaimPhase::Pending, none, None)))
+            Ok(Object::Claim(claim_at(alloc, claim, ClaimPhase::Pending, none, &None)?))
         }
         _ => object.copy(alloc),
     }
@@ -117,22 +160,36 @@ pub fn created_object(
     Ok(with_identity(admitted, uid, version, created, None))
 }
 
+#[tactic(auto, unfolding(binder_model::specs::Store::with_status_of))]
+fn with_status_of_volume(alloc: Global, old: &Volume, new: &Object) -> Result<Object, OutOfMemory>
+    ensures { IfOk result (λ o. o ≡ with_status_of (objects.Volume old.now) new.now) }
+{
+    match new {
+        Object::Volume(volume) => Ok(Object::Volume(volume_at(alloc, volume, old.phase)?)),
+        _ => new.copy(alloc),
+    }
+}
+
+#[tactic(auto, unfolding(binder_model::specs::Store::with_status_of))]
+fn with_status_of_claim(alloc: Global, old: &Claim, new: &Object) -> Result<Object, OutOfMemory>
+    ensures { IfOk result (λ o. o ≡ with_status_of (objects.Claim old.now) new.now) }
+{
+    match new {
+        Object::Claim(claim) => {
+            Ok(Object::Claim(claim_at(alloc, claim, old.phase, old.got_modes, &old.got)?))
+        }
+        _ => new.copy(alloc),
+    }
+}
+
 /// The new object with the status of the old one.
 #[tactic(auto, unfolding(binder_model::specs::Store::with_status_of))]
 fn with_status_of(alloc: Global, old: &Object, new: &Object) -> Result<Object, OutOfMemory>
     ensures { IfOk result (λ o. o ≡ with_status_of old.now new.now) }
 {
-    match (old, new) {
-        (Object::Volume(old), Object::Volume(new)) => {
-            let mut volume = new.copy(alloc)?;
-            volume.phase = old.phase;
-            Ok(Object::Volume(volume))
-        }
-        (Object::Claim(old), Object::Claim(new)) => {
-            let got = copy_option(alloc, &old.got)?;
-            let claim = new.copy(alloc)?;
-            Ok(Object::Claim(with_claim_status(claim, old.phase, old.got_modes, got)))
-        }
+    match old {
+        Object::Volume(old) => with_status_of_volume(alloc, old, new),
+        Object::Claim(old) => with_status_of_claim(alloc, old, new),
         _ => new.copy(alloc),
     }
 }
@@ -165,9 +222,7 @@ pub fn with_status(
 {
     match (status, object) {
         (NewStatus::Volume(phase), Object::Volume(volume)) => {
-            let mut volume = volume.copy(alloc)?;
-            volume.phase = *phase;
-            Ok(Some(Object::Volume(volume)))
+            Ok(Some(Object::Volume(volume_at(alloc, volume, *phase)?)))
         }
         (
             NewStatus::Claim {
@@ -176,11 +231,7 @@ pub fn with_status(
                 amount,
             },
             Object::Claim(claim),
-        ) => {
-            let got = copy_option(alloc, amount)?;
-            let claim = claim.copy(alloc)?;
-            Ok(Some(Object::Claim(with_claim_status(claim, *phase, *modes, got))))
-        }
+        ) => Ok(Some(Object::Claim(claim_at(alloc, claim, *phase, *modes, amount)?))),
         _ => Ok(None),
     }
 }
