@@ -13,7 +13,7 @@ use kube_types::items::Items;
 use kube_types::key::{kind_of, same_kind};
 use kube_types::objects::Version;
 use kube_types::parts::Kind;
-use std::alloc::{AllocError, Global};
+use std::alloc::Global;
 use std::collections::VecDeque;
 use std::marker::Model;
 
@@ -46,12 +46,23 @@ impl From<OutOfMemory> for LogError {
 
 /// The events of the last 512 writes since the log began. Contracts see it as those events, the newest first, the
 /// version of the last one, that with which the log began, and how many further events there is room for.
-#[derive(Debug, Drop)]
 pub struct WatchLog {
     alloc: Global,
     base: Version,
     version: Version,
     events: VecDeque<Event>,
+}
+
+impl Drop for WatchLog {
+    fn drop(self) {
+        let WatchLog {
+            alloc: _,
+            base: _,
+            version: _,
+            events,
+        } = self;
+        drop(events);
+    }
 }
 
 impl Model for WatchLog {
