@@ -9,8 +9,7 @@ ghost use Rattle.binder_model.specs.Imports.{holds_of_pair, import_fault, is_cla
 
 use crate::faults::check_create;
 use crate::same::is_same_text;
-use crate::user_writes::is_ended;
-use kube_types::bindings::{is_empty, is_uid, names_claim};
+use kube_types::bindings::{is_empty, is_ended, is_uid, names_claim};
 use kube_types::key::{kind_of, meta_of, same_kind};
 use kube_types::names::ImportFault;
 use kube_types::objects::{Object, Ref, Version};

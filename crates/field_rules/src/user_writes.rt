@@ -6,13 +6,13 @@ ghost use Rattle.std.specs.Option.{option_copied};
 ghost use Rattle.std.specs.Result.{result_err};
 ghost use Rattle.plain_data.specs.Pairs.{value_at};
 ghost use Rattle.kube_types.specs.Keys.{meta_of};
-ghost use Rattle.kube_types.specs.Bindings.{has_name, is_delete, is_ended};
+ghost use Rattle.kube_types.specs.Bindings.{has_name, is_delete};
 ghost use Rattle.binder_model.specs.Same.{same_option, same_ref};
 ghost use Rattle.binder_model.specs.Guard.{annotations_before, finalizers_before, clears_released, changes_annotation, drops_with_reference, breaks_annotation, is_admitted, changes_finalizer, breaks_finalizer, reference_before, has_uid, breaks_reference, breaks_policy, guard};
 
 use crate::same::{is_same_reference, is_same_text};
 use kube_types::bindings::{
-    BIND_COMPLETED, BOUND_BY_CONTROLLER, PROVISIONED_BY, PV_PROTECTION, PVC_PROTECTION,
+    BIND_COMPLETED, BOUND_BY_CONTROLLER, PROVISIONED_BY, PV_PROTECTION, PVC_PROTECTION, is_ended,
 };
 use kube_types::key::meta_of;
 use kube_types::names::Rule;
@@ -53,15 +53,6 @@ fn is_delete(policy: Policy) -> bool
 {
     match policy {
         Policy::Delete => true,
-        _ => false,
-    }
-}
-
-pub fn is_ended(phase: VolumePhase) -> bool
-    ensures { result ≡ is_ended phase }
-{
-    match phase {
-        VolumePhase::Released | VolumePhase::Failed => true,
         _ => false,
     }
 }
