@@ -1,6 +1,6 @@
 //! The parts of a world, and the change that one call makes in them.
 
-ghost use Rattle.std.specs.Prelude.{◌≡◌, ◌+◌, ◌-◌, ◌^◌, ◌<◌, true, [], Some, None, IfOk, IfSome, OnOk, OnErr, List};
+ghost use Rattle.std.specs.Prelude.{◌≡◌, ◌+◌, ◌-◌, ◌^◌, ◌<◌, true, Some, None, IfOk, IfSome, OnOk, OnErr};
 ghost use Rattle.call_types.specs.declared.reply.Event.{Event};
 ghost use Rattle.call_types.specs.declared.reply.Reply.TheVariants.{Refused};
 ghost use Rattle.call_types.specs.declared.request.Request.TheVariants.{SetTime, Watch};
@@ -8,8 +8,7 @@ ghost use Rattle.binder_model.specs.Answers.{after, is_for_store, is_user, reply
 ghost use Rattle.device_model.specs.Kept.{is_for_devices};
 ghost use Rattle.binder_model.specs.World.{first_world, stale_epoch};
 ghost use Rattle.version_store.specs.Steps.Made.{outcome_of};
-ghost use Rattle.watch_log.specs.Kept.{Log, StandsFor};
-ghost use Rattle.world_core.specs.Moves.{AreAsBefore, AreOf, IsAnswered, Logs, MayMove, event_of, made_of, version_after, with_event};
+ghost use Rattle.world_core.specs.Moves.{AreAsBefore, AreOf, IsAnswered, Logs, MayMove, event_of, version_after};
 
 use crate::moments::{FIRST_MOMENT, is_time};
 use call_types::reply::{Change, Event, Refusal, Reply};
