@@ -39,8 +39,8 @@ returns-in_err-absorb-in-Call-clause-actors c = λ before.
     let entry = entry_told c.args.seat c.args.kind given c.in-Call.request c.in_ok-reply-in-Call.reply h c.ask.new.world.past kinds c.in_ok-reply-in-Call.ensures.entry in
     by_actor given h c.ask.new.world.past (told_entry c.args.seat given c.in-Call.request c.in_ok-reply-in-Call.reply) entry (subst IsBuiltKind kinds c.requires.built) refl (c.in_ok-next.ensures.stands (own c.args.seat h) i.stands) (sym c.in_ok-next.ensures.asked ∙ ap call_in c.in-Call.is) (i.actors before)
 
-pub loop-left-preserved-in_ok-absorb-in-Call : goal.loop-left-preserved-in_ok-absorb-in-Call
-loop-left-preserved-in_ok-absorb-in-Call c =
+pub loop-left-preserved : goal.loop-left-preserved
+loop-left-preserved c =
     let i = c.loop-left.invariant in
     let s = c.loop-left.actor in
     let given = c.next.new.self in
