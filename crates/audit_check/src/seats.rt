@@ -7,9 +7,9 @@ ghost use Rattle.audit_check.specs.Steps.Noted.{IsNoted, noted};
 
 use call_types::entry::Entry;
 use call_types::request::{Request, SeatKind};
+use evidence_judge::Evidence;
 use kube_types::copies::OutOfMemory;
 use kube_types::names::LicenceRule;
-use licence_evidence::Evidence;
 use std::alloc::Global;
 use std::collections::BTreeMap;
 

@@ -11,6 +11,7 @@ use kube_types::copies::{OutOfMemory, Plain};
 use kube_types::key::{claim_key, volume_key};
 use kube_types::objects::{Claim, Meta, Object, Volume};
 use kube_types::parts::{ClaimPhase, VolumePhase};
+use kube_types::shared::Shared;
 use kube_types::text::Text;
 use std::alloc::Global;
 
@@ -54,7 +55,7 @@ pub fn write_reference(
     ensures { IfOk result (λ write. write ≡ write_reference volume.now claim.now) }
 {
     Ok(Request::Update {
-        object: Object::Volume(taken_for(alloc, volume, claim)?),
+        object: Object::Volume(Shared::new(alloc, taken_for(alloc, volume, claim)?)?),
         version: Some(volume.meta.version),
     })
 }
@@ -79,7 +80,7 @@ pub fn write_completion(
     ensures { IfOk result (λ write. write ≡ write_completion volume.now claim.now) }
 {
     Ok(Request::Update {
-        object: Object::Claim(completed_with(alloc, claim, volume)?),
+        object: Object::Claim(Shared::new(alloc, completed_with(alloc, claim, volume)?)?),
         version: Some(claim.meta.version),
     })
 }

@@ -10,6 +10,7 @@ use kube_types::copies::{OutOfMemory, Plain};
 use kube_types::key::volume_key;
 use kube_types::objects::{Object, Ref, Volume};
 use kube_types::parts::VolumePhase;
+use kube_types::shared::Shared;
 use kube_types::text::Text;
 use std::alloc::Global;
 
@@ -18,7 +19,7 @@ pub fn unbind(alloc: Global, volume: &Volume) -> Result<Request, OutOfMemory>
     ensures { IfOk result (λ write. write ≡ write_unbound volume.now) }
 {
     Ok(Request::Update {
-        object: Object::Volume(unbound(alloc, volume)?),
+        object: Object::Volume(Shared::new(alloc, unbound(alloc, volume)?)?),
         version: Some(volume.meta.version),
     })
 }

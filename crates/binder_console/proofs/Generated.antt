@@ -1,8 +1,8 @@
 -- A generated script keeps the limits of scripts.
 use Rattle.std.proofs.Common.{◌≡◌, ℕ, subst, sym}
 use Rattle.script_text.specs.declared.script.Script.{Script}
-use Rattle.script_parts.specs.Limits.{IsReadable}
-use Rattle.script_parts.proofs.Readable.{script_readable}
+use Rattle.script_runs.specs.Limits.{IsReadable}
+use Rattle.script_runs.proofs.Readable.{script_readable}
 use Rattle.script_gen.specs.Generated.{generated}
 use Rattle.gen_laws.proofs.Whole.{generated_is_script}
 

@@ -8,8 +8,8 @@ use Rattle.binder_model.specs.Run.{Run}
 use Rattle.binder_model.specs.Safe.{Safe}
 use Rattle.world_core.specs.declared.drained.Drained.{Drained}
 use Rattle.world_core.specs.declared.drained.Drained.TheVariants.{Settled, Spent}
-use Rattle.fitting_calls.specs.Calls.{AreByActors}
-use Rattle.fitting_calls.proofs.Turns.{actors_give_enough}
+use Rattle.size_calls.specs.Calls.{AreByActors}
+use Rattle.size_calls.proofs.Turns.{actors_give_enough}
 use Rattle.history_text.specs.Output.{final_lines}
 use Rattle.script_lines.specs.declared.errors.BadLine.{BadLine}
 use Rattle.script_text.specs.declared.script.Script.{Script}
@@ -19,8 +19,8 @@ use Rattle.script_laws.proofs.TextsGive.{ScriptGiven, script_gives}
 use Rattle.script_runs.specs.Diligent.{IsDiligentReplay}
 use Rattle.script_runs.specs.Replays.{IsReplay}
 use Rattle.script_gen.specs.Generated.{generated}
-use Rattle.given_law.specs.Laws.{HasOneHistory}
-use Rattle.given_replays.proofs.Replays.{replay_texts_have_one}
+use Rattle.printable_law.specs.Laws.{HasOneHistory}
+use Rattle.printable_replays.proofs.Replays.{replay_texts_have_one}
 use Rattle.binder_console.specs.declared.commands.Task.{Task}
 use Rattle.binder_console.specs.declared.commands.Task.TheVariants.{Replay, Gen}
 use Rattle.binder_console.specs.Outcomes.{Answers, IsAnswer, answer_ended}

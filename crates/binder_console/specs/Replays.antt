@@ -18,9 +18,9 @@ use Rattle.script_text.specs.declared.script.Script.{Script}
 use Rattle.script_text.specs.Grammar.{script_of}
 use Rattle.script_runs.specs.Diligent.{IsDiligentReplay}
 use Rattle.script_runs.specs.Replays.{IsReplay}
-use Rattle.given_law.specs.Laws.{HasOneHistory}
+use Rattle.printable_law.specs.Laws.{HasOneHistory}
 use Rattle.script_gen.specs.Generated.{generated}
-use Rattle.fitting_law.specs.Enough.{GetEnoughThroughout}
+use Rattle.size_law.specs.Enough.{GetEnoughThroughout}
 use Rattle.binder_console.specs.declared.status.Status.{Status}
 use Rattle.binder_console.specs.declared.status.Status.TheVariants.{Done, Unsettled}
 

@@ -2,7 +2,7 @@
 
 ghost use Rattle.std.specs.Prelude.{ℕ, List, ◌≡◌, IfOk};
 ghost use Rattle.script_gen.specs.Generated.{generated};
-ghost use Rattle.script_parts.specs.Limits.{IsReadable};
+ghost use Rattle.script_runs.specs.Limits.{IsReadable};
 ghost use Rattle.binder_console.specs.Outcomes.{IsAnswer};
 
 use crate::answers::Answer;

@@ -2,7 +2,7 @@
 
 ghost use Rattle.std.specs.Prelude.{◌≡◌, Ok, Err, IfOk};
 ghost use Rattle.script_text.specs.Grammar.{script_of};
-ghost use Rattle.script_parts.specs.Limits.{IsReadable};
+ghost use Rattle.script_runs.specs.Limits.{IsReadable};
 ghost use Rattle.binder_console.specs.Outcomes.{IsAnswer, answer_ended};
 ghost use Rattle.binder_console.specs.Scripts.{IfNotReplayed, script_refusal_text};
 
@@ -20,7 +20,7 @@ use std::alloc::Global;
 use world_core::drained::Drained;
 
 /// The script of an input, which keeps the limits of scripts.
-#[tactic(auto, using(script_parts::proofs::Readable::read_is_readable))]
+#[tactic(auto, using(script_runs::proofs::Readable::read_is_readable))]
 fn read_readable(alloc: Global, input: &[u8]) -> Result<Script, ScriptError>
     ensures ok { IfOk result (λ script. script_of input.now ≡ Ok script) }
     ensures readable { IfOk result IsReadable }

@@ -1,6 +1,7 @@
 -- A machine that begins has its evidence, where the look-up shows what was told newest.
-use Rattle.std.proofs.Common.{◌≡◌, ℕ, List, Bool, true, false, true≢false, Option, Some, None, inl, refl, sym, ◌∙◌, ap, subst}
+use Rattle.std.proofs.Common.{◌≡◌, ℕ, List, [], Bool, true, false, true≢false, Option, Some, None, inl, refl, sym, ◌∙◌, ap, subst}
 use Rattle.std.specs.Prelude.{is_some}
+use Rattle.std.proofs.lemmas.Bool.{and_parts}
 use Rattle.kube_types.specs.declared.uid.Uid.{Uid}
 use Rattle.kube_types.specs.declared.key.Key.{Key}
 use Rattle.kube_types.specs.declared.parts.Kind.TheVariants as kinds
@@ -8,19 +9,23 @@ use Rattle.kube_types.specs.declared.lookup.Live.TheVariants.{NotAsked}
 use Rattle.kube_types.specs.declared.objects.Ref.{Ref}
 use Rattle.kube_types.specs.declared.objects.Volume.{Volume as VolumeData}
 use Rattle.kube_types.specs.declared.objects.Claim.{Claim as ClaimData}
+use Rattle.kube_types.specs.declared.objects.Class.{Class as ClassData}
 use Rattle.kube_types.specs.declared.objects.Object.{Object}
 use Rattle.kube_types.specs.declared.objects.Object.TheVariants.{Class, Node, Volume, Claim, Pod}
 use Rattle.kube_types.specs.Keys.{AreRows, key_of, row_at}
 use Rattle.kube_types.specs.Bindings.{is_completed, is_empty, is_ended, ref_uid}
+use Rattle.kube_types.specs.Defaults.{IsDefaultOf, StandsIn}
 use Rattle.kube_types.proofs.KeyOrder.{row_at_key}
 use Rattle.kube_types.proofs.RowPlaces.{row_at_place}
 use Rattle.call_types.specs.declared.entry.Entry.{Entry}
-use Rattle.binder_model.specs.ObjectKeys.{claim_key}
+use Rattle.binder_model.specs.ObjectKeys.{claim_key, class_key}
 use Rattle.binder_model.specs.BinderDue.{claim_with}
+use Rattle.binder_model.specs.BinderLicence.{IsToldClass}
 use Rattle.binder_model.specs.Reading.{LacksUid}
 use Rattle.binder_model.specs.Told.{IsNewest, newest, object_of}
 use Rattle.informer_cache.specs.All.{AllKnown, AllStandFor, all_objects}
 use Rattle.claim_sync.specs.ClaimDecision.{claim_decision}
+use Rattle.claim_sync.proofs.Assigned.{gets_class}
 use Rattle.claim_sync.specs.declared.action.ClaimStep.{ClaimStep}
 use Rattle.claim_sync.specs.declared.action.ClaimStep.TheVariants as steps
 use Rattle.volume_sync.specs.VolumeDecision.{claim_by_reference, claim_by_uid, or_else, seen_claim, has_uid, volume_decision}
@@ -31,7 +36,7 @@ use Rattle.model_laws.proofs.Newest.{newest_claim, newest_volume}
 use Rattle.binder_machines.specs.declared.decide.First.{First}
 use Rattle.binder_machines.specs.declared.decide.First.TheVariants.{Begins}
 use Rattle.binder_machines.specs.declared.machine.Machine.{Machine}
-use Rattle.binder_machines.specs.declared.machine.Machine.TheVariants.{Binds, ReadsClaim, ReadsVolume}
+use Rattle.binder_machines.specs.declared.machine.Machine.TheVariants.{Binds, ReadsClaim, ReadsVolume, AssignsClass}
 use Rattle.binder_machines.specs.Machines.{machine_for}
 use Rattle.binder_machines.specs.Evidence.{Keeps, MayReadVolume, ToldThis}
 use Rattle.binder_machines.specs.FirstSteps.{IsClaimFirst, IsFirst, first_of, lost_for, queue_of, volume_first}
@@ -155,6 +160,35 @@ module _ (rows : List Object) (mine : List Entry) (order : AreRows rows) (shows 
       by true n = (newest_claim (λ d. d ≡ c) mine key c (newest_row key (Claim c) at) refl, record { completed = done; why = inl (empty_is c.volume_name n); same_modes = refl; same_amount = refl })
       by false n = may_read key c at done
 
+  -- the default class of the look-up is that of the newest told classes
+  told_default : (x : ClassData) → x.meta.namespace ≡ [] → IsDefaultOf (StandsIn rows) x → IsDefaultOf (IsToldClass mine) x
+  told_default x placed default =
+      record {
+        there = subst (λ (n : List ℕ). IsNewest mine (record { kind = kinds.StorageClass; namespace = n; name = x.meta.name }) (Class x)) placed (newest_row (key_of (Class x)) (Class x) default.there);
+        marked = default.marked;
+        first = λ other told marked. default.first other (stands other told) marked;
+      }
+    where
+      stands : (other : ClassData) → IsToldClass mine other → StandsIn rows other
+      stands other told =
+          let at : row_at (class_key other.meta.name) rows ≡ Some (Class other) = shows (class_key other.meta.name) ∙ told in
+          subst (λ (k : Key). row_at k rows ≡ Some (Class other)) (sym (row_at_key (class_key other.meta.name) (Class other) rows at)) at
+
+  class_keeps : (key : Key) (c : ClaimData) (x : ClassData) → row_at key rows ≡ Some (Claim c) → claim_decision rows c NotAsked ≡ steps.AssignClass → IsDefaultOf (StandsIn rows) x → Keeps (AssignsClass c x) mine
+  class_keeps key c x at decided default =
+      let so = gets_class rows c NotAsked decided in (
+        newest_claim (λ d. d ≡ c) mine key c (newest_row key (Claim c) at) refl,
+        λ placed. record {
+          undone = so.undone;
+          staying = so.staying;
+          unnamed = empty_is c.volume_name so.unnamed;
+          classless = (and_parts _ _ so.assignable).0;
+          class = x;
+          default = told_default x placed default;
+          change = refl;
+        },
+      )
+
   claim_begins : (key : Key) (c : ClaimData) (machine : Machine) → row_at key rows ≡ Some (Claim c) → IsClaimFirst rows c (claim_decision rows c NotAsked) (Begins machine) → Keeps machine mine
   claim_begins key c machine at = by (claim_decision rows c NotAsked) refl
     where
@@ -162,6 +196,7 @@ module _ (rows : List Object) (mine : List Entry) (order : AreRows rows) (shows 
       by steps.Nothing is e = none_some (sym (ap machine_in e))
       by steps.ReadVolume is e = becomes (ReadsVolume c) machine mine (sym (ap machine_in e)) (may_read key c at (completed_of rows c (ap is_for_completed is)))
       by steps.Lost is e = becomes (lost_for (is_empty c.volume_name) c) machine mine (sym (ap machine_in e)) (lost_keeps key c at (completed_of rows c (ap is_for_completed is)))
+      by steps.AssignClass is e = becomes (AssignsClass c e.class) machine mine (sym (ap machine_in e.begins)) (class_keeps key c e.class at is e.default)
       by steps.Bind is e =
           let v = e.volume in
           let stands = row_at_place kinds.PersistentVolume e.place (Volume v) rows order e.there in

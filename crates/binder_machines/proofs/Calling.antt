@@ -10,12 +10,13 @@ use Rattle.kube_types.specs.declared.parts.VolumePhase.{VolumePhase}
 use Rattle.kube_types.specs.declared.parts.VolumePhase.TheVariants as phases
 use Rattle.kube_types.specs.declared.lookup.Live.TheVariants.{NotAsked}
 use Rattle.kube_types.specs.declared.objects.Ref.{Ref}
+use Rattle.kube_types.specs.declared.objects.Class.{Class as ClassData}
 use Rattle.kube_types.specs.declared.objects.Volume.{Volume as VolumeData}
 use Rattle.kube_types.specs.declared.objects.Claim.{Claim as ClaimData}
 use Rattle.kube_types.specs.declared.objects.Object.{Object}
 use Rattle.kube_types.specs.declared.objects.Object.TheVariants.{Class, Node, Volume, Claim, Pod}
 use Rattle.kube_types.specs.Keys.{key_of, row_at, rows_of}
-use Rattle.kube_types.specs.Bindings.{carries, is_available, is_bound, is_completed, is_deleting, is_empty, is_ended, is_for, is_protected_volume, names_claim, uid_carries, uid_fits}
+use Rattle.kube_types.specs.Bindings.{carries, is_available, is_bound, is_completed, is_deleting, is_empty, is_ended, is_for, is_lost, is_protected_volume, names_claim, uid_carries, uid_fits}
 use Rattle.kube_types.proofs.KeyOrder.{row_at_key}
 use Rattle.kube_types.proofs.RowPlaces.{row_at_place}
 use Rattle.call_types.specs.declared.request.Request.{Request}
@@ -25,9 +26,9 @@ use Rattle.call_types.specs.declared.reply.Reply.TheVariants.{Found, Refused}
 use Rattle.binder_model.specs.ObjectKeys.{volume_key}
 use Rattle.binder_model.specs.BinderDue.{has_other_uid}
 use Rattle.binder_model.specs.BindWrites.{claim_write, next_write, shows_bound, write_bound, write_claim_status, write_completion, write_reference}
-use Rattle.binder_model.specs.Matching.{eligible, fits, has_match, may_serve}
+use Rattle.binder_model.specs.Matching.{eligible, fits, may_serve}
 use Rattle.volume_match.specs.Volumes.{as_volume}
-use Rattle.claim_sync.specs.ClaimDecision.{IsChoice, claim_decision, completed_step, has_write, is_blocked, named_step, named_volume}
+use Rattle.claim_sync.specs.ClaimDecision.{IsChoice, claim_decision, completed_step, has_write, is_blocked, named_step, named_volume, unless_lost, unnamed_step}
 use Rattle.claim_sync.specs.declared.action.ClaimStep.{ClaimStep}
 use Rattle.claim_sync.specs.declared.action.ClaimStep.TheVariants as steps
 use Rattle.volume_sync.specs.VolumeDecision.{free_action, has_uid, referred_action, seen_claim, volume_decision}
@@ -36,10 +37,10 @@ use Rattle.volume_sync.specs.declared.action.VolumeAction.TheVariants as actions
 use Rattle.model_laws.proofs.Lists.{none_some, one}
 use Rattle.binder_machines.specs.declared.decide.First.TheVariants.{Begins}
 use Rattle.binder_machines.specs.declared.machine.Machine.{Machine}
-use Rattle.binder_machines.specs.declared.machine.Machine.TheVariants.{Frees, Binds, MarksBound, ReadsClaim, Releases, Unbinds, ReadsVolume, Loses}
+use Rattle.binder_machines.specs.declared.machine.Machine.TheVariants.{Frees, Binds, MarksBound, ReadsClaim, Releases, Unbinds, ReadsVolume, AssignsClass, Loses}
 use Rattle.binder_machines.specs.BeginLaw.{AreStored, BegunHaveCalls, ReadHaveCalls}
 use Rattle.binder_machines.specs.FirstSteps.{IsClaimFirst, IsFirst, lost_for, queue_of, volume_first}
-use Rattle.binder_machines.specs.Machines.{call_of, claim_read, confirmed_for, moved, volume_read, machine_for, may_bind, phase_call, read_of, write_phase}
+use Rattle.binder_machines.specs.Machines.{call_of, claim_read, confirmed_for, moved, volume_read, machine_for, may_bind, phase_call, read_of, write_class, write_phase}
 use Rattle.binder_machines.proofs.Begun.{first_back, known_of, machine_in}
 use Rattle.binder_machines.proofs.Shown.{free_reads_none}
 use Rattle.binder_machines.proofs.Tests.{either}
@@ -171,11 +172,18 @@ written_reference v c e = elim (either (is_none v.claim_ref) (carries v c) e) [
   | inr own ↦ right_true (is_none v.claim_ref) (is_for v c) (carries_for v c own)
 ]
 
+unless_binds_none : (b : Bool) (s : ClaimStep) → (s ≡ steps.Bind → ⊥) → (if b then steps.Nothing else s) ≡ steps.Bind → ⊥
+unless_binds_none true s none e = cc
+unless_binds_none false s none e = none e
+
+lost_binds_none : (c : ClaimData) → unless_lost c steps.Lost ≡ steps.Bind → ⊥
+lost_binds_none c e = unless_binds_none (is_lost c.phase) steps.Lost (λ e. cc) e
+
 completed_bindable : (v : VolumeData) (c : ClaimData) → completed_step c NotAsked (Some v) ≡ steps.Bind → Bindable v c
 completed_bindable v c = by (has_other_uid v c) (has_write v c) refl
   where
-    by : (other writes : Bool) → has_write v c ≡ writes → (if other then steps.Lost else if writes then steps.Bind else steps.Nothing) ≡ steps.Bind → Bindable v c
-    by true writes w e = cc
+    by : (other writes : Bool) → has_write v c ≡ writes → (if other then unless_lost c steps.Lost else if writes then steps.Bind else steps.Nothing) ≡ steps.Bind → Bindable v c
+    by true writes w e = absurd (lost_binds_none c e)
     by false true w e = let parts = and_parts _ _ w in record { reference = written_reference v c parts.0; write = parts.1 }
     by false false w e = cc
 
@@ -191,7 +199,7 @@ named_bindable v c open_one = by (is_blocked v) (is_none v.claim_ref) (fits v c)
     may reference b = let parts = open_blocked (is_deleting v.meta) (is_protected_volume v) (is_ended v.phase) b in record { reference = reference; write = next_is v c open_one parts.1 parts.0 }
 
     by : (blocked none fitting own : Bool) → is_blocked v ≡ blocked → is_none v.claim_ref ≡ none → is_for v c ≡ own
-        → (if blocked then steps.Nothing else if none then (if fitting then steps.Bind else steps.Nothing) else if own then steps.Bind else steps.Nothing) ≡ steps.Bind → Bindable v c
+        → (if blocked then steps.Nothing else if (if none then fitting else own) then steps.Bind else steps.Nothing) ≡ steps.Bind → Bindable v c
     by true none fitting own b n o e = cc
     by false true fitting own b n o e = may (left_true (is_none v.claim_ref) (is_for v c) n) b
     by false false fitting true b n o e = may (right_true (is_none v.claim_ref) (is_for v c) o) b
@@ -201,8 +209,8 @@ best_open : (rows : List Object) (c : ClaimData) → is_empty c.volume_name ≡ 
 unfolding claim_decision
 best_open rows c none = by (is_completed c) (is_empty c.volume_name) none
   where
-    by : (done empty : Bool) → empty ≡ true → (if done then (if empty then steps.Lost else completed_step c NotAsked (named_volume rows c)) else if is_deleting c.meta then steps.Nothing else if empty then (if has_match rows c then steps.Bind else steps.Nothing) else named_step c (named_volume rows c)) ≡ steps.Bind → done ≡ false
-    by true true n e = cc
+    by : (done empty : Bool) → empty ≡ true → (if done then (if empty then unless_lost c steps.Lost else completed_step c NotAsked (named_volume rows c)) else if is_deleting c.meta then steps.Nothing else if empty then unnamed_step rows c else named_step c (named_volume rows c)) ≡ steps.Bind → done ≡ false
+    by true true n e = absurd (lost_binds_none c e)
     by true false n e = absurd (true≢false (sym n))
     by false empty n e = refl
 
@@ -210,7 +218,7 @@ given_bindable : (rows : List Object) (c : ClaimData) (v : VolumeData) → is_em
 unfolding claim_decision
 given_bindable rows c v given seen = by (is_completed c) (is_deleting c.meta) (is_empty c.volume_name) (named_volume rows c) refl given seen
   where
-    by : (done deleting empty : Bool) (x : Option VolumeData) → is_completed c ≡ done → empty ≡ false → x ≡ Some v → (if done then (if empty then steps.Lost else completed_step c NotAsked x) else if deleting then steps.Nothing else if empty then (if has_match rows c then steps.Bind else steps.Nothing) else named_step c x) ≡ steps.Bind → Bindable v c
+    by : (done deleting empty : Bool) (x : Option VolumeData) → is_completed c ≡ done → empty ≡ false → x ≡ Some v → (if done then (if empty then unless_lost c steps.Lost else completed_step c NotAsked x) else if deleting then steps.Nothing else if empty then unnamed_step rows c else named_step c x) ≡ steps.Bind → Bindable v c
     by done deleting true x d g s e = absurd (true≢false g)
     by true deleting false x d g s e = completed_bindable v c (sym (ap (completed_step c NotAsked) s) ∙ e)
     by false true false x d g s e = cc
@@ -258,9 +266,15 @@ claim_begun rows key c machine stored at = by (claim_decision rows c NotAsked) r
     lost true = refl
     lost false = reads
 
+    assigns : (x : ClassData) → x.meta.namespace ≡ [] → is_some (call_of (AssignsClass c x)) ≡ true
+    assigns x placed = ap (λ (b : Bool). is_some {T = Request} (if b then Some (write_class c x) else None)) (both _ _ known (ap is_empty placed))
+
     by : (s : ClaimStep) → claim_decision rows c NotAsked ≡ s → IsClaimFirst rows c s (Begins machine) → is_some (call_of machine) ≡ true
     by steps.Nothing is e = none_some (sym (ap machine_in e))
     by steps.ReadVolume is e = calls (ReadsVolume c) machine (sym (ap machine_in e)) reads
+    by steps.AssignClass is e =
+        let x = e.class in
+        calls (AssignsClass c x) machine (sym (ap machine_in e.begins)) (assigns x (stored.placed_class (key_of (Class x)) x e.default.there))
     by steps.Lost is e = calls (lost_for (is_empty c.volume_name) c) machine (sym (ap machine_in e)) (lost (is_empty c.volume_name))
     by steps.Bind is e =
         let v = e.volume in
@@ -304,6 +318,7 @@ claim_goes_on c steps.Lost next e = calls (Loses c) next e refl
 claim_goes_on c steps.Nothing next e = none_some e
 claim_goes_on c steps.ReadVolume next e = none_some e
 claim_goes_on c steps.Bind next e = none_some e
+claim_goes_on c steps.AssignClass next e = none_some e
 
 pub read_have_calls : ReadHaveCalls
 unfolding moved

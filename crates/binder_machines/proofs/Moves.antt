@@ -21,7 +21,7 @@ use Rattle.binder_model.specs.BinderLicence.{IsCompletedVersion, IsGone, IsHere,
 use Rattle.binder_model.specs.Reading.{LacksUid}
 use Rattle.binder_model.specs.Told.{SomeOf, TellsObject, IsLiveAnswer, objects_in}
 use Rattle.volume_match.specs.Volumes.{as_volume}
-use Rattle.claim_sync.specs.ClaimDecision.{read_step}
+use Rattle.claim_sync.specs.ClaimDecision.{read_step, unless_lost}
 use Rattle.claim_sync.specs.declared.action.ClaimStep.{ClaimStep}
 use Rattle.claim_sync.specs.declared.action.ClaimStep.TheVariants as steps
 use Rattle.volume_sync.specs.VolumeDecision.{claimed_action, free_action, has_uid, referred_action}
@@ -32,7 +32,7 @@ use Rattle.binder_machines.specs.declared.machine.Machine.{Machine}
 use Rattle.binder_machines.specs.declared.machine.Machine.TheVariants.{Frees, Binds, MarksBound, ReadsClaim, Releases, Unbinds, ReadsVolume, Loses}
 use Rattle.binder_machines.specs.Machines.{call_of, claim_in, claim_read, confirmed_for, machine_for, moved, read_of, unbound_to, volume_read}
 use Rattle.binder_machines.specs.Evidence.{Keeps, MayReadClaim, MayReadVolume, ToldThis, ToldThisClaim}
-use Rattle.world_moves.proofs.Tests.{same_text, uid_is}
+use Rattle.safety_invariant.proofs.Tests.{same_text, uid_is}
 use Rattle.binder_machines.proofs.Tests.{bytes_differ, empty_is, filled_is, uid_differs, uid_of}
 
 -- what an answer tells was told
@@ -221,7 +221,7 @@ other_uid (Some uid) c e = (uid, refl, uid_differs c.meta.uid uid (opposite (is_
 not_carrying : (c : ClaimData) (o : Option Object) → read_step c (as_volume o) ≡ steps.Lost → IsNotCarrying c o
 not_carrying c (Some (Volume v)) e = by (has_other_uid v c) refl e
   where
-    by : (b : Bool) → has_other_uid v c ≡ b → (if b then steps.Lost else steps.Nothing) ≡ steps.Lost → IsNotCarrying c (Some (Volume v))
+    by : (b : Bool) → has_other_uid v c ≡ b → (if b then unless_lost c steps.Lost else steps.Nothing) ≡ steps.Lost → IsNotCarrying c (Some (Volume v))
     by true t s = other_uid (ref_uid v.claim_ref) c t
     by false t s = cc
 not_carrying c None e = tt
@@ -249,7 +249,7 @@ why_lost : (c : ClaimData) (o : Option Object) (mine : List Entry) (e : Entry) �
 unfolding claim_read
 why_lost c o mine e kept told call read is = by (is_completed c) (is_empty c.volume_name) refl is
   where
-    by : (done empty : Bool) → is_empty c.volume_name ≡ empty → (if done then (if empty then steps.Lost else read_step c (as_volume o)) else steps.Nothing) ≡ steps.Lost → (c.volume_name ≡ []) ⊎ WasReadLost (e ∷ mine) c
+    by : (done empty : Bool) → is_empty c.volume_name ≡ empty → (if done then (if empty then unless_lost c steps.Lost else read_step c (as_volume o)) else steps.Nothing) ≡ steps.Lost → (c.volume_name ≡ []) ⊎ WasReadLost (e ∷ mine) c
     by false empty n s = cc
     by true true n s = inl (empty_is c.volume_name n)
     by true false n s =
@@ -266,6 +266,7 @@ volume_goes_on c o mine e next kept told call read = by (claim_read c o) refl
     by steps.Nothing is n = none_some n
     by steps.ReadVolume is n = none_some n
     by steps.Bind is n = none_some n
+    by steps.AssignClass is n = none_some n
 
 -- what is left after unbinding
 

@@ -27,10 +27,10 @@ use Rattle.model_laws.proofs.Lists.{none_some, one}
 use Rattle.binder_machines.specs.declared.decide.First.{First}
 use Rattle.binder_machines.specs.declared.decide.First.TheVariants.{Queues}
 use Rattle.binder_machines.specs.declared.machine.Machine.{Machine}
-use Rattle.binder_machines.specs.declared.machine.Machine.TheVariants.{Frees, Binds, MarksBound, ReadsClaim, Releases, Unbinds, ReadsVolume, Loses}
+use Rattle.binder_machines.specs.declared.machine.Machine.TheVariants.{Frees, Binds, MarksBound, ReadsClaim, Releases, Unbinds, ReadsVolume, AssignsClass, Loses}
 use Rattle.binder_machines.specs.FirstSteps.{IsClaimFirst, IsFirst, first_of, queue_of, volume_first}
 use Rattle.binder_machines.specs.KindLaw.{CallsReadNoKind, VolumesQueueClaims, reads_kind}
-use Rattle.binder_machines.specs.Machines.{call_of, machine_for, may_bind, phase_call, read_of, write_phase}
+use Rattle.binder_machines.specs.Machines.{call_of, machine_for, may_bind, phase_call, read_of, write_class, write_phase}
 
 -- no call of a machine reads a kind
 
@@ -79,6 +79,7 @@ of_call (ReadsClaim v) = if_some (is_empty v.meta.namespace && is_some v.meta.ui
 of_call (Releases v) = of_phase v volumes.Released
 of_call (Unbinds v) = λ kind. refl
 of_call (ReadsVolume c) = if_some (is_some c.meta.uid) _ (λ kind. refl)
+of_call (AssignsClass c x) = if_some (is_some c.meta.uid && is_empty x.meta.namespace) (Some (write_class c x)) (λ kind. refl)
 of_call (Loses c) = λ kind. refl
 
 pub calls_read_no_kind : CallsReadNoKind
@@ -121,6 +122,7 @@ volumes_queue_claims rows key other first = by (row_at key rows) refl first
     by_step c steps.Bind e = none_some (sym (ap queued_in e.begins))
     by_step c steps.Nothing e = none_some (sym (ap queued_in e))
     by_step c steps.ReadVolume e = none_some (sym (ap queued_in e))
+    by_step c steps.AssignClass e = none_some (sym (ap queued_in e.begins))
     by_step c steps.Lost e = none_some (sym (ap queued_in e))
 
     by : (o : Option Object) → row_at key rows ≡ o → IsFirst rows o (Queues other) → (key.kind ≡ kinds.PersistentVolume) × (other.kind ≡ kinds.PersistentVolumeClaim)

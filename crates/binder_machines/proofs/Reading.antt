@@ -62,6 +62,7 @@ for_completed c steps.ReadVolume e = refl
 for_completed c steps.Lost e = refl
 for_completed c steps.Nothing e = absurd (true≢false (sym e))
 for_completed c steps.Bind e = absurd (true≢false (sym e))
+for_completed c steps.AssignClass e = absurd (true≢false (sym e))
 
 pub volume_read_decides : VolumeReadDecides
 unfolding moved
@@ -86,5 +87,6 @@ parked_have_ended (machines.ReadsClaim v) (replies.Refused _) e = refl
 parked_have_ended (machines.Releases v) (replies.Refused r) e = refl
 parked_have_ended (machines.Unbinds v) (replies.Refused r) e = refl
 parked_have_ended (machines.ReadsVolume c) (replies.Refused _) e = refl
+parked_have_ended (machines.AssignsClass c x) (replies.Refused r) e = refl
 parked_have_ended (machines.Loses c) (replies.Refused r) e = refl
 parked_have_ended _ _ e = absurd (true≢false (sym e))

@@ -1,6 +1,6 @@
 -- The decision after a read is the one on the look-up with what was read.
 use Rattle.std.proofs.Common.{◌≡◌, ◌∙◌, Bool, true, false, true≢false, not, List, [], Option, Some, None, refl, sym, ap, if◌then◌else◌}
-use Rattle.std.specs.Prelude.{bytes_eq, is_none, ◌||◌}
+use Rattle.std.specs.Prelude.{bytes_eq, ◌&&◌, ◌||◌}
 use Rattle.kube_types.specs.declared.uid.Uid.{Uid}
 use Rattle.kube_types.specs.declared.objects.Ref.{Ref}
 use Rattle.kube_types.specs.declared.objects.Volume.{Volume as VolumeData}
@@ -10,12 +10,12 @@ use Rattle.kube_types.specs.declared.lookup.Live.{Live}
 use Rattle.kube_types.specs.declared.lookup.Live.TheVariants.{NotAsked, Absent, Present}
 use Rattle.kube_types.specs.Keys.{row_at}
 use Rattle.kube_types.specs.Lookups.{is_asked}
-use Rattle.kube_types.specs.Bindings.{is_available, is_bound, is_completed, is_deleting, is_empty, is_ended, is_for, is_protected_volume, ref_uid}
+use Rattle.kube_types.specs.Bindings.{is_available, is_bound, is_completed, is_deleting, is_empty, is_ended, is_protected_volume, lacks_class, ref_uid}
 use Rattle.binder_model.specs.ObjectKeys.{claim_key}
 use Rattle.binder_model.specs.BinderDue.{claim_with, has_other_uid, is_reclaimed}
-use Rattle.binder_model.specs.Matching.{fits, has_match}
+use Rattle.binder_model.specs.Matching.{has_match}
 use Rattle.volume_match.specs.Volumes.{as_volume}
-use Rattle.claim_sync.specs.ClaimDecision.{claim_decision, completed_step, has_write, is_blocked, named_step, named_volume, other_step, read_step}
+use Rattle.claim_sync.specs.ClaimDecision.{claim_decision, completed_step, has_write, is_blocked, is_open_to, may_assign, named_step, named_volume, other_step, read_step, unless_lost}
 use Rattle.claim_sync.specs.declared.action.ClaimStep.{ClaimStep}
 use Rattle.claim_sync.specs.declared.action.ClaimStep.TheVariants as steps
 use Rattle.volume_sync.specs.VolumeDecision.{claim_by_reference, claim_by_uid, free_action, has_uid, live_claim, or_else, referred_action, seen_claim, volume_decision}
@@ -99,11 +99,11 @@ unseen rows v e = by (has_uid v) (is_ended v.phase) (seen_claim rows v NotAsked)
 -- claims
 
 -- the decision by its conditions
-abbrev step_by : ClaimData → Bool → Bool → Bool → Bool → ClaimStep → Option VolumeData → ClaimStep
-step_by c done deleting empty match x v =
-    if done then (if empty then steps.Lost else x)
+abbrev step_by : ClaimData → Bool → Bool → Bool → Bool → Bool → ClaimStep → Option VolumeData → ClaimStep
+step_by c done deleting empty match assignable x v =
+    if done then (if empty then unless_lost c steps.Lost else x)
     else if deleting then steps.Nothing
-    else if empty then (if match then steps.Bind else steps.Nothing)
+    else if empty then (if match then steps.Bind else if assignable then steps.AssignClass else steps.Nothing)
     else named_step c v
 
 lacking_read : (c : ClaimData) (live : Live) → is_asked live ≡ true → completed_step c live None ≡ read_step c (as_volume (shown live))
@@ -114,14 +114,15 @@ lacking_read c (Present o) asked = refl
 -- what was read decides alone
 pub claim_alone : (c : ClaimData) (live : Live) → is_asked live ≡ true → claim_decision [] c live ≡ claim_read c (shown live)
 unfolding claim_decision claim_read
-claim_alone c live asked = by (is_completed c) (is_deleting c.meta) (is_empty c.volume_name)
+claim_alone c live asked = by (is_completed c) (is_deleting c.meta) (is_empty c.volume_name) (lacks_class c)
   where
-    by : (done deleting empty : Bool) → step_by c done deleting empty false (completed_step c live None) None ≡ (if done then (if empty then steps.Lost else read_step c (as_volume (shown live))) else steps.Nothing)
-    by true deleting true = refl
-    by true deleting false = lacking_read c live asked
-    by false true empty = refl
-    by false false true = refl
-    by false false false = refl
+    by : (done deleting empty lacking : Bool) → step_by c done deleting empty false (lacking && false) (completed_step c live None) None ≡ (if done then (if empty then unless_lost c steps.Lost else read_step c (as_volume (shown live))) else steps.Nothing)
+    by true deleting true lacking = refl
+    by true deleting false lacking = lacking_read c live asked
+    by false true empty lacking = refl
+    by false false true true = refl
+    by false false true false = refl
+    by false false false lacking = refl
 
 -- only a completed claim is read or Lost
 
@@ -132,32 +133,31 @@ is_for_completed _ = false
 
 named_for_none : (c : ClaimData) (v : Option VolumeData) → is_for_completed (named_step c v) ≡ false
 named_for_none c None = refl
-named_for_none c (Some v) = by (is_blocked v) (is_none v.claim_ref) (fits v c) (is_for v c)
+named_for_none c (Some v) = by (is_blocked v) (is_open_to v c)
   where
-    by : (blocked free fitting own : Bool) → is_for_completed (if blocked then steps.Nothing else if free then (if fitting then steps.Bind else steps.Nothing) else if own then steps.Bind else steps.Nothing) ≡ false
-    by true free fitting own = refl
-    by false true true own = refl
-    by false true false own = refl
-    by false false fitting true = refl
-    by false false fitting false = refl
+    by : (blocked takable : Bool) → is_for_completed (if blocked then steps.Nothing else if takable then steps.Bind else steps.Nothing) ≡ false
+    by true takable = refl
+    by false true = refl
+    by false false = refl
 
 pub completed_of : (rows : List Object) (c : ClaimData) → is_for_completed (claim_decision rows c NotAsked) ≡ true → is_completed c ≡ true
 unfolding claim_decision
-completed_of rows c = by (is_completed c) (is_deleting c.meta) (is_empty c.volume_name) (has_match rows c)
+completed_of rows c = by (is_completed c) (is_deleting c.meta) (is_empty c.volume_name) (has_match rows c) (may_assign rows c)
   where
-    by : (done deleting empty match : Bool) → is_for_completed (step_by c done deleting empty match (completed_step c NotAsked (named_volume rows c)) (named_volume rows c)) ≡ true → done ≡ true
-    by true deleting empty match e = refl
-    by false true empty match e = absurd (true≢false (sym e))
-    by false false true true e = absurd (true≢false (sym e))
-    by false false true false e = absurd (true≢false (sym e))
-    by false false false match e = absurd (true≢false (sym e ∙ named_for_none c (named_volume rows c)))
+    by : (done deleting empty match assignable : Bool) → is_for_completed (step_by c done deleting empty match assignable (completed_step c NotAsked (named_volume rows c)) (named_volume rows c)) ≡ true → done ≡ true
+    by true deleting empty match assignable e = refl
+    by false true empty match assignable e = absurd (true≢false (sym e))
+    by false false true true assignable e = absurd (true≢false (sym e))
+    by false false true false true e = absurd (true≢false (sym e))
+    by false false true false false e = absurd (true≢false (sym e))
+    by false false false match assignable e = absurd (true≢false (sym e ∙ named_for_none c (named_volume rows c)))
 
 -- the volume that the look-up shows does not carry the claim, so what was read decides
 completed_read : (c : ClaimData) (v : Option VolumeData) (live : Live) → is_asked live ≡ true → is_for_completed (completed_step c NotAsked v) ≡ true → completed_step c live v ≡ read_step c (as_volume (shown live))
 completed_read c None live asked e = lacking_read c live asked
 completed_read c (Some v) live asked e = by (has_other_uid v c) (has_write v c) live asked e
   where
-    by : (other writes : Bool) (live : Live) → is_asked live ≡ true → is_for_completed (if other then steps.Lost else if writes then steps.Bind else steps.Nothing) ≡ true
+    by : (other writes : Bool) (live : Live) → is_asked live ≡ true → is_for_completed (if other then unless_lost c steps.Lost else if writes then steps.Bind else steps.Nothing) ≡ true
         → (if other then other_step c live else if writes then steps.Bind else steps.Nothing) ≡ read_step c (as_volume (shown live))
     by true writes NotAsked asked e = absurd (true≢false (sym asked))
     by true writes Absent asked e = refl
@@ -167,13 +167,14 @@ completed_read c (Some v) live asked e = by (has_other_uid v c) (has_write v c) 
 
 pub claim_reads : (rows : List Object) (c : ClaimData) (live : Live) → is_asked live ≡ true → is_for_completed (claim_decision rows c NotAsked) ≡ true → claim_decision rows c live ≡ claim_read c (shown live)
 unfolding claim_decision claim_read
-claim_reads rows c live asked e = by (is_completed c) (is_deleting c.meta) (is_empty c.volume_name) (has_match rows c) e
+claim_reads rows c live asked e = by (is_completed c) (is_deleting c.meta) (is_empty c.volume_name) (has_match rows c) (may_assign rows c) e
   where
-    by : (done deleting empty match : Bool) → is_for_completed (step_by c done deleting empty match (completed_step c NotAsked (named_volume rows c)) (named_volume rows c)) ≡ true
-        → step_by c done deleting empty match (completed_step c live (named_volume rows c)) (named_volume rows c) ≡ (if done then (if empty then steps.Lost else read_step c (as_volume (shown live))) else steps.Nothing)
-    by true deleting true match e = refl
-    by true deleting false match e = completed_read c (named_volume rows c) live asked e
-    by false true empty match e = absurd (true≢false (sym e))
-    by false false true true e = absurd (true≢false (sym e))
-    by false false true false e = absurd (true≢false (sym e))
-    by false false false match e = absurd (true≢false (sym e ∙ named_for_none c (named_volume rows c)))
+    by : (done deleting empty match assignable : Bool) → is_for_completed (step_by c done deleting empty match assignable (completed_step c NotAsked (named_volume rows c)) (named_volume rows c)) ≡ true
+        → step_by c done deleting empty match assignable (completed_step c live (named_volume rows c)) (named_volume rows c) ≡ (if done then (if empty then unless_lost c steps.Lost else read_step c (as_volume (shown live))) else steps.Nothing)
+    by true deleting true match assignable e = refl
+    by true deleting false match assignable e = completed_read c (named_volume rows c) live asked e
+    by false true empty match assignable e = absurd (true≢false (sym e))
+    by false false true true assignable e = absurd (true≢false (sym e))
+    by false false true false true e = absurd (true≢false (sym e))
+    by false false true false false e = absurd (true≢false (sym e))
+    by false false false match assignable e = absurd (true≢false (sym e ∙ named_for_none c (named_volume rows c)))

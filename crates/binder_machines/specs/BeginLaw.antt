@@ -2,9 +2,10 @@
 -- `call_of` tests holds back no decision. A choice of this project.
 use Rattle.std.specs.Prelude.{◌≡◌, Bool, true, false, List, [], Some, is_some}
 use Rattle.kube_types.specs.declared.key.Key.{Key}
+use Rattle.kube_types.specs.declared.objects.Class.{Class as ClassData}
 use Rattle.kube_types.specs.declared.objects.Volume.{Volume as VolumeData}
 use Rattle.kube_types.specs.declared.objects.Object.{Object}
-use Rattle.kube_types.specs.declared.objects.Object.TheVariants.{Volume}
+use Rattle.kube_types.specs.declared.objects.Object.TheVariants.{Class, Volume}
 use Rattle.kube_types.specs.Keys.{AreRows, meta_of, row_at}
 use Rattle.call_types.specs.declared.request.Request.{Request}
 use Rattle.call_types.specs.declared.reply.Reply.{Reply}
@@ -14,11 +15,12 @@ use Rattle.binder_machines.specs.declared.machine.Machine.TheVariants.{ReadsClai
 use Rattle.binder_machines.specs.FirstSteps.{IsFirst}
 use Rattle.binder_machines.specs.Machines.{call_of, moved}
 
--- each object has its UID, and a volume has no namespace
+-- each object has its UID, and a volume has no namespace, nor has a class
 pub record AreStored (rows : List Object) : Type 0 where
   pub order : AreRows rows
   pub known : (key : Key) (o : Object) → row_at key rows ≡ Some o → is_some (meta_of o).uid ≡ true
   pub placed : (key : Key) (v : VolumeData) → row_at key rows ≡ Some (Volume v) → v.meta.namespace ≡ []
+  pub placed_class : (key : Key) (x : ClassData) → row_at key rows ≡ Some (Class x) → x.meta.namespace ≡ []
 
 abbrev pub BegunHaveCalls : Type 0
 BegunHaveCalls = (rows : List Object) (key : Key) (machine : Machine) → AreStored rows → IsFirst rows (row_at key rows) (Begins machine) → is_some (call_of machine) ≡ true

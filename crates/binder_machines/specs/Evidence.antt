@@ -9,11 +9,12 @@ use Rattle.kube_types.specs.Bindings.{is_completed, is_ended}
 use Rattle.call_types.specs.declared.entry.Entry.{Entry}
 use Rattle.binder_model.specs.ObjectKeys.{claim_key, volume_key}
 use Rattle.binder_model.specs.BindWrites.{unbound_volume}
-use Rattle.binder_model.specs.BinderLicence.{MayBind, MayFree, MayLose, MayRelease, MayUnbind}
+use Rattle.binder_model.specs.BinderLicence.{MayAssignClass, MayBind, MayFree, MayLose, MayRelease, MayUnbind}
 use Rattle.binder_model.specs.Reading.{AsksForClaim, AsksForVolume}
 use Rattle.binder_model.specs.Told.{ToldVolume, ToldClaim}
 use Rattle.binder_machines.specs.declared.machine.Machine.{Machine}
-use Rattle.binder_machines.specs.declared.machine.Machine.TheVariants.{Frees, Binds, MarksBound, ReadsClaim, Releases, Unbinds, ReadsVolume, Loses}
+use Rattle.binder_machines.specs.declared.machine.Machine.TheVariants.{Frees, Binds, MarksBound, ReadsClaim, Releases, Unbinds, ReadsVolume, AssignsClass, Loses}
+use Rattle.binder_machines.specs.Machines.{assigned}
 
 -- this volume was told, as it is
 abbrev pub ToldThis : VolumeData → List Entry → Type 0
@@ -47,4 +48,5 @@ Keeps (ReadsClaim v) mine = MayReadClaim v mine
 Keeps (Releases v) mine = ToldThis v mine × MayRelease mine v
 Keeps (Unbinds v) mine = ToldThis v mine × MayUnbind mine v (unbound_volume v)
 Keeps (ReadsVolume c) mine = MayReadVolume c mine
+Keeps (AssignsClass c x) mine = ToldThisClaim c mine × (x.meta.namespace ≡ [] → MayAssignClass mine c (assigned c x))
 Keeps (Loses c) mine = ToldThisClaim c mine × MayLose mine c c.got_modes c.got

@@ -6,9 +6,11 @@ use Rattle.kube_types.specs.declared.lookup.Live.TheVariants.{NotAsked}
 use Rattle.kube_types.specs.declared.objects.Ref.{Ref}
 use Rattle.kube_types.specs.declared.objects.Volume.{Volume as VolumeData}
 use Rattle.kube_types.specs.declared.objects.Claim.{Claim as ClaimData}
+use Rattle.kube_types.specs.declared.objects.Class.{Class as ClassData}
 use Rattle.kube_types.specs.declared.objects.Object.{Object}
 use Rattle.kube_types.specs.declared.objects.Object.TheVariants.{Volume, Claim}
 use Rattle.kube_types.specs.Keys.{rows_of}
+use Rattle.kube_types.specs.Defaults.{IsDefaultOf, StandsIn}
 use Rattle.kube_types.specs.Bindings.{is_empty}
 use Rattle.binder_model.specs.ObjectKeys.{claim_key}
 use Rattle.claim_sync.specs.ClaimDecision.{IsChoice, claim_decision}
@@ -20,7 +22,7 @@ use Rattle.volume_sync.specs.declared.action.VolumeAction.TheVariants as actions
 use Rattle.binder_machines.specs.declared.decide.First.{First}
 use Rattle.binder_machines.specs.declared.decide.First.TheVariants.{Drops, Queues, Begins}
 use Rattle.binder_machines.specs.declared.machine.Machine.{Machine}
-use Rattle.binder_machines.specs.declared.machine.Machine.TheVariants.{Binds, ReadsVolume, Loses}
+use Rattle.binder_machines.specs.declared.machine.Machine.TheVariants.{Binds, ReadsVolume, AssignsClass, Loses}
 use Rattle.binder_machines.specs.Machines.{machine_for}
 
 abbrev pub first_of : Option Machine → First
@@ -45,7 +47,7 @@ abbrev pub lost_for : Bool → ClaimData → Machine
 lost_for true c = Loses c
 lost_for false c = ReadsVolume c
 
--- where nothing is to be bound
+-- where nothing is to be bound or assigned
 abbrev pub claim_first : ClaimData → ClaimStep → First
 claim_first c steps.ReadVolume = Begins (ReadsVolume c)
 claim_first c steps.Lost = Begins (lost_for (is_empty c.volume_name) c)
@@ -59,8 +61,15 @@ pub record IsBindingTo (rows : List Object) (c : ClaimData) (first : First) : Ty
   pub there : slice_get (rows_of kinds.PersistentVolume rows) place ≡ Some (Volume volume)
   pub begins : first ≡ Begins (Binds volume c)
 
+-- the class that the claim is to get: the default one of the look-up
+pub record IsAssignmentOf (rows : List Object) (c : ClaimData) (first : First) : Type 0 where
+  pub class : ClassData
+  pub default : IsDefaultOf (StandsIn rows) class
+  pub begins : first ≡ Begins (AssignsClass c class)
+
 abbrev pub IsClaimFirst : List Object → ClaimData → ClaimStep → First → Type 0
 IsClaimFirst rows c steps.Bind first = IsBindingTo rows c first
+IsClaimFirst rows c steps.AssignClass first = IsAssignmentOf rows c first
 IsClaimFirst rows c step first = first ≡ claim_first c step
 
 -- what is done about the key of this row: a machine begins, another key is queued, or nothing is done

@@ -1,5 +1,5 @@
 -- What the binder has under way for one key: the next call of each machine, and what the answer to it makes of the machine.
--- Source: `syncVolume`, `syncUnboundClaim`, `syncBoundClaim`, `bind` and `unbindVolume` of `pv_controller.go`. That a claim or a volume is
+-- Source: `syncVolume`, `syncUnboundClaim` (with `assignDefaultStorageClass`), `syncBoundClaim`, `bind` and `unbindVolume` of `pv_controller.go`. That a claim or a volume is
 -- read by itself before phase Released or Lost is written is a choice of this project.
 use Rattle.std.specs.Prelude.{Bool, true, false, not, ◌&&◌, ◌||◌, Option, Some, None, bytes_eq, is_none, is_some, if◌then◌else◌}
 use Rattle.kube_types.specs.declared.uid.Uid.{Uid}
@@ -9,11 +9,12 @@ use Rattle.kube_types.specs.declared.parts.VolumePhase.TheVariants as volumes
 use Rattle.kube_types.specs.declared.objects.Ref.{Ref}
 use Rattle.kube_types.specs.declared.objects.Volume.{Volume as VolumeData}
 use Rattle.kube_types.specs.declared.objects.Claim.{Claim as ClaimData}
+use Rattle.kube_types.specs.declared.objects.Class.{Class as ClassData}
 use Rattle.kube_types.specs.declared.objects.Object.{Object}
 use Rattle.kube_types.specs.declared.objects.Object.TheVariants.{Volume, Claim}
 use Rattle.kube_types.specs.Bindings.{is_completed, is_empty, is_ended, is_for, ref_uid}
 use Rattle.call_types.specs.declared.request.Request.{Request}
-use Rattle.call_types.specs.declared.request.Request.TheVariants.{Get, UpdateStatus}
+use Rattle.call_types.specs.declared.request.Request.TheVariants.{Get, Update, UpdateStatus}
 use Rattle.call_types.specs.declared.request.NewStatus.TheVariants as statuses
 use Rattle.call_types.specs.declared.reply.Refusal.TheVariants.{NotFound}
 use Rattle.call_types.specs.declared.reply.Reply.{Reply}
@@ -22,14 +23,14 @@ use Rattle.binder_model.specs.ObjectKeys.{claim_key, volume_key}
 use Rattle.binder_model.specs.BindWrites.{next_write, write_unbound}
 use Rattle.binder_model.specs.BinderDue.{claim_with}
 use Rattle.volume_match.specs.Volumes.{as_volume}
-use Rattle.claim_sync.specs.ClaimDecision.{read_step}
+use Rattle.claim_sync.specs.ClaimDecision.{read_step, unless_lost}
 use Rattle.claim_sync.specs.declared.action.ClaimStep.{ClaimStep}
 use Rattle.claim_sync.specs.declared.action.ClaimStep.TheVariants as steps
 use Rattle.volume_sync.specs.VolumeDecision.{free_action, has_uid, referred_action}
 use Rattle.volume_sync.specs.declared.action.VolumeAction.{VolumeAction}
 use Rattle.volume_sync.specs.declared.action.VolumeAction.TheVariants as actions
 use Rattle.binder_machines.specs.declared.machine.Machine.{Machine}
-use Rattle.binder_machines.specs.declared.machine.Machine.TheVariants.{Frees, Binds, MarksBound, ReadsClaim, Releases, Unbinds, ReadsVolume, Loses}
+use Rattle.binder_machines.specs.declared.machine.Machine.TheVariants.{Frees, Binds, MarksBound, ReadsClaim, Releases, Unbinds, ReadsVolume, AssignsClass, Loses}
 
 -- the next call
 
@@ -52,6 +53,18 @@ abbrev pub write_lost : ClaimData → Request
 write_lost c =
     UpdateStatus (claim_key c.meta.namespace c.meta.name)
     (statuses.Claim claims.Lost c.got_modes c.got) (Some c.meta.version)
+
+-- the claim with the name of the class, and nothing else changed
+abbrev pub assigned : ClaimData → ClassData → ClaimData
+assigned c x = record c { class = Some x.meta.name }
+
+-- the write of the class's name into the claim
+abbrev pub write_class : ClaimData → ClassData → Request
+write_class c x = Update (Claim (assigned c x)) (Some c.meta.version)
+
+-- An object has a UID from its creation on, and a class has no namespace: no store takes one that has. So the tests fail in no history
+abbrev pub class_call : ClaimData → ClassData → Option Request
+class_call c x = if is_some c.meta.uid && is_empty x.meta.namespace then Some (write_class c x) else None
 
 -- the next of the four writes
 abbrev pub bind_call : VolumeData → ClaimData → Option Request
@@ -78,6 +91,7 @@ call_of (ReadsClaim v) = claim_call v
 call_of (Releases v) = phase_call v volumes.Released
 call_of (Unbinds v) = Some (write_unbound v)
 call_of (ReadsVolume c) = volume_call c
+call_of (AssignsClass c x) = class_call c x
 call_of (Loses c) = Some (write_lost c)
 
 -- what a decision begins
@@ -112,7 +126,7 @@ volume_read v o =
 -- the decision on a claim, where the volume that it names was read by itself and this was found
 unfoldable pub claim_read : ClaimData → Option Object → ClaimStep
 claim_read c o =
-    if is_completed c then (if is_empty c.volume_name then steps.Lost else read_step c (as_volume o))
+    if is_completed c then (if is_empty c.volume_name then unless_lost c steps.Lost else read_step c (as_volume o))
     else steps.Nothing
 
 -- what the answer to the next call makes of the machine, or none where it has ended

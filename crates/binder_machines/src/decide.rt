@@ -4,6 +4,7 @@ ghost use Rattle.std.specs.Prelude.{◌≡◌, IfOk};
 ghost use Rattle.std.specs.Option.{option_copied};
 ghost use Rattle.kube_types.specs.declared.lookup.Live.TheVariants.{NotAsked};
 ghost use Rattle.kube_types.specs.Keys.{row_at};
+ghost use Rattle.kube_types.specs.Steps.Scan.{class_at};
 ghost use Rattle.claim_sync.specs.ClaimDecision.{claim_decision};
 ghost use Rattle.volume_sync.specs.VolumeDecision.{volume_decision};
 ghost use Rattle.volume_match.specs.Volumes.{volume_at};
@@ -16,8 +17,9 @@ use kube_types::bindings::is_empty;
 use kube_types::copies::{OutOfMemory, Plain};
 use kube_types::key::{Key, claim_key};
 use kube_types::lookup::{Live, Lookup};
-use kube_types::objects::{Claim, Object, Ref, Volume};
+use kube_types::objects::{Claim, Class, Object, Ref, Volume};
 use kube_types::parts::Kind;
+use kube_types::shared::Shared;
 use std::alloc::Global;
 use volume_sync::{VolumeAction, decide_volume};
 
@@ -43,7 +45,7 @@ pub fn first_for<L: Lookup>(alloc: Global, lookup: &L, key: &Key) -> Result<Firs
 fn first_of_volume<L: Lookup>(
     alloc: Global,
     lookup: &L,
-    volume: &Volume,
+    volume: &Shared<Volume>,
 ) -> Result<First, OutOfMemory>
     ensures { IfOk result (λ first. first ≡ volume_first volume.now (volume_decision (L.rows lookup.now) volume.now NotAsked)) }
 {
@@ -54,7 +56,11 @@ fn first_of_volume<L: Lookup>(
 }
 
 /// What a decision on the volume begins, where it does not queue its claim.
-fn first_with(alloc: Global, volume: &Volume, action: VolumeAction) -> Result<First, OutOfMemory>
+fn first_with(
+    alloc: Global,
+    volume: &Shared<Volume>,
+    action: VolumeAction,
+) -> Result<First, OutOfMemory>
     ensures { IfOk result (λ first. first ≡ first_of (machine_for volume.now action)) }
 {
     match machine_for(alloc, volume, action)? {
@@ -77,7 +83,11 @@ fn queue_of(alloc: Global, reference: &Option<Ref>) -> Result<First, OutOfMemory
     }
 }
 
-fn first_of_claim<L: Lookup>(alloc: Global, lookup: &L, claim: &Claim) -> Result<First, OutOfMemory>
+fn first_of_claim<L: Lookup>(
+    alloc: Global,
+    lookup: &L,
+    claim: &Shared<Claim>,
+) -> Result<First, OutOfMemory>
     ensures { IfOk result (λ first. IsClaimFirst (L.rows lookup.now) claim.now (claim_decision (L.rows lookup.now) claim.now NotAsked) first) }
 {
     match decide_claim(lookup, claim, Live::NotAsked) {
@@ -96,11 +106,28 @@ fn first_of_claim<L: Lookup>(alloc: Global, lookup: &L, claim: &Claim) -> Result
             }
             None => Ok(First::Drops),
         },
+        ClaimAction::AssignClass(place) => match class_at(lookup, place) {
+            Some(class) => {
+                let class = class.copy(alloc)?;
+                Ok(First::Begins(Machine::AssignsClass(claim.copy(alloc)?, class)))
+            }
+            None => Ok(First::Drops),
+        },
+    }
+}
+
+/// The class at a place among the classes.
+fn class_at<L: Lookup>(lookup: &L, place: usize) -> Option<&Shared<Class>>
+    ensures { option_copied result ≡ class_at (L.rows lookup.now) place }
+{
+    match lookup.at(Kind::StorageClass, place) {
+        Some(Object::Class(class)) => Some(class),
+        _ => None,
     }
 }
 
 /// The volume at a place among the volumes.
-fn volume_at<L: Lookup>(lookup: &L, place: usize) -> Option<&Volume>
+fn volume_at<L: Lookup>(lookup: &L, place: usize) -> Option<&Shared<Volume>>
     ensures { option_copied result ≡ volume_at (L.rows lookup.now) place }
 {
     match lookup.at(Kind::PersistentVolume, place) {

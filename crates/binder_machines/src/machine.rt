@@ -5,35 +5,39 @@ ghost use Rattle.binder_machines.specs.Machines.{call_of, confirmed_for, machine
 ghost use Rattle.claim_sync.specs.ClaimDecision.{step_of};
 
 use crate::reads::{claim_read, has_uid, is_available, volume_read};
-use crate::requests::{bind_call, claim_call, phase_call, volume_call, write_lost};
+use crate::requests::{bind_call, claim_call, class_call, phase_call, volume_call, write_lost};
 use bind_writes::unbind;
 use call_types::reply::{Refusal, Reply};
 use call_types::request::Request;
 use claim_sync::ClaimAction;
 use kube_types::copies::{OutOfMemory, Plain};
-use kube_types::objects::{Claim, Object, Volume};
+use kube_types::objects::{Claim, Class, Object, Volume};
 use kube_types::parts::VolumePhase;
+use kube_types::shared::Shared;
 use std::alloc::Global;
 use volume_sync::VolumeAction;
 
-/// What the binder has under way for one key, with the objects on which it goes on.
+/// What the binder has under way for one key, with the objects on which it goes on. It shares them with the caches and
+/// the replies that it has them from.
 pub enum Machine {
     /// Phase Available is to be written.
-    Frees(Volume),
+    Frees(Shared<Volume>),
     /// The writes of a binding are to be made.
-    Binds(Volume, Claim),
+    Binds(Shared<Volume>, Shared<Claim>),
     /// Phase Bound is to be written on the volume of a claim that names it.
-    MarksBound(Volume),
+    MarksBound(Shared<Volume>),
     /// The claim of the volume's reference is to be read by itself.
-    ReadsClaim(Volume),
+    ReadsClaim(Shared<Volume>),
     /// Phase Released is to be written.
-    Releases(Volume),
+    Releases(Shared<Volume>),
     /// The reference is to be taken back, and then phase Available to be written.
-    Unbinds(Volume),
+    Unbinds(Shared<Volume>),
     /// The volume that the claim names is to be read by itself.
-    ReadsVolume(Claim),
+    ReadsVolume(Shared<Claim>),
+    /// The claim's class is to be set to this one.
+    AssignsClass(Shared<Claim>, Shared<Class>),
     /// Phase Lost is to be written.
-    Loses(Claim),
+    Loses(Shared<Claim>),
 }
 
 impl Drop for Machine {
@@ -49,6 +53,10 @@ impl Drop for Machine {
             Machine::Releases(volume) => drop(volume),
             Machine::Unbinds(volume) => drop(volume),
             Machine::ReadsVolume(claim) => drop(claim),
+            Machine::AssignsClass(claim, class) => {
+                drop(claim);
+                drop(class);
+            }
             Machine::Loses(claim) => drop(claim),
         }
     }
@@ -68,6 +76,7 @@ impl Machine {
             Machine::Releases(volume) => phase_call(alloc, volume, VolumePhase::Released),
             Machine::Unbinds(volume) => Ok(Some(unbind(alloc, volume)?)),
             Machine::ReadsVolume(claim) => volume_call(alloc, claim),
+            Machine::AssignsClass(claim, class) => class_call(alloc, claim, class),
             Machine::Loses(claim) => Ok(Some(write_lost(alloc, claim)?)),
         }
     }
@@ -121,7 +130,7 @@ impl Machine {
 /// What a decision on the volume begins.
 pub(crate) fn machine_for(
     alloc: Global,
-    volume: &Volume,
+    volume: &Shared<Volume>,
     action: VolumeAction,
 ) -> Result<Option<Machine>, OutOfMemory>
     ensures { IfOk result (λ machine. machine ≡ machine_for volume.now action) }
@@ -139,19 +148,22 @@ pub(crate) fn machine_for(
 /// What a decision on the claim begins, once its volume was read by itself.
 fn confirmed_for(
     alloc: Global,
-    claim: &Claim,
+    claim: &Shared<Claim>,
     action: ClaimAction,
 ) -> Result<Option<Machine>, OutOfMemory>
     ensures { IfOk result (λ machine. machine ≡ confirmed_for claim.now (step_of action)) }
 {
     match action {
         ClaimAction::Lost => Ok(Some(Machine::Loses(claim.copy(alloc)?))),
-        ClaimAction::Nothing | ClaimAction::ReadVolume | ClaimAction::Bind(_) => Ok(None),
+        ClaimAction::Nothing
+        | ClaimAction::ReadVolume
+        | ClaimAction::Bind(_)
+        | ClaimAction::AssignClass(_) => Ok(None),
     }
 }
 
 /// What is left to do on a volume that was unbound.
-fn unbound_to(alloc: Global, volume: &Volume) -> Result<Option<Machine>, OutOfMemory>
+fn unbound_to(alloc: Global, volume: &Shared<Volume>) -> Result<Option<Machine>, OutOfMemory>
     ensures { IfOk result (λ machine. machine ≡ unbound_to volume.now) }
 {
     if has_uid(volume) || is_available(volume.phase) {

@@ -1,15 +1,16 @@
 //! The calls of the machines, and what they ask of the objects.
 
 ghost use Rattle.std.specs.Prelude.{◌≡◌, IfOk};
-ghost use Rattle.binder_machines.specs.Machines.{bind_call, claim_call, may_bind, phase_call, read_of, volume_call, write_lost};
+ghost use Rattle.binder_machines.specs.Machines.{assigned, bind_call, claim_call, class_call, may_bind, phase_call, read_of, volume_call, write_lost};
 
 use bind_writes::next_write;
 use call_types::request::{NewStatus, Request};
 use kube_types::bindings::{is_empty, is_for};
-use kube_types::copies::{OutOfMemory, copy_option};
+use kube_types::copies::{OutOfMemory, Plain, copy_option};
 use kube_types::key::{claim_key, volume_key};
-use kube_types::objects::{Claim, Ref, Volume};
+use kube_types::objects::{Claim, Class, Object, Ref, Volume};
 use kube_types::parts::{ClaimPhase, VolumePhase};
+use kube_types::shared::Shared;
 use std::alloc::Global;
 
 /// The next write of the binding. None where the pair is not one to be bound.
@@ -87,6 +88,33 @@ pub(crate) fn phase_call(
         status: NewStatus::Volume(phase),
         version: Some(volume.meta.version),
     }))
+}
+
+/// The write of the class's name into the claim, at the claim's version. None where the claim has no
+/// UID or the class has a namespace.
+pub(crate) fn class_call(
+    alloc: Global,
+    claim: &Claim,
+    class: &Class,
+) -> Result<Option<Request>, OutOfMemory>
+    ensures { IfOk result (λ call. call ≡ class_call claim.now class.now) }
+{
+    if claim.meta.uid.is_none() || !is_empty(&class.meta.namespace) {
+        return Ok(None);
+    }
+    Ok(Some(Request::Update {
+        object: Object::Claim(Shared::new(alloc, assigned(alloc, claim, class)?)?),
+        version: Some(claim.meta.version),
+    }))
+}
+
+/// The claim with the name of the class.
+fn assigned(alloc: Global, claim: &Claim, class: &Class) -> Result<Claim, OutOfMemory>
+    ensures { IfOk result (λ new. new ≡ assigned claim.now class.now) }
+{
+    let mut assigned = claim.copy(alloc)?;
+    assigned.class = Some(class.meta.name.copy(alloc)?);
+    Ok(assigned)
 }
 
 /// The write of phase Lost, at the claim's version. Access modes and capacity stay.

@@ -27,6 +27,7 @@ abbrev pub epoch_told : List ℕ → Request → Reply → Option ℕ
 epoch_told node (requests.TakeNode taken) (replies.Epoch epoch) = if bytes_eq taken node then Some epoch else None
 epoch_told node request reply = None
 
+-- the epoch of the node that this entry told, if its answer reached the seat
 abbrev pub epoch_in : List ℕ → Entry → Option ℕ
 epoch_in node e = if e.told then epoch_told node e.request e.reply else None
 
@@ -40,6 +41,7 @@ abbrev pub since_epoch : List ℕ → List Entry → List Entry
 since_epoch node [] = []
 since_epoch node (e ∷ mine) = if is_some (epoch_in node e) then [] else e ∷ since_epoch node mine
 
+-- a list of the pods of all namespaces
 abbrev pub is_pod_list : Request → Reply → Bool
 is_pod_list (requests.List kinds.Pod None) (replies.Listed items version) = true
 is_pod_list request reply = false
@@ -48,6 +50,7 @@ is_pod_list request reply = false
 abbrev pub ListedPods : List Entry → Type 0
 ListedPods mine = SomeOf (λ e. (e.told ≡ true) × (is_pod_list e.request e.reply ≡ true)) mine
 
+-- the request is a Get of this key
 abbrev pub is_get_of : Key → Request → Bool
 is_get_of key (requests.Get asked) = same_key asked key
 is_get_of key _ = false
@@ -87,6 +90,7 @@ pub record IsPodOn (uid : Uid) (node : List ℕ) (pod : PodData) : Type 0 where
   pub placed : pod.node ≡ node
   pub scheduled : is_scheduled pod ≡ true
 
+-- the request asks to finish the pod with this UID
 abbrev pub is_finish_of : Uid → Request → Bool
 is_finish_of pod (requests.FinishPod key uid node epoch) = same_uid uid pod
 is_finish_of pod _ = false
@@ -122,10 +126,11 @@ pub record MayMount (mine : List Entry) (node : List ℕ) (epoch : ℕ) (pod : U
   pub shown : WasShownReady mine node pod claims [] (since_epoch node mine)
   pub unfinished : never_finished pod mine ≡ true
 
--- the pod with the UID, on the node, deleting
+-- the pod with the UID, scheduled, on the node, deleting
 pub record IsEndingPod (uid : Uid) (node : List ℕ) (pod : PodData) : Type 0 where
   pub same : pod.meta.uid ≡ Some uid
   pub placed : pod.node ≡ node
+  pub scheduled : is_scheduled pod ≡ true
   pub deleting : is_deleting pod.meta ≡ true
 
 -- the row FinishPod, for Unmount
@@ -133,6 +138,7 @@ pub record MayUnmount (mine : List Entry) (node : List ℕ) (epoch : ℕ) (pod :
   pub current : last_epoch node mine ≡ Some epoch
   pub told : ToldPod (IsEndingPod pod node) mine
 
+-- the pod stands in a list of mounts
 abbrev pub has_row : Uid → List MountRow → Bool
 has_row pod rows = list_any (λ r. same_uid r.pod pod) rows
 
@@ -143,10 +149,12 @@ is_of_epoch node epoch (requests.Mount n e pod claims) = bytes_eq n node && e ==
 is_of_epoch node epoch (requests.Unmount n e pod) = bytes_eq n node && e == epoch
 is_of_epoch node epoch _ = false
 
+-- the answer is a list of mounts in which the pod is not
 abbrev pub lacks_pod : Uid → Reply → Bool
 lacks_pod pod (replies.Mounted rows) = not (has_row pod rows)
 lacks_pod pod _ = false
 
+-- the request asks to mount the pod with this UID
 abbrev pub is_mount_of : Uid → Request → Bool
 is_mount_of pod (requests.Mount n e p claims) = same_uid p pod
 is_mount_of pod _ = false

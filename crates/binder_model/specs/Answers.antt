@@ -51,6 +51,7 @@ unfoldable pub refuse_rule : Option Rule → Outcome → Outcome
 refuse_rule (Some rule) next = Says (Refused (Forbidden rule))
 refuse_rule None next = next
 
+-- the seat is a user's, and no controller's
 abbrev pub is_user : SeatKind → Bool
 is_user User = true
 is_user _ = false
@@ -65,10 +66,12 @@ abbrev pub is_other_version : Option ℕ → ℕ → Bool
 is_other_version None current = false
 is_other_version (Some given) current = not (given == current)
 
+-- a UID was given, and the object has another or none
 abbrev pub is_other_uid : Option Uid → Option Uid → Bool
 is_other_uid None current = false
 is_other_uid (Some given) current = not (is_uid current given)
 
+-- the write of an object that leaves is its removal, that of any other changes it
 abbrev pub write_of : Object → Bool → Outcome
 write_of o true = Removes o
 write_of o false = Stores Modified o
@@ -77,6 +80,7 @@ write_of o false = Stores Modified o
 abbrev pub write_outcome : Object → Outcome
 write_outcome o = write_of o (leaves o)
 
+-- a create: refused where the key is taken, by the guard or by an invalid field; else the object stands there, admitted
 unfoldable pub create : State → SeatKind → Object → List ℕ → Option Object → Outcome
 create s kind o moment (Some old) = Says (Refused AlreadyExists)
 create s kind o moment None =
@@ -84,6 +88,7 @@ create s kind o moment None =
     (refuse_field (create_fault (lacks_node o s.rows) o)
     (Stores Added (created_object (class_name (default_class s.rows)) o (s.version + 1) moment)))
 
+-- an update: refused where nothing stands there, at another version, by the guard, or by a field that is fixed or invalid
 unfoldable pub update : State → SeatKind → Object → Option ℕ → Option Object → Outcome
 update s kind new given None = Says (Refused NotFound)
 update s kind new given (Some old) =
@@ -103,6 +108,7 @@ unfoldable pub written_if_fits : State → Option Object → Outcome
 written_if_fits s None = Says (Refused (Invalid fields.Kind))
 written_if_fits s (Some new) = write_outcome (at_version new (s.version + 1))
 
+-- a new status of a volume or a claim, at the version given if any: no user may write one
 unfoldable pub update_status : State → SeatKind → NewStatus → Option ℕ → Option Object → Outcome
 update_status s kind status given None = refuse (is_user kind) (Forbidden rules.Verb) (Says (Refused NotFound))
 update_status s kind status given (Some old) =
@@ -110,6 +116,7 @@ update_status s kind status given (Some old) =
     (refuse (is_other_version given (meta_of old).version) (Conflict (meta_of old).version)
     (written_if_fits s (with_status status old)))
 
+-- an edit that fits the object's kind is judged and written like an update of what it makes
 unfoldable pub edit_to : State → SeatKind → Object → Option Object → Outcome
 edit_to s kind old None = Says (Refused (Invalid fields.Kind))
 edit_to s kind old (Some new) =
@@ -117,6 +124,7 @@ edit_to s kind old (Some new) =
     (refuse_field (update_fault old new)
     (write_outcome (updated_object old new (s.version + 1))))
 
+-- a typed edit of the object that stands there now, without a version
 unfoldable pub edit : State → SeatKind → Edit → Option Object → Outcome
 edit s kind change None = Says (Refused NotFound)
 edit s kind change (Some old) = edit_to s kind old (edited_object change old)
@@ -127,26 +135,32 @@ delete_of s moment old true deleting = Removes (marked_object old (s.version + 1
 delete_of s moment old false true = Says (Done old)
 delete_of s moment old false false = write_outcome (marked_object old (s.version + 1) moment)
 
+-- a delete: refused where nothing stands there, or where a UID was given and another object stands there
 unfoldable pub delete : State → List ℕ → Option Uid → Option Object → Outcome
 delete s moment given None = Says (Refused NotFound)
 delete s moment given (Some old) =
     refuse (is_other_uid given (meta_of old).uid) (Conflict (meta_of old).version)
     (delete_of s moment old (leaves_at_once old) (is_deleting (meta_of old)))
 
+-- a read of one object: the object, or NotFound
 unfoldable pub get : Option Object → Outcome
 get None = Says (Refused NotFound)
 get (Some o) = Says (Found o)
 
+-- the object stands in the namespace
 abbrev pub is_in_namespace : List ℕ → Object → Bool
 is_in_namespace namespace o = bytes_eq (meta_of o).namespace namespace
 
+-- the objects of one namespace, or of all where none was named
 abbrev pub listed_rows : Option (List ℕ) → List Object → List Object
 listed_rows None rows = rows
 listed_rows (Some namespace) rows = filter (is_in_namespace namespace) rows
 
+-- a list of a kind: its objects in order, at the version of the store
 unfoldable pub list : State → Kind → Option (List ℕ) → Outcome
 list s kind namespace = Says (Listed (listed_rows namespace (rows_of kind s.rows)) s.version)
 
+-- the pod where the test holds, else none
 abbrev pub pod_if : Bool → PodData → Option PodData
 pod_if true pod = Some pod
 pod_if false pod = None
@@ -156,6 +170,7 @@ unfoldable pub pod_with : Uid → Option Object → Option PodData
 pod_with uid (Some (Pod p)) = pod_if (is_uid p.meta.uid uid) p
 pod_with uid _ = None
 
+-- a pod that no node runs is assigned to a node; one that is named must be in the store
 unfoldable pub bind : State → List ℕ → Option PodData → Outcome
 bind s node None = Says (Refused NotFound)
 bind s node (Some p) =
@@ -168,6 +183,7 @@ unfoldable pub refuse_stale : Option ℕ → Outcome → Outcome
 refuse_stale None next = next
 refuse_stale (Some current) next = Says (Refused (StaleEpoch current))
 
+-- a pod that is deleting leaves when the node that runs it says, in its current epoch, that it has ended
 unfoldable pub finish : State → Option ℕ → List ℕ → Option PodData → Outcome
 finish s stale node None = Says (Refused NotFound)
 finish s stale node (Some p) =
@@ -177,7 +193,7 @@ finish s stale node (Some p) =
     (Removes (at_version (Pod p) (s.version + 1)))))
 
 -- what the request comes to on the store at this moment. `stale` is the current epoch of the node that a FinishPod
--- names, where the request has another. Requests to others than the store come to nothing here
+-- names, where the request has another. A request to others than the store is refused here
 unfoldable pub outcome : State → SeatKind → Request → List ℕ → Option ℕ → Outcome
 outcome s kind (requests.Create o) moment stale = create s kind o moment (row_at (key_of o) s.rows)
 outcome s kind (requests.Update o given) moment stale = update s kind o given (row_at (key_of o) s.rows)

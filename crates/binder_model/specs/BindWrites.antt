@@ -22,9 +22,11 @@ use Rattle.binder_model.specs.Same.{same_option, same_amount, same_modes}
 abbrev pub ref_to : ClaimData → Ref
 ref_to c = record { namespace = c.meta.namespace; name = c.meta.name; uid = c.meta.uid }
 
+-- the metadata with one of the binder's annotations set
 abbrev pub annotated_meta : List ℕ → Meta → Meta
 annotated_meta name m = record m { annotations = put_pair name yes m.annotations }
 
+-- the annotation is set where the test holds
 abbrev pub annotated_meta_if : Bool → List ℕ → Meta → Meta
 annotated_meta_if true name m = annotated_meta name m
 annotated_meta_if false name m = m
@@ -37,12 +39,15 @@ taken_for v c = record v { claim_ref = Some (ref_to c); meta = annotated_meta_if
 unfoldable pub completed_with : ClaimData → VolumeData → ClaimData
 completed_with c v = record c { volume_name = v.meta.name; meta = annotated_meta bind_completed (annotated_meta_if (is_empty c.volume_name) bound_by_controller c.meta) }
 
+-- the request for the first write, at the version of the volume
 abbrev pub write_reference : VolumeData → ClaimData → Request
 write_reference v c = Update (Volume (taken_for v c)) (Some v.meta.version)
 
+-- the second write: the volume's phase Bound
 abbrev pub write_bound : VolumeData → Request
 write_bound v = UpdateStatus (volume_key v.meta.name) (statuses.Volume volumes.Bound) (Some v.meta.version)
 
+-- the request for the third write, at the version of the claim
 abbrev pub write_completion : VolumeData → ClaimData → Request
 write_completion v c = Update (Claim (completed_with c v)) (Some c.meta.version)
 
@@ -51,6 +56,7 @@ abbrev pub write_claim_status : VolumeData → ClaimData → Request
 write_claim_status v c =
     UpdateStatus (claim_key c.meta.namespace c.meta.name) (statuses.Claim claims.Bound v.modes (Some v.amount)) (Some c.meta.version)
 
+-- the claim's phase is Bound
 abbrev pub is_claim_bound : ClaimPhase → Bool
 is_claim_bound claims.Bound = true
 is_claim_bound _ = false
@@ -82,14 +88,17 @@ abbrev pub without_uid : Option Ref → Option Ref
 without_uid None = None
 without_uid (Some r) = Some (record r { uid = None })
 
+-- the volume unbound: free where the controller had bound it, else still reserved for a claim of that name
 unfoldable pub unbound_volume : VolumeData → VolumeData
 unbound_volume v =
     if has_key bound_by_controller v.meta.annotations
     then record v { claim_ref = None; meta = record v.meta { annotations = without_key bound_by_controller v.meta.annotations } }
     else record v { claim_ref = without_uid v.claim_ref }
 
+-- the request that unbinds the volume, at its version
 abbrev pub write_unbound : VolumeData → Request
 write_unbound v = Update (Volume (unbound_volume v)) (Some v.meta.version)
 
+-- the request that sets the volume's phase to Available, at its version
 abbrev pub write_available : VolumeData → Request
 write_available v = UpdateStatus (volume_key v.meta.name) (statuses.Volume volumes.Available) (Some v.meta.version)

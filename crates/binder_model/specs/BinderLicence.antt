@@ -7,14 +7,16 @@ use Rattle.kube_types.specs.declared.objects.Amount.{Amount}
 use Rattle.kube_types.specs.declared.objects.Ref.{Ref}
 use Rattle.kube_types.specs.declared.objects.Volume.{Volume as VolumeData}
 use Rattle.kube_types.specs.declared.objects.Claim.{Claim as ClaimData}
+use Rattle.kube_types.specs.declared.objects.Class.{Class as ClassData}
 use Rattle.kube_types.specs.declared.objects.Object.{Object}
-use Rattle.kube_types.specs.declared.objects.Object.TheVariants.{Volume, Claim}
-use Rattle.kube_types.specs.Bindings.{is_ended, is_bound, is_completed, is_protected_volume, carries, names_claim, ref_uid}
+use Rattle.kube_types.specs.declared.objects.Object.TheVariants.{Class, Volume, Claim}
+use Rattle.kube_types.specs.Defaults.{IsDefaultOf}
+use Rattle.kube_types.specs.Bindings.{is_ended, is_bound, is_completed, is_deleting, lacks_class, is_protected_volume, carries, names_claim, ref_uid}
 use Rattle.call_types.specs.declared.entry.Entry.{Entry}
-use Rattle.binder_model.specs.ObjectKeys.{claim_key, volume_key}
+use Rattle.binder_model.specs.ObjectKeys.{claim_key, class_key, volume_key}
 use Rattle.binder_model.specs.BindWrites.{taken_for, completed_with, unbound_volume}
 use Rattle.binder_model.specs.BinderDue.{is_reclaimed}
-use Rattle.binder_model.specs.Told.{ToldVolume, ToldClaim, TellsLive, After}
+use Rattle.binder_model.specs.Told.{ToldVolume, ToldClaim, TellsLive, After, IsNewest}
 use Rattle.binder_model.specs.At.{IsSameObject, HasUid, IsElsewhere}
 
 -- no reference stands there, or one that names the claim without a UID
@@ -56,6 +58,20 @@ pub record IsBoundFor (o new : ClaimData) (volume : VolumeData) : Type 0 where
 -- the row Completion
 abbrev pub MayComplete : List Entry → ClaimData → ClaimData → Type 0
 MayComplete mine o new = ToldVolume (IsBoundFor o new) mine
+
+-- the newest that was told of the class is this
+abbrev pub IsToldClass : List Entry → ClassData → Type 0
+IsToldClass mine class = IsNewest mine (class_key class.meta.name) (Class class)
+
+-- the row DefaultClass: a claim that lacks a class gets the default one of the newest told classes
+pub record MayAssignClass (mine : List Entry) (o new : ClaimData) : Type 0 where
+  pub undone : is_completed o ≡ false
+  pub staying : is_deleting o.meta ≡ false
+  pub unnamed : o.volume_name ≡ []
+  pub classless : lacks_class o ≡ true
+  pub class : ClassData
+  pub default : IsDefaultOf (IsToldClass mine) class
+  pub change : new ≡ record o { class = Some class.meta.name }
 
 -- the status is that of a told version of the claim's volume
 pub record IsShown (o : ClaimData) (modes : Modes) (amount : Option Amount) (volume : VolumeData) : Type 0 where

@@ -19,14 +19,16 @@ use Rattle.binder_model.specs.ObjectKeys.{class_key, claim_key, volume_key}
 use Rattle.binder_model.specs.Matching.{IsBest, is_delayed}
 use Rattle.binder_model.specs.Provisioning.{provisions}
 
--- the claims of the pod, in order, each where it stands
+-- the claim that stands there, if it is one
 abbrev pub claim_in : Option Object → Option ClaimData
 claim_in (Some (Claim c)) = Some c
 claim_in _ = None
 
+-- the claim of this namespace and name, if it stands
 abbrev pub claim_named : List Object → List ℕ → List ℕ → Option ClaimData
 claim_named rows namespace name = claim_in (row_at (claim_key namespace name) rows)
 
+-- the claims of the pod, in order, each where it stands
 abbrev pub claims_of : List Object → PodData → List ClaimData
 claims_of rows p = filter_map (claim_named rows p.meta.namespace) p.claims
 
@@ -35,6 +37,7 @@ abbrev pub is_missing : Option ClaimData → Bool
 is_missing None = true
 is_missing (Some c) = is_deleting c.meta
 
+-- some claim of the pod is absent or deleting
 abbrev pub lacks_claim : List Object → PodData → Bool
 lacks_claim rows p = list_any (λ name. is_missing (claim_named rows p.meta.namespace name)) p.claims
 
@@ -43,18 +46,22 @@ abbrev pub admits_node : Option Object → NodeData → Bool
 admits_node (Some (Volume v)) n = admits v.terms n.meta.labels
 admits_node _ n = false
 
+-- the volume that the claim names is there and admits the node
 abbrev pub volume_admits : List Object → NodeData → ClaimData → Bool
 volume_admits rows n c = admits_node (row_at (volume_key c.volume_name) rows) n
 
+-- the object is a node that the volumes of all claims of the pod admit
 abbrev pub takes_pod : List Object → PodData → Object → Bool
 takes_pod rows p (Node n) = list_all (volume_admits rows n) (claims_of rows p)
 takes_pod rows p o = false
 
+-- the first node of the list that takes the pod
 abbrev pub first_taking : List Object → PodData → List Object → Option NodeData
 first_taking rows p [] = None
 first_taking rows p (Node n ∷ os) = if takes_pod rows p (Node n) then Some n else first_taking rows p os
 first_taking rows p (o ∷ os) = first_taking rows p os
 
+-- all claims of the pod are completed
 abbrev pub are_completed : List Object → PodData → Bool
 are_completed rows p = list_all is_completed (claims_of rows p)
 
@@ -68,9 +75,11 @@ abbrev pub carries_claim : ClaimData → Object → Bool
 carries_claim c (Volume v) = carries v c
 carries_claim c o = false
 
+-- some volume carries the claim
 abbrev pub has_carrier : List Object → ClaimData → Bool
 has_carrier rows c = list_any (carries_claim c) rows
 
+-- the claim is bound or about to be: it is completed, has a volume that carries it, or a chosen node
 abbrev pub is_under_way : List Object → ClaimData → Bool
 is_under_way rows c = is_completed c || has_carrier rows c || has_key selected_node c.meta.annotations
 
@@ -85,24 +94,29 @@ admits_if_carrying n c o = true
 abbrev pub fixed_admit : List Object → NodeData → ClaimData → Bool
 fixed_admit rows n c = (not (is_completed c) || volume_admits rows n c) && list_all (admits_if_carrying n c) rows
 
--- the other claims, by rising size and name
+-- the order of claims: by rising size, then by name
 abbrev pub claim_cmp : ClaimData → ClaimData → Ordering
 claim_cmp a b = ordering_then (nat_cmp a.amount.bytes b.amount.bytes) (text_cmp a.meta.name b.meta.name)
 
+-- the claim at its place among claims that stand in order
 abbrev pub insert_claim : ClaimData → List ClaimData → List ClaimData
 insert_claim c [] = c ∷ []
 insert_claim c (d ∷ ds) = if is_gt (claim_cmp c d) then d ∷ insert_claim c ds else c ∷ d ∷ ds
 
+-- the claims in that order
 abbrev pub by_size : List ClaimData → List ClaimData
 by_size [] = []
 by_size (c ∷ cs) = insert_claim c (by_size cs)
 
+-- the claim still needs a volume: it is not completed and none carries it
 abbrev pub is_other : List Object → ClaimData → Bool
 is_other rows c = not (is_completed c) && not (has_carrier rows c)
 
+-- the claims of the pod that still need a volume, the smallest first
 abbrev pub others_of : List Object → PodData → List ClaimData
 others_of rows p = by_size (filter (is_other rows) (claims_of rows p))
 
+-- a class stands there, and it provisions volumes
 abbrev pub class_provisions : Option Object → Bool
 class_provisions (Some (Class x)) = provisions x
 class_provisions _ = false
@@ -128,11 +142,12 @@ pub record Serves (rows : List Object) (pod : PodData) (node : NodeData) (shares
   pub fixed : list_all (fixed_admit rows node) (claims_of rows pod) ≡ true
   pub shared : AreShares rows node [] (others_of rows pod) shares
 
--- the nodes of the store by name
+-- the node that an object is, if it is one
 abbrev pub node_in : Object → Option NodeData
 node_in (Node n) = Some n
 node_in o = None
 
+-- the nodes of the store by name
 abbrev pub nodes_of : List Object → List NodeData
 nodes_of rows = filter_map node_in (rows_of kinds.Node rows)
 
@@ -143,10 +158,12 @@ pub data Step : Type 0 where
   Waits : Step
   Searches : Step
 
+-- the pod goes to the node that was found, or nowhere
 abbrev pub assigned_node : Option NodeData → Step
 assigned_node None = GoesNowhere
 assigned_node (Some n) = Assigns n
 
+-- the step at which the scheduler stands with the pod: the first one that its claims call for
 abbrev pub step_of : List Object → PodData → Step
 step_of rows p =
     if lacks_claim rows p then GoesNowhere

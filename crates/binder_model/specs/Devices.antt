@@ -37,6 +37,7 @@ pub record Devices : Type 0 where
   pub mounts : List MountAt
   pub calls : ℕ
 
+-- the devices with which each world begins: no data, no epochs, no mounts
 abbrev pub no_devices : Devices
 no_devices = record { stored = []; epochs = []; mounts = []; calls = 0 }
 
@@ -63,6 +64,7 @@ abbrev pub rows_on : List ℕ → List MountAt → List MountRow
 rows_on node [] = []
 rows_on node (m ∷ ms) = if bytes_eq m.node node then m.row ∷ rows_on node ms else rows_on node ms
 
+-- the pod is mounted on the node
 abbrev pub is_mounted_on : List ℕ → Uid → List MountAt → Bool
 is_mounted_on node pod mounts = list_any (λ r. same_uid r.pod pod) (rows_on node mounts)
 
@@ -79,11 +81,13 @@ abbrev pub with_mount : List ℕ → Uid → List Uid → List MountAt → List 
 with_mount node pod claims mounts =
     if is_mounted_on node pod mounts then mounts else put_mount (record { node = node; row = record { pod = pod; claims = claims } }) mounts
 
+-- the mounts without this pod on this node
 abbrev pub without_mount : List ℕ → Uid → List MountAt → List MountAt
 without_mount node pod mounts = filter (λ m. not (bytes_eq m.node node && same_uid m.row.pod pod)) mounts
 
 -- pools and data
 
+-- there is a text, and it is the wanted one
 abbrev pub is_text : Option (List ℕ) → List ℕ → Bool
 is_text None wanted = false
 is_text (Some text) wanted = bytes_eq text wanted
@@ -99,6 +103,7 @@ abbrev pub used_bytes : ℕ → List Data → ℕ
 used_bytes place [] = 0
 used_bytes place (x ∷ xs) = if x.there && x.pool == place then x.bytes + used_bytes place xs else used_bytes place xs
 
+-- the bytes that a pool can still give
 abbrev pub free_bytes : Pool → ℕ → List Data → ℕ
 free_bytes pool place stored = pool.bytes - used_bytes place stored
 
@@ -120,6 +125,7 @@ most_free provisioner labels stored place (pool ∷ pools) =
     if would_serve provisioner labels pool then max (free_bytes pool place stored) (most_free provisioner labels stored (place + 1) pools)
     else most_free provisioner labels stored (place + 1) pools
 
+-- the label of the nodes that the pool at this place serves, or none where it serves all
 abbrev pub topology_at : ℕ → List Pool → Option (List ℕ × List ℕ)
 topology_at place [] = None
 topology_at place (pool ∷ pools) = if place == 0 then pool.topology else topology_at (place - 1) pools
@@ -129,9 +135,11 @@ abbrev pub data_named : List ℕ → List Data → Option Data
 data_named name [] = None
 data_named name (x ∷ xs) = if x.there && bytes_eq x.name name then Some x else data_named name xs
 
+-- two data ids are one: the same driver and the same handle
 abbrev pub same_id : DataId → DataId → Bool
 same_id a b = bytes_eq a.driver b.driver && bytes_eq a.id b.id
 
+-- the data of this id are there
 abbrev pub has_id : DataId → List Data → Bool
 has_id id stored = list_any (λ x. x.there && same_id x.id id) stored
 
@@ -139,6 +147,7 @@ has_id id stored = list_any (λ x. x.there && same_id x.id id) stored
 abbrev pub erase_one : DataId → Data → Data
 erase_one id x = if same_id x.id id then record x { there = false } else x
 
+-- all data that were ever given, after those of this id were erased
 abbrev pub data_after_erase : DataId → List Data → List Data
 data_after_erase id stored = map (erase_one id) stored
 
@@ -146,6 +155,7 @@ data_after_erase id stored = map (erase_one id) stored
 abbrev pub fresh_id : List ℕ → List Data → DataId
 fresh_id provisioner stored = record { driver = provisioner; id = codes "data-" ++ decimal (length stored + 1) }
 
+-- the call of this number is one that the setup lets fail
 abbrev pub is_planned : ℕ → List ℕ → Bool
 is_planned call faults = list_any (λ f. f == call) faults
 
@@ -153,6 +163,7 @@ is_planned call faults = list_any (λ f. f == call) faults
 abbrev pub after_call : Devices → Reply → DeviceAnswer
 after_call d reply = record { devices = record d { calls = d.calls + 1 }; reply = reply }
 
+-- new data in the pool that was found; without one the answer says how many bytes such a pool has free at most
 unfoldable pub provision_new : List Pool → Devices → List ℕ → List ℕ → ℕ → Option (List Pair) → Option ℕ → DeviceAnswer
 provision_new pools d name provisioner bytes labels None = after_call d (Refused (Exhausted (most_free provisioner labels d.stored 0 pools)))
 provision_new pools d name provisioner bytes labels (Some place) =
@@ -164,6 +175,7 @@ unfoldable pub provision : List Pool → Devices → List ℕ → List ℕ → �
 provision pools d name provisioner bytes labels (Some x) = after_call d (Provisioned x.id (topology_at x.pool pools))
 provision pools d name provisioner bytes labels None = provision_new pools d name provisioner bytes labels (first_fit provisioner bytes labels d.stored 0 pools)
 
+-- the data of the id go; the answer says whether they were there. To erase twice does no harm
 unfoldable pub erase : Devices → DataId → DeviceAnswer
 erase d id = after_call (record d { stored = data_after_erase id d.stored }) (Erased (has_id id d.stored))
 
@@ -176,6 +188,7 @@ unfoldable pub unless_stale : Devices → Option ℕ → DeviceAnswer → Device
 unless_stale d None next = next
 unless_stale d (Some current) next = record { devices = d; reply = Refused (StaleEpoch current) }
 
+-- each taking of a node begins its next epoch
 unfoldable pub take_node : Devices → List ℕ → DeviceAnswer
 take_node d node =
     let epoch = epoch_of node d.epochs + 1 in
@@ -196,9 +209,10 @@ device_answer setup d (Mount node epoch pod claims) = Some (unless_stale d (epoc
 device_answer setup d (Unmount node epoch pod) = Some (unless_stale d (epoch_if_stale d node epoch) (with_mounts d node (without_mount node pod d.mounts)))
 device_answer setup d _ = None
 
--- whether a pool has the bytes free for a request, and whether data of a name are there
+-- whether a pool has the bytes free for a request
 abbrev pub pool_fits : Setup → Devices → List ℕ → ℕ → Option (List Pair) → Bool
 pool_fits setup d provisioner bytes labels = is_some (first_fit provisioner bytes labels d.stored 0 setup.pools)
 
+-- whether data of a name are there
 abbrev pub has_data : Devices → List ℕ → Bool
 has_data d name = list_any (λ x. x.there && bytes_eq x.name name) d.stored

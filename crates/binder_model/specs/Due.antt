@@ -1,7 +1,7 @@
 -- What is due for an object of a world, with the actor that does it; settled, where nothing is.
 -- Source: the sync functions of `pv_controller.go`, of the protection controllers and of the volume binding plugin;
 -- their order, and that only what the devices can give is due, is this project's choice.
-use Rattle.std.specs.Prelude.{ℕ, ◌≡◌, Bool, true, false, not, ◌&&◌, ◌||◌, List, ◌∷◌, Option, Some, None, is_some, is_none, if◌then◌else◌}
+use Rattle.std.specs.Prelude.{ℕ, ◌≡◌, Bool, true, false, not, ◌&&◌, ◌||◌, List, [], ◌∷◌, Option, Some, None, is_some, is_none, if◌then◌else◌}
 use Rattle.std.specs.List.{list_all, list_any}
 use Rattle.std.specs.declared.cmp.Ordering.TheVariants.{Less}
 use Rattle.plain_data.specs.Pairs.{Pair, value_at}
@@ -41,13 +41,15 @@ reclaim_due v =
 
 -- protection: the finalizer is added where it lacks, and dropped where the object is to go and nothing needs it
 abbrev pub guard_due : Bool → Bool → Bool → Option Due
-guard_due false false needed = Some dues.Guard
-guard_due true true false = Some dues.Unguard
-guard_due deleting guarded needed = None
+guard_due deleting guarded needed =
+    if deleting then (if guarded && not needed then Some dues.Unguard else None)
+    else (if guarded then None else Some dues.Guard)
 
+-- a volume needs its finalizer as long as it is Bound
 abbrev pub volume_guard_due : VolumeData → Option Due
 volume_guard_due v = guard_due (is_deleting v.meta) (is_protected_volume v) (is_bound v.phase)
 
+-- a claim needs its finalizer as long as a scheduled pod names it
 abbrev pub claim_guard_due : List Object → ClaimData → Option Due
 claim_guard_due rows c = guard_due (is_deleting c.meta) (is_protected_claim c) (list_any (uses c) rows)
 
@@ -70,9 +72,11 @@ abbrev pub delayed_due : Setup → World → ClaimData → Uid → ClassData →
 delayed_due setup w c uid x None = None
 delayed_due setup w c uid x (Some node) = on_node_due setup w c uid x (row_at (node_key node) w.store.rows)
 
+-- without a delayed class the volume is provisioned at once, where the devices can give it
 abbrev pub immediate_due : Setup → World → ClaimData → Uid → ClassData → Option Due
 immediate_due setup w c uid x = if is_served setup w.devices c uid x None then provision_if_new w.store.rows uid else None
 
+-- what is due for a claim that wants a new volume, by its class
 abbrev pub by_class_due : Setup → World → ClaimData → Option Uid → Option Object → Option Due
 by_class_due setup w c (Some uid) (Some (Class x)) =
     if not (provisions x) then None
@@ -80,6 +84,7 @@ by_class_due setup w c (Some uid) (Some (Class x)) =
     else immediate_due setup w c uid x
 by_class_due setup w c uid o = None
 
+-- what ops has to do for a claim that wants a volume and that no volume matches
 abbrev pub provision_due : Setup → World → ClaimData → Option Due
 provision_due setup w c =
     if is_wanting c && not (has_match w.store.rows c) then by_class_due setup w c c.meta.uid (row_at (class_key (class_of_claim c)) w.store.rows)
@@ -92,36 +97,43 @@ abbrev pub carried_by : ClaimData → Option Object → Bool
 carried_by c (Some (Volume v)) = carries v c
 carried_by c _ = false
 
+-- a pod may use the claim: it stays, is protected, completed, Bound, and its volume carries it
 abbrev pub is_ready : List Object → Option ClaimData → Bool
 is_ready rows None = false
 is_ready rows (Some c) =
     not (is_deleting c.meta) && is_protected_claim c && is_completed c && is_claim_bound c.phase && carried_by c (row_at (volume_key c.volume_name) rows)
 
+-- the pod with this UID is mounted on the node
 abbrev pub is_pod_uid_mounted : Devices → List ℕ → Option Uid → Bool
 is_pod_uid_mounted d node None = false
 is_pod_uid_mounted d node (Some uid) = is_mounted_on node uid d.mounts
 
+-- the pod is mounted on its node
 abbrev pub is_pod_mounted : Devices → PodData → Bool
 is_pod_mounted d p = is_pod_uid_mounted d p.node p.meta.uid
 
+-- what the agent of its node has to do for a scheduled pod
 abbrev pub agent_due : World → PodData → Option Due
 agent_due w p =
     if is_deleting p.meta then Some dues.Finish
     else if not (is_pod_mounted w.devices p) && list_all (λ name. is_ready w.store.rows (claim_named w.store.rows p.meta.namespace name)) p.claims then Some dues.Mount
     else None
 
+-- the claim's class can give it a volume on this node
 abbrev pub is_served_on : Setup → World → NodeData → ClaimData → Option Uid → Option Object → Bool
 is_served_on setup w n c (Some uid) (Some (Class x)) = is_served setup w.devices c uid x (Some n.meta.labels)
 is_served_on setup w n c uid o = false
 
--- each claim that is to be provisioned has its data there, or a pool that fits on the node
+-- the share can be given: a volume is there, and what is to be provisioned has its data there or a pool that fits on the node
 abbrev pub share_is_served : Setup → World → NodeData → ClaimData → Share → Bool
 share_is_served setup w n c (TakesVolume place) = true
 share_is_served setup w n c IsProvisioned = is_served_on setup w n c c.meta.uid (row_at (class_key (class_of_claim c)) w.store.rows)
 
+-- each claim's share can be given
 abbrev pub shares_are_served : Setup → World → NodeData → List ClaimData → List Share → Bool
 shares_are_served setup w n (c ∷ cs) (share ∷ shares) = share_is_served setup w n c share && shares_are_served setup w n cs shares
-shares_are_served setup w n _ _ = true
+shares_are_served setup w n [] [] = true
+shares_are_served setup w n _ _ = false
 
 -- some node serves all claims of the pod, and the devices can give what is to be provisioned there
 pub record CanPrepare (setup : Setup) (w : World) (pod : PodData) : Type 0 where
@@ -138,6 +150,7 @@ IsStepDue setup w p Searches (Some action) = (action ≡ dues.Prepare) × CanPre
 IsStepDue setup w p Searches None = CanPrepare setup w p → ⊥
 IsStepDue setup w p _ action = action ≡ None
 
+-- what is due for a pod: by its node's agent where it is scheduled, else by the scheduler
 abbrev pub IsPodDue : Setup → World → PodData → Bool → Option Due → Type 0
 IsPodDue setup w p true action = action ≡ agent_due w p
 IsPodDue setup w p false action = IsStepDue setup w p (step_of w.store.rows p) action

@@ -9,6 +9,7 @@ use Rattle.call_types.specs.declared.edit.Edit.{Edit}
 use Rattle.call_types.specs.declared.edit.Edit.TheVariants.{AddFinalizer, DropFinalizer, DropLabel, DropAnnotation, SetLabel, SetAnnotation, SetVolumeName, SetPolicy, SetClaimRef, ClearClaimRef}
 use Rattle.binder_model.specs.Store.{with_meta, with_finalizer}
 
+-- the names without this one
 abbrev pub without_name : List ℕ → List (List ℕ) → List (List ℕ)
 without_name name names = filter (λ n. not (bytes_eq n name)) names
 

@@ -1,9 +1,9 @@
 -- Which fields of an object are invalid, at its creation and at an update: the first in the order of the tests.
 -- Source: Kubernetes API validation of these kinds, "Object Names and IDs"; which fields are fixed after creation
 -- is this project's profile, a little stricter than the real API.
-use Rattle.std.specs.Prelude.{ℕ, ◌==◌, nat_le, Bool, true, false, not, ◌&&◌, ◌||◌, List, [], ◌∷◌, Option, Some, None, bytes_eq, length, if◌then◌else◌}
+use Rattle.std.specs.Prelude.{ℕ, ◌==◌, ◌-◌, nat_le, Bool, true, false, not, ◌&&◌, ◌||◌, List, [], ◌∷◌, Option, Some, None, bytes_eq, length, slice_get, if◌then◌else◌}
 use Rattle.std.specs.Bool.{beq}
-use Rattle.std.specs.List.{list_all, list_any}
+use Rattle.std.specs.List.{list_all, list_any, slice_split}
 use Rattle.kube_types.specs.declared.names.Field.{Field}
 use Rattle.kube_types.specs.declared.names.Field.TheVariants as fields
 use Rattle.kube_types.specs.declared.parts.Modes.{Modes}
@@ -15,50 +15,45 @@ use Rattle.kube_types.specs.declared.objects.Pod.{Pod as PodData}
 use Rattle.kube_types.specs.declared.objects.Object.{Object}
 use Rattle.kube_types.specs.declared.objects.Object.TheVariants.{Class, Node, Volume, Claim, Pod}
 use Rattle.kube_types.specs.Keys.{meta_of}
-use Rattle.kube_types.specs.Bindings.{has_name, is_empty, is_deleting}
+use Rattle.kube_types.specs.Bindings.{has_name, is_completed, is_deleting, is_empty, lacks_class}
 use Rattle.binder_model.specs.Store.{has_no_names}
 use Rattle.binder_model.specs.Same.{same_option, same_names, same_pairs, same_modes, same_amount, same_policy, same_selector, same_terms, same_source}
 
+-- a lower-case letter or a digit
 abbrev pub is_lower_or_digit : ℕ → Bool
 is_lower_or_digit c = (nat_le 97 c && nat_le c 122) || (nat_le 48 c && nat_le c 57)
 
+-- a lower-case letter, a digit or a hyphen
 abbrev pub is_name_byte : ℕ → Bool
 is_name_byte c = is_lower_or_digit c || c == 45
 
--- bytes of names up to the last, which is a letter or digit
-abbrev pub ends_well : ℕ → List ℕ → Bool
-ends_well c [] = is_lower_or_digit c
-ends_well c (d ∷ ds) = is_name_byte c && ends_well d ds
+-- there is a byte, and it is a letter or digit
+abbrev pub is_lower_or_digit_at : Option ℕ → Bool
+is_lower_or_digit_at None = false
+is_lower_or_digit_at (Some c) = is_lower_or_digit c
 
 -- lower-case letters, digits and '-', with a letter or digit at both ends
 abbrev pub is_label : List ℕ → Bool
-is_label [] = false
-is_label (c ∷ cs) = is_lower_or_digit c && ends_well c cs
+is_label part = list_all is_name_byte part && is_lower_or_digit_at (slice_get part 0) && is_lower_or_digit_at (slice_get part (length part - 1))
 
-abbrev pub onto_first : ℕ → List (List ℕ) → List (List ℕ)
-onto_first c [] = (c ∷ []) ∷ []
-onto_first c (p ∷ ps) = (c ∷ p) ∷ ps
-
--- the parts between the dots
-abbrev pub dot_parts : List ℕ → List (List ℕ)
-dot_parts [] = [] ∷ []
-dot_parts (c ∷ cs) = if c == 46 then [] ∷ dot_parts cs else onto_first c (dot_parts cs)
-
--- a DNS subdomain
+-- a DNS subdomain: labels with dots between them
 abbrev pub is_subdomain : List ℕ → Bool
-is_subdomain name = nat_le (length name) 253 && list_all is_label (dot_parts name)
+is_subdomain name = nat_le (length name) 253 && list_all is_label (slice_split (λ c. c == 46) name)
 
 -- a DNS label
 abbrev pub is_namespace : List ℕ → Bool
 is_namespace name = nat_le (length name) 63 && is_label name
 
+-- there is no access mode
 abbrev pub has_no_mode : Modes → Bool
 has_no_mode m = not (m.rwo || m.rox || m.rwx || m.rwop)
 
+-- some text stands there twice
 abbrev pub has_twice : List (List ℕ) → Bool
 has_twice [] = false
 has_twice (x ∷ xs) = has_name x xs || has_twice xs
 
+-- a reference to a claim lacks the name or the namespace
 abbrev pub is_nameless : Option Ref → Bool
 is_nameless None = false
 is_nameless (Some r) = is_empty r.name || is_empty r.namespace
@@ -68,6 +63,7 @@ unfoldable pub faulty : Bool → Field → Option Field → Option Field
 faulty true field next = Some field
 faulty false field next = next
 
+-- the first invalid field of a volume, beside its name
 unfoldable pub volume_fault : VolumeData → Option Field
 volume_fault v =
     faulty (not (is_empty v.meta.namespace)) fields.Namespace
@@ -76,6 +72,7 @@ volume_fault v =
     (faulty (is_nameless v.claim_ref) fields.ClaimRef
     (faulty (has_twice v.meta.finalizers) fields.Finalizers None))))
 
+-- the first invalid field of a claim, beside its name
 unfoldable pub claim_fault : ClaimData → Option Field
 claim_fault c =
     faulty (not (is_namespace c.meta.namespace)) fields.Namespace
@@ -83,6 +80,7 @@ claim_fault c =
     (faulty (has_no_mode c.modes) fields.AccessModes
     (faulty (has_twice c.meta.finalizers) fields.Finalizers None)))
 
+-- the first invalid field of a class, beside its name
 unfoldable pub class_fault : ClassData → Option Field
 class_fault x =
     faulty (not (is_empty x.meta.namespace)) fields.Namespace
@@ -97,6 +95,7 @@ pod_fault lacks_node p =
     (faulty (has_name [] p.claims || has_twice p.claims) fields.Claims
     (faulty (not (has_no_names p.meta.finalizers)) fields.Finalizers None)))
 
+-- the first invalid field, beside the name, by the kind of object
 unfoldable pub kind_fault : Bool → Object → Option Field
 kind_fault lacks_node (Class x) = class_fault x
 kind_fault lacks_node (Node n) =
@@ -110,12 +109,22 @@ kind_fault lacks_node (Pod p) = pod_fault lacks_node p
 unfoldable pub create_fault : Bool → Object → Option Field
 create_fault lacks_node o = faulty (not (is_subdomain (meta_of o).name)) fields.Name (kind_fault lacks_node o)
 
--- a claim's spec but for the name of its volume
+-- a claim's spec but for its class and the name of its volume
 abbrev pub same_claim_spec : ClaimData → ClaimData → Bool
 same_claim_spec a b =
     same_modes a.modes b.modes && same_amount a.amount b.amount && beq a.block b.block
-    && same_option bytes_eq a.class b.class && same_option same_selector a.selector b.selector && bytes_eq a.extra b.extra
+    && same_option same_selector a.selector b.selector && bytes_eq a.extra b.extra
 
+-- the claim may still get a class: it lacks one and is not completed. Source: Kubernetes documentation, "Persistent
+-- Volumes" (Retroactive default StorageClass assignment); that a completed claim keeps none is this project's choice
+abbrev pub may_get_class : ClaimData → Bool
+may_get_class c = lacks_class c && not (is_completed c)
+
+-- the class stays, but that a claim without one may get one. All is asked of the old claim
+abbrev pub keeps_class : ClaimData → ClaimData → Bool
+keeps_class old new = same_option bytes_eq old.class new.class || may_get_class old
+
+-- the same spec of a pod: its claims, its node, and the rest as it was written
 abbrev pub same_pod_spec : PodData → PodData → Bool
 same_pod_spec a b = same_names a.claims b.claims && bytes_eq a.node b.node && bytes_eq a.extra b.extra
 
@@ -126,7 +135,7 @@ adds_finalizer old new = list_any (λ f. not (has_name f old)) new
 -- the first field that was fixed and is another now
 unfoldable pub changed_field : Object → Object → Option Field → Option Field
 changed_field (Claim old) (Claim new) next =
-    faulty (not (same_claim_spec old new)) fields.Spec
+    faulty (not (same_claim_spec old new && keeps_class old new)) fields.Spec
     (faulty (not (is_empty old.volume_name) && not (bytes_eq old.volume_name new.volume_name)) fields.VolumeName next)
 changed_field (Pod old) (Pod new) next = faulty (not (same_pod_spec old new)) fields.Spec next
 changed_field (Volume old) (Volume new) next =

@@ -14,14 +14,17 @@ use Rattle.kube_types.specs.Keys.{meta_of}
 use Rattle.kube_types.specs.Bindings.{bind_completed, bound_by_controller, provisioned_by, pv_protection, pvc_protection, has_name, is_ended, is_delete, ref_uid}
 use Rattle.binder_model.specs.Same.{same_option, same_ref}
 
+-- the annotations that stood there before the write, none before a create
 abbrev pub annotations_before : Option Object → List Pair
 annotations_before None = []
 annotations_before (Some o) = (meta_of o).annotations
 
+-- the finalizers that stood there before the write, none before a create
 abbrev pub finalizers_before : Option Object → List (List ℕ)
 finalizers_before None = []
 finalizers_before (Some o) = (meta_of o).finalizers
 
+-- the phase is Released
 abbrev pub is_in_phase_released : VolumePhase → Bool
 is_in_phase_released Released = true
 is_in_phase_released _ = false
@@ -31,6 +34,7 @@ abbrev pub clears_released : Option Object → Object → Bool
 clears_released (Some (Volume old)) (Volume new) = is_in_phase_released old.phase && not (is_delete old.policy) && is_some old.claim_ref && is_none new.claim_ref
 clears_released _ _ = false
 
+-- the write sets, changes or drops the annotation
 abbrev pub changes_annotation : Option Object → Object → List ℕ → Bool
 changes_annotation old new name = not (same_option bytes_eq (value_at name (annotations_before old)) (value_at name (meta_of new).annotations))
 
@@ -38,6 +42,7 @@ changes_annotation old new name = not (same_option bytes_eq (value_at name (anno
 abbrev pub drops_with_reference : Option Object → Object → Bool
 drops_with_reference old new = clears_released old new && is_none (value_at bound_by_controller (meta_of new).annotations)
 
+-- the write changes an annotation that is the controllers' own
 abbrev pub breaks_annotation : Option Object → Object → Bool
 breaks_annotation old new =
     changes_annotation old new bind_completed
@@ -50,16 +55,20 @@ is_admitted None (Volume v) name = bytes_eq name pv_protection
 is_admitted None (Claim c) name = bytes_eq name pvc_protection
 is_admitted _ _ name = false
 
+-- the write adds or drops the finalizer, other than as admission would
 abbrev pub changes_finalizer : Option Object → Object → List ℕ → Bool
 changes_finalizer old new name = xor (has_name name (finalizers_before old)) (has_name name (meta_of new).finalizers) && not (is_admitted old new name)
 
+-- the write adds or drops a protection finalizer
 abbrev pub breaks_finalizer : Option Object → Object → Bool
 breaks_finalizer old new = changes_finalizer old new pv_protection || changes_finalizer old new pvc_protection
 
+-- the reference that the volume had before the write, if any
 abbrev pub reference_before : Option Object → Option Ref
 reference_before (Some (Volume v)) = v.claim_ref
 reference_before _ = None
 
+-- there is a reference, and it has a UID
 abbrev pub has_uid : Option Ref → Bool
 has_uid r = is_some (ref_uid r)
 

@@ -18,9 +18,11 @@ use Rattle.binder_model.specs.Edits.{without_name}
 use Rattle.binder_model.specs.Told.{ToldClaim, After}
 use Rattle.binder_model.specs.At.{IsSameObject}
 
+-- the metadata with the finalizer behind the others
 abbrev pub guarded_meta : List ℕ → Meta → Meta
 guarded_meta name m = record m { finalizers = m.finalizers ++ name ∷ [] }
 
+-- the metadata without the finalizer
 abbrev pub unguarded_meta : List ℕ → Meta → Meta
 unguarded_meta name m = record m { finalizers = without_name name m.finalizers }
 
@@ -51,6 +53,7 @@ abbrev pub IsPodList : ClaimData → Request → Reply → Type 0
 IsPodList o (requests.List kinds.Pod (Some namespace)) (Listed items version) = (namespace ≡ o.meta.namespace) × (list_any (uses o) items ≡ false)
 IsPodList o request reply = ⊥
 
+-- the seat was told by this entry that no scheduled pod uses the claim
 abbrev pub TellsUnused : ClaimData → Entry → Type 0
 TellsUnused o e = (e.told ≡ true) × IsPodList o e.request e.reply
 

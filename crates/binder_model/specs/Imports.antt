@@ -40,6 +40,7 @@ abbrev pub serial_or_zero : Option Uid → ℕ
 serial_or_zero None = 0
 serial_or_zero (Some uid) = unwrap_or (serial_of uid) 0
 
+-- the reference of a volume; no other object has one
 abbrev pub reference_of : Object → Option Ref
 reference_of (Volume v) = v.claim_ref
 reference_of o = None
@@ -64,6 +65,7 @@ binds_claim claim o = false
 abbrev pub is_imported_as_lost : List Object → ClaimData → Bool
 is_imported_as_lost imports claim = is_completed claim && not (list_any (binds_claim claim) imports)
 
+-- a claim that is not completed is Pending, one that no volume binds is Lost, any other keeps its phase
 abbrev pub imported_phase : List Object → ClaimData → ClaimPhase
 imported_phase imports claim =
     if not (is_completed claim) then claims.Pending
@@ -116,10 +118,12 @@ abbrev pub shares_uid : Option Uid → Option Uid → Bool
 shares_uid None other = false
 shares_uid (Some uid) other = is_uid other uid
 
+-- the object is the claim that the reference names
 abbrev pub is_claim_named : Ref → Object → Bool
 is_claim_named r (Claim c) = names_claim r c
 is_claim_named r o = false
 
+-- a reference has the UID of this object, which is not the claim that it names
 abbrev pub names_another : Option Ref → Object → Bool
 names_another None o = false
 names_another (Some r) o = shares_uid r.uid (meta_of o).uid && not (is_claim_named r o)
@@ -150,6 +154,7 @@ import_fault before o =
     (fault_if (holds_of_pair refers_to_another before o) faults.ClaimRef
     (fault_if (holds_of_pair is_ended_for before o) faults.Phase None)))))))
 
+-- each of these imports passes after all that stand before it
 abbrev pub PassAfter : List Object → List Object → Type 0
 PassAfter before [] = ⊤
 PassAfter before (o ∷ os) = (import_fault before o ≡ None) × PassAfter (before ++ o ∷ []) os

@@ -25,10 +25,12 @@ use Rattle.binder_model.specs.ObjectKeys.{class_key}
 abbrev pub covers : Modes → Modes → Bool
 covers wanted given = (not wanted.rwo || given.rwo) && (not wanted.rox || given.rox) && (not wanted.rwx || given.rwx) && (not wanted.rwop || given.rwop)
 
+-- one for an access mode that is there
 abbrev pub count_one : Bool → ℕ
 count_one true = 1
 count_one false = 0
 
+-- how many access modes there are
 abbrev pub mode_count : Modes → ℕ
 mode_count m = count_one m.rwo + count_one m.rox + count_one m.rwx + count_one m.rwop
 
@@ -36,10 +38,12 @@ mode_count m = count_one m.rwo + count_one m.rox + count_one m.rwx + count_one m
 abbrev pub fits : VolumeData → ClaimData → Bool
 fits v c = nat_le c.amount.bytes v.amount.bytes && bytes_eq (class_of_volume v) (class_of_claim c) && beq v.block c.block && covers c.modes v.modes
 
+-- the selector, if there is one, selects these labels
 abbrev pub is_selected : Option Selector → List Pair → Bool
 is_selected None labels = true
 is_selected (Some s) labels = selects s labels
 
+-- the volume can be reached from the node, if one is given
 abbrev pub is_admitted_on : VolumeData → Option NodeData → Bool
 is_admitted_on v None = true
 is_admitted_on v (Some n) = admits v.terms n.meta.labels
@@ -54,6 +58,7 @@ eligible v c node =
     not (is_deleting v.meta) && is_protected_volume v && fits v c
     && is_selected c.selector v.meta.labels && is_admitted_on v node && may_serve v c
 
+-- 0 for a volume that is for the claim, 1 for any other, so that those for it come first
 abbrev pub for_last : VolumeData → ClaimData → ℕ
 for_last v c = if is_for v c then 0 else 1
 
@@ -66,9 +71,11 @@ match_cmp c v u =
     (nat_cmp v.amount.bytes u.amount.bytes))
     (text_cmp v.meta.name u.meta.name)
 
+-- the volume at this place is given away already
 abbrev pub is_excluded : List ℕ → ℕ → Bool
 is_excluded excluded place = list_any (λ p. p == place) excluded
 
+-- where only volumes for the claim are wanted, this is one
 abbrev pub only_own_passes : Bool → VolumeData → ClaimData → Bool
 only_own_passes true v c = is_for v c
 only_own_passes false v c = true
@@ -91,6 +98,7 @@ abbrev pub IsBest : List Object → ClaimData → Option NodeData → Bool → L
 IsBest rows claim node only_own excluded (Some place) = IsBestAt rows claim node only_own excluded place
 IsBest rows claim node only_own excluded None = (place : ℕ) (volume : VolumeData) → IsCandidate rows claim node only_own excluded place volume → ⊥
 
+-- a class stands there, and its binding mode is WaitForFirstConsumer
 abbrev pub is_delayed : Option Object → Bool
 is_delayed (Some (Class x)) = x.delayed
 is_delayed _ = false

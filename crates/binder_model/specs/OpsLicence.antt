@@ -49,6 +49,7 @@ abbrev pub GaveData : List ℕ → DataId → Option (List ℕ × List ℕ) → 
 GaveData name id topology (requests.Provision asked provisioner bytes labels) (Provisioned given where_) = (asked ≡ name) × (given ≡ id) × (where_ ≡ topology)
 GaveData name id topology request reply = ⊥
 
+-- the seat was told by this entry that the back end gave this data under the name
 abbrev pub TellsData : List ℕ → DataId → Option (List ℕ × List ℕ) → Entry → Type 0
 TellsData name id topology e = (e.told ≡ true) × GaveData name id topology e.request e.reply
 
@@ -82,10 +83,12 @@ pub record MayErase (mine : List Entry) (id : DataId) : Type 0 where
 abbrev pub IsThisVolume : VolumeData → VolumeData → Type 0
 IsThisVolume o v = v ≡ o
 
+-- an Erase of the data was answered with a fault of the back end
 abbrev pub EraseFailed : DataId → Request → Reply → Type 0
 EraseFailed id (requests.Erase asked) (Refused (BackFault planned)) = asked ≡ id
 EraseFailed id request reply = ⊥
 
+-- the seat was told by this entry that the Erase of the data failed
 abbrev pub TellsEraseFailed : DataId → Entry → Type 0
 TellsEraseFailed id e = (e.told ≡ true) × EraseFailed id e.request e.reply
 
@@ -94,10 +97,12 @@ pub record MayFail (mine : List Entry) (o : VolumeData) : Type 0 where
   pub ended : is_ended o.phase ≡ true
   pub failed : After (ToldVolume (IsThisVolume o)) (TellsEraseFailed (data_id_of o.source)) mine
 
+-- an Erase of the data was answered: the data are gone
 abbrev pub EraseDone : DataId → Request → Reply → Type 0
 EraseDone id (requests.Erase asked) (Erased removed) = asked ≡ id
 EraseDone id request reply = ⊥
 
+-- the seat was told by this entry that the data are gone
 abbrev pub TellsErased : DataId → Entry → Type 0
 TellsErased id e = (e.told ≡ true) × EraseDone id e.request e.reply
 
@@ -118,9 +123,11 @@ abbrev pub IsExhausted : List ℕ → Request → Reply → Type 0
 IsExhausted name (requests.Provision asked provisioner bytes labels) (Refused (Exhausted free)) = asked ≡ name
 IsExhausted name request reply = ⊥
 
+-- the seat was told by this entry that no pool has the bytes for the name
 abbrev pub TellsExhausted : List ℕ → Entry → Type 0
 TellsExhausted name e = (e.told ≡ true) × IsExhausted name e.request e.reply
 
+-- this version of the claim, told so
 abbrev pub IsThisClaim : ClaimData → ClaimData → Type 0
 IsThisClaim o c = c ≡ o
 

@@ -25,6 +25,7 @@ abbrev pub terms_for : Option (List ℕ × List ℕ) → Option NodeTerms
 terms_for None = None
 terms_for (Some pair) = Some (record { terms = ((record { key = pair.0; op = In; values = pair.1 ∷ [] }) ∷ []) ∷ [] })
 
+-- the metadata of a provisioned volume: its name, and who made and bound it
 abbrev pub provisioned_meta : Uid → List ℕ → Meta
 provisioned_meta uid provisioner = record {
   namespace = [];
@@ -58,5 +59,6 @@ provisioned_volume c uid class id topology = record {
 abbrev pub is_wanting : ClaimData → Bool
 is_wanting c = not (is_completed c) && not (is_deleting c.meta) && is_empty c.volume_name && is_none c.selector
 
+-- the class provisions volumes: its provisioner is a real one
 abbrev pub provisions : ClassData → Bool
 provisions x = not (bytes_eq x.provisioner no_provisioner)

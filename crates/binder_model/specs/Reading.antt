@@ -13,7 +13,7 @@ use Rattle.kube_types.specs.declared.objects.Volume.{Volume as VolumeData}
 use Rattle.kube_types.specs.declared.objects.Object.{Object}
 use Rattle.kube_types.specs.declared.objects.Object.TheVariants.{Volume, Claim}
 use Rattle.kube_types.specs.Keys.{same_kind}
-use Rattle.kube_types.specs.Bindings.{has_name, is_completed, is_deleting}
+use Rattle.kube_types.specs.Bindings.{has_name, is_completed, is_deleting, is_scheduled}
 use Rattle.call_types.specs.declared.entry.Entry.{Entry}
 use Rattle.call_types.specs.declared.request.SeatKind.{SeatKind}
 use Rattle.call_types.specs.declared.request.SeatKind.TheVariants as seats
@@ -58,6 +58,7 @@ follow_on (requests.Watch k from) (Refused (Gone oldest)) kind before = if same_
 follow_on (requests.Watch k from) (Events events) kind before = if same_kind k kind then reached_on events.upto before else before
 follow_on request reply kind before = before
 
+-- where the seat stands with the kind after these entries; an answer that was lost moves nothing
 abbrev pub following_of : List Entry → Kind → Following
 following_of [] kind = Unlisted
 following_of (e ∷ mine) kind = if e.told then follow_on e.request e.reply kind (following_of mine kind) else following_of mine kind
@@ -101,8 +102,9 @@ pub record AsksForEnded (mine : List Entry) (key : Key) : Type 0 where
   pub newest_volume : IsNewest mine key (Volume volume)
   pub ended : IsToErase volume
 
--- the pod stands on a node that the seat took, and names the claim
+-- the pod is scheduled to a node that the seat took, and names the claim
 pub record NamesClaim (mine : List Entry) (key : Key) (pod : PodData) : Type 0 where
+  pub scheduled : is_scheduled pod ≡ true
   pub taken : is_some (last_epoch pod.node mine) ≡ true
   pub placed : key.namespace ≡ pod.meta.namespace
   pub kind : key.kind ≡ kinds.PersistentVolumeClaim
@@ -113,6 +115,7 @@ abbrev pub FoundNaming : Key → Reply → Type 0
 FoundNaming key (Found (Claim c)) = key ≡ volume_key c.volume_name
 FoundNaming key reply = ⊥
 
+-- an agent reads the claims of pods on its nodes, and then the volumes that those claims name
 abbrev pub AsksForMount : List Entry → Key → Type 0
 AsksForMount mine key = ToldPod (NamesClaim mine key) mine ⊎ SomeOf (λ e. (e.told ≡ true) × FoundNaming key e.reply) mine
 

@@ -24,11 +24,12 @@ use Rattle.binder_model.specs.World.{World, world}
 use Rattle.binder_model.specs.ObjectKeys.{volume_key}
 use Rattle.binder_model.specs.Told.{own, last_found}
 
--- an import of this UID was a claim that was imported as Lost
+-- this import is a claim of the UID, and comes into the world as Lost
 abbrev pub is_lost_import : List Object → Option Uid → Object → Bool
 is_lost_import imports uid (Claim claim) = shares_uid claim.meta.uid uid && is_imported_as_lost imports claim
 is_lost_import imports uid o = false
 
+-- an import of this UID was a claim that came into the world as Lost
 abbrev pub was_imported_as_lost : Setup → Option Uid → Bool
 was_imported_as_lost setup uid = list_any (is_lost_import setup.imports uid) setup.imports
 
@@ -67,15 +68,11 @@ pub record AreBindings (setup : Setup) (past : List Entry) : Type 0 where
   pub bound : CountedAreBound setup past
   pub apart : CountedAreApart setup past
 
--- bindings at every point of a history, the newest entry first
-abbrev pub AreBindingsThroughout : Setup → List Entry → Type 0
-AreBindingsThroughout setup [] = AreBindings setup []
-AreBindingsThroughout setup (e ∷ past) = AreBindings setup (e ∷ past) × AreBindingsThroughout setup past
-
 -- no volume that was Bound just before has left
 abbrev pub KeepsBound : List Object → List Object → Type 0
 KeepsBound old new = (key : Key) (volume : VolumeData) → row_at key old ≡ Some (Volume volume) → is_bound volume.phase ≡ true → is_some (row_at key new) ≡ true
 
+-- there is a UID, and some node has it among the claims of a mounted pod
 abbrev pub is_uid_mounted : Devices → Option Uid → Bool
 is_uid_mounted d None = false
 is_uid_mounted d (Some uid) = list_any (λ m. list_any (same_uid uid) m.row.claims) d.mounts

@@ -1,25 +1,23 @@
 -- The store: its objects in the order of their keys, and the number of its writes; what a write makes of an object.
 -- Source: Kubernetes API conventions, "Metadata", "Concurrency Control and Consistency"; one number for all kinds is this project's choice.
 -- An object is deleting where it has a deletion timestamp.
-use Rattle.std.specs.Prelude.{ℕ, ◌≡◌, ◌≢◌, ◌&&◌, Bool, true, false, not, List, [], ◌∷◌, ◌++◌, Option, Some, None, bytes_eq, codes, is_none, if◌then◌else◌}
+use Rattle.std.specs.Prelude.{ℕ, ◌&&◌, Bool, true, false, not, List, [], ◌∷◌, ◌++◌, Option, Some, None, codes, is_none, if◌then◌else◌}
 use Rattle.std.specs.Cmp.Lexicographic.{slice_cmp}
-use Rattle.std.specs.declared.cmp.Ordering.{Ordering}
-use Rattle.std.specs.declared.cmp.Ordering.TheVariants.{Greater}
-use Rattle.std.specs.Ordering.{nat_cmp, is_lt, ordering_then}
-use Rattle.plain_data.specs.Pairs.{value_at, text_cmp}
+use Rattle.std.specs.Ordering.{nat_cmp, is_lt}
 use Rattle.kube_types.specs.declared.parts.ClaimPhase.TheVariants as claims
 use Rattle.kube_types.specs.declared.parts.VolumePhase.TheVariants as volumes
 use Rattle.kube_types.specs.declared.parts.Modes.{Modes}
-use Rattle.kube_types.specs.declared.key.Key.{Key}
 use Rattle.kube_types.specs.declared.objects.Meta.{Meta}
 use Rattle.kube_types.specs.declared.objects.Class.{Class as ClassData}
 use Rattle.kube_types.specs.declared.objects.Object.{Object}
 use Rattle.kube_types.specs.declared.objects.Object.TheVariants.{Class, Node, Volume, Claim, Pod}
-use Rattle.kube_types.specs.Keys.{meta_of, key_of, key_cmp, row_at}
+use Rattle.kube_types.specs.Defaults.{is_default}
+use Rattle.kube_types.specs.Keys.{meta_of, row_at}
 use Rattle.kube_types.specs.Uids.{uid_of_serial}
-use Rattle.kube_types.specs.Bindings.{beta_class, is_default_class, pv_protection, pvc_protection, has_name, is_deleting, is_scheduled, has_key, is_empty}
+use Rattle.kube_types.specs.Bindings.{beta_class, pv_protection, pvc_protection, has_name, is_deleting, is_scheduled, has_key, is_empty}
 use Rattle.binder_model.specs.ObjectKeys.{node_key}
 
+-- what stands in the store, and its version, which rises by one at each write
 pub record State : Type 0 where
   pub rows : List Object
   pub version : ℕ
@@ -28,9 +26,11 @@ pub record State : Type 0 where
 abbrev pub first_moment : List ℕ
 first_moment = codes "2000-01-01T00:00:00Z"
 
+-- a store in which nothing was ever written
 abbrev pub no_store : State
 no_store = record { rows = []; version = 0 }
 
+-- the object with other metadata
 unfoldable pub with_meta : Object → Meta → Object
 with_meta (Class x) m = Class (record x { meta = m })
 with_meta (Node x) m = Node (record x { meta = m })
@@ -48,47 +48,28 @@ marked_object o version moment = with_meta o (record (meta_of o) { version = ver
 
 -- admission. Source: Kubernetes documentation, "Storage Object in Use Protection" and "DefaultStorageClass"
 
+-- the finalizers with this one, behind the others where it lacked
 abbrev pub with_finalizer : List ℕ → List (List ℕ) → List (List ℕ)
 with_finalizer name names = if has_name name names then names else names ++ name ∷ []
 
+-- the first text comes before the second, byte by byte
 abbrev pub text_lt : List ℕ → List ℕ → Bool
 text_lt a b = is_lt (slice_cmp nat_cmp a b)
 
-abbrev pub is_true_text : Option (List ℕ) → Bool
-is_true_text None = false
-is_true_text (Some text) = bytes_eq text (codes "true")
-
--- the class is marked as a default one
-abbrev pub is_default : ClassData → Bool
-is_default x = is_true_text (value_at is_default_class x.meta.annotations)
-
--- the order of default classes: the newest creation first, and of one moment the first by key, that is by name, since
--- a class has no namespace
-abbrev pub class_cmp : ClassData → ClassData → Ordering
-class_cmp x y = ordering_then (text_cmp y.meta.created x.meta.created) (key_cmp (key_of (Class x)) (key_of (Class y)))
-
--- a class that is marked, and before which no marked one stands
-pub record IsDefaultClass (rows : List Object) (class : ClassData) : Type 0 where
-  pub there : row_at (key_of (Class class)) rows ≡ Some (Class class)
-  pub marked : is_default class ≡ true
-  pub first : (key : Key) (other : ClassData) → row_at key rows ≡ Some (Class other) → is_default other ≡ true → class_cmp class other ≢ Greater
-
--- the default class, or none where none is marked. This is the definition
-abbrev pub IsDefault : List Object → Option ClassData → Type 0
-IsDefault rows (Some class) = IsDefaultClass rows class
-IsDefault rows None = (key : Key) (other : ClassData) → row_at key rows ≡ Some (Class other) → is_default other ≡ false
-
--- the scan that finds it, as the answer to a create is a function of the store: one pass over the rows, which keeps of
--- two default classes the newer one, and of two of one moment the first
+-- the class that was created later, and of one moment the first
 abbrev pub newer_class : ClassData → Option ClassData → Option ClassData
 newer_class x None = Some x
 newer_class x (Some y) = if text_lt x.meta.created y.meta.created then Some y else Some x
 
+-- the default class of the rows, as the answer to a create is a function of the store: one pass over them, which keeps of
+-- two default classes the newer one, and of two of one moment the first. What a default class is stands in `Defaults`
+-- of `kube_types`; that the pass finds it is a law (`default_is_found`)
 abbrev pub default_class : List Object → Option ClassData
 default_class [] = None
 default_class (Class x ∷ os) = if is_default x then newer_class x (default_class os) else default_class os
 default_class (o ∷ os) = default_class os
 
+-- the name of the class, if there is one
 abbrev pub class_name : Option ClassData → Option (List ℕ)
 class_name None = None
 class_name (Some x) = Some x.meta.name
@@ -108,6 +89,7 @@ admitted_object default (Claim c) = Claim (record c {
 })
 admitted_object default o = o
 
+-- no access mode at all
 abbrev pub no_modes : Modes
 no_modes = record { rwo = false; rox = false; rwx = false; rwop = false }
 
@@ -123,17 +105,19 @@ created_object default o version moment =
     let new = admitted_object default (without_status o) in
     with_meta new (record (meta_of new) { uid = Some (uid_of_serial version); version = version; created = moment; deleted = None })
 
--- an update keeps UID, both timestamps and status
+-- the new object with the status of the old one
 unfoldable pub with_status_of : Object → Object → Object
 with_status_of (Volume old) (Volume new) = Volume (record new { phase = old.phase })
 with_status_of (Claim old) (Claim new) = Claim (record new { phase = old.phase; got_modes = old.got_modes; got = old.got })
 with_status_of old new = new
 
+-- an update keeps UID, both timestamps and status
 unfoldable pub updated_object : Object → Object → ℕ → Object
 updated_object old new version =
     let kept = with_status_of old new in
     with_meta kept (record (meta_of kept) { uid = (meta_of old).uid; version = version; created = (meta_of old).created; deleted = (meta_of old).deleted })
 
+-- the list is empty
 abbrev pub has_no_names : List (List ℕ) → Bool
 has_no_names [] = true
 has_no_names (name ∷ names) = false
@@ -153,6 +137,7 @@ leaves_at_once o = false
 abbrev pub lacks_named_node : List ℕ → List Object → Bool
 lacks_named_node node rows = not (is_empty node) && is_none (row_at (node_key node) rows)
 
+-- the object is a pod that names a node which the store lacks
 unfoldable pub lacks_node : Object → List Object → Bool
 lacks_node (Pod p) rows = lacks_named_node p.node rows
 lacks_node o rows = false

@@ -38,10 +38,12 @@ first_some None b = b
 
 -- told an object
 
+-- the object of an event; that of a deletion is gone and is not told as an object
 abbrev pub objects_of_event : Change → Object → List Object
 objects_of_event changes.Deleted o = []
 objects_of_event _ o = o ∷ []
 
+-- the objects of all these events, in their order
 abbrev pub objects_of_events : List Event → List Object
 objects_of_events [] = []
 objects_of_events (e ∷ es) = objects_of_event e.change e.object ++ objects_of_events es
@@ -62,24 +64,30 @@ TellsObject P e = (e.told ≡ true) × SomeOf P (objects_in e.reply)
 abbrev pub ToldObject : (Object → Type 0) → List Entry → Type 0
 ToldObject P mine = SomeOf (TellsObject P) mine
 
+-- the object is a volume of which P holds
 abbrev pub IsVolumeWith : (VolumeData → Type 0) → Object → Type 0
 IsVolumeWith P (Volume v) = P v
 IsVolumeWith P _ = ⊥
 
+-- the object is a claim of which P holds
 abbrev pub IsClaimWith : (ClaimData → Type 0) → Object → Type 0
 IsClaimWith P (Claim c) = P c
 IsClaimWith P _ = ⊥
 
+-- the object is a pod of which P holds
 abbrev pub IsPodWith : (PodData → Type 0) → Object → Type 0
 IsPodWith P (Pod p) = P p
 IsPodWith P _ = ⊥
 
+-- the seat was told a volume of which P holds, in whatever version
 abbrev pub ToldVolume : (VolumeData → Type 0) → List Entry → Type 0
 ToldVolume P mine = ToldObject (IsVolumeWith P) mine
 
+-- the seat was told a claim of which P holds, in whatever version
 abbrev pub ToldClaim : (ClaimData → Type 0) → List Entry → Type 0
 ToldClaim P mine = ToldObject (IsClaimWith P) mine
 
+-- the seat was told a pod of which P holds, in whatever version
 abbrev pub ToldPod : (PodData → Type 0) → List Entry → Type 0
 ToldPod P mine = ToldObject (IsPodWith P) mine
 
@@ -117,6 +125,7 @@ pub record Telling : Type 0 where
   pub version : ℕ
   pub object : Option Object
 
+-- the object is there, at its own version
 abbrev pub presence : Object → Telling
 presence o = record { version = (meta_of o).version; object = Some o }
 
@@ -126,10 +135,12 @@ later None b = b
 later (Some a) None = Some a
 later (Some a) (Some b) = if nat_lt a.version b.version then Some b else Some a
 
+-- an event tells the object at the event's version, that of a deletion its absence
 abbrev pub of_event : Change → Object → ℕ → Telling
 of_event changes.Deleted o version = record { version = version; object = None }
 of_event _ o version = record { version = version; object = Some o }
 
+-- what the events tell of the key: the latest of those that are of it
 abbrev pub told_by_events : List Event → Key → Option Telling
 told_by_events [] key = None
 told_by_events (e ∷ es) key =
@@ -154,6 +165,7 @@ tells_of request (Listed items version) key = if lists_key request key then Some
 tells_of request (Events events) key = told_by_events events.events key
 tells_of request _ key = None
 
+-- what the entry told the seat of the key, if its answer reached it
 abbrev pub told_of : Entry → Key → Option Telling
 told_of e key = if e.told then tells_of e.request e.reply key else None
 
@@ -162,6 +174,7 @@ abbrev pub newest : List Entry → Key → Option Telling
 newest [] key = None
 newest (e ∷ mine) key = later (told_of e key) (newest mine key)
 
+-- the object that was told, if one was
 abbrev pub object_of : Option Telling → Option Object
 object_of None = None
 object_of (Some t) = t.object
@@ -170,10 +183,11 @@ object_of (Some t) = t.object
 abbrev pub IsNewest : List Entry → Key → Object → Type 0
 IsNewest mine key o = object_of (newest mine key) ≡ Some o
 
--- the newest told of the key is its absence
+-- something was told, and it is an absence
 abbrev pub IsAbsenceOf : Option Telling → Type 0
 IsAbsenceOf None = ⊥
 IsAbsenceOf (Some t) = t.object ≡ None
 
+-- the newest told of the key is its absence. Where nothing was told, no absence was told
 abbrev pub IsNewestAbsent : List Entry → Key → Type 0
 IsNewestAbsent mine key = IsAbsenceOf (newest mine key)

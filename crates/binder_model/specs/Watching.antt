@@ -7,10 +7,11 @@ use Rattle.kube_types.specs.Keys.{is_of_kind}
 use Rattle.call_types.specs.declared.reply.Event.{Event}
 use Rattle.call_types.specs.declared.reply.Events.{Events}
 
--- how far back a watch may begin, and how many events one answer has
+-- how many versions back a watch may begin
 abbrev pub window : ℕ
 window = 512
 
+-- how many events one answer has at most
 abbrev pub most_events : ℕ
 most_events = 64
 
@@ -18,6 +19,7 @@ most_events = 64
 abbrev pub oldest : ℕ → ℕ → ℕ
 oldest base version = max base (version - window)
 
+-- the event is of the kind and after the version
 abbrev pub is_later : Kind → ℕ → Event → Bool
 is_later kind from e = nat_lt from e.version && is_of_kind kind e.object
 
@@ -25,6 +27,7 @@ is_later kind from e = nat_lt from e.version && is_of_kind kind e.object
 abbrev pub events_after : Kind → ℕ → List Event → List Event
 events_after kind from log = reverse (filter (is_later kind from) log)
 
+-- the version of the last of these events, or the one given where there are none
 abbrev pub last_version : ℕ → List Event → ℕ
 last_version none [] = none
 last_version none (e ∷ es) = last_version e.version es
@@ -33,6 +36,7 @@ last_version none (e ∷ es) = last_version e.version es
 abbrev pub reached_version : ℕ → List Event → ℕ
 reached_version version es = if length es == most_events then last_version version es else version
 
+-- the answer to a watch: the first events after its version, and the version up to which they tell all
 abbrev pub told_events : Kind → ℕ → ℕ → List Event → Events
 told_events kind from version log =
     let es = take most_events (events_after kind from log) in

@@ -23,6 +23,7 @@ use Rattle.binder_model.specs.Answers.{Outcome, Says, Stores, Removes, is_user, 
 use Rattle.binder_model.specs.Devices.{Devices, DeviceAnswer, no_devices, device_answer, epoch_if_stale}
 use Rattle.binder_model.specs.Watching.{oldest, told_events}
 
+-- all that a history changes
 pub record World : Type 0 where
   pub store : State
   pub moment : List ℕ
@@ -49,6 +50,7 @@ pub data Effect : Type 0 where
   OnDevices : DeviceAnswer → Effect
   SetsMoment : List ℕ → Effect
 
+-- the byte is a digit where the shape has a 'd', else the very byte of the shape
 abbrev pub fits_shape : ℕ → ℕ → Bool
 fits_shape shape c = if shape == 100 then nat_le 48 c && nat_le c 57 else shape == c
 
@@ -56,12 +58,15 @@ fits_shape shape c = if shape == 100 then nat_le 48 c && nat_le c 57 else shape 
 abbrev pub is_time : List ℕ → Bool
 is_time text = pointwise fits_shape (codes "dddd-dd-ddTdd:dd:ddZ") text
 
+-- the refusal of a verb that is not a user's
 abbrev pub refused_rule : Effect
 refused_rule = OnStore (Says (Refused (Forbidden rules.Verb)))
 
+-- the moment that the request sets, where the text has the form of one
 unfoldable pub set_time : List ℕ → Effect
 set_time at = if is_time at then SetsMoment at else OnStore (Says (Refused (Invalid fields.Time)))
 
+-- a watch: refused from a version that is still to come, Gone from one too far back, else the events since
 unfoldable pub watch : Setup → World → Kind → ℕ → Effect
 watch setup w kind from =
     if nat_lt w.store.version from then OnStore (Says (Refused (Invalid fields.From)))
@@ -78,6 +83,7 @@ unfoldable pub on_devices : World → SeatKind → Request → Option DeviceAnsw
 on_devices w kind request (Some answered) = if is_user kind then refused_rule else OnDevices answered
 on_devices w kind request None = OnStore (outcome w.store kind request w.moment (stale_epoch w.devices request))
 
+-- what a seat's request comes to in the world
 unfoldable pub effect : Setup → World → SeatKind → Request → Effect
 effect setup w kind (requests.SetTime at) = set_time at
 effect setup w kind (requests.Watch k from) = watch setup w k from

@@ -1,4 +1,5 @@
 pub mod Agrees
+pub mod Assigned
 pub mod Matches
 pub mod Rows
 pub mod Says

@@ -17,6 +17,7 @@ abbrev pub due_of : ClaimStep → Option Due
 due_of steps.Nothing = None
 due_of steps.ReadVolume = None
 due_of steps.Bind = Some dues.Bind
+due_of steps.AssignClass = Some dues.AssignClass
 due_of steps.Lost = Some dues.Lost
 
 -- the volume was read by itself, and what was read is what the rows hold

@@ -17,45 +17,49 @@ abbrev pub step_number : ClaimStep → ℕ
 step_number steps.Nothing = 0
 step_number steps.ReadVolume = 1
 step_number steps.Bind = 2
-step_number steps.Lost = 3
+step_number steps.AssignClass = 3
+step_number steps.Lost = 4
 
 abbrev pub step_numbered : ℕ → ClaimStep
 step_numbered n =
     if n == 1 then steps.ReadVolume
     else if n == 2 then steps.Bind
-    else if n == 3 then steps.Lost
+    else if n == 3 then steps.AssignClass
+    else if n == 4 then steps.Lost
     else steps.Nothing
 
 abbrev pub row : List Need → ClaimStep → CaseRow 12
 row needs step = record { needs = needs; action = step_number step }
 
--- the conditions, in order: completed, deleting, names a volume, a match exists, the volume is seen, it was asked for, it is
--- deleting or unprotected or Released or Failed, it has no reference, it fits, it is for the claim, its reference has
--- another UID, a write would change something and may be made
+-- the conditions, in order: completed, deleting, names a volume, a match exists, a class may be assigned, the phase is Lost, the
+-- volume is seen, it was asked for, it is deleting or unprotected or Released or Failed, it may be bound by name, its reference
+-- has another UID, a write would change something and may be made
 
 -- claims that are not completed
 unfoldable pub unbound_rows : List (CaseRow 12)
 unbound_rows =
     row (No ∷ Yes ∷ Any ∷ Any ∷ Any ∷ Any ∷ Any ∷ Any ∷ Any ∷ Any ∷ Any ∷ Any ∷ []) steps.Nothing
     ∷ row (No ∷ No ∷ No ∷ Yes ∷ Any ∷ Any ∷ Any ∷ Any ∷ Any ∷ Any ∷ Any ∷ Any ∷ []) steps.Bind
-    ∷ row (No ∷ No ∷ No ∷ No ∷ Any ∷ Any ∷ Any ∷ Any ∷ Any ∷ Any ∷ Any ∷ Any ∷ []) steps.Nothing
-    ∷ row (No ∷ No ∷ Yes ∷ Any ∷ No ∷ Any ∷ Any ∷ Any ∷ Any ∷ Any ∷ Any ∷ Any ∷ []) steps.Nothing
-    ∷ row (No ∷ No ∷ Yes ∷ Any ∷ Yes ∷ Any ∷ Yes ∷ Any ∷ Any ∷ Any ∷ Any ∷ Any ∷ []) steps.Nothing
-    ∷ row (No ∷ No ∷ Yes ∷ Any ∷ Yes ∷ Any ∷ No ∷ Yes ∷ Yes ∷ Any ∷ Any ∷ Any ∷ []) steps.Bind
-    ∷ row (No ∷ No ∷ Yes ∷ Any ∷ Yes ∷ Any ∷ No ∷ Yes ∷ No ∷ Any ∷ Any ∷ Any ∷ []) steps.Nothing
-    ∷ row (No ∷ No ∷ Yes ∷ Any ∷ Yes ∷ Any ∷ No ∷ No ∷ Any ∷ Yes ∷ Any ∷ Any ∷ []) steps.Bind
-    ∷ row (No ∷ No ∷ Yes ∷ Any ∷ Yes ∷ Any ∷ No ∷ No ∷ Any ∷ No ∷ Any ∷ Any ∷ []) steps.Nothing
+    ∷ row (No ∷ No ∷ No ∷ No ∷ Yes ∷ Any ∷ Any ∷ Any ∷ Any ∷ Any ∷ Any ∷ Any ∷ []) steps.AssignClass
+    ∷ row (No ∷ No ∷ No ∷ No ∷ No ∷ Any ∷ Any ∷ Any ∷ Any ∷ Any ∷ Any ∷ Any ∷ []) steps.Nothing
+    ∷ row (No ∷ No ∷ Yes ∷ Any ∷ Any ∷ Any ∷ No ∷ Any ∷ Any ∷ Any ∷ Any ∷ Any ∷ []) steps.Nothing
+    ∷ row (No ∷ No ∷ Yes ∷ Any ∷ Any ∷ Any ∷ Yes ∷ Any ∷ Yes ∷ Any ∷ Any ∷ Any ∷ []) steps.Nothing
+    ∷ row (No ∷ No ∷ Yes ∷ Any ∷ Any ∷ Any ∷ Yes ∷ Any ∷ No ∷ Yes ∷ Any ∷ Any ∷ []) steps.Bind
+    ∷ row (No ∷ No ∷ Yes ∷ Any ∷ Any ∷ Any ∷ Yes ∷ Any ∷ No ∷ No ∷ Any ∷ Any ∷ []) steps.Nothing
     ∷ []
 
 -- completed claims
 unfoldable pub completed_rows : List (CaseRow 12)
 completed_rows =
-    row (Yes ∷ Any ∷ No ∷ Any ∷ Any ∷ Any ∷ Any ∷ Any ∷ Any ∷ Any ∷ Any ∷ Any ∷ []) steps.Lost
-    ∷ row (Yes ∷ Any ∷ Yes ∷ Any ∷ No ∷ No ∷ Any ∷ Any ∷ Any ∷ Any ∷ Any ∷ Any ∷ []) steps.ReadVolume
-    ∷ row (Yes ∷ Any ∷ Yes ∷ Any ∷ No ∷ Yes ∷ Any ∷ Any ∷ Any ∷ Any ∷ Any ∷ Any ∷ []) steps.Lost
-    ∷ row (Yes ∷ Any ∷ Yes ∷ Any ∷ Yes ∷ Any ∷ Any ∷ Any ∷ Any ∷ Any ∷ Yes ∷ Any ∷ []) steps.Lost
-    ∷ row (Yes ∷ Any ∷ Yes ∷ Any ∷ Yes ∷ Any ∷ Any ∷ Any ∷ Any ∷ Any ∷ No ∷ Yes ∷ []) steps.Bind
-    ∷ row (Yes ∷ Any ∷ Yes ∷ Any ∷ Yes ∷ Any ∷ Any ∷ Any ∷ Any ∷ Any ∷ No ∷ No ∷ []) steps.Nothing
+    row (Yes ∷ Any ∷ No ∷ Any ∷ Any ∷ No ∷ Any ∷ Any ∷ Any ∷ Any ∷ Any ∷ Any ∷ []) steps.Lost
+    ∷ row (Yes ∷ Any ∷ No ∷ Any ∷ Any ∷ Yes ∷ Any ∷ Any ∷ Any ∷ Any ∷ Any ∷ Any ∷ []) steps.Nothing
+    ∷ row (Yes ∷ Any ∷ Yes ∷ Any ∷ Any ∷ No ∷ No ∷ No ∷ Any ∷ Any ∷ Any ∷ Any ∷ []) steps.ReadVolume
+    ∷ row (Yes ∷ Any ∷ Yes ∷ Any ∷ Any ∷ No ∷ No ∷ Yes ∷ Any ∷ Any ∷ Any ∷ Any ∷ []) steps.Lost
+    ∷ row (Yes ∷ Any ∷ Yes ∷ Any ∷ Any ∷ Yes ∷ No ∷ Any ∷ Any ∷ Any ∷ Any ∷ Any ∷ []) steps.Nothing
+    ∷ row (Yes ∷ Any ∷ Yes ∷ Any ∷ Any ∷ No ∷ Yes ∷ Any ∷ Any ∷ Any ∷ Yes ∷ Any ∷ []) steps.Lost
+    ∷ row (Yes ∷ Any ∷ Yes ∷ Any ∷ Any ∷ Yes ∷ Yes ∷ Any ∷ Any ∷ Any ∷ Yes ∷ Any ∷ []) steps.Nothing
+    ∷ row (Yes ∷ Any ∷ Yes ∷ Any ∷ Any ∷ Any ∷ Yes ∷ Any ∷ Any ∷ Any ∷ No ∷ Yes ∷ []) steps.Bind
+    ∷ row (Yes ∷ Any ∷ Yes ∷ Any ∷ Any ∷ Any ∷ Yes ∷ Any ∷ Any ∷ Any ∷ No ∷ No ∷ []) steps.Nothing
     ∷ []
 
 unfoldable pub claim_rows : List (CaseRow 12)

@@ -11,6 +11,8 @@ pub enum ClaimAction {
     ReadVolume,
     /// Make the writes of the binding with the volume at this place among the volumes.
     Bind(usize),
+    /// Set the claim's class to the one at this place among the classes.
+    AssignClass(usize),
     /// Write phase Lost.
     Lost,
 }
@@ -21,6 +23,7 @@ pub enum ClaimStep {
     Nothing,
     ReadVolume,
     Bind,
+    AssignClass,
     Lost,
 }
 
@@ -33,7 +36,8 @@ impl ClaimStep {
             ClaimStep::Nothing => 0,
             ClaimStep::ReadVolume => 1,
             ClaimStep::Bind => 2,
-            ClaimStep::Lost => 3,
+            ClaimStep::AssignClass => 3,
+            ClaimStep::Lost => 4,
         }
     }
 
@@ -44,7 +48,8 @@ impl ClaimStep {
         match number {
             1 => ClaimStep::ReadVolume,
             2 => ClaimStep::Bind,
-            3 => ClaimStep::Lost,
+            3 => ClaimStep::AssignClass,
+            4 => ClaimStep::Lost,
             _ => ClaimStep::Nothing,
         }
     }

@@ -2,12 +2,12 @@
 
 ghost use Rattle.std.specs.Prelude.{◌≡◌, ◌&&◌, is_some};
 ghost use Rattle.kube_types.specs.Bindings.{is_empty};
-ghost use Rattle.claim_sync.specs.ClaimDecision.{BindsTo, BindsVolume, claim_decision, step_of};
+ghost use Rattle.claim_sync.specs.ClaimDecision.{AssignsClass, BindsTo, BindsVolume, claim_decision, may_assign, step_of};
 ghost use Rattle.claim_sync.specs.Steps.Conditions.{has_best};
 
 use crate::action::{ClaimAction, ClaimStep};
 use crate::conditions::claim_conditions;
-use crate::place::bind_place;
+use crate::place::{bind_place, class_place};
 use crate::table::claim_table;
 use kube_types::bindings::is_empty;
 use kube_types::lookup::{Live, Lookup};
@@ -19,15 +19,20 @@ pub fn decide_claim<L: Lookup>(lookup: &L, claim: &Claim, live: Live) -> ClaimAc
     ensures step { step_of result ≡ claim_decision (L.rows lookup.now) claim.now live.entry }
     ensures place { BindsTo (L.rows lookup.now) claim.now result }
     ensures volume { BindsVolume (L.rows lookup.now) result }
+    ensures class { AssignsClass (L.rows lookup.now) result }
 {
     let place = bind_place(lookup, claim);
-    let matched = is_match(claim, place);
-    match claim_step(lookup, claim, live, matched) {
+    let class = class_place(lookup, claim);
+    match claim_step(lookup, claim, live, is_match(claim, place), class.is_some()) {
         ClaimStep::Nothing => ClaimAction::Nothing,
         ClaimStep::ReadVolume => ClaimAction::ReadVolume,
         ClaimStep::Lost => ClaimAction::Lost,
         ClaimStep::Bind => match place {
             Some(place) => ClaimAction::Bind(place),
+            None => ClaimAction::Nothing,
+        },
+        ClaimStep::AssignClass => match class {
+            Some(place) => ClaimAction::AssignClass(place),
             None => ClaimAction::Nothing,
         },
     }
@@ -40,11 +45,19 @@ fn is_match(claim: &Claim, place: Option<usize>) -> bool
     is_empty(&claim.volume_name) && place.is_some()
 }
 
-/// The step that the table gives, where it is known whether a match exists.
-fn claim_step<L: Lookup>(lookup: &L, claim: &Claim, live: Live, matched: bool) -> ClaimStep
-    requires { matched ≡ has_best (L.rows lookup.now) claim.now }
+/// The step that the table gives, where it is known whether a match exists and whether a class may be
+/// assigned.
+fn claim_step<L: Lookup>(
+    lookup: &L,
+    claim: &Claim,
+    live: Live,
+    matched: bool,
+    assignable: bool,
+) -> ClaimStep
+    requires matched { matched ≡ has_best (L.rows lookup.now) claim.now }
+    requires assignable { assignable ≡ may_assign (L.rows lookup.now) claim.now }
     ensures { result ≡ claim_decision (L.rows lookup.now) claim.now live.entry }
 {
-    let conditions = claim_conditions(lookup, claim, live, matched);
+    let conditions = claim_conditions(lookup, claim, live, matched, assignable);
     ClaimStep::numbered(claim_table().pick(conditions))
 }

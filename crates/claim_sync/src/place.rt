@@ -1,10 +1,12 @@
-//! The place of the volume to be bound.
+//! The places of the volume to be bound and of the class to be assigned.
 
-ghost use Rattle.std.specs.Prelude.{◌≡◌};
+ghost use Rattle.std.specs.Prelude.{◌≡◌, IfSome, is_some};
 ghost use Rattle.kube_types.specs.Bindings.{is_empty};
-ghost use Rattle.claim_sync.specs.ClaimDecision.{IsChoice};
+ghost use Rattle.kube_types.specs.Defaults.{IsDefaultAt};
+ghost use Rattle.claim_sync.specs.ClaimDecision.{IsChoice, may_assign};
 
-use kube_types::bindings::is_empty;
+use kube_types::bindings::{is_empty, lacks_class};
+use kube_types::defaults::default_class;
 use kube_types::lookup::Lookup;
 use kube_types::objects::Claim;
 use kube_types::parts::Kind;
@@ -24,4 +26,18 @@ pub(crate) fn bind_place<L: Lookup>(lookup: &L, claim: &Claim) -> Option<usize>
             claim.volume_name.as_str(),
         )
     }
+}
+
+/// The place of the default class, where the claim lacks a class.
+pub(crate) fn class_place<L: Lookup>(lookup: &L, claim: &Claim) -> Option<usize>
+    ensures some { is_some result ≡ may_assign (L.rows lookup.now) claim.now }
+    ensures default { IfSome result (λ place. IsDefaultAt (L.rows lookup.now) place) }
+{
+    if !lacks_class(claim) {
+        return None;
+    }
+    if lookup.count(Kind::StorageClass) == 0 {
+        return None;
+    }
+    default_class(lookup)
 }

@@ -19,7 +19,7 @@ fn row(needs: [Need; 12], step: ClaimStep) -> CaseRow<12>
 
 /// The rows of claims that are not completed.
 #[tactic(auto, unfolding(crate::specs::ClaimTable::unbound_rows))]
-fn unbound_rows() -> [CaseRow<12>; 9]
+fn unbound_rows() -> [CaseRow<12>; 8]
     ensures { result ≡ unbound_rows }
 {
     [
@@ -32,31 +32,27 @@ fn unbound_rows() -> [CaseRow<12>; 9]
             ClaimStep::Bind,
         ),
         row(
-            [No, No, No, No, Any, Any, Any, Any, Any, Any, Any, Any],
+            [No, No, No, No, Yes, Any, Any, Any, Any, Any, Any, Any],
+            ClaimStep::AssignClass,
+        ),
+        row(
+            [No, No, No, No, No, Any, Any, Any, Any, Any, Any, Any],
             ClaimStep::Nothing,
         ),
         row(
-            [No, No, Yes, Any, No, Any, Any, Any, Any, Any, Any, Any],
+            [No, No, Yes, Any, Any, Any, No, Any, Any, Any, Any, Any],
             ClaimStep::Nothing,
         ),
         row(
-            [No, No, Yes, Any, Yes, Any, Yes, Any, Any, Any, Any, Any],
+            [No, No, Yes, Any, Any, Any, Yes, Any, Yes, Any, Any, Any],
             ClaimStep::Nothing,
         ),
         row(
-            [No, No, Yes, Any, Yes, Any, No, Yes, Yes, Any, Any, Any],
+            [No, No, Yes, Any, Any, Any, Yes, Any, No, Yes, Any, Any],
             ClaimStep::Bind,
         ),
         row(
-            [No, No, Yes, Any, Yes, Any, No, Yes, No, Any, Any, Any],
-            ClaimStep::Nothing,
-        ),
-        row(
-            [No, No, Yes, Any, Yes, Any, No, No, Any, Yes, Any, Any],
-            ClaimStep::Bind,
-        ),
-        row(
-            [No, No, Yes, Any, Yes, Any, No, No, Any, No, Any, Any],
+            [No, No, Yes, Any, Any, Any, Yes, Any, No, No, Any, Any],
             ClaimStep::Nothing,
         ),
     ]
@@ -64,43 +60,55 @@ fn unbound_rows() -> [CaseRow<12>; 9]
 
 /// The rows of completed claims.
 #[tactic(auto, unfolding(crate::specs::ClaimTable::completed_rows))]
-fn completed_rows() -> [CaseRow<12>; 6]
+fn completed_rows() -> [CaseRow<12>; 9]
     ensures { result ≡ completed_rows }
 {
     [
         row(
-            [Yes, Any, No, Any, Any, Any, Any, Any, Any, Any, Any, Any],
+            [Yes, Any, No, Any, Any, No, Any, Any, Any, Any, Any, Any],
             ClaimStep::Lost,
         ),
         row(
-            [Yes, Any, Yes, Any, No, No, Any, Any, Any, Any, Any, Any],
+            [Yes, Any, No, Any, Any, Yes, Any, Any, Any, Any, Any, Any],
+            ClaimStep::Nothing,
+        ),
+        row(
+            [Yes, Any, Yes, Any, Any, No, No, No, Any, Any, Any, Any],
             ClaimStep::ReadVolume,
         ),
         row(
-            [Yes, Any, Yes, Any, No, Yes, Any, Any, Any, Any, Any, Any],
+            [Yes, Any, Yes, Any, Any, No, No, Yes, Any, Any, Any, Any],
             ClaimStep::Lost,
         ),
         row(
-            [Yes, Any, Yes, Any, Yes, Any, Any, Any, Any, Any, Yes, Any],
+            [Yes, Any, Yes, Any, Any, Yes, No, Any, Any, Any, Any, Any],
+            ClaimStep::Nothing,
+        ),
+        row(
+            [Yes, Any, Yes, Any, Any, No, Yes, Any, Any, Any, Yes, Any],
             ClaimStep::Lost,
         ),
         row(
-            [Yes, Any, Yes, Any, Yes, Any, Any, Any, Any, Any, No, Yes],
+            [Yes, Any, Yes, Any, Any, Yes, Yes, Any, Any, Any, Yes, Any],
+            ClaimStep::Nothing,
+        ),
+        row(
+            [Yes, Any, Yes, Any, Any, Any, Yes, Any, Any, Any, No, Yes],
             ClaimStep::Bind,
         ),
         row(
-            [Yes, Any, Yes, Any, Yes, Any, Any, Any, Any, Any, No, No],
+            [Yes, Any, Yes, Any, Any, Any, Yes, Any, Any, Any, No, No],
             ClaimStep::Nothing,
         ),
     ]
 }
 
 /// The rows: those of claims that are not completed, then those of completed claims. The conditions,
-/// in order: the claim is completed; it is deleting; it names a volume; a match exists; the volume is
-/// seen; it was asked for by itself; the volume is deleting, or lacks its protection finalizer, or is
-/// Released or Failed; it has no reference; it fits; it is for the claim; its reference has another
-/// UID; a write of the binding would change something and may be made.
-pub fn claim_rows() -> [CaseRow<12>; 15]
+/// in order: the claim is completed; it is deleting; it names a volume; a match exists; a class may be
+/// assigned; the phase is Lost; the volume is seen; it was asked for by itself; the volume is deleting,
+/// or lacks its protection finalizer, or is Released or Failed; it may be bound by name; its reference
+/// has another UID; a write of the binding would change something and may be made.
+pub fn claim_rows() -> [CaseRow<12>; 17]
     ensures rows { result ≡ claim_rows }
     ensures exact { IsExact result }
 {
@@ -115,18 +123,20 @@ pub fn claim_rows() -> [CaseRow<12>; 15]
         unbound[5],
         unbound[6],
         unbound[7],
-        unbound[8],
         completed[0],
         completed[1],
         completed[2],
         completed[3],
         completed[4],
         completed[5],
+        completed[6],
+        completed[7],
+        completed[8],
     ]
 }
 
 /// The table of these rows.
-pub fn claim_table() -> Table<12, 15>
+pub fn claim_table() -> Table<12, 17>
     ensures { result ≡ claim_rows }
 {
     Table::exact(claim_rows())

@@ -29,7 +29,8 @@ use Rattle.binder_model.specs.BinderLicence.{IsFreeFor, IsTaken, MayTake}
 use Rattle.binder_model.specs.BindWrites.{taken_for, write_reference}
 use Rattle.binder_model.specs.Choice.{AreShares, admits_node, are_completed, carries_claim, claim_in, claim_named, claims_of, has_carrier, is_missing, is_served_elsewhere, is_under_way, lacks_claim, volume_admits}
 use Rattle.binder_model.specs.Fields.{has_twice}
-use Rattle.binder_model.specs.Licence.{SchedulerMay}
+use Rattle.call_types.specs.declared.request.SeatKind.TheVariants as seats
+use Rattle.binder_model.specs.Licence.{RowAllows}
 use Rattle.binder_model.specs.Matching.{eligible, fits, is_admitted_on, is_delayed, is_selected, may_serve}
 use Rattle.binder_model.specs.ObjectKeys.{class_key, node_key, claim_key, volume_key}
 use Rattle.binder_model.specs.SchedulerLicence.{AreReadyOn, MaySelectNode}
@@ -80,7 +81,7 @@ free_for : (r : Option Ref) (c : ClaimData) (phase : VolumePhase) → ((refers_f
 free_for None c phase serves out = tt
 free_for (Some r) c phase serves out = free_by (names_claim r c) r.uid c (own_of (refers_for (Some r) c) (is_ended phase) (is_available phase) serves) out
 
-reference_allowed : (mine : List Entry) (v : VolumeData) (c : ClaimData) (n : NodeData) → ToldVolume (λ o. o ≡ v) mine → ToldClaim (λ o. o ≡ c) mine → is_known c ≡ true → eligible v c (Some n) ≡ true → carries v c ≡ false → SchedulerMay mine (write_reference v c)
+reference_allowed : (mine : List Entry) (v : VolumeData) (c : ClaimData) (n : NodeData) → ToldVolume (λ o. o ≡ v) mine → ToldClaim (λ o. o ≡ c) mine → is_known c ≡ true → eligible v c (Some n) ≡ true → carries v c ≡ false → RowAllows seats.Scheduler mine (write_reference v c)
 unfolding taken_for
 reference_allowed mine v c n volume claim known e out =
     let new = taken_for v c in
@@ -123,7 +124,7 @@ delayed_class (Some (Volume x)) e = absurd (true≢false (sym e))
 delayed_class (Some (Claim x)) e = absurd (true≢false (sym e))
 delayed_class (Some (Pod x)) e = absurd (true≢false (sym e))
 
-node_allowed : (mine : List Entry) (c : ClaimData) (n : NodeData) (name : List ℕ) (x : ClassData) → ToldClaim (λ o. o ≡ c) mine → name ≡ n.meta.name → is_completed c ≡ false → IsNewest mine (class_key (class_of_claim c)) (Class x) → x.delayed ≡ true → IsNewest mine (node_key n.meta.name) (Node n) → SchedulerMay mine (Update (Claim (placed_on name c)) (Some c.meta.version))
+node_allowed : (mine : List Entry) (c : ClaimData) (n : NodeData) (name : List ℕ) (x : ClassData) → ToldClaim (λ o. o ≡ c) mine → name ≡ n.meta.name → is_completed c ≡ false → IsNewest mine (class_key (class_of_claim c)) (Class x) → x.delayed ≡ true → IsNewest mine (node_key n.meta.name) (Node n) → RowAllows seats.Scheduler mine (Update (Claim (placed_on name c)) (Some c.meta.version))
 node_allowed mine c n name x claim named open_ class delayed node =
     let new = placed_on name c in
     let row : MaySelectNode mine c new = record { undone = open_; class = x; class_newest = class; delayed = delayed; node = n; node_newest = node; change = ap (λ s. placed_on s c) named } in
@@ -341,10 +342,10 @@ module _ (rows : List Object) (order : AreRows rows) (p : PodData) (last : Optio
     sought : Each (IsSought rows) others
     sought = others_sought rows p known s.served
 
-    answered : (a b : Request) → Some a ≡ Some b → SchedulerMay mine a → SchedulerMay mine b
-    answered a b e may = subst (λ r. SchedulerMay mine r) (one a b e) may
+    answered : (a b : Request) → Some a ≡ Some b → RowAllows seats.Scheduler mine a → RowAllows seats.Scheduler mine b
+    answered a b e may = subst (λ r. RowAllows seats.Scheduler mine r) (one a b e) may
 
-    bind_allowed : (pair : Key × Key) (request : Request) → nth < length bs → slice_get bs nth ≡ Some pair → bind_write later pair ≡ Some request → SchedulerMay mine request
+    bind_allowed : (pair : Key × Key) (request : Request) → nth < length bs → slice_get bs nth ≡ Some pair → bind_write later pair ≡ Some request → RowAllows seats.Scheduler mine request
     bind_allowed pair request below at e =
         let b = bound sought nth pair at in
         let c = b.claim in
@@ -360,7 +361,7 @@ module _ (rows : List Object) (order : AreRows rows) (p : PodData) (last : Optio
         (reference_allowed mine v c node (newest_volume (λ u. u ≡ v) mine pair.1 v (newest_of pair.1 (Volume v) volume_same volume_row) refl) (newest_claim (λ d. d ≡ c) mine pair.0 c (newest_of pair.0 (Claim c) claim_same claim_row) refl)
         b.holds.known b.eligible (uncarried rows c v b.place b.holds.uncarried b.there))
 
-    provision_allowed : (key : Key) (j : ℕ) (request : Request) → nth ≡ length bs + j → slice_get ps j ≡ Some key → node_write later name key ≡ Some request → SchedulerMay mine request
+    provision_allowed : (key : Key) (j : ℕ) (request : Request) → nth ≡ length bs + j → slice_get ps j ≡ Some key → node_write later name key ≡ Some request → RowAllows seats.Scheduler mine request
     provision_allowed key j request place at e =
         let d = provided sought j key at in
         let c = d.claim in
@@ -375,11 +376,11 @@ module _ (rows : List Object) (order : AreRows rows) (p : PodData) (last : Optio
         (newest_of (class_key (class_of_claim c)) (Class x.class) (kept.rest (class_key (class_of_claim c)) refl) x.is) x.delayed
         (newest_of (node_key node.meta.name) (Node node) (kept.rest (node_key node.meta.name) refl) s.prepared.first.there))
 
-    allowed : (request : Request) → prepare_write later (Prepare name bs ps) nth ≡ Some request → SchedulerMay mine request
+    allowed : (request : Request) → prepare_write later (Prepare name bs ps) nth ≡ Some request → RowAllows seats.Scheduler mine request
     unfolding prepare_write
     allowed request e = by (item_of (map (bind_write later) bs) (map (node_write later name) ps) nth (Some request) (joined_some _ request e))
       where
-        by : IsOf (map (bind_write later) bs) (map (node_write later name) ps) nth (Some request) → SchedulerMay mine request
+        by : IsOf (map (bind_write later) bs) (map (node_write later name) ps) nth (Some request) → RowAllows seats.Scheduler mine request
         by (OfFirst lt h) =
             let m = made_of (bind_write later) bs nth (Some request) h in
             let n = length-map bs (bind_write later) in

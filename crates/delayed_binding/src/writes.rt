@@ -17,6 +17,7 @@ use kube_types::copies::{OutOfMemory, Plain};
 use kube_types::key::Key;
 use kube_types::lookup::Lookup;
 use kube_types::objects::{Claim, Object, Volume};
+use kube_types::shared::Shared;
 use kube_types::text::Text;
 use std::alloc::Global;
 
@@ -131,7 +132,7 @@ fn node_write<L: Lookup>(
     match claim_at(lookup, key) {
         None => Ok(None),
         Some(claim) => Ok(Some(Request::Update {
-            object: Object::Claim(placed_on(alloc, node, claim)?),
+            object: Object::Claim(Shared::new(alloc, placed_on(alloc, node, claim)?)?),
             version: Some(claim.meta.version),
         })),
     }

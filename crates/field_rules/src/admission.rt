@@ -10,6 +10,7 @@ use kube_types::bindings::{BETA_CLASS, PV_PROTECTION, PVC_PROTECTION};
 use kube_types::copies::{OutOfMemory, Plain, copy_option};
 use kube_types::objects::{Claim, Object};
 use kube_types::pairs::Pairs;
+use kube_types::shared::Shared;
 use kube_types::text::{Names, Text};
 use std::alloc::Global;
 
@@ -61,25 +62,20 @@ fn admitted_class(
     copy_text(alloc, default)
 }
 
-fn with_class(mut claim: Claim, class: Option<Text>) -> Claim
-    ensures { result ≡ record claim { class = class } }
-{
-    claim.class = class;
-    claim
-}
-
 #[tactic(auto, unfolding(binder_model::specs::Store::admitted_object))]
 fn admit_claim(
     alloc: Global,
-    claim: &Claim,
+    claim: &Shared<Claim>,
     default_class: Option<&Text>,
 ) -> Result<Object, OutOfMemory>
     ensures { IfOk result (λ o. o ≡ admitted_object (option_copied default_class.entry) (objects.Claim claim.now)) }
 {
     let names_beta = has_key(&claim.meta.annotations, BETA_CLASS);
     let class = admitted_class(alloc, &claim.class, default_class, names_beta)?;
-    let mut admitted = with_class(claim.copy(alloc)?, class);
-    add_finalizer(alloc, &mut admitted.meta.finalizers, PVC_PROTECTION)?;
+    let mut admitted = claim.copy(alloc)?;
+    let own = admitted.value_mut(alloc)?;
+    own.class = class;
+    add_finalizer(alloc, &mut own.meta.finalizers, PVC_PROTECTION)?;
     Ok(Object::Claim(admitted))
 }
 
@@ -95,9 +91,10 @@ pub fn admit(
 {
     match object {
         Object::Volume(volume) => {
-            let mut volume = volume.copy(alloc)?;
-            add_finalizer(alloc, &mut volume.meta.finalizers, PV_PROTECTION)?;
-            Ok(Object::Volume(volume))
+            let mut admitted = volume.copy(alloc)?;
+            let own = admitted.value_mut(alloc)?;
+            add_finalizer(alloc, &mut own.meta.finalizers, PV_PROTECTION)?;
+            Ok(Object::Volume(admitted))
         }
         Object::Claim(claim) => admit_claim(alloc, claim, default_class),
         _ => object.copy(alloc),

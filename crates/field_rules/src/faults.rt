@@ -1,19 +1,20 @@
 //! Which fields of an object are invalid.
 
-ghost use Rattle.std.specs.Prelude.{◌≡◌, ◌&&◌, ◌||◌, Option, false};
-ghost use Rattle.std.specs.List.{list_all};
+ghost use Rattle.std.specs.Prelude.{◌≡◌, ◌==◌, ◌&&◌, ◌||◌, Option, false, not};
+ghost use Rattle.std.specs.List.{list_all, slice_split};
 ghost use Rattle.std.specs.Result.{result_err};
 ghost use Rattle.kube_types.specs.declared.names.Field.{Field};
 ghost use Rattle.kube_types.specs.declared.objects.Object.TheVariants as objects;
 ghost use Rattle.kube_types.specs.Bindings.{has_name, is_deleting};
-ghost use Rattle.binder_model.specs.Fields.{adds_finalizer, dot_parts, is_lower_or_digit, is_name_byte, ends_well, is_label, is_subdomain, is_namespace, has_no_mode, has_twice, is_nameless, volume_fault, claim_fault, class_fault, pod_fault, kind_fault, create_fault, changed_field, update_fault};
-ghost use Rattle.field_rules.specs.Faults.{after_byte, byte_fits, fault_or};
+ghost use Rattle.binder_model.specs.Fields.{adds_finalizer, is_lower_or_digit, is_name_byte, is_label, is_subdomain, is_namespace, has_no_mode, has_twice, is_nameless, keeps_class, volume_fault, claim_fault, class_fault, pod_fault, kind_fault, create_fault, changed_field, update_fault};
+ghost use Rattle.field_rules.specs.Faults.{after_byte, byte_fits, ends_well, fault_or, reads_as_label};
 
 use crate::same::{
     are_same_names, are_same_pairs, are_same_terms, is_same_amount, is_same_class, is_same_flag,
     is_same_modes, is_same_policy, is_same_selector, is_same_source, is_same_text,
 };
 use finalizer_rules::adds_while_deleting;
+use kube_types::bindings::{is_completed, lacks_class};
 use kube_types::key::meta_of;
 use kube_types::names::Field;
 use kube_types::objects::{Claim, Class, Meta, Object, Pod, Ref, Volume};
@@ -68,6 +69,13 @@ fn ends_well(first: u8, bytes: &[u8]) -> bool
 fn is_label(bytes: &[u8]) -> bool
     ensures { result ≡ is_label bytes.now }
 {
+    reads_as_label(bytes)
+}
+
+/// The same, read from the first byte on.
+fn reads_as_label(bytes: &[u8]) -> bool
+    ensures { result ≡ reads_as_label bytes.now }
+{
     match bytes {
         [] => false,
         [first, rest @ ..] => is_lower_or_digit(*first) && ends_well(*first, rest),
@@ -100,7 +108,7 @@ fn after_byte(byte: u8) -> Option<u8>
 
 /// Whether the bytes are parts of a DNS name with dots between them.
 fn are_labels(bytes: &[u8]) -> bool
-    ensures { result ≡ list_all is_label (dot_parts bytes.now) }
+    ensures { result ≡ list_all is_label (slice_split (λ c. c == 46) bytes.now) }
 {
     let mut last = None;
     for byte in bytes {
@@ -254,6 +262,13 @@ pub fn check_create(object: &Object) -> Result<(), Field>
     check_new(false, object)
 }
 
+/// Whether the class stays, or the old claim lacks one and may still get one.
+fn keeps_class(old: &Claim, new: &Claim) -> bool
+    ensures { result ≡ keeps_class old.now new.now }
+{
+    is_same_class(&old.class, &new.class) || (lacks_class(old) && !is_completed(old))
+}
+
 #[tactic(auto, unfolding(binder_model::specs::Fields::changed_field, binder_model::specs::Fields::faulty))]
 fn keep_claim(old: &Claim, new: &Claim) -> Result<(), Field>
     ensures { (next : Option Field) → changed_field (objects.Claim old.now) (objects.Claim new.now) next ≡ fault_or result next }
@@ -263,10 +278,10 @@ fn keep_claim(old: &Claim, new: &Claim) -> Result<(), Field>
         is_same_modes(modes) => Field::Spec,
         is_same_amount(amount) => Field::Spec,
         is_same_flag(block) => Field::Spec,
-        is_same_class(class) => Field::Spec,
         is_same_selector(selector) => Field::Spec,
         is_same_text(extra) => Field::Spec
     );
+    refuse!(!keeps_class(old, new) => Field::Spec);
     if old.volume_name.as_str().is_empty() {
         return Ok(());
     }

@@ -47,7 +47,7 @@ fn has_great_serial(uid: Option<Uid>) -> bool
 }
 
 /// The UID of the claim that a volume refers to.
-fn reference_uid(object: &Object) -> Option<Uid>
+pub fn reference_uid(object: &Object) -> Option<Uid>
     ensures { result ≡ ref_uid (reference_of object.now) }
 {
     match object {
@@ -90,7 +90,7 @@ fn names_another(reference: &Option<Ref>, object: &Object) -> bool
 }
 
 /// Whether the volume's reference has the UID of the other object, which is not the claim that it names.
-fn refers_to_another(object: &Object, other: &Object) -> bool
+pub fn refers_to_another(object: &Object, other: &Object) -> bool
     ensures { result ≡ refers_to_another object.now other.now }
 {
     match object {
@@ -100,7 +100,7 @@ fn refers_to_another(object: &Object, other: &Object) -> bool
 }
 
 /// Whether the volume has ended for the claim, which names it or none.
-fn is_ended_for(object: &Object, other: &Object) -> bool
+pub fn is_ended_for(object: &Object, other: &Object) -> bool
     ensures { result ≡ is_ended_for object.now other.now }
 {
     match (object, other) {
@@ -114,7 +114,8 @@ fn is_ended_for(object: &Object, other: &Object) -> bool
     }
 }
 
-fn has_same_key(object: &Object, other: &Object) -> bool
+/// Whether the two have one key.
+pub fn has_same_key(object: &Object, other: &Object) -> bool
     ensures { result ≡ same_key (key_of object.now) (key_of other.now) }
 {
     let (left, right) = (meta_of(object), meta_of(other));

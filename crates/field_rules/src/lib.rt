@@ -14,5 +14,7 @@ mod user_writes;
 
 pub use crate::admission::{add_finalizer, admit};
 pub use crate::faults::{check_create, check_new, check_update};
-pub use crate::imports::check_import;
+pub use crate::imports::{
+    check_import, has_same_key, is_ended_for, reference_uid, refers_to_another,
+};
 pub use crate::user_writes::guard;

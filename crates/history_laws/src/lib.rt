@@ -3,7 +3,7 @@
 //! Promises: `printed_is_read`, within the limits of what is read, and `one_history`; what is read is what the text has
 //! (`read_is_printed`), and a text can give it (`read_gives`). Each is a function with nothing to do, whose contract is the
 //! law. Not said: that a printed line is short enough to be read, and that a history which came about has only values
-//! that a text can give, which `given_law` says of runs.
+//! that a text can give, which `printable_law` says of runs.
 #![tactic(auto)]
 
 ghost use Rattle.history_laws.specs.Laws.{OneHistory, PrintedIsRead, ReadGives, ReadIsOnly, ReadIsPrinted, TextIsRead};

@@ -1,9 +1,8 @@
 -- Imports that pass after those before them.
-use Rattle.std.proofs.Common.{◌≡◌, ◌<◌, ◌≤◌, ◌+◌, ℕ, suc, List, [], ◌∷◌, ◌++◌, Bool, true, false, ◌&&◌, if◌then◌else◌, Option, Some, None, Result, Ok, Err, length, get_or, take, drop, drop-cons, bytes_eq, refl, sym, ◌∙◌, ap, subst, arith}
-use Rattle.std.specs.Prelude.{IfOk, is_none, codes}
-use Rattle.std.proofs.Math.Seq.{drop-length}
-use Rattle.std.proofs.lemmas.List.{take_more}
+use Rattle.std.proofs.Common.{◌≡◌, ℕ, List, [], ◌∷◌, ◌++◌, Bool, true, false, ◌&&◌, if◌then◌else◌, Option, Some, None, Result, Ok, Err, bytes_eq, refl, sym, ◌∙◌, ap, subst}
+use Rattle.std.specs.Prelude.{◌↔◌, IfOk, IsTrue, is_none, codes}
 use Rattle.serde_json.specs.Data.{Data}
+use Rattle.plain_data.specs.declared.copies.OutOfMemory.{OutOfMemory}
 use Rattle.kube_types.specs.declared.names.ImportFault.{ImportFault}
 use Rattle.kube_types.specs.declared.objects.Object.{Object}
 use Rattle.call_types.specs.declared.setup.Pool.{Pool}
@@ -16,21 +15,6 @@ use Rattle.history_lines.specs.Answers.{◌>>=◌, taken, Gives}
 use Rattle.history_lines.specs.Members.{Look, look_in, number_in, object_in, list_at, some_list_at}
 use Rattle.history_lines.specs.Entries.{pass_after, rise, pool_in, parts_with, parts_at, parts_in, setup_in, printed_as, setup_of}
 
--- one of the imports, and those after it
-pub pass_more : (imports : List Object) (i : ℕ) (o : Object) → i < length imports → o ≡ get_or imports i o
-    → pass_after (take i imports) (drop i imports) ≡ (is_none (import_fault (take i imports) o) && pass_after (take (i + 1) imports) (drop (i + 1) imports))
-pass_more imports i o h is =
-    let next : suc i ≡ i + 1 = omega arith in
-    let front : take (i + 1) imports ≡ take i imports ++ o ∷ [] = take_more imports i o h ∙ ap (λ x. take i imports ++ x ∷ []) (sym is) in
-    let back : drop i imports ≡ o ∷ drop (i + 1) imports = drop-cons imports i o h ∙ ap (λ x. x ∷ drop (suc i) imports) (sym is) ∙ ap (λ n. o ∷ drop n imports) next in
-    ap (pass_after (take i imports)) back ∙ ap (λ b. is_none (import_fault (take i imports) o) && pass_after b (drop (i + 1) imports)) (sym front)
-
--- none are left
-pub pass_all : (imports : List Object) (i : ℕ) → length imports ≤ i → i ≤ length imports → pass_after (take i imports) (drop i imports) ≡ true
-pass_all imports i low high =
-    let all : i ≡ length imports = omega arith in
-    ap (λ n. pass_after (take i imports) (drop n imports)) all ∙ ap (pass_after (take i imports)) (drop-length imports)
-
 -- ---- the test is the one that worlds ask for
 
 passing : (before os : List Object) → pass_after before os ≡ true → PassAfter before os
@@ -42,6 +26,20 @@ passing before (o ∷ os) h = by (import_fault before o) refl (λ more. passing 
         → (is_none fault && pass_after (before ++ o ∷ []) os) ≡ true → PassAfter before (o ∷ os)
     by None none rest more = (none, rest more)
     by (Some fault) some rest more = absurd (cc)
+
+passed : (before os : List Object) → PassAfter before os → pass_after before os ≡ true
+passed before [] p = refl
+passed before (o ∷ os) p = rw p.0 (passed (before ++ o ∷ []) os p.1)
+
+-- so the answer is that of the test
+pub test_of : (imports : List Object) (r : Result Bool OutOfMemory) → IfOk r (λ passes. IsTrue passes ↔ ImportsPass imports) → IfOk r (λ passes. passes ≡ pass_after [] imports)
+test_of imports (Err e) means = tt
+test_of imports (Ok passes) means = by passes (pass_after [] imports) refl means
+  where
+    by : (a b : Bool) → pass_after [] imports ≡ b → IsTrue a ↔ ImportsPass imports → a ≡ pass_after [] imports
+    by true b is m = sym (passed [] imports (m.0 refl))
+    by false true is m = m.1 (passing [] imports is) ∙ sym is
+    by false false is m = sym is
 
 -- a step that gives something was given something
 step : {A B : Type 0} (o : Option A) (f : A → Option B) (b : B) → (o >>= f) ≡ Some b → (a : A) × (f a ≡ Some b)

@@ -11,8 +11,8 @@ use crate::entries::json_of;
 use crate::errors::Unread;
 use crate::members::{FromJson, list_at, member_at, number_at, some_list_at, text_at, topology_at};
 use call_types::setup::{Pool, Setup};
-use field_rules::check_import;
 use history_text::setups::print_setup;
+use kube_types::copies::OutOfMemory;
 use kube_types::items::Items;
 use kube_types::objects::Object;
 use serde_json::Value;
@@ -61,29 +61,22 @@ fn rise(numbers: &[u64]) -> bool
 }
 
 /// Whether each object is imported after those before it.
-#[tactic(auto, using(crate::proofs::Imports::pass_more, crate::proofs::Imports::pass_all))]
-fn imports_pass(imports: &[Object]) -> bool
-    ensures { result ≡ imports_pass imports.now }
+#[tactic(auto, using(crate::proofs::Imports::test_of))]
+fn imports_pass(alloc: Global, imports: &[Object]) -> Result<bool, OutOfMemory>
+    ensures { IfOk result (λ passes. passes ≡ imports_pass imports.now) }
 {
-    let mut place = 0;
-    while place < imports.len() {
-        let (before, _) = imports.split_at(place);
-        if check_import(before, &imports[place]).is_err() {
-            return false;
-        }
-        place += 1;
-    }
-    true
+    import_rules::imports_pass(alloc, imports)
 }
 
 fn parts_with(
+    alloc: Global,
     pools: Items<Pool>,
     faults: Items<u64>,
     imports: Items<Object>,
 ) -> Result<Setup, Unread>
     ensures { Gives result (parts_with pools faults imports) }
 {
-    if rise(faults.as_slice()) && imports_pass(imports.as_slice()) {
+    if rise(faults.as_slice()) && imports_pass(alloc, imports.as_slice())? {
         Ok(Setup {
             pools,
             faults,
@@ -101,7 +94,7 @@ fn parts_in(alloc: Global, value: &Value) -> Result<Setup, Unread>
     let faults = list_at(alloc, value, "faults")?;
     let imports = some_list_at(alloc, value, "imports")?;
     let pools = list_at(alloc, value, "pools")?;
-    parts_with(pools, faults, imports)
+    parts_with(alloc, pools, faults, imports)
 }
 
 /// The setup that a value gives.

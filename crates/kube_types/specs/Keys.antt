@@ -22,6 +22,7 @@ meta_of (Volume x) = x.meta
 meta_of (Claim x) = x.meta
 meta_of (Pod x) = x.meta
 
+-- the kind of an object
 abbrev pub kind_of : Object → Kind
 kind_of (Class x) = StorageClass
 kind_of (Node x) = kinds.Node
@@ -41,6 +42,7 @@ kind_index kinds.Pod = 4
 abbrev pub same_kind : Kind → Kind → Bool
 same_kind a b = kind_index a == kind_index b
 
+-- the key under which an object stands: its kind, namespace and name
 abbrev pub key_of : Object → Key
 key_of o = record { kind = kind_of o; namespace = (meta_of o).namespace; name = (meta_of o).name }
 
@@ -56,21 +58,27 @@ key_cmp a b = ordering_then (ordering_then (nat_cmp (kind_index a.kind) (kind_in
 abbrev pub AreRows : List Object → Type 0
 AreRows os = IsRising key_cmp key_of os
 
+-- the object that stands under the key, if any
 abbrev pub row_at : Key → List Object → Option Object
 row_at k os = find key_cmp key_of k os
 
+-- the objects with this one under its key, in place of one that stood there
 abbrev pub put_row : Object → List Object → List Object
 put_row o os = put key_cmp key_of o os
 
+-- the objects without the one under the key
 abbrev pub without_row : Key → List Object → List Object
 without_row k os = without key_cmp key_of k os
 
+-- the object under the key stands at this place
 abbrev pub IsRowAt : List Object → Key → ℕ → Type 0
 IsRowAt os k i = IsAt key_cmp key_of k os i
 
+-- no object stands under the key, and this is the place where one would stand
 abbrev pub IsRowGap : List Object → Key → ℕ → Type 0
 IsRowGap os k i = IsGap key_cmp key_of k os i
 
+-- the object is one of this kind
 abbrev pub is_of_kind : Kind → Object → Bool
 is_of_kind kind o = same_kind (kind_of o) kind
 

@@ -1,7 +1,9 @@
 pub mod Bindings
+pub mod Defaults
 pub mod Keys
 pub mod Lookups
 pub mod Named
 pub mod Sources
+pub mod Steps
 pub mod Uids
 pub mod Words

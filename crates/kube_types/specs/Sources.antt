@@ -20,5 +20,6 @@ handle_by Nfs server path = (server ++ codes ":") ++ path
 handle_by Local path rest = path
 handle_by HostPath path rest = path
 
+-- the data that a volume stands for: two volumes of one data id share them
 abbrev pub data_id_of : Source → DataId
 data_id_of source = record { driver = driver_by source.kind source.first; id = handle_by source.kind source.first source.second }

@@ -1,16 +1,16 @@
 //! The words of bindings: classes, completed, for, carries, protected.
 
 ghost use Rattle.std.specs.Prelude.{◌≡◌, IfOk};
-ghost use Rattle.kube_types.specs.Bindings.{carries, class_of_claim, class_of_volume, is_completed, is_deleting, is_empty, is_ended, is_for, is_protected_claim, is_protected_volume, is_scheduled, is_uid, names_claim};
+ghost use Rattle.kube_types.specs.Bindings.{carries, class_of_claim, class_of_volume, is_completed, is_deleting, is_empty, is_ended, is_for, is_lost, is_protected_claim, is_protected_volume, is_scheduled, is_uid, lacks_class, names_claim};
 
 use crate::objects::{Claim, Meta, Pod, Ref, Volume};
-use crate::parts::VolumePhase;
+use crate::parts::{ClaimPhase, VolumePhase};
 use crate::uid::Uid;
 use plain_data::copies::{OutOfMemory, Plain};
 use plain_data::text::Text;
 use std::alloc::Global;
 
-/// The annotation of a claim whose binding was written whole.
+/// The annotation of a claim whose binding was decided.
 pub const BIND_COMPLETED: &str = "pv.kubernetes.io/bind-completed";
 /// The annotation of a binding that the controller made.
 pub const BOUND_BY_CONTROLLER: &str = "pv.kubernetes.io/bound-by-controller";
@@ -62,11 +62,18 @@ pub fn is_empty(text: &Text) -> bool
     text.as_str().is_empty()
 }
 
-/// Whether the binding of the claim was written whole.
+/// Whether the binding of the claim was decided: it carries the annotation.
 pub fn is_completed(claim: &Claim) -> bool
     ensures { result ≡ is_completed claim.now }
 {
     claim.meta.annotations.get(BIND_COMPLETED).is_some()
+}
+
+/// Whether the claim names no class, neither in its spec nor in the older annotation. The empty class is a class.
+pub fn lacks_class(claim: &Claim) -> bool
+    ensures { result ≡ lacks_class claim.now }
+{
+    claim.class.is_none() && claim.meta.annotations.get(BETA_CLASS).is_none()
 }
 
 /// Whether the object is being deleted.
@@ -153,6 +160,16 @@ pub fn is_ended(phase: VolumePhase) -> bool
 {
     match phase {
         VolumePhase::Released | VolumePhase::Failed => true,
+        _ => false,
+    }
+}
+
+/// Whether the claim's phase is Lost.
+pub fn is_lost(phase: ClaimPhase) -> bool
+    ensures { result ≡ is_lost phase }
+{
+    match phase {
+        ClaimPhase::Lost => true,
         _ => false,
     }
 }

@@ -1,14 +1,15 @@
 //! The objects of the store: volumes, claims, classes, pods and nodes, with their keys and ids.
 //!
-//! Promises: each type is copied and compared as a value (`copies::Plain`); the words of bindings
-//! (completed, for, carries, protected) are those of the definitions (`bindings`); `Uid::from_serial`
-//! gives two numbers two ids, and the text of an id gives it back (`uid`); rows in the order of their
-//! keys are found, put and taken by key (`table`); a `Lookup` is a list of objects in that order, no key
-//! twice. Not said: that an object is valid, or that anybody made it.
+//! Promises: each type is copied and compared as a value (`copies::Plain`). The words of bindings (completed, for,
+//! carries, protected) are those of the definitions (`bindings`). `Uid::from_serial` gives two numbers two ids, and
+//! the text of an id gives it back (`uid`). A printed word names the value that has it, and nothing else (`words`).
+//! Rows in the order of their keys are found, put and taken by key (`table`). A `Lookup` is a list of objects in that
+//! order, no key twice. Not said: that an object is valid, or that anybody made it.
 #![tactic(auto)]
 
 pub mod bindings;
 pub mod data;
+pub mod defaults;
 pub mod key;
 pub mod lookup;
 pub mod names;
@@ -19,4 +20,4 @@ pub mod table;
 pub mod uid;
 pub mod words;
 
-pub use plain_data::{copies, items, pairs, rows, text};
+pub use plain_data::{copies, items, pairs, rows, shared, text};

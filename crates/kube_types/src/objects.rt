@@ -5,6 +5,7 @@ use crate::uid::Uid;
 use plain_data::copies::{OutOfMemory, Plain, copy_option, same_option};
 use plain_data::items::Items;
 use plain_data::pairs::Pairs;
+use plain_data::shared::Shared;
 use plain_data::text::{Names, Text};
 use std::alloc::Global;
 
@@ -524,14 +525,14 @@ impl Plain for Node {
     }
 }
 
-/// An object of one of the five kinds.
+/// An object of one of the five kinds. A copy shares the value with its source.
 #[derive(Debug)]
 pub enum Object {
-    Class(Class),
-    Node(Node),
-    Volume(Volume),
-    Claim(Claim),
-    Pod(Pod),
+    Class(Shared<Class>),
+    Node(Shared<Node>),
+    Volume(Shared<Volume>),
+    Claim(Shared<Claim>),
+    Pod(Shared<Pod>),
 }
 
 impl Drop for Object {

@@ -39,7 +39,8 @@ abbrev pub term_matches : List Pair → List Expr → Bool
 term_matches labels [] = false
 term_matches labels (e ∷ es) = list_all (holds labels) (e ∷ es)
 
--- terms are alternatives; where there are none to ask, every node is admitted
+-- terms are alternatives: one of them suffices, so an empty list of them admits no node. Where a volume has no terms at all,
+-- every node is admitted
 abbrev pub admits : Option NodeTerms → List Pair → Bool
 admits None labels = true
 admits (Some t) labels = list_any (term_matches labels) t.terms

@@ -15,7 +15,7 @@ use Rattle.binder_model.specs.Told.{SomeOf, IsClaimWith, IsNewest, IsVolumeWith,
 use Rattle.model_laws.proofs.Evidence.{told_map}
 use Rattle.model_laws.proofs.Lists.{one}
 use Rattle.model_laws.proofs.Newest.{newest_told}
-use Rattle.licence_tests.specs.Keyed.{key_at}
+use Rattle.licence_scans.specs.Keyed.{key_at}
 use Rattle.licence_rows.specs.Asking.{IsLacking, IsNamingClaim, IsNewestWith, SomeNewest}
 use Rattle.licence_rows.proofs.NewestKeys.{newest_keyed}
 

@@ -2,3 +2,5 @@ pub mod Asks
 pub mod NewestKeys
 pub mod Picks
 pub mod Rows
+pub mod Versioned
+pub mod Written

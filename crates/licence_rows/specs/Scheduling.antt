@@ -7,10 +7,12 @@ use Rattle.kube_types.specs.declared.objects.Claim.{Claim as ClaimData}
 use Rattle.kube_types.specs.declared.objects.Class.{Class as ClassData}
 use Rattle.kube_types.specs.declared.objects.Node.{Node as NodeData}
 use Rattle.kube_types.specs.declared.objects.Pod.{Pod as PodData}
-use Rattle.kube_types.specs.declared.objects.Object.TheVariants.{Class, Node}
+use Rattle.kube_types.specs.declared.objects.Volume.{Volume as VolumeData}
+use Rattle.kube_types.specs.declared.objects.Object.TheVariants.{Class, Node, Volume}
 use Rattle.kube_types.specs.Bindings.{class_of_claim, is_completed, selected_node}
+use Rattle.label_rules.specs.Selectors.{admits}
 use Rattle.call_types.specs.declared.entry.Entry.{Entry}
-use Rattle.binder_model.specs.ObjectKeys.{class_key, node_key}
+use Rattle.binder_model.specs.ObjectKeys.{class_key, node_key, volume_key}
 use Rattle.binder_model.specs.SchedulerLicence.{AreReadyOn}
 use Rattle.binder_model.specs.Told.{IsNewest}
 
@@ -38,3 +40,7 @@ pub record IsAssignable (mine : List Entry) (pod : PodData) (uid : Uid) (on : No
   pub same : pod.meta.uid ≡ Some uid
   pub unscheduled : pod.node ≡ []
   pub ready : AreReadyOn mine on pod.meta.namespace pod.claims
+
+-- the newest told volume of the claim admits the node
+abbrev pub IsAdmitted : List Entry → NodeData → ClaimData → Type 0
+IsAdmitted mine node claim = (volume : VolumeData) × (IsNewest mine (volume_key claim.volume_name) (Volume volume) × (admits volume.terms node.meta.labels ≡ true))

@@ -1,23 +1,19 @@
-//! Which single objects a controller may read, by what it was told newest.
+//! What the reads of single objects ask of an object.
 
-ghost use Rattle.std.specs.Prelude.{◌≡◌, ◌↔◌, IsTrue, reverse, true};
+ghost use Rattle.std.specs.Prelude.{◌≡◌, ◌↔◌, IsTrue};
 ghost use Rattle.std.specs.Option.{option_copied};
 ghost use Rattle.binder_model.specs.ObjectKeys.{claim_key, volume_key};
 ghost use Rattle.binder_model.specs.OpsLicence.{IsToErase};
-ghost use Rattle.binder_model.specs.Reading.{AsksForClaim, AsksForEnded, AsksForVolume, LacksUid};
-ghost use Rattle.kube_types.specs.Bindings.{is_completed};
-ghost use Rattle.licence_rows.specs.Asking.{IsLacking, IsNamingClaim};
+ghost use Rattle.binder_model.specs.Reading.{LacksUid};
+ghost use Rattle.licence_rows.specs.Asking.{IsNamingClaim};
 
-use crate::newest::some_newest;
 use crate::parts::{is_delete, is_known, ref_uid};
-use call_types::entry::Entry;
-use kube_types::bindings::{is_completed, is_deleting, is_ended};
+use kube_types::bindings::{is_deleting, is_ended};
 use kube_types::key::Key;
 use kube_types::objects::{Claim, Object, Ref, Volume};
 use kube_types::parts::Kind;
 use kube_types::uid::Uid;
-use licence_tests::newest::newest_object;
-use licence_tests::rows::{ClaimTest, OfClaims, OfVolumes, VolumeTest};
+use licence_scans::rows::{ClaimTest, VolumeTest};
 use plain_data::copies::Plain;
 
 /// Whether the key is that of the claim.
@@ -47,7 +43,7 @@ pub fn is_volume_key(key: &Key, claim: &Claim) -> bool
 }
 
 /// Whether what was found is no claim with this UID.
-fn lacks_uid(found: Option<&Object>, uid: Uid) -> bool
+pub fn lacks_uid(found: Option<&Object>, uid: Uid) -> bool
     ensures { IsTrue result ↔ LacksUid (option_copied found.entry) uid }
 {
     match found {
@@ -58,11 +54,11 @@ fn lacks_uid(found: Option<&Object>, uid: Uid) -> bool
 
 /// The volume names the claim of the key.
 #[derive(Drop)]
-struct Names<'a> {
-    key: &'a Key,
+pub struct NamesClaim<'a> {
+    pub key: &'a Key,
 }
 
-impl<'a> VolumeTest for Names<'a> {
+impl<'a> VolumeTest for NamesClaim<'a> {
     ghost allows = { λ t v. IsNamingClaim t.key.now v };
 
     fn test(&self, volume: &Volume) -> bool {
@@ -76,42 +72,10 @@ impl<'a> VolumeTest for Names<'a> {
     }
 }
 
-/// The volume names a claim with a UID, and what was found is none with this.
-#[derive(Drop)]
-struct Lacks<'a> {
-    found: Option<&'a Object>,
-}
-
-impl<'a> VolumeTest for Lacks<'a> {
-    ghost allows = { λ t v. IsLacking (option_copied t.found) v };
-
-    fn test(&self, volume: &Volume) -> bool {
-        match &volume.claim_ref {
-            None => false,
-            Some(reference) => match reference.uid {
-                None => false,
-                Some(uid) => lacks_uid(self.found, uid),
-            },
-        }
-    }
-}
-
-/// Whether the binder may read the claim of the key.
-pub fn asks_for_claim(mine: &[Entry], key: &Key) -> bool
-    ensures { IsTrue result ↔ AsksForClaim (reverse mine.now) key.now }
-{
-    let found = newest_object(mine, key.kind, key.namespace.as_str(), key.name.as_str());
-    let names = Names { key };
-    let lacks = Lacks { found };
-    let may = OfVolumes { test: &names };
-    let row = OfVolumes { test: &lacks };
-    some_newest(&may, &row, mine)
-}
-
 /// The claim names the volume of the key.
 #[derive(Drop)]
-struct NamesVolume<'a> {
-    key: &'a Key,
+pub struct NamesVolume<'a> {
+    pub key: &'a Key,
 }
 
 impl<'a> ClaimTest for NamesVolume<'a> {
@@ -120,29 +84,6 @@ impl<'a> ClaimTest for NamesVolume<'a> {
     fn test(&self, claim: &Claim) -> bool {
         is_volume_key(self.key, claim)
     }
-}
-
-/// The claim is completed.
-#[derive(Drop)]
-struct Completed {}
-
-impl ClaimTest for Completed {
-    ghost allows = { λ t c. is_completed c ≡ true };
-
-    fn test(&self, claim: &Claim) -> bool {
-        is_completed(claim)
-    }
-}
-
-/// Whether the binder may read the volume of the key.
-pub fn asks_for_volume(mine: &[Entry], key: &Key) -> bool
-    ensures { IsTrue result ↔ AsksForVolume (reverse mine.now) key.now }
-{
-    let names = NamesVolume { key };
-    let completed = Completed {};
-    let may = OfClaims { test: &names };
-    let row = OfClaims { test: &completed };
-    some_newest(&may, &row, mine)
 }
 
 /// Whether the volume has ended with policy Delete, for a claim, and is not deleting.
@@ -159,14 +100,4 @@ pub fn is_to_erase(volume: &Volume) -> bool
         return false;
     }
     ref_uid(&volume.claim_ref).is_some()
-}
-
-/// Whether ops may read the volume of the key.
-pub fn asks_for_ended(mine: &[Entry], key: &Key) -> bool
-    ensures { IsTrue result ↔ AsksForEnded (reverse mine.now) key.now }
-{
-    match newest_object(mine, key.kind, key.namespace.as_str(), key.name.as_str()) {
-        Some(Object::Volume(volume)) => is_to_erase(volume),
-        _ => false,
-    }
 }

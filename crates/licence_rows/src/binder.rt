@@ -16,9 +16,9 @@ use kube_types::bindings::{carries, is_completed, is_ended, is_protected_volume,
 use kube_types::objects::{Amount, Claim, Object, Ref, Volume};
 use kube_types::parts::{Kind, Modes};
 use kube_types::uid::Uid;
-use licence_tests::changes::{is_completed_with, is_taken_for, is_unbound};
-use licence_tests::entries::{EntryTest, after};
-use licence_tests::rows::{ClaimTest, OfClaims, OfVolumes, VolumeTest, told_claim, told_volume};
+use licence_scans::changes::{is_completed_with, is_taken_for, is_unbound};
+use licence_scans::entries::{EntryTest, after};
+use licence_scans::rows::{ClaimTest, OfClaims, OfVolumes, VolumeTest, told_claim, told_volume};
 use plain_data::copies::{Plain, same_option};
 
 // a claim's reference

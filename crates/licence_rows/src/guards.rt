@@ -2,26 +2,22 @@
 
 ghost use Rattle.std.specs.Prelude.{◌≡◌, ◌↔◌, IsTrue, Some, reverse};
 ghost use Rattle.std.specs.List.{list_any};
-ghost use Rattle.kube_types.specs.Bindings.{is_protected_claim, is_protected_volume};
 ghost use Rattle.binder_model.specs.GuardLicence.{IsDeletingVersion, IsPodList, MayGuard, MayUnguardClaim, MayUnguardVolume, TellsUnused, uses};
 ghost use Rattle.kube_types.specs.declared.parts.Kind.TheVariants as kinds;
 ghost use Rattle.call_types.specs.declared.request.Request.TheVariants as requests;
 ghost use Rattle.binder_model.specs.Told.{After, ToldClaim};
-ghost use Rattle.binder_model.specs.Licence.{ClaimGuard, GuardsClaim, GuardsVolume, VolumeGuard};
+ghost use Rattle.binder_model.specs.Licence.{GuardsClaim, GuardsVolume};
 
 use crate::parts::{is_bound, is_same_object};
 use call_types::entry::Entry;
 use call_types::reply::Reply;
 use call_types::request::Request;
-use kube_types::bindings::{
-    PV_PROTECTION, PVC_PROTECTION, is_deleting, is_protected_claim, is_protected_volume,
-    is_scheduled,
-};
+use kube_types::bindings::{PV_PROTECTION, PVC_PROTECTION, is_deleting, is_scheduled};
 use kube_types::objects::{Claim, Meta, Object, Volume};
 use kube_types::parts::Kind;
-use licence_tests::changes::{is_claim_meta, is_guarded, is_unguarded, is_volume_meta};
-use licence_tests::entries::{EntryTest, after};
-use licence_tests::rows::{ClaimTest, OfClaims, VolumeTest};
+use licence_scans::changes::{is_claim_meta, is_guarded, is_unguarded, is_volume_meta};
+use licence_scans::entries::{EntryTest, after};
+use licence_scans::rows::{ClaimTest, OfClaims, VolumeTest};
 use plain_data::copies::Plain;
 use plain_data::text::Text;
 
@@ -72,21 +68,31 @@ fn unguards_volume(old: &Volume, new: &Volume) -> bool
     is_unguarded(PV_PROTECTION, &old.meta, &new.meta)
 }
 
-/// The volume's finalizer may be added, where the new volume has it, else dropped.
+/// The volume's finalizer may be added.
 #[derive(Drop)]
-pub struct GuardedVolume<'a> {
+pub struct GuardVolume<'a> {
     pub new: &'a Volume,
 }
 
-impl<'a> VolumeTest for GuardedVolume<'a> {
-    ghost allows = { λ t v. VolumeGuard (is_protected_volume t.new.now) t.new.now v };
+impl<'a> VolumeTest for GuardVolume<'a> {
+    ghost allows = { λ t v. GuardsVolume v t.new.now };
 
     fn test(&self, volume: &Volume) -> bool {
-        if is_protected_volume(self.new) {
-            guards_volume(volume, self.new)
-        } else {
-            unguards_volume(volume, self.new)
-        }
+        guards_volume(volume, self.new)
+    }
+}
+
+/// The volume's finalizer may be dropped.
+#[derive(Drop)]
+pub struct UnguardVolume<'a> {
+    pub new: &'a Volume,
+}
+
+impl<'a> VolumeTest for UnguardVolume<'a> {
+    ghost allows = { λ t v. MayUnguardVolume v t.new.now };
+
+    fn test(&self, volume: &Volume) -> bool {
+        unguards_volume(volume, self.new)
     }
 }
 
@@ -195,21 +201,31 @@ fn was_unused(mine: &[Entry], claim: &Claim) -> bool
     after(&told, &list, mine)
 }
 
-/// The claim's finalizer may be added, where the new claim has it, else dropped.
+/// The claim's finalizer may be added.
 #[derive(Drop)]
-pub struct GuardedClaim<'a> {
+pub struct GuardClaim<'a> {
+    pub new: &'a Claim,
+}
+
+impl<'a> ClaimTest for GuardClaim<'a> {
+    ghost allows = { λ t c. GuardsClaim c t.new.now };
+
+    fn test(&self, claim: &Claim) -> bool {
+        guards_claim(claim, self.new)
+    }
+}
+
+/// The claim's finalizer may be dropped.
+#[derive(Drop)]
+pub struct UnguardClaim<'a> {
     pub mine: &'a [Entry],
     pub new: &'a Claim,
 }
 
-impl<'a> ClaimTest for GuardedClaim<'a> {
-    ghost allows = { λ t c. ClaimGuard (is_protected_claim t.new.now) (reverse t.mine.now) t.new.now c };
+impl<'a> ClaimTest for UnguardClaim<'a> {
+    ghost allows = { λ t c. MayUnguardClaim (reverse t.mine.now) c t.new.now };
 
     fn test(&self, claim: &Claim) -> bool {
-        if is_protected_claim(self.new) {
-            guards_claim(claim, self.new)
-        } else {
-            unguards_claim(self.mine, claim, self.new)
-        }
+        unguards_claim(self.mine, claim, self.new)
     }
 }

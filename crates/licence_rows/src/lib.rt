@@ -1,15 +1,18 @@
-//! Whether the row of the licence allows a controller's write or read, by its seat's own earlier entries.
+//! What the rows of the licence ask of objects, and of a page of what a seat was told.
 //!
-//! Promises: each test holds exactly where the definition's row does: the writes of the binder (`binder::Take`, `Bind`,
-//! `Complete`, `Show`, `Free`, `Release`, `Unbind`, `Lose`), of the scheduler (`scheduler::SelectNode`, `may_assign`) and of
-//! the protection controllers (`guards::GuardedVolume`, `GuardedClaim`), and the reads of single objects (`asking`);
-//! `newest` tells what is newest of a key. Nothing takes memory. Not said: which row judges a request; that is
-//! `licence_rules`'s to say.
+//! Promises: each test holds exactly where the definition's row does, after the entries that it is given. The binder's
+//! writes are `binder::Take`, `Bind`, `Complete`, `Show`, `Free`, `Release`, `Unbind` and `Lose`, those of the protection
+//! controllers `guards::GuardVolume`, `UnguardVolume`, `GuardClaim` and `UnguardClaim`. `found::last_found` is the volume
+//! that a read found last over some data, and `versions` tells a told object of a version. Nothing takes memory. Not said:
+//! which entries are to be given; that is `licence_writes`'s to say.
 #![tactic(auto)]
 
 pub mod asking;
 pub mod binder;
+pub mod found;
 pub mod guards;
+pub mod ids;
 pub mod newest;
 pub mod parts;
 pub mod scheduler;
+pub mod versions;

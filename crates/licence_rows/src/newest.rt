@@ -1,25 +1,21 @@
-//! The newest told object of each kind, by its name; whether there is one of which something holds.
+//! The newest told class or pod of a name, in the list; whether a newest told object meets a condition.
 
 ghost use Rattle.std.specs.Prelude.{◌≡◌, ◌↔◌, IfNone, IfSome, IsTrue, reverse};
-ghost use Rattle.kube_types.specs.declared.objects.Claim.{Claim as ClaimData};
 ghost use Rattle.kube_types.specs.declared.objects.Class.{Class as ClassData};
-ghost use Rattle.kube_types.specs.declared.objects.Node.{Node as NodeData};
 ghost use Rattle.kube_types.specs.declared.objects.Pod.{Pod as PodData};
-ghost use Rattle.kube_types.specs.declared.objects.Volume.{Volume as VolumeData};
 ghost use Rattle.kube_types.specs.declared.objects.Object.TheVariants as objects;
-ghost use Rattle.binder_model.specs.ObjectKeys.{claim_key, class_key, node_key, pod_key, volume_key};
+ghost use Rattle.binder_model.specs.ObjectKeys.{class_key, pod_key};
 ghost use Rattle.kube_types.specs.Keys.{key_of};
 ghost use Rattle.binder_model.specs.Told.{IsNewest};
 ghost use Rattle.licence_rows.specs.Asking.{IsNewestWith, SomeNewest};
 
 use call_types::entry::Entry;
-use kube_types::key::{Key, kind_of, meta_of};
-use kube_types::objects::{Claim, Class, Node, Object, Pod, Volume};
+use kube_types::key::{kind_of, meta_of};
+use kube_types::objects::{Class, Object, Pod};
 use kube_types::parts::Kind;
-use licence_tests::newest::newest_object;
-use licence_tests::shared::{SharedTest, told_shared};
-use licence_tests::told::ObjectTest;
-use plain_data::copies::Plain;
+use licence_scans::newest::{has_key_of, newest_object};
+use licence_scans::shared::{SharedTest, told_shared};
+use licence_scans::told::ObjectTest;
 
 /// The newest told class of the name.
 pub fn newest_class<'a>(mine: &'a [Entry], name: &str) -> Option<&'a Class>
@@ -28,50 +24,6 @@ pub fn newest_class<'a>(mine: &'a [Entry], name: &str) -> Option<&'a Class>
 {
     match newest_object(mine, Kind::StorageClass, "", name) {
         Some(Object::Class(class)) => Some(class),
-        _ => None,
-    }
-}
-
-/// The newest told node of the name.
-pub fn newest_node<'a>(mine: &'a [Entry], name: &str) -> Option<&'a Node>
-    ensures some { IfSome result (λ node. IsNewest (reverse mine.now) (node_key name.now) (objects.Node node.now)) }
-    ensures none { IfNone result ((node : NodeData) → IsNewest (reverse mine.now) (node_key name.now) (objects.Node node) → ⊥) }
-{
-    match newest_object(mine, Kind::Node, "", name) {
-        Some(Object::Node(node)) => Some(node),
-        _ => None,
-    }
-}
-
-/// The newest told claim of the namespace and name.
-pub fn newest_claim<'a>(mine: &'a [Entry], namespace: &str, name: &str) -> Option<&'a Claim>
-    ensures some { IfSome result (λ claim. IsNewest (reverse mine.now) (claim_key namespace.now name.now) (objects.Claim claim.now)) }
-    ensures none { IfNone result ((claim : ClaimData) → IsNewest (reverse mine.now) (claim_key namespace.now name.now) (objects.Claim claim) → ⊥) }
-{
-    match newest_object(mine, Kind::PersistentVolumeClaim, namespace, name) {
-        Some(Object::Claim(claim)) => Some(claim),
-        _ => None,
-    }
-}
-
-/// The newest told volume of the name.
-pub fn newest_volume<'a>(mine: &'a [Entry], name: &str) -> Option<&'a Volume>
-    ensures some { IfSome result (λ volume. IsNewest (reverse mine.now) (volume_key name.now) (objects.Volume volume.now)) }
-    ensures none { IfNone result ((volume : VolumeData) → IsNewest (reverse mine.now) (volume_key name.now) (objects.Volume volume) → ⊥) }
-{
-    match newest_object(mine, Kind::PersistentVolume, "", name) {
-        Some(Object::Volume(volume)) => Some(volume),
-        _ => None,
-    }
-}
-
-/// The newest told pod of the key.
-pub fn newest_pod<'a>(mine: &'a [Entry], key: &Key) -> Option<&'a Pod>
-    ensures some { IfSome result (λ pod. IsNewest (reverse mine.now) key.now (objects.Pod pod.now)) }
-    ensures none { IfNone result ((pod : PodData) → IsNewest (reverse mine.now) key.now (objects.Pod pod) → ⊥) }
-{
-    match newest_object(mine, key.kind, key.namespace.as_str(), key.name.as_str()) {
-        Some(Object::Pod(pod)) => Some(pod),
         _ => None,
     }
 }
@@ -128,21 +80,6 @@ impl<'a, T: ObjectTest, U: ObjectTest> SharedTest for NewestOfKey<'a, T, U> {
     fn shares(&self) {
         let _mine = self.mine;
     }
-}
-
-/// Whether both objects stand under one key.
-fn has_key_of(object: &Object, other: &Object) -> bool
-    ensures { IsTrue result ↔ (key_of object.now ≡ key_of other.now) }
-{
-    let meta = meta_of(object);
-    let other_meta = meta_of(other);
-    if !kind_of(object).same(&kind_of(other)) {
-        return false;
-    }
-    if !meta.namespace.same(&other_meta.namespace) {
-        return false;
-    }
-    meta.name.same(&other_meta.name)
 }
 
 /// Whether the newest told of some key is an object of which both conditions hold. The second is asked

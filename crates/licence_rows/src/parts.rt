@@ -9,7 +9,7 @@ use kube_types::bindings::PROVISIONED_BY;
 use kube_types::objects::{Claim, Meta, Ref, Volume};
 use kube_types::parts::{Policy, VolumePhase};
 use kube_types::uid::Uid;
-use licence_tests::rows::ClaimTest;
+use licence_scans::rows::ClaimTest;
 use plain_data::copies::Plain;
 
 pub fn is_bound(phase: VolumePhase) -> bool

@@ -3,33 +3,21 @@
 ghost use Rattle.std.specs.Prelude.{◌≡◌, ◌↔◌, IsTrue, MatchResult, reverse, if◌then◌else◌};
 ghost use Rattle.kube_types.specs.declared.names.LicenceRule.TheVariants as rules;
 ghost use Rattle.call_types.specs.declared.request.SeatKind.TheVariants as seats;
-ghost use Rattle.binder_model.specs.Licence.{AreOfKind, IsRefusedBy, Licensed, agent_rule, binder_claim_rule, binder_phase_rule, binder_rule, claim_protect_rule, is_kind, ops_phase_rule, ops_rule, read_rule, row_rule, scheduler_rule, volume_protect_rule};
+ghost use Rattle.binder_model.specs.Licence.{AreOfKind, IsRefusedBy, Licensed, RowAllows, binder_claim_phase, binder_phase, claim_phase_rule, delete_rule, is_kind, ops_phase, phase_rule, read_rule, row_rule};
+ghost use Rattle.licence_record.specs.Judged.{Judges};
 
 use crate::allowed::row_allows;
 use call_types::entry::Entry;
 use call_types::request::{NewStatus, Request, SeatKind};
-use kube_types::bindings::{is_protected_claim, is_protected_volume};
+use kube_types::bindings::{is_completed, is_protected_claim, is_protected_volume};
 use kube_types::key::{Key, same_kind};
 use kube_types::names::LicenceRule;
 use kube_types::objects::Object;
 use kube_types::parts::{ClaimPhase, Kind, VolumePhase};
+use kube_types::uid::Uid;
+use licence_record::record::Record;
+use licence_record::whole::Whole;
 use licence_rows::parts::ref_uid;
-use plain_data::copies::Plain;
-
-/// Whether all entries have this kind.
-#[tactic(auto, using(model_laws::proofs::Evidence::newest_first))]
-fn are_of_kind(kind: SeatKind, mine: &[Entry]) -> bool
-    ensures { IsTrue result ↔ AreOfKind kind (reverse mine.now) }
-{
-    let mut left = mine.len();
-    while left > 0 {
-        left -= 1;
-        if !mine[left].kind.same(&kind) {
-            return false;
-        }
-    }
-    true
-}
 
 fn read_rule(request: &Request) -> LicenceRule
     ensures { result ≡ read_rule request.now }
@@ -63,7 +51,7 @@ fn of_kind(kind: Kind, key: &Key, rule: LicenceRule) -> LicenceRule
 }
 
 fn binder_phase_rule(phase: VolumePhase) -> LicenceRule
-    ensures { result ≡ binder_phase_rule phase }
+    ensures { result ≡ phase_rule (binder_phase phase) }
 {
     match phase {
         VolumePhase::Available => LicenceRule::Available,
@@ -74,7 +62,7 @@ fn binder_phase_rule(phase: VolumePhase) -> LicenceRule
 }
 
 fn binder_claim_rule(phase: ClaimPhase) -> LicenceRule
-    ensures { result ≡ binder_claim_rule phase }
+    ensures { result ≡ claim_phase_rule (binder_claim_phase phase) }
 {
     match phase {
         ClaimPhase::Bound => LicenceRule::ClaimStatus,
@@ -84,7 +72,7 @@ fn binder_claim_rule(phase: ClaimPhase) -> LicenceRule
 }
 
 fn binder_rule(request: &Request) -> LicenceRule
-    ensures { result ≡ binder_rule request.now }
+    ensures { result ≡ row_rule seats.Binder request.now }
 {
     match request {
         Request::Update {
@@ -95,9 +83,15 @@ fn binder_rule(request: &Request) -> LicenceRule
             None => LicenceRule::Unbind,
         },
         Request::Update {
-            object: Object::Claim(_),
+            object: Object::Claim(new),
             version: _,
-        } => LicenceRule::Completion,
+        } => {
+            if is_completed(new) {
+                LicenceRule::Completion
+            } else {
+                LicenceRule::DefaultClass
+            }
+        }
         Request::UpdateStatus {
             key,
             status: NewStatus::Volume(phase),
@@ -117,7 +111,7 @@ fn binder_rule(request: &Request) -> LicenceRule
 }
 
 fn ops_phase_rule(phase: VolumePhase) -> LicenceRule
-    ensures { result ≡ ops_phase_rule phase }
+    ensures { result ≡ phase_rule (ops_phase phase) }
 {
     match phase {
         VolumePhase::Failed => LicenceRule::Failed,
@@ -125,8 +119,17 @@ fn ops_phase_rule(phase: VolumePhase) -> LicenceRule
     }
 }
 
+fn delete_rule(key: &Key, uid: Option<Uid>) -> LicenceRule
+    ensures { result ≡ delete_rule key.now uid }
+{
+    match uid {
+        None => LicenceRule::Kind,
+        Some(_) => of_kind(Kind::PersistentVolume, key, LicenceRule::DeleteVolume),
+    }
+}
+
 fn ops_rule(request: &Request) -> LicenceRule
-    ensures { result ≡ ops_rule request.now }
+    ensures { result ≡ row_rule seats.Ops request.now }
 {
     match request {
         Request::Provision {
@@ -144,9 +147,7 @@ fn ops_rule(request: &Request) -> LicenceRule
             status: NewStatus::Volume(phase),
             version: _,
         } => of_kind(Kind::PersistentVolume, key, ops_phase_rule(*phase)),
-        Request::Delete { key, uid: Some(_) } => {
-            of_kind(Kind::PersistentVolume, key, LicenceRule::DeleteVolume)
-        }
+        Request::Delete { key, uid } => delete_rule(key, *uid),
         Request::Update {
             object: Object::Claim(_),
             version: _,
@@ -156,7 +157,7 @@ fn ops_rule(request: &Request) -> LicenceRule
 }
 
 fn scheduler_rule(request: &Request) -> LicenceRule
-    ensures { result ≡ scheduler_rule request.now }
+    ensures { result ≡ row_rule seats.Scheduler request.now }
 {
     match request {
         Request::Update {
@@ -177,7 +178,7 @@ fn scheduler_rule(request: &Request) -> LicenceRule
 }
 
 fn volume_protect_rule(request: &Request) -> LicenceRule
-    ensures { result ≡ volume_protect_rule request.now }
+    ensures { result ≡ row_rule seats.VolumeProtect request.now }
 {
     match request {
         Request::Update {
@@ -195,7 +196,7 @@ fn volume_protect_rule(request: &Request) -> LicenceRule
 }
 
 fn claim_protect_rule(request: &Request) -> LicenceRule
-    ensures { result ≡ claim_protect_rule request.now }
+    ensures { result ≡ row_rule seats.ClaimProtect request.now }
 {
     match request {
         Request::Update {
@@ -213,7 +214,7 @@ fn claim_protect_rule(request: &Request) -> LicenceRule
 }
 
 fn agent_rule(request: &Request) -> LicenceRule
-    ensures { result ≡ agent_rule request.now }
+    ensures { result ≡ row_rule seats.Agent request.now }
 {
     match request {
         Request::Mounts { node: _, epoch: _ } => LicenceRule::Mount,
@@ -262,6 +263,42 @@ fn is_user(kind: SeatKind) -> bool
     }
 }
 
+/// Whether the record shows that a seat of this kind may make the request after its own earlier entries. Users are
+/// bound by the store's guard alone.
+pub fn is_licensed<R: Record>(kind: SeatKind, seat: &R, request: &Request) -> bool
+    ensures { Judges (R.whole seat.now) result (Licensed kind (R.told seat.now) request.now) }
+{
+    if is_user(kind) {
+        return true;
+    }
+    is_allowed(kind, seat, request)
+}
+
+fn is_allowed<R: Record>(kind: SeatKind, seat: &R, request: &Request) -> bool
+    ensures { Judges (R.whole seat.now) result (AreOfKind kind (R.told seat.now) × RowAllows kind (R.told seat.now) request.now) }
+{
+    if !seat.is_of_kind(kind) {
+        return false;
+    }
+    row_allows(kind, seat, request)
+}
+
+/// Whether all entries, the oldest first, have this kind.
+fn are_of_kind(kind: SeatKind, mine: &[Entry]) -> bool
+    ensures { IsTrue result ↔ AreOfKind kind (reverse mine.now) }
+{
+    let whole = Whole { entries: mine };
+    whole.is_of_kind(kind)
+}
+
+/// Whether the row of the request allows it after the entries, the oldest first.
+fn list_allows(kind: SeatKind, mine: &[Entry], request: &Request) -> bool
+    ensures { IsTrue result ↔ RowAllows kind (reverse mine.now) request.now }
+{
+    let whole = Whole { entries: mine };
+    row_allows(kind, &whole, request)
+}
+
 /// Ok exactly where a seat of this kind may make the request after its own earlier entries, the oldest
 /// first; else the rule that refuses it. Users are bound by the store's guard alone.
 ///
@@ -277,7 +314,7 @@ pub fn licensed(kind: SeatKind, mine: &[Entry], request: &Request) -> Result<(),
     if !are_of_kind(kind, mine) {
         return Err(LicenceRule::Kind);
     }
-    if row_allows(kind, mine, request) {
+    if list_allows(kind, mine, request) {
         Ok(())
     } else {
         Err(row_rule(kind, request))

@@ -1,3 +1,7 @@
-pub mod Beginning
-pub mod Moving
-pub mod Standing
+pub mod Actor
+pub mod Binder
+pub mod Delayed
+pub mod Guard
+pub mod Life
+pub mod Reclaim
+pub mod Schedule

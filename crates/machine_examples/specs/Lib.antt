@@ -1,3 +1,7 @@
-pub mod Evidences
-pub mod FirstSteps
-pub mod Moves
+pub mod Actor
+pub mod Binder
+pub mod Delayed
+pub mod Guard
+pub mod Life
+pub mod Reclaim
+pub mod Schedule

@@ -9,7 +9,7 @@ use Rattle.call_types.specs.declared.request.SeatKind.TheVariants as seats
 use Rattle.binder_model.specs.Told.{SomeOf, ToldPod}
 use Rattle.binder_model.specs.AgentLicence.{IsEndingPod}
 use Rattle.model_examples.specs.Samples.{Exchange, seat_of, unheard, tells_pod, takes, node_1, node_2, p, ending_p, uid_p}
-use Rattle.model_examples.specs.AgentRows.{mounts_other, MountsExamples, UnmountExamples, other_pod, elsewhere_pod, FinishPodExamples, row_of, mounted, unmounted, mounts_it, told_ending}
+use Rattle.model_examples.specs.AgentRows.{mounts_other, MountsExamples, UnmountExamples, other_pod, elsewhere_pod, nowhere_pod, FinishPodExamples, row_of, mounted, unmounts_at, unmounted, mounts_it, told_ending}
 use Rattle.model_examples.proofs.Tellings.{differ, sole, own_kind, told_pods, pods_in, told_objects, is_version}
 
 abbrev mine : List Exchange → List Entry
@@ -28,19 +28,20 @@ mounts_examples = record {
 ending : (xs : List Exchange) → ToldPod (IsEndingPod uid_p node_1) (mine xs) → SomeOf (IsEndingPod uid_p node_1) (pods_in (told_objects (mine xs)))
 ending xs h = told_pods (IsEndingPod uid_p node_1) (mine xs) h
 
+told : IsEndingPod uid_p node_1 ending_p
+told = record { same = refl; placed = refl; scheduled = refl; deleting = refl }
+
 pub unmount_examples : UnmountExamples
 unmount_examples = record {
-  unmounts = (own_kind seats.Agent told_ending, record { current = refl; told = inl (refl, inl (record { same = refl; placed = refl; deleting = refl })) });
+  unmounts = (own_kind seats.Agent told_ending, record { current = refl; told = inl (refl, inl told) });
   other_epoch_is_refused = λ l. differ (is_version 3) l.1.current refl refl;
   pod_never_told_is_refused = λ l. ending (takes node_1 1 ∷ []) l.1.told;
   answer_lost_is_refused = λ l. ending (unheard (tells_pod ending_p) ∷ takes node_1 1 ∷ []) l.1.told;
   other_pod_is_refused = λ l. differ (λ u. is_uid u (uid_of_serial 8)) (sole (ending (tells_pod other_pod ∷ takes node_1 1 ∷ []) l.1.told)).same refl refl;
   pod_on_other_node_is_refused = λ l. differ (λ n. bytes_eq n node_2) (sole (ending (tells_pod elsewhere_pod ∷ takes node_1 1 ∷ []) l.1.told)).placed refl refl;
+  pod_on_no_node_is_refused = λ l. true≢false (sym (sole (told_pods (IsEndingPod uid_p []) (mine (tells_pod nowhere_pod ∷ takes [] 1 ∷ [])) l.1.told)).scheduled);
   staying_pod_is_refused = λ l. true≢false (sym (sole (ending (tells_pod p ∷ takes node_1 1 ∷ []) l.1.told)).deleting);
 }
-
-told : IsEndingPod uid_p node_1 ending_p
-told = record { same = refl; placed = refl; deleting = refl }
 
 pub finish_pod_examples : FinishPodExamples
 finish_pod_examples = record {
@@ -56,11 +57,16 @@ finish_pod_examples = record {
   pod_never_told_is_refused = λ l. ending (unmounted ∷ takes node_1 1 ∷ []) l.1.told;
   other_pod_is_refused = λ l. differ (λ u. is_uid u (uid_of_serial 8)) (sole (ending (unmounted ∷ tells_pod other_pod ∷ takes node_1 1 ∷ []) l.1.told)).same refl refl;
   pod_on_other_node_is_refused = λ l. differ (λ n. bytes_eq n node_2) (sole (ending (unmounted ∷ tells_pod elsewhere_pod ∷ takes node_1 1 ∷ []) l.1.told)).placed refl refl;
+  pod_on_no_node_is_refused = λ l. true≢false (sym (sole (told_pods (IsEndingPod uid_p []) (mine (unmounts_at [] 1 ∷ tells_pod nowhere_pod ∷ takes [] 1 ∷ [])) l.1.told)).scheduled);
   staying_pod_is_refused = λ l. true≢false (sym (sole (ending (unmounted ∷ tells_pod p ∷ takes node_1 1 ∷ []) l.1.told)).deleting);
   mounts_never_told_is_refused = λ l. true≢false (sym l.1.unmounted);
   still_mounted_is_refused = λ l. true≢false (sym l.1.unmounted);
   mounts_of_other_node_is_refused = λ l. true≢false (sym l.1.unmounted);
   mounts_of_other_epoch_is_refused = λ l. true≢false (sym l.1.unmounted);
+  unmounted_on_other_node_is_refused = λ l. true≢false (sym l.1.unmounted);
+  unmounted_in_other_epoch_is_refused = λ l. true≢false (sym l.1.unmounted);
+  mount_of_other_pod_on_other_node_is_refused = λ l. true≢false (sym l.1.unmounted);
+  mount_of_other_pod_in_other_epoch_is_refused = λ l. true≢false (sym l.1.unmounted);
   mounts_before_taken_is_refused = λ l. true≢false (sym l.1.unmounted);
   answer_lost_is_refused = λ l. true≢false (sym l.1.unmounted);
   refusal_is_refused = λ l. true≢false (sym l.1.unmounted);

@@ -21,7 +21,7 @@ use Rattle.binder_model.specs.BinderDue.{is_reclaimed}
 use Rattle.binder_model.specs.Told.{SomeOf, ToldVolume, ToldClaim, TellsLive}
 use Rattle.binder_model.specs.BinderLicence.{MayRelease, WasReadGone, IsReferring, IsGone, MayUnbind, MayLose, WasReadLost, IsNotCarrying, IsCompletedVersion}
 use Rattle.binder_model.specs.Licence.{AtVolume, AtVolumeKey, AtClaimKey}
-use Rattle.model_examples.specs.Samples.{Exchange, entry_of, seat_of, unheard, lists, tells_volume, tells_claim, tells_both, finds, finds_none, once, amount, a, c, other_c, naming, with_reference, key_a, key_c, uid_c, name_c, ref_c, taken_a, bound_a, bound_c, key_d, elsewhere_c, key_b, nameless_c, bound_for_other}
+use Rattle.model_examples.specs.Samples.{Exchange, entry_of, seat_of, unheard, lists, tells_volume, tells_claim, tells_both, finds, finds_none, once, amount, a, c, d, other_c, naming, with_reference, key_a, key_c, uid_c, name_c, ref_c, taken_a, bound_a, bound_c, key_d, elsewhere_c, key_b, nameless_c, bound_for_other}
 use Rattle.model_examples.specs.BinderReleases.{ReleasedExamples, prebound_a, failed_a, earlier_a, provisioned_a, reclaimed_a, deleted_with_claim, UnbindExamples, taken_prebound, LostExamples, uncompleted_c, earlier_c}
 use Rattle.model_examples.proofs.Tellings.{differ, neither, sole, own_kind, told_volumes, told_claims, volume_row, volume_status_row, claim_status_row, volumes_in, claims_in, told_objects, after_tells, never_read, has_get, key_read, not_get, is_version, name_of}
 
@@ -105,6 +105,7 @@ released_examples = record {
   releases_after_reading_none = (own_kind seats.Binder (read_after (finds_none key_c) taken_a), (refl, inr (inl (refl, inl (record { version = refl; placed = refl; named = refl }, none)))));
   releases_after_reading_other_uid = (own_kind seats.Binder (read_after (finds key_c (Claim other_c)) taken_a), (refl, inr (inl (refl, inl (record { version = refl; placed = refl; named = refl }, other)))));
   releases_reclaimed_of_claim_elsewhere = (own_kind seats.Binder (tells_both elsewhere_c reclaimed_a), (refl, inr (inl (refl, inl (record { version = refl; placed = refl; named = refl }, reclaimed)))));
+  releases_with_other_calls_since = (own_kind seats.Binder (tells_claim d ∷ read_after (finds_none key_c) taken_a), (refl, inr (inr (inl (refl, inl (record { version = refl; placed = refl; named = refl }, since))))));
   releases_ended_is_refused = λ l. true≢false (sole (release_at (read_after (finds_none key_c) failed_a) (Some 4) l.1)).1.live;
   releases_without_uid_is_refused = λ l. differ is_none (uid_in (read_after (finds_none key_c) prebound_a) prebound_a (sole (release_at (read_after (finds_none key_c) prebound_a) (Some 4) l.1)).1) refl refl;
   releases_without_reference_is_refused = λ l. differ is_none (sole (release_at (read_after (finds_none key_c) a) (Some 3) l.1)).1.refers refl refl;
@@ -129,6 +130,9 @@ released_examples = record {
 
     none : MayRelease (mine (read_after (finds_none key_c) taken_a)) taken_a
     none = record { live = refl; reference = ref_c; uid = uid_c; refers = refl; known = refl; why = inl (inl ((refl, refl, tt), inl (refl, inl referring))) }
+
+    since : MayRelease (mine (tells_claim d ∷ read_after (finds_none key_c) taken_a)) taken_a
+    since = record { live = refl; reference = ref_c; uid = uid_c; refers = refl; known = refl; why = inl (inr (inl ((refl, refl, tt), inl (refl, inl referring)))) }
 
     other : MayRelease (mine (read_after (finds key_c (Claim other_c)) taken_a)) taken_a
     other = record { live = refl; reference = ref_c; uid = uid_c; refers = refl; known = refl; why = inl (inl ((refl, refl, λ e. differ (λ u. is_uid u uid_c) (sym e) refl refl), inl (refl, inl referring))) }

@@ -7,14 +7,14 @@ use Rattle.kube_types.specs.declared.objects.Amount.{Amount}
 use Rattle.kube_types.specs.declared.objects.Volume.{Volume as VolumeData}
 use Rattle.kube_types.specs.declared.objects.Claim.{Claim as ClaimData}
 use Rattle.kube_types.specs.Keys.{kind_index}
-use Rattle.kube_types.specs.Bindings.{is_delete, is_empty, is_completed, has_key, bound_by_controller, is_uid}
+use Rattle.kube_types.specs.Bindings.{is_delete, is_empty, has_key, bound_by_controller, is_uid}
 use Rattle.call_types.specs.declared.entry.Entry.{Entry}
 use Rattle.call_types.specs.declared.request.SeatKind.TheVariants as seats
 use Rattle.binder_model.specs.At.{IsWrittenAt}
 use Rattle.binder_model.specs.ObjectKeys.{volume_key, claim_key}
 use Rattle.binder_model.specs.BindWrites.{taken_for, completed_with}
 use Rattle.binder_model.specs.Told.{SomeOf}
-use Rattle.binder_model.specs.BinderLicence.{MayTake, IsTaken, MayBind, IsHere, MayComplete, IsBoundFor, MayShow, IsShown, MayFree}
+use Rattle.binder_model.specs.BinderLicence.{MayTake, IsTaken, MayBind, IsHere, MayComplete, IsBoundFor, MayAssignClass, MayShow, IsShown, MayFree}
 use Rattle.binder_model.specs.Licence.{AtVolume, AtClaim, AtVolumeKey, AtClaimKey}
 use Rattle.model_examples.specs.Samples.{Exchange, seat_of, unheard, tells_volume, tells_claim, tells_both, once, amount, a, c, other_c, naming, key_a, key_c, uid_c, taken_a, bound_a, released_a, completed_c, prebound_a, unguarded_a, bound_for_other}
 use Rattle.model_examples.specs.BinderRows.{prebound_in_x, bound_for_d, bound_in_x, ClaimRefExamples, failed_a, prebound_to_d, taken_by_other, taken_and_changed, taken_unmarked, PhaseBoundExamples, CompletionExamples, bound_by_name, completed_elsewhere, ClaimStatusExamples, bound_b, AvailableExamples}
@@ -130,7 +130,7 @@ completion_examples = record {
   completes_claim_that_names_other_is_refused = λ l. neither (λ e. differ (λ n. not (is_empty n)) e refl refl) (λ e. differ (λ n. bytes_eq n (codes "b")) e refl refl) (complete (naming (codes "b") c) bound_a (completed_with (naming (codes "b") c) bound_a) (Some 2) l.1).1.names;
   completes_with_volume_never_told_is_refused = λ l. told_volumes (IsBoundFor c (completed_with c bound_a)) (mine (tells_claim c ∷ [])) (sole (complete_at (tells_claim c ∷ []) (completed_with c bound_a) (Some 2) l.1)).1;
   completes_under_other_name_is_refused = λ l. differ (λ x. bytes_eq x.volume_name (codes "b")) (complete c bound_a completed_elsewhere (Some 2) l.1).1.change refl refl;
-  names_without_completing_is_refused = λ l. differ (λ x. not (is_completed x)) (complete c bound_a (naming (codes "a") c) (Some 2) l.1).1.change refl refl;
+  names_without_completing_is_refused = λ l. true≢false (sym (sole (claim_row (λ o. MayAssignClass (mine (tells_both c bound_a)) o (naming (codes "a") c)) (mine (tells_both c bound_a)) (naming (codes "a") c) (Some 2) l.1)).1.classless);
   completes_at_other_version_is_refused = λ l. differ (is_version 1) (complete c bound_a (completed_with c bound_a) (Some 1) l.1).0.version refl refl;
   completes_without_version_is_refused = λ l. differ is_none (complete c bound_a (completed_with c bound_a) None l.1).0.version refl refl;
 }

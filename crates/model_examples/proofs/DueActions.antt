@@ -1,35 +1,42 @@
 -- What is due, computed.
 use Rattle.std.proofs.Common.{sym, refl, ap, subst, inl, inr, true≢false, ◌∙◌}
-use Rattle.std.specs.Prelude.{ℕ, zero, suc, ◌≡◌, ◌≢◌, Bool, true, false, List, [], ◌∷◌, Option, Some, None, is_none, bytes_eq, if◌then◌else◌}
+use Rattle.std.specs.Prelude.{ℕ, zero, suc, ◌≡◌, ◌≢◌, Bool, true, false, List, [], ◌∷◌, Option, Some, None, is_none, bytes_eq, slice_get, if◌then◌else◌}
+use Rattle.std.specs.List.{list_all}
 use Rattle.std.proofs.lemmas.Slice.Eq.{bytes_eq-Decides}
 use Rattle.std.specs.declared.cmp.Ordering.{Ordering}
 use Rattle.std.specs.declared.cmp.Ordering.TheVariants.{Less, Greater}
 use Rattle.kube_types.specs.declared.names.Due.{Due}
 use Rattle.kube_types.specs.declared.names.Due.TheVariants as dues
 use Rattle.kube_types.specs.declared.key.Key.{Key}
+use Rattle.kube_types.specs.declared.parts.Kind.TheVariants as kinds
+use Rattle.kube_types.specs.declared.objects.Claim.{Claim as ClaimData}
+use Rattle.kube_types.specs.declared.objects.Node.{Node as NodeData}
 use Rattle.kube_types.specs.declared.objects.Volume.{Volume as VolumeData}
 use Rattle.kube_types.specs.declared.objects.Object.{Object}
 use Rattle.kube_types.specs.declared.objects.Object.TheVariants.{Class, Node, Volume, Claim, Pod}
-use Rattle.kube_types.specs.Keys.{key_of, key_cmp, row_at}
+use Rattle.kube_types.specs.Keys.{key_of, key_cmp, row_at, rows_of}
 use Rattle.kube_types.proofs.KeyOrder.{row_at_key, row_at-put_row}
 use Rattle.kube_types.specs.Uids.{uid_text}
 use Rattle.binder_model.specs.ObjectKeys.{node_key, volume_key}
 use Rattle.binder_model.specs.BindWrites.{next_write, claim_write}
 use Rattle.binder_model.specs.BinderDue.{volume_due, reference_due, referred_due, claim_with, claim_due, named_due, completed_due}
 use Rattle.binder_model.specs.Provisioning.{data_name}
-use Rattle.binder_model.specs.Matching.{IsCandidate, match_cmp}
-use Rattle.binder_model.specs.Choice.{Share, TakesVolume, IsProvisioned, AreShares}
+use Rattle.binder_model.specs.Told.{SomeOf}
+use Rattle.binder_model.specs.Matching.{IsCandidate, IsBestAt, eligible, match_cmp}
+use Rattle.binder_model.specs.Choice.{Share, TakesVolume, IsProvisioned, AreShares, claims_of, fixed_admit}
 use Rattle.binder_model.specs.Due.{or_due, IsDue, CanPrepare, shares_are_served}
 use Rattle.model_laws.specs.Worked.{no_setup}
-use Rattle.model_examples.specs.Samples.{fast, uid_c, late, a, c, n1, key_a, waiting_p}
-use Rattle.model_examples.specs.DueActions.{pvc_volume, with_rows, small_setup, searched, pending_a, done_rows, two_rows, VolumeDueExamples, ReclaimDueExamples, ClaimDueExamples, ProvisionDueExamples, PodDueExamples, PrepareDueExamples, SettledExamples}
-use Rattle.model_examples.proofs.Tellings.{IsIn, one, differ, sole, found_in, node_in}
+use Rattle.model_examples.specs.Samples.{fast, uid_c, late, a, c, d, n1, key_a, waiting_p, selecting_c}
+use Rattle.model_examples.specs.DueActions.{pvc_volume, with_rows, small_setup, pod_of_two, searched, pending_a, done_rows, two_rows, pool_setup, searched_two, searched_large, large_d, near_a, far_free_a, beside_completed, selected_a, unselected_b, small_d, smaller_first, VolumeDueExamples, ReclaimDueExamples, ClaimDueExamples, ClassDueExamples, ProvisionDueExamples, PodDueExamples, PrepareDueExamples, SettledExamples}
+use Rattle.model_examples.proofs.Tellings.{IsIn, one, differ, sole, found_in, node_in, nodes_in}
+use Rattle.model_examples.proofs.Eligible.{same_at}
 
 pub volume_due_examples : VolumeDueExamples
 unfolding or_due volume_due reference_due referred_due claim_with claim_due named_due completed_due next_write claim_write
 volume_due_examples = record {
   available_without_reference = refl;
   available_where_prebound = refl;
+  not_available_twice_where_prebound = refl;
   not_available_twice = refl;
   bound_where_claim_names_it = refl;
   not_bound_before_claim_names_it = refl;
@@ -84,6 +91,28 @@ claim_due_examples = record {
   lost_without_name = refl;
   lost_where_volume_is_absent = refl;
   lost_where_volume_is_of_other = refl;
+  none_where_reference_lacks_the_uid = refl;
+  not_lost_twice_without_name = refl;
+  not_lost_twice_where_volume_is_absent = refl;
+  not_lost_twice_where_volume_is_of_other = refl;
+  bind_of_lost_where_volume_is_back = refl;
+}
+
+pub class_due_examples : ClassDueExamples
+unfolding or_due volume_due reference_due referred_due claim_with claim_due named_due completed_due next_write claim_write
+class_due_examples = record {
+  assign_where_no_volume_matches = refl;
+  assign_where_only_volumes_of_classes_are_free = refl;
+  bind_where_a_volume_without_class_matches = refl;
+  guard_comes_first = refl;
+  no_assign_without_classes = refl;
+  no_assign_where_none_is_marked = refl;
+  no_assign_with_a_class = refl;
+  no_assign_with_the_empty_class = refl;
+  no_assign_with_class_in_annotation = refl;
+  no_assign_where_a_volume_is_named = refl;
+  no_assign_of_deleting = refl;
+  no_assign_of_completed = refl;
 }
 
 -- the name of the data is itself
@@ -100,6 +129,7 @@ provision_due_examples = record {
   no_provision_where_pool_is_small = refl;
   no_provision_without_class = refl;
   no_provision_by_idle_class = refl;
+  no_provision_by_idle_class_with_a_pool_of_its_name = refl;
   no_provision_with_selector = refl;
   no_provision_where_named = refl;
   no_provision_of_deleting = refl;
@@ -174,6 +204,56 @@ ungiven can = unshared can.shares (subst (λ n. AreShares searched n [] (c ∷ [
     e : n1 ≡ can.node
     e = sole (node_in can.node searched (found_in (node_key can.node.meta.name) (Node can.node) searched can.there))
 
+-- the one node that stands
+only_node : (rows : List Object) (node : NodeData) → nodes_in rows ≡ n1 ∷ [] → row_at (node_key node.meta.name) rows ≡ Some (Node node) → n1 ≡ node
+only_node rows node only there = sole (subst (λ ns. SomeOf (λ n. n ≡ node) ns) only (node_in node rows (found_in (node_key node.meta.name) (Node node) rows there)))
+
+-- where no volume stands there is no candidate
+no_volume : (rows : List Object) (x : ClaimData) → rows_of kinds.PersistentVolume rows ≡ [] → (place : ℕ) (v : VolumeData) → IsCandidate rows x (Some n1) false [] place v → ⊥
+no_volume rows x none place v candidate = differ is_none (subst (λ os. slice_get os place ≡ Some (Volume v)) none candidate.there) refl refl
+
+-- the larger of two claims is not given
+second_ungiven : (shares : List Share) → AreShares searched_large n1 [] (c ∷ large_d ∷ []) shares → shares_are_served pool_setup (with_rows searched_large) n1 (c ∷ large_d ∷ []) shares ≡ true → ⊥
+second_ungiven [] h given = h
+second_ungiven (TakesVolume place ∷ shares) h given = differ is_none h.0.candidate.there refl refl
+second_ungiven (IsProvisioned ∷ []) h given = h.2
+second_ungiven (IsProvisioned ∷ TakesVolume place ∷ shares) h given = differ is_none h.2.0.candidate.there refl refl
+second_ungiven (IsProvisioned ∷ IsProvisioned ∷ shares) h given = true≢false (sym given)
+
+too_large : CanPrepare pool_setup (with_rows searched_large) pod_of_two → ⊥
+too_large can = second_ungiven can.shares (subst (λ n. AreShares searched_large n [] (c ∷ large_d ∷ []) can.shares) (sym e) can.serves.shared) (subst (λ n. shares_are_served pool_setup (with_rows searched_large) n (c ∷ large_d ∷ []) can.shares ≡ true) (sym e) can.given)
+  where
+    e : n1 ≡ can.node
+    e = only_node searched_large can.node refl can.there
+
+near_is_best : (other : ℕ) (u : VolumeData) → IsCandidate (beside_completed near_a) d (Some n1) false [] other u → match_cmp d near_a u ≢ Greater
+near_is_best zero u candidate greater = differ is_greater (sym (subst (λ v. match_cmp d near_a v ≡ Greater) (sym (same_at (beside_completed near_a) 0 near_a u refl candidate.there)) greater)) refl refl
+near_is_best (suc other) u candidate greater = differ is_none candidate.there refl refl
+
+far_from_node : CanPrepare pool_setup (with_rows (beside_completed far_free_a)) pod_of_two → ⊥
+far_from_node can = true≢false (sym (subst (λ n. list_all (fixed_admit (beside_completed far_free_a) n) (claims_of (beside_completed far_free_a) pod_of_two) ≡ true) (sym (only_node (beside_completed far_free_a) can.node refl can.there)) can.serves.fixed))
+
+-- the smaller claim takes the volume that the larger one selects
+smaller_has : IsCandidate smaller_first small_d (Some n1) false [] 0 selected_a
+smaller_has = record { there = refl; open_to = refl; own = refl; eligible = refl }
+
+none_is_left : (place other : ℕ) → IsBestAt smaller_first small_d (Some n1) false [] place → IsBestAt smaller_first selecting_c (Some n1) false (place ∷ []) other → ⊥
+none_is_left zero zero first best = true≢false best.candidate.open_to
+none_is_left zero (suc zero) first best = true≢false (sym (subst (λ v. eligible v selecting_c (Some n1) ≡ true) (sym (same_at smaller_first 1 unselected_b best.volume refl best.candidate.there)) best.candidate.eligible))
+none_is_left zero (suc (suc other)) first best = differ is_none best.candidate.there refl refl
+none_is_left (suc zero) other first best = first.first 0 selected_a smaller_has (subst (λ v. match_cmp small_d v selected_a ≡ Greater) (same_at smaller_first 1 unselected_b first.volume refl first.candidate.there) refl)
+none_is_left (suc (suc place)) other first best = differ is_none first.candidate.there refl refl
+
+smaller_shares : (shares : List Share) → AreShares smaller_first n1 [] (small_d ∷ selecting_c ∷ []) shares → ⊥
+smaller_shares [] h = h
+smaller_shares (IsProvisioned ∷ shares) h = h.0 0 selected_a smaller_has
+smaller_shares (TakesVolume place ∷ []) h = h.1
+smaller_shares (TakesVolume place ∷ IsProvisioned ∷ shares) h = true≢false (sym h.1.1)
+smaller_shares (TakesVolume place ∷ TakesVolume other ∷ shares) h = none_is_left place other h.0 h.1.0
+
+smaller_takes : CanPrepare no_setup (with_rows smaller_first) pod_of_two → ⊥
+smaller_takes can = smaller_shares can.shares (subst (λ n. AreShares smaller_first n [] (small_d ∷ selecting_c ∷ []) can.shares) (sym (only_node smaller_first can.node refl can.there)) can.serves.shared)
+
 abbrev without_node : List Object
 without_node = Class late ∷ Claim c ∷ Pod waiting_p ∷ []
 
@@ -181,6 +261,11 @@ pub prepare_due_examples : PrepareDueExamples
 prepare_due_examples = record {
   prepare_by_provisioning = (refl, record { node = n1; there = refl; shares = IsProvisioned ∷ []; serves = record { fixed = refl; shared = (none_there, refl, tt) }; given = refl });
   prepare_by_volume = (refl, record { node = n1; there = refl; shares = TakesVolume 0 ∷ []; serves = record { fixed = refl; shared = (record { volume = a; candidate = record { there = refl; open_to = refl; own = refl; eligible = refl }; first = a_is_best }, tt) }; given = refl });
+  prepare_by_provisioning_two = (refl, record { node = n1; there = refl; shares = IsProvisioned ∷ IsProvisioned ∷ []; serves = record { fixed = refl; shared = (no_volume searched_two c refl, refl, (no_volume searched_two d refl, refl, tt)) }; given = refl });
+  no_prepare_where_the_second_is_too_large = too_large;
+  prepare_beside_a_completed_claim = (refl, record { node = n1; there = refl; shares = TakesVolume 0 ∷ []; serves = record { fixed = refl; shared = (record { volume = near_a; candidate = record { there = refl; open_to = refl; own = refl; eligible = refl }; first = near_is_best }, tt) }; given = refl });
+  no_prepare_far_from_the_volume_of_a_completed_claim = far_from_node;
+  no_prepare_where_the_smaller_claim_takes_the_volume = smaller_takes;
   no_prepare_where_pool_is_small = ungiven;
   no_prepare_without_node = λ can. node_in can.node without_node (found_in (node_key can.node.meta.name) (Node can.node) without_node can.there);
   no_prepare_where_chosen = refl;

@@ -16,11 +16,12 @@ use Rattle.binder_model.specs.BindWrites.{taken_for, completed_with}
 use Rattle.binder_model.specs.BinderLicence.{MayTake, MayBind, MayComplete, MayShow}
 use Rattle.binder_model.specs.AgentLicence.{WasShownReady, IsReadyPod}
 use Rattle.binder_model.specs.Licence.{Licensed}
+use Rattle.binder_model.specs.Reading.{NamesClaim}
 use Rattle.binder_model.specs.Run.{Run}
 use Rattle.binder_model.specs.Safe.{Safe}
 use Rattle.model_laws.specs.Worked.{no_setup, a, c, completed_c, once, amount}
-use Rattle.model_examples.proofs.Tellings.{neither, sole}
-use Rattle.model_examples.specs.EmptyNode.{a_at, c_deleted, pod_stands, e3, e4, e5, e6, e7, e8, e10, e11, e12, e13, e14, until_read, history, MountsOnNoNode}
+use Rattle.model_examples.proofs.Tellings.{neither, sole, told_pods}
+use Rattle.model_examples.specs.EmptyNode.{a_at, c_deleted, pod_stands, e3, e4, e5, e6, e7, e8, e10, e11, e12, e13, e14, until_list, history, MountsOnNoNode}
 
 may_take : MayTake (e4 ∷ e3 ∷ []) (a 1 volumes.Pending) (a_at 1 volumes.Pending)
 unfolding taken_for
@@ -60,11 +61,8 @@ l10 = (tt, tt)
 l11 : Licensed seats.Agent (e10 ∷ []) e11.request
 l11 = ((refl, tt), (refl, tt))
 
-l12 : Licensed seats.Agent (e11 ∷ e10 ∷ []) e12.request
-l12 = ((refl, (refl, tt)), inl (inl (refl, inl (record { taken = refl; placed = refl; kind = refl; named = refl }))))
-
-l13 : Licensed seats.Agent (e12 ∷ e11 ∷ e10 ∷ []) e13.request
-l13 = ((refl, (refl, (refl, tt))), inr (inl (refl, refl)))
+unread : Licensed seats.Agent (e11 ∷ e10 ∷ []) e12.request → ⊥
+unread l = neither (λ h. true≢false (sym (sole (told_pods (NamesClaim (e11 ∷ e10 ∷ []) (claim_key (codes "default") (codes "c"))) (e11 ∷ e10 ∷ []) h)).scheduled)) (neither (λ h. h.1) (neither (λ h. h.1) (λ h. h))) l.1
 
 unscheduled : WasShownReady (e13 ∷ e12 ∷ e11 ∷ e10 ∷ []) [] (uid_of_serial 7) (uid_of_serial 2 ∷ []) [] (e13 ∷ e12 ∷ e11 ∷ []) → ⊥
 unscheduled s = neither (λ h. sole h.1.1) (neither (λ h. sole h.1.1) (neither (λ h. waiting (sole h.1.1)) (λ h. h))) s
@@ -75,9 +73,9 @@ unscheduled s = neither (λ h. sole h.1.1) (neither (λ h. sole h.1.1) (neither 
 refused : Licensed seats.Agent (e13 ∷ e12 ∷ e11 ∷ e10 ∷ []) e14.request → ⊥
 refused l = unscheduled l.1.shown
 
-until : Run no_setup until_read
+until : Run no_setup until_list
 unfolding effect on_devices device_answer unless_stale take_node with_mounts outcome create update update_status delete delete_of get list with_status written_if_fits refuse refuse_field refuse_rule guard_on guard breaks create_fault kind_fault volume_fault claim_fault pod_fault update_fault changed_field faulty lacks_node admitted_object without_status created_object with_status_of updated_object at_version marked_object leaves leaves_at_once with_meta reply_to world_after reply_of after log_after xor
-until = (((((((((((((tt, refl, tt), refl, tt), refl, l3), refl, l4), refl, l5), refl, l6), refl, l7), refl, l8), refl, tt), refl, l10), refl, l11), refl, l12), refl, l13)
+until = (((((((((((tt, refl, tt), refl, tt), refl, l3), refl, l4), refl, l5), refl, l6), refl, l7), refl, l8), refl, tt), refl, l10), refl, l11)
 
 is_history : IsHistory no_setup history
 unfolding effect on_devices device_answer unless_stale take_node with_mounts outcome create update update_status delete delete_of get list with_status written_if_fits refuse refuse_field refuse_rule guard_on guard breaks create_fault kind_fault volume_fault claim_fault pod_fault update_fault changed_field faulty lacks_node admitted_object without_status created_object with_status_of updated_object at_version marked_object leaves leaves_at_once with_meta reply_to world_after reply_of after log_after xor
@@ -88,4 +86,4 @@ unfolding effect on_devices device_answer unless_stale take_node with_mounts out
 unsafe s = true≢false (sym (s.0.claims (claim_key (codes "default") (codes "c")) c_deleted refl refl))
 
 pub mounts_on_no_node : MountsOnNoNode
-mounts_on_no_node = record { runs_until_then = until; mount_is_refused = refused; is_no_run = λ r. refused r.0.0.0.0.2; is_a_history = is_history; is_not_safe = unsafe }
+mounts_on_no_node = record { runs_until_then = until; read_is_refused = unread; mount_is_refused = refused; is_no_run = λ r. unread r.0.0.0.0.0.0.2; is_a_history = is_history; is_not_safe = unsafe }

@@ -1,13 +1,16 @@
 pub mod AgentRows
 pub mod BinderReleases
 pub mod BinderRows
+pub mod DefaultClass
 pub mod DueActions
+pub mod Eligible
 pub mod EmptyNode
 pub mod GuardRuns
 pub mod Imported
 pub mod Mounting
 pub mod NamespacedVolume
 pub mod NewestTold
+pub mod NextWrites
 pub mod OpsRows
 pub mod ProtectionRows
 pub mod ReadingRows

@@ -18,8 +18,8 @@ use Rattle.call_types.specs.declared.reply.Reply.TheVariants as replies
 use Rattle.binder_model.specs.ObjectKeys.{volume_key}
 use Rattle.binder_model.specs.BindWrites.{is_claim_bound}
 use Rattle.binder_model.specs.AgentLicence.{MayMount, IsReadyPod, WasShownReady, IsReadReady, IsPodOn, last_get}
-use Rattle.model_examples.specs.Samples.{Exchange, seat_of, lists, tells_pod, finds, finds_none, takes, node_1, node_2, a, key_a, key_c, uid_c, bound_a, bound_c, p, waiting_p, ending_p, uid_p, unguarded_c, uncompleted_c, lost_c, bound_for_other}
-use Rattle.model_examples.specs.Mounting.{finished_other, reads, reads_claim, reads_volume, watches_p, watches_end, watches_next, MountOrderExamples, other_pod, elsewhere_pod, deleting_c, pending_c, next_c, pod_of_two, MountExamples}
+use Rattle.model_examples.specs.Samples.{Exchange, seat_of, lists, tells_pod, unheard, finds, finds_none, takes, node_1, node_2, a, key_a, key_c, uid_c, bound_a, bound_c, p, waiting_p, ending_p, uid_p, unguarded_c, uncompleted_c, lost_c, bound_for_other}
+use Rattle.model_examples.specs.Mounting.{finished_other, read_again_unheard, reads, reads_claim, reads_volume, watches_p, watches_end, watches_next, MountOrderExamples, other_pod, elsewhere_pod, deleting_c, pending_c, next_c, pod_of_two, MountExamples}
 use Rattle.model_examples.proofs.Tellings.{differ, neither, sole, own_kind, is_version}
 
 abbrev mine : List Exchange → List Entry
@@ -115,6 +115,7 @@ mount_order_examples = record {
   mounts = (own_kind seats.Agent (reads bound_a bound_c p), record { current = refl; shown = inr (inr (inl (inl (refl, refl), (refl, inl by_list)))); unfinished = refl });
   mounts_pod_told_by_watch = (own_kind seats.Agent (reads_volume ∷ reads_claim ∷ watches_p ∷ lists kinds.Pod [] 8 ∷ takes node_1 1 ∷ []), record { current = refl; shown = inr (inr (inl (inr (inl (refl, refl)), (refl, inl by_watch)))); unfinished = refl });
   mounts_after_finish_of_other_pod = (own_kind seats.Agent finished_other, record { current = refl; shown = inr (inr (inl (inl (refl, refl), (refl, inl beside_other)))); unfinished = refl });
+  mounts_where_a_second_read_was_not_answered = (own_kind seats.Agent read_again_unheard, record { current = refl; shown = inr (inr (inr (inl (inl (refl, refl), (refl, inl read_again))))); unfinished = refl });
   older_epoch_is_refused = λ l. differ (is_version 3) l.1.current refl refl;
   pods_never_listed_is_refused = λ l. neither (λ h. sole h.1.1) (neither (λ h. sole h.1.1) (neither (λ h. neither (λ t. true≢false (sym t.1)) (λ x. x) h.0) (λ h. h))) l.1.shown;
   pods_listed_in_a_namespace_is_refused = λ l. neither (λ h. sole h.1.1) (neither (λ h. sole h.1.1) (neither (λ h. neither (λ t. true≢false (sym t.1)) (neither (λ t. true≢false (sym t.1)) (λ x. x)) h.0) (neither (λ h. h.1.1) (λ h. h)))) l.1.shown;
@@ -141,6 +142,12 @@ mount_order_examples = record {
 
     by_list : ReadyAfter (reads bound_a bound_c p) (two reads_volume reads_claim) node_1 (uid_c ∷ []) p
     by_list = record { on_node = on_node; latest = p; newest = refl; same = refl; staying = refl; ready = (ready_c, tt) }
+
+    ready_again : IsReadReady (mine (unheard reads_claim ∷ reads_volume ∷ reads_claim ∷ [])) (codes "default") (codes "c") uid_c
+    ready_again = record { claim = bound_c; read = refl; same = refl; staying = refl; guarded = refl; completed = refl; bound = refl; volume = bound_a; volume_read = refl; carries = refl }
+
+    read_again : ReadyAfter read_again_unheard (mine (unheard reads_claim ∷ reads_volume ∷ reads_claim ∷ [])) node_1 (uid_c ∷ []) p
+    read_again = record { on_node = on_node; latest = p; newest = refl; same = refl; staying = refl; ready = (ready_again, tt) }
 
     beside_other : ReadyAfter finished_other (two reads_volume reads_claim) node_1 (uid_c ∷ []) p
     beside_other = record { on_node = on_node; latest = p; newest = refl; same = refl; staying = refl; ready = (ready_c, tt) }

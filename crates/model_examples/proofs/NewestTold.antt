@@ -39,6 +39,13 @@ newest_examples = record {
   list_of_namespace_tells_absence = refl;
   list_of_other_namespace_tells_no_absence = refl;
   not_found_tells_no_absence = refl;
+  write_of_other_key_tells_nothing = refl;
+  leaving_of_other_key_tells_nothing = refl;
+  event_of_other_key_tells_nothing = refl;
+  deletion_of_other_key_tells_nothing = refl;
+  later_of_two_events = refl;
+  event_behind_one_of_other_key = refl;
+  pods_of_the_namespace_tell_no_absence = refl;
   nothing_told_is_no_absence = λ h. h;
   present_is_no_absence = λ h. differ is_some h refl refl;
 }

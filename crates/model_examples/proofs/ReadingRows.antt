@@ -15,8 +15,8 @@ use Rattle.binder_model.specs.ObjectKeys.{volume_key, claim_key, pod_key}
 use Rattle.binder_model.specs.OpsLicence.{IsToErase}
 use Rattle.binder_model.specs.Told.{SomeOf, ToldPod, IsNewest, newest, object_of}
 use Rattle.binder_model.specs.Reading.{AsksForClaim, AsksForVolume, AsksForEnded, NamesClaim, IsDeletingIn, LacksUid}
-use Rattle.model_examples.specs.Samples.{Exchange, seat_of, unheard, lists, lists_in, tells_volume, tells_claim, tells_pod, tells_both, finds, takes, node_1, a, c, other_c, naming, key_a, key_c, uid_c, ref_c, taken_a, released_a, completed_c, bound_c, p, key_b, key_d, prebound_a, ended_a, still_bound_a, never_bound_a, deleting_a}
-use Rattle.model_examples.specs.ReadingRows.{FollowsExamples, ListExamples, listed, watched, gone_from, leaving_c, WatchExamples, BinderGetExamples, released_later, OpsGetExamples, AgentGetExamples, elsewhere_p, OtherGetExamples}
+use Rattle.model_examples.specs.Samples.{Exchange, seat_of, unheard, lists, lists_in, tells_volume, tells_claim, tells_pod, tells_both, finds, takes, node_1, a, c, other_c, naming, key_a, key_c, uid_c, ref_c, taken_a, released_a, completed_c, bound_c, p, waiting_p, key_b, key_d, prebound_a, ended_a, still_bound_a, never_bound_a, deleting_a}
+use Rattle.model_examples.specs.ReadingRows.{FollowsExamples, ListExamples, listed, watched, gone_from, leaving_c, WatchExamples, watched_classes, BinderGetExamples, released_later, OpsGetExamples, AgentGetExamples, elsewhere_p, OtherGetExamples}
 use Rattle.model_examples.proofs.Tellings.{differ, neither, sole, own_kind, told_claims, told_pods, newest_volume, newest_claim, same_volume, volumes_in, claims_in, pods_in, told_objects, has_version, name_of}
 
 pub follows_examples : FollowsExamples
@@ -85,6 +85,8 @@ watch_examples = record {
   other_version_is_refused = λ l. neither (λ e. differ (λ n. n == 4) e refl refl) (λ e. differ is_none e refl refl) l.1.1;
   version_reached_before_is_refused = λ l. neither (λ e. differ (λ n. n == 5) e refl refl) (λ e. differ (is_at 7) e refl refl) l.1.1;
   version_of_older_list_is_refused = λ l. neither (λ e. differ (λ n. n == 3) e refl refl) (λ e. differ is_none e refl refl) l.1.1;
+  version_reached_by_watch_of_other_kind_is_refused = λ l. neither (λ e. differ (λ n. n == 7) e refl refl) (λ e. differ is_none e refl refl) l.1.1;
+  watches_from_list_beside_watch_of_other_kind = (own_kind seats.Binder (watched_classes 3 7 ∷ watched 3 5 ∷ lists kinds.StorageClass [] 3 ∷ listed 3 ∷ []), (refl, inr refl));
   version_in_lost_answer_is_refused = λ l. neither (λ e. differ (λ n. n == 5) e refl refl) (λ e. differ is_none e refl refl) l.1.1;
   version_after_gone_is_refused = λ l. l.1.1;
   kind_not_followed_is_refused = λ l. true≢false (sym l.1.0);
@@ -198,11 +200,12 @@ pods_asked xs key h = told_pods (NamesClaim (agent xs) key) (agent xs) h
 
 pub agent_get_examples : AgentGetExamples
 agent_get_examples = record {
-  reads_claim_of_pod = (own_kind seats.Agent (tells_pod p ∷ takes node_1 1 ∷ []), inl (inl (refl, inl (record { taken = refl; placed = refl; kind = refl; named = refl }))));
+  reads_claim_of_pod = (own_kind seats.Agent (tells_pod p ∷ takes node_1 1 ∷ []), inl (inl (refl, inl (record { scheduled = refl; taken = refl; placed = refl; kind = refl; named = refl }))));
   reads_volume_of_claim = (own_kind seats.Agent (finds key_c (Claim bound_c) ∷ []), inr (inl (refl, refl)));
   pod_never_told_is_refused = λ l. neither (pods_asked (takes node_1 1 ∷ []) key_c) (neither (λ h. h.1) (λ h. h)) l.1;
   node_never_taken_is_refused = λ l. neither (λ h. true≢false (sym (sole (pods_asked (tells_pod p ∷ []) key_c h)).taken)) (neither (λ h. h.1) (λ h. h)) l.1;
   pod_on_other_node_is_refused = λ l. neither (λ h. true≢false (sym (sole (pods_asked (tells_pod elsewhere_p ∷ takes node_1 1 ∷ []) key_c h)).taken)) (neither (λ h. h.1) (neither (λ h. h.1) (λ h. h))) l.1;
+  claim_of_pod_on_no_node_is_refused = λ l. neither (λ h. true≢false (sym (sole (pods_asked (tells_pod waiting_p ∷ takes [] 1 ∷ []) key_c h)).scheduled)) (neither (λ h. h.1) (neither (λ h. h.1) (λ h. h))) l.1;
   claim_of_other_name_is_refused = λ l. neither (λ h. true≢false (sym (sole (pods_asked (tells_pod p ∷ takes node_1 1 ∷ []) key_d h)).named)) (neither (λ h. h.1) (neither (λ h. h.1) (λ h. h))) l.1;
   claim_of_other_namespace_is_refused = λ l. neither (λ h. differ (λ n. bytes_eq n (codes "x")) (sole (pods_asked (tells_pod p ∷ takes node_1 1 ∷ []) (claim_key (codes "x") (codes "c")) h)).placed refl refl) (neither (λ h. h.1) (neither (λ h. h.1) (λ h. h))) l.1;
   other_kind_is_refused = λ l. neither (λ h. differ (λ k. kind_index k == 4) (sole (pods_asked (tells_pod p ∷ takes node_1 1 ∷ []) (pod_key (codes "default") (codes "c")) h)).kind refl refl) (neither (λ h. h.1) (neither (λ h. h.1) (λ h. h))) l.1;

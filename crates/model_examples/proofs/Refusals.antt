@@ -65,7 +65,8 @@ pub rules_of_rows : RulesOfRows
 rules_of_rows = record {
   binder_reference = refl;
   binder_no_reference = refl;
-  binder_claim = refl;
+  binder_completed_claim = refl;
+  binder_other_claim = refl;
   binder_other_object = refl;
   binder_available = refl;
   binder_bound = refl;

@@ -1,6 +1,6 @@
 -- The parts of what is safe, computed.
 use Rattle.std.proofs.Common.{sym, refl, ap, subst, inl, inr, true≢false, ◌∙◌}
-use Rattle.std.specs.Prelude.{ℕ, ◌≡◌, ◌⊎◌, true, List, [], ◌∷◌, Some, is_none, is_some, codes, bytes_eq}
+use Rattle.std.specs.Prelude.{ℕ, ◌≡◌, ◌⊎◌, true, false, List, [], ◌∷◌, Some, is_none, is_some, codes, bytes_eq}
 use Rattle.kube_types.specs.declared.key.Key.{Key}
 use Rattle.kube_types.specs.declared.parts.VolumePhase.TheVariants as volumes
 use Rattle.kube_types.specs.declared.parts.ClaimPhase.TheVariants as claims
@@ -14,19 +14,20 @@ use Rattle.kube_types.specs.Bindings.{is_bound, is_completed, carries, is_uid}
 use Rattle.kube_types.proofs.KeyOrder.{row_at_key}
 use Rattle.call_types.specs.declared.entry.Entry.{Entry}
 use Rattle.call_types.specs.declared.setup.Setup.{Setup}
+use Rattle.call_types.specs.declared.request.SeatKind.TheVariants as seats
 use Rattle.binder_model.specs.Store.{with_meta, at_version, with_status_of, updated_object, leaves, lacks_node}
 use Rattle.binder_model.specs.Fields.{faulty, volume_fault, claim_fault, kind_fault, create_fault, changed_field, update_fault}
-use Rattle.binder_model.specs.Answers.{refuse, refuse_field, refuse_rule, guard_on, update, with_status, written_if_fits, update_status, outcome, reply_of, after}
-use Rattle.binder_model.specs.Devices.{device_answer, no_devices}
+use Rattle.binder_model.specs.Answers.{refuse, refuse_field, refuse_rule, guard_on, get, update, with_status, written_if_fits, update_status, outcome, reply_of, after}
+use Rattle.binder_model.specs.Devices.{device_answer, erase, no_devices, unless_planned}
 use Rattle.binder_model.specs.ObjectKeys.{claim_key, volume_key}
 use Rattle.binder_model.specs.Imports.{imported_object}
 use Rattle.binder_model.specs.Told.{SomeOf}
-use Rattle.binder_model.specs.World.{world, effect, on_devices, reply_to, world_after, log_after}
-use Rattle.binder_model.specs.Safe.{AreBindings, CountedAreBound, Counts, IsBoundTo, is_mounted, IsEndedForDelete}
+use Rattle.binder_model.specs.World.{World, world, effect, on_devices, reply_to, world_after, log_after}
+use Rattle.binder_model.specs.Safe.{AreBindings, CountedAreBound, Counts, IsBoundTo, KeepsBound, KeepsMounted, Safe, is_mounted, IsEndedForDelete}
 use Rattle.model_laws.specs.Worked.{no_setup}
 use Rattle.model_examples.specs.Imported.{setup_of}
-use Rattle.model_examples.specs.Samples.{volume_at, a, c, d, in_phase, claim_at, key_a, key_c, taken_a, bound_a, released_a, bound_c, ended_a, failed_a}
-use Rattle.model_examples.specs.SafePoints.{completing, completes, with_claim, lost_setup, BindingExamples, mounting, unmounted, LeavingExamples, next_a, no_uid_a, ErasedExamples, SafeExamples}
+use Rattle.model_examples.specs.Samples.{seat_of, finds, volume_at, a, c, d, in_phase, claim_at, key_a, key_c, taken_a, bound_a, released_a, bound_c, ended_a, failed_a, bound_for_other, leaving_bound_a, still_bound_a}
+use Rattle.model_examples.specs.SafePoints.{completing, completes, with_claim, lost_setup, BindingExamples, mounting, unmounted, LeavingExamples, next_a, no_uid_a, ErasedExamples, SafeExamples, loosens, erases_read, leaving_free_a, WholeExamples}
 use Rattle.model_examples.proofs.Tellings.{one, differ, sole, found_in, claims_in, claim_in, volumes_in, volume_in, volume_of}
 
 -- the claims, and the volumes, that stand in literal rows
@@ -179,3 +180,97 @@ safe_examples = record {
 
     unmounted_c : (key : Key) (x : ClaimData) → row_at key (Volume bound_a ∷ Claim c ∷ []) ≡ Some (Claim x) → is_mounted no_devices x ≡ true → ⊥
     unmounted_c key x e mounted = true≢false (sym (subst (λ y. is_mounted no_devices y ≡ true) (sym (sole (claims_at key x (Volume bound_a ∷ Claim c ∷ []) e))) mounted))
+
+-- the whole promise
+
+-- where no claim stands nothing counts
+claimless : (setup : Setup) (past : List Entry) → claims_in (rows_after setup past) ≡ [] → AreBindings setup past
+claimless setup past none = none_counts setup past (λ key x e counts. subst (λ ys. SomeOf (λ y. y ≡ x) ys) none (claims_at key x (rows_after setup past) e))
+
+-- and none leaves
+no_claim_left : (old : World) (new : List Object) → claims_in old.store.rows ≡ [] → KeepsMounted old new
+no_claim_left old new none key x e mounted = absurd (subst (λ ys. SomeOf (λ y. y ≡ x) ys) none (claims_at key x old.store.rows e))
+
+-- where one volume stands that is not Bound, no Bound one leaves
+no_bound_left : (v : VolumeData) (old new : List Object) → volumes_in old ≡ v ∷ [] → is_bound v.phase ≡ false → KeepsBound old new
+no_bound_left v old new only free key u e bound = absurd (true≢false (sym (subst (λ w. is_bound w.phase ≡ true) (sym (sole (subst (λ ys. SomeOf (λ w. w ≡ u) ys) only (volumes_at key u old e)))) bound) ∙ free))
+
+taken_by_another : Safe (with_claim (Volume bound_for_other ∷ [])) (completes c ∷ []) → ⊥
+unfolding effect on_devices device_answer outcome update update_status with_status written_if_fits refuse refuse_field refuse_rule guard_on update_fault changed_field create_fault kind_fault volume_fault claim_fault faulty lacks_node with_status_of updated_object at_version leaves with_meta reply_to world_after reply_of after log_after imported_object
+taken_by_another s = true≢false (sym (bound_of (Volume bound_for_other ∷ Claim (done 10) ∷ []) (done 10) bound_for_other (s.0.bindings.bound key_c (done 10) refl (record { completed = refl; found = λ e. absurd (true≢false (sym e)) })) refl).0)
+
+free_leaves : Safe (setup_of (Volume leaving_free_a ∷ [])) (loosens leaving_free_a ∷ [])
+unfolding effect on_devices device_answer outcome update update_status with_status written_if_fits refuse refuse_field refuse_rule guard_on update_fault changed_field create_fault kind_fault volume_fault claim_fault faulty lacks_node with_status_of updated_object at_version leaves with_meta reply_to world_after reply_of after log_after imported_object
+free_leaves = (
+  record {
+    bindings = claimless (setup_of (Volume leaving_free_a ∷ [])) (loosens leaving_free_a ∷ []) refl;
+    volumes = no_bound_left leaving_free_a (Volume leaving_free_a ∷ []) [] refl refl;
+    claims = no_claim_left (world (setup_of (Volume leaving_free_a ∷ [])) []) [] refl;
+    erased = tt;
+  },
+  claimless (setup_of (Volume leaving_free_a ∷ [])) [] refl,
+)
+
+bound_leaves : Safe (setup_of (Volume leaving_bound_a ∷ [])) (loosens leaving_bound_a ∷ []) → ⊥
+unfolding effect on_devices device_answer outcome update update_status with_status written_if_fits refuse refuse_field refuse_rule guard_on update_fault changed_field create_fault kind_fault volume_fault claim_fault faulty lacks_node with_status_of updated_object at_version leaves with_meta reply_to world_after reply_of after log_after imported_object
+bound_leaves s = true≢false (sym (s.0.volumes key_a leaving_bound_a refl refl))
+
+abbrev one_ended : Setup
+one_ended = setup_of (Volume ended_a ∷ [])
+
+abbrev read_of : VolumeData → List Entry
+read_of v = seat_of seats.Ops (finds key_a (Volume v) ∷ [])
+
+ended_erased : Safe one_ended (erases_read ended_a)
+unfolding effect on_devices device_answer outcome update update_status with_status written_if_fits refuse refuse_field refuse_rule guard_on update_fault changed_field create_fault kind_fault volume_fault claim_fault faulty lacks_node with_status_of updated_object at_version leaves with_meta reply_to world_after reply_of after log_after imported_object get erase unless_planned
+ended_erased = (
+  record {
+    bindings = claimless one_ended (erases_read ended_a) refl;
+    volumes = no_bound_left ended_a (Volume ended_a ∷ []) (Volume ended_a ∷ []) refl refl;
+    claims = no_claim_left (world one_ended (read_of ended_a)) (Volume ended_a ∷ []) refl;
+    erased = record { volume = ended_a; last = refl; uid = uid_of_serial 1; known = refl; since = λ key v e known. subst (λ u. IsEndedForDelete u) (sole (volumes_at key v (Volume ended_a ∷ []) e)) (record { ended = refl; policy = refl }) };
+  },
+  (
+    record {
+      bindings = claimless one_ended (read_of ended_a) refl;
+      volumes = no_bound_left ended_a (Volume ended_a ∷ []) (Volume ended_a ∷ []) refl refl;
+      claims = no_claim_left (world one_ended []) (Volume ended_a ∷ []) refl;
+      erased = tt;
+    },
+    claimless one_ended [] refl,
+  ),
+)
+
+bound_erased : Safe (setup_of (Volume still_bound_a ∷ [])) (erases_read still_bound_a) → ⊥
+unfolding effect on_devices device_answer outcome update update_status with_status written_if_fits refuse refuse_field refuse_rule guard_on update_fault changed_field create_fault kind_fault volume_fault claim_fault faulty lacks_node with_status_of updated_object at_version leaves with_meta reply_to world_after reply_of after log_after imported_object get erase unless_planned
+bound_erased s = true≢false (sym (s.0.erased.since key_a still_bound_a refl (ap (λ v. v.meta.uid) (one still_bound_a s.0.erased.volume s.0.erased.last) ∙ s.0.erased.known)).ended)
+
+retained_erased : Safe (setup_of (Volume released_a ∷ [])) (erases_read released_a) → ⊥
+unfolding effect on_devices device_answer outcome update update_status with_status written_if_fits refuse refuse_field refuse_rule guard_on update_fault changed_field create_fault kind_fault volume_fault claim_fault faulty lacks_node with_status_of updated_object at_version leaves with_meta reply_to world_after reply_of after log_after imported_object get erase unless_planned
+retained_erased s = true≢false (sym (s.0.erased.since key_a released_a refl (ap (λ v. v.meta.uid) (one released_a s.0.erased.volume s.0.erased.last) ∙ s.0.erased.known)).policy)
+
+abbrev one_lost : Setup
+one_lost = setup_of (Claim bound_c ∷ [])
+
+lost_itself : Safe one_lost []
+unfolding imported_object
+lost_itself = none_counts one_lost [] (λ key x e counts. unbound (subst (λ y. Counts one_lost [] y) (sym (sole (claims_at key x (Claim lost_c ∷ []) e))) counts))
+  where
+    unbound : Counts one_lost [] lost_c → ⊥
+    unbound k = differ is_none (k.found refl).there refl refl
+
+lost_another : Safe (setup_of (Claim bound_c ∷ Claim d ∷ [])) (completes d ∷ []) → ⊥
+unfolding effect on_devices device_answer outcome update update_status with_status written_if_fits refuse refuse_field refuse_rule guard_on update_fault changed_field create_fault kind_fault volume_fault claim_fault faulty lacks_node with_status_of updated_object at_version leaves with_meta reply_to world_after reply_of after log_after imported_object
+lost_another s = differ is_none (s.0.bindings.bound key_d (completing (claim_at 8 d)) refl (record { completed = refl; found = λ e. absurd (true≢false (sym e)) })).there refl refl
+
+pub whole_examples : WholeExamples
+whole_examples = record {
+  volume_of_another_claim_is_unsafe = taken_by_another;
+  free_volume_leaves = free_leaves;
+  bound_volume_leaves_is_unsafe = bound_leaves;
+  ended_volume_is_erased = ended_erased;
+  bound_volume_is_erased_is_unsafe = bound_erased;
+  retained_volume_is_erased_is_unsafe = retained_erased;
+  lost_import_excuses_itself = lost_itself;
+  lost_import_excuses_another_is_unsafe = lost_another;
+}

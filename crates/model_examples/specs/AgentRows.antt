@@ -36,6 +36,9 @@ other_pod = record ending_p { meta = record ending_p.meta { uid = Some (uid_of_s
 abbrev pub elsewhere_pod : PodData
 elsewhere_pod = record ending_p { node = node_2 }
 
+abbrev pub nowhere_pod : PodData
+nowhere_pod = record ending_p { node = [] }
+
 pub record UnmountExamples : Type 0 where
   pub unmounts : Allows seats.Agent (tells_pod ending_p ∷ takes node_1 1 ∷ []) (unmount 1)
   pub other_epoch_is_refused : Refuses seats.Agent (tells_pod ending_p ∷ takes node_1 3 ∷ takes node_1 1 ∷ []) (unmount 1)
@@ -43,6 +46,7 @@ pub record UnmountExamples : Type 0 where
   pub answer_lost_is_refused : Refuses seats.Agent (unheard (tells_pod ending_p) ∷ takes node_1 1 ∷ []) (unmount 1)
   pub other_pod_is_refused : Refuses seats.Agent (tells_pod other_pod ∷ takes node_1 1 ∷ []) (unmount 1)
   pub pod_on_other_node_is_refused : Refuses seats.Agent (tells_pod elsewhere_pod ∷ takes node_1 1 ∷ []) (unmount 1)
+  pub pod_on_no_node_is_refused : Refuses seats.Agent (tells_pod nowhere_pod ∷ takes [] 1 ∷ []) (requests.Unmount [] 1 uid_p)
   pub staying_pod_is_refused : Refuses seats.Agent (tells_pod p ∷ takes node_1 1 ∷ []) (unmount 1)
 
 -- FinishPod
@@ -57,14 +61,20 @@ row_of uid = record { pod = uid; claims = uid_c ∷ [] }
 abbrev pub mounted : List ℕ → ℕ → List MountRow → Exchange
 mounted node epoch rows = heard (requests.Mounts node epoch) (replies.Mounted rows)
 
+abbrev pub unmounts_at : List ℕ → ℕ → Exchange
+unmounts_at node epoch = heard (requests.Unmount node epoch uid_p) (replies.Mounted [])
+
 abbrev pub unmounted : Exchange
-unmounted = heard (unmount 1) (replies.Mounted [])
+unmounted = unmounts_at node_1 1
 
 abbrev pub mounts_it : Exchange
 mounts_it = heard (requests.Mount node_1 1 uid_p (uid_c ∷ [])) (replies.Mounted (row_of uid_p ∷ []))
 
+abbrev pub mounts_other_at : List ℕ → ℕ → Exchange
+mounts_other_at node epoch = heard (requests.Mount node epoch (uid_of_serial 8) (uid_c ∷ [])) (replies.Mounted (row_of (uid_of_serial 8) ∷ []))
+
 abbrev pub mounts_other : Exchange
-mounts_other = heard (requests.Mount node_1 1 (uid_of_serial 8) (uid_c ∷ [])) (replies.Mounted (row_of (uid_of_serial 8) ∷ []))
+mounts_other = mounts_other_at node_1 1
 
 -- the pod was told, after the node was taken
 abbrev pub told_ending : List Exchange
@@ -83,11 +93,16 @@ pub record FinishPodExamples : Type 0 where
   pub pod_never_told_is_refused : Refuses seats.Agent (unmounted ∷ takes node_1 1 ∷ []) (finish key_p 1)
   pub other_pod_is_refused : Refuses seats.Agent (unmounted ∷ tells_pod other_pod ∷ takes node_1 1 ∷ []) (finish key_p 1)
   pub pod_on_other_node_is_refused : Refuses seats.Agent (unmounted ∷ tells_pod elsewhere_pod ∷ takes node_1 1 ∷ []) (finish key_p 1)
+  pub pod_on_no_node_is_refused : Refuses seats.Agent (unmounts_at [] 1 ∷ tells_pod nowhere_pod ∷ takes [] 1 ∷ []) (requests.FinishPod key_p uid_p [] 1)
   pub staying_pod_is_refused : Refuses seats.Agent (unmounted ∷ tells_pod p ∷ takes node_1 1 ∷ []) (finish key_p 1)
   pub mounts_never_told_is_refused : Refuses seats.Agent told_ending (finish key_p 1)
   pub still_mounted_is_refused : Refuses seats.Agent (mounted node_1 1 (row_of (uid_of_serial 8) ∷ row_of uid_p ∷ []) ∷ told_ending) (finish key_p 1)
   pub mounts_of_other_node_is_refused : Refuses seats.Agent (mounted node_2 1 [] ∷ told_ending) (finish key_p 1)
   pub mounts_of_other_epoch_is_refused : Refuses seats.Agent (mounted node_1 2 [] ∷ told_ending) (finish key_p 1)
+  pub unmounted_on_other_node_is_refused : Refuses seats.Agent (unmounts_at node_2 1 ∷ told_ending) (finish key_p 1)
+  pub unmounted_in_other_epoch_is_refused : Refuses seats.Agent (unmounts_at node_1 2 ∷ told_ending) (finish key_p 1)
+  pub mount_of_other_pod_on_other_node_is_refused : Refuses seats.Agent (mounts_other_at node_2 1 ∷ told_ending) (finish key_p 1)
+  pub mount_of_other_pod_in_other_epoch_is_refused : Refuses seats.Agent (mounts_other_at node_1 2 ∷ told_ending) (finish key_p 1)
   pub mounts_before_taken_is_refused : Refuses seats.Agent (tells_pod ending_p ∷ takes node_1 1 ∷ mounted node_1 1 [] ∷ []) (finish key_p 1)
   pub answer_lost_is_refused : Refuses seats.Agent (unheard unmounted ∷ told_ending) (finish key_p 1)
   pub refusal_is_refused : Refuses seats.Agent (heard (unmount 1) (replies.Refused (refusals.StaleEpoch 2)) ∷ told_ending) (finish key_p 1)

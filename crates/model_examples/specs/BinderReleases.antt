@@ -19,7 +19,7 @@ use Rattle.call_types.specs.declared.request.SeatKind.TheVariants as seats
 use Rattle.call_types.specs.declared.request.Request.{Request}
 use Rattle.call_types.specs.declared.request.Request.TheVariants as requests
 use Rattle.binder_model.specs.BindWrites.{unbound_volume, write_unbound}
-use Rattle.model_examples.specs.Samples.{Allows, Refuses, unheard, lists, tells_volume, tells_claim, tells_both, finds, finds_none, once, amount, a, c, other_c, in_phase, with_reference, with_uid, naming, key_a, key_c, name_c, ref_c, taken_a, bound_a, bound_c, bound_for_other, elsewhere_c, key_b, key_d, nameless_c}
+use Rattle.model_examples.specs.Samples.{Allows, Refuses, unheard, lists, tells_volume, tells_claim, tells_both, finds, finds_none, once, amount, a, c, d, other_c, in_phase, with_reference, with_uid, naming, key_a, key_c, name_c, ref_c, taken_a, bound_a, bound_c, bound_for_other, elsewhere_c, key_b, key_d, nameless_c}
 
 -- Released
 
@@ -53,6 +53,7 @@ pub record ReleasedExamples : Type 0 where
   pub releases_after_reading_none : Allows seats.Binder (finds_none key_c ∷ tells_volume taken_a ∷ []) release
   pub releases_after_reading_other_uid : Allows seats.Binder (finds key_c (Claim other_c) ∷ tells_volume taken_a ∷ []) release
   pub releases_reclaimed_of_claim_elsewhere : Allows seats.Binder (tells_both elsewhere_c reclaimed_a) release
+  pub releases_with_other_calls_since : Allows seats.Binder (tells_claim d ∷ finds_none key_c ∷ tells_volume taken_a ∷ []) release
   pub releases_ended_is_refused : Refuses seats.Binder (finds_none key_c ∷ tells_volume failed_a ∷ []) release
   pub releases_without_uid_is_refused : Refuses seats.Binder (finds_none key_c ∷ tells_volume prebound_a ∷ []) release
   pub releases_without_reference_is_refused : Refuses seats.Binder (finds_none key_c ∷ tells_volume a ∷ []) (release_at key_a (Some 3))

@@ -7,17 +7,19 @@ use Rattle.kube_types.specs.declared.parts.ClaimPhase.TheVariants as claims
 use Rattle.kube_types.specs.declared.parts.Policy.TheVariants as policies
 use Rattle.kube_types.specs.declared.parts.VolumePhase.TheVariants as volumes
 use Rattle.kube_types.specs.declared.objects.Claim.{Claim as ClaimData}
+use Rattle.kube_types.specs.declared.objects.Pod.{Pod as PodData}
 use Rattle.kube_types.specs.declared.objects.Volume.{Volume as VolumeData}
 use Rattle.kube_types.specs.declared.objects.Object.{Object}
 use Rattle.kube_types.specs.declared.objects.Object.TheVariants.{Class, Node, Volume, Claim, Pod}
-use Rattle.kube_types.specs.Bindings.{bound_by_controller, provisioned_by, yes}
+use Rattle.kube_types.specs.Bindings.{bound_by_controller, provisioned_by, no_provisioner, yes}
 use Rattle.call_types.specs.declared.setup.Setup.{Setup}
 use Rattle.binder_model.specs.Devices.{MountAt, no_devices}
-use Rattle.binder_model.specs.Provisioning.{data_name}
+use Rattle.binder_model.specs.Provisioning.{data_name, terms_for}
 use Rattle.binder_model.specs.World.{World, first_world}
 use Rattle.binder_model.specs.Due.{IsDue, IsSettled, IsFirstDue}
 use Rattle.model_laws.specs.Worked.{no_setup}
-use Rattle.model_examples.specs.Samples.{amount, a, c, other_c, in_phase, with_reference, naming, deleting, key_a, key_c, uid_c, name_c, other_ref_c, taken_a, bound_a, released_a, completed_c, bound_c, fast, late, n1, chosen_c, p, waiting_p, ending_p, uid_p, node_1, ended_a, elsewhere_c, failed_a, far_a, here_c, idle_class, leaving_bound_a, nameless_c, selecting_c, uncompleted_c, unguarded_a, unguarded_c}
+use Rattle.model_examples.specs.Samples.{amount, a, c, other_c, in_phase, with_reference, naming, deleting, key_a, key_c, uid_c, name_c, other_ref_c, taken_a, bound_a, released_a, completed_c, bound_c, fast, late, n1, chosen_c, p, waiting_p, ending_p, uid_p, node_1, ended_a, elsewhere_c, failed_a, far_a, here_c, idle_class, leaving_bound_a, nameless_c, selecting_c, uncompleted_c, unguarded_a, unguarded_c, lost_c, d, zone}
+use Rattle.model_examples.specs.DefaultClass.{classless_c, classless_by_annotation, of_class, gold, unmarked}
 
 -- a pool of 10 gibibytes, also one for a zone alone
 abbrev pub pool_setup : Setup
@@ -31,6 +33,10 @@ far_setup = record { pools = record { name = codes "pool"; provisioner = codes "
 
 abbrev pub with_rows : List Object → World
 with_rows rows = record (first_world no_setup) { store = record { rows = rows; version = 20 } }
+
+-- a pool whose provisioner has the name of the one that provisions nothing
+abbrev pub idle_setup : Setup
+idle_setup = record { pools = record { name = codes "pool"; provisioner = no_provisioner; bytes = 10 * 2 ^ 30; topology = None } ∷ []; faults = []; imports = [] }
 
 -- the action is due for the object in the world of these rows
 abbrev pub DueOf : Object → List Object → Option Due → Type 0
@@ -50,6 +56,7 @@ reclaimed_a = let old = bound_a in record old { meta = record old.meta { annotat
 pub record VolumeDueExamples : Type 0 where
   pub available_without_reference : DueOf (Volume pending_a) (Volume pending_a ∷ []) (Some dues.Available)
   pub available_where_prebound : DueOf (Volume prebound_a) (Volume prebound_a ∷ []) (Some dues.Available)
+  pub not_available_twice_where_prebound : DueOf (Volume (in_phase volumes.Available prebound_a)) (Volume (in_phase volumes.Available prebound_a) ∷ []) None
   pub not_available_twice : DueOf (Volume a) (Volume a ∷ []) None
   pub bound_where_claim_names_it : DueOf (Volume taken_a) (Volume taken_a ∷ Claim here_c ∷ []) (Some dues.Bound)
   pub not_bound_before_claim_names_it : DueOf (Volume taken_a) (Volume taken_a ∷ Claim c ∷ []) None
@@ -129,6 +136,30 @@ pub record ClaimDueExamples : Type 0 where
   pub lost_without_name : DueOf (Claim nameless_c) (Claim nameless_c ∷ []) (Some dues.Lost)
   pub lost_where_volume_is_absent : DueOf (Claim bound_c) (Claim bound_c ∷ []) (Some dues.Lost)
   pub lost_where_volume_is_of_other : DueOf (Claim bound_c) (Volume (with_reference (Some other_ref_c) bound_a) ∷ Claim bound_c ∷ []) (Some dues.Lost)
+  pub none_where_reference_lacks_the_uid : DueOf (Claim bound_c) (Volume (with_reference (Some name_c) bound_a) ∷ Claim bound_c ∷ []) None
+  pub not_lost_twice_without_name : DueOf (Claim (naming [] lost_c)) (Claim (naming [] lost_c) ∷ []) None
+  pub not_lost_twice_where_volume_is_absent : DueOf (Claim lost_c) (Claim lost_c ∷ []) None
+  pub not_lost_twice_where_volume_is_of_other : DueOf (Claim lost_c) (Volume (with_reference (Some other_ref_c) bound_a) ∷ Claim lost_c ∷ []) None
+  pub bind_of_lost_where_volume_is_back : DueOf (Claim lost_c) (Volume bound_a ∷ Claim lost_c ∷ []) (Some dues.Bind)
+
+-- the default class, for a claim without one
+
+abbrev pub leaving_classless_c : ClaimData
+leaving_classless_c = record classless_c { meta = deleting c.meta }
+
+pub record ClassDueExamples : Type 0 where
+  pub assign_where_no_volume_matches : DueOf (Claim classless_c) (Class gold ∷ Claim classless_c ∷ []) (Some dues.AssignClass)
+  pub assign_where_only_volumes_of_classes_are_free : DueOf (Claim classless_c) (Class gold ∷ Volume a ∷ Claim classless_c ∷ []) (Some dues.AssignClass)
+  pub bind_where_a_volume_without_class_matches : DueOf (Claim classless_c) (Class gold ∷ Volume (record a { class = [] }) ∷ Claim classless_c ∷ []) (Some dues.Bind)
+  pub guard_comes_first : DueOf (Claim (record bare_c { class = None })) (Class gold ∷ Claim (record bare_c { class = None }) ∷ []) (Some dues.Guard)
+  pub no_assign_without_classes : DueOf (Claim classless_c) (Claim classless_c ∷ []) None
+  pub no_assign_where_none_is_marked : DueOf (Claim classless_c) (Class (unmarked gold) ∷ Claim classless_c ∷ []) None
+  pub no_assign_with_a_class : DueOf (Claim c) (Class gold ∷ Claim c ∷ []) None
+  pub no_assign_with_the_empty_class : DueOf (Claim (of_class [] c)) (Class gold ∷ Claim (of_class [] c) ∷ []) None
+  pub no_assign_with_class_in_annotation : DueOf (Claim classless_by_annotation) (Class gold ∷ Claim classless_by_annotation ∷ []) None
+  pub no_assign_where_a_volume_is_named : DueOf (Claim (naming (codes "a") classless_c)) (Class gold ∷ Claim (naming (codes "a") classless_c) ∷ []) None
+  pub no_assign_of_deleting : DueOf (Claim leaving_classless_c) (Class gold ∷ Claim leaving_classless_c ∷ Pod p ∷ []) None
+  pub no_assign_of_completed : DueOf (Claim (record bound_c { class = None })) (Class gold ∷ Volume bound_a ∷ Claim (record bound_c { class = None }) ∷ []) None
 
 -- provisioning
 
@@ -150,6 +181,7 @@ pub record ProvisionDueExamples : Type 0 where
   pub no_provision_where_pool_is_small : ProvisionOf small_setup c (Class fast ∷ Claim c ∷ []) None
   pub no_provision_without_class : ProvisionOf pool_setup c (Claim c ∷ []) None
   pub no_provision_by_idle_class : ProvisionOf pool_setup c (Class idle_class ∷ Claim c ∷ []) None
+  pub no_provision_by_idle_class_with_a_pool_of_its_name : ProvisionOf idle_setup c (Class idle_class ∷ Claim c ∷ []) None
   pub no_provision_with_selector : ProvisionOf pool_setup selecting_c (Class fast ∷ Claim selecting_c ∷ []) None
   pub no_provision_where_named : ProvisionOf pool_setup here_c (Class fast ∷ Claim here_c ∷ []) None
   pub no_provision_of_deleting : ProvisionOf pool_setup leaving_c (Class fast ∷ Claim leaving_c ∷ Pod p ∷ []) None
@@ -202,12 +234,53 @@ pub record PodDueExamples : Type 0 where
 abbrev pub searched : List Object
 searched = Class late ∷ Node n1 ∷ Claim c ∷ Pod waiting_p ∷ []
 
+-- a pod of two claims, and one whose second claim is larger than the pool
+abbrev pub pod_of_two : PodData
+pod_of_two = record waiting_p { claims = codes "c" ∷ codes "d" ∷ [] }
+
+abbrev pub searched_two : List Object
+searched_two = Class late ∷ Node n1 ∷ Claim c ∷ Claim d ∷ Pod pod_of_two ∷ []
+
+abbrev pub large_d : ClaimData
+large_d = record d { amount = amount 12 }
+
+abbrev pub searched_large : List Object
+searched_large = Class late ∷ Node n1 ∷ Claim c ∷ Claim large_d ∷ Pod pod_of_two ∷ []
+
+-- the first claim is completed, with a volume that does not carry it, near the node or far
+abbrev pub near_a : VolumeData
+near_a = record a { terms = terms_for (Some (codes "zone", codes "z1")) }
+
+abbrev pub far_free_a : VolumeData
+far_free_a = record a { terms = terms_for (Some (codes "zone", codes "z2")) }
+
+abbrev pub beside_completed : VolumeData → List Object
+beside_completed v = Class late ∷ Node n1 ∷ Volume v ∷ Claim bound_c ∷ Claim d ∷ Pod pod_of_two ∷ []
+
+-- the larger claim selects the one volume that the smaller one takes before it
+abbrev pub selected_a : VolumeData
+selected_a = record a { meta = record a.meta { labels = zone }; amount = amount 3 }
+
+abbrev pub unselected_b : VolumeData
+unselected_b = record a { meta = record a.meta { name = codes "b" } }
+
+abbrev pub small_d : ClaimData
+small_d = record d { amount = amount 2 }
+
+abbrev pub smaller_first : List Object
+smaller_first = Class late ∷ Node n1 ∷ Volume selected_a ∷ Volume unselected_b ∷ Claim selecting_c ∷ Claim small_d ∷ Pod pod_of_two ∷ []
+
 abbrev pub PrepareOf : Setup → List Object → Option Due → Type 0
 PrepareOf setup rows action = IsDue setup (with_rows rows) (Pod waiting_p) action
 
 pub record PrepareDueExamples : Type 0 where
   pub prepare_by_provisioning : PrepareOf pool_setup searched (Some dues.Prepare)
   pub prepare_by_volume : PrepareOf no_setup (Class late ∷ Node n1 ∷ Volume a ∷ Claim c ∷ Pod waiting_p ∷ []) (Some dues.Prepare)
+  pub prepare_by_provisioning_two : IsDue pool_setup (with_rows searched_two) (Pod pod_of_two) (Some dues.Prepare)
+  pub no_prepare_where_the_second_is_too_large : IsDue pool_setup (with_rows searched_large) (Pod pod_of_two) None
+  pub prepare_beside_a_completed_claim : IsDue pool_setup (with_rows (beside_completed near_a)) (Pod pod_of_two) (Some dues.Prepare)
+  pub no_prepare_far_from_the_volume_of_a_completed_claim : IsDue pool_setup (with_rows (beside_completed far_free_a)) (Pod pod_of_two) None
+  pub no_prepare_where_the_smaller_claim_takes_the_volume : IsDue no_setup (with_rows smaller_first) (Pod pod_of_two) None
   pub no_prepare_where_pool_is_small : PrepareOf small_setup searched None
   pub no_prepare_without_node : PrepareOf pool_setup (Class late ∷ Claim c ∷ Pod waiting_p ∷ []) None
   pub no_prepare_where_chosen : PrepareOf pool_setup (Class late ∷ Node n1 ∷ Claim chosen_c ∷ Pod waiting_p ∷ []) None

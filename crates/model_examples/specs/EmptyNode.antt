@@ -1,5 +1,6 @@
 -- A history in which a mounted claim leaves: an agent takes the node with the empty name, on which each pod that is not
--- scheduled would stand, and mounts. It is no run, since that pod is on no node. A choice of this project.
+-- scheduled would stand, reads and mounts. It is no run, since that pod is on no node: neither the read of its claim nor
+-- the mount is allowed. A choice of this project.
 use Rattle.std.specs.Prelude.{ℕ, true, List, [], ◌∷◌, Some, None, codes}
 use Rattle.kube_types.specs.declared.parts.Kind.TheVariants as kinds
 use Rattle.kube_types.specs.declared.parts.VolumePhase.TheVariants as volumes
@@ -101,14 +102,16 @@ e17 = entry 8 seats.ClaimProtect (requests.List kinds.Pod (Some (codes "default"
 abbrev pub e18 : Entry
 e18 = entry 8 seats.ClaimProtect (requests.Update (Claim (c_loose 8)) (Some 8)) (replies.Left (Claim (c_loose 9)))
 
-abbrev pub until_read : List Entry
-until_read = e13 ∷ e12 ∷ e11 ∷ e10 ∷ e9 ∷ e8 ∷ e7 ∷ e6 ∷ e5 ∷ e4 ∷ e3 ∷ e2 ∷ e1 ∷ []
+-- up to the list of the pods
+abbrev pub until_list : List Entry
+until_list = e11 ∷ e10 ∷ e9 ∷ e8 ∷ e7 ∷ e6 ∷ e5 ∷ e4 ∷ e3 ∷ e2 ∷ e1 ∷ []
 
 abbrev pub history : List Entry
-history = e18 ∷ e17 ∷ e16 ∷ e15 ∷ e14 ∷ until_read
+history = e18 ∷ e17 ∷ e16 ∷ e15 ∷ e14 ∷ e13 ∷ e12 ∷ until_list
 
 pub record MountsOnNoNode : Type 0 where
-  pub runs_until_then : Run no_setup until_read
+  pub runs_until_then : Run no_setup until_list
+  pub read_is_refused : Licensed seats.Agent (e11 ∷ e10 ∷ []) e12.request → ⊥
   pub mount_is_refused : Licensed seats.Agent (e13 ∷ e12 ∷ e11 ∷ e10 ∷ []) e14.request → ⊥
   pub is_no_run : Run no_setup history → ⊥
   pub is_a_history : IsHistory no_setup history

@@ -7,6 +7,7 @@ use Rattle.kube_types.specs.declared.parts.ClaimPhase.TheVariants as claims
 use Rattle.kube_types.specs.declared.parts.Kind.TheVariants as kinds
 use Rattle.kube_types.specs.declared.parts.VolumePhase.TheVariants as volumes
 use Rattle.kube_types.specs.declared.uid.Uid.{Uid}
+use Rattle.kube_types.specs.declared.objects.Meta.{Meta}
 use Rattle.kube_types.specs.declared.objects.Class.{Class as ClassData}
 use Rattle.kube_types.specs.declared.objects.Claim.{Claim as ClaimData}
 use Rattle.kube_types.specs.declared.objects.Pod.{Pod as PodData}
@@ -50,6 +51,14 @@ too_great = 2 ^ 61 + 1
 abbrev pub foreign_uid : Uid
 foreign_uid = record { 0 = 7 }
 
+-- 11111111-1111-4111-8111-111111111111, as other stores give them at random
+abbrev pub random_uid : Uid
+random_uid = record { 0 = 22685491128062564230891640495451214097 }
+
+-- the first above those that creates give
+abbrev pub above_serials : Uid
+above_serials = uid_of_serial (2 ^ 62)
+
 abbrev pub refers_with : Uid → VolumeData
 refers_with uid = with_reference (Some (record ref_c { uid = Some uid })) a
 
@@ -74,6 +83,10 @@ pub record ImportFaultExamples : Type 0 where
   pub serial_too_great : FaultOf [] (Volume (volume_uid (Some (uid_of_serial too_great)) a)) (Some faults.Serial)
   pub serial_in_reference_too_great : FaultOf [] (Volume (refers_with (uid_of_serial too_great))) (Some faults.Serial)
   pub foreign_uid_passes : FaultOf [] (Volume (volume_uid (Some foreign_uid) a)) None
+  pub random_uid_passes : FaultOf [] (Volume (volume_uid (Some random_uid) a)) None
+  pub random_uid_in_reference_passes : FaultOf [] (Volume (refers_with random_uid)) None
+  pub uid_above_the_serials_passes : FaultOf [] (Volume (volume_uid (Some above_serials) a)) None
+  pub random_uid_again : FaultOf (Volume (volume_uid (Some random_uid) a) ∷ []) (Claim (with_uid (Some random_uid) c)) (Some faults.UidAgain)
   pub bad_name : FaultOf [] (Volume (volume_named (codes "A") a)) (Some (faults.Value fields.Name))
   pub volume_in_namespace : FaultOf [] (Volume (record a { meta = record a.meta { namespace = codes "x" } })) (Some (faults.Value fields.Namespace))
   pub no_bytes : FaultOf [] (Claim (record c { amount = amount 0 })) (Some (faults.Value fields.Request))
@@ -130,6 +143,13 @@ leaving_waiting_p = record waiting_p { meta = deleting waiting_p.meta }
 abbrev pub leaving_p : PodData
 leaving_p = record p { meta = deleting p.meta }
 
+-- the moment at which an object was created in the older store, and the metadata with a moment
+abbrev pub long_ago : List ℕ
+long_ago = codes "1999-12-31T23:59:59Z"
+
+abbrev pub created_at : List ℕ → Meta → Meta
+created_at moment m = record m { created = moment }
+
 -- a watch as the first call
 abbrev pub FirstWatch : List Object → ℕ → Reply → Type 0
 FirstWatch imports from reply = reply_to (effect (setup_of imports) (first_world (setup_of imports)) seats.Binder (requests.Watch kinds.PersistentVolume from)) ≡ reply
@@ -153,5 +173,17 @@ pub record FirstWorldExamples : Type 0 where
   pub begins_with_greatest_serial : base (setup_of (Volume (volume_uid (Some (uid_of_serial 30)) bound_a) ∷ [])) ≡ 30
   pub begins_with_serial_in_reference : base (setup_of (Volume (refers_with (uid_of_serial 40)) ∷ [])) ≡ 40
   pub foreign_uid_has_no_serial : base (setup_of (Volume (volume_uid (Some foreign_uid) bound_a) ∷ [])) ≡ 5
+  pub random_uid_has_no_serial : base (setup_of (Volume (volume_uid (Some random_uid) bound_a) ∷ [])) ≡ 5
+  pub random_uid_in_reference_has_no_serial : base (setup_of (Volume (refers_with random_uid) ∷ [])) ≡ 3
+  pub creation_of_class_stays : RowsAre (Class (record fast { meta = created_at long_ago fast.meta }) ∷ []) (Class (record fast { meta = created_at long_ago fast.meta }) ∷ [])
+  pub creation_of_node_stays : RowsAre (Node (record n1 { meta = created_at long_ago n1.meta }) ∷ []) (Node (record n1 { meta = created_at long_ago n1.meta }) ∷ [])
+  pub creation_of_volume_stays : RowsAre (Volume (record a { meta = created_at long_ago a.meta }) ∷ []) (Volume (record a { meta = created_at long_ago a.meta }) ∷ [])
+  pub creation_of_claim_stays : RowsAre (Claim (record c { meta = created_at long_ago c.meta }) ∷ []) (Claim (record c { meta = created_at long_ago c.meta }) ∷ [])
+  pub creation_of_pod_stays : RowsAre (Pod (record p { meta = created_at long_ago p.meta }) ∷ []) (Pod (record p { meta = created_at long_ago p.meta }) ∷ [])
+  pub class_without_creation : RowsAre (Class (record fast { meta = created_at [] fast.meta }) ∷ []) (Class fast ∷ [])
+  pub node_without_creation : RowsAre (Node (record n1 { meta = created_at [] n1.meta }) ∷ []) (Node n1 ∷ [])
+  pub claim_without_creation : RowsAre (Claim (record c { meta = created_at [] c.meta }) ∷ []) (Claim c ∷ [])
+  pub pod_without_creation : RowsAre (Pod (record p { meta = created_at [] p.meta }) ∷ []) (Pod p ∷ [])
+  pub waiting_pod_stays : RowsAre (Pod waiting_p ∷ []) (Pod waiting_p ∷ [])
   pub watch_from_before_is_gone : FirstWatch (Volume bound_a ∷ []) 4 (replies.Refused (refusals.Gone 5))
   pub watch_from_the_beginning : FirstWatch (Volume bound_a ∷ []) 5 (replies.Events (record { events = []; upto = 5 }))

@@ -57,10 +57,15 @@ other_pod = record p { meta = record p.meta { uid = Some (uid_of_serial 8) } }
 abbrev pub finished_other : List Exchange
 finished_other = reads_volume ∷ reads_claim ∷ tells_pod p ∷ takes node_1 1 ∷ heard (requests.FinishPod (pod_key (codes "default") (codes "q")) (uid_of_serial 8) node_1 1) (replies.Left (Pod other_pod)) ∷ []
 
+-- the claim was read again, and that answer was lost
+abbrev pub read_again_unheard : List Exchange
+read_again_unheard = unheard reads_claim ∷ reads bound_a bound_c p
+
 pub record MountOrderExamples : Type 0 where
   pub mounts : Allows seats.Agent (reads bound_a bound_c p) (mount 1 (uid_c ∷ []))
   pub mounts_pod_told_by_watch : Allows seats.Agent (reads_volume ∷ reads_claim ∷ watches_p ∷ lists kinds.Pod [] 8 ∷ takes node_1 1 ∷ []) (mount 1 (uid_c ∷ []))
   pub mounts_after_finish_of_other_pod : Allows seats.Agent finished_other (mount 1 (uid_c ∷ []))
+  pub mounts_where_a_second_read_was_not_answered : Allows seats.Agent read_again_unheard (mount 1 (uid_c ∷ []))
   pub older_epoch_is_refused : Refuses seats.Agent (reads_volume ∷ reads_claim ∷ tells_pod p ∷ takes node_1 3 ∷ takes node_1 1 ∷ []) (mount 1 (uid_c ∷ []))
   pub pods_never_listed_is_refused : Refuses seats.Agent (reads_volume ∷ reads_claim ∷ watches_p ∷ takes node_1 1 ∷ []) (mount 1 (uid_c ∷ []))
   pub pods_listed_in_a_namespace_is_refused : Refuses seats.Agent (reads_volume ∷ reads_claim ∷ watches_p ∷ lists_in (codes "default") [] 8 ∷ takes node_1 1 ∷ []) (mount 1 (uid_c ∷ []))

@@ -1,6 +1,6 @@
 -- What a seat was told: which answers tell an object, and which telling of a key is the newest.
 -- A choice of this project. The newest exchange stands first.
-use Rattle.std.specs.Prelude.{◌≡◌, List, [], ◌∷◌, Option, Some, None, codes}
+use Rattle.std.specs.Prelude.{ℕ, ◌≡◌, List, [], ◌∷◌, Option, Some, None, codes}
 use Rattle.kube_types.specs.declared.parts.Kind.TheVariants as kinds
 use Rattle.kube_types.specs.declared.objects.Claim.{Claim as ClaimData}
 use Rattle.kube_types.specs.declared.objects.Object.{Object}
@@ -49,6 +49,17 @@ Absent xs = IsNewestAbsent (seat_of seats.Binder xs) key_c
 abbrev pub c_5 : ClaimData
 c_5 = claim_at 5 c
 
+-- another claim, of a later version
+abbrev pub d_9 : ClaimData
+d_9 = claim_at 9 d
+
+-- one answer with a change of two objects
+abbrev pub two_events : Object → ℕ → Object → ℕ → Exchange
+two_events first at second last = heard (requests.Watch kinds.PersistentVolumeClaim 1) (replies.Events (record {
+  events = record { change = changes.Modified; object = first; version = at } ∷ record { change = changes.Modified; object = second; version = last } ∷ [];
+  upto = last;
+}))
+
 pub record NewestExamples : Type 0 where
   pub by_write : Newest (writes ∷ []) (Some (Claim c))
   pub by_list : Newest (lists kinds.PersistentVolumeClaim (Claim d ∷ Claim c ∷ []) 9 ∷ []) (Some (Claim c))
@@ -66,5 +77,12 @@ pub record NewestExamples : Type 0 where
   pub list_of_namespace_tells_absence : Absent (heard (requests.List kinds.PersistentVolumeClaim (Some (codes "default"))) (replies.Listed [] 9) ∷ tells_claim c ∷ [])
   pub list_of_other_namespace_tells_no_absence : Newest (heard (requests.List kinds.PersistentVolumeClaim (Some (codes "x"))) (replies.Listed [] 9) ∷ tells_claim c ∷ []) (Some (Claim c))
   pub not_found_tells_no_absence : Newest (finds_none key_c ∷ tells_claim c ∷ []) (Some (Claim c))
+  pub write_of_other_key_tells_nothing : Newest (heard (requests.Update (Claim d_9) None) (replies.Done (Claim d_9)) ∷ tells_claim c ∷ []) (Some (Claim c))
+  pub leaving_of_other_key_tells_nothing : Newest (heard (requests.Update (Claim d_9) None) (replies.Left (Claim d_9)) ∷ tells_claim c ∷ []) (Some (Claim c))
+  pub event_of_other_key_tells_nothing : Newest (watches kinds.PersistentVolumeClaim changes.Modified (Claim d_9) 9 ∷ tells_claim c ∷ []) (Some (Claim c))
+  pub deletion_of_other_key_tells_nothing : Newest (watches kinds.PersistentVolumeClaim changes.Deleted (Claim d_9) 9 ∷ tells_claim c ∷ []) (Some (Claim c))
+  pub later_of_two_events : Newest (two_events (Claim c) 2 (Claim c_5) 5 ∷ []) (Some (Claim c_5))
+  pub event_behind_one_of_other_key : Newest (two_events (Claim d_9) 9 (Claim c_5) 10 ∷ tells_claim c ∷ []) (Some (Claim c_5))
+  pub pods_of_the_namespace_tell_no_absence : Newest (lists_in (codes "default") [] 9 ∷ tells_claim c ∷ []) (Some (Claim c))
   pub nothing_told_is_no_absence : Absent [] → ⊥
   pub present_is_no_absence : Absent (tells_claim c ∷ []) → ⊥

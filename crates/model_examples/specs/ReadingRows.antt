@@ -14,7 +14,7 @@ use Rattle.call_types.specs.declared.request.Request.TheVariants as requests
 use Rattle.call_types.specs.declared.reply.Refusal.TheVariants as refusals
 use Rattle.call_types.specs.declared.reply.Reply.TheVariants as replies
 use Rattle.binder_model.specs.ObjectKeys.{claim_key, pod_key}
-use Rattle.model_examples.specs.Samples.{Allows, Refuses, Exchange, heard, unheard, lists, lists_in, tells_volume, tells_claim, tells_pod, tells_both, finds, takes, node_1, node_2, a, c, other_c, naming, volume_at, with_reference, deleting, key_a, key_c, taken_a, released_a, completed_c, bound_c, p, ended_a, deleting_a, key_b, key_d, list_volumes, never_bound_a, prebound_a, still_bound_a}
+use Rattle.model_examples.specs.Samples.{Allows, Refuses, Exchange, heard, unheard, lists, lists_in, tells_volume, tells_claim, tells_pod, tells_both, finds, takes, node_1, node_2, a, c, other_c, naming, volume_at, with_reference, deleting, key_a, key_c, taken_a, released_a, completed_c, bound_c, p, waiting_p, ended_a, deleting_a, key_b, key_d, list_volumes, never_bound_a, prebound_a, still_bound_a}
 
 -- the kinds that each controller follows
 
@@ -87,6 +87,10 @@ pub record ListExamples : Type 0 where
 
 -- watches: from the version of the list, or from the one that was reached last
 
+-- a watch of the classes
+abbrev pub watched_classes : ℕ → ℕ → Exchange
+watched_classes from upto = heard (requests.Watch kinds.StorageClass from) (replies.Events (record { events = []; upto = upto }))
+
 abbrev pub watch_from : ℕ → Request
 watch_from from = requests.Watch kinds.PersistentVolume from
 
@@ -99,6 +103,8 @@ pub record WatchExamples : Type 0 where
   pub other_version_is_refused : Refuses seats.Binder (listed 3 ∷ []) (watch_from 4)
   pub version_reached_before_is_refused : Refuses seats.Binder (watched 5 7 ∷ watched 3 5 ∷ listed 3 ∷ []) (watch_from 5)
   pub version_of_older_list_is_refused : Refuses seats.Binder (listed 9 ∷ gone_from kinds.PersistentVolume 3 ∷ listed 3 ∷ []) (watch_from 3)
+  pub version_reached_by_watch_of_other_kind_is_refused : Refuses seats.Binder (watched_classes 3 7 ∷ lists kinds.StorageClass [] 3 ∷ listed 3 ∷ []) (watch_from 7)
+  pub watches_from_list_beside_watch_of_other_kind : Allows seats.Binder (watched_classes 3 7 ∷ watched 3 5 ∷ lists kinds.StorageClass [] 3 ∷ listed 3 ∷ []) (watch_from 5)
   pub version_in_lost_answer_is_refused : Refuses seats.Binder (unheard (watched 3 5) ∷ listed 3 ∷ []) (watch_from 5)
   pub version_after_gone_is_refused : Refuses seats.Binder (gone_from kinds.PersistentVolume 3 ∷ listed 3 ∷ []) (watch_from 3)
   pub kind_not_followed_is_refused : Refuses seats.Binder (lists kinds.Pod [] 3 ∷ []) (requests.Watch kinds.Pod 3)
@@ -144,6 +150,7 @@ pub record AgentGetExamples : Type 0 where
   pub pod_never_told_is_refused : Refuses seats.Agent (takes node_1 1 ∷ []) (requests.Get key_c)
   pub node_never_taken_is_refused : Refuses seats.Agent (tells_pod p ∷ []) (requests.Get key_c)
   pub pod_on_other_node_is_refused : Refuses seats.Agent (tells_pod elsewhere_p ∷ takes node_1 1 ∷ []) (requests.Get key_c)
+  pub claim_of_pod_on_no_node_is_refused : Refuses seats.Agent (tells_pod waiting_p ∷ takes [] 1 ∷ []) (requests.Get key_c)
   pub claim_of_other_name_is_refused : Refuses seats.Agent (tells_pod p ∷ takes node_1 1 ∷ []) (requests.Get key_d)
   pub claim_of_other_namespace_is_refused : Refuses seats.Agent (tells_pod p ∷ takes node_1 1 ∷ []) (requests.Get (claim_key (codes "x") (codes "c")))
   pub other_kind_is_refused : Refuses seats.Agent (tells_pod p ∷ takes node_1 1 ∷ []) (requests.Get (pod_key (codes "default") (codes "c")))

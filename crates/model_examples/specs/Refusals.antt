@@ -23,7 +23,7 @@ use Rattle.binder_model.specs.ObjectKeys.{pod_key}
 use Rattle.binder_model.specs.BindWrites.{write_reference, write_completion, write_available}
 use Rattle.binder_model.specs.Provisioning.{data_name}
 use Rattle.binder_model.specs.Licence.{Licensed, IsRefusedBy, row_rule}
-use Rattle.model_examples.specs.Samples.{Allows, Refuses, Exchange, seat_of, lists, tells_volume, tells_both, a, c, key_a, key_c, uid_c, amount, once, node_1, taken_a, bound_a, n1, p, uid_p, list_volumes}
+use Rattle.model_examples.specs.Samples.{Allows, Refuses, Exchange, seat_of, lists, tells_volume, tells_both, a, c, key_a, key_c, uid_c, amount, once, node_1, taken_a, bound_a, completed_c, n1, p, uid_p, list_volumes}
 
 -- two kinds
 
@@ -94,7 +94,8 @@ HasRule kind request rule = row_rule kind request ≡ rule
 pub record RulesOfRows : Type 0 where
   pub binder_reference : HasRule seats.Binder (requests.Update (Volume taken_a) None) rules.ClaimRef
   pub binder_no_reference : HasRule seats.Binder (requests.Update (Volume a) None) rules.Unbind
-  pub binder_claim : HasRule seats.Binder (requests.Update (Claim c) None) rules.Completion
+  pub binder_completed_claim : HasRule seats.Binder (requests.Update (Claim completed_c) None) rules.Completion
+  pub binder_other_claim : HasRule seats.Binder (requests.Update (Claim c) None) rules.DefaultClass
   pub binder_other_object : HasRule seats.Binder (requests.Update (Pod p) None) rules.Kind
   pub binder_available : HasRule seats.Binder (status_of_volume volumes.Available) rules.Available
   pub binder_bound : HasRule seats.Binder (status_of_volume volumes.Bound) rules.PhaseBound

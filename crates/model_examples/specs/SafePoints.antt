@@ -22,7 +22,7 @@ use Rattle.binder_model.specs.World.{World, first_world}
 use Rattle.binder_model.specs.Safe.{AreBindings, CountedAreBound, CountedAreApart, Counts, KeepsBound, KeepsMounted, ErasesWell, Safe}
 use Rattle.model_laws.specs.Worked.{no_setup}
 use Rattle.model_examples.specs.Imported.{setup_of}
-use Rattle.model_examples.specs.Samples.{Exchange, seat_of, unheard, tells_volume, finds, a, c, d, in_phase, claim_at, key_a, uid_c, taken_a, bound_a, released_a, bound_c, node_1, uid_p, ended_a, failed_a, id_a}
+use Rattle.model_examples.specs.Samples.{Exchange, seat_of, heard, unheard, tells_volume, finds, a, c, d, in_phase, claim_at, deleting, key_a, uid_c, taken_a, bound_a, released_a, bound_c, node_1, uid_p, ended_a, failed_a, id_a, bound_for_other, leaving_bound_a, still_bound_a}
 
 -- a step by a binder that asks no licence. The world does not look at its reply
 abbrev pub step : Request → Entry
@@ -125,3 +125,26 @@ pub record SafeExamples : Type 0 where
   pub nothing_asked : Safe no_setup []
   pub completed_after_bound : Safe (with_claim (Volume bound_a ∷ [])) (completes c ∷ [])
   pub unsafe_before_is_unsafe : Safe (with_claim (Volume taken_a ∷ [])) (sets_phase volumes.Bound ∷ completes c ∷ []) → ⊥
+
+-- the whole promise, by histories in which all but one of its parts hold
+
+-- the write that drops the finalizer of a deleting volume, after which it leaves
+abbrev pub loosens : VolumeData → Entry
+loosens v = step (requests.Update (Volume (record v { meta = record v.meta { finalizers = [] } })) None)
+
+-- ops read the volume and erased its data
+abbrev pub erases_read : VolumeData → List Entry
+erases_read v = seat_of seats.Ops (heard (requests.Erase id_a) (replies.Erased true) ∷ finds key_a (Volume v) ∷ [])
+
+abbrev pub leaving_free_a : VolumeData
+leaving_free_a = record a { meta = deleting a.meta }
+
+pub record WholeExamples : Type 0 where
+  pub volume_of_another_claim_is_unsafe : Safe (with_claim (Volume bound_for_other ∷ [])) (completes c ∷ []) → ⊥
+  pub free_volume_leaves : Safe (setup_of (Volume leaving_free_a ∷ [])) (loosens leaving_free_a ∷ [])
+  pub bound_volume_leaves_is_unsafe : Safe (setup_of (Volume leaving_bound_a ∷ [])) (loosens leaving_bound_a ∷ []) → ⊥
+  pub ended_volume_is_erased : Safe (setup_of (Volume ended_a ∷ [])) (erases_read ended_a)
+  pub bound_volume_is_erased_is_unsafe : Safe (setup_of (Volume still_bound_a ∷ [])) (erases_read still_bound_a) → ⊥
+  pub retained_volume_is_erased_is_unsafe : Safe (setup_of (Volume released_a ∷ [])) (erases_read released_a) → ⊥
+  pub lost_import_excuses_itself : Safe (setup_of (Claim bound_c ∷ [])) []
+  pub lost_import_excuses_another_is_unsafe : Safe (setup_of (Claim bound_c ∷ Claim d ∷ [])) (completes d ∷ []) → ⊥

@@ -7,19 +7,22 @@
 ghost use Rattle.model_examples.specs.AgentRows.{FinishPodExamples, MountsExamples, UnmountExamples};
 ghost use Rattle.model_examples.specs.BinderReleases.{LostExamples, ReleasedExamples, UnbindExamples};
 ghost use Rattle.model_examples.specs.BinderRows.{AvailableExamples, ClaimRefExamples, ClaimStatusExamples, CompletionExamples, PhaseBoundExamples};
-ghost use Rattle.model_examples.specs.DueActions.{ClaimDueExamples, PodDueExamples, PrepareDueExamples, ProvisionDueExamples, ReclaimDueExamples, SettledExamples, VolumeDueExamples};
+ghost use Rattle.model_examples.specs.DefaultClass.{ClassFieldExamples, DefaultClassExamples};
+ghost use Rattle.model_examples.specs.DueActions.{ClaimDueExamples, ClassDueExamples, PodDueExamples, PrepareDueExamples, ProvisionDueExamples, ReclaimDueExamples, SettledExamples, VolumeDueExamples};
+ghost use Rattle.model_examples.specs.Eligible.{BestExamples, EligibleExamples, PreferenceExamples};
 ghost use Rattle.model_examples.specs.EmptyNode.{MountsOnNoNode};
 ghost use Rattle.model_examples.specs.GuardRuns.{GuardOfReleased};
 ghost use Rattle.model_examples.specs.Imported.{FirstWorldExamples, ImportFaultExamples};
 ghost use Rattle.model_examples.specs.NamespacedVolume.{NamespacedVolumeIsRefused};
 ghost use Rattle.model_examples.specs.Mounting.{MountExamples, MountOrderExamples};
 ghost use Rattle.model_examples.specs.NewestTold.{NewestExamples, ToldExamples};
+ghost use Rattle.model_examples.specs.NextWrites.{NextWriteExamples};
 ghost use Rattle.model_examples.specs.OpsRows.{CreateVolumeExamples, ProvisionExamples};
 ghost use Rattle.model_examples.specs.ProtectionRows.{AddClaimGuardExamples, AddVolumeGuardExamples, DropClaimGuardExamples, DropVolumeGuardExamples};
 ghost use Rattle.model_examples.specs.ReadingRows.{AgentGetExamples, BinderGetExamples, FollowsExamples, ListExamples, OpsGetExamples, OtherGetExamples, WatchExamples};
 ghost use Rattle.model_examples.specs.Reclaiming.{ClearNodeExamples, DeleteVolumeExamples, EraseExamples, FailedExamples};
 ghost use Rattle.model_examples.specs.Refusals.{NoRowExamples, RefusingRuleExamples, RulesOfRows, TwoKindsExamples};
-ghost use Rattle.model_examples.specs.SafePoints.{BindingExamples, ErasedExamples, LeavingExamples, SafeExamples};
+ghost use Rattle.model_examples.specs.SafePoints.{BindingExamples, ErasedExamples, LeavingExamples, SafeExamples, WholeExamples};
 ghost use Rattle.model_examples.specs.SchedulerRows.{BindPodExamples, SchedulerClaimRefExamples, SelectNodeExamples};
 
 /// The first write of a binding.
@@ -244,7 +247,7 @@ pub fn refusing_rule_examples()
     ensures { RefusingRuleExamples }
 {}
 
-/// An agent of the node without a name mounts no pod that is not scheduled.
+/// An agent of the node without a name reads no claim of a pod that is not scheduled, and mounts none.
 #[tactic(auto, using(crate::proofs::EmptyNode::mounts_on_no_node))]
 pub fn mounts_on_no_node()
     ensures { MountsOnNoNode }
@@ -278,6 +281,12 @@ pub fn reclaim_due_examples()
 #[tactic(auto, using(crate::proofs::DueActions::claim_due_examples))]
 pub fn claim_due_examples()
     ensures { ClaimDueExamples }
+{}
+
+/// When a claim without a class is to get the default one.
+#[tactic(auto, using(crate::proofs::DueActions::class_due_examples))]
+pub fn class_due_examples()
+    ensures { ClassDueExamples }
 {}
 
 /// When data are due for a claim.
@@ -350,4 +359,46 @@ pub fn told_examples()
 #[tactic(auto, using(crate::proofs::NewestTold::newest_examples))]
 pub fn newest_examples()
     ensures { NewestExamples }
+{}
+
+/// The whole promise, by histories in which all but one of its parts hold.
+#[tactic(auto, using(crate::proofs::SafePoints::whole_examples))]
+pub fn whole_examples()
+    ensures { WholeExamples }
+{}
+
+/// Which volumes may be bound to a claim.
+#[tactic(auto, using(crate::proofs::Eligible::eligible_examples))]
+pub fn eligible_examples()
+    ensures { EligibleExamples }
+{}
+
+/// Which of two volumes a claim prefers.
+#[tactic(auto, using(crate::proofs::Eligible::preference_examples))]
+pub fn preference_examples()
+    ensures { PreferenceExamples }
+{}
+
+/// Which volume is the best.
+#[tactic(auto, using(crate::proofs::Eligible::best_examples))]
+pub fn best_examples()
+    ensures { BestExamples }
+{}
+
+/// The binder gives a claim without a class the default one.
+#[tactic(auto, using(crate::proofs::DefaultClass::default_class_examples))]
+pub fn default_class_examples()
+    ensures { DefaultClassExamples }
+{}
+
+/// What the store admits of a claim's class.
+#[tactic(auto, using(crate::proofs::DefaultClass::class_field_examples))]
+pub fn class_field_examples()
+    ensures { ClassFieldExamples }
+{}
+
+/// The next of the four writes of a binding.
+#[tactic(auto, using(crate::proofs::NextWrites::next_write_examples))]
+pub fn next_write_examples()
+    ensures { NextWriteExamples }
 {}

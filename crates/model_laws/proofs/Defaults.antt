@@ -1,24 +1,26 @@
 -- The scan over the classes finds the default one.
 use Rattle.std.proofs.Common.{sym, refl, subst, inl, inr, ap, ◌∙◌, true≢false}
-use Rattle.std.specs.Prelude.{◌≡◌, ◌≢◌, Bool, true, false, List, [], ◌∷◌, Option, Some, None}
-use Rattle.std.specs.Cmp.{IsTotalOrder}
+use Rattle.std.specs.Prelude.{◌≢◌, ◌≡◌, Bool, true, false, List, [], ◌∷◌, Option, Some, None}
 use Rattle.std.specs.declared.cmp.Ordering.{Ordering}
 use Rattle.std.specs.declared.cmp.Ordering.TheVariants.{Less, Equal, Greater}
 use Rattle.std.specs.Ordering.{is_lt, is_gt, ordering_then, ordering_reverse}
-use Rattle.std.proofs.lemmas.Cmp.{upto, tied_itself, nat_list_cmp_total, on_total, then_total, back_total}
+use Rattle.std.proofs.lemmas.Option.{same_Some}
+use Rattle.std.proofs.lemmas.Cmp.{upto, tied_itself, nat_list_cmp_total}
 use Rattle.plain_data.specs.Pairs.{text_cmp}
 use Rattle.plain_data.specs.Rows.{IsAfter}
 use Rattle.kube_types.specs.declared.objects.Class.{Class as ClassData}
 use Rattle.kube_types.specs.declared.objects.Object.{Object}
 use Rattle.kube_types.specs.declared.objects.Object.TheVariants.{Class, Node, Volume, Claim, Pod}
-use Rattle.kube_types.specs.Keys.{AreRows, key_cmp, key_of}
-use Rattle.kube_types.proofs.KeyOrder.{key_cmp_total}
-use Rattle.binder_model.specs.Store.{text_lt, is_default, newer_class, default_class, class_cmp, IsDefault}
+use Rattle.kube_types.specs.Keys.{AreRows, key_cmp, key_of, row_at}
+use Rattle.kube_types.specs.declared.key.Key.{Key}
+use Rattle.kube_types.proofs.KeyOrder.{equal_keys}
+use Rattle.kube_types.specs.Defaults.{IsDefault, StandsIn, class_cmp, is_default}
+use Rattle.kube_types.proofs.DefaultScan.{class_cmp_total}
+use Rattle.kube_types.proofs.Scans.{not_greater}
+use Rattle.binder_model.specs.Store.{text_lt, newer_class, default_class}
+use Rattle.model_laws.specs.Defaults.{DefaultIsOne}
 use Rattle.model_laws.proofs.Lists.{IsIn}
 use Rattle.model_laws.proofs.Readings.{after_member, member_stands, found_stands}
-
-pub class_cmp_total : IsTotalOrder class_cmp
-class_cmp_total = then_total (on_total (λ (x : ClassData). x.meta.created) (back_total nat_list_cmp_total)) (on_total (λ (x : ClassData). key_of (Class x)) key_cmp_total)
 
 -- of the classes of these rows, what the scan found
 abbrev Picks : List Object → Option ClassData → Type 0
@@ -102,20 +104,35 @@ picked (Volume x ∷ os) rows = passed (Volume x) os (default_class os) (no_clas
 picked (Claim x ∷ os) rows = passed (Claim x) os (default_class os) (no_class (Claim x) refl) (picked os rows.1)
 picked (Pod x ∷ os) rows = passed (Pod x) os (default_class os) (no_class (Pod x) refl) (picked os rows.1)
 
-not_greater : (r : Ordering) → is_gt r ≡ false → r ≢ Greater
-not_greater r e g = true≢false (sym (ap is_gt g) ∙ e)
-
 not_true : (b : Bool) → (b ≡ true → ⊥) → b ≡ false
 not_true true h = absurd (h refl)
 not_true false h = refl
 
-is_picked : (rows : List Object) → AreRows rows → (found : Option ClassData) → Picks rows found → IsDefault rows found
-is_picked rows order None p = λ key y is. not_true (is_default y) (p y (found_stands key (Class y) rows is))
+is_picked : (rows : List Object) → AreRows rows → (found : Option ClassData) → Picks rows found → IsDefault (StandsIn rows) found
+is_picked rows order None p = λ y stands. not_true (is_default y) (p y (found_stands (key_of (Class y)) (Class y) rows stands))
 is_picked rows order (Some x) p = record {
   there = member_stands (Class x) rows order p.0;
   marked = p.1;
-  first = λ key y is m. not_greater _ (p.2 y (found_stands key (Class y) rows is) m);
+  first = λ y stands m. not_greater _ (p.2 y (found_stands (key_of (Class y)) (Class y) rows stands) m);
 }
 
-pub default_is_found : (rows : List Object) → AreRows rows → IsDefault rows (default_class rows)
+pub default_is_found : (rows : List Object) → AreRows rows → IsDefault (StandsIn rows) (default_class rows)
 default_is_found rows order = is_picked rows order (default_class rows) (picked rows order)
+
+-- two default classes of the same rows are one class
+
+neither_first : (r : Ordering) → r ≢ Greater → ordering_reverse r ≢ Greater → r ≡ Equal
+neither_first Less h k = absurd (k refl)
+neither_first Equal h k = refl
+neither_first Greater h k = absurd (h refl)
+
+both_tied : (r s : Ordering) → ordering_then r s ≡ Equal → s ≡ Equal
+both_tied Less s e = cc
+both_tied Equal s e = e
+both_tied Greater s e = cc
+
+pub default_is_one : DefaultIsOne
+default_is_one rows x y a b =
+    let tied : class_cmp x y ≡ Equal = neither_first (class_cmp x y) (a.first y b.there b.marked) (subst (λ r. r ≢ Greater) (class_cmp_total.antisymm y x) (b.first x a.there a.marked)) in
+    let keys : key_of (Class x) ≡ key_of (Class y) = equal_keys _ _ (both_tied (text_cmp y.meta.created x.meta.created) (key_cmp (key_of (Class x)) (key_of (Class y))) tied) in
+    class_is (Class x) x refl y (same_Some (Class x) (Class y) (sym a.there ∙ ap (λ (k : Key). row_at k rows) keys ∙ b.there))

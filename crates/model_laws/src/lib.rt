@@ -7,7 +7,7 @@
 #![tactic(auto)]
 
 ghost use Rattle.model_laws.specs.Calls.{DoneStands, DoneWritesOrDeletesAgain, LeftIsGone, OnlyTheBackEndCounts, WritesLeaveOthers};
-ghost use Rattle.model_laws.specs.Defaults.{DefaultIsFound};
+ghost use Rattle.model_laws.specs.Defaults.{DefaultIsFound, DefaultIsOne};
 ghost use Rattle.model_laws.specs.Histories.{CallsKeepIdentity, RowsStandInOrder, UidsAreGivenOnce};
 ghost use Rattle.model_laws.specs.NoImports.{NoImportsSayAsBefore};
 ghost use Rattle.model_laws.specs.Reads.{DataIdsAreGivenOnce, EpochsRise, GetsTellWhatStands, ListsAreInOrder, ListsTellWhatStands, WatchesGoOn, WatchesTellWhatCameAfter};
@@ -198,6 +198,12 @@ pub fn watches_go_on()
 #[tactic(auto, using(crate::proofs::Defaults::default_is_found))]
 pub fn default_is_found()
     ensures { DefaultIsFound }
+{}
+
+/// Two default classes of the same rows are one class.
+#[tactic(auto, using(crate::proofs::Defaults::default_is_one))]
+pub fn default_is_one()
+    ensures { DefaultIsOne }
 {}
 
 /// Where a setup has no imports, the definitions say what they say without them.

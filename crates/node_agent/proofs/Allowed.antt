@@ -11,7 +11,8 @@ use Rattle.call_types.specs.declared.request.Request.{Request}
 use Rattle.call_types.specs.declared.request.Request.TheVariants as requests
 use Rattle.call_types.specs.declared.request.SeatKind.TheVariants.{Agent}
 use Rattle.binder_model.specs.AgentLicence.{AreReadReady, MayFinish, last_epoch}
-use Rattle.binder_model.specs.Licence.{AgentMay, AreOfKind, Licensed}
+use Rattle.call_types.specs.declared.request.SeatKind.TheVariants as seats
+use Rattle.binder_model.specs.Licence.{AreOfKind, Licensed, RowAllows}
 use Rattle.binder_model.specs.ObjectKeys.{claim_key, pod_key, volume_key}
 use Rattle.binder_model.specs.Reading.{NamesClaim}
 use Rattle.binder_model.specs.Told.{IsNewest, IsPodWith, ToldPod}
@@ -27,8 +28,8 @@ use Rattle.node_agent.specs.Agents.{agent_call, call_at, finish_call, mount_call
 use Rattle.node_agent.specs.BeginLaw.{CallsReadNoKind, ReadsNoKind}
 use Rattle.node_agent.specs.Evidence.{AgentKeeps, AreFoundReady, MayFinishPod, MayMountPod, MayReadClaim, StepKeeps, at_rest}
 
-answered : (mine : List Entry) (a b : Request) → Some a ≡ Some b → AgentMay mine a → AgentMay mine b
-answered mine a b e may = subst (λ r. AgentMay mine r) (one a b e) may
+answered : (mine : List Entry) (a b : Request) → Some a ≡ Some b → RowAllows seats.Agent mine a → RowAllows seats.Agent mine b
+answered mine a b e may = subst (λ r. RowAllows seats.Agent mine r) (one a b e) may
 
 -- what was told newest was told
 pub newest_pod : (P : PodData → Type 0) (mine : List Entry) (key : Key) (p : PodData) → IsNewest mine key (Pod p) → P p → ToldPod P mine
@@ -44,11 +45,11 @@ named_at (n ∷ names) (suc i) name e = or_true (bytes_eq n name) (has_name name
     or_true true b h = refl
     or_true false b h = h
 
-reads_claim : (op : AgentOp) (name : List ℕ) (mine : List Entry) → MayReadClaim op name mine → AgentMay mine (requests.Get (claim_key op.pod.meta.namespace name))
+reads_claim : (op : AgentOp) (name : List ℕ) (mine : List Entry) → MayReadClaim op name mine → RowAllows seats.Agent mine (requests.Get (claim_key op.pod.meta.namespace name))
 reads_claim op name mine kept =
     let m = kept.pod in
     let taken : is_some (last_epoch op.pod.node mine) ≡ true = ap (λ (n : List ℕ). is_some (last_epoch n mine)) m.on_node.placed ∙ ap is_some m.current in
-    let names : NamesClaim mine (claim_key op.pod.meta.namespace name) op.pod = record { taken = taken; placed = refl; kind = refl; named = named_at op.pod.claims (length op.ready) name kept.next.place } in
+    let names : NamesClaim mine (claim_key op.pod.meta.namespace name) op.pod = record { taken = taken; scheduled = m.on_node.scheduled; placed = refl; kind = refl; named = named_at op.pod.claims (length op.ready) name kept.next.place } in
     inl (newest_pod (NamesClaim mine (claim_key op.pod.meta.namespace name)) mine (pod_key op.pod.meta.namespace op.pod.meta.name) op.pod m.newest names)
 
 -- each claim was counted
@@ -58,7 +59,7 @@ whole recent namespace [] (n ∷ names) all e = none_some (sym e)
 whole recent namespace (r ∷ ready) [] all e = absurd all
 whole recent namespace (r ∷ ready) (n ∷ names) all e = (all.0.read, whole recent namespace ready names all.1 e)
 
-mounts : (op : AgentOp) (mine : List Entry) → MayMountPod op mine → AgentMay mine (mount_call op)
+mounts : (op : AgentOp) (mine : List Entry) → MayMountPod op mine → RowAllows seats.Agent mine (mount_call op)
 mounts op mine kept =
     let m = kept.pod in
     mount_joined mine op.node op.epoch op.uid (uids_of op.ready)
@@ -83,7 +84,7 @@ mounts op mine kept =
 finishes : (op : AgentOp) (mine : List Entry) → MayFinishPod op mine → MayFinish mine (pod_key op.pod.meta.namespace op.pod.meta.name) op.uid op.node op.epoch
 finishes op mine kept = record { current = kept.ending.current; kind = refl; told = kept.ending.told; unmounted = kept.unmounted }
 
-row_allows : (step : AgentStep) (op : AgentOp) (mine : List Entry) (request : Request) → StepKeeps step (at_rest op) mine → call_at op step ≡ Some request → AgentMay mine request
+row_allows : (step : AgentStep) (op : AgentOp) (mine : List Entry) (request : Request) → StepKeeps step (at_rest op) mine → call_at op step ≡ Some request → RowAllows seats.Agent mine request
 row_allows (steps.ReadsClaim name) op mine request kept e = answered mine (requests.Get (claim_key op.pod.meta.namespace name)) request e (reads_claim (at_rest op) name mine kept)
 row_allows (steps.ReadsVolume name c) op mine request kept e = answered mine (requests.Get (volume_key c.volume_name)) request e (inr kept.naming)
 row_allows steps.MountsPod op mine request kept e = answered mine (mount_call op) request e (mounts (at_rest op) mine kept)

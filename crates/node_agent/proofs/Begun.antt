@@ -80,7 +80,7 @@ module _ (node : List ℕ) (epoch : ℕ) (p : PodData) (uid : Uid) (mine : List 
       }
 
   ending : is_deleting p.meta ≡ true → IsEndingPod uid node p
-  ending deleting = record { same = on_node.same; placed = on_node.placed; deleting = deleting }
+  ending deleting = record { same = on_node.same; placed = on_node.placed; scheduled = on_node.scheduled; deleting = deleting }
 
   at_keeps : (mounted : Bool) (op : AgentOp) → agent_at node epoch p uid mounted ≡ Some op → AgentKeeps op mine
   at_keeps mounted op = by (is_deleting p.meta) mounted refl

@@ -114,7 +114,7 @@ pub(crate) fn after_claim(
         Reply::Found(Object::Claim(claim)) => {
             if is_ready(claim) && !is_volume_read(&claim.volume_name, ready) {
                 let name = name.copy(alloc)?;
-                return Ok(AgentStep::ReadsVolume(name, claim.copy(alloc)?));
+                return Ok(AgentStep::ReadsVolume(name, claim.get().copy(alloc)?));
             }
             Ok(AgentStep::Parked)
         }

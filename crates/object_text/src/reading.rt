@@ -14,6 +14,7 @@ use json_text::floats::holds_float;
 use json_text::tree::{NoTree, Tree};
 use kube_types::objects::Object;
 use kube_types::parts::Kind;
+use kube_types::shared::Shared;
 use serde_json::Value;
 use std::alloc::Global;
 
@@ -66,11 +67,14 @@ fn object_of_kind(alloc: Global, kind: Kind, value: &Value) -> Result<Object, Ob
     ensures { Gives result (object_of_kind kind (view value.now)) }
 {
     match kind {
-        Kind::StorageClass => Ok(Object::Class(class_of(alloc, value)?)),
-        Kind::Node => Ok(Object::Node(node_of(alloc, value)?)),
-        Kind::PersistentVolume => Ok(Object::Volume(volume_of(alloc, value)?)),
-        Kind::PersistentVolumeClaim => Ok(Object::Claim(claim_of(alloc, value)?)),
-        Kind::Pod => Ok(Object::Pod(pod_of(alloc, value)?)),
+        Kind::StorageClass => Ok(Object::Class(Shared::new(alloc, class_of(alloc, value)?)?)),
+        Kind::Node => Ok(Object::Node(Shared::new(alloc, node_of(alloc, value)?)?)),
+        Kind::PersistentVolume => Ok(Object::Volume(Shared::new(alloc, volume_of(alloc, value)?)?)),
+        Kind::PersistentVolumeClaim => Ok(Object::Claim(Shared::new(
+            alloc,
+            claim_of(alloc, value)?,
+        )?)),
+        Kind::Pod => Ok(Object::Pod(Shared::new(alloc, pod_of(alloc, value)?)?)),
     }
 }
 

@@ -31,7 +31,7 @@ use Rattle.model_laws.specs.Reads.{found}
 use Rattle.model_laws.proofs.Histories.{rows_stand_in_order}
 use Rattle.model_laws.proofs.Lists.{some_is}
 use Rattle.model_laws.proofs.Readings.{gets_tell_what_stands, lists_tell_what_stands}
-use Rattle.world_moves.proofs.DeviceMoves.{devices_mute}
+use Rattle.safety_invariant.proofs.DeviceMoves.{devices_mute}
 use Rattle.pod_law.specs.Tellings.{AgentsAreToldByReads, TellsByRead, is_pod, is_watch_of_pods}
 
 -- an answer that tells no object

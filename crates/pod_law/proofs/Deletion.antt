@@ -17,11 +17,11 @@ use Rattle.model_laws.proofs.Histories.{rows_stand_in_order}
 use Rattle.model_laws.proofs.Imported.{pass_base}
 use Rattle.model_laws.proofs.Lists.{one}
 use Rattle.model_laws.proofs.Stood.{few_writes, one_uid_one_key, stood, stood_uid, version_stood}
-use Rattle.world_moves.specs.Moves.{IsWritten, Moves}
-use Rattle.world_moves.specs.Whence.{Whence}
-use Rattle.world_moves.specs.Writes.{Writes}
-use Rattle.world_moves.proofs.Moves.{moves}
-use Rattle.world_moves.proofs.Whence.{whence}
+use Rattle.safety_invariant.specs.Moves.{IsWritten, Moves}
+use Rattle.safety_invariant.specs.Whence.{Whence}
+use Rattle.safety_invariant.specs.Writes.{Writes}
+use Rattle.safety_invariant.proofs.Moves.{moves}
+use Rattle.safety_invariant.proofs.Whence.{whence}
 use Rattle.pod_law.specs.Deletion.{DeletionsStay}
 
 shorter : (e : Entry) (past : List Entry) → length (e ∷ past) < most_entries → length past < most_entries

@@ -24,7 +24,7 @@ use Rattle.binder_model.specs.Watching.{told_events}
 use Rattle.binder_model.specs.World.{Effect, IsHistory, OnDevices, OnStore, SetsMoment, effect, reply_to, world}
 use Rattle.model_laws.proofs.Lists.{IsIn, none_some, one, some_or}
 use Rattle.model_laws.proofs.Said.{EffectSays, IsOfDevices, Sayings, effect_said}
-use Rattle.mount_law.proofs.Since.{logged_at, watched_event}
+use Rattle.safety_mounts.proofs.Since.{logged_at, watched_event}
 use Rattle.pod_law.specs.Tellings.{is_pod, tells_pod}
 
 -- an entry that tells such a pod tells a pod

@@ -6,7 +6,8 @@ use Rattle.call_types.specs.declared.entry.Entry.{Entry}
 use Rattle.call_types.specs.declared.request.Request.{Request}
 use Rattle.call_types.specs.declared.request.Request.TheVariants as requests
 use Rattle.call_types.specs.declared.request.SeatKind.TheVariants.{Scheduler}
-use Rattle.binder_model.specs.Licence.{AreOfKind, Licensed, SchedulerMay}
+use Rattle.call_types.specs.declared.request.SeatKind.TheVariants as seats
+use Rattle.binder_model.specs.Licence.{AreOfKind, Licensed, RowAllows}
 use Rattle.model_laws.proofs.Lists.{none_some, one}
 use Rattle.pod_scheduler.specs.declared.schedule.ScheduleOp.{ScheduleOp}
 use Rattle.pod_scheduler.specs.declared.schedule.ScheduleStep.{ScheduleStep}
@@ -31,7 +32,7 @@ write_of_is (Some r) request e = by (is_write r) refl e
 
 -- what is allowed
 
-pub update_may : (mine : List Entry) (w : Request) → MayUpdate mine w → SchedulerMay mine w
+pub update_may : (mine : List Entry) (w : Request) → MayUpdate mine w → RowAllows seats.Scheduler mine w
 update_may mine (requests.Update new given) may = may
 update_may mine _ may = absurd may
 
@@ -39,13 +40,13 @@ pub each_may : (mine : List Entry) (writes : List Request) → AllByRecursion (M
 each_may mine [] may = tt
 each_may mine (w ∷ writes) may = (update_may mine w may.0, may.1)
 
-may_at : (mine : List Entry) (writes : List Request) (place : ℕ) (w : Request) → MayWrite mine (drop place writes) → slice_get writes place ≡ Some w → SchedulerMay mine w
+may_at : (mine : List Entry) (writes : List Request) (place : ℕ) (w : Request) → MayWrite mine (drop place writes) → slice_get writes place ≡ Some w → RowAllows seats.Scheduler mine w
 may_at mine [] zero w may at = none_some at
 may_at mine [] (suc place) w may at = none_some at
-may_at mine (v ∷ writes) zero w may at = subst (SchedulerMay mine) (one v w at) may.0
+may_at mine (v ∷ writes) zero w may at = subst (RowAllows seats.Scheduler mine) (one v w at) may.0
 may_at mine (v ∷ writes) (suc place) w may at = may_at mine writes place w may at
 
-step_may : (step : ScheduleStep) (writes : List Request) (mine : List Entry) (request : Request) → StepKeeps step writes mine → call_at writes step ≡ Some request → SchedulerMay mine request
+step_may : (step : ScheduleStep) (writes : List Request) (mine : List Entry) (request : Request) → StepKeeps step writes mine → call_at writes step ≡ Some request → RowAllows seats.Scheduler mine request
 step_may (steps.Writes place) writes mine request kept call = may_at mine writes place request kept (write_of_is (slice_get writes place) request call).is
 step_may steps.Done writes mine request kept call = none_some call
 step_may steps.Parked writes mine request kept call = none_some call

@@ -16,7 +16,8 @@ use Rattle.call_types.specs.declared.request.Request.{Request}
 use Rattle.call_types.specs.declared.request.Request.TheVariants as requests
 use Rattle.call_types.specs.declared.request.SeatKind.TheVariants.{Scheduler}
 use Rattle.binder_model.specs.Choice.{claim_named, claims_of}
-use Rattle.binder_model.specs.Licence.{AreOfKind, SchedulerMay}
+use Rattle.call_types.specs.declared.request.SeatKind.TheVariants as seats
+use Rattle.binder_model.specs.Licence.{AreOfKind, RowAllows}
 use Rattle.informer_cache.specs.All.{all_objects}
 use Rattle.model_laws.proofs.Lists.{none_some, one}
 use Rattle.delayed_binding.specs.declared.choice.Choice.{Choice}
@@ -114,7 +115,7 @@ all_known rows p e = known_names rows p.meta.namespace p.claims e
 
 -- the evidence
 
-update_of : (mine : List Entry) (w : Request) → is_update w ≡ true → SchedulerMay mine w → MayUpdate mine w
+update_of : (mine : List Entry) (w : Request) → is_update w ≡ true → RowAllows seats.Scheduler mine w → MayUpdate mine w
 update_of mine (requests.Update new given) h may = may
 update_of mine _ h may = absurd (true≢false (sym h))
 

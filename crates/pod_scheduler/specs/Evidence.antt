@@ -6,19 +6,20 @@ use Rattle.std.specs.List.{AllByRecursion}
 use Rattle.call_types.specs.declared.entry.Entry.{Entry}
 use Rattle.call_types.specs.declared.request.Request.{Request}
 use Rattle.call_types.specs.declared.request.Request.TheVariants.{Update}
-use Rattle.binder_model.specs.Licence.{SchedulerMay}
+use Rattle.call_types.specs.declared.request.SeatKind.TheVariants as seats
+use Rattle.binder_model.specs.Licence.{RowAllows}
 use Rattle.pod_scheduler.specs.declared.schedule.ScheduleOp.{ScheduleOp}
 use Rattle.pod_scheduler.specs.declared.schedule.ScheduleStep.{ScheduleStep}
 use Rattle.pod_scheduler.specs.declared.schedule.ScheduleStep.TheVariants as steps
 
 -- the write of a volume or of a claim, at a told object
 abbrev pub MayUpdate : List Entry → Request → Type 0
-MayUpdate mine (Update new given) = SchedulerMay mine (Update new given)
+MayUpdate mine (Update new given) = RowAllows seats.Scheduler mine (Update new given)
 MayUpdate mine request = ⊥
 
 abbrev pub MayWrite : List Entry → List Request → Type 0
 MayWrite mine [] = ⊤
-MayWrite mine (w ∷ writes) = SchedulerMay mine w × AllByRecursion (MayUpdate mine) writes
+MayWrite mine (w ∷ writes) = RowAllows seats.Scheduler mine w × AllByRecursion (MayUpdate mine) writes
 
 abbrev pub StepKeeps : ScheduleStep → List Request → List Entry → Type 0
 StepKeeps (steps.Writes place) writes mine = MayWrite mine (drop place writes)

@@ -17,7 +17,8 @@ use Rattle.call_types.specs.declared.request.SeatKind.TheVariants.{ClaimProtect,
 use Rattle.binder_model.specs.At.{IsWrittenAt}
 use Rattle.binder_model.specs.Edits.{without_name}
 use Rattle.binder_model.specs.GuardLicence.{MayUnguardClaim, MayUnguardVolume}
-use Rattle.binder_model.specs.Licence.{AreOfKind, ClaimGuard, ClaimProtectMay, GuardsClaim, GuardsVolume, Licensed, VolumeGuard, VolumeProtectMay}
+use Rattle.call_types.specs.declared.request.SeatKind.TheVariants as seats
+use Rattle.binder_model.specs.Licence.{AreOfKind, GuardsClaim, GuardsVolume, Licensed, RowAllows, ClaimMay, VolumeMay, claim_guard, volume_guard}
 use Rattle.binder_model.specs.Reading.{IsDeletingIn}
 use Rattle.binder_model.specs.Told.{ToldClaim, ToldVolume}
 use Rattle.model_laws.proofs.Evidence.{told_claim, told_volume}
@@ -55,36 +56,36 @@ without_it name (n ∷ names) = by (bytes_eq n name) refl (without_it name names
 
 -- a claim
 
-claim_answered : (mine : List Entry) (a b : Request) → Some a ≡ Some b → ClaimProtectMay mine a → ClaimProtectMay mine b
-claim_answered mine a b e may = subst (λ r. ClaimProtectMay mine r) (one a b e) may
+claim_answered : (mine : List Entry) (a b : Request) → Some a ≡ Some b → RowAllows seats.ClaimProtect mine a → RowAllows seats.ClaimProtect mine b
+claim_answered mine a b e may = subst (λ r. RowAllows seats.ClaimProtect mine r) (one a b e) may
 
-claim_guard : (mine : List Entry) (new o : ClaimData) (has : Bool) → is_protected_claim new ≡ has → ClaimGuard has mine new o → ClaimGuard (is_protected_claim new) mine new o
-claim_guard mine new o has is row = subst (λ (b : Bool). ClaimGuard b mine new o) (sym is) row
+claim_guarded : (mine : List Entry) (new o : ClaimData) (has : Bool) → is_protected_claim new ≡ has → ClaimMay (claim_guard has) mine new o → ClaimMay (claim_guard (is_protected_claim new)) mine new o
+claim_guarded mine new o has is row = subst (λ (b : Bool). ClaimMay (claim_guard b) mine new o) (sym is) row
 
 -- a claim is written over the one that was told
-claim_written : (c new : ClaimData) (mine : List Entry) → ToldClaim (λ o. o ≡ c) mine → new.meta.namespace ≡ c.meta.namespace → new.meta.name ≡ c.meta.name → ClaimGuard (is_protected_claim new) mine new c → ClaimProtectMay mine (on_claims.write_over c new)
+claim_written : (c new : ClaimData) (mine : List Entry) → ToldClaim (λ o. o ≡ c) mine → new.meta.namespace ≡ c.meta.namespace → new.meta.name ≡ c.meta.name → ClaimMay (claim_guard (is_protected_claim new)) mine new c → RowAllows seats.ClaimProtect mine (on_claims.write_over c new)
 claim_written c new mine told placed named row =
-    told_claim (λ o. IsWrittenAt (Some c.meta.version) new.meta.namespace new.meta.name o.meta × ClaimGuard (is_protected_claim new) mine new o) c mine told
+    told_claim (λ o. IsWrittenAt (Some c.meta.version) new.meta.namespace new.meta.name o.meta × ClaimMay (claim_guard (is_protected_claim new)) mine new o) c mine told
     (record { version = refl; placed = sym placed; named = sym named }, row)
 
-adds : (c : ClaimData) (mine : List Entry) → MayAdd c mine → ClaimProtectMay mine (on_claims.write_over c (guarded_claim c))
+adds : (c : ClaimData) (mine : List Entry) → MayAdd c mine → RowAllows seats.ClaimProtect mine (on_claims.write_over c (guarded_claim c))
 adds c mine kept =
     let row : GuardsClaim c (guarded_claim c) = record { guard = record { staying = kept.staying; lacks = kept.lacks; change = refl }; rest = refl } in
-    claim_written c (guarded_claim c) mine kept.told refl refl (claim_guard mine (guarded_claim c) c true (with_it pvc_protection c.meta.finalizers) row)
+    claim_written c (guarded_claim c) mine kept.told refl refl (claim_guarded mine (guarded_claim c) c true (with_it pvc_protection c.meta.finalizers) row)
 
-drops : (c : ClaimData) (mine : List Entry) → MayDrop c mine → ClaimProtectMay mine (on_claims.write_over c (unguarded_claim c))
+drops : (c : ClaimData) (mine : List Entry) → MayDrop c mine → RowAllows seats.ClaimProtect mine (on_claims.write_over c (unguarded_claim c))
 drops c mine kept =
     let row : MayUnguardClaim mine c (unguarded_claim c) = record { deleting = kept.deleting; unused = kept.unused; change = refl } in
-    claim_written c (unguarded_claim c) mine kept.told refl refl (claim_guard mine (unguarded_claim c) c false (without_it pvc_protection c.meta.finalizers) row)
+    claim_written c (unguarded_claim c) mine kept.told refl refl (claim_guarded mine (unguarded_claim c) c false (without_it pvc_protection c.meta.finalizers) row)
 
-lists : (c : ClaimData) (mine : List Entry) (request : Request) → MayList c mine → list_call c ≡ Some request → ClaimProtectMay mine request
+lists : (c : ClaimData) (mine : List Entry) (request : Request) → MayList c mine → list_call c ≡ Some request → RowAllows seats.ClaimProtect mine request
 lists c mine request kept = by (is_some c.meta.uid)
   where
-    by : (b : Bool) → (if b then Some (ListOf kinds.Pod (Some c.meta.namespace)) else None) ≡ Some request → ClaimProtectMay mine request
+    by : (b : Bool) → (if b then Some (ListOf kinds.Pod (Some c.meta.namespace)) else None) ≡ Some request → RowAllows seats.ClaimProtect mine request
     by false e = none_some e
     by true e = claim_answered mine (ListOf kinds.Pod (Some c.meta.namespace)) request e (told_claim (IsDeletingIn c.meta.namespace) c mine kept.told (record { placed = refl; deleting = kept.deleting }))
 
-claim_row : (step : ClaimGuardStep) (c : ClaimData) (mine : List Entry) (request : Request) → ClaimStepKeeps step c mine → on_claims.call_at step c ≡ Some request → ClaimProtectMay mine request
+claim_row : (step : ClaimGuardStep) (c : ClaimData) (mine : List Entry) (request : Request) → ClaimStepKeeps step c mine → on_claims.call_at step c ≡ Some request → RowAllows seats.ClaimProtect mine request
 claim_row claims.Adds c mine request kept e = claim_answered mine (on_claims.write_over c (guarded_claim c)) request e (adds c mine kept)
 claim_row claims.ListsPods c mine request kept e = lists c mine request kept e
 claim_row claims.Drops c mine request kept e = claim_answered mine (on_claims.write_over c (unguarded_claim c)) request e (drops c mine kept)
@@ -97,29 +98,29 @@ claim_allowed op mine request own kept e = (own, claim_row op.step op.claim mine
 
 -- a volume
 
-volume_answered : (mine : List Entry) (a b : Request) → Some a ≡ Some b → VolumeProtectMay mine a → VolumeProtectMay mine b
-volume_answered mine a b e may = subst (λ r. VolumeProtectMay mine r) (one a b e) may
+volume_answered : (mine : List Entry) (a b : Request) → Some a ≡ Some b → RowAllows seats.VolumeProtect mine a → RowAllows seats.VolumeProtect mine b
+volume_answered mine a b e may = subst (λ r. RowAllows seats.VolumeProtect mine r) (one a b e) may
 
-volume_guard : (new o : VolumeData) (has : Bool) → is_protected_volume new ≡ has → VolumeGuard has new o → VolumeGuard (is_protected_volume new) new o
-volume_guard new o has is row = subst (λ (b : Bool). VolumeGuard b new o) (sym is) row
+volume_guarded : (mine : List Entry) (new o : VolumeData) (has : Bool) → is_protected_volume new ≡ has → VolumeMay (volume_guard has) mine new o → VolumeMay (volume_guard (is_protected_volume new)) mine new o
+volume_guarded mine new o has is row = subst (λ (b : Bool). VolumeMay (volume_guard b) mine new o) (sym is) row
 
 -- a volume is written over the one that was told
-volume_written : (v new : VolumeData) (mine : List Entry) → ToldVolume (λ o. o ≡ v) mine → new.meta.namespace ≡ v.meta.namespace → new.meta.name ≡ v.meta.name → VolumeGuard (is_protected_volume new) new v → VolumeProtectMay mine (on_volumes.write_over v new)
+volume_written : (v new : VolumeData) (mine : List Entry) → ToldVolume (λ o. o ≡ v) mine → new.meta.namespace ≡ v.meta.namespace → new.meta.name ≡ v.meta.name → VolumeMay (volume_guard (is_protected_volume new)) mine new v → RowAllows seats.VolumeProtect mine (on_volumes.write_over v new)
 volume_written v new mine told placed named row =
-    told_volume (λ o. IsWrittenAt (Some v.meta.version) new.meta.namespace new.meta.name o.meta × VolumeGuard (is_protected_volume new) new o) v mine told
+    told_volume (λ o. IsWrittenAt (Some v.meta.version) new.meta.namespace new.meta.name o.meta × VolumeMay (volume_guard (is_protected_volume new)) mine new o) v mine told
     (record { version = refl; placed = sym placed; named = sym named }, row)
 
-adds_to_volume : (v : VolumeData) (mine : List Entry) → MayAddVolume v mine → VolumeProtectMay mine (on_volumes.write_over v (guarded_volume v))
+adds_to_volume : (v : VolumeData) (mine : List Entry) → MayAddVolume v mine → RowAllows seats.VolumeProtect mine (on_volumes.write_over v (guarded_volume v))
 adds_to_volume v mine kept =
     let row : GuardsVolume v (guarded_volume v) = record { guard = record { staying = kept.staying; lacks = kept.lacks; change = refl }; rest = refl } in
-    volume_written v (guarded_volume v) mine kept.told refl refl (volume_guard (guarded_volume v) v true (with_it pv_protection v.meta.finalizers) row)
+    volume_written v (guarded_volume v) mine kept.told refl refl (volume_guarded mine (guarded_volume v) v true (with_it pv_protection v.meta.finalizers) row)
 
-drops_from_volume : (v : VolumeData) (mine : List Entry) → MayDropVolume v mine → VolumeProtectMay mine (on_volumes.write_over v (unguarded_volume v))
+drops_from_volume : (v : VolumeData) (mine : List Entry) → MayDropVolume v mine → RowAllows seats.VolumeProtect mine (on_volumes.write_over v (unguarded_volume v))
 drops_from_volume v mine kept =
     let row : MayUnguardVolume v (unguarded_volume v) = record { deleting = kept.deleting; loose = kept.loose; change = refl } in
-    volume_written v (unguarded_volume v) mine kept.told refl refl (volume_guard (unguarded_volume v) v false (without_it pv_protection v.meta.finalizers) row)
+    volume_written v (unguarded_volume v) mine kept.told refl refl (volume_guarded mine (unguarded_volume v) v false (without_it pv_protection v.meta.finalizers) row)
 
-volume_row : (step : VolumeGuardStep) (v : VolumeData) (mine : List Entry) (request : Request) → VolumeStepKeeps step v mine → on_volumes.call_at step v ≡ Some request → VolumeProtectMay mine request
+volume_row : (step : VolumeGuardStep) (v : VolumeData) (mine : List Entry) (request : Request) → VolumeStepKeeps step v mine → on_volumes.call_at step v ≡ Some request → RowAllows seats.VolumeProtect mine request
 volume_row volumes.Adds v mine request kept e = volume_answered mine (on_volumes.write_over v (guarded_volume v)) request e (adds_to_volume v mine kept)
 volume_row volumes.Drops v mine request kept e = volume_answered mine (on_volumes.write_over v (unguarded_volume v)) request e (drops_from_volume v mine kept)
 volume_row volumes.Done v mine request kept e = none_some e

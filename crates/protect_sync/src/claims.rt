@@ -14,6 +14,7 @@ use kube_types::bindings::{PVC_PROTECTION, is_deleting, is_protected_claim};
 use kube_types::copies::{OutOfMemory, Plain};
 use kube_types::objects::{Claim, Object};
 use kube_types::parts::Kind;
+use kube_types::shared::Shared;
 use std::alloc::Global;
 
 /// What is to be done next, or how the machine has ended.
@@ -63,10 +64,14 @@ impl ClaimGuardOp {
         ensures { IfOk result (λ call. call ≡ claim_call self.now) }
     {
         match self.step {
-            ClaimGuardStep::Adds => Ok(Some(write_over(&self.claim, guarded(alloc, &self.claim)?))),
+            ClaimGuardStep::Adds => {
+                let new = guarded(alloc, &self.claim)?;
+                Ok(Some(write_over(alloc, &self.claim, new)?))
+            }
             ClaimGuardStep::ListsPods => list_call(alloc, &self.claim),
             ClaimGuardStep::Drops => {
-                Ok(Some(write_over(&self.claim, unguarded(alloc, &self.claim)?)))
+                let new = unguarded(alloc, &self.claim)?;
+                Ok(Some(write_over(alloc, &self.claim, new)?))
             }
             ClaimGuardStep::Done | ClaimGuardStep::Parked => Ok(None),
         }
@@ -114,13 +119,13 @@ fn first_step(claim: &Claim, is_used: bool) -> Option<ClaimGuardStep>
 }
 
 /// The write of the new claim, at the version of the one that was told.
-fn write_over(claim: &Claim, new: Claim) -> Request
-    ensures { result ≡ write_over claim.now new }
+fn write_over(alloc: Global, claim: &Claim, new: Claim) -> Result<Request, OutOfMemory>
+    ensures { IfOk result (λ write. write ≡ write_over claim.now new) }
 {
-    Request::Update {
-        object: Object::Claim(new),
+    Ok(Request::Update {
+        object: Object::Claim(Shared::new(alloc, new)?),
         version: Some(claim.meta.version),
-    }
+    })
 }
 
 /// The list of the pods of the claim's namespace. None where the claim has no UID.

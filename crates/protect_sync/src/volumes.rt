@@ -13,6 +13,7 @@ use kube_types::bindings::{PV_PROTECTION, is_deleting, is_protected_volume};
 use kube_types::copies::{OutOfMemory, Plain};
 use kube_types::objects::{Object, Volume};
 use kube_types::parts::VolumePhase;
+use kube_types::shared::Shared;
 use std::alloc::Global;
 
 /// What is to be done next, or how the machine has ended.
@@ -56,10 +57,12 @@ impl VolumeGuardOp {
     {
         match self.step {
             VolumeGuardStep::Adds => {
-                Ok(Some(write_over(&self.volume, guarded(alloc, &self.volume)?)))
+                let new = guarded(alloc, &self.volume)?;
+                Ok(Some(write_over(alloc, &self.volume, new)?))
             }
             VolumeGuardStep::Drops => {
-                Ok(Some(write_over(&self.volume, unguarded(alloc, &self.volume)?)))
+                let new = unguarded(alloc, &self.volume)?;
+                Ok(Some(write_over(alloc, &self.volume, new)?))
             }
             VolumeGuardStep::Done | VolumeGuardStep::Parked => Ok(None),
         }
@@ -113,13 +116,13 @@ pub(crate) fn is_bound(phase: VolumePhase) -> bool
 }
 
 /// The write of the new volume, at the version of the one that was told.
-fn write_over(volume: &Volume, new: Volume) -> Request
-    ensures { result ≡ write_over volume.now new }
+fn write_over(alloc: Global, volume: &Volume, new: Volume) -> Result<Request, OutOfMemory>
+    ensures { IfOk result (λ write. write ≡ write_over volume.now new) }
 {
-    Request::Update {
-        object: Object::Volume(new),
+    Ok(Request::Update {
+        object: Object::Volume(Shared::new(alloc, new)?),
         version: Some(volume.meta.version),
-    }
+    })
 }
 
 /// The volume with its finalizer.

@@ -9,7 +9,8 @@ use Rattle.call_types.specs.declared.request.Request.{Request}
 use Rattle.call_types.specs.declared.request.Request.TheVariants as requests
 use Rattle.call_types.specs.declared.request.SeatKind.TheVariants.{Ops}
 use Rattle.binder_model.specs.At.{IsWrittenAt}
-use Rattle.binder_model.specs.Licence.{AreOfKind, Licensed, OpsMay, OpsPhase}
+use Rattle.call_types.specs.declared.request.SeatKind.TheVariants as seats
+use Rattle.binder_model.specs.Licence.{AreOfKind, Licensed, RowAllows, PhaseMay, ops_phase}
 use Rattle.binder_model.specs.OpsLicence.{IsEndedOver, MayDelete, MayErase, MayFail, TellsErased}
 use Rattle.binder_model.specs.Reading.{AsksForEnded}
 use Rattle.binder_model.specs.Told.{After, ToldVolume}
@@ -22,15 +23,15 @@ use Rattle.reclaim_ops.specs.BeginLaw.{EraseCallsReadNoKind, lists_or_watches}
 use Rattle.reclaim_ops.specs.Erasures.{call_at, erase_call, fail_call, volume_key}
 use Rattle.reclaim_ops.specs.Evidence.{EraseKeeps, EraseStepKeeps, MayDeleteErased, MayEraseData, MayRead, MayWriteFailed}
 
-pub answered : (mine : List Entry) (a b : Request) → Some a ≡ Some b → OpsMay mine a → OpsMay mine b
-answered mine a b e may = subst (λ r. OpsMay mine r) (one a b e) may
+pub answered : (mine : List Entry) (a b : Request) → Some a ≡ Some b → RowAllows seats.Ops mine a → RowAllows seats.Ops mine b
+answered mine a b e may = subst (λ r. RowAllows seats.Ops mine r) (one a b e) may
 
-reads : (v : VolumeData) (mine : List Entry) → MayRead v mine → OpsMay mine (requests.Get (volume_key v))
+reads : (v : VolumeData) (mine : List Entry) → MayRead v mine → RowAllows seats.Ops mine (requests.Get (volume_key v))
 reads v mine kept =
     let row : AsksForEnded mine (volume_key v) = record { volume = v; newest_volume = kept.newest; ended = kept.ended } in
     row
 
-erases : (v : VolumeData) (uid : Uid) (mine : List Entry) → MayEraseData v uid mine → OpsMay mine (requests.Erase (data_id_of v.source))
+erases : (v : VolumeData) (uid : Uid) (mine : List Entry) → MayEraseData v uid mine → RowAllows seats.Ops mine (requests.Erase (data_id_of v.source))
 erases v uid mine kept =
     let row : MayErase mine (data_id_of v.source) = record { volume = v; last = kept.last; ended = kept.ended } in
     row
@@ -40,7 +41,7 @@ after_map : (P Q : List Entry → Type 0) (R : Entry → Type 0) → ((mine : Li
 after_map P Q R f [] h = absurd h
 after_map P Q R f (e ∷ mine) h = elim h [ inl here ↦ inl (here.0, f mine here.1) | inr before ↦ inr (after_map P Q R f mine before) ]
 
-deletes : (v : VolumeData) (uid : Uid) (mine : List Entry) → MayDeleteErased v uid mine → OpsMay mine (requests.Delete (volume_key v) (Some uid))
+deletes : (v : VolumeData) (uid : Uid) (mine : List Entry) → MayDeleteErased v uid mine → RowAllows seats.Ops mine (requests.Delete (volume_key v) (Some uid))
 deletes v uid mine kept =
     let id = data_id_of v.source in
     let over : IsEndedOver uid id v = record { same = kept.known; ended = kept.ended.ended; policy = kept.ended.policy; over = refl } in
@@ -50,12 +51,12 @@ deletes v uid mine kept =
     } in
     (refl, row)
 
-fails : (v : VolumeData) (mine : List Entry) → MayWriteFailed v mine → OpsMay mine (fail_call v)
+fails : (v : VolumeData) (mine : List Entry) → MayWriteFailed v mine → RowAllows seats.Ops mine (fail_call v)
 fails v mine kept =
     let row : MayFail mine v = record { ended = kept.ended.ended; failed = kept.failed } in
-    (refl, told_volume (λ o. IsWrittenAt (Some v.meta.version) v.meta.namespace v.meta.name o.meta × OpsPhase phases.Failed mine o) v mine kept.told (record { version = refl; placed = refl; named = refl }, row))
+    (refl, told_volume (λ o. IsWrittenAt (Some v.meta.version) v.meta.namespace v.meta.name o.meta × PhaseMay (ops_phase phases.Failed) mine o) v mine kept.told (record { version = refl; placed = refl; named = refl }, row))
 
-step_row : (step : EraseStep) (v : VolumeData) (mine : List Entry) (request : Request) → EraseStepKeeps step v mine → call_at step v ≡ Some request → OpsMay mine request
+step_row : (step : EraseStep) (v : VolumeData) (mine : List Entry) (request : Request) → EraseStepKeeps step v mine → call_at step v ≡ Some request → RowAllows seats.Ops mine request
 step_row steps.ReadsVolume v mine request kept e = answered mine (requests.Get (volume_key v)) request e (reads v mine kept)
 step_row (steps.Erases uid) v mine request kept e = answered mine (requests.Erase (data_id_of v.source)) request e (erases v uid mine kept)
 step_row (steps.Deletes uid) v mine request kept e = answered mine (requests.Delete (volume_key v) (Some uid)) request e (deletes v uid mine kept)

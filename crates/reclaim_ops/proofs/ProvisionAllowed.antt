@@ -9,7 +9,8 @@ use Rattle.call_types.specs.declared.entry.Entry.{Entry}
 use Rattle.call_types.specs.declared.request.Request.{Request}
 use Rattle.call_types.specs.declared.request.SeatKind.TheVariants.{Ops}
 use Rattle.binder_model.specs.At.{IsWrittenAt}
-use Rattle.binder_model.specs.Licence.{AreOfKind, Licensed, OpsMay}
+use Rattle.call_types.specs.declared.request.SeatKind.TheVariants as seats
+use Rattle.binder_model.specs.Licence.{AreOfKind, Licensed, RowAllows}
 use Rattle.binder_model.specs.OpsLicence.{MayClearNode, MayCreate}
 use Rattle.binder_model.specs.Provisioning.{provisioned_volume}
 use Rattle.model_laws.proofs.Evidence.{told_claim}
@@ -22,7 +23,7 @@ use Rattle.reclaim_ops.specs.Evidence.{MayAsk, MayClear, MayCreateOver, Provisio
 use Rattle.reclaim_ops.specs.Provisions.{ask_call, call_at, clear_call, create_call, provision_call, unselected}
 use Rattle.reclaim_ops.proofs.EraseAllowed.{answered}
 
-asks : (c : ClaimData) (uid : Uid) (x : ClassData) (labels : Option (List Pair)) (mine : List Entry) → MayAsk c uid x labels mine → OpsMay mine (ask_call c uid x labels)
+asks : (c : ClaimData) (uid : Uid) (x : ClassData) (labels : Option (List Pair)) (mine : List Entry) → MayAsk c uid x labels mine → RowAllows seats.Ops mine (ask_call c uid x labels)
 asks c uid x labels mine kept = record {
   claim = c;
   uid = uid;
@@ -38,7 +39,7 @@ asks c uid x labels mine kept = record {
   placed = kept.placed;
 }
 
-creates : (c : ClaimData) (uid : Uid) (x : ClassData) (id : DataId) (topology : Option (List ℕ × List ℕ)) (mine : List Entry) → MayCreateOver c uid x id topology mine → OpsMay mine (create_call c uid x id topology)
+creates : (c : ClaimData) (uid : Uid) (x : ClassData) (id : DataId) (topology : Option (List ℕ × List ℕ)) (mine : List Entry) → MayCreateOver c uid x id topology mine → RowAllows seats.Ops mine (create_call c uid x id topology)
 creates c uid x id topology mine kept =
     let row : MayCreate mine (provisioned_volume c uid x id topology) = record {
       claim = c;
@@ -54,13 +55,13 @@ creates c uid x id topology mine kept =
     } in
     row
 
-clears : (c : ClaimData) (uid : Uid) (mine : List Entry) → MayClear c uid mine → OpsMay mine (clear_call c)
+clears : (c : ClaimData) (uid : Uid) (mine : List Entry) → MayClear c uid mine → RowAllows seats.Ops mine (clear_call c)
 clears c uid mine kept =
     let row : MayClearNode mine c (unselected c) = record { undone = kept.undone; uid = uid; known = kept.known; node = kept.node; selected = kept.selected; why = kept.why; change = refl } in
     told_claim (λ o. IsWrittenAt (Some c.meta.version) c.meta.namespace c.meta.name o.meta × MayClearNode mine o (unselected c)) c mine kept.told
     (record { version = refl; placed = refl; named = refl }, row)
 
-step_row : (step : ProvisionStep) (c : ClaimData) (uid : Uid) (x : ClassData) (mine : List Entry) (request : Request) → ProvisionStepKeeps step c uid x mine → call_at step c uid x ≡ Some request → OpsMay mine request
+step_row : (step : ProvisionStep) (c : ClaimData) (uid : Uid) (x : ClassData) (mine : List Entry) (request : Request) → ProvisionStepKeeps step c uid x mine → call_at step c uid x ≡ Some request → RowAllows seats.Ops mine request
 step_row (steps.Provisions labels) c uid x mine request kept e = answered mine (ask_call c uid x labels) request e (asks c uid x labels mine kept)
 step_row (steps.Creates id topology) c uid x mine request kept e = answered mine (create_call c uid x id topology) request e (creates c uid x id topology mine kept)
 step_row steps.ClearsNode c uid x mine request kept e = answered mine (clear_call c) request e (clears c uid mine kept)

@@ -11,6 +11,7 @@ use kube_types::bindings::SELECTED_NODE;
 use kube_types::copies::{OutOfMemory, Plain, copy_option};
 use kube_types::objects::{Claim, Class, DataId, Object};
 use kube_types::pairs::Pairs;
+use kube_types::shared::Shared;
 use kube_types::text::Text;
 use kube_types::uid::Uid;
 use std::alloc::Global;
@@ -117,7 +118,7 @@ impl ProvisionOp {
     {
         let volume = volume_over(alloc, &self.claim, self.uid, &self.class, id, topology)?;
         Ok(Request::Create {
-            object: Object::Volume(volume),
+            object: Object::Volume(Shared::new(alloc, volume)?),
         })
     }
 
@@ -169,7 +170,7 @@ fn clear_call(alloc: Global, claim: &Claim) -> Result<Request, OutOfMemory>
     ensures { IfOk result (λ call. call ≡ clear_call claim.now) }
 {
     Ok(Request::Update {
-        object: Object::Claim(unselected(alloc, claim)?),
+        object: Object::Claim(Shared::new(alloc, unselected(alloc, claim)?)?),
         version: Some(claim.meta.version),
     })
 }

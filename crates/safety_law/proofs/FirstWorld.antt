@@ -23,14 +23,14 @@ use Rattle.binder_model.specs.World.{world, base}
 use Rattle.binder_model.specs.Safe.{is_lost_import, was_imported_as_lost}
 use Rattle.kube_types.proofs.SameKeys.{key_tells}
 use Rattle.model_laws.proofs.Histories.{import_rows_rise}
-use Rattle.world_moves.specs.Writes.{IsIn}
-use Rattle.world_moves.proofs.Objects.{same_volume, same_claim}
-use Rattle.world_moves.proofs.Tests.{same_text}
-use Rattle.world_invariant.specs.Was.{IsPlaced, Refers, WasBound, IsFinal, IsAway}
-use Rattle.world_invariant.specs.Invariant.{Invariant, IsOld, IsLater, IsReferred}
-use Rattle.world_invariant.proofs.Came.{itself, row_stands}
-use Rattle.world_invariant.proofs.KeptBindings.{by_name, carries_on}
-use Rattle.licence_steps.proofs.Allowed.{volume_placed, has_given}
+use Rattle.safety_invariant.specs.Writes.{IsIn}
+use Rattle.safety_invariant.proofs.Objects.{same_volume, same_claim}
+use Rattle.safety_invariant.proofs.Tests.{same_text}
+use Rattle.safety_invariant.specs.Was.{IsPlaced, Refers, WasBound, IsFinal, IsAway}
+use Rattle.safety_invariant.specs.Invariant.{Invariant, IsOld, IsLater, IsReferred}
+use Rattle.safety_invariant.proofs.Came.{itself, row_stands}
+use Rattle.safety_invariant.proofs.KeptBindings.{by_name, carries_on}
+use Rattle.safety_law.proofs.Allowed.{volume_placed, has_given}
 use Rattle.safety_law.specs.Law.{IsGoodStart}
 use Rattle.safety_law.proofs.Passing.{none_of, IsSound, each_sound, two_sound, shares_same}
 use Rattle.model_laws.specs.Stood.{Stands}

@@ -12,7 +12,7 @@ use Rattle.kube_types.proofs.SameKeys.{same_key-Decides}
 use Rattle.binder_model.specs.Fields.{create_fault}
 use Rattle.binder_model.specs.Imports.{most_imported, serial_or_zero, reference_of, shares_uid, refers_to_another, is_ended_for, holds_of_pair, import_fault, PassAfter, ImportsPass}
 use Rattle.std.proofs.lemmas.List.{append_assoc, append-nil}
-use Rattle.world_moves.specs.Writes.{IsIn}
+use Rattle.safety_invariant.specs.Writes.{IsIn}
 use Rattle.model_laws.proofs.Lists.{some_or}
 use Rattle.model_laws.proofs.Imported.{Passes, passed}
 

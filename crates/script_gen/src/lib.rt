@@ -1,7 +1,7 @@
 //! Scripts that a seed gives, to be tried and timed.
 //!
-//! Promises: `generate` gives the script of the definitions, line by line, or wants memory. Not said: what a replay
-//! of it comes to.
+//! Promises: `generate` gives the script of the definitions, line by line, or is out of memory. Not said: what a
+//! replay of it comes to.
 #![tactic(auto)]
 
 mod draws;

@@ -12,6 +12,7 @@ use call_types::request::Request;
 use kube_types::copies::OutOfMemory;
 use kube_types::items::Items;
 use kube_types::objects::Object;
+use kube_types::shared::Shared;
 use script_text::script::Line;
 use std::alloc::Global;
 
@@ -37,7 +38,7 @@ fn volume_line(alloc: Global, draws: &mut Draws, i: u64) -> Result<Line, OutOfMe
     let size = 1 + draws.draw(16);
     let many = draws.draw(4) == 0;
     let volume = volume_of(alloc, i, size, many)?;
-    Ok(creates(Object::Volume(volume)))
+    Ok(creates(Object::Volume(Shared::new(alloc, volume)?)))
 }
 
 fn class_drawn(n: u64) -> &'static str
@@ -58,7 +59,7 @@ fn claim_line(alloc: Global, draws: &mut Draws, i: u64) -> Result<Line, OutOfMem
     let class = class_drawn(draws.draw(4));
     let name = numbered(alloc, "c", i)?;
     let claim = claim_of(alloc, name, size, class)?;
-    Ok(creates(Object::Claim(claim)))
+    Ok(creates(Object::Claim(Shared::new(alloc, claim)?)))
 }
 
 fn late_claim_line(alloc: Global, i: u64) -> Result<Line, OutOfMemory>
@@ -66,7 +67,7 @@ fn late_claim_line(alloc: Global, i: u64) -> Result<Line, OutOfMemory>
 {
     let name = numbered(alloc, "l", i)?;
     let claim = claim_of(alloc, name, 1, "late")?;
-    Ok(creates(Object::Claim(claim)))
+    Ok(creates(Object::Claim(Shared::new(alloc, claim)?)))
 }
 
 fn pod_line(alloc: Global, i: u64) -> Result<Line, OutOfMemory>
@@ -75,7 +76,7 @@ fn pod_line(alloc: Global, i: u64) -> Result<Line, OutOfMemory>
     let name = numbered(alloc, "p", i)?;
     let claim = numbered(alloc, "l", i)?;
     let pod = pod_with(alloc, name, &claim)?;
-    Ok(creates(Object::Pod(pod)))
+    Ok(creates(Object::Pod(Shared::new(alloc, pod)?)))
 }
 
 #[tactic(auto, using(crate::proofs::Drawn::delete_at))]
@@ -105,7 +106,7 @@ fn push_class(
     ensures { OnOk result (lines.new ≡ lines.old ++ creates (objects.Class (class_named name.now delayed)) ∷ []) }
 {
     let class = class_named(alloc, name, delayed)?;
-    lines.push(creates(Object::Class(class)))
+    lines.push(creates(Object::Class(Shared::new(alloc, class)?)))
 }
 
 fn push_node(
@@ -117,7 +118,7 @@ fn push_node(
     ensures { OnOk result (lines.new ≡ lines.old ++ creates (objects.Node (node_in name.now zone.now)) ∷ []) }
 {
     let node = node_in(alloc, name, zone)?;
-    lines.push(creates(Object::Node(node)))
+    lines.push(creates(Object::Node(Shared::new(alloc, node)?)))
 }
 
 /// The lines of the classes and the nodes.

@@ -20,8 +20,8 @@ use Rattle.script_runs.specs.declared.player.Player.{Player}
 use Rattle.script_runs.specs.declared.stage.Stage.{Stage}
 use Rattle.script_lines.specs.declared.actors.Actor.{Actor}
 use Rattle.script_lines.specs.declared.actors.WorkerKind.TheVariants as workers
-use Rattle.script_parts.specs.Budget.{first_budget}
-use Rattle.script_parts.specs.Parts.{drain_seat, drain_seats, first_actor_seat, seats_from}
+use Rattle.script_runs.specs.Budget.{first_budget}
+use Rattle.script_runs.specs.Parts.{drain_seat, drain_seats, first_actor_seat, seats_from}
 use Rattle.script_runs.specs.Diligent.{role_of}
 use Rattle.script_runs.specs.Replays.{EndsAs, IsDrain, IsMove, IsReplay, MoreMoves, NoMoves, Progress, begun}
 use Rattle.script_runs.specs.Steps.Living.{Lives}

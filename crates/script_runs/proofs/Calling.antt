@@ -8,8 +8,8 @@ use Rattle.binder_model.specs.Imports.{ImportsPass}
 use Rattle.binder_model.specs.Promises.{most_entries}
 use Rattle.binder_model.specs.Told.{own}
 use Rattle.binder_model.specs.World.{IsHistory}
-use Rattle.diligent_law.specs.Diligence.{entries}
-use Rattle.diligent_law.specs.Played.{LostAfter as PlayedLostAfter, LostBefore as PlayedLostBefore, Told as PlayedTold}
+use Rattle.attention_law.specs.Diligence.{entries}
+use Rattle.attention_law.specs.Played.{LostAfter as PlayedLostAfter, LostBefore as PlayedLostBefore, Told as PlayedTold}
 use Rattle.informer_cache.specs.Cache.{IsTold}
 use Rattle.model_laws.proofs.Evidence.{own_mine, own_other}
 use Rattle.world_core.specs.Kept.{History}
@@ -21,7 +21,7 @@ use Rattle.worker_core.specs.Absorbs.{absorbed, lost_given, lost_to, lost_under}
 use Rattle.worker_core.specs.Roles.{IsBuiltKind}
 use Rattle.worker_core.specs.Stands.{AreOwn, StandsFor}
 use Rattle.worker_core.specs.States.{State, asked}
-use Rattle.script_parts.specs.declared.loss.Fate.TheVariants.{Told, LostBefore, LostAfter}
+use Rattle.script_runs.specs.declared.loss.Fate.TheVariants.{Told, LostBefore, LostAfter}
 use Rattle.script_runs.specs.Calls.{IsCallWith}
 use Rattle.script_runs.specs.Steps.Living.{GoesOn}
 use Rattle.script_runs.specs.Steps.Playing.{HasCalled, StandsSince}

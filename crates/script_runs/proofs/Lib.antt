@@ -1,3 +1,5 @@
+mod Computed
+pub mod Readable
 mod Beginning
 pub mod Casting
 mod Calling

@@ -6,9 +6,9 @@ use Rattle.kube_types.specs.Keys.{AreRows}
 use Rattle.call_types.specs.declared.entry.Entry.{Entry}
 use Rattle.call_types.specs.declared.request.Request.{Request}
 use Rattle.binder_model.specs.Told.{own}
-use Rattle.diligent_law.specs.Diligence.{Call, IsDiligent, entries}
-use Rattle.diligent_law.specs.Played.{Begins, Wakes}
-use Rattle.diligent_law.proofs.Following.{played_is_diligent, same_role, stands_now}
+use Rattle.attention_law.specs.Diligence.{Call, IsDiligent, entries}
+use Rattle.attention_law.specs.Played.{Begins, Wakes}
+use Rattle.attention_law.proofs.Following.{played_is_diligent, same_role, stands_now}
 use Rattle.informer_cache.specs.All.{all_objects}
 use Rattle.world_core.specs.Kept.{History}
 use Rattle.worker_core.specs.declared.role.Role.{Role}
@@ -18,10 +18,10 @@ use Rattle.worker_core.specs.Roles.{IsBuiltKind}
 use Rattle.worker_core.specs.Stands.{IsNew, StandsFor}
 use Rattle.worker_core.specs.States.{State}
 use Rattle.worker_core.specs.Turns.{IsTurn}
-use Rattle.script_parts.specs.declared.loss.Fate.{Fate}
-use Rattle.script_parts.specs.declared.part.Part.{Part}
-use Rattle.script_parts.specs.Fates.{fate_of}
-use Rattle.script_parts.specs.Parts.{lives_of}
+use Rattle.script_runs.specs.declared.loss.Fate.{Fate}
+use Rattle.script_runs.specs.declared.part.Part.{Part}
+use Rattle.script_runs.specs.Fates.{fate_of}
+use Rattle.script_runs.specs.Parts.{lives_of}
 use Rattle.script_runs.specs.declared.player.Player.{Player}
 use Rattle.script_runs.specs.Calls.{restarts_before, seat_at}
 use Rattle.script_runs.specs.Diligent.{AreOfLife, IsDiligentLife, leaves_entry, left_by}

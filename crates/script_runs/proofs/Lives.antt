@@ -2,9 +2,9 @@
 use Rattle.std.proofs.Common.{◌≡◌, ℕ, suc, ◌<◌, ◌≤◌, ◌+◌, List, [], ◌∷◌, length, Bool, true, false, refl, ap, arith, if◌then◌else◌}
 use Rattle.std.specs.Prelude.{nat_lt}
 use Rattle.std.proofs.lemmas.Bool.Decides.{nat_tests}
-use Rattle.script_parts.specs.declared.part.Part.{Part}
+use Rattle.script_runs.specs.declared.part.Part.{Part}
 use Rattle.script_runs.specs.Calls.{restarts_before, seat_at}
-use Rattle.script_parts.specs.Parts.{lives_by, lives_of}
+use Rattle.script_runs.specs.Parts.{lives_by, lives_of}
 
 -- no more restarts come before a call than there are
 pub restarts_few : (n : ℕ) (restarts : List ℕ) → restarts_before n restarts ≤ length restarts

@@ -9,7 +9,7 @@ use Rattle.script_lines.specs.declared.actors.Actor.{Actor}
 use Rattle.script_text.specs.declared.script.Line.{Line}
 use Rattle.script_text.specs.declared.script.Line.TheVariants.{Drain, Lose, Restart}
 use Rattle.script_text.specs.declared.script.Script.{Script}
-use Rattle.script_parts.specs.Budget.{most_budget, raised}
+use Rattle.script_runs.specs.Budget.{most_budget, raised}
 use Rattle.script_runs.specs.declared.stage.Stage.{Stage}
 use Rattle.script_runs.specs.Replays.{IsMove}
 use Rattle.script_runs.specs.Steps.Standing.{HasMoved, IsBudget, SoFar, SomeStands}

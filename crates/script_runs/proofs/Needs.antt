@@ -8,9 +8,9 @@ use Rattle.model_laws.proofs.Lists.{one}
 use Rattle.script_lines.specs.declared.actors.Actor.{Actor}
 use Rattle.script_lines.specs.Actors.{actor_word}
 use Rattle.script_text.specs.declared.script.Script.{Script}
-use Rattle.script_parts.specs.declared.part.Part.{Part}
-use Rattle.script_parts.specs.Limits.{IsKnown, IsReadable}
-use Rattle.script_parts.specs.Parts.{is_named, lives_by, lives_of, part_of}
+use Rattle.script_runs.specs.declared.part.Part.{Part}
+use Rattle.script_runs.specs.Limits.{IsKnown, IsReadable}
+use Rattle.script_runs.specs.Parts.{is_named, lives_by, lives_of, part_of}
 use Rattle.script_runs.specs.declared.player.Player.{Player}
 use Rattle.script_runs.specs.declared.stage.Stage.{Stage}
 use Rattle.worker_core.specs.declared.role.Role.{Role}

@@ -16,15 +16,15 @@ use Rattle.worker_threads.specs.declared.drainers.Drainer.{Drainer}
 use Rattle.worker_threads.specs.Drainers.{AreStanding, seats_of}
 use Rattle.worker_threads.specs.Longer.{AreToldOf, IsLonger, IsOneOf, users_of}
 use Rattle.script_text.specs.declared.script.Script.{Script}
-use Rattle.script_parts.specs.declared.part.Part.{Part}
+use Rattle.script_runs.specs.declared.part.Part.{Part}
 use Rattle.script_runs.specs.declared.player.Player.{Player}
 use Rattle.script_runs.specs.declared.stage.Stage.{Stage}
 use Rattle.script_runs.specs.Calls.{AreCalls, seat_at}
 use Rattle.binder_model.specs.World.{world}
 use Rattle.binder_model.specs.Due.{IsSettled}
-use Rattle.script_parts.specs.Budget.{raised}
-use Rattle.script_parts.specs.Limits.{AreInOrder as NamesInOrder}
-use Rattle.script_parts.specs.Parts.{all_actors, all_lives, drain_seat, drain_seats, seats_from}
+use Rattle.script_runs.specs.Budget.{raised}
+use Rattle.script_runs.specs.Limits.{AreInOrder as NamesInOrder}
+use Rattle.script_runs.specs.Parts.{all_actors, all_lives, drain_seat, drain_seats, seats_from}
 use Rattle.script_lines.specs.declared.actors.Actor.{Actor}
 use Rattle.worker_core.specs.declared.role.Role.{Role}
 use Rattle.script_runs.specs.Diligent.{role_of}

@@ -15,13 +15,13 @@ use Rattle.worker_core.specs.Stands.{IsNew, StandsFor}
 use Rattle.worker_core.specs.States.{State}
 use Rattle.worker_core.specs.Turns.{IsTurn}
 use Rattle.worker_core.proofs.Answered.{turn_role}
-use Rattle.script_parts.specs.declared.loss.Fate.{Fate}
-use Rattle.script_parts.specs.declared.part.Part.{Part}
+use Rattle.script_runs.specs.declared.loss.Fate.{Fate}
+use Rattle.script_runs.specs.declared.part.Part.{Part}
 use Rattle.script_runs.specs.declared.player.Player.{Player}
 use Rattle.script_runs.specs.Calls.{IsCallWith, MayEnd, seat_at}
-use Rattle.script_parts.specs.Fates.{fate_of}
+use Rattle.script_runs.specs.Fates.{fate_of}
 use Rattle.script_runs.specs.Steps.Playing.{HasCalled, HasMade, IsLife, IsStill, Plays, StandsSince}
-use Rattle.script_parts.specs.Parts.{lives_of}
+use Rattle.script_runs.specs.Parts.{lives_of}
 use Rattle.script_runs.proofs.Lives.{seat_more, seat_within}
 use Rattle.script_runs.proofs.Since.{new_since, quiet_since, turn_since}
 use Rattle.script_runs.proofs.Stale.{told_stale}

@@ -6,12 +6,12 @@ use Rattle.call_types.specs.declared.entry.Entry.{Entry}
 use Rattle.binder_model.specs.Told.{own}
 use Rattle.worker_core.specs.declared.role.Role.{Role}
 use Rattle.worker_core.specs.Stands.{StandsFor}
-use Rattle.script_parts.specs.declared.part.Part.{Part}
+use Rattle.script_runs.specs.declared.part.Part.{Part}
 use Rattle.script_runs.specs.declared.player.Player.{Player}
 use Rattle.script_runs.specs.Calls.{AreCalls, IsCall, MayEnd, MoreCalls, NoCalls, seat_at}
 use Rattle.script_runs.specs.Replays.{and_idle}
 use Rattle.script_runs.specs.Steps.Playing.{HasGone, HasMade, HasTurned, IsStill, Plays, StandsSince}
-use Rattle.script_parts.specs.Parts.{lives_of}
+use Rattle.script_runs.specs.Parts.{lives_of}
 
 -- no call has been made yet
 pub not_gone : (idle : ℕ → List Entry) (past : List Entry) (x : Player) → Plays x past idle → HasGone 0 idle past past x x

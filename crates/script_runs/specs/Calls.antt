@@ -11,10 +11,10 @@ use Rattle.binder_model.specs.Reading.{follows}
 use Rattle.binder_model.specs.Told.{SomeOf}
 use Rattle.worker_core.specs.Memories.{is_stale_told}
 use Rattle.worker_core.specs.Stands.{HasNoNews}
-use Rattle.script_parts.specs.declared.loss.Fate.{Fate}
-use Rattle.script_parts.specs.declared.loss.Fate.TheVariants.{Told, LostBefore, LostAfter}
-use Rattle.script_parts.specs.Fates.{fate_of}
-use Rattle.script_parts.specs.declared.part.Part.{Part}
+use Rattle.script_runs.specs.declared.loss.Fate.{Fate}
+use Rattle.script_runs.specs.declared.loss.Fate.TheVariants.{Told, LostBefore, LostAfter}
+use Rattle.script_runs.specs.Fates.{fate_of}
+use Rattle.script_runs.specs.declared.part.Part.{Part}
 
 -- how many of the restarts come before the call of this number: a restart comes after so many calls
 abbrev pub restarts_before : ℕ → List ℕ → ℕ

@@ -5,18 +5,18 @@ use Rattle.std.specs.Prelude.{ℕ, zero, suc, ◌≡◌, ◌≤◌, ◌<◌, ◌
 use Rattle.call_types.specs.declared.entry.Entry.{Entry}
 use Rattle.call_types.specs.declared.request.SeatKind.TheVariants as seats
 use Rattle.binder_model.specs.Told.{own}
-use Rattle.diligent_law.specs.Diligence.{Call, IsDiligent, entries}
+use Rattle.attention_law.specs.Diligence.{Call, IsDiligent, entries}
 use Rattle.worker_core.specs.declared.role.Role.{Role}
 use Rattle.world_core.specs.declared.drained.Drained.{Drained}
 use Rattle.script_lines.specs.declared.actors.Actor.{Actor}
 use Rattle.script_lines.specs.declared.actors.Actor.TheVariants.{Worker, Agent}
 use Rattle.script_text.specs.declared.script.Line.TheVariants.{Turn}
 use Rattle.script_text.specs.declared.script.Script.{Script}
-use Rattle.script_parts.specs.declared.loss.Fate.{Fate}
-use Rattle.script_parts.specs.declared.loss.Fate.TheVariants.{Told, LostBefore, LostAfter}
-use Rattle.script_parts.specs.declared.part.Part.{Part}
-use Rattle.script_parts.specs.Fates.{fate_of}
-use Rattle.script_parts.specs.Parts.{kind_of_worker, lives_of, part_of}
+use Rattle.script_runs.specs.declared.loss.Fate.{Fate}
+use Rattle.script_runs.specs.declared.loss.Fate.TheVariants.{Told, LostBefore, LostAfter}
+use Rattle.script_runs.specs.declared.part.Part.{Part}
+use Rattle.script_runs.specs.Fates.{fate_of}
+use Rattle.script_runs.specs.Parts.{kind_of_worker, lives_of, part_of}
 use Rattle.script_runs.specs.Calls.{seat_at}
 use Rattle.script_runs.specs.Replays.{IsReplay, Progress}
 

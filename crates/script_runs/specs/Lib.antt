@@ -1,3 +1,8 @@
+pub mod Budget
+pub mod Examples
+pub mod Fates
+pub mod Limits
+pub mod Parts
 pub mod Calls
 pub mod Diligent
 pub mod Replays

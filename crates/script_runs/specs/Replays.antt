@@ -15,10 +15,10 @@ use Rattle.worker_threads.specs.Longer.{IsLonger, users_of}
 use Rattle.script_text.specs.declared.script.Line.{Line}
 use Rattle.script_text.specs.declared.script.Line.TheVariants.{Call, Lose, Restart, Turn, Drain}
 use Rattle.script_text.specs.declared.script.Script.{Script}
-use Rattle.script_parts.specs.declared.part.Part.{Part}
-use Rattle.script_parts.specs.Budget.{first_budget, raised}
+use Rattle.script_runs.specs.declared.part.Part.{Part}
+use Rattle.script_runs.specs.Budget.{first_budget, raised}
 use Rattle.script_runs.specs.Calls.{AreCalls, MayEnd, seat_at}
-use Rattle.script_parts.specs.Parts.{drain_seats, part_of}
+use Rattle.script_runs.specs.Parts.{drain_seats, part_of}
 
 -- how far a replay has come
 pub record Progress : Type 0 where

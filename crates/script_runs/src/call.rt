@@ -8,15 +8,15 @@ ghost use Rattle.binder_model.specs.Told.{own};
 ghost use Rattle.binder_model.specs.World.{IsHistory};
 ghost use Rattle.worker_core.specs.Stands.{StandsFor};
 ghost use Rattle.worker_core.specs.States.{asked};
-ghost use Rattle.fitting_calls.specs.Calls.{AreByActors};
-ghost use Rattle.script_parts.specs.declared.loss.Fate.TheVariants.{Told, LostAfter, LostBefore};
+ghost use Rattle.size_calls.specs.Calls.{AreByActors};
+ghost use Rattle.script_runs.specs.declared.loss.Fate.TheVariants.{Told, LostAfter, LostBefore};
 ghost use Rattle.script_runs.specs.Calls.{IsCallWith};
 ghost use Rattle.script_runs.specs.Steps.Living.{GoesOn};
 ghost use Rattle.script_runs.specs.Steps.Playing.{HasCalled};
 
+use crate::loss::Fate;
 use call_types::request::{Request, SeatKind};
 use kube_types::copies::OutOfMemory;
-use script_parts::loss::Fate;
 use worker_core::actor::Actor;
 use worker_core::turn::Outcome;
 use world_core::kept::KeptWorld;

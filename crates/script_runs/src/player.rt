@@ -2,16 +2,16 @@
 
 ghost use Rattle.std.specs.Prelude.{◌≡◌, ◌<◌, ◌+◌, ◌^◌, ℕ, List, true, IfOk, OnOk, length};
 ghost use Rattle.call_types.specs.declared.entry.Entry.{Entry};
-ghost use Rattle.fitting_calls.specs.Calls.{AreByActors};
+ghost use Rattle.size_calls.specs.Calls.{AreByActors};
 ghost use Rattle.worker_core.specs.declared.role.Role.{Role};
 ghost use Rattle.script_runs.specs.Calls.{restarts_before, seat_at};
 ghost use Rattle.script_runs.specs.Steps.Living.{HasLived, Lives};
 ghost use Rattle.script_runs.specs.Steps.Playing.{HasStepped, HasTurned, IsSmall, Plays, SomePlays};
 
 use crate::call::make;
+use crate::loss::fate_of;
+use crate::part::Part;
 use kube_types::copies::OutOfMemory;
-use script_parts::loss::fate_of;
-use script_parts::part::Part;
 use worker_core::actor::Actor;
 use worker_core::turn::Next;
 use world_core::kept::KeptWorld;

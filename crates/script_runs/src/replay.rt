@@ -1,8 +1,8 @@
 //! A script replayed.
 
 ghost use Rattle.std.specs.Prelude.{◌≡◌, IfOk};
-ghost use Rattle.script_parts.specs.Limits.{IsReadable};
-ghost use Rattle.fitting_calls.specs.Calls.{AreByActors};
+ghost use Rattle.script_runs.specs.Limits.{IsReadable};
+ghost use Rattle.size_calls.specs.Calls.{AreByActors};
 ghost use Rattle.script_runs.specs.Diligent.{IsDiligentReplay};
 ghost use Rattle.script_runs.specs.Replays.{IsReplay};
 

@@ -14,7 +14,7 @@ use Rattle.kube_types.specs.Bindings.{class_of_claim}
 use Rattle.kube_types.specs.Keys.{AreRows, key_of, row_at, rows_of}
 use Rattle.kube_types.proofs.RowPlaces.{place_of_row}
 use Rattle.call_types.specs.declared.setup.Setup.{Setup}
-use Rattle.binder_model.specs.Choice.{IsProvisioned, Share, TakesVolume, claim_in, claims_of, others_of}
+use Rattle.binder_model.specs.Choice.{AreShares, IsProvisioned, Share, TakesVolume, claim_in, claims_of, others_of}
 use Rattle.binder_model.specs.Due.{CanPrepare, is_served_on, shares_are_served}
 use Rattle.binder_model.specs.ObjectKeys.{class_key, node_key}
 use Rattle.binder_model.specs.World.{World}
@@ -34,13 +34,15 @@ module _ (setup : Setup) (w : World) (n : NodeData) where
   stored_served : (c : ClaimData) → IsStored w.store.rows c → key_is_served setup w n (key_of (Claim c)) ≡ is_served_on setup w n c c.meta.uid (row_at (class_key (class_of_claim c)) w.store.rows)
   stored_served c at = ap (λ (o : Option Object). claim_is_served setup w n (claim_in o)) at
 
-  keys_served : (cs : List ClaimData) (shares : List Share) → Each (IsStored w.store.rows) cs → list_all (key_is_served setup w n) (provisions_of cs shares) ≡ shares_are_served setup w n cs shares
-  keys_served [] shares stored = refl
-  keys_served (c ∷ cs) [] stored = refl
-  keys_served (c ∷ cs) (TakesVolume place ∷ shares) stored = keys_served cs shares stored.1
-  keys_served (c ∷ cs) (IsProvisioned ∷ shares) stored =
+  keys_served : (cs : List ClaimData) (shares : List Share) (taken : List ℕ) → Each (IsStored w.store.rows) cs → AreShares w.store.rows n taken cs shares → list_all (key_is_served setup w n) (provisions_of cs shares) ≡ shares_are_served setup w n cs shares
+  keys_served [] [] taken stored are = refl
+  keys_served [] (TakesVolume place ∷ shares) taken stored are = absurd are
+  keys_served [] (IsProvisioned ∷ shares) taken stored are = absurd are
+  keys_served (c ∷ cs) [] taken stored are = absurd are
+  keys_served (c ∷ cs) (TakesVolume place ∷ shares) taken stored are = keys_served cs shares (place ∷ taken) stored.1 are.1
+  keys_served (c ∷ cs) (IsProvisioned ∷ shares) taken stored are =
       ap (λ b. b && list_all (key_is_served setup w n) (provisions_of cs shares)) (stored_served c stored.0)
-      ∙ ap (λ b. is_served_on setup w n c c.meta.uid (row_at (class_key (class_of_claim c)) w.store.rows) && b) (keys_served cs shares stored.1)
+      ∙ ap (λ b. is_served_on setup w n c c.meta.uid (row_at (class_key (class_of_claim c)) w.store.rows) && b) (keys_served cs shares taken stored.1 are.2)
 
 not_true : {P : Type 0} → false ≡ true → P
 not_true e = absurd (true≢false (sym e))
@@ -52,7 +54,7 @@ module _ (setup : Setup) (w : World) (order : AreRows w.store.rows) (plain : Hav
 
   given_is : (n : NodeData) (binds : List (Key × Key)) (keys : List Key) (pr : Prepares w.store.rows (claims_of w.store.rows p) n binds keys)
       → list_all (key_is_served setup w n) keys ≡ shares_are_served setup w n (others_of w.store.rows p) pr.shares
-  given_is n binds keys pr = ap (list_all (key_is_served setup w n)) pr.provisions_are ∙ keys_served setup w n (others_of w.store.rows p) pr.shares (others_stored w.store.rows p)
+  given_is n binds keys pr = ap (list_all (key_is_served setup w n)) pr.provisions_are ∙ keys_served setup w n (others_of w.store.rows p) pr.shares (set_aside w.store.rows) (others_stored w.store.rows p) pr.serves.shared
 
   -- what would be prepared on a node
   pub decided_on : (n : NodeData) (found : Option Choice) → IsPreparedOn w.store.rows (claims_of w.store.rows p) n found → Decides (is_given setup w n found) (CanPrepareOn setup w p n)

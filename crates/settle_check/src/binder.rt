@@ -47,6 +47,7 @@ fn claim_action_due(action: ClaimAction) -> Option<Due>
     match action {
         ClaimAction::Nothing | ClaimAction::ReadVolume => None,
         ClaimAction::Bind(_) => Some(Due::Bind),
+        ClaimAction::AssignClass(_) => Some(Due::AssignClass),
         ClaimAction::Lost => Some(Due::Lost),
     }
 }

@@ -1,22 +1,30 @@
-//! Cases of texts: quantities, ids, manifests that are read and printed, the small types under them,
-//! and decision tables.
-//! A line that is read is a call, a blank and what it is made with; a line is written for each, or one
-//! for each object of a List.
+//! Cases of texts. A line that is read is the word of its family, a blank and what the family reads; what the family answers
+//! is written.
+//!
+//! `script` and `history`: texts that are read, and printed again; `gen`: generated scripts; `audit`: a history that goes on
+//! from line to line, and the verdict on it. Calls of a history are written as `sample_objects` reads them.
 #![tactic(auto)]
 
 mod answers;
-mod format_words;
-mod manifests;
-mod parts;
-mod tables;
+mod audits;
+mod generated;
+mod histories;
+mod scripts;
+mod words;
 
+use crate::audits::Told;
 use plain_data::copies::OutOfMemory;
 use std::io;
 
 fn main(rt: HostRuntime) -> io::Result<()> {
+    let mut told = match Told::new(rt.alloc()) {
+        Ok(told) => told,
+        Err(OutOfMemory) => return println!(rt; "no memory"),
+    };
     for line in rt.lines(rt.alloc()) {
-        match answers::answer(rt.alloc(), line?.as_str()) {
-            Ok(text) => println!(rt; "{text}")?,
+        match answers::answer(rt.alloc(), &mut told, line?.as_str()) {
+            Ok(None) => {}
+            Ok(Some(text)) => println!(rt; "{text}")?,
             Err(OutOfMemory) => println!(rt; "no memory")?,
         }
     }

@@ -3,11 +3,11 @@
 ghost use Rattle.std.specs.Prelude.{◌≡◌, IfOk};
 ghost use Rattle.std.specs.Option.{option_copied};
 ghost use Rattle.kube_types.specs.Keys.{AreRows};
-ghost use Rattle.binder_model.specs.Store.{is_default, newer_class, default_class, class_name, text_lt, lacks_named_node, lacks_node};
+ghost use Rattle.binder_model.specs.Store.{newer_class, default_class, class_name, text_lt, lacks_named_node, lacks_node};
 ghost use Rattle.version_store.specs.Steps.Made.{default_from};
 
-use kube_types::bindings::IS_DEFAULT_CLASS;
 use kube_types::copies::{OutOfMemory, Plain};
+use kube_types::defaults::is_default;
 use kube_types::key::Key;
 use kube_types::objects::{Class, Object};
 use kube_types::parts::Kind;
@@ -19,15 +19,6 @@ fn is_earlier(a: &Text, b: &Text) -> bool
     ensures { result ≡ text_lt a.now b.now }
 {
     a.as_str().cmp(b.as_str()).is_lt()
-}
-
-fn is_default(class: &Class) -> bool
-    ensures { result ≡ is_default class.now }
-{
-    match class.meta.annotations.get(IS_DEFAULT_CLASS) {
-        None => false,
-        Some(value) => value.is("true"),
-    }
 }
 
 /// The newer of two classes, the first of two of one moment.

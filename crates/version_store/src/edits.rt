@@ -7,44 +7,27 @@ ghost use Rattle.kube_types.specs.Bindings.{bound_by_controller};
 ghost use Rattle.kube_types.specs.Keys.{meta_of};
 ghost use Rattle.binder_model.specs.Store.{with_meta, with_finalizer};
 ghost use Rattle.binder_model.specs.Edits.{edited_object, with_volume_name, without_name};
+ghost use Rattle.version_store.specs.Steps.Metadata.{changed_meta};
 
-use crate::writes::meta_mut;
+use crate::metadata::{MetaChange, write_meta};
 use call_types::edit::Edit;
 use field_rules::add_finalizer;
 use kube_types::bindings::BOUND_BY_CONTROLLER;
 use kube_types::copies::{OutOfMemory, Plain};
 use kube_types::key::meta_of;
-use kube_types::objects::{Claim, Object, Ref, Volume};
+use kube_types::objects::{Object, Ref, Volume};
 use kube_types::pairs::Pairs;
 use kube_types::parts::Policy;
 use kube_types::text::{Names, Text};
 use std::alloc::Global;
 
-fn with_finalizers(mut object: Object, finalizers: Names) -> Object
-    ensures { result ≡ with_meta object (record (meta_of object) { finalizers = finalizers }) }
+/// The object with the change of its metadata.
+fn with_change(alloc: Global, object: &Object, change: MetaChange) -> Result<Object, OutOfMemory>
+    ensures { IfOk result (λ o. o ≡ with_meta object.now (changed_meta change (meta_of object.now))) }
 {
-    meta_mut(&mut object).finalizers = finalizers;
-    object
-}
-
-fn with_labels(mut object: Object, labels: Pairs) -> Object
-    ensures { result ≡ with_meta object (record (meta_of object) { labels = labels }) }
-{
-    meta_mut(&mut object).labels = labels;
-    object
-}
-
-fn with_annotations(mut object: Object, annotations: Pairs) -> Object
-    ensures { result ≡ with_meta object (record (meta_of object) { annotations = annotations }) }
-{
-    meta_mut(&mut object).annotations = annotations;
-    object
-}
-
-fn set_volume_name(claim: &mut Claim, name: Text)
-    ensures { claim.new ≡ record claim.old { volume_name = name } }
-{
-    claim.volume_name = name;
+    let mut changed = object.copy(alloc)?;
+    write_meta(alloc, &mut changed, change)?;
+    Ok(changed)
 }
 
 #[tactic(auto, unfolding(binder_model::specs::Edits::with_volume_name))]
@@ -59,17 +42,11 @@ fn with_volume_name(
         Object::Claim(claim) => {
             let name = name.copy(alloc)?;
             let mut claim = claim.copy(alloc)?;
-            set_volume_name(&mut claim, name);
+            claim.value_mut(alloc)?.volume_name = name;
             Ok(Some(Object::Claim(claim)))
         }
         _ => Ok(None),
     }
-}
-
-fn set_reference(volume: &mut Volume, reference: Option<Ref>)
-    ensures { volume.new ≡ record volume.old { claim_ref = reference } }
-{
-    volume.claim_ref = reference;
 }
 
 fn with_added_finalizer(alloc: Global, name: &Text, object: &Object) -> Result<Object, OutOfMemory>
@@ -77,7 +54,7 @@ fn with_added_finalizer(alloc: Global, name: &Text, object: &Object) -> Result<O
 {
     let mut finalizers = meta_of(object).finalizers.copy(alloc)?;
     add_finalizer(alloc, &mut finalizers, name.as_str())?;
-    Ok(with_finalizers(object.copy(alloc)?, finalizers))
+    with_change(alloc, object, MetaChange::Finalizers(finalizers))
 }
 
 fn without_name(alloc: Global, name: &Text, names: &Names) -> Result<Names, OutOfMemory>
@@ -94,7 +71,7 @@ fn with_dropped_finalizer(
     ensures { IfOk result (λ o. o ≡ with_meta object.now (record (meta_of object.now) { finalizers = without_name name.now (meta_of object.now).finalizers })) }
 {
     let finalizers = without_name(alloc, name, &meta_of(object).finalizers)?;
-    Ok(with_finalizers(object.copy(alloc)?, finalizers))
+    with_change(alloc, object, MetaChange::Finalizers(finalizers))
 }
 
 fn with_set_label(
@@ -107,7 +84,7 @@ fn with_set_label(
 {
     let mut labels = meta_of(object).labels.copy(alloc)?;
     labels.set(key, value)?;
-    Ok(with_labels(object.copy(alloc)?, labels))
+    with_change(alloc, object, MetaChange::Labels(labels))
 }
 
 fn with_dropped_label(alloc: Global, key: &Text, object: &Object) -> Result<Object, OutOfMemory>
@@ -115,7 +92,7 @@ fn with_dropped_label(alloc: Global, key: &Text, object: &Object) -> Result<Obje
 {
     let mut labels = meta_of(object).labels.copy(alloc)?;
     labels.drop_key(key);
-    Ok(with_labels(object.copy(alloc)?, labels))
+    with_change(alloc, object, MetaChange::Labels(labels))
 }
 
 fn with_set_annotation(
@@ -128,7 +105,7 @@ fn with_set_annotation(
 {
     let mut annotations = meta_of(object).annotations.copy(alloc)?;
     annotations.set(key, value)?;
-    Ok(with_annotations(object.copy(alloc)?, annotations))
+    with_change(alloc, object, MetaChange::Annotations(annotations))
 }
 
 fn with_dropped_annotation(
@@ -140,13 +117,7 @@ fn with_dropped_annotation(
 {
     let mut annotations = meta_of(object).annotations.copy(alloc)?;
     annotations.drop_key(key);
-    Ok(with_annotations(object.copy(alloc)?, annotations))
-}
-
-fn set_policy(volume: &mut Volume, policy: Policy)
-    ensures { volume.new ≡ record volume.old { policy = policy } }
-{
-    volume.policy = policy;
+    with_change(alloc, object, MetaChange::Annotations(annotations))
 }
 
 #[tactic(auto, unfolding(binder_model::specs::Edits::edited_object))]
@@ -160,7 +131,7 @@ fn with_policy(
     match object {
         Object::Volume(volume) => {
             let mut volume = volume.copy(alloc)?;
-            set_policy(&mut volume, policy);
+            volume.value_mut(alloc)?.policy = policy;
             Ok(Some(Object::Volume(volume)))
         }
         _ => Ok(None),
@@ -184,7 +155,7 @@ fn with_named_claim(
                 uid: None,
             };
             let mut volume = volume.copy(alloc)?;
-            set_reference(&mut volume, Some(reference));
+            volume.value_mut(alloc)?.claim_ref = Some(reference);
             Ok(Some(Object::Volume(volume)))
         }
         _ => Ok(None),
@@ -217,7 +188,7 @@ fn without_claim(alloc: Global, object: &Object) -> Result<Option<Object>, OutOf
         Object::Volume(volume) => {
             let annotations = without_maker(alloc, &volume.meta.annotations)?;
             let mut volume = volume.copy(alloc)?;
-            drop_reference(&mut volume, annotations);
+            drop_reference(volume.value_mut(alloc)?, annotations);
             Ok(Some(Object::Volume(volume)))
         }
         _ => Ok(None),

@@ -8,7 +8,7 @@ ghost use Rattle.binder_model.specs.Store.{with_finalizer, with_meta};
 ghost use Rattle.binder_model.specs.Imports.{base_of, binds_claim, greatest_number, imported_meta, imported_object, imported_phase, is_dropped, reference_of, rows_of_imports, serial_of, serial_or_zero};
 ghost use Rattle.version_store.specs.Steps.Made.{with_import};
 
-use crate::writes::meta_mut;
+use crate::metadata::{MetaChange, write_meta};
 use field_rules::add_finalizer;
 use finalizer_rules::leaves;
 use kube_types::bindings::{
@@ -18,6 +18,7 @@ use kube_types::copies::{OutOfMemory, Plain};
 use kube_types::key::{key_of, meta_of};
 use kube_types::objects::{Claim, Meta, Object, Version, Volume};
 use kube_types::parts::{ClaimPhase, VolumePhase};
+use kube_types::shared::Shared;
 use kube_types::table::put_in;
 use kube_types::text::Text;
 use kube_types::uid::Uid;
@@ -131,41 +132,51 @@ fn imported_phase(imports: &[Object], claim: &Claim) -> ClaimPhase
     }
 }
 
-fn imported_meta(alloc: Global, meta: &Meta) -> Result<Meta, OutOfMemory>
-    ensures { IfOk result (λ m. m ≡ imported_meta meta.now) }
+/// The moment of creation that an import gets.
+fn imported_creation(alloc: Global, meta: &Meta) -> Result<Text, OutOfMemory>
+    ensures { IfOk result (λ created. created ≡ (imported_meta meta.now).created) }
 {
-    let mut imported = meta.copy(alloc)?;
     if is_empty(&meta.created) {
-        imported.created = Text::new(alloc, FIRST_MOMENT)?;
+        return Text::new(alloc, FIRST_MOMENT);
     }
-    Ok(imported)
+    meta.created.copy(alloc)
 }
 
-fn protected_meta(alloc: Global, meta: &Meta, finalizer: &str) -> Result<Meta, OutOfMemory>
-    ensures { IfOk result (λ m. m ≡ record (imported_meta meta.now) { finalizers = with_finalizer finalizer.now meta.now.finalizers }) }
+/// Gives an imported object its moment of creation and this finalizer.
+fn protect(alloc: Global, meta: &mut Meta, finalizer: &str) -> Result<(), OutOfMemory>
+    ensures { OnOk result (meta.new ≡ record (imported_meta meta.old) { finalizers = with_finalizer finalizer.now meta.old.finalizers }) }
 {
-    let mut imported = imported_meta(alloc, meta)?;
-    add_finalizer(alloc, &mut imported.finalizers, finalizer)?;
-    Ok(imported)
+    meta.created = imported_creation(alloc, meta)?;
+    add_finalizer(alloc, &mut meta.finalizers, finalizer)
 }
 
-fn imported_volume(alloc: Global, volume: &Volume) -> Result<Volume, OutOfMemory>
+fn imported_volume(alloc: Global, volume: &Shared<Volume>) -> Result<Shared<Volume>, OutOfMemory>
     ensures { IfOk result (λ v. v ≡ record volume.now { meta = record (imported_meta volume.now.meta) { finalizers = with_finalizer pv_protection volume.now.meta.finalizers } }) }
 {
-    let meta = protected_meta(alloc, &volume.meta, PV_PROTECTION)?;
     let mut imported = volume.copy(alloc)?;
-    imported.meta = meta;
+    let own = imported.value_mut(alloc)?;
+    protect(alloc, &mut own.meta, PV_PROTECTION)?;
     Ok(imported)
 }
 
-fn imported_claim(alloc: Global, imports: &[Object], claim: &Claim) -> Result<Claim, OutOfMemory>
+/// Gives an imported claim this phase, its moment of creation and its finalizer.
+fn begin_claim(alloc: Global, claim: &mut Claim, phase: ClaimPhase) -> Result<(), OutOfMemory>
+    ensures { OnOk result (claim.new ≡ record claim.old { meta = record (imported_meta claim.old.meta) { finalizers = with_finalizer pvc_protection claim.old.meta.finalizers }; phase = phase }) }
+{
+    claim.phase = phase;
+    protect(alloc, &mut claim.meta, PVC_PROTECTION)
+}
+
+fn imported_claim(
+    alloc: Global,
+    imports: &[Object],
+    claim: &Shared<Claim>,
+) -> Result<Shared<Claim>, OutOfMemory>
     ensures { IfOk result (λ c. c ≡ record claim.now { meta = record (imported_meta claim.now.meta) { finalizers = with_finalizer pvc_protection claim.now.meta.finalizers }; phase = imported_phase imports.now claim.now }) }
 {
-    let meta = protected_meta(alloc, &claim.meta, PVC_PROTECTION)?;
     let phase = imported_phase(imports, claim);
     let mut imported = claim.copy(alloc)?;
-    imported.meta = meta;
-    imported.phase = phase;
+    begin_claim(alloc, imported.value_mut(alloc)?, phase)?;
     Ok(imported)
 }
 
@@ -173,9 +184,9 @@ fn imported_claim(alloc: Global, imports: &[Object], claim: &Claim) -> Result<Cl
 fn with_imported_meta(alloc: Global, object: &Object) -> Result<Object, OutOfMemory>
     ensures { IfOk result (λ o. o ≡ with_meta object.now (imported_meta (meta_of object.now))) }
 {
-    let meta = imported_meta(alloc, meta_of(object))?;
+    let created = imported_creation(alloc, meta_of(object))?;
     let mut imported = object.copy(alloc)?;
-    *meta_mut(&mut imported) = meta;
+    write_meta(alloc, &mut imported, MetaChange::Creation(created))?;
     Ok(imported)
 }
 

@@ -29,6 +29,7 @@ use kube_types::key::{key_of, kind_of, meta_of, same_kind};
 use kube_types::names::{Field, Rule};
 use kube_types::objects::{Object, Pod, Version};
 use kube_types::parts::Kind;
+use kube_types::shared::Shared;
 use kube_types::table::row;
 use kube_types::text::Text;
 use kube_types::uid::Uid;
@@ -169,7 +170,7 @@ fn update_status(
     }
     match with_status(alloc, status, old)? {
         None => Ok(refuse_with(Refusal::Invalid(Field::Kind))),
-        Some(new) => Ok(write_outcome(at_version(new, version + 1))),
+        Some(new) => Ok(write_outcome(at_version(alloc, new, version + 1)?)),
     }
 }
 
@@ -296,7 +297,7 @@ fn list(
 
 /// The row, where it is the pod with this UID.
 #[tactic(auto, unfolding(binder_model::specs::Answers::pod_with))]
-fn pod_with<'a>(uid: Uid, row: Option<&'a Object>) -> Option<&'a Pod>
+fn pod_with<'a>(uid: Uid, row: Option<&'a Object>) -> Option<&'a Shared<Pod>>
     ensures { option_copied result ≡ pod_with uid (option_copied row.entry) }
 {
     match row {
@@ -311,20 +312,19 @@ fn pod_with<'a>(uid: Uid, row: Option<&'a Object>) -> Option<&'a Pod>
     }
 }
 
-fn with_node(mut pod: Pod, node: Text) -> Pod
-    ensures { result ≡ record pod { node = node } }
-{
-    pod.node = node;
-    pod
-}
-
 /// The pod on this node.
-fn bound_pod(alloc: Global, pod: &Pod, node: &Text, version: Version) -> Result<Object, OutOfMemory>
+fn bound_pod(
+    alloc: Global,
+    pod: &Shared<Pod>,
+    node: &Text,
+    version: Version,
+) -> Result<Object, OutOfMemory>
     ensures { IfOk result (λ o. o ≡ at_version (objects.Pod (record pod.now { node = node.now })) version) }
 {
     let node = node.copy(alloc)?;
-    let bound = with_node(pod.copy(alloc)?, node);
-    Ok(at_version(Object::Pod(bound), version))
+    let mut bound = pod.copy(alloc)?;
+    bound.value_mut(alloc)?.node = node;
+    at_version(alloc, Object::Pod(bound), version)
 }
 
 #[tactic(auto, unfolding(binder_model::specs::Answers::bind, binder_model::specs::Answers::refuse))]
@@ -333,7 +333,7 @@ fn bind(
     rows: &[Object],
     version: Version,
     node: &Text,
-    pod: Option<&Pod>,
+    pod: Option<&Shared<Pod>>,
 ) -> Result<Made, OutOfMemory>
     requires rows { AreRows rows.now }
     requires room { version + 1 < 2 ^ 62 }
@@ -359,7 +359,7 @@ fn finish(
     version: Version,
     stale: Option<u64>,
     node: &Text,
-    pod: Option<&Pod>,
+    pod: Option<&Shared<Pod>>,
 ) -> Result<Made, OutOfMemory>
     requires { version + 1 < 2 ^ 62 }
     ensures { IfOk result (λ made. (rows : List Object) → outcome_of made ≡ finish (state_of rows version) stale node.now (option_copied pod.entry)) }
@@ -377,7 +377,7 @@ fn finish(
         return Ok(refuse_with(Refusal::Invalid(Field::NodeName)));
     }
     let finished = Object::Pod(pod.copy(alloc)?);
-    Ok(Made::Removes(at_version(finished, version + 1)))
+    Ok(Made::Removes(at_version(alloc, finished, version + 1)?))
 }
 
 /// What an update comes to.

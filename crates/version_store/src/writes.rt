@@ -1,64 +1,56 @@
 //! What a write makes of an object.
 
 ghost use Rattle.std.specs.Prelude.{◌≡◌, ◌<◌, ◌^◌, Some, IfOk};
-ghost use Rattle.std.specs.Borrow.{sem};
 ghost use Rattle.std.specs.Option.{option_copied};
 ghost use Rattle.kube_types.specs.declared.objects.Object.TheVariants as objects;
 ghost use Rattle.kube_types.specs.Keys.{meta_of};
 ghost use Rattle.binder_model.specs.Store.{with_meta, at_version, marked_object, without_status, created_object, with_status_of, updated_object};
 ghost use Rattle.binder_model.specs.Answers.{with_status};
-ghost use Rattle.version_store.specs.Steps.Made.{LendsMeta};
 
+use crate::metadata::{MetaChange, write_meta};
 use call_types::request::NewStatus;
 use field_rules::admit;
 use kube_types::copies::{OutOfMemory, Plain, copy_option};
 use kube_types::key::meta_of;
-use kube_types::objects::{Amount, Claim, Meta, Object, Version, Volume};
+use kube_types::objects::{Amount, Claim, Object, Version, Volume};
 use kube_types::parts::{ClaimPhase, Modes, VolumePhase};
+use kube_types::shared::Shared;
 use kube_types::text::Text;
 use kube_types::uid::Uid;
 use std::alloc::Global;
 
-/// The metadata of an object, to be written.
-#[tactic(auto, unfolding(binder_model::specs::Store::with_meta))]
-pub fn meta_mut(object: &mut Object) -> &mut Meta
-    ensures* lends { sem 𝓛 (LendsMeta object.entry result) }
-    ensures value { result.now ≡ meta_of object.old }
-{
-    match object {
-        Object::Class(x) => &mut x.meta,
-        Object::Node(x) => &mut x.meta,
-        Object::Volume(x) => &mut x.meta,
-        Object::Claim(x) => &mut x.meta,
-        Object::Pod(x) => &mut x.meta,
-    }
-}
-
 /// The object at this version.
 #[tactic(auto, unfolding(binder_model::specs::Store::at_version))]
-pub fn at_version(mut object: Object, version: Version) -> Object
-    ensures { result ≡ at_version object version }
+pub fn at_version(
+    alloc: Global,
+    mut object: Object,
+    version: Version,
+) -> Result<Object, OutOfMemory>
+    ensures { IfOk result (λ o. o ≡ at_version object version) }
 {
-    meta_mut(&mut object).version = version;
-    object
+    write_meta(alloc, &mut object, MetaChange::Version(version))?;
+    Ok(object)
 }
 
 /// The object with what is not a user's to choose.
 fn with_identity(
+    alloc: Global,
     mut object: Object,
     uid: Option<Uid>,
     version: Version,
     created: Text,
     deleted: Option<Text>,
-) -> Object
-    ensures { result ≡ with_meta object (record (meta_of object) { uid = uid; version = version; created = created; deleted = deleted }) }
+) -> Result<Object, OutOfMemory>
+    ensures { IfOk result (λ o. o ≡ with_meta object (record (meta_of object) { uid = uid; version = version; created = created; deleted = deleted })) }
 {
-    let meta = meta_mut(&mut object);
-    meta.uid = uid;
-    meta.version = version;
-    meta.created = created;
-    meta.deleted = deleted;
-    object
+    let identity = MetaChange::Identity {
+        uid,
+        version,
+        created,
+        deleted,
+    };
+    write_meta(alloc, &mut object, identity)?;
+    Ok(object)
 }
 
 /// The object at this version, to be deleted since this moment.
@@ -71,26 +63,22 @@ pub fn marked_object(
 ) -> Result<Object, OutOfMemory>
     ensures { IfOk result (λ o. o ≡ marked_object object.now version moment.now) }
 {
-    let deleted = moment.copy(alloc)?;
+    let moment = moment.copy(alloc)?;
     let mut marked = object.copy(alloc)?;
-    let meta = meta_mut(&mut marked);
-    meta.version = version;
-    meta.deleted = Some(deleted);
+    write_meta(alloc, &mut marked, MetaChange::Deletion(version, moment))?;
     Ok(marked)
 }
 
-fn set_phase(volume: &mut Volume, phase: VolumePhase)
-    ensures { volume.new ≡ record volume.old { phase = phase } }
-{
-    volume.phase = phase;
-}
-
 /// The volume in this phase.
-fn volume_at(alloc: Global, volume: &Volume, phase: VolumePhase) -> Result<Volume, OutOfMemory>
+fn volume_at(
+    alloc: Global,
+    volume: &Shared<Volume>,
+    phase: VolumePhase,
+) -> Result<Shared<Volume>, OutOfMemory>
     ensures { IfOk result (λ v. v ≡ record volume.now { phase = phase }) }
 {
     let mut volume = volume.copy(alloc)?;
-    set_phase(&mut volume, phase);
+    volume.value_mut(alloc)?.phase = phase;
     Ok(volume)
 }
 
@@ -106,16 +94,16 @@ fn set_claim_status(claim: &mut Claim, phase: ClaimPhase, modes: Modes, amount: 
 /// The claim with this status.
 fn claim_at(
     alloc: Global,
-    claim: &Claim,
+    claim: &Shared<Claim>,
     phase: ClaimPhase,
     modes: Modes,
     amount: &Option<Amount>,
-) -> Result<Claim, OutOfMemory>
+) -> Result<Shared<Claim>, OutOfMemory>
     ensures { IfOk result (λ c. c ≡ record claim.now { phase = phase; got_modes = modes; got = amount.now }) }
 {
     let amount = copy_option(alloc, amount)?;
     let mut claim = claim.copy(alloc)?;
-    set_claim_status(&mut claim, phase, modes, amount);
+    set_claim_status(claim.value_mut(alloc)?, phase, modes, amount);
     Ok(claim)
 }
 
@@ -157,7 +145,7 @@ pub fn created_object(
     let admitted = admit(alloc, &fresh, default_class)?;
     let created = moment.copy(alloc)?;
     let uid = Some(Uid::from_serial(version));
-    Ok(with_identity(admitted, uid, version, created, None))
+    with_identity(alloc, admitted, uid, version, created, None)
 }
 
 #[tactic(auto, unfolding(binder_model::specs::Store::with_status_of))]
@@ -208,7 +196,7 @@ pub fn updated_object(
     let meta = meta_of(old);
     let created = meta.created.copy(alloc)?;
     let deleted = copy_option(alloc, &meta.deleted)?;
-    Ok(with_identity(kept, meta.uid, version, created, deleted))
+    with_identity(alloc, kept, meta.uid, version, created, deleted)
 }
 
 /// The object with this status, or none where it is not one of its kind.

@@ -28,7 +28,7 @@ use Rattle.worker_core.specs.Rules.{WokenIsBusy}
 use Rattle.worker_core.specs.Stands.{AreOwn, MayBeIdle, StandsFor}
 use Rattle.worker_core.specs.States.{State, asked, start_call}
 use Rattle.worker_core.specs.Turns.{AfterKeys, IsTurn, TurnBy, passing, unlisted}
-use Rattle.fitting_calls.specs.Calls.{AreByActors, IsByActor}
+use Rattle.size_calls.specs.Calls.{AreByActors, IsByActor}
 use Rattle.worker_threads.specs.declared.run.Ran.{Ran}
 use Rattle.worker_threads.specs.Longer.{IsLonger}
 use Rattle.worker_threads.specs.Rounds.{Asks, IsIdle, IsSpent, Runs, told_entry}

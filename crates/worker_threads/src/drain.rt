@@ -4,7 +4,7 @@ ghost use Rattle.std.specs.Prelude.{◌≡◌, ◌≤◌, ◌<◌, ◌-◌, ℕ,
 ghost use Rattle.binder_model.specs.Told.{own};
 ghost use Rattle.binder_model.specs.Due.{IsSettled};
 ghost use Rattle.settle_check.specs.WorldOf.{world_of};
-ghost use Rattle.fitting_calls.specs.Calls.{AreByActors};
+ghost use Rattle.size_calls.specs.Calls.{AreByActors};
 ghost use Rattle.worker_threads.specs.Drainers.{AreStanding, seats_of};
 ghost use Rattle.worker_threads.specs.Longer.{HasGrown, IsLonger, IsOneOf, users_of};
 ghost use Rattle.worker_threads.specs.Rounds.{Drains, EndsHere, EndsWith, made_of};

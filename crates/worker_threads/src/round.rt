@@ -4,7 +4,7 @@ ghost use Rattle.std.specs.Prelude.{◌≡◌, ◌≢◌, ◌≤◌, ◌<◌, �
 ghost use Rattle.call_types.specs.declared.request.SeatKind.TheVariants.{Agent};
 ghost use Rattle.binder_model.specs.Told.{own};
 ghost use Rattle.worker_core.specs.Absorbs.{woken};
-ghost use Rattle.fitting_calls.specs.Calls.{AreByActors};
+ghost use Rattle.size_calls.specs.Calls.{AreByActors};
 ghost use Rattle.worker_threads.specs.Drainers.{AreIdle, AreSeats, AreStanding, IsIdleNow, IsStanding, seats_of};
 ghost use Rattle.worker_threads.specs.Longer.{HasGrown, IsLonger, IsOneOf, users_of};
 ghost use Rattle.worker_threads.specs.Rounds.{IsRound, Runs};

@@ -8,7 +8,7 @@ ghost use Rattle.binder_model.specs.Told.{own};
 ghost use Rattle.binder_model.specs.World.{IsHistory};
 ghost use Rattle.worker_core.specs.Roles.{IsBuiltKind};
 ghost use Rattle.worker_core.specs.Stands.{MayBeIdle, StandsFor};
-ghost use Rattle.fitting_calls.specs.Calls.{AreByActors};
+ghost use Rattle.size_calls.specs.Calls.{AreByActors};
 ghost use Rattle.worker_threads.specs.Longer.{HasGrown, users_of};
 ghost use Rattle.worker_threads.specs.Rounds.{Runs};
 

@@ -1,30 +1,30 @@
-//! Cases of worlds and licences. A line that is read is a call; the line of the entry that it leaves is written.
+//! Cases of worlds, and of what seats may do there. A line that is read is the word of its family, a blank and what the
+//! family reads; what the family answers is written.
 //!
-//! Two worlds stand. In the kept one a controller's call is made only where its seat was told enough, and else the
-//! rule is written that refuses it; the free one answers each call that begins with `free`, and one with `quiet`
-//! without a line. `may` asks whether the seat may make a call after its entries in the free world. `lost` makes a
-//! call whose answer does not come back. `as` names the kind and the seat that call next; `new` begins anew, with
-//! the pools, faults and imports that were named, and writes the setup; `objects` writes those of the kept world,
-//! and a line of nothing behind them. The calls themselves are written as `plain_calls` reads them.
+//! `store`: calls on a store, its log and the devices; `world`: calls on worlds, and what the licence says of them;
+//! `evidence`: what one seat was told, and judgements of its requests; `actor`: actors on one world, some of whose calls are
+//! lost. Each family goes on from line to line. Calls on a store and on worlds are written as `sample_objects` reads them.
 #![tactic(auto)]
 
-mod lines;
-mod own;
+mod actors;
+mod answers;
+mod evidence;
+mod store;
+mod words;
 mod worlds;
 
-use crate::worlds::Worlds;
+use crate::answers::Benches;
 use plain_data::copies::OutOfMemory;
 use std::io;
 
 fn main(rt: HostRuntime) -> io::Result<()> {
-    let mut worlds = match Worlds::new(rt.alloc()) {
-        Ok(worlds) => worlds,
+    let mut benches = match Benches::new(rt.alloc()) {
+        Ok(benches) => benches,
         Err(OutOfMemory) => return println!(rt; "no memory"),
     };
     for line in rt.lines(rt.alloc()) {
-        match lines::answer(rt.alloc(), &mut worlds, line?.as_str()) {
-            Ok(None) => {}
-            Ok(Some(text)) => println!(rt; "{text}")?,
+        match benches.answer(rt.alloc(), line?.as_str()) {
+            Ok(text) => print!(rt; "{text}")?,
             Err(OutOfMemory) => println!(rt; "no memory")?,
         }
     }

@@ -1,157 +1,132 @@
-//! The worlds that stand while the lines are read.
+//! Lines of worlds and licences: each is a call, and the line of the entry that it leaves is written.
+//!
+//! Two worlds stand. In the kept one a controller's call is made only where its seat was told enough, and else the
+//! rule is written that refuses it; the free one answers each call that begins with `free`, and one with `quiet`
+//! without a line. `may` asks whether the seat may make a call after its entries in the free world. `lost` makes a
+//! call whose answer does not come back. `as` names the kind and the seat that call next; `new` begins anew, with
+//! the pools, faults and imports that were named, and writes the setup; `objects` writes those of the kept world,
+//! and a line of nothing behind them.
 
-ghost use Rattle.std.specs.Prelude.{OnOk};
+mod own;
+mod standing;
 
-use crate::own::{own, pass};
-use call_types::entry::Entry;
-use call_types::reply::Reply;
-use call_types::request::{Request, SeatKind};
-use call_types::setup::{Pool, Setup};
-use history_text::entries::print_entry;
-use history_text::lines::{Lines, push_objects};
-use history_text::setups::print_setup;
-use kube_types::names::LicenceRule;
-use kube_types::objects::Object;
-use licence_rules::licensed;
-use plain_calls::lines::text_of;
-use plain_data::copies::{OutOfMemory, Plain};
-use plain_data::items::Items;
+use crate::words::word;
+pub use crate::worlds::standing::Worlds;
+use call_types::request::Request;
+use call_types::setup::Pool;
+use object_text::reading::read_object;
+use plain_data::copies::OutOfMemory;
+use sample_objects::lines::{request, split};
+use sample_objects::nodes::pool;
+use sample_objects::words::{number, seat, words_of};
 use std::alloc::Global;
-use world_core::kept::KeptWorld;
-use world_core::world::World;
 
-/// Two worlds, who makes the next call, and what the next worlds begin with.
-#[derive(Drop)]
-pub struct Worlds {
-    pub alloc: Global,
-    pub kind: SeatKind,
-    pub seat: u64,
-    pub setup: Setup,
-    pub kept: KeptWorld,
-    pub free: World,
-}
-
-fn bare(alloc: Global) -> Setup {
-    Setup {
-        pools: Items::new(alloc),
-        faults: Items::new(alloc),
-        imports: Items::new(alloc),
+fn import(alloc: Global, worlds: &mut Worlds, manifest: &str) -> Result<bool, OutOfMemory> {
+    match read_object(alloc, manifest.as_bytes()) {
+        Err(_) => Ok(false),
+        Ok(object) => {
+            worlds.setup.imports.push(object)?;
+            Ok(true)
+        }
     }
 }
 
-/// What a call on the kept world came to.
-#[derive(Drop)]
-pub enum Called {
-    Refused(LicenceRule),
-    Answered(Reply),
+fn add_pool(alloc: Global, worlds: &mut Worlds, words: &[&str]) -> Result<bool, OutOfMemory> {
+    match pool(alloc, words)? {
+        None => Ok(false),
+        Some(pool) => {
+            worlds.setup.pools.push(pool)?;
+            Ok(true)
+        }
+    }
 }
 
-/// The call, where its seat may make it.
-fn call_kept(
+// Sets up what the words say. True where they set something up.
+fn sets_up(
     alloc: Global,
-    kept: &mut KeptWorld,
-    seat: u64,
-    kind: SeatKind,
+    worlds: &mut Worlds,
+    verb: &str,
+    words: &[&str],
+) -> Result<bool, OutOfMemory> {
+    match (verb, words) {
+        ("as", [kind, name]) => {
+            worlds.kind = seat(kind);
+            worlds.seat = number(name);
+            Ok(true)
+        }
+        ("fault", [word]) => {
+            worlds.setup.faults.push(number(word))?;
+            Ok(true)
+        }
+        ("pool", _) => add_pool(alloc, worlds, words),
+        _ => Ok(false),
+    }
+}
+
+fn of_call(
+    alloc: Global,
+    worlds: &mut Worlds,
+    how: &str,
     request: &Request,
-    told: bool,
-) -> Result<Called, OutOfMemory> {
-    let mine = own(alloc, kept.world().history(), seat)?;
-    match licensed(kind, &mine, request) {
-        Err(rule) => Ok(Called::Refused(rule)),
-        Ok(()) => Ok(Called::Answered(kept.call(seat, kind, request, told)?)),
+) -> Result<Option<String>, OutOfMemory> {
+    match how {
+        "lost" => Ok(Some(worlds.call(request, false)?)),
+        "free" => Ok(Some(worlds.call_free(request, true)?)),
+        "quiet" => {
+            let _line = worlds.call_free(request, true)?;
+            Ok(None)
+        }
+        "may" => Ok(Some(worlds.may(request)?)),
+        _ => Ok(Some(worlds.call(request, true)?)),
     }
 }
 
-/// The line of the last entry, which is to have this reply.
-fn last_line(alloc: Global, world: &World, reply: &Reply) -> Result<String, OutOfMemory> {
-    match world.history().last() {
-        None => Ok(String::from_str(alloc, "no entry")?),
-        Some(entry) => {
-            if !entry.reply.same(reply) {
-                return Ok(String::from_str(alloc, "another reply")?);
-            }
-            text_of(alloc, print_entry(alloc, entry)?)
-        }
+fn called(
+    alloc: Global,
+    worlds: &mut Worlds,
+    how: &str,
+    line: &str,
+) -> Result<Option<String>, OutOfMemory> {
+    let (verb, rest) = split(line);
+    match request(alloc, verb, rest)? {
+        None => Ok(Some(word(alloc, "no such call")?)),
+        Some(request) => of_call(alloc, worlds, how, &request),
     }
 }
 
-impl Worlds {
-    /// Empty worlds, and a user.
-    pub fn new(alloc: Global) -> Result<Worlds, OutOfMemory> {
-        let setup = bare(alloc);
-        if !pass(setup.imports.as_slice()) {
-            return Err(OutOfMemory);
-        }
-        let kept = KeptWorld::new(alloc, &setup, 16)?;
-        let free = World::new(alloc, &setup, 16)?;
-        Ok(Worlds {
-            alloc,
-            kind: SeatKind::User,
-            seat: 1,
-            setup,
-            kept,
-            free,
-        })
+fn other(
+    alloc: Global,
+    worlds: &mut Worlds,
+    verb: &str,
+    rest: &str,
+    line: &str,
+) -> Result<Option<String>, OutOfMemory> {
+    let words = words_of(alloc, rest)?;
+    if sets_up(alloc, worlds, verb, &words)? {
+        return Ok(None);
     }
+    called(alloc, worlds, "kept", line)
+}
 
-    /// The worlds with which the setup that was named begins. It is then forgotten.
-    pub fn begin(&mut self) -> Result<String, OutOfMemory> {
-        if !pass(self.setup.imports.as_slice()) {
-            self.setup = bare(self.alloc);
-            return Ok(String::from_str(self.alloc, "no such imports")?);
-        }
-        self.kept = KeptWorld::new(self.alloc, &self.setup, 16)?;
-        self.free = World::new(self.alloc, &self.setup, 16)?;
-        self.kind = SeatKind::User;
-        self.seat = 1;
-        let line = print_setup(self.alloc, &self.setup)?;
-        self.setup = bare(self.alloc);
-        text_of(self.alloc, line)
-    }
-
-    /// The call on the kept world: the line of its entry, or the rule that refuses it.
-    pub fn call(&mut self, request: &Request, told: bool) -> Result<String, OutOfMemory> {
-        let called = call_kept(
-            self.alloc,
-            &mut self.kept,
-            self.seat,
-            self.kind,
-            request,
-            told,
-        )?;
-        match called {
-            Called::Refused(rule) => {
-                let name = rule.name();
-                Ok(format!(in self.alloc; "refused {name}")?)
-            }
-            Called::Answered(reply) => last_line(self.alloc, self.kept.world(), &reply),
-        }
-    }
-
-    /// The call on the free world, and the line of its entry.
-    pub fn call_free(&mut self, request: &Request, told: bool) -> Result<String, OutOfMemory> {
-        let reply = self.free.call(self.seat, self.kind, request, told)?;
-        last_line(self.alloc, &self.free, &reply)
-    }
-
-    /// Whether the seat may make the call after its entries in the free world.
-    pub fn may(&self, request: &Request) -> Result<String, OutOfMemory> {
-        let mine = own(self.alloc, self.free.history(), self.seat)?;
-        match licensed(self.kind, &mine, request) {
-            Ok(()) => Ok(String::from_str(self.alloc, "may")?),
-            Err(rule) => {
-                let name = rule.name();
-                Ok(format!(in self.alloc; "refused {name}")?)
+/// What is written for a line, if anything.
+pub fn answer(
+    alloc: Global,
+    worlds: &mut Worlds,
+    line: &str,
+) -> Result<Option<String>, OutOfMemory> {
+    let (verb, rest) = split(line);
+    match verb {
+        "new" => Ok(Some(worlds.begin()?)),
+        "objects" => Ok(Some(worlds.objects()?)),
+        "import" => {
+            if import(alloc, worlds, rest)? {
+                Ok(None)
+            } else {
+                Ok(Some(word(alloc, "no such object")?))
             }
         }
-    }
-
-    /// The objects of the kept world, a line for each.
-    pub fn objects(&self) -> Result<String, OutOfMemory> {
-        let mut lines = Lines::new(self.alloc);
-        lines.push(b"objects")?;
-        push_objects(&mut lines, self.kept.world().store().objects())?;
-        lines.push(b"end")?;
-        text_of(self.alloc, lines.into_bytes())
+        "lost" | "free" | "quiet" | "may" => called(alloc, worlds, verb, rest),
+        "create" | "update" => called(alloc, worlds, "kept", line),
+        _ => other(alloc, worlds, verb, rest, line),
     }
 }

@@ -4,15 +4,15 @@ use Rattle.std.specs.Prelude.{ℕ, ◌≡◌, ◌≤◌, ◌<◌, Bool, true, fa
 use Rattle.call_types.specs.declared.entry.Entry.{Entry}
 use Rattle.call_types.specs.declared.request.Request.{Request}
 use Rattle.binder_model.specs.Told.{own}
-use Rattle.diligent_law.specs.Diligence.{Call, entries}
-use Rattle.diligent_law.specs.Played.{IsPlayed, Turns}
+use Rattle.attention_law.specs.Diligence.{Call, entries}
+use Rattle.attention_law.specs.Played.{IsPlayed, Turns}
 use Rattle.worker_core.specs.declared.role.Role.{Role}
 use Rattle.worker_core.specs.declared.turn.Next.TheVariants as nexts
 use Rattle.worker_core.specs.Roles.{IsBuiltKind}
 use Rattle.worker_core.specs.States.{State}
 use Rattle.world_core.specs.Kept.{History}
-use Rattle.script_parts.specs.declared.loss.Fate.{Fate}
-use Rattle.script_parts.specs.declared.part.Part.{Part}
+use Rattle.script_runs.specs.declared.loss.Fate.{Fate}
+use Rattle.script_runs.specs.declared.part.Part.{Part}
 use Rattle.script_runs.specs.declared.player.Player.{Player}
 use Rattle.script_runs.specs.Calls.{seat_at}
 use Rattle.script_runs.specs.Diligent.{AreOfLife, IsDiligentLife, leaves_entry}

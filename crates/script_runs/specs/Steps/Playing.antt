@@ -8,10 +8,10 @@ use Rattle.worker_core.specs.declared.role.Role.{Role}
 use Rattle.worker_core.specs.Roles.{IsBuiltKind}
 use Rattle.worker_core.specs.Stands.{IsNew, PassStands, StandsFor}
 use Rattle.worker_core.specs.States.{State}
-use Rattle.script_parts.specs.declared.part.Part.{Part}
+use Rattle.script_runs.specs.declared.part.Part.{Part}
 use Rattle.script_runs.specs.declared.player.Player.{Player}
 use Rattle.script_runs.specs.Calls.{AreCalls, IsCall, MayEnd, seat_at}
-use Rattle.script_parts.specs.Parts.{lives_of}
+use Rattle.script_runs.specs.Parts.{lives_of}
 use Rattle.script_runs.specs.Replays.{and_idle}
 
 -- the actor stands for its entries, and its pass for those after the earlier ones

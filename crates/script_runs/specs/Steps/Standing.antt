@@ -13,11 +13,11 @@ use Rattle.script_lines.specs.declared.actors.Actor.{Actor}
 use Rattle.script_lines.specs.declared.actors.Actor.TheVariants.{Worker, Agent}
 use Rattle.script_text.specs.declared.script.Line.{Line}
 use Rattle.script_text.specs.declared.script.Script.{Script}
-use Rattle.script_parts.specs.declared.part.Part.{Part}
+use Rattle.script_runs.specs.declared.part.Part.{Part}
 use Rattle.script_runs.specs.declared.player.Player.{Player}
 use Rattle.script_runs.specs.declared.stage.Stage.{Stage}
-use Rattle.script_parts.specs.Budget.{most_budget}
-use Rattle.script_parts.specs.Parts.{drain_seats, first_actor_seat, kind_of, lives_of, part_at}
+use Rattle.script_runs.specs.Budget.{most_budget}
+use Rattle.script_runs.specs.Parts.{drain_seats, first_actor_seat, kind_of, lives_of, part_at}
 use Rattle.script_lines.specs.Actors.{actor_word, four}
 use Rattle.worker_core.specs.declared.role.Role.{Role}
 use Rattle.script_runs.specs.Diligent.{role_of}

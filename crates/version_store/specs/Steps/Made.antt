@@ -1,17 +1,13 @@
--- What the store makes of a request, as the outcome that it stands for; a default class and a list, object by object;
--- metadata that are lent to be written.
+-- What the store makes of a request, as the outcome that it stands for; a default class and a list, object by object.
 use Rattle.std.specs.Prelude.{ℕ, Bool, true, ◌&&◌, List, Option, Some, None, if◌then◌else◌}
-use Rattle.std.specs.Borrow.{Lends, MutBor, Fml}
 use Rattle.kube_types.specs.declared.parts.Kind.{Kind}
 use Rattle.kube_types.specs.declared.objects.Class.{Class as ClassData}
-use Rattle.kube_types.specs.declared.objects.Meta.{Meta}
 use Rattle.kube_types.specs.declared.objects.Object.{Object}
 use Rattle.kube_types.specs.declared.objects.Object.TheVariants.{Class}
-use Rattle.kube_types.specs.contracts.objects.Meta.{the_row as meta_row}
-use Rattle.kube_types.specs.contracts.objects.Object.{the_row as object_row}
 use Rattle.kube_types.specs.Keys.{is_of_kind, put_row}
 use Rattle.binder_model.specs.Imports.{is_dropped, imported_object}
-use Rattle.binder_model.specs.Store.{State, is_default, newer_class, with_meta}
+use Rattle.kube_types.specs.Defaults.{is_default}
+use Rattle.binder_model.specs.Store.{State, newer_class}
 use Rattle.binder_model.specs.Answers.{Outcome, Says, Stores, Removes, is_in_namespace}
 use Rattle.version_store.specs.declared.outcome.Made.{Made}
 use Rattle.version_store.specs.declared.outcome.Made.TheVariants as made
@@ -40,7 +36,3 @@ is_listed (Some namespace) o = is_in_namespace namespace o
 
 abbrev pub is_wanted : Kind → Option (List ℕ) → Object → Bool
 is_wanted kind namespace o = is_of_kind kind o && is_listed namespace o
-
--- the object ends with the metadata that were last written
-abbrev pub LendsMeta : MutBor Object → MutBor Meta → Fml
-LendsMeta s r = Lends object_row meta_row s r (with_meta s.now)

@@ -1,5 +1,5 @@
 use Rattle.std.proofs.Common.{◌≡◌, drop}
-use Rattle.binder_model.specs.Fields.{ends_well}
+use Rattle.field_rules.specs.Faults.{ends_well}
 use Rattle.field_rules.proofs.faults.ends_well.Given as goal
 
 abbrev pub invariant-loop-byte : goal.invariant-loop-byte

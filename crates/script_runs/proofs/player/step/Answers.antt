@@ -2,14 +2,14 @@ use Rattle.std.proofs.Common.{◌≡◌, ◌+◌, ◌∙◌, ap, refl, subst, sy
 use Rattle.call_types.specs.declared.request.SeatKind.{SeatKind}
 use Rattle.binder_model.specs.Licence.{Licensed}
 use Rattle.binder_model.specs.Told.{own}
-use Rattle.script_parts.specs.declared.loss.Loss.{Loss}
-use Rattle.script_parts.specs.Fates.{fate_of}
+use Rattle.script_runs.specs.declared.loss.Loss.{Loss}
+use Rattle.script_runs.specs.Fates.{fate_of}
 use Rattle.worker_core.specs.declared.turn.Next.{Next}
 use Rattle.worker_core.specs.declared.role.Role.{Role}
 use Rattle.worker_core.specs.Roles.{IsBuiltKind}
 use Rattle.worker_core.specs.Stands.{IsLicensedAnswer}
 use Rattle.worker_core.specs.Turns.{IsTurn}
-use Rattle.script_parts.specs.declared.part.Part.{Part}
+use Rattle.script_runs.specs.declared.part.Part.{Part}
 use Rattle.script_runs.specs.Calls.{seat_at}
 use Rattle.script_runs.proofs.Lived.{idle_lives, made_lives}
 use Rattle.worker_core.proofs.Answered.{turn_role}

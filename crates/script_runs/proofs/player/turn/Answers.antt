@@ -1,6 +1,6 @@
 use Rattle.std.proofs.Common.{◌∙◌, ◌+◌, ◌<◌, ◌^◌, ap, refl, subst, sym, arith, length, Bool, List, ℕ}
 use Rattle.call_types.specs.declared.entry.Entry.{Entry}
-use Rattle.script_parts.specs.declared.part.Part.{Part}
+use Rattle.script_runs.specs.declared.part.Part.{Part}
 use Rattle.script_runs.specs.Steps.Living.{HasLived}
 use Rattle.worker_core.specs.States.{State}
 use Rattle.script_runs.specs.Steps.Playing.{HasStepped, Plays}

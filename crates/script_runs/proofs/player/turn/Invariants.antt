@@ -1,6 +1,6 @@
 use Rattle.std.proofs.Common.{◌≡◌, ◌≤◌, ◌+◌, ◌-◌, ℕ, List}
 use Rattle.call_types.specs.declared.entry.Entry.{Entry}
-use Rattle.fitting_calls.specs.Calls.{AreByActors}
+use Rattle.size_calls.specs.Calls.{AreByActors}
 use Rattle.worker_core.specs.declared.role.Role.{Role}
 use Rattle.script_runs.specs.Steps.Living.{Lives}
 use Rattle.script_runs.specs.Steps.Playing.{HasGone, Plays, SomePlays}

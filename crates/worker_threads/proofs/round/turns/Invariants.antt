@@ -1,5 +1,5 @@
 use Rattle.std.proofs.Common.{◌≡◌, ◌≤◌, ◌<◌, ℕ, List, ◌++◌, Bool, true, ◌&&◌, take, drop, length}
-use Rattle.fitting_calls.specs.Calls.{AreByActors}
+use Rattle.size_calls.specs.Calls.{AreByActors}
 use Rattle.call_types.specs.declared.entry.Entry.{Entry}
 use Rattle.worker_core.specs.Stands.{StandsFor}
 use Rattle.worker_threads.specs.declared.drainers.Drainer.{Drainer}

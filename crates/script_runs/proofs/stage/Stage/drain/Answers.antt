@@ -1,7 +1,7 @@
 use Rattle.std.proofs.Common.{◌≡◌, ◌+◌, ◌-◌, ap, refl, subst, arith, ℕ}
 use Rattle.world_core.specs.Kept.{History}
 use Rattle.worker_threads.specs.Rounds.{EndsWith, made_of}
-use Rattle.script_parts.specs.Budget.{raised}
+use Rattle.script_runs.specs.Budget.{raised}
 use Rattle.script_runs.proofs.Beginning.{ends_by}
 use Rattle.script_runs.proofs.Casting.{drains_after}
 use Rattle.script_runs.proofs.Moving.{budget_after, most_of, room_in}

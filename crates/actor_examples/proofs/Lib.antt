@@ -1,5 +1,0 @@
-pub mod Computed
-mod NodeAgents
-mod OpsActing
-mod Protected
-mod Scheduling

@@ -1,6 +1,0 @@
-use Rattle.std.proofs.Common.{reverse}
-use Rattle.agent_evidence.proofs.Sight.{taken_is}
-use Rattle.agent_evidence.proofs.agent.is_taken.Goals as goal
-
-pub returns-in-Some : goal.returns-in-Some
-returns-in-Some c = λ t. taken_is (reverse c.args.entries.now) c.args.node.now _ _ c.in-Some.ensures

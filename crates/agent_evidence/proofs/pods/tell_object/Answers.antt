@@ -1,7 +1,0 @@
-use Rattle.std.proofs.Common.{subst}
-use Rattle.std.proofs.lemmas.Result.{on_ok_weaker}
-use Rattle.seat_places.specs.Places.{TellsAt}
-use Rattle.agent_evidence.proofs.pods.tell_object.Goals as goal
-
-pub returns-in-Pod : goal.returns-in-Pod
-returns-in-Pod c = on_ok_weaker c.tell_pod.result (λ tells mine told all. tells mine (subst (TellsAt mine c.args.place) c.in-Pod.is told) all) c.tell_pod.ensures

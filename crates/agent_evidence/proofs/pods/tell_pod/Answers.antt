@@ -1,9 +1,0 @@
-use Rattle.std.proofs.Common.{sym, subst}
-use Rattle.std.proofs.lemmas.Result.{on_ok_weaker}
-use Rattle.kube_types.specs.declared.objects.Object.TheVariants.{Pod}
-use Rattle.kube_types.specs.declared.objects.Pod.{Pod as PodData}
-use Rattle.seat_places.specs.Places.{TellsAt}
-use Rattle.agent_evidence.proofs.pods.tell_pod.Goals as goal
-
-pub returns-in_ok-kept-in-Some : goal.returns-in_ok-kept-in-Some
-returns-in_ok-kept-in-Some c = on_ok_weaker c.add_to.result (λ adds mine told all. adds mine (subst (λ (p : PodData). TellsAt mine c.args.place (Pod p)) (sym c.in_ok-kept-in-Some.ensures) told) all) c.add_to.ensures

@@ -1,8 +1,0 @@
-use Rattle.std.proofs.Common.{inl, inr, reverse}
-use Rattle.agent_evidence.proofs.reads.may_get.Goals as goal
-
-pub returns-then-was_found_naming : goal.returns-then-was_found_naming
-returns-then-was_found_naming c = λ t. inr (c.was_found_naming.ensures c.if-was_found_naming.true)
-
-pub returns : goal.returns
-returns c = λ t. inl (c.is_named.ensures (c.about-page.ensures (reverse c.args.entries.now) c.requires.pages) t)

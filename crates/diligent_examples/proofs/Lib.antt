@@ -1,6 +1,0 @@
-mod Computed
-mod Counted
-mod Mounting
-mod Protected
-mod Reclaimed
-mod Scheduling

@@ -1,5 +1,0 @@
-use Rattle.diligent_law.proofs.Following.{played_is_diligent}
-use Rattle.diligent_law.proofs.played_is_diligent.Goals as goal
-
-pub returns : goal.returns
-returns c = played_is_diligent

@@ -1,5 +1,0 @@
-use Rattle.diligent_law.proofs.Ordered.{rows_in_order}
-use Rattle.diligent_law.proofs.rows_in_order_are_enough.Goals as goal
-
-pub returns : goal.returns
-returns c = rows_in_order

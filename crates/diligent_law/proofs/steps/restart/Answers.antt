@@ -1,5 +1,0 @@
-use Rattle.diligent_law.proofs.Stepping.{begun}
-use Rattle.diligent_law.proofs.steps.restart.Goals as goal
-
-pub returns : goal.returns
-returns c = begun c.args.actor.now.role c.restart.new.self c.restart.ensures.is c.restart.ensures.stands

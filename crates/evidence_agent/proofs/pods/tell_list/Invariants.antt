@@ -1,0 +1,10 @@
+use Rattle.std.proofs.Common.{◌≡◌, List}
+use Rattle.kube_types.specs.declared.objects.Object.{Object}
+use Rattle.call_types.specs.declared.entry.Entry.{Entry}
+use Rattle.binder_model.specs.Told.{SomeOf}
+use Rattle.evidence_places.specs.Places.{TellsAt}
+use Rattle.evidence_agent.specs.Pods.{ArePods}
+use Rattle.evidence_agent.proofs.pods.tell_list.Given as goal
+
+abbrev pub invariant-loop-object : goal.invariant-loop-object
+invariant-loop-object l = (mine : List Entry) → ((o : Object) → SomeOf (λ x. x ≡ o) l.objects → TellsAt mine l.place o) → ArePods l.initial.pages.items mine → ArePods l.pages.items mine

@@ -1,0 +1,3 @@
+mod Absence
+mod Defaults
+mod Shown

@@ -1,0 +1,6 @@
+use Rattle.std.proofs.Common.{reverse, subst}
+use Rattle.evidence_pages.specs.Parts.{IsPart}
+use Rattle.evidence_judge.proofs.evidence.EvidenceRecord.wanted.Goals as goal
+
+pub returns-clause-part : goal.returns-clause-part
+returns-clause-part c = subst (λ mine. IsPart (reverse c.wanted.result.now) mine) c.self.view_is (c.wanted.ensures _ c.self.invariant.0.pages)

@@ -1,0 +1,11 @@
+use Rattle.plain_data.proofs.RowFacts.{searched}
+use Rattle.kube_types.specs.Keys.{key_of}
+use Rattle.kube_types.proofs.KeyOrder.{key_cmp_total}
+use Rattle.evidence_pages.specs.Keyed.{key_by}
+use Rattle.evidence_pages.proofs.newest.row_place.Goals as goal
+
+pub returns : goal.returns
+returns c =
+    let facts = c.place_of.ensures in
+    let place = searched key_cmp_total key_of (key_by c.args.key.now) _ _ c.requires facts.bound facts.position in
+    record { bound = facts.bound; at = place.at; gap = place.gap }

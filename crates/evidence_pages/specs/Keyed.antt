@@ -1,0 +1,7 @@
+-- Keys by their parts.
+-- A choice of this project.
+use Rattle.kube_types.specs.declared.key.Key.{Key}
+use Rattle.evidence_pages.specs.declared.parts.Parts.{Parts}
+
+abbrev pub key_by : Parts → Key
+key_by p = record { kind = p.kind; namespace = p.namespace.now; name = p.name.now }

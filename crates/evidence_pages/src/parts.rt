@@ -1,0 +1,33 @@
+//! The parts of a key, by which a page is looked up without memory.
+
+ghost use Rattle.std.specs.Prelude.{◌≡◌, ◌++◌, [], List, ℕ, MatchOption, codes};
+ghost use Rattle.binder_model.specs.ObjectKeys.{claim_key};
+ghost use Rattle.evidence_pages.specs.Keyed.{key_by};
+
+use kube_types::parts::Kind;
+
+/// The kind, namespace and name of an object.
+#[derive(Drop)]
+pub struct Parts<'a> {
+    pub kind: Kind,
+    pub namespace: &'a str,
+    pub name: &'a str,
+}
+
+/// The UID in the name of data that are provisioned, by which they are told apart.
+pub fn uid_in<'a>(name: &'a str) -> Option<&'a str>
+    ensures { MatchOption result ((rest : List ℕ) → name.now ≡ codes "pvc-" ++ rest → ⊥) (λ uid. name.now ≡ codes "pvc-" ++ uid.now) }
+{
+    name.strip_prefix("pvc-")
+}
+
+/// The page of what is provisioned for the claim with the UID of this text. No claim has such a key.
+pub fn wanted_by<'a>(uid: &'a str) -> Parts<'a>
+    ensures { key_by result ≡ claim_key [] uid.now }
+{
+    Parts {
+        kind: Kind::PersistentVolumeClaim,
+        namespace: "",
+        name: uid,
+    }
+}

@@ -1,7 +1,0 @@
-use Rattle.licence_evidence.proofs.agents.agent_may.Goals as goal
-
-pub returns-in-Unmount : goal.returns-in-Unmount
-returns-in-Unmount c = rw c.in-Unmount.is c.may_unmount.ensures
-
-pub returns-in-FinishPod : goal.returns-in-FinishPod
-returns-in-FinishPod c = rw c.in-FinishPod.is c.may_finish.ensures

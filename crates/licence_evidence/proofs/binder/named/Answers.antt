@@ -1,5 +1,0 @@
-use Rattle.seat_index.specs.Parts.{Begins}
-use Rattle.licence_evidence.proofs.binder.named.Goals as goal
-
-pub returns-in-None : goal.returns-in-None
-returns-in-None c = λ mine all. Begins

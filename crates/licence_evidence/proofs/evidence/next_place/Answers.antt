@@ -1,5 +1,0 @@
-use Rattle.std.proofs.lemmas.List.{length-reverse}
-use Rattle.licence_evidence.proofs.evidence.next_place.Goals as goal
-
-pub returns : goal.returns
-returns c = length-reverse c.args.entries.now

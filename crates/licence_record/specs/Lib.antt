@@ -1,0 +1,2 @@
+pub mod Defaulted
+pub mod Judged

@@ -1,6 +1,0 @@
-use Rattle.std.proofs.Common.{reverse}
-use Rattle.licence_rules.proofs.Mounts.{taken_alike}
-use Rattle.licence_rules.proofs.reading.NamesSharedTest.shares.Goals as goal
-
-pub returns : goal.returns
-returns c object other = taken_alike (reverse c.args.self.now.mine.now) object other

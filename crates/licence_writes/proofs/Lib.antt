@@ -1,0 +1,5 @@
+mod Assigning
+mod Growing
+mod NoRow
+mod Paging
+mod Scheduling

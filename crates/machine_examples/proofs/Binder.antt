@@ -1,0 +1,4 @@
+pub mod AssigningClass
+pub mod Beginning
+pub mod Moving
+pub mod Standing

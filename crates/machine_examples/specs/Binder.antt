@@ -1,0 +1,4 @@
+pub mod AssigningClass
+pub mod Evidences
+pub mod FirstSteps
+pub mod Moves

@@ -1,3 +1,0 @@
-pub mod Absence
-pub mod Rows
-pub mod Versions

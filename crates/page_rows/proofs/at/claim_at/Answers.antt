@@ -1,6 +1,0 @@
-use Rattle.std.proofs.Common.{reverse}
-use Rattle.page_rows.proofs.Versions.{claim_found}
-use Rattle.page_rows.proofs.at.claim_at.Goals as goal
-
-pub returns-in-Some : goal.returns-in-Some
-returns-in-Some c = claim_found c.args.given c.in-Some.found.now (reverse c.args.page.now) c.as_claim.result c.as_claim.ensures c.in-Some.ensures

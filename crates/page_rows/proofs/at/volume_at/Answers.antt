@@ -1,6 +1,0 @@
-use Rattle.std.proofs.Common.{reverse}
-use Rattle.page_rows.proofs.Versions.{volume_found}
-use Rattle.page_rows.proofs.at.volume_at.Goals as goal
-
-pub returns-in-Some : goal.returns-in-Some
-returns-in-Some c = volume_found c.args.given c.in-Some.found.now (reverse c.args.page.now) c.as_volume.result c.as_volume.ensures c.in-Some.ensures

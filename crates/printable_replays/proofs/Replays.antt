@@ -1,0 +1,163 @@
+-- What a replay brings about has only values that a text can give.
+use Rattle.std.proofs.Common.{refl, sym, subst, ◌∙◌, inl, inr, true≢false, arith}
+use Rattle.std.specs.Prelude.{◌≡◌, ◌⊎◌, ℕ, ◌+◌, ◌≤◌, Bool, true, false, cond, List, [], ◌∷◌, ◌++◌, Option, All}
+use Rattle.std.proofs.lemmas.List.Elements.{All-nil, All-cons, All-head, All-tail}
+use Rattle.plain_data.specs.Pairs.{Pair}
+use Rattle.call_types.specs.declared.entry.Entry.{Entry}
+use Rattle.call_types.specs.declared.request.Request.{Request}
+use Rattle.call_types.specs.declared.request.SeatKind.{SeatKind}
+use Rattle.call_types.specs.declared.request.SeatKind.TheVariants as seats
+use Rattle.call_types.specs.declared.reply.Reply.{Reply}
+use Rattle.binder_model.specs.Answers.{is_user}
+use Rattle.world_core.specs.declared.drained.Drained.{Drained}
+use Rattle.worker_threads.specs.Longer.{IsOneOf, AreToldOf, users_of}
+use Rattle.history_laws.specs.Given.{IsNumber, IsRequest}
+use Rattle.script_lines.specs.declared.actors.WorkerKind.{WorkerKind}
+use Rattle.script_lines.specs.declared.actors.WorkerKind.TheVariants as workers
+use Rattle.script_lines.specs.declared.actors.Actor.{Actor}
+use Rattle.script_lines.specs.declared.actors.Actor.TheVariants.{Worker, Agent}
+use Rattle.script_text.specs.declared.script.Line.{Line}
+use Rattle.script_text.specs.declared.script.Line.TheVariants.{Call, Lose, Restart, Turn, Drain}
+use Rattle.script_text.specs.declared.script.Script.{Script}
+use Rattle.script_text.specs.Said.{agents_of}
+use Rattle.script_laws.specs.Given.{IsLineAfter}
+use Rattle.script_laws.specs.Scripts.{AreLinesAfter, IsScript}
+use Rattle.script_runs.specs.declared.loss.Fate.{Fate}
+use Rattle.script_runs.specs.declared.loss.Fate.TheVariants.{Told, LostBefore, LostAfter}
+use Rattle.script_runs.specs.declared.part.Part.{Part}
+use Rattle.script_runs.specs.Fates.{fate_of}
+use Rattle.script_runs.specs.Parts.{kind_of_worker, kind_of, drain_seats, part_of}
+use Rattle.script_runs.specs.Calls.{seat_at, IsOneMore, IsCallWith, AreCalls, NoCalls, MoreCalls}
+use Rattle.script_runs.specs.Replays.{Progress, begun, IsTurn, IsDrain, IsMove, AreMoves, NoMoves, MoreMoves, IsReplay}
+use Rattle.printable_law.specs.Laws.{IsAskedGiven, IsGivenRun}
+use Rattle.printable_law.proofs.Runs.{runs_give, run_texts_have_one}
+use Rattle.printable_replays.specs.Laws.{IsReplayedRun, ReplaysGive, ReplayTextsHaveOne}
+use Rattle.printable_replays.proofs.Setups.{count_most, script_setups_give, users_ask}
+use Rattle.printable_replays.proofs.Seats.{life_seat, drains_seat}
+
+abbrev HasSeat : Entry → Type 0
+HasSeat e = IsNumber e.seat
+
+abbrev AsksGiven : Entry → Type 0
+AsksGiven e = IsRequest e.request
+
+-- the seats are numbers, and the users ask what a text can give
+pub record AreFine (past : List Entry) : Type 0 where
+  pub seats : All HasSeat past
+  pub users : All AsksGiven (users_of past)
+
+nothing_fine : AreFine []
+nothing_fine = record { seats = All-nil HasSeat; users = All-nil AsksGiven }
+
+fine_asked : (e : Entry) (past : List Entry) → HasSeat e → AsksGiven e → AreFine past → AreFine (e ∷ past)
+fine_asked e past seat asks h = record { seats = All-cons HasSeat e past seat h.seats; users = by (is_user e.kind) }
+  where
+    by : (b : Bool) → All AsksGiven (cond b (e ∷ users_of past) (users_of past))
+    by true = All-cons AsksGiven e (users_of past) asks h.users
+    by false = h.users
+
+fine_told : (e : Entry) (past : List Entry) → HasSeat e → is_user e.kind ≡ false → AreFine past → AreFine (e ∷ past)
+fine_told e past seat other h = record { seats = All-cons HasSeat e past seat h.seats; users = by (is_user e.kind) other }
+  where
+    by : (b : Bool) → b ≡ false → All AsksGiven (cond b (e ∷ users_of past) (users_of past))
+    by true none = absurd (true≢false none)
+    by false none = h.users
+
+-- ---- a turn's calls
+
+more_fine : (seat : ℕ) (kind : SeatKind) (told : Bool) (past new : List Entry) → IsNumber seat → is_user kind ≡ false → IsOneMore seat kind told past new → AreFine past → AreFine new
+more_fine seat kind told past new is other more h = subst AreFine (sym more.is) (fine_told _ past is other h)
+
+call_fine : (fate : Fate) (seat : ℕ) (kind : SeatKind) (past new : List Entry) → IsNumber seat → is_user kind ≡ false → IsCallWith fate seat kind past new → AreFine past → AreFine new
+call_fine Told seat kind past new is other call h = more_fine seat kind true past new is other call h
+call_fine LostAfter seat kind past new is other call h = more_fine seat kind false past new is other call h
+call_fine LostBefore seat kind past new is other call h = subst AreFine (sym call) h
+
+calls_fine : (part : Part) (new : List Entry) → ((n : ℕ) → IsNumber (seat_at part n)) → is_user part.kind ≡ false → (n count : ℕ) (past : List Entry) → AreCalls part new n count past → AreFine past → AreFine new
+calls_fine part new is other n count past (NoCalls none same) h = subst AreFine (sym same) h
+calls_fine part new is other n count past (MoreCalls rest middle some call more) h =
+    calls_fine part new is other _ rest middle more (call_fine (fate_of part.losses n) (seat_at part n) part.kind past middle (is n) other call h)
+
+turn_fine : (part : Part) (calls : ℕ) (before after : Progress) → ((n : ℕ) → IsNumber (seat_at part n)) → is_user part.kind ≡ false → IsTurn part calls before after → AreFine before.past → AreFine after.past
+turn_fine part calls before after is other (inl all) h = subst (λ (p : Progress). AreFine p.past) (sym all.is) (calls_fine part all.past is other _ _ before.past all.made h)
+turn_fine part calls before after is other (inr few) h = subst (λ (p : Progress). AreFine p.past) (sym few.is) (calls_fine part few.past is other _ _ before.past few.made h)
+
+no_worker_is_user : (kind : WorkerKind) → is_user (kind_of_worker kind) ≡ false
+no_worker_is_user workers.Binder = refl
+no_worker_is_user workers.Ops = refl
+no_worker_is_user workers.Scheduler = refl
+no_worker_is_user workers.Claims = refl
+no_worker_is_user workers.Volumes = refl
+
+no_actor_is_user : (actor : Actor) → is_user (kind_of actor) ≡ false
+no_actor_is_user (Worker w) = no_worker_is_user w.kind
+no_actor_is_user (Agent node) = refl
+
+-- ---- a drain's
+
+told_seats : (some : List ℕ) (es past : List Entry) → ((seat : ℕ) → IsOneOf some seat → IsNumber seat) → AreToldOf some es → All HasSeat past → All HasSeat (es ++ past)
+told_seats some [] past is told h = h
+told_seats some (e ∷ es) past is told h = All-cons HasSeat e _ (is e.seat told.0) (told_seats some es past is told.2 h)
+
+drain_fine : (script : Script) (option : Option ℕ) (before after : Progress) → IsScript script → IsDrain script option before after → AreFine before.past → AreFine after.past
+drain_fine script option before after is d h =
+    subst (λ (p : Progress). AreFine p.past) (sym d.is) (record {
+      seats = subst (All HasSeat) (sym d.entries.are) (told_seats (drain_seats script) d.entries.added before.past (drains_seat script is) d.entries.of_seats h.seats);
+      users = subst (All AsksGiven) (sym d.users) h.users;
+    })
+
+-- ---- a line
+
+user_seat : (user : ℕ) → user ≤ 4 → IsNumber user
+user_seat user few = omega (arith, few)
+
+line_fine : (script : Script) (option : Option ℕ) (agents : List Pair) (earlier : List Line) (line : Line) (before after : Progress)
+    → IsScript script → IsLineAfter agents earlier line → IsMove script option line before after → AreFine before.past → AreFine after.past
+line_fine script option agents earlier (Call user request) before after is given move h =
+    subst (λ (p : Progress). AreFine p.past) (sym move.is) (fine_asked _ before.past (user_seat user (count_most 4 user given.0)) (users_ask request given.1) h)
+line_fine script option agents earlier (Lose actor call lost) before after is given move h = subst (λ (p : Progress). AreFine p.past) (sym move) h
+line_fine script option agents earlier (Restart actor calls) before after is given move h = subst (λ (p : Progress). AreFine p.past) (sym move) h
+line_fine script option agents earlier (Turn actor calls) before after is given move h = turn_fine (part_of script actor) calls before after (life_seat script is actor) (no_actor_is_user actor) move h
+line_fine script option agents earlier Drain before after is given move h = drain_fine script option before after is move h
+
+-- ---- the lines
+
+moves_fine : (script : Script) (option : Option ℕ) (end : Progress) (agents : List Pair) → IsScript script → (earlier lines : List Line) (now : Progress)
+    → AreLinesAfter agents earlier lines → AreMoves script option end lines now → AreFine now.past → AreFine end.past
+moves_fine script option end agents is earlier lines now given (NoMoves none same) h = subst (λ (p : Progress). AreFine p.past) (sym same) h
+moves_fine script option end agents is earlier lines now given (MoreMoves line rest next here move more) h =
+    let these = subst (AreLinesAfter agents earlier) here given in
+    moves_fine script option end agents is (earlier ++ line ∷ []) rest next these.2 more
+    (line_fine script option agents earlier line now next is these.0 move h)
+
+replay_fine : (script : Script) (budget : Option ℕ) (past : List Entry) (ending : Drained) → IsScript script → IsReplay script budget past ending → AreFine past
+replay_fine script budget past ending is replay =
+    subst AreFine (sym replay.history)
+    (drain_fine script budget replay.lines_done replay.end is replay.last
+    (moves_fine script budget replay.lines_done (agents_of script.lines) is [] script.lines (begun budget) is.lines replay.moves nothing_fine))
+
+-- ---- the history
+
+first_asks : (e : Entry) (past : List Entry) → All AsksGiven (users_of (e ∷ past)) → (is_user e.kind ≡ true → AsksGiven e) × All AsksGiven (users_of past)
+first_asks e past h = by (is_user e.kind) refl h
+  where
+    by : (b : Bool) → is_user e.kind ≡ b → All AsksGiven (cond b (e ∷ users_of past) (users_of past)) → (is_user e.kind ≡ true → AsksGiven e) × All AsksGiven (users_of past)
+    by true is all = (λ u. All-head AsksGiven e (users_of past) all, All-tail AsksGiven e (users_of past) all)
+    by false is all = (λ u. absurd (true≢false (sym u ∙ is)), all)
+
+asked : (past : List Entry) → All HasSeat past → All AsksGiven (users_of past) → All IsAskedGiven past
+asked [] seats users = All-nil IsAskedGiven
+asked (e ∷ past) seats users =
+    let asks = first_asks e past users in
+    All-cons IsAskedGiven e past (record { seat = All-head HasSeat e past seats; request = asks.0 }) (asked past (All-tail HasSeat e past seats) asks.1)
+
+replayed_run : (script : Script) (budget : Option ℕ) (past : List Entry) (ending : Drained) → IsReplayedRun script budget past ending → IsGivenRun script.setup past
+replayed_run script budget past ending h =
+    let fine = replay_fine script budget past ending h.script_given h.replay in
+    record { setup_given = script_setups_give script h.script_given; short = h.short; asked = asked past fine.seats fine.users; run = h.run }
+
+pub replays_give : ReplaysGive
+replays_give script budget past ending h = runs_give script.setup past (replayed_run script budget past ending h)
+
+pub replay_texts_have_one : ReplayTextsHaveOne
+replay_texts_have_one script budget past ending lines h = run_texts_have_one script.setup past lines (replayed_run script budget past ending h)

@@ -1,0 +1,24 @@
+//! A history that a replay brings about has only values that a text can give, so its printed text has no other.
+//!
+//! Promises: `replays_give` and `replay_texts_have_one`, each a function with nothing to do, whose contract is the law. The law
+//! of runs (`printable_law::runs_give`) does the work; here stands what a script's lines give it: the setup
+//! (`script_setups_give`), the seats, and the users' requests. Not said: that a printed line is short enough or nests little
+//! enough to be read.
+#![tactic(auto)]
+
+ghost use Rattle.printable_replays.specs.Laws.{ReplayTextsHaveOne, ReplaysGive, ScriptSetupsGive};
+
+/// A text can give the setup of a script that a text can give.
+pub fn script_setups_give()
+    ensures { ScriptSetupsGive }
+{}
+
+/// A replayed script's history has only values that a text can give.
+pub fn replays_give()
+    ensures { ReplaysGive }
+{}
+
+/// What is printed of it has it, and no other history that a text can give, whatever lines follow.
+pub fn replay_texts_have_one()
+    ensures { ReplayTextsHaveOne }
+{}

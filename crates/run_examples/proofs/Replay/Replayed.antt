@@ -1,0 +1,224 @@
+-- The examples of replays compute.
+use Rattle.std.proofs.Common.{◌≡◌, ℕ, ◌+◌, List, [], ◌∷◌, ◌++◌, length, true, false, true≢false, None, inl, inr, refl, sym, ◌∙◌, ap, subst, arith}
+use Rattle.kube_types.specs.declared.names.Due.TheVariants as dues
+use Rattle.call_types.specs.declared.entry.Entry.{Entry}
+use Rattle.call_types.specs.declared.reply.Refusal.TheVariants.{NotFound}
+use Rattle.call_types.specs.declared.reply.Reply.TheVariants.{Refused}
+use Rattle.call_types.specs.declared.request.Request.TheVariants.{Get}
+use Rattle.call_types.specs.declared.request.SeatKind.TheVariants as seats
+use Rattle.binder_model.specs.Told.{own}
+use Rattle.binder_model.specs.Answers.{after, get, outcome}
+use Rattle.binder_model.specs.Devices.{device_answer}
+use Rattle.binder_model.specs.World.{effect, on_devices, world, world_after}
+use Rattle.world_core.specs.declared.drained.Drained.{Drained}
+use Rattle.world_core.specs.declared.drained.Drained.TheVariants.{Settled, Spent}
+use Rattle.binder_model.specs.Due.{IsSettled}
+use Rattle.script_text.specs.declared.script.Line.{Line}
+use Rattle.script_text.specs.declared.script.Line.TheVariants as lines
+use Rattle.script_text.specs.declared.script.Script.{Script}
+use Rattle.script_runs.specs.declared.part.Part.{Part}
+use Rattle.script_runs.specs.Budget.{raised}
+use Rattle.script_runs.specs.Examples.{binder_1}
+use Rattle.script_runs.specs.Parts.{part_of}
+use Rattle.script_runs.specs.Calls.{MayEnd, MoreCalls, NoCalls}
+use Rattle.script_runs.specs.Replays.{AreMoves, IsDrain, IsMove, IsReplay, IsTurn, IsUserCall, MoreMoves, NoMoves, Progress, and_made, begun}
+use Rattle.run_examples.specs.Replay.Calls.{reads, some_key}
+use Rattle.run_examples.specs.Replay.Replays.{EmptyExamples, TurnExamples, UserExamples, empty_script, turn_script, user_reads, user_script}
+use Rattle.run_examples.proofs.Replay.Counted.{LeavesOne, end_cases, none_left, one_call}
+
+-- ---- a replay whose last drain has nothing to do
+
+abbrev pub settled_replay : (script : Script) (past : List Entry) (made : List ℕ → ℕ) → AreMoves script None (record (begun None) { past = past; made = made }) script.lines (begun None) → 2048 ≡ raised None script.setup past 0 → IsSettled script.setup (world script.setup past) → IsReplay script None past (Settled 0)
+settled_replay script past made moves budget settled = record {
+  lines_done = record (begun None) { past = past; made = made };
+  end = record (begun None) { past = past; made = made; budget = 2048 };
+  moves = moves;
+  last = record {
+    past = past;
+    made = 0;
+    budget = 2048;
+    raises = budget;
+    entries = record { added = []; are = refl; count = refl; of_seats = tt };
+    users = refl;
+    few = omega arith;
+    ends = inl settled;
+    none = λ before. refl;
+    is = refl;
+  };
+  history = refl;
+  ends = (refl, settled);
+}
+
+-- ---- the empty script
+
+pub nothing_due : IsSettled empty_script.setup (world empty_script.setup [])
+nothing_due key o there = absurd (cc)
+
+settled_at : (past : List Entry) → past ≡ [] → IsSettled empty_script.setup (world empty_script.setup past)
+settled_at [] none = nothing_due
+settled_at (e ∷ past) none = absurd (cc)
+
+no_lines : (script : Script) (done now : Progress) (ls : List Line) → ls ≡ [] → AreMoves script None done ls now → done ≡ now
+no_lines script done now ls none (NoMoves are is) = is
+no_lines script done now ls none (MoreMoves line rest next are move more) = absurd (cc)
+
+none_added : (xs ys : List Entry) → [] ≡ xs ++ ys → length xs ≡ 0
+none_added [] ys is = refl
+none_added (x ∷ xs) ys is = absurd (cc)
+
+-- what the last drain comes to where no line came before it
+
+past_after : (before end : Progress) → before ≡ begun None → IsDrain empty_script None before end → end.past ≡ []
+past_after before end is d =
+    let first : before.past ≡ [] = ap (λ (p : Progress). p.past) is in
+    ap (λ (p : Progress). p.past) d.is ∙ d.none (settled_at before.past first) ∙ first
+
+made_in : (before end : Progress) → before ≡ begun None → (d : IsDrain empty_script None before end) → d.made ≡ 0
+made_in before end is d =
+    let first : before.past ≡ [] = ap (λ (p : Progress). p.past) is in
+    let none : [] ≡ d.entries.added ++ before.past = sym first ∙ sym (d.none (settled_at before.past first)) ∙ d.entries.are in
+    sym d.entries.count ∙ none_added d.entries.added before.past none
+
+drained_after : (before end : Progress) → before ≡ begun None → IsDrain empty_script None before end → end.drained ≡ 0
+drained_after before end is d =
+    let all : end.drained ≡ before.drained + d.made = ap (λ (p : Progress). p.drained) d.is in
+    let first : before.drained ≡ 0 = ap (λ (p : Progress). p.drained) is in
+    let here = made_in before end is d in
+    omega (arith, all, first, here)
+
+budget_after : (before end : Progress) → before ≡ begun None → IsDrain empty_script None before end → end.budget ≡ 2048
+budget_after before end is d = ap (λ (p : Progress). p.budget) d.is ∙ d.raises ∙ ap (λ (p : Progress). raised None empty_script.setup p.past p.budget) is
+
+at_the_end : (done : Progress) → AreMoves empty_script None done [] (begun None) → done ≡ begun None
+at_the_end done moves = no_lines empty_script done (begun None) [] refl moves
+
+makes_no_call : IsReplay empty_script None (reads 5 true ∷ []) (Settled 0) → ⊥
+makes_no_call r =
+    let none : reads 5 true ∷ [] ≡ [] = r.history ∙ past_after r.lines_done r.end (at_the_end r.lines_done r.moves) r.last in
+    absurd (cc)
+
+counts_no_call : IsReplay empty_script None [] (Settled 1) → ⊥
+counts_no_call r =
+    let one : 1 ≡ 0 = r.ends.0 ∙ drained_after r.lines_done r.end (at_the_end r.lines_done r.moves) r.last in
+    absurd (omega (arith, one))
+
+spends_nothing : IsReplay empty_script None [] (Spent 0 some_key dues.Available) → ⊥
+spends_nothing r =
+    let none : 0 ≡ 2048 = r.ends.1 ∙ budget_after r.lines_done r.end (at_the_end r.lines_done r.moves) r.last in
+    absurd (omega (arith, none))
+
+pub empty_cases : EmptyExamples
+empty_cases = record {
+  ends_settled = settled_replay empty_script [] (λ name. 0) (NoMoves refl refl) refl nothing_due;
+  makes_no_call = makes_no_call;
+  counts_no_call = counts_no_call;
+  spends_nothing = spends_nothing;
+}
+
+-- ---- the first entry of a history
+
+pub record BeginsWith (seat : ℕ) (past : List Entry) : Type 0 where
+  pub later : List Entry
+  pub entry : Entry
+  pub are : past ≡ later ++ entry ∷ []
+  pub of_seat : entry.seat ≡ seat
+  pub was_told : entry.told ≡ true
+
+begins_with : (script : Script) (seat : ℕ) (past : List Entry) (ending : Drained) → ((done : Progress) → AreMoves script None done script.lines (begun None) → LeavesOne seat done.past) → IsReplay script None past ending → BeginsWith seat past
+begins_with script seat past ending leaves r =
+    let one = leaves r.lines_done r.moves in
+    record {
+      later = r.last.entries.added;
+      entry = one.entry;
+      are = r.history ∙ ap (λ (p : Progress). p.past) r.last.is ∙ r.last.entries.are ∙ ap (λ xs. r.last.entries.added ++ xs) one.are;
+      of_seat = one.of_seat;
+      was_told = one.was_told;
+    }
+
+never_empty : (e : Entry) (xs : List Entry) → [] ≡ xs ++ e ∷ [] → ⊥
+never_empty e [] is = absurd (cc)
+never_empty e (x ∷ xs) is = absurd (cc)
+
+alone : (x e : Entry) (xs : List Entry) → x ∷ [] ≡ xs ++ e ∷ [] → x ≡ e
+alone x e [] is = cc
+alone x e (y ∷ xs) is = let rest : [] ≡ xs ++ e ∷ [] = cc in absurd (never_empty e xs rest)
+
+not_empty : (seat : ℕ) → BeginsWith seat [] → ⊥
+not_empty seat b = never_empty b.entry b.later b.are
+
+its_seat : (seat : ℕ) (x : Entry) → BeginsWith seat (x ∷ []) → x.seat ≡ seat
+its_seat seat x b = ap (λ (e : Entry). e.seat) (alone x b.entry b.later b.are) ∙ b.of_seat
+
+its_answer : (seat : ℕ) (x : Entry) → BeginsWith seat (x ∷ []) → x.told ≡ true
+its_answer seat x b = ap (λ (e : Entry). e.told) (alone x b.entry b.later b.are) ∙ b.was_told
+
+-- ---- one line
+
+one_move : (script : Script) (seat : ℕ) (line : Line) (done now : Progress) (ls : List Line) → ls ≡ line ∷ [] → now ≡ begun None → ((next : Progress) → IsMove script None line (begun None) next → LeavesOne seat next.past) → AreMoves script None done ls now → LeavesOne seat done.past
+one_move script seat line done now ls are start leaves (NoMoves none is) = absurd (cc)
+one_move script seat line done now ls are start leaves (MoreMoves first rest next is move more) =
+    let same : first ≡ line = cc in
+    let last : rest ≡ [] = cc in
+    let begins : IsMove script None line (begun None) next = subst (λ p. IsMove script None line p next) start (subst (λ l. IsMove script None l now next) same move) in
+    subst (λ (p : Progress). LeavesOne seat p.past) (sym (no_lines script done next rest last more)) (leaves next begins)
+
+-- ---- a user's line
+
+user_moved : (next : Progress) → IsUserCall 1 (Get some_key) (begun None) next → LeavesOne 1 next.past
+user_moved next move = record { entry = _; are = ap (λ (p : Progress). p.past) move.is; of_seat = refl; was_told = refl }
+
+user_begins : (past : List Entry) (ending : Drained) → IsReplay user_script None past ending → BeginsWith 1 past
+user_begins past ending r = begins_with user_script 1 past ending (λ done moves. one_move user_script 1 (lines.Call 1 (Get some_key)) done (begun None) user_script.lines refl refl user_moved moves) r
+
+nothing_due_after : IsSettled user_script.setup (world user_script.setup (user_reads 1 ∷ []))
+unfolding world_after effect on_devices device_answer after outcome get
+nothing_due_after key o there = absurd (cc)
+
+budget_after_user : 2048 ≡ raised None user_script.setup (user_reads 1 ∷ []) 0
+unfolding world_after effect on_devices device_answer after outcome get
+budget_after_user = refl
+
+pub user_cases : UserExamples
+user_cases = record {
+  its_call_is_made = settled_replay user_script (user_reads 1 ∷ []) (λ name. 0) (MoreMoves (lines.Call 1 (Get some_key)) [] _ refl (record { reply = Refused NotFound; is = refl }) (NoMoves refl refl)) budget_after_user nothing_due_after;
+  not_by_another_user = λ r. let e : 2 ≡ 1 = its_seat 1 (user_reads 2) (user_begins (user_reads 2 ∷ []) (Settled 0) r) in absurd (omega (arith, e));
+  not_left_out = λ r. not_empty 1 (user_begins [] (Settled 0) r);
+}
+
+-- ---- a turn line
+
+abbrev binder_part : Part
+binder_part = part_of turn_script binder_1
+
+turn_moved : (next : Progress) → IsTurn binder_part 1 (begun None) next → LeavesOne 5 next.past
+turn_moved next (inl all) = subst (LeavesOne 5) (sym (ap (λ (p : Progress). p.past) all.is)) (one_call binder_part all.past 1 1 [] refl refl refl refl all.made)
+turn_moved next (inr fewer) =
+    let few = fewer.few in
+    let none : fewer.past ≡ [] = none_left binder_part fewer.past 1 fewer.count [] (omega (arith, few)) fewer.made in
+    absurd (end_cases.not_at_once (subst (λ h. MayEnd seats.Binder [] (own fewer.seat h)) none fewer.ends))
+
+turn_begins : (past : List Entry) (ending : Drained) → IsReplay turn_script None past ending → BeginsWith 5 past
+turn_begins past ending r = begins_with turn_script 5 past ending (λ done moves. one_move turn_script 5 (lines.Turn binder_1 1) done (begun None) turn_script.lines refl refl turn_moved moves) r
+
+pub nothing_due_in_turn : IsSettled turn_script.setup (world turn_script.setup (reads 5 true ∷ []))
+unfolding world_after effect on_devices device_answer after outcome get
+nothing_due_in_turn key o there = absurd (cc)
+
+pub budget_after_turn : 2048 ≡ raised None turn_script.setup (reads 5 true ∷ []) 0
+unfolding world_after effect on_devices device_answer after outcome get
+budget_after_turn = refl
+
+abbrev pub turn_replay : IsReplay turn_script None (reads 5 true ∷ []) (Settled 0)
+turn_replay =
+    settled_replay turn_script (reads 5 true ∷ []) (and_made binder_part.name 1 (λ name. 0))
+    (MoreMoves (lines.Turn binder_1 1) [] _ refl
+    (inl (record { past = reads 5 true ∷ []; made = MoreCalls 0 (reads 5 true ∷ []) refl (record { request = Get some_key; reply = Refused NotFound; is = refl }) (NoCalls refl refl); is = refl }))
+    (NoMoves refl refl)) budget_after_turn nothing_due_in_turn
+
+pub turn_cases : TurnExamples
+turn_cases = record {
+  its_call_is_made = turn_replay;
+  not_by_another_seat = λ r. let e : 6 ≡ 5 = its_seat 5 (reads 6 true) (turn_begins (reads 6 true ∷ []) (Settled 0) r) in absurd (omega (arith, e));
+  not_without_its_answer = λ r. absurd (true≢false (sym (its_answer 5 (reads 5 false) (turn_begins (reads 5 false ∷ []) (Settled 0) r))));
+  it_does_not_end_at_once = λ r. not_empty 5 (turn_begins [] (Settled 0) r);
+}

@@ -1,0 +1,78 @@
+-- The examples of turns compute.
+use Rattle.std.proofs.Common.{◌≡◌, ◌≤◌, ◌<◌, ℕ, ◌+◌, List, [], ◌∷◌, length, None, inl, inr, refl, sym, ap, subst, arith}
+use Rattle.call_types.specs.declared.entry.Entry.{Entry}
+use Rattle.call_types.specs.declared.request.SeatKind.{SeatKind}
+use Rattle.call_types.specs.declared.request.SeatKind.TheVariants as seats
+use Rattle.kube_types.specs.declared.parts.Kind.{Kind}
+use Rattle.call_types.specs.declared.reply.Reply.TheVariants.{Events}
+use Rattle.call_types.specs.declared.request.Request.TheVariants.{Watch}
+use Rattle.kube_types.specs.declared.parts.Kind.TheVariants as kinds
+use Rattle.binder_model.specs.Told.{own}
+use Rattle.script_runs.specs.declared.loss.Fate.{Fate}
+use Rattle.script_runs.specs.declared.loss.Fate.TheVariants.{Told, LostBefore, LostAfter}
+use Rattle.script_runs.specs.declared.part.Part.{Part}
+use Rattle.script_runs.specs.Fates.{fate_of}
+use Rattle.script_runs.specs.Calls.{AreCalls, IsCallWith, MayEnd, MoreCalls, NoCalls, seat_at}
+use Rattle.script_runs.specs.Replays.{IsTurn, Progress, begun}
+use Rattle.run_examples.specs.Replay.Calls.{whole_pass, watches}
+use Rattle.run_examples.specs.Replay.Replays.{FewerExamples, after_a_pass, plain_part}
+use Rattle.run_examples.proofs.Replay.Counted.{end_cases}
+
+-- ---- calls leave entries
+
+call_grows : (fate : Fate) (seat : ℕ) (kind : SeatKind) (past new : List Entry) → IsCallWith fate seat kind past new → length past ≤ length new
+call_grows Told seat kind past new call = let long = ap length call.is in omega (arith, long)
+call_grows LostAfter seat kind past new call = let long = ap length call.is in omega (arith, long)
+call_grows LostBefore seat kind past new call = let long = ap length call in omega (arith, long)
+
+calls_grow : (p : Part) (new : List Entry) (n count : ℕ) (past : List Entry) → AreCalls p new n count past → length past ≤ length new
+calls_grow p new n count past (NoCalls is are) = let long = ap length are in omega (arith, long)
+calls_grow p new n count past (MoreCalls rest middle is call more) =
+    let here = call_grows (fate_of p.losses n) (seat_at p n) p.kind past middle call in
+    let later = calls_grow p new (n + 1) rest middle more in
+    omega (arith, here, later)
+
+-- where the first is told there is an entry more
+told_grows : (p : Part) (new : List Entry) (n count : ℕ) (past : List Entry) → fate_of p.losses n ≡ Told → 0 < count → AreCalls p new n count past → length past < length new
+told_grows p new n count past fate some (NoCalls is are) = absurd (omega (arith, is, some))
+told_grows p new n count past fate some (MoreCalls rest middle is call more) =
+    let told : IsCallWith Told (seat_at p n) p.kind past middle = subst (λ f. IsCallWith f (seat_at p n) p.kind past middle) fate call in
+    let here = ap length told.is in
+    let later = calls_grow p new (n + 1) rest middle more in
+    omega (arith, here, later)
+
+-- ---- turns
+
+three_calls : AreCalls plain_part whole_pass 1 3 []
+three_calls =
+    MoreCalls {n = 1} {past = []} 2 (watches kinds.PersistentVolume ∷ []) refl (watched kinds.PersistentVolume [])
+    (MoreCalls {n = 2} {past = watches kinds.PersistentVolume ∷ []} 1 (watches kinds.PersistentVolumeClaim ∷ watches kinds.PersistentVolume ∷ []) refl (watched kinds.PersistentVolumeClaim (watches kinds.PersistentVolume ∷ []))
+    (MoreCalls {n = 3} {past = watches kinds.PersistentVolumeClaim ∷ watches kinds.PersistentVolume ∷ []} 0 whole_pass refl (watched kinds.StorageClass (watches kinds.PersistentVolumeClaim ∷ watches kinds.PersistentVolume ∷ []))
+    (NoCalls refl refl)))
+  where
+    watched : (kind : Kind) (past : List Entry) → IsCallWith Told 5 seats.Binder past (watches kind ∷ past)
+    watched kind past = record { request = Watch kind 3; reply = Events (record { events = []; upto = 3 }); is = refl }
+
+three_of_nine : IsTurn plain_part 9 (begun None) after_a_pass
+three_of_nine = inr (record { count = 3; few = omega arith; past = whole_pass; made = three_calls; seat = 5; life = refl; ends = end_cases.after_a_whole_pass; is = refl })
+
+all_three : IsTurn plain_part 3 (begun None) after_a_pass → ⊥
+all_three (inl all) = let e : whole_pass ≡ [] = ap (λ (p : Progress). p.idle 5) all.is in absurd (cc)
+all_three (inr fewer) =
+    let same : 3 ≡ 0 + fewer.count = ap (λ (p : Progress). p.made plain_part.name) fewer.is in
+    let few = fewer.few in
+    absurd (omega (arith, same, few))
+
+no_call : IsTurn plain_part 9 after_a_pass after_a_pass → ⊥
+no_call (inl all) =
+    let same : 3 ≡ length all.past = ap (λ (p : Progress). length p.past) all.is in
+    let more : 3 < length all.past = told_grows plain_part all.past 4 9 whole_pass refl (omega arith) all.made in
+    absurd (omega (arith, same, more))
+no_call (inr fewer) =
+    let past : whole_pass ≡ fewer.past = ap (λ (p : Progress). p.past) fewer.is in
+    let seat : fewer.seat ≡ 5 = fewer.life in
+    let ends : MayEnd seats.Binder (after_a_pass.idle fewer.seat) (own fewer.seat whole_pass) = subst (λ h. MayEnd seats.Binder (after_a_pass.idle fewer.seat) (own fewer.seat h)) (sym past) fewer.ends in
+    absurd (end_cases.not_by_the_pass_of_an_earlier_turn (subst (λ s. MayEnd seats.Binder (after_a_pass.idle s) (own s whole_pass)) seat ends))
+
+pub fewer_cases : FewerExamples
+fewer_cases = record { fewer_after_a_whole_pass = three_of_nine; not_where_three_were_asked = all_three; the_next_begins_with_a_call = no_call }

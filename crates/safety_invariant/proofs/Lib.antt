@@ -1,0 +1,15 @@
+pub mod Tests
+pub mod Objects
+pub mod Forms
+pub mod Effects
+pub mod Whence
+pub mod Moves
+pub mod DeviceMoves
+pub mod Tells
+pub mod Came
+pub mod KeptObjects
+pub mod KeptBindings
+pub mod Kept
+pub mod Known
+pub mod Holders
+pub mod Carried

@@ -1,0 +1,9 @@
+pub mod Writes
+pub mod Whence
+pub mod Moves
+pub mod DeviceMoves
+pub mod Tellings
+pub mod Was
+pub mod Invariant
+pub mod Good
+pub mod Holders

@@ -1,2 +1,0 @@
-mod Computed
-pub mod Readable

@@ -1,6 +1,0 @@
-use Rattle.std.proofs.Common.{◌≡◌, ◌++◌, drop}
-use Rattle.script_parts.specs.Parts.{lost_calls}
-use Rattle.script_parts.proofs.parts.losses_in.Given as goal
-
-abbrev pub invariant-loop-line : goal.invariant-loop-line
-invariant-loop-line l = l.losses ++ lost_calls l.name (drop l.line-index l.lines) ≡ lost_calls l.name l.lines

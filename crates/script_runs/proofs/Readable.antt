@@ -1,0 +1,178 @@
+-- What the reader of scripts gives keeps the limits of scripts: each is a script that a text can give.
+use Rattle.std.proofs.Common.{◌≡◌, ℕ, ◌≤◌, List, [], ◌∷◌, ◌++◌, length, Bool, true, false, true≢false, Option, Some, None, Result, Ok, Err, IfOk, refl, sym, ap, ◌∙◌, arith, subst, append_assoc, append-nil, if◌then◌else◌}
+use Rattle.std.specs.Prelude.{◌&&◌, ◌||◌, bytes_eq, nat_le, nat_lt, is_some, option_and_then, option_map}
+use Rattle.std.specs.Ordering.{is_eq}
+use Rattle.std.proofs.lemmas.Bool.{leb-true, ltb-false}
+use Rattle.std.proofs.lemmas.Cmp.{nat_list_cmp_total}
+use Rattle.std.proofs.lemmas.List.{length-map}
+use Rattle.std.proofs.lemmas.Slice.Eq.{bytes_eq-Decides}
+use Rattle.plain_data.specs.Pairs.{ArePairs, Pair, pair_at, pair_key, text_cmp, value_at}
+use Rattle.plain_data.specs.Rows.{IsAfter}
+use Rattle.plain_data.proofs.RowFacts.{rising_put}
+use Rattle.kube_types.specs.Bindings.{has_name}
+use Rattle.kube_types.specs.Named.{value_named}
+use Rattle.kube_types.specs.declared.objects.Object.{Object}
+use Rattle.script_lines.specs.declared.actors.Actor.{Actor}
+use Rattle.script_lines.specs.declared.actors.Actor.TheVariants.{Worker, Agent}
+use Rattle.script_lines.specs.declared.actors.Worker.{Worker as WorkerData}
+use Rattle.script_lines.specs.declared.errors.Reason.TheVariants.{TooManyNodes, TooManyObjects}
+use Rattle.script_lines.specs.declared.errors.BadLine.{BadLine}
+use Rattle.script_lines.specs.Actors.{agent_word, all_workers, worker_or, worker_word}
+use Rattle.script_lines.specs.Members.{most_turn}
+use Rattle.script_text.specs.declared.script.Line.{Line}
+use Rattle.script_text.specs.declared.script.Line.TheVariants.{Call, Lose, Restart, Turn, Drain}
+use Rattle.script_text.specs.declared.script.Numbered.{Numbered}
+use Rattle.script_text.specs.declared.script.Script.{Script}
+use Rattle.script_text.specs.Said.{agents_after, agents_of, and_node, created_by, created_node, creates, node_name, nodes_of}
+use Rattle.script_text.specs.Grammar.{create_limit, first_of, line_limit, most_nodes, most_objects, passed, read_numbered_of, script_from, script_of}
+use Rattle.script_laws.specs.Given.{IsActor, IsCount, IsLineAfter}
+use Rattle.script_laws.specs.Scripts.{AreLinesAfter, IsScript}
+use Rattle.script_laws.proofs.MembersGive.{AreAgents}
+use Rattle.script_laws.proofs.TextsGive.{ScriptGiven, agents_and, script_gives}
+use Rattle.script_runs.specs.Limits.{AreInOrder, AreWithinLimits, IsKnown, IsReadable, IsWithinLimits, NameKnown, NamesKnown}
+use Rattle.script_text.proofs.Indexes.{agents_more}
+
+-- ---- numbers of lines
+
+count_most : (most n : ℕ) → IsCount most n → n ≤ most
+count_most most n is = by (nat_le 1 n) (nat_le n most) refl is
+  where
+    by : (b c : Bool) → nat_le n most ≡ c → (b && c) ≡ true → n ≤ most
+    by true true e h = leb-true n most e
+    by true false e h = absurd (true≢false (sym h))
+    by false c e h = absurd (true≢false (sym h))
+
+line_within : (agents : List Pair) (before : List Line) (line : Line) → IsLineAfter agents before line → IsWithinLimits line
+line_within agents before (Call user request) is = let most = count_most 4 user is.0 in omega (arith, most)
+line_within agents before (Lose actor call after) is = tt
+line_within agents before (Restart actor after) is = tt
+line_within agents before (Turn actor calls) is = count_most most_turn calls is.1
+line_within agents before Drain is = tt
+
+lines_within : (agents : List Pair) (before lines : List Line) → AreLinesAfter agents before lines → AreWithinLimits lines
+lines_within agents before [] are = tt
+lines_within agents before (line ∷ lines) are = (line_within agents before line are.0, lines_within agents (before ++ line ∷ []) lines are.2)
+
+-- ---- the nodes of lines
+
+same_agents : (lines : List Line) (line : Line) → created_node line ≡ None → length (agents_of lines) ≤ 8 → length (agents_of (lines ++ line ∷ [])) ≤ 8
+same_agents lines line none few =
+    let same : agents_of (lines ++ line ∷ []) ≡ agents_of lines = agents_more [] lines line ∙ ap (λ o. and_node (agents_of lines) o) none in
+    let long : length (agents_of (lines ++ line ∷ [])) ≡ length (agents_of lines) = ap length same in
+    omega arith
+
+few_nodes : (lines : List Line) → create_limit lines true ≡ None → length (agents_of lines) ≤ 8
+few_nodes lines none = by (nat_lt most_objects (creates lines)) (nat_lt most_nodes (length (agents_of lines))) refl none
+  where
+    by : (b c : Bool) → nat_lt most_nodes (length (agents_of lines)) ≡ c → first_of (passed b TooManyObjects) (passed c TooManyNodes) ≡ None → length (agents_of lines) ≤ 8
+    by true c is h = absurd (cc)
+    by false true is h = absurd (cc)
+    by false false is h = ltb-false 8 (length (agents_of lines)) is
+
+created_few : (lines : List Line) (created : Option Object) → create_limit lines (is_some created) ≡ None → (option_and_then node_name created ≡ None → length (agents_of lines) ≤ 8) → length (agents_of lines) ≤ 8
+created_few lines (Some o) none h = few_nodes lines none
+created_few lines None none h = h refl
+
+nodes_kept : (lines : List Line) (line : Line) → line_limit (lines ++ line ∷ []) line ≡ None → length (agents_of lines) ≤ 8 → length (agents_of (lines ++ line ∷ [])) ≤ 8
+nodes_kept lines (Call user request) none few = created_few (lines ++ Call user request ∷ []) (created_by request) none (λ no. same_agents lines (Call user request) no few)
+nodes_kept lines (Lose actor call after) none few = same_agents lines (Lose actor call after) refl few
+nodes_kept lines (Restart actor after) none few = same_agents lines (Restart actor after) refl few
+nodes_kept lines (Turn actor calls) none few = same_agents lines (Turn actor calls) refl few
+nodes_kept lines Drain none few = same_agents lines Drain refl few
+
+lines_few : (agents : List Pair) (before lines : List Line) → AreLinesAfter agents before lines → length (agents_of before) ≤ 8 → length (agents_of (before ++ lines)) ≤ 8
+lines_few agents before [] are few = subst (λ (ls : List Line). length (agents_of ls) ≤ 8) (sym (append-nil before)) few
+lines_few agents before (line ∷ lines) are few =
+    subst (λ (ls : List Line). length (agents_of ls) ≤ 8) (append_assoc before (line ∷ []) lines) (lines_few agents (before ++ line ∷ []) lines are.2 (nodes_kept before line are.1 few))
+
+-- ---- the order of the nodes
+
+-- agents in the order of their names, each by the name of its node
+pub record AreNamed (agents : List Pair) : Type 0 where
+  pub names : AreAgents agents
+  pub order : ArePairs agents
+
+named_and : (agents : List Pair) (node : Option (List ℕ)) → AreNamed agents → AreNamed (and_node agents node)
+named_and agents None h = h
+named_and agents (Some node) h = record { names = agents_and agents (Some node) h.names; order = rising_put nat_list_cmp_total pair_key (agent_word node, node) agents h.order }
+
+named_after : (agents : List Pair) (lines : List Line) → AreNamed agents → AreNamed (agents_after agents lines)
+named_after agents [] h = h
+named_after agents (line ∷ lines) h = named_after (and_node agents (created_node line)) lines (named_and agents (created_node line) h)
+
+-- names with the same beginning stand as their ends do
+after_nodes : (p : Pair) (ps : List Pair) → p.0 ≡ agent_word p.1 → AreAgents ps → IsAfter text_cmp pair_key p ps → IsAfter text_cmp (λ name. name) p.1 (nodes_of ps)
+after_nodes p [] is are after = tt
+after_nodes p (q ∷ ps) is are after = (sym (ap (λ (name : List ℕ). text_cmp name q.0) is ∙ ap (text_cmp (agent_word p.1)) are.0) ∙ after.0, after_nodes p ps is are.1 after.1)
+
+nodes_in_order : (agents : List Pair) → AreAgents agents → ArePairs agents → AreInOrder (nodes_of agents)
+nodes_in_order [] are order = tt
+nodes_in_order (p ∷ ps) are order = (after_nodes p ps are.0 are.1 order.0, nodes_in_order ps are.1 order.1)
+
+-- ---- the agents that lines name
+
+found_node : (agents : List Pair) (name node : List ℕ) → option_map (λ (p : Pair). p.1) (pair_at name agents) ≡ Some node → has_name node (nodes_of agents) ≡ true
+found_node [] name node found = absurd cc
+found_node (p ∷ ps) name node found = by (is_eq (text_cmp p.0 name)) found (found_node ps name node)
+  where
+    by : (b : Bool) → option_map (λ (q : Pair). q.1) (if b then Some p else pair_at name ps) ≡ Some node → (option_map (λ (q : Pair). q.1) (pair_at name ps) ≡ Some node → has_name node (nodes_of ps) ≡ true)
+        → (bytes_eq p.1 node || has_name node (nodes_of ps)) ≡ true
+    by true here rest = let same : p.1 ≡ node = cc in ap (λ b. b || has_name node (nodes_of ps)) (ap (λ (n : List ℕ). bytes_eq n node) same ∙ (bytes_eq-Decides node node).1 refl)
+    by false later rest = at_last (bytes_eq p.1 node) (has_name node (nodes_of ps)) (rest later)
+      where
+        at_last : (a b : Bool) → b ≡ true → (a || b) ≡ true
+        at_last true b h = refl
+        at_last false b h = h
+
+actor_known : (agents : List Pair) (actor : Actor) → IsActor agents actor → IsKnown (nodes_of agents) actor
+actor_known agents (Worker w) is = tt
+actor_known agents (Agent node) is = by (value_named worker_word all_workers (agent_word node)) (value_at (agent_word node) agents) refl is
+  where
+    by : (w : Option WorkerData) (found : Option (List ℕ)) → value_at (agent_word node) agents ≡ found
+        → worker_or w (option_map (λ n. Agent n) found) ≡ Some (Agent node) → has_name node (nodes_of agents) ≡ true
+    by (Some w) found at e = absurd cc
+    by None (Some other) at e = let same : other ≡ node = cc in found_node agents (agent_word node) node (at ∙ ap (λ n. Some n) same)
+    by None None at e = absurd cc
+
+line_known : (agents : List Pair) (before : List Line) (line : Line) → IsLineAfter agents before line → NamesKnown (nodes_of agents) line
+line_known agents before (Call user request) is = tt
+line_known agents before (Lose actor call after) is = actor_known agents actor is.0
+line_known agents before (Restart actor after) is = actor_known agents actor is.0
+line_known agents before (Turn actor calls) is = actor_known agents actor is.0
+line_known agents before Drain is = tt
+
+lines_known : (agents : List Pair) (before lines : List Line) → AreLinesAfter agents before lines → NameKnown (nodes_of agents) lines
+lines_known agents before [] are = tt
+lines_known agents before (line ∷ lines) are = (line_known agents before line are.0, lines_known agents (before ++ line ∷ []) lines are.2)
+
+-- ---- the script
+
+-- a script that a text can give is readable
+pub script_readable : (script : Script) → IsScript script → IsReadable script
+script_readable script is =
+    let nodes = sym is.nodes in
+    let agents = agents_of script.lines in
+    let long = length-map agents (λ (p : Pair). p.1) in
+    let most = lines_few agents [] script.lines is.lines (omega arith) in
+    let few = is.few_lines in
+    let named = named_after [] script.lines (record { names = tt; order = tt }) in
+    record {
+      imports = is.imports;
+      lines = lines_within agents [] script.lines is.lines;
+      few = omega (arith, few);
+      nodes = subst (λ (names : List (List ℕ)). length names ≤ 8) nodes (omega (arith, long, most));
+      order = subst AreInOrder nodes (nodes_in_order agents named.names named.order);
+      known = subst (λ (names : List (List ℕ)). NameKnown names script.lines) nodes (lines_known agents [] script.lines is.lines);
+    }
+
+-- what `read_script` answers is readable
+pub read_is_readable : (bytes : List ℕ) (script : Script) → script_of bytes ≡ Ok script → IsReadable script
+read_is_readable bytes script e = by (script_of bytes) (script_gives bytes) e
+  where
+    by : (r : Result Script BadLine) → IfOk r ScriptGiven → r ≡ Ok script → IsReadable script
+    by (Ok s) given is = let same : s ≡ script = cc in subst IsReadable same (script_readable s given.script)
+    by (Err b) given is = absurd cc
+
+-- what `read_numbered` answers is readable
+pub numbered_is_readable : (bytes : List ℕ) (n : Numbered) → read_numbered_of bytes ≡ Ok n → IsReadable n.script
+numbered_is_readable bytes n e = read_is_readable bytes n.script (ap script_from e)

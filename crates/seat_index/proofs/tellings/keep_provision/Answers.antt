@@ -1,5 +1,0 @@
-use Rattle.seat_index.proofs.Paging.{pages_skip}
-use Rattle.seat_index.proofs.tellings.keep_provision.Goals as goal
-
-pub returns-in-None : goal.returns-in-None
-returns-in-None c = λ mine pages. pages_skip c.args.entry.now mine _ pages

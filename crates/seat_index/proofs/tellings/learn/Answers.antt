@@ -1,5 +1,0 @@
-use Rattle.seat_index.proofs.Paging.{pages_skip}
-use Rattle.seat_index.proofs.tellings.learn.Goals as goal
-
-pub returns-then-not-entry : goal.returns-then-not-entry
-returns-then-not-entry c = λ mine pages. pages_skip c.args.entry.now mine _ pages

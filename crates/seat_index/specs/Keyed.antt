@@ -1,7 +1,0 @@
--- Keys by their parts.
--- A choice of this project.
-use Rattle.kube_types.specs.declared.key.Key.{Key}
-use Rattle.seat_index.specs.declared.parts.Parts.{Parts}
-
-abbrev pub key_by : Parts → Key
-key_by p = record { kind = p.kind; namespace = p.namespace.now; name = p.name.now }

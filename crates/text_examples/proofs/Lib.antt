@@ -1,0 +1,4 @@
+pub mod Gen
+pub mod History
+pub mod Printable
+pub mod Script

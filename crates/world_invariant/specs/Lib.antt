@@ -1,4 +1,0 @@
-pub mod Was
-pub mod Invariant
-pub mod Good
-pub mod Holders

@@ -1,8 +1,0 @@
-pub mod Tests
-pub mod Objects
-pub mod Forms
-pub mod Effects
-pub mod Whence
-pub mod Moves
-pub mod DeviceMoves
-pub mod Tells

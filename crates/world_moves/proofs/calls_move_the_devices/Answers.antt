@@ -1,6 +1,0 @@
-use Rattle.world_moves.proofs.DeviceMoves.{device_moves}
-use Rattle.world_moves.proofs.calls_move_the_devices.Goals as goal
-
--- src/lib.rt:35:1
-pub returns : goal.returns
-returns c = device_moves
