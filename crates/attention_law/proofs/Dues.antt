@@ -1,5 +1,5 @@
 -- A key that is due has a row, and no decision drops it; and the rules give no watch.
-use Rattle.std.proofs.Common.{◌≡◌, ◌⊎◌, ℕ, List, true, true≢false, Option, Some, None, inl, inr, refl, sym, ◌∙◌, ap, subst}
+use Rattle.std.proofs.Common.{◌≡◌, ◌⊎◌, ℕ, List, [], true, true≢false, Option, Some, None, inl, inr, refl, sym, ◌∙◌, ap, subst}
 use Rattle.std.specs.Prelude.{map, option_map}
 use Rattle.std.specs.List.{list_any}
 use Rattle.kube_types.specs.declared.key.Key.{Key}
@@ -14,6 +14,7 @@ use Rattle.call_types.specs.declared.request.Request.TheVariants as requests
 use Rattle.call_types.specs.declared.request.SeatKind.{SeatKind}
 use Rattle.call_types.specs.declared.request.SeatKind.TheVariants as seats
 use Rattle.call_types.specs.declared.reply.MountRow.{MountRow}
+use Rattle.binder_machines.specs.KindLaw.{reads_kind}
 use Rattle.informer_cache.specs.Cache.{objects_of}
 use Rattle.informer_cache.specs.All.{AllKnown, AllStandFor, all_objects, cache_of}
 use Rattle.model_laws.proofs.Lists.{IsIn, none_some, one}
@@ -124,6 +125,10 @@ module _ (role : Role) (mine : List Entry) (key : Key) (built : IsBuiltKind role
         | inr d ↦ absurd (drops d)
       ]
 
+-- before anything was told nothing is due
+pub never_due : (role : Role) (key : Key) → IsBuiltKind role.kind → IsDue role key [] → ⊥
+never_due role key built due = no_drop (due.only due.rows due.shows firsts.Drops (none_dropped role.node (memory_of role []) due.rows due.rows key due.under.key (firsts.Begins due.under.task) role.kind built due.gives.decided (due.shows.shown key)))
+
 -- in an actor that stands for the entries
 
 module _ (s : State) (mine : List Entry) (key : Key) (stands : StandsFor s mine) (order : AreRows (all_objects s.caches)) where
@@ -157,8 +162,12 @@ module _ (s : State) (mine : List Entry) (key : Key) (stands : StandsFor s mine)
 task_watches : (t : Task) (kind : Kind) (from : ℕ) → task_call t ≡ Some (requests.Watch kind from) → ⊥
 task_watches t kind from e = true≢false (sym (itself kind) ∙ task_reads_none t (requests.Watch kind from) kind e)
 
+-- nor do they list or watch a whole kind
+pub asked_no_read : (role : Role) (key : Key) (mine : List Entry) (request : Request) (kind : Kind) → reads_kind kind request ≡ true → IsAskedFor role key mine request → ⊥
+asked_no_read role key mine request kind reads a = true≢false (sym reads ∙ task_reads_none a.under.task request kind (a.gives.call ∙ ap Some (sym a.call)))
+
 pub asked_no_watch : (role : Role) (key : Key) (mine : List Entry) (kind : Kind) (from : ℕ) → IsAskedFor role key mine (requests.Watch kind from) → ⊥
-asked_no_watch role key mine kind from a = task_watches a.under.task kind from (a.gives.call ∙ ap Some (sym a.call))
+asked_no_watch role key mine kind from a = asked_no_read role key mine (requests.Watch kind from) kind (itself kind) a
 
 pub under_no_watch : (role : Role) (under : Option Under) (mine : List Entry) (kind : Kind) (from : ℕ) → AnyIsUnderWay role under mine → option_map call_under under ≡ Some (requests.Watch kind from) → ⊥
 under_no_watch role None mine kind from way e = none_some e

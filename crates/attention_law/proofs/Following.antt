@@ -25,8 +25,8 @@ use Rattle.attention_law.specs.Played.{Begins, Gives, IsPlayed, LostAfter, LostB
 use Rattle.attention_law.proofs.Dues.{asked_no_watch}
 use Rattle.attention_law.proofs.Passing.{Goes, told_goes}
 use Rattle.attention_law.proofs.Phases.{Phase, answer_phase, called_or_waits, few_watches, opens, same_place, turn_phase, wake_phase}
-use Rattle.attention_law.proofs.Queues.{taken_keys}
-use Rattle.attention_law.proofs.Turned.{OneTaken, answer_role, answer_taken, calls_fresh, turn_taken, under_keys, woken_taken}
+use Rattle.attention_law.specs.Queues.{OneTaken, taken_keys, under_keys}
+use Rattle.attention_law.proofs.Turned.{answer_role, answer_taken, calls_fresh, turn_taken, woken_taken}
 
 -- lists
 
@@ -38,13 +38,13 @@ abbrev tail_in : {X : Type 0} → List X → List X
 tail_in [] = []
 tail_in (x ∷ xs) = xs
 
-same_head : {X : Type 0} (x y : X) (xs ys : List X) → x ∷ xs ≡ y ∷ ys → x ≡ y
+pub same_head : {X : Type 0} (x y : X) (xs ys : List X) → x ∷ xs ≡ y ∷ ys → x ≡ y
 same_head x y xs ys e = one x y (ap head_in e)
 
-same_tail : {X : Type 0} (x y : X) (xs ys : List X) → x ∷ xs ≡ y ∷ ys → xs ≡ ys
+pub same_tail : {X : Type 0} (x y : X) (xs ys : List X) → x ∷ xs ≡ y ∷ ys → xs ≡ ys
 same_tail x y xs ys e = ap tail_in e
 
-no_list : {X : Type 0} (x : X) (xs : List X) → ◌≡◌ {A = List X} [] (x ∷ xs) → ⊥
+pub no_list : {X : Type 0} (x : X) (xs : List X) → ◌≡◌ {A = List X} [] (x ∷ xs) → ⊥
 no_list x xs e = none_some (ap head_in e)
 
 -- what holds after each step
@@ -73,7 +73,7 @@ woke s turned new mine t wakes = record {
   role = ap (λ (x : State). x.role) wakes ∙ turn_role s turned nexts.Idle t.turn;
 }
 
-one_taken : (role : Role) (s : State) (calls : List Call) → IsPlayed role s calls → OneTaken s
+pub one_taken : (role : Role) (s : State) (calls : List Call) → IsPlayed role s calls → OneTaken s
 one_taken role s calls (Begins none new stands) = ap taken_keys new.work ∙ sym (ap under_keys new.under)
 one_taken role s calls (Told old before e request reply played is told gives stands) = (came old s request _ _ gives).taken (one_taken role old before played)
 one_taken role s calls (LostBefore old before request played is gives stands) = (came old s request _ _ gives).taken (one_taken role old before played)
@@ -88,10 +88,10 @@ same_role role s calls (LostAfter old before e request played is lost own gives 
 same_role role s calls (Wakes old turned played turns wakes stands) = (woke old turned s _ turns wakes).role ∙ same_role role old calls played
 
 -- what an actor remembers hangs on its calls alone, so a wake changes nothing of it
-remembered : (role : Role) (s : State) (calls : List Call) → IsPlayed role s calls → s.memory ≡ memory_of role (entries calls)
+pub remembered : (role : Role) (s : State) (calls : List Call) → IsPlayed role s calls → s.memory ≡ memory_of role (entries calls)
 remembered role s calls played = (stands_now role s calls played).memory ∙ ap (λ r. memory_of r (entries calls)) (same_role role s calls played)
 
-still_fresh : (role : Role) (old new : State) (calls : List Call) → IsPlayed role old calls → IsPlayed role new calls → new.memory.stale ≡ false → old.memory.stale ≡ false
+pub still_fresh : (role : Role) (old new : State) (calls : List Call) → IsPlayed role old calls → IsPlayed role new calls → new.memory.stale ≡ false → old.memory.stale ≡ false
 still_fresh role old new calls before after fresh = ap (λ (m : Memory). m.stale) (remembered role old calls before ∙ sym (remembered role new calls after)) ∙ fresh
 
 -- earlier calls were played too

@@ -1,11 +1,16 @@
 pub mod Alike
 pub mod Dues
 pub mod Following
+pub mod Kept
+pub mod Needed
+pub mod Once
 pub mod Ordered
 pub mod Passing
 pub mod Phases
 pub mod Queues
+pub mod Resting
 pub mod Seeking
 pub mod Showings
+pub mod Silent
 pub mod Stepping
 pub mod Turned

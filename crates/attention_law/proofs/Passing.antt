@@ -31,6 +31,7 @@ use Rattle.worker_core.proofs.PassRules.{events_are_brought, passes_go_on, watch
 use Rattle.worker_core.proofs.Quiet.{itself}
 use Rattle.worker_core.proofs.Watches.{watches_are_answered}
 use Rattle.attention_law.specs.Diligence.{IsQuiet, is_news, watches_kind}
+use Rattle.attention_law.specs.Resting.{is_watch}
 use Rattle.attention_law.proofs.Dues.{under_no_watch}
 
 -- what an answer without news makes of the pass: a watch is that of the pass's kind, and the pass goes on to the next
@@ -48,7 +49,7 @@ module _ (s : State) (mine : List Entry) (kind : Kind) (from : ℕ) (stands : St
   read_kind k asks.List e = none_some (ap kind_watched (one _ (requests.Watch kind from) e))
   read_kind k (asks.Watch f) e = one k kind (ap kind_watched (one _ (requests.Watch kind from) e))
 
-  given_read : asked s ≡ Some (requests.Watch kind from) → s.given ≡ Some (givens.Read kind)
+  pub given_read : asked s ≡ Some (requests.Watch kind from) → s.given ≡ Some (givens.Read kind)
   given_read = by s.given refl
     where
       by : (g : Option Given) → s.given ≡ g → given_call s g ≡ Some (requests.Watch kind from) → s.given ≡ Some (givens.Read kind)
@@ -56,10 +57,6 @@ module _ (s : State) (mine : List Entry) (kind : Kind) (from : ℕ) (stands : St
       by (Some givens.Task) at e = absurd (under_no_watch s.role s.under mine kind from stands.under_way e)
       by (Some givens.Start) at e = absurd (true≢false (sym (itself kind) ∙ start_reads_none s.role.kind s.role.node s.memory (requests.Watch kind from) kind e))
       by (Some (givens.Read k)) at e = at ∙ ap (λ x. Some (givens.Read x)) (read_kind k (ask_of (cache_of k s.caches)) e)
-
-abbrev is_watch : Request → Bool
-is_watch (requests.Watch kind from) = true
-is_watch request = false
 
 -- any other answer leaves the pass
 module _ (s : State) (caches : AllKnown) (request : Request) (reply : Reply) (other : is_watch request ≡ false) where
@@ -70,7 +67,7 @@ module _ (s : State) (caches : AllKnown) (request : Request) (reply : Reply) (ot
       by (requests.Watch kind from) e = absurd (true≢false e)
       by _ e = refl
 
-  told_stays : (absorbed s caches request (outcomes.Told reply)).pass ≡ s.pass
+  pub told_stays : (absorbed s caches request (outcomes.Told reply)).pass ≡ s.pass
   told_stays = by s.given
     where
       task : (u : Option Under) → (task_told (learned s caches request reply) reply u).pass ≡ s.pass

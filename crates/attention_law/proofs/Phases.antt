@@ -30,8 +30,9 @@ use Rattle.worker_core.proofs.Quiet.{alike, itself}
 use Rattle.attention_law.specs.Diligence.{IsAskedFor, IsDue, watches_kind}
 use Rattle.attention_law.proofs.Dues.{IsCached, due_cached, not_dropped, was_asked}
 use Rattle.attention_law.proofs.Passing.{Goes, GoesOn, Stays}
-use Rattle.attention_law.proofs.Queues.{cached_self, row_any, taken_keys}
-use Rattle.attention_law.proofs.Turned.{Kept, OneTaken, PassAfter, Renewed, Rests, idle_rests, turn_pass, turn_taken, under_keys}
+use Rattle.attention_law.specs.Queues.{OneTaken, taken_keys, under_keys}
+use Rattle.attention_law.proofs.Queues.{cached_self, row_any}
+use Rattle.attention_law.proofs.Turned.{Kept, PassAfter, Renewed, Rests, idle_rests, turn_pass, turn_taken}
 
 -- a kind's place among the kinds that an actor follows
 
@@ -201,35 +202,19 @@ opens seat kind key s new request of_seat watch (GoesOn k from is follows on sti
 pub same_place : (seat : SeatKind) (kind : Kind) (i j : ℕ) → IsBuiltKind seat → slice_get (kinds_of seat) i ≡ Some kind → slice_get (kinds_of seat) j ≡ Some kind → i ≡ j
 same_place seat kind i j built ei ej = place_is seat i kind built ei ∙ sym (place_is seat j kind built ej)
 
--- an idle turn and a wake
+-- an idle turn and a wake of an actor for which a key is due
 
-module _ (seat : SeatKind) (built : IsBuiltKind seat) (kind : Kind) (place : ℕ) (at : slice_get (kinds_of seat) place ≡ Some kind) (key : Key) (s turned new : State) (mine : List Entry) (n : ℕ) (of_seat : s.role.kind ≡ seat)
-    (stands : StandsFor s mine) (order : AreRows (all_objects s.caches)) (due : IsDue s.role key mine) (own : OneTaken s) (fresh : s.memory.stale ≡ false) (turn : IsTurn s turned nexts.Idle) (wakes : new ≡ woken turned) where
-  built_now : IsBuiltKind s.role.kind
-  built_now = subst IsBuiltKind (sym of_seat) built
-
+module _ (key : Key) (s turned new : State) (mine : List Entry) (built : IsBuiltKind s.role.kind) (stands : StandsFor s mine) (order : AreRows (all_objects s.caches)) (due : IsDue s.role key mine) (own : OneTaken s) (fresh : s.memory.stale ≡ false)
+    (turn : IsTurn s turned nexts.Idle) (wakes : new ≡ woken turned) where
   rests : Rests s turned
   rests = idle_rests s turned turn fresh
 
-  -- the pass has each kind behind it
-  past_it : place < s.pass.behind
-  past_it =
-      let all : length (kinds_of seat) ≤ s.pass.behind = passed (kinds_of seat) s.pass.behind (ap (λ k. slice_get (kinds_of k) s.pass.behind) (sym of_seat) ∙ rests.passed) in
-      let low : place < length (kinds_of seat) = slice_get_within (kinds_of seat) place kind at in
-      omega (arith, all, low)
-
-  pass_now : new.pass ≡ record { behind = 0; event = false }
-  pass_now = ap (λ (x : State). x.pass) wakes
-
-  behind_now : new.pass.behind ≤ place
-  behind_now = subst (λ p. behind_in p ≤ place) (sym pass_now) (omega arith)
-
   -- the key is cached, and waits after the wake
-  waits_now : waits key new.work ≡ true
+  pub waits_now : waits key new.work ≡ true
   waits_now = ap (λ (x : State). waits key x.work) wakes ∙ cached_self turned.caches (kinds_of turned.role.kind) key.kind key turned.work followed there none
     where
       cached : IsCached s.role.kind key s.caches
-      cached = due_cached s.role mine key built_now due s.caches stands.caches order (λ k o e. row_any k o _ e)
+      cached = due_cached s.role mine key built due s.caches stands.caches order (λ k o e. row_any k o _ e)
 
       same_kinds : kinds_of turned.role.kind ≡ kinds_of s.role.kind
       same_kinds = ap (λ (r : Role). kinds_of r.kind) (turn_role s turned nexts.Idle turn)
@@ -244,15 +229,39 @@ module _ (seat : SeatKind) (built : IsBuiltKind seat) (kind : Kind) (place : ℕ
       none = turn_taken s turned nexts.Idle turn own ∙ ap under_keys rests.none
 
   -- a key that waits is decided before the life is idle
-  decided : waits key s.work ≡ true → ⊥
+  pub decided : waits key s.work ≡ true → ⊥
   decided there =
       let still = goes_on_waiting key s turned mine stands order due nexts.Idle turn (λ called. none_some (ap call_in called.call)) there in
       let gone : waits key turned.work ≡ false = ap (λ ks. list_any (same_key key) ks) rests.empty in
       true≢false (sym still ∙ gone)
 
+module _ (seat : SeatKind) (built : IsBuiltKind seat) (kind : Kind) (place : ℕ) (at : slice_get (kinds_of seat) place ≡ Some kind) (key : Key) (s turned new : State) (mine : List Entry) (n : ℕ) (of_seat : s.role.kind ≡ seat)
+    (stands : StandsFor s mine) (order : AreRows (all_objects s.caches)) (due : IsDue s.role key mine) (own : OneTaken s) (fresh : s.memory.stale ≡ false) (turn : IsTurn s turned nexts.Idle) (wakes : new ≡ woken turned) where
+  built_now : IsBuiltKind s.role.kind
+  built_now = subst IsBuiltKind (sym of_seat) built
+
+  -- the pass has each kind behind it
+  past_it : place < s.pass.behind
+  past_it =
+      let all : length (kinds_of seat) ≤ s.pass.behind = passed (kinds_of seat) s.pass.behind (ap (λ k. slice_get (kinds_of k) s.pass.behind) (sym of_seat) ∙ (idle_rests s turned turn fresh).passed) in
+      let low : place < length (kinds_of seat) = slice_get_within (kinds_of seat) place kind at in
+      omega (arith, all, low)
+
+  pass_now : new.pass ≡ record { behind = 0; event = false }
+  pass_now = ap (λ (x : State). x.pass) wakes
+
+  behind_now : new.pass.behind ≤ place
+  behind_now = subst (λ p. behind_in p ≤ place) (sym pass_now) (omega arith)
+
+  waits_then : waits key new.work ≡ true
+  waits_then = waits_now key s turned new mine built_now stands order due own fresh turn wakes
+
+  never_waited : waits key s.work ≡ true → ⊥
+  never_waited = decided key s turned new mine built_now stands order due own fresh turn wakes
+
   pub wake_phase : Phase place key s n → Phase place key new n
   wake_phase (Opened is past) = Began is behind_now (ap event_in pass_now)
   wake_phase (Began is before quiet) = let past = past_it in absurd (omega (arith, past, before))
-  wake_phase (Passed is past quiet) = Woken is behind_now (ap event_in pass_now) waits_now
-  wake_phase (Woken is before quiet there) = absurd (decided there)
-  wake_phase (Waits is past quiet there) = absurd (decided there)
+  wake_phase (Passed is past quiet) = Woken is behind_now (ap event_in pass_now) waits_then
+  wake_phase (Woken is before quiet there) = absurd (never_waited there)
+  wake_phase (Waits is past quiet there) = absurd (never_waited there)

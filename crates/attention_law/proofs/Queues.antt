@@ -16,17 +16,12 @@ use Rattle.sync_queue.specs.Work.{Taken, Work, added, begin_oldest, begun, done_
 use Rattle.sync_queue.proofs.LaneFacts.{any-append}
 use Rattle.worker_core.specs.Absorbs.{all_added, kind_added, kinds_added}
 use Rattle.worker_core.specs.States.{waits}
+use Rattle.attention_law.specs.Queues.{key_in, taken_keys}
 use Rattle.worker_core.proofs.KeyMoves.{all_waits, cached_waits, is_key}
-
-abbrev pub key_in : Taken → Key
-key_in t = t.key
-
-abbrev pub taken_keys : Work → List Key
-taken_keys w = map key_in w.taken
 
 -- keys that are added
 
-marked_keys : (k : Key) (ts : List Taken) → map key_in (map (mark k) ts) ≡ map key_in ts
+pub marked_keys : (k : Key) (ts : List Taken) → map key_in (map (mark k) ts) ≡ map key_in ts
 marked_keys k [] = refl
 marked_keys k (t ∷ ts) = ap (λ x. x ∷ map key_in (map (mark k) ts)) (own (is_of k t)) ∙ ap (λ xs. t.key ∷ xs) (marked_keys k ts)
   where

@@ -28,16 +28,10 @@ use Rattle.worker_core.specs.Roles.{kinds_of}
 use Rattle.worker_core.specs.States.{State, call_in, start_call}
 use Rattle.worker_core.specs.Tasks.{task_call, task_moved, task_parks, under_after, with_call, with_task}
 use Rattle.worker_core.specs.Turns.{AfterKeys, Begins, Decides, Drops, IsTurn, Nothing, TurnBy, dropped, passing, unlisted}
-use Rattle.attention_law.proofs.Queues.{added_taken, all_taken, begun_taken, cached_taken, finished_taken, put_off_taken, taken_keys}
+use Rattle.attention_law.specs.Queues.{OneTaken, taken_keys, under_keys}
+use Rattle.attention_law.proofs.Queues.{added_taken, all_taken, begun_taken, cached_taken, finished_taken, put_off_taken}
 
 -- what is taken is what is under way
-
-abbrev pub under_keys : Option Under → List Key
-under_keys None = []
-under_keys (Some u) = u.key ∷ []
-
-abbrev pub OneTaken : State → Type 0
-OneTaken s = taken_keys s.work ≡ under_keys s.under
 
 dropped_taken : (first : First) (k : Key) (w : Work) → taken_keys (begun w) ≡ k ∷ [] → taken_keys (dropped first k w) ≡ []
 dropped_taken firsts.Drops k w e = finished_taken k (begun w) e

@@ -1,3 +1,5 @@
 pub mod Diligence
 pub mod Played
+pub mod Queues
+pub mod Resting
 pub mod Showing

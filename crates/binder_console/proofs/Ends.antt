@@ -1,39 +1,79 @@
 -- How the program ends.
-use Rattle.std.proofs.Common.{◌≡◌, ◌≤◌, ◌<◌, ◌∙◌, ℕ, List, String, Some, None, Ok, length, refl, sym, ap, subst, true, false, true≢false, arith, inl, inr}
+use Rattle.std.proofs.Common.{◌≡◌, ◌≤◌, ◌<◌, ◌∙◌, ℕ, List, String, Some, None, Ok, IfSome, length, refl, sym, ap, subst, true, false, true≢false, arith, inl, inr}
 use Rattle.std.specs.Prelude.{IsErr, is_err}
 use Rattle.std.specs.declared.result.Result.{Result}
 use Rattle.std.specs.declared.option.Option.{Option}
 use Rattle.std.specs.declared.alloc.Global.{Global}
-use Rattle.binder_console.specs.declared.status.Status.{Status}
-use Rattle.binder_console.specs.declared.status.Status.TheVariants.{Done, Unsettled, Refused, WriteFault, AuditNo}
-use Rattle.binder_console.specs.declared.commands.Task.{Task}
-use Rattle.binder_console.specs.declared.commands.Task.TheVariants.{Replay, Check, Audit, Gen}
+use Rattle.fault_io.specs.Faults.{Rose}
+use Rattle.fault_io.specs.Reading.{TakesFront}
+use Rattle.fault_io.specs.Writing.{Appends}
 use Rattle.script_text.specs.Grammar.{script_of}
 use Rattle.object_text.specs.Listing.{list_of}
 use Rattle.history_read.specs.Grammar.{history_of}
+use Rattle.binder_console.specs.declared.status.Status.{Status}
+use Rattle.binder_console.specs.declared.status.Status.TheVariants.{Done, Usage, Refused, Unsettled, ReadFault, WriteFault, Memory, AuditNo}
+use Rattle.binder_console.specs.declared.commands.Task.{Task}
+use Rattle.binder_console.specs.declared.commands.Task.TheVariants.{Replay, Check, Audit, Gen}
 use Rattle.binder_console.specs.declared.answers.Answer.{Answer}
 use Rattle.binder_console.specs.declared.answers.Answer.TheVariants as answers
 use Rattle.binder_console.specs.Commands.{task_of}
-use Rattle.binder_console.specs.Outcomes.{Answers, IsAnswer, IsNoInput, IsToBeRefused, Refuses, EndsCut, EndsRefused, OfRefusal, OfTask, TooLong, OfInput, Written, Whole, Front, too_long_text}
-use Rattle.binder_console.specs.Inputs.{IsInput, IsInputOf, IsTooLong, IsTooMuchOf, most_input}
+use Rattle.binder_console.specs.Ends.{Ends, EndsAnswered, EndsBy, EndsCut, EndsMisused, EndsRefused, EndsUnread, Outside}
+use Rattle.binder_console.specs.Exactly.{AreExact, IsNoInput, IsToBeRefused}
+use Rattle.binder_console.specs.Inputs.{IsInput, IsInputOf, IsReadThrough, IsTooLong, IsTooMuchOf, ReadsNothing, most_input}
+use Rattle.binder_console.specs.Outcomes.{Answers, IsAnswer, IsDueText, OfInput, OfRefusal, OfTask, OfUsage, Refuses, TooLong, Written, Whole, Front, answer_status, answer_text, too_long_text, usage_text}
 
--- ---- of an input of which the task is done
+-- ---- a text that is due was written, or a front of it
 
-pub of_output : (task : Task) (input text : List ℕ) (answer : Answer) → answer ≡ answers.Output text → IsAnswer task input answer → Answers task Done input text
-of_output task input text answer same h = subst (IsAnswer task input) same h
+-- the status is the one that is wanted, or a write failed
+ends_written : (words : List (String Global)) (before after : Outside) (text : List ℕ) (want status : Status)
+    → (Appends before.written after.written text → EndsBy want words before after) → IsDueText words before.left text
+    → Written before.written after.written before.write_faults after.write_faults text want status → EndsBy status words before after
+ends_written words before after text want status whole due (Whole e appended) = subst (λ (s : Status). EndsBy s words before after) (sym e) (whole appended)
+ends_written words before after text want status whole due (Front e rose front) =
+    let ends : EndsCut words before after = record { text = text; due = due; front = front; failed = rose } in
+    subst (λ (s : Status). EndsBy s words before after) (sym e) ends
 
-pub of_unsettled : (task : Task) (input text : List ℕ) (answer : Answer) → answer ≡ answers.Unsettled text → IsAnswer task input answer → Answers task Unsettled input text
-of_unsettled task input text answer same h = subst (IsAnswer task input) same h
+pub ends_misused : (words : List (String Global)) (before after : Outside) (status : Status)
+    → task_of words ≡ None → Written before.written after.written before.write_faults after.write_faults usage_text Usage status
+    → EndsBy status words before after
+ends_misused words before after status asked written =
+    ends_written words before after usage_text Usage status (λ appended. record { asked = asked; appended = appended }) (OfUsage asked refl) written
 
-pub of_no : (task : Task) (input text : List ℕ) (answer : Answer) → answer ≡ answers.No text → IsAnswer task input answer → Answers task AuditNo input text
-of_no task input text answer same h = subst (IsAnswer task input) same h
+pub ends_too_long : (task : Task) (words : List (String Global)) (before after : Outside) (status : Status)
+    → task_of words ≡ Some task → IsTooLong task before.left → Written before.written after.written before.write_faults after.write_faults too_long_text Refused status
+    → EndsBy status words before after
+ends_too_long task words before after status asked long written =
+    ends_written words before after too_long_text Refused status (λ appended. record { task = task; text = too_long_text; asked = asked; refused = TooLong long refl; appended = appended })
+    (OfRefusal task asked (TooLong long refl)) written
 
-pub done_cut : (task : Task) (words : List (String Global)) (left written now : Option (List ℕ)) (old new : ℕ) (input text : List ℕ) (want status : Status)
-    → task_of words ≡ Some task → IsInput task left input → Answers task want input text → Written written now old new text want status
-    → (want ≡ WriteFault → ⊥) → status ≡ WriteFault → EndsCut words left written now
-done_cut task words left written now old new input text want status asked read answers (Whole e a) other h = absurd (other (cc))
-done_cut task words left written now old new input text want status asked read answers (Front e r f) other h =
-    record { text = text; due = OfTask task want asked (record { input = input; read = read; answered = answers }); front = f }
+pub ends_unread : (task : Task) (words : List (String Global)) (before after : Outside)
+    → task_of words ≡ Some task → (ReadsNothing task → ⊥) → TakesFront before.left after.left → Rose before.read_faults after.read_faults
+    → EndsBy ReadFault words before after
+ends_unread task words before after asked reads front failed = record { task = task; asked = asked; reads = reads; front = front; failed = failed }
+
+-- ---- an input was read, and this came of it
+
+-- what the task writes with this status was to be written
+ends_task : (task : Task) (words : List (String Global)) (before after : Outside) (input text : List ℕ) (want status : Status)
+    → (EndsAnswered want words before after → EndsBy want words before after)
+    → task_of words ≡ Some task → IsInput task before.left input → IsReadThrough task after.left → Answers task want input text
+    → Written before.written after.written before.write_faults after.write_faults text want status
+    → EndsBy status words before after
+ends_task task words before after input text want status by asked read through is written =
+    ends_written words before after text want status
+    (λ appended. by (record { task = task; text = text; asked = asked; answered = record { input = input; read = read; answered = is }; read_through = through; appended = appended }))
+    (OfTask task want asked (record { input = input; read = read; answered = is })) written
+
+pub ends_answer : (task : Task) (words : List (String Global)) (before after : Outside) (input : List ℕ) (answer : Answer) (status : Status)
+    → task_of words ≡ Some task → IsInput task before.left input → IsReadThrough task after.left → IsAnswer task input answer
+    → Written before.written after.written before.write_faults after.write_faults (answer_text answer) (answer_status answer) status
+    → EndsBy status words before after
+ends_answer task words before after input (answers.Output text) status asked read through is written = ends_task task words before after input text Done status (λ e. e) asked read through is written
+ends_answer task words before after input (answers.Unsettled text) status asked read through is written = ends_task task words before after input text Unsettled status (λ e. e) asked read through is written
+ends_answer task words before after input (answers.No text) status asked read through is written = ends_task task words before after input text AuditNo status (λ e. e) asked read through is written
+ends_answer task words before after input (answers.Refusal text) status asked read through is written =
+    ends_written words before after text Refused status (λ appended. record { task = task; text = text; asked = asked; refused = OfInput input read is; appended = appended })
+    (OfRefusal task asked (OfInput input read is)) written
 
 -- ---- an input of which the task is done is not to be refused
 
@@ -52,7 +92,7 @@ is_an_input Check status bytes input text read done err = no_error (list_of byte
 is_an_input Audit status bytes input text read done err = no_error (history_of bytes) done.history (subst (λ (b : List ℕ). history_of b ≡ Ok done.history) (sym read.whole) done.read) err
 is_an_input (Gen seed budget) status bytes input text read done err = err
 
-pub not_refused : (asked : Option Task) (task : Task) (left : Option (List ℕ)) (status : Status) (input text : List ℕ) → asked ≡ Some task → IsInput task left input → Answers task status input text → IsToBeRefused asked left → ⊥
+not_refused : (asked : Option Task) (task : Task) (left : Option (List ℕ)) (status : Status) (input text : List ℕ) → asked ≡ Some task → IsInput task left input → Answers task status input text → IsToBeRefused asked left → ⊥
 not_refused asked task left status input text is read done due = by left read (subst (λ (a : Option Task). IsToBeRefused a left) is due)
   where
     by : (l : Option (List ℕ)) → IsInput task l input → IsToBeRefused (Some task) l → ⊥
@@ -62,30 +102,41 @@ not_refused asked task left status input text is read done due = by left read (s
       | inr err ↦ is_an_input task status bytes input text r done err
     ]
 
--- ---- of an input that is refused
+-- ---- what follows
 
-pub of_refusal : (task : Task) (input text : List ℕ) (answer : Answer) → answer ≡ answers.Refusal text → IsAnswer task input answer → Refuses task input text
-of_refusal task input text answer same h = subst (IsAnswer task input) same h
+no_task : (asked : Option Task) (task : Task) → asked ≡ Some task → asked ≡ None → ⊥
+no_task asked task some none = absurd (cc)
 
-pub refused : (task : Task) (words : List (String Global)) (left written now : Option (List ℕ)) (old new : ℕ) (input text : List ℕ) (status : Status)
-    → task_of words ≡ Some task → IsInput task left input → Refuses task input text → Written written now old new text Refused status
-    → status ≡ Refused → EndsRefused words left written now
-refused task words left written now old new input text status asked read refuses (Whole e a) h =
-    record { task = task; text = text; asked = asked; refused = OfInput input read refuses; appended = a }
-refused task words left written now old new input text status asked read refuses (Front e r f) h = absurd (cc)
+-- with such a status a task that the words ask for was done
+of_task : (status : Status) (words : List (String Global)) (before after : Outside) → (status ≡ Usage → ⊥) → EndsAnswered status words before after → AreExact status words before after
+of_task status words before after other e = record {
+  misused = λ same. absurd (other same);
+  misuse = λ none. absurd (no_task (task_of words) e.task e.asked none);
+  refusal = λ due. absurd (not_refused (task_of words) e.task before.left status e.answered.input e.text e.asked e.answered.read e.answered.answered due);
+  read_through = λ _. subst (λ (t : Option Task). IfSome t (λ task. IsReadThrough task after.left)) (sym e.asked) e.read_through;
+}
 
-pub refused_cut : (task : Task) (words : List (String Global)) (left written now : Option (List ℕ)) (old new : ℕ) (input text : List ℕ) (status : Status)
-    → task_of words ≡ Some task → IsInput task left input → Refuses task input text → Written written now old new text Refused status
-    → status ≡ WriteFault → EndsCut words left written now
-refused_cut task words left written now old new input text status asked read refuses (Whole e a) h = absurd (cc)
-refused_cut task words left written now old new input text status asked read refuses (Front e r f) h =
-    record { text = text; due = OfRefusal task asked (OfInput input read refuses); front = f }
-
--- ---- of an input that is too long
-
-pub long_cut : (task : Task) (words : List (String Global)) (left written now : Option (List ℕ)) (old new : ℕ) (status : Status)
-    → task_of words ≡ Some task → IsTooLong task left → Written written now old new too_long_text Refused status
-    → status ≡ WriteFault → EndsCut words left written now
-long_cut task words left written now old new status asked long (Whole e a) h = absurd (cc)
-long_cut task words left written now old new status asked long (Front e r f) h =
-    record { text = too_long_text; due = OfRefusal task asked (TooLong long refl); front = f }
+pub are_exact : (status : Status) (words : List (String Global)) (before after : Outside) → EndsBy status words before after → AreExact status words before after
+are_exact Done words before after e = of_task Done words before after (λ same. absurd (cc)) e
+are_exact Unsettled words before after e = of_task Unsettled words before after (λ same. absurd (cc)) e
+are_exact AuditNo words before after e = of_task AuditNo words before after (λ same. absurd (cc)) e
+are_exact Usage words before after e = record {
+  misused = λ _. e.asked;
+  misuse = λ _. inl refl;
+  refusal = λ due. absurd (subst (λ (t : Option Task). IsToBeRefused t before.left) e.asked due);
+  read_through = λ no. absurd no;
+}
+are_exact Refused words before after e = record {
+  misused = λ same. absurd (cc);
+  misuse = λ none. absurd (no_task (task_of words) e.task e.asked none);
+  refusal = λ _. inl refl;
+  read_through = λ no. absurd no;
+}
+are_exact ReadFault words before after e = record {
+  misused = λ same. absurd (cc);
+  misuse = λ none. absurd (no_task (task_of words) e.task e.asked none);
+  refusal = λ _. inr tt;
+  read_through = λ no. absurd no;
+}
+are_exact WriteFault words before after e = record { misused = λ same. absurd (cc); misuse = λ _. inr (inl refl); refusal = λ _. inr tt; read_through = λ no. absurd no }
+are_exact Memory words before after e = record { misused = λ same. absurd (cc); misuse = λ _. inr (inr refl); refusal = λ _. inr tt; read_through = λ no. absurd no }

@@ -50,7 +50,7 @@ pub record IsPlayed (script : Script) (budget : Option ℕ) (setup : Setup) (pas
 
 promised : (script : Script) (budget : Option ℕ) (past : List Entry) (ending : Drained) → IsPlayed script budget script.setup past ending → IsPromised script budget past ending
 promised script budget past ending p =
-    record { calls = p.calls; diligent = p.diligent; run = p.run; safe = p.safe; enough = actors_give_enough script.setup past p.of p.actors }
+    record { calls = p.diligent.calls; diligent = p.diligent.diligent; run = p.run; safe = p.safe; enough = actors_give_enough script.setup past p.of p.actors }
 
 has_one : (script : Script) (budget : Option ℕ) (past : List Entry) (ending : Drained) (text : List ℕ)
     → IsScript script → IsPlayed script budget script.setup past ending → length past < most_entries → text ≡ replay_text script.setup past ending → HasOneHistory text script.setup (reverse past)

@@ -5,3 +5,5 @@ pub mod Replays
 pub mod Checks
 pub mod Audits
 pub mod Outcomes
+pub mod Ends
+pub mod Exactly

@@ -34,13 +34,6 @@ status_number WriteFault = 5
 status_number Memory = 6
 status_number AuditNo = 7
 
--- the statuses for want of memory and for faults of reading and writing
-abbrev pub IsFault : Status → Type 0
-IsFault ReadFault = ⊤
-IsFault WriteFault = ⊤
-IsFault Memory = ⊤
-IsFault status = ⊥
-
 -- ---- what is written
 
 abbrev pub line : List ℕ → List ℕ
@@ -66,13 +59,6 @@ Refuses Check input text = RefusesList input text
 Refuses Audit input text = RefusesHistory input text
 Refuses (Gen seed budget) input text = ⊥
 
--- the task is not done of such an input
-abbrev pub IsNoInput : Task → List ℕ → Type 0
-IsNoInput (Replay budget) input = IsErr (script_of input)
-IsNoInput Check input = IsErr (list_of input)
-IsNoInput Audit input = IsErr (history_of input)
-IsNoInput (Gen seed budget) input = ⊥
-
 -- the input is refused, with this text: more is left than the task takes, or it is not done of it
 pub data RefusedWith (task : Task) (left : Option (List ℕ)) (text : List ℕ) : Type 0 where
   TooLong : IsTooLong task left → text ≡ too_long_text → RefusedWith task left text
@@ -90,43 +76,20 @@ pub data IsDueText (words : List (String Global)) (left : Option (List ℕ)) (te
   OfRefusal : (task : Task) → task_of words ≡ Some task → RefusedWith task left text → IsDueText words left text
   OfTask : (task : Task) (status : Status) → task_of words ≡ Some task → AnsweredWith task status left text → IsDueText words left text
 
--- ---- the ends
-
--- the words ask for a task, it is done of the whole input, with this status, and what it writes of it was written
-pub record EndsWith (status : Status) (words : List (String Global)) (left written now : Option (List ℕ)) : Type 0 where
-  pub task : Task
-  pub input : List ℕ
-  pub text : List ℕ
-  pub asked : task_of words ≡ Some task
-  pub read : IsInput task left input
-  pub answered : Answers task status input text
-  pub appended : Appends written now text
-
--- the line of a refusal was written
-pub record EndsRefused (words : List (String Global)) (left written now : Option (List ℕ)) : Type 0 where
-  pub task : Task
-  pub text : List ℕ
-  pub asked : task_of words ≡ Some task
-  pub refused : RefusedWith task left text
-  pub appended : Appends written now text
-
--- a front of the text that was due was written, and not all of it
-pub record EndsCut (words : List (String Global)) (left written now : Option (List ℕ)) : Type 0 where
-  pub text : List ℕ
-  pub due : IsDueText words left text
-  pub front : WritesFront written now text
-
--- the input is too long or not one of which the task is done, where the source tells it
-abbrev pub IsToBeRefused : Option Task → Option (List ℕ) → Type 0
-IsToBeRefused None left = ⊥
-IsToBeRefused (Some task) None = ⊥
-IsToBeRefused (Some task) (Some input) = IsTooMuch task input ⊎ IsNoInput task input
-
--- the status is this one, or a fault
-abbrev pub IsOrFails : Status → Status → Type 0
-IsOrFails want status = (status ≡ want) ⊎ IsFault status
-
 -- ---- steps
+
+-- the status with which an answer is written
+abbrev pub answer_status : Answer → Status
+answer_status (answers.Output text) = Done
+answer_status (answers.Unsettled text) = Unsettled
+answer_status (answers.No text) = AuditNo
+answer_status (answers.Refusal text) = Refused
+
+abbrev pub answer_text : Answer → List ℕ
+answer_text (answers.Output text) = text
+answer_text (answers.Unsettled text) = text
+answer_text (answers.No text) = text
+answer_text (answers.Refusal text) = text
 
 -- what came of an input that was read whole
 abbrev pub IsAnswer : Task → List ℕ → Answer → Type 0

@@ -16,7 +16,7 @@ use Rattle.history_text.specs.Summaries.{summary_of, summary_lines}
 use Rattle.history_text.specs.Output.{final_lines, history_text, with_lines}
 use Rattle.script_text.specs.declared.script.Script.{Script}
 use Rattle.script_text.specs.Grammar.{script_of}
-use Rattle.script_runs.specs.Diligent.{IsDiligentReplay}
+use Rattle.script_runs.specs.Diligent.{AreDiligent}
 use Rattle.script_runs.specs.Replays.{IsReplay}
 use Rattle.printable_law.specs.Laws.{HasOneHistory}
 use Rattle.script_gen.specs.Generated.{generated}
@@ -49,13 +49,15 @@ status_of (Spent made key due) = Unsettled
 
 -- ---- the promise
 
--- The history has the calls of the script's lines in order, and then of a drain; each reply is the world's, and each
--- controller asked only what it had been told allowed; each actor that a turn line names was diligent in each of its lives;
--- it is safe at every point, and each completed claim has what it asked for.
+-- What is promised of the history of a script.
 pub record IsPromised (script : Script) (budget : Option ℕ) (past : List Entry) (ending : Drained) : Type 0 where
+  -- it has the calls of the script's lines in order, and then those of a drain, which ended so
   pub calls : IsReplay script budget past ending
-  pub diligent : IsDiligentReplay script budget past ending
+  -- with these calls each actor that a turn line names was diligent in each of its lives
+  pub diligent : AreDiligent script calls.end
+  -- each reply is the world's, and each controller asked only what it had been told allowed
   pub run : Run script.setup past
+  -- at every point no completed claim lacks its volume, and nothing that is in use has left or was erased
   pub safe : Safe script.setup past
   -- no claim got less than it asked for, but where users bound a volume and a claim by hand
   pub enough : GetEnoughThroughout script.setup past

@@ -1,11 +1,11 @@
 //! The top call.
 
-ghost use Rattle.std.specs.Prelude.{◌≡◌, ◌≤◌, ◌⊎◌, IfSome, None};
-ghost use Rattle.fault_io.specs.Faults.{Rose};
-ghost use Rattle.fault_io.specs.Writing.{Appends, WritesFront};
+ghost use Rattle.std.specs.Prelude.{◌≡◌, ◌≤◌};
 ghost use Rattle.binder_console.specs.Commands.{task_of};
-ghost use Rattle.binder_console.specs.Inputs.{AsksForNoInput, IsReadThrough};
-ghost use Rattle.binder_console.specs.Outcomes.{EndsCut, EndsRefused, EndsWith, IsOrFails, IsToBeRefused, Written, usage_text, too_long_text};
+ghost use Rattle.binder_console.specs.Ends.{Ends, Outside, WritesNothing};
+ghost use Rattle.binder_console.specs.Exactly.{EndsAreExact};
+ghost use Rattle.binder_console.specs.Inputs.{AsksForNoInput};
+ghost use Rattle.binder_console.specs.Outcomes.{Written, answer_status, answer_text};
 
 use crate::answers::{Answer, answer_of};
 use crate::commands::read_task;
@@ -34,6 +34,19 @@ fn end_with<K: Sink>(sink: &mut K, text: &[u8], status: Status) -> Status
     }
 }
 
+/// Writes what came of an input. The status is the answer's, but for a fault.
+fn end_answer<K: Sink>(sink: &mut K, answer: Answer) -> Status
+    ensures written { Written (K.written sink.old) (K.written sink.new) (K.faults sink.old) (K.faults sink.new) (answer_text answer) (answer_status answer) result }
+    ensures later { K.faults sink.old ≤ K.faults sink.new }
+{
+    match answer {
+        Answer::Output(text) => end_with(sink, text.as_slice(), Status::Done),
+        Answer::Unsettled(text) => end_with(sink, text.as_slice(), Status::Unsettled),
+        Answer::No(text) => end_with(sink, text.as_slice(), Status::AuditNo),
+        Answer::Refusal(text) => end_with(sink, text.as_slice(), Status::Refused),
+    }
+}
+
 /// Does what the words ask for, of the whole input, and writes what came of it. All is computed before the first write.
 ///
 /// - `replay` reads a script, of at most 1 MiB and within the limits of scripts, and does its lines in order and then a
@@ -43,12 +56,13 @@ fn end_with<K: Sink>(sink: &mut K, text: &[u8], status: Status) -> Status
 ///   `no: entry N RULE`, the first entry that breaks it and the rule.
 /// - `gen` reads nothing: it replays the script that `--seed` gives, and prints the seven lines of its summary.
 ///
-/// The promise, with status 0 or 3 under `replay` (`EndsWith`, `Answers`, `Replays`): what was written is the text of one
+/// The promise, with status 0 or 3 under `replay` (`EndsAnswered`, `Answers`, `Replays`): what was written is the text of one
 /// history and of its last world. Each reply in it is the world's, each controller asked only what it had been told
-/// allowed, and at every point each completed claim names a Bound volume of its own that carries its UID, no Bound volume
-/// and no mounted claim has left, and data were erased only for ended volumes with policy Delete. No completed claim got a
-/// volume of fewer bytes or of another volume mode than it asked for, but where users bound both by hand (`enough`). The
-/// history has one entry for each call of a user, in order, and of each turn and each drain the calls that the script says;
+/// allowed, and at every point each completed claim that was not imported as Lost names a Bound volume of its own that
+/// carries its UID, no Bound volume and no mounted claim has left, and data were erased only for ended volumes with policy
+/// Delete. A claim that was imported as Lost is covered from the point at which its volume carries it in phase Bound. No
+/// completed claim got a volume of fewer bytes or of another volume mode than it asked for, but where users bound both by
+/// hand (`enough`). The history has one entry for each call of a user, in order, and of each turn and each drain the calls that the script says;
 /// each actor that a turn line names is diligent in each of its lives. With status 0 nothing is due at its end; with 3 the
 /// calls of the drains are spent, and the last line names what is due first. The same is promised of the history whose
 /// numbers `gen` prints (`Generates`). What `replay` writes is the text of this history alone, and of no other that a text
@@ -58,9 +72,9 @@ fn end_with<K: Sink>(sink: &mut K, text: &[u8], status: Status) -> Status
 /// reply is the world's, each controller asked only what it had been told allowed, and it is safe as above at every point;
 /// of sizes, diligence and a script nothing is said. With 7 the entry named is the first that breaks it.
 ///
-/// Statuses: 0 done; 1 the usage line; 2 the input was refused, in one line; 3 unsettled; 4 a read failed, nothing is
-/// written; 5 a write failed, a front of what was due is written; 6 memory was wanting, nothing is written; 7 the audited
-/// history is no run.
+/// Statuses (`EndsBy`): 0 done; 1 the usage line; 2 the input was refused, in one line; 3 unsettled; 4 a read failed, nothing
+/// is written; 5 a write failed, a front of what was due is written; 6 memory was wanting, nothing is written; 7 the audited
+/// history is no run. Statuses 1 and 2 come exactly where the words and the input ask for them (`ends_are_exact`).
 ///
 /// The gate is not asked yet, and no thread is started.
 pub fn pvbind<R: Threads + Wait + Sync, S: Source, K: Sink, G: Gate>(
@@ -71,30 +85,12 @@ pub fn pvbind<R: Threads + Wait + Sync, S: Source, K: Sink, G: Gate>(
     sink: &mut K,
     _gate: &G,
 ) -> Status
-    ensures done { result ≡ Status.Done → EndsWith Status.Done words.now (S.left source.old) (K.written sink.old) (K.written sink.new) }
-    ensures unsettled { result ≡ Status.Unsettled → EndsWith Status.Unsettled words.now (S.left source.old) (K.written sink.old) (K.written sink.new) }
-    ensures audited { result ≡ Status.AuditNo → EndsWith Status.AuditNo words.now (S.left source.old) (K.written sink.old) (K.written sink.new) }
-    ensures to_the_end { result ≡ Status.Done → IfSome (task_of words.now) (λ task. IsReadThrough task (S.left source.new)) }
-    ensures unsettled_to_the_end { result ≡ Status.Unsettled → IfSome (task_of words.now) (λ task. IsReadThrough task (S.left source.new)) }
-    ensures audited_to_the_end { result ≡ Status.AuditNo → IfSome (task_of words.now) (λ task. IsReadThrough task (S.left source.new)) }
-
-    // Usage exactly where the words ask for nothing, but for want of memory and a fault of writing; the source is not read then.
-    ensures usage { result ≡ Status.Usage → Appends (K.written sink.old) (K.written sink.new) usage_text }
-    ensures misused { result ≡ Status.Usage → task_of words.now ≡ None }
-    ensures misuse { task_of words.now ≡ None → (result ≡ Status.Usage) ⊎ ((result ≡ Status.WriteFault) ⊎ (result ≡ Status.Memory)) }
+    // What the status says of the words, of what the source and the sink told before, and of what they tell now.
+    ensures ends { let before : Outside = record { left = S.left source.old; read_faults = S.faults source.old; written = K.written sink.old; write_faults = K.faults sink.old } in
+        let after : Outside = record { left = S.left source.new; read_faults = S.faults source.new; written = K.written sink.new; write_faults = K.faults sink.new } in
+        Ends result words.now before after }
     ensures unread { AsksForNoInput (task_of words.now) → source.new ≡ source.old }
-
-    // Refused exactly where the input is too long or not one of which the task is done, but for want of memory and faults.
-    ensures refused { result ≡ Status.Refused → EndsRefused words.now (S.left source.old) (K.written sink.old) (K.written sink.new) }
-    ensures refusal { IsToBeRefused (task_of words.now) (S.left source.old) → IsOrFails Status.Refused result }
-
-    ensures read { result ≡ Status.ReadFault → Rose (S.faults source.old) (S.faults source.new) × (sink.new ≡ sink.old) }
-    ensures write { result ≡ Status.WriteFault → Rose (K.faults sink.old) (K.faults sink.new) }
-    ensures cut { result ≡ Status.WriteFault → EndsCut words.now (S.left source.old) (K.written sink.old) (K.written sink.new) }
-    ensures memory { result ≡ Status.Memory → sink.new ≡ sink.old }
-
-    ensures reads_later { S.faults source.old ≤ S.faults source.new }
-    ensures writes_later { K.faults sink.old ≤ K.faults sink.new }
+    ensures unwritten { WritesNothing result → sink.new ≡ sink.old }
 {
     let task = match read_task(alloc, words) {
         Ok(task) => task,
@@ -108,10 +104,13 @@ pub fn pvbind<R: Threads + Wait + Sync, S: Source, K: Sink, G: Gate>(
         Err(ReadError::TooLong) => return end_with(sink, TOO_LONG.as_bytes(), Status::Refused),
     };
     match answer_of(alloc, task, input.as_slice()) {
-        Ok(Answer::Output(text)) => end_with(sink, text.as_slice(), Status::Done),
-        Ok(Answer::Unsettled(text)) => end_with(sink, text.as_slice(), Status::Unsettled),
-        Ok(Answer::No(text)) => end_with(sink, text.as_slice(), Status::AuditNo),
-        Ok(Answer::Refusal(text)) => end_with(sink, text.as_slice(), Status::Refused),
+        Ok(answer) => end_answer(sink, answer),
         Err(_) => Status::Memory,
     }
 }
+
+/// However the program ends: Usage comes exactly where the words ask for nothing, and Refused exactly where the input is to be
+/// refused, but for want of memory and faults; and where the task was done, nothing of its input is left.
+pub fn ends_are_exact()
+    ensures { EndsAreExact }
+{}

@@ -2,6 +2,7 @@
 
 ghost use Rattle.std.specs.Prelude.{ℕ, List, ◌≡◌, ◌≤◌, OnOk, IfOk, IsErr, Some, Err};
 ghost use Rattle.fault_io.specs.Faults.{Rose};
+ghost use Rattle.fault_io.specs.Reading.{TakesFront};
 ghost use Rattle.binder_console.specs.Inputs.{IsInput, IsReadThrough, IsTooLong, IsTooMuch, ReadsNothing, most_input};
 
 use crate::commands::Task;
@@ -35,7 +36,11 @@ pub fn read_input<S: Source>(alloc: Global, task: Task, source: &mut S) -> Resul
     ensures too_long { result ≡ Err ReadError.TooLong → IsTooLong task (S.left source.old) }
     ensures too_much { (bytes : List ℕ) → S.left source.old ≡ Some bytes → IsTooMuch task bytes → IsErr result }
 
+    // A fault only of a task that reads, after a front of the input.
     ensures fault { result ≡ Err ReadError.ReadFault → Rose (S.faults source.old) (S.faults source.new) }
+    ensures reads { result ≡ Err ReadError.ReadFault → ReadsNothing task → ⊥ }
+    ensures front { result ≡ Err ReadError.ReadFault → TakesFront (S.left source.old) (S.left source.new) }
+
     ensures later { S.faults source.old ≤ S.faults source.new }
     ensures unread { ReadsNothing task → source.new ≡ source.old }
 {

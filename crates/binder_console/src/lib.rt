@@ -1,8 +1,10 @@
 //! The program: it reads its words and its input, replays or checks, and prints.
 //!
 //! `console::pvbind` is the one call that `main` makes, and its clauses are the product's promises: which
-//! bytes are written with each status, and what holds of the history that they tell (`specs/Replays`). Not
-//! said: that memory is there, that a budget is enough, and what standard input and output really do.
+//! bytes are written with each status (`specs/Ends`), and what holds of the history that they tell
+//! (`specs/Replays`). So statuses 1 and 2 come exactly where the words and the input ask for them
+//! (`ends_are_exact`). Not said: that memory is there, that a budget is enough, and what standard input and
+//! output really do.
 #![tactic(auto)]
 
 pub mod answers;

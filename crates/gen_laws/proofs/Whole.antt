@@ -62,10 +62,10 @@ all_stand seed =
     stands_next (class_lines ++ node_lines ++ volume_lines seed ++ claim_lines seed ++ pod_lines ++ Drain ∷ []) (delete_lines seed) 646 0 (drain_stands seed)
     (none_below 64 (λ i. delete_line seed i ∷ []) (λ i others. refl)) (creates_below 0 (λ i. delete_line seed i ∷ []) 64 (λ i. refl))
 
-all_after : (seed : ℕ) → AreLinesAfter (agents_of (generated_lines seed)) [] (generated_lines seed)
+all_after : (seed : ℕ) → AreLinesAfter [] (agents_of [] (generated_lines seed)) [] (generated_lines seed)
 unfolding generated_lines
 all_after seed =
-    let agents = agents_of (class_lines ++ node_lines ++ volume_lines seed ++ claim_lines seed ++ pod_lines ++ Drain ∷ [] ++ delete_lines seed) in
+    let agents = agents_of [] (class_lines ++ node_lines ++ volume_lines seed ++ claim_lines seed ++ pod_lines ++ Drain ∷ [] ++ delete_lines seed) in
     let first = class_lines ++ node_lines in
     let volumes = first ++ volume_lines seed in
     let claims = volumes ++ claim_lines seed in
@@ -86,7 +86,7 @@ unfolding generated amount_of unsigned_amount refuse scaled scale_of value_of ha
 generated_is_script seed =
     let count : length (generated_lines seed) ≡ 711 = count_lines seed in
     record {
-      imports = refl;
+      imports = tt;
       nodes = sym (ap nodes_of (all_stand seed).agents);
       pools = (refl, tt);
       few_pools = omega arith;

@@ -8,7 +8,6 @@
 ghost use Rattle.gen_laws.specs.Laws.{CountsLines, GeneratedIsScript};
 
 /// The script of each seed is one that a text can give.
-#[tactic(auto, using(crate::proofs::Whole::generated_is_script))]
 pub fn generated_is_script()
     ensures { GeneratedIsScript }
 {}

@@ -1,8 +1,10 @@
-//! Cases of the lock: a counter behind it, on one thread and on two.
+//! Cases of the lock: a counter behind it, and a world, on one thread and on two.
 //!
 //! It has tests alone, so no call and no promise. Not said: anything of other values and other interleavings; what holds of
-//! the lock is said by `seat_lock`.
+//! the lock is said by `seat_lock`, and of a world behind it by `shared_world`.
 #![tactic(auto)]
 
 #[cfg(test)]
 mod tests;
+#[cfg(test)]
+mod worlds;

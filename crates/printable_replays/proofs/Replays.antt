@@ -26,8 +26,10 @@ use Rattle.script_runs.specs.declared.loss.Fate.{Fate}
 use Rattle.script_runs.specs.declared.loss.Fate.TheVariants.{Told, LostBefore, LostAfter}
 use Rattle.script_runs.specs.declared.part.Part.{Part}
 use Rattle.script_runs.specs.Fates.{fate_of}
-use Rattle.script_runs.specs.Parts.{kind_of_worker, kind_of, drain_seats, part_of}
+use Rattle.script_runs.specs.Parts.{kind_of_worker, kind_of, drain_seats, part_of, role_of}
 use Rattle.script_runs.specs.Calls.{seat_at, IsOneMore, IsCallWith, AreCalls, NoCalls, MoreCalls}
+use Rattle.worker_threads.specs.Rounds.{all_pass}
+use Rattle.script_runs.proofs.Draining.{calls_leave_entries, drains_come_to}
 use Rattle.script_runs.specs.Replays.{Progress, begun, IsTurn, IsDrain, IsMove, AreMoves, NoMoves, MoreMoves, IsReplay}
 use Rattle.printable_law.specs.Laws.{IsAskedGiven, IsGivenRun}
 use Rattle.printable_law.proofs.Runs.{runs_give, run_texts_have_one}
@@ -78,9 +80,9 @@ calls_fine part new is other n count past (NoCalls none same) h = subst AreFine 
 calls_fine part new is other n count past (MoreCalls rest middle some call more) h =
     calls_fine part new is other _ rest middle more (call_fine (fate_of part.losses n) (seat_at part n) part.kind past middle (is n) other call h)
 
-turn_fine : (part : Part) (calls : ℕ) (before after : Progress) → ((n : ℕ) → IsNumber (seat_at part n)) → is_user part.kind ≡ false → IsTurn part calls before after → AreFine before.past → AreFine after.past
-turn_fine part calls before after is other (inl all) h = subst (λ (p : Progress). AreFine p.past) (sym all.is) (calls_fine part all.past is other _ _ before.past all.made h)
-turn_fine part calls before after is other (inr few) h = subst (λ (p : Progress). AreFine p.past) (sym few.is) (calls_fine part few.past is other _ _ before.past few.made h)
+turn_fine : (actor : Actor) (part : Part) (calls : ℕ) (before after : Progress) → ((n : ℕ) → IsNumber (seat_at part n)) → is_user part.kind ≡ false → IsTurn (role_of actor) part calls before after → AreFine before.past → AreFine after.past
+turn_fine actor part calls before after is other (inl all) h = subst (λ (p : Progress). AreFine p.past) (sym all.is) (calls_fine part all.past is other _ _ before.past all.made h)
+turn_fine actor part calls before after is other (inr few) h = subst (λ (p : Progress). AreFine p.past) (sym few.is) (calls_fine part few.past is other _ _ before.past few.made h)
 
 no_worker_is_user : (kind : WorkerKind) → is_user (kind_of_worker kind) ≡ false
 no_worker_is_user workers.Binder = refl
@@ -99,12 +101,13 @@ told_seats : (some : List ℕ) (es past : List Entry) → ((seat : ℕ) → IsOn
 told_seats some [] past is told h = h
 told_seats some (e ∷ es) past is told h = All-cons HasSeat e _ (is e.seat told.0) (told_seats some es past is told.2 h)
 
-drain_fine : (script : Script) (option : Option ℕ) (before after : Progress) → IsScript script → IsDrain script option before after → AreFine before.past → AreFine after.past
+drain_fine : (script : Script) (option : Option ℕ) (before after : Progress) → IsScript script → IsDrain all_pass script option before after → AreFine before.past → AreFine after.past
 drain_fine script option before after is d h =
-    subst (λ (p : Progress). AreFine p.past) (sym d.is) (record {
-      seats = subst (All HasSeat) (sym d.entries.are) (told_seats (drain_seats script) d.entries.added before.past (drains_seat script is) d.entries.of_seats h.seats);
-      users = subst (All AsksGiven) (sym d.users) h.users;
-    })
+    let entries = calls_leave_entries script option before after d in
+    record {
+      seats = subst (All HasSeat) (sym entries.are) (told_seats (drain_seats script) entries.added before.past (drains_seat script is) entries.of_seats h.seats);
+      users = subst (All AsksGiven) (sym (drains_come_to all_pass script option before after d).users) h.users;
+    }
 
 -- ---- a line
 
@@ -117,16 +120,16 @@ line_fine script option agents earlier (Call user request) before after is given
     subst (λ (p : Progress). AreFine p.past) (sym move.is) (fine_asked _ before.past (user_seat user (count_most 4 user given.0)) (users_ask request given.1) h)
 line_fine script option agents earlier (Lose actor call lost) before after is given move h = subst (λ (p : Progress). AreFine p.past) (sym move) h
 line_fine script option agents earlier (Restart actor calls) before after is given move h = subst (λ (p : Progress). AreFine p.past) (sym move) h
-line_fine script option agents earlier (Turn actor calls) before after is given move h = turn_fine (part_of script actor) calls before after (life_seat script is actor) (no_actor_is_user actor) move h
+line_fine script option agents earlier (Turn actor calls) before after is given move h = turn_fine actor (part_of script actor) calls before after (life_seat script is actor) (no_actor_is_user actor) move h
 line_fine script option agents earlier Drain before after is given move h = drain_fine script option before after is move h
 
 -- ---- the lines
 
 moves_fine : (script : Script) (option : Option ℕ) (end : Progress) (agents : List Pair) → IsScript script → (earlier lines : List Line) (now : Progress)
-    → AreLinesAfter agents earlier lines → AreMoves script option end lines now → AreFine now.past → AreFine end.past
+    → AreLinesAfter script.setup.imports agents earlier lines → AreMoves script option end lines now → AreFine now.past → AreFine end.past
 moves_fine script option end agents is earlier lines now given (NoMoves none same) h = subst (λ (p : Progress). AreFine p.past) (sym same) h
 moves_fine script option end agents is earlier lines now given (MoreMoves line rest next here move more) h =
-    let these = subst (AreLinesAfter agents earlier) here given in
+    let these = subst (AreLinesAfter script.setup.imports agents earlier) here given in
     moves_fine script option end agents is (earlier ++ line ∷ []) rest next these.2 more
     (line_fine script option agents earlier line now next is these.0 move h)
 
@@ -134,7 +137,7 @@ replay_fine : (script : Script) (budget : Option ℕ) (past : List Entry) (endin
 replay_fine script budget past ending is replay =
     subst AreFine (sym replay.history)
     (drain_fine script budget replay.lines_done replay.end is replay.last
-    (moves_fine script budget replay.lines_done (agents_of script.lines) is [] script.lines (begun budget) is.lines replay.moves nothing_fine))
+    (moves_fine script budget replay.lines_done (agents_of script.setup.imports script.lines) is [] script.lines (begun budget) is.lines replay.moves nothing_fine))
 
 -- ---- the history
 

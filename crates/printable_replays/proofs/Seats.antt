@@ -7,16 +7,18 @@ use Rattle.std.specs.Ordering.{match_ordering}
 use Rattle.std.proofs.lemmas.List.{length-append, length-map}
 use Rattle.plain_data.specs.Pairs.{Pair, pair_key, text_cmp}
 use Rattle.plain_data.specs.Rows.{put}
+use Rattle.kube_types.specs.declared.objects.Object.{Object}
 use Rattle.script_lines.specs.declared.actors.Worker.{Worker as WorkerData}
 use Rattle.script_lines.specs.declared.actors.Actor.{Actor}
 use Rattle.script_lines.specs.declared.actors.Actor.TheVariants.{Worker, Agent}
 use Rattle.script_lines.specs.Actors.{actor_word, agent_word, all_workers}
 use Rattle.script_text.specs.declared.script.Line.{Line}
 use Rattle.script_text.specs.declared.script.Script.{Script}
-use Rattle.script_text.specs.Said.{created_node, and_node, agents_after, agents_of, nodes_of, restarts_of}
+use Rattle.script_text.specs.Said.{created_node, imported_node, and_node, imported_after, agents_after, agents_of, nodes_of, restarts_of}
 use Rattle.script_laws.specs.Scripts.{IsScript}
-use Rattle.script_runs.specs.Parts.{is_named, lives_in, all_actors, lives_before, all_lives, drain_seat, drain_seats, seats_from, part_of}
+use Rattle.script_runs.specs.Parts.{is_named, lives_in, all_actors, lives_before, all_lives, drain_seat, drain_seats, part_of}
 use Rattle.script_runs.specs.Calls.{restarts_before, seat_at}
+use Rattle.worker_threads.specs.Drainers.{seats_for, seats_from}
 use Rattle.worker_threads.specs.Longer.{IsOneOf}
 use Rattle.history_laws.specs.Given.{IsNumber}
 use Rattle.script_runs.proofs.Casting.{few_restarts, few_lives}
@@ -35,6 +37,13 @@ put_few x (y ∷ ys) = by (text_cmp (pair_key y) (pair_key x)) (put_few x ys)
 and_few : (agents : List Pair) (node : Option (List ℕ)) → length (and_node agents node) ≤ length agents + 1
 and_few agents None = omega arith
 and_few agents (Some node) = put_few (agent_word node, node) agents
+
+imported_few : (agents : List Pair) (imports : List Object) → length (imported_after agents imports) ≤ length agents + length imports
+imported_few agents [] = omega arith
+imported_few agents (o ∷ os) =
+    let here = and_few agents (imported_node o) in
+    let rest = imported_few (and_node agents (imported_node o)) os in
+    omega (arith, here, rest)
 
 agents_few : (agents : List Pair) (lines : List Line) → length (agents_after agents lines) ≤ length agents + length lines
 agents_few agents [] = omega arith
@@ -81,11 +90,12 @@ module _ (script : Script) (is : IsScript script) where
 
   nodes_few : length script.node_names ≤ 4096
   nodes_few =
-      let few = lines_few in
-      let agents = agents_few [] script.lines in
-      let long = length-map (agents_of script.lines) (λ (p : Pair). p.1) in
-      let same : length script.node_names ≡ length (nodes_of (agents_of script.lines)) = ap length is.nodes in
-      omega (arith, few, agents, long, same)
+      let few = is.few_lines in
+      let imported = imported_few [] script.setup.imports in
+      let agents = agents_few (imported_after [] script.setup.imports) script.lines in
+      let long = length-map (agents_of script.setup.imports script.lines) (λ (p : Pair). p.1) in
+      let same : length script.node_names ≡ length (nodes_of (agents_of script.setup.imports script.lines)) = ap length is.nodes in
+      omega (arith, few, imported, agents, long, same)
 
   actors_few : length (all_actors script) ≤ 4116
   actors_few =
@@ -119,8 +129,7 @@ module _ (script : Script) (is : IsScript script) where
   pub drains_seat : (seat : ℕ) → IsOneOf (drain_seats script) seat → IsNumber seat
   drains_seat seat h = by (drain_seat script) drain_high nodes_few h
     where
-      by : (d : ℕ) → d ≤ 16863257 → length script.node_names ≤ 4096
-          → IsOneOf (d ∷ (d + 1) ∷ (d + 2) ∷ (d + 3) ∷ (d + 4) ∷ seats_from (d + 5) script.node_names) seat → IsNumber seat
+      by : (d : ℕ) → d ≤ 16863257 → length script.node_names ≤ 4096 → IsOneOf (seats_for d script.node_names) seat → IsNumber seat
       by d high few (inl e) = omega (arith, high, e)
       by d high few (inr (inl e)) = omega (arith, high, e)
       by d high few (inr (inr (inl e))) = omega (arith, high, e)

@@ -13,7 +13,6 @@ use Rattle.kube_types.specs.Keys.{meta_of}
 use Rattle.call_types.specs.declared.setup.Pool.{Pool}
 use Rattle.call_types.specs.declared.request.Request.{Request}
 use Rattle.call_types.specs.declared.request.Request.TheVariants as requests
-use Rattle.binder_model.specs.Imports.{ImportsPass}
 use Rattle.object_laws.specs.Given.{IsGiven}
 use Rattle.history_lines.specs.Entries.{rise_from, rise}
 use Rattle.history_laws.specs.Given.{IsNumber, IsPool, IsRequest}
@@ -22,6 +21,7 @@ use Rattle.script_text.specs.LineReaders.{condition_of}
 use Rattle.script_text.specs.Steps.Indexed.{AreFaults}
 use Rattle.script_laws.specs.Given.{IsCount, IsUsersCall}
 use Rattle.script_laws.specs.Scripts.{AreSized}
+use Rattle.script_laws.proofs.Imports.{imports_given}
 use Rattle.printable_law.proofs.Objects.{version_given}
 use Rattle.printable_replays.specs.Laws.{ScriptSetupsGive}
 
@@ -75,8 +75,8 @@ script_setups_give script is = record {
   pools = pools_given script.setup.pools script.sizes is.pools;
   faults = faults_given script.setup.faults is.fault_numbers;
   rising = rises script.setup.faults is.faults;
-  imports = subst (All IsGiven) (sym is.imports) (All-nil IsGiven);
-  passing = subst ImportsPass (sym is.imports) tt;
+  imports = let imports = imports_given script is in imports.given;
+  passing = let imports = imports_given script is in imports.pass;
 }
 
 -- ---- a user's call

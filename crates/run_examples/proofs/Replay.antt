@@ -1,7 +1,14 @@
+pub mod Acted
 pub mod Assigned
+pub mod Brought
 pub mod Counted
 pub mod Drained
+pub mod Drainers
+pub mod Firsts
 pub mod Lived
+pub mod Ran
 pub mod Reclaimed
 pub mod Replayed
+pub mod Scheduled
 pub mod Turned
+pub mod Undone

@@ -2,3 +2,5 @@ pub mod Calls
 pub mod Drains
 pub mod Lives
 pub mod Replays
+pub mod Runs
+pub mod Turns

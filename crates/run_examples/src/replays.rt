@@ -1,9 +1,11 @@
 //! Computed examples of what the history of a replayed script has.
 
 ghost use Rattle.run_examples.specs.Replay.Calls.{CallExamples, EndExamples, SeatExamples};
-ghost use Rattle.run_examples.specs.Replay.Drains.{AssignExamples, DrainExamples, ReclaimExamples, SpentExamples};
+ghost use Rattle.run_examples.specs.Replay.Drains.{ActorExamples, AssignExamples, DrainExamples, ReclaimExamples, RoundExamples, SpentExamples};
 ghost use Rattle.run_examples.specs.Replay.Lives.{LifeExamples};
 ghost use Rattle.run_examples.specs.Replay.Replays.{EmptyExamples, FewerExamples, TurnExamples, UserExamples};
+ghost use Rattle.run_examples.specs.Replay.Runs.{HeldExamples, QueueExamples};
+ghost use Rattle.run_examples.specs.Replay.Turns.{LeftExamples, NeededExamples, StaleExamples};
 
 /// Which life of an actor makes a call.
 pub fn seat_examples()
@@ -45,9 +47,34 @@ pub fn fewer_examples()
     ensures { FewerExamples }
 {}
 
+/// A turn with exactly as many calls as it needs, and one that goes on past where it is idle.
+pub fn needed_examples()
+    ensures { NeededExamples }
+{}
+
+/// A turn that ends with nothing left to be called for, and one that leaves a key that it was told.
+pub fn left_examples()
+    ensures { LeftExamples }
+{}
+
+/// An agent that was told StaleEpoch.
+pub fn stale_examples()
+    ensures { StaleExamples }
+{}
+
 /// The calls of a drain.
 pub fn drain_examples()
     ensures { DrainExamples }
+{}
+
+/// The actors of a drain.
+pub fn actor_examples()
+    ensures { ActorExamples }
+{}
+
+/// Drains that are rounds of all controllers in their order, and others.
+pub fn round_examples()
+    ensures { RoundExamples }
 {}
 
 /// How a replay ends where its budget is spent.
@@ -63,4 +90,14 @@ pub fn reclaim_examples()
 /// A drain in which the scheduler gives a pod its node.
 pub fn assign_examples()
     ensures { AssignExamples }
+{}
+
+/// The queue of an actor.
+pub fn queue_examples()
+    ensures { QueueExamples }
+{}
+
+/// A call that is held back from the world.
+pub fn held_examples()
+    ensures { HeldExamples }
 {}

@@ -11,7 +11,7 @@ use Rattle.object_laws.proofs.Utf8Texts.{HasUtf8, text_utf8}
 use Rattle.script_lines.specs.Members.{most_call}
 use Rattle.script_text.specs.declared.script.Script.{Script}
 use Rattle.script_text.specs.Grammar.{script_of}
-use Rattle.script_print.specs.Printing.{line_text, pool_lines, fault_data, fault_text, script_lines}
+use Rattle.script_print.specs.Printing.{line_text, pool_lines, fault_data, fault_text, import_text, script_lines}
 use Rattle.script_laws.specs.Given.{IsCount}
 use Rattle.script_laws.specs.Laws.{IsText, ScriptGives, ScriptIsReadAgain}
 use Rattle.script_laws.proofs.LinesGive.{object_of_utf8, count_utf8}
@@ -33,8 +33,9 @@ fault_texts (call ∷ calls) h = All-cons IsText (fault_text call) (map fault_te
 script_texts : (s : Script) → ScriptGiven s → All IsText (script_lines s)
 unfolding script_lines
 script_texts s h =
-    All-append IsText (pool_lines s.setup.pools s.sizes) (map fault_text s.setup.faults ++ map line_text s.lines) h.pool_texts
-    (All-append IsText (map fault_text s.setup.faults) (map line_text s.lines) (fault_texts s.setup.faults h.script.fault_numbers) h.line_texts)
+    All-append IsText (pool_lines s.setup.pools s.sizes) (map fault_text s.setup.faults ++ (map import_text s.setup.imports ++ map line_text s.lines)) h.pool_texts
+    (All-append IsText (map fault_text s.setup.faults) (map import_text s.setup.imports ++ map line_text s.lines) (fault_texts s.setup.faults h.script.fault_numbers)
+    (All-append IsText (map import_text s.setup.imports) (map line_text s.lines) h.import_texts h.line_texts))
 
 given : (text : List ℕ) (s : Script) → script_of text ≡ Ok s → ScriptGiven s
 given text s e = of_ok ScriptGiven (script_of text) s (text_gives text) e

@@ -1,4 +1,4 @@
--- The agents of a printed script are those of the nodes that its lines create.
+-- The agents of a printed script are those of the nodes that its lines create or import.
 use Rattle.std.proofs.Common.{◌≡◌, ℕ, List, [], ◌∷◌, None, Result, Ok, codes, refl, ap, ◌∙◌}
 use Rattle.serde_json.specs.Data.{Data}
 use Rattle.json_text.specs.Members.{MemberList, text, whole, object_of}
@@ -10,34 +10,36 @@ use Rattle.script_lines.specs.declared.errors.Reason.{Reason}
 use Rattle.script_lines.specs.declared.verbs.Verb.{Verb}
 use Rattle.script_lines.specs.declared.verbs.Verb.TheVariants as verbs
 use Rattle.script_lines.specs.Answers.{◌>>=◌}
+use Rattle.kube_types.specs.declared.objects.Object.{Object}
 use Rattle.script_text.specs.declared.script.Line.{Line}
 use Rattle.script_text.specs.declared.script.Line.TheVariants.{Call, Lose, Restart, Turn, Drain}
-use Rattle.script_text.specs.Said.{created_node}
-use Rattle.script_text.specs.LineReaders.{verb_at}
-use Rattle.script_text.specs.Grammar.{create_by, own_create, node_from}
-use Rattle.script_print.specs.Printing.{line_pairs, line_data, line_text, pool_pairs, pool_data, pool_text, fault_data, fault_text}
-use Rattle.script_laws.specs.Given.{IsLineAfter}
-use Rattle.script_laws.specs.Limits.{LineHasShortObject}
+use Rattle.script_text.specs.declared.script.Meaning.{Meaning}
+use Rattle.script_text.specs.Said.{created_node, imported_node}
+use Rattle.script_text.specs.LineReaders.{verb_at, as_line, as_import}
+use Rattle.script_text.specs.Grammar.{object_by, own_object, node_from}
+use Rattle.script_print.specs.Printing.{line_pairs, line_data, line_text, pool_pairs, pool_data, pool_text, fault_data, fault_text, import_pairs, import_data, import_text}
+use Rattle.script_laws.specs.Given.{IsLineAfter, IsLineObject}
+use Rattle.script_laws.specs.Limits.{IsShortObject, LineHasShortObject}
 use Rattle.script_laws.proofs.MembersBack.{has, object_at_back, user_back}
 use Rattle.script_laws.proofs.EditsBack.{edit_line_pairs, no_edits, edit_has}
 use Rattle.script_laws.proofs.LinesBack.{verb_back, create_back, no_topology}
 use Rattle.script_laws.proofs.LinesRead.{IsRead, own_read}
 
--- what its own members say that a line creates
-abbrev own_of : Data → Result Line Reason
-own_of d = verb_at d >>= λ verb. create_by verb d
+-- what its own members say that a line creates or imports
+abbrev own_of : Data → Result Meaning Reason
+own_of d = verb_at d >>= λ verb. object_by verb d
 
 -- a line with another verb creates nothing
-not_create : (d : Data) (verb : Verb) → verb_at d ≡ Ok verb → node_from (create_by verb d) ≡ None → node_from (own_of d) ≡ None
-not_create d verb e none = ap (λ r. node_from (r >>= λ v. create_by v d)) e ∙ none
+not_create : (d : Data) (verb : Verb) → verb_at d ≡ Ok verb → node_from (object_by verb d) ≡ None → node_from (own_of d) ≡ None
+not_create d verb e none = ap (λ r. node_from (r >>= λ v. object_by v d)) e ∙ none
 
 call_node : (agents : List Pair) (before : List Line) (user : ℕ) (request : Request) → IsLineAfter agents before (Call user request) → LineHasShortObject (Call user request) → node_from (own_of (line_data (Call user request))) ≡ created_node (Call user request)
 unfolding line_data
 call_node agents before user (asks.Create o) is fits =
     let ps : MemberList = line_pairs (Call user (asks.Create o)) in
     let d : Data = object_of ps in
-    ap (λ r. node_from (r >>= λ v. create_by v d)) (verb_back d (codes "create") verbs.Create (has (codes "do") ps) refl)
-    ∙ ap node_from (create_back d user o (object_at_back d o is.1.given fits (has (codes "object") ps)) (user_back d user is.0 (has (codes "user") ps)))
+    ap (λ r. node_from (r >>= λ v. object_by v d)) (verb_back d (codes "create") verbs.Create (has (codes "do") ps) refl)
+    ∙ ap (λ r. node_from (as_line r)) (create_back d user o (object_at_back d o is.1.given fits (has (codes "object") ps)) (user_back d user is.0 (has (codes "user") ps)))
 call_node agents before user (asks.Update o version) is fits =
     let ps : MemberList = line_pairs (Call user (asks.Update o version)) in
     not_create (object_of ps) verbs.Update (verb_back (object_of ps) (codes "update") verbs.Update (has (codes "do") ps) refl) refl
@@ -85,18 +87,27 @@ line_node agents before Drain is fits =
     not_create (object_of ps) verbs.Drain (verb_back (object_of ps) (codes "drain") verbs.Drain (has (codes "do") ps) refl) refl
 
 -- with the node of a line that was read
-pub own_node : (agents : List Pair) (before : List Line) (line : Line) → IsLineAfter agents before line → LineHasShortObject line → IsRead (line_data line) → node_from (own_create (line_text line)) ≡ created_node line
+pub own_node : (agents : List Pair) (before : List Line) (line : Line) → IsLineAfter agents before line → LineHasShortObject line → IsRead (line_data line) → node_from (own_object (line_text line)) ≡ created_node line
 unfolding line_text
 own_node agents before line is fits read = ap node_from (own_read (line_data line) read) ∙ line_node agents before line is fits
 
-pub pool_node : (pool : Pool) (size : List ℕ) → IsRead (pool_data pool size) → node_from (own_create (pool_text pool size)) ≡ None
+pub pool_node : (pool : Pool) (size : List ℕ) → IsRead (pool_data pool size) → node_from (own_object (pool_text pool size)) ≡ None
 unfolding pool_text pool_data
 pool_node pool size read =
     let ps : MemberList = pool_pairs pool size in
     ap node_from (own_read (object_of ps) read) ∙ not_create (object_of ps) verbs.Pool (verb_back (object_of ps) (codes "pool") verbs.Pool (has (codes "do") ps ∙ no_topology (codes "do") pool.topology _ (λ u. refl)) refl) refl
 
-pub fault_node : (call : ℕ) → IsRead (fault_data call) → node_from (own_create (fault_text call)) ≡ None
+pub fault_node : (call : ℕ) → IsRead (fault_data call) → node_from (own_object (fault_text call)) ≡ None
 unfolding fault_text fault_data
 fault_node call read =
     let ps : MemberList = (codes "call", whole call) ∷ (codes "do", text (codes "fault")) ∷ [] in
     ap node_from (own_read (object_of ps) read) ∙ not_create (object_of ps) verbs.Fault (verb_back (object_of ps) (codes "fault") verbs.Fault (has (codes "do") ps) refl) refl
+
+pub import_node : (o : Object) → IsLineObject o → IsShortObject o → IsRead (import_data o) → node_from (own_object (import_text o)) ≡ imported_node o
+unfolding import_text import_data
+import_node o is short read =
+    let ps : MemberList = import_pairs o in
+    let d : Data = object_of ps in
+    ap node_from (own_read d read)
+    ∙ ap (λ r. node_from (r >>= λ v. object_by v d)) (verb_back d (codes "import") verbs.Import (has (codes "do") ps) refl)
+    ∙ ap (λ r. node_from (as_import r)) (object_at_back d o is.given short (has (codes "object") ps))

@@ -1,4 +1,4 @@
--- A line of a create or an update is short where its object is; lines of faults and drains are short.
+-- A line of a create, an update or an import is short where its object is; lines of faults and drains are short.
 use Rattle.std.proofs.Common.{ℕ, ◌≤◌, ◌==◌, nat_le, List, [], ◌∷◌, ◌++◌, length, map, Bool, true, false, if◌then◌else◌, Option, Some, None, codes, decimal, arith, length-append}
 use Rattle.std.specs.List.{All}
 use Rattle.std.proofs.lemmas.Bool.{and_parts, leb-true}
@@ -20,7 +20,7 @@ use Rattle.script_text.specs.declared.script.Line.{Line}
 use Rattle.script_text.specs.declared.script.Line.TheVariants.{Call, Lose, Restart, Turn, Drain}
 use Rattle.script_text.specs.declared.script.Script.{Script}
 use Rattle.script_text.specs.Grammar.{most_line_bytes}
-use Rattle.script_print.specs.Printing.{line_data, line_text, pool_lines, fault_data, fault_text, script_lines}
+use Rattle.script_print.specs.Printing.{line_data, line_text, pool_lines, fault_data, fault_text, import_data, import_text, script_lines}
 use Rattle.script_laws.specs.Given.{IsCount, IsLineAfter}
 use Rattle.script_laws.specs.Limits.{IsShort, IsShortObject, LineHasShortObject, CallFits, LineFits, ScriptFits}
 use Rattle.script_laws.specs.Scripts.{AreLinesAfter}
@@ -129,10 +129,10 @@ pub lines_objects : (lines : List Line) → All LineFits lines → All LineHasSh
 lines_objects [] h = All-nil LineHasShortObject
 lines_objects (line ∷ lines) h = All-cons LineHasShortObject line lines (line_object line (All-head LineFits line lines h)) (lines_objects lines (All-tail LineFits line lines h))
 
-lines_short : (agents : List Pair) (before lines : List Line) → AreLinesAfter agents before lines → All LineFits lines → All IsShort (map line_text lines)
-lines_short agents before [] is h = All-nil IsShort
-lines_short agents before (line ∷ lines) is h =
-    All-cons IsShort (line_text line) (map line_text lines) (line_short agents before line is.0 (All-head LineFits line lines h)) (lines_short agents (before ++ line ∷ []) lines is.2 (All-tail LineFits line lines h))
+lines_short : (imports : List Object) (agents : List Pair) (before lines : List Line) → AreLinesAfter imports agents before lines → All LineFits lines → All IsShort (map line_text lines)
+lines_short imports agents before [] is h = All-nil IsShort
+lines_short imports agents before (line ∷ lines) is h =
+    All-cons IsShort (line_text line) (map line_text lines) (line_short agents before line is.0 (All-head LineFits line lines h)) (lines_short imports agents (before ++ line ∷ []) lines is.2 (All-tail LineFits line lines h))
 
 -- ---- faults
 
@@ -150,10 +150,30 @@ faults_short : (calls : List ℕ) → All (IsCount most_call) calls → All IsSh
 faults_short [] h = All-nil IsShort
 faults_short (call ∷ calls) h = All-cons IsShort (fault_text call) (map fault_text calls) (fault_short call (All-head (IsCount most_call) call calls h)) (faults_short calls (All-tail (IsCount most_call) call calls h))
 
+-- ---- imported objects
+
+import_alone : (word d : Data) → length (compact_text word) ≤ 16 → length (compact_text d) ≤ most_bytes → length (compact_text (object_of ((codes "do", Some word) ∷ (codes "object", Some d) ∷ []))) ≤ most_line_bytes
+unfolding put_some serde_json_on_literals
+import_alone word d w h =
+    omega (arith, length-append (compact_text word) (44 ∷ 34 ∷ 111 ∷ 98 ∷ 106 ∷ 101 ∷ 99 ∷ 116 ∷ 34 ∷ 58 ∷ (compact_text d ++ 125 ∷ [])), length-append (compact_text d) (125 ∷ []))
+
+import_word : length (compact_text (string (codes "import"))) ≤ 16
+unfolding serde_json_on_literals
+import_word = omega arith
+
+import_short : (o : Object) → IsShortObject o → IsShort (import_text o)
+unfolding import_text import_data object_line
+import_short o h = import_alone (string (codes "import")) (object_data o) import_word h
+
+imports_short : (imports : List Object) → All IsShortObject imports → All IsShort (map import_text imports)
+imports_short [] h = All-nil IsShort
+imports_short (o ∷ os) h = All-cons IsShort (import_text o) (map import_text os) (import_short o (All-head IsShortObject o os h)) (imports_short os (All-tail IsShortObject o os h))
+
 -- ---- the script
 
-pub script_short : (s : Script) (agents : List Pair) → AreLinesAfter agents [] s.lines → All (IsCount most_call) s.setup.faults → ScriptFits s → All IsShort (script_lines s)
+pub script_short : (s : Script) (agents : List Pair) → AreLinesAfter s.setup.imports agents [] s.lines → All (IsCount most_call) s.setup.faults → ScriptFits s → All IsShort (script_lines s)
 unfolding script_lines
 script_short s agents lines faults h =
-    All-append IsShort (pool_lines s.setup.pools s.sizes) (map fault_text s.setup.faults ++ map line_text s.lines) h.pools
-    (All-append IsShort (map fault_text s.setup.faults) (map line_text s.lines) (faults_short s.setup.faults faults) (lines_short agents [] s.lines lines h.lines))
+    All-append IsShort (pool_lines s.setup.pools s.sizes) (map fault_text s.setup.faults ++ (map import_text s.setup.imports ++ map line_text s.lines)) h.pools
+    (All-append IsShort (map fault_text s.setup.faults) (map import_text s.setup.imports ++ map line_text s.lines) (faults_short s.setup.faults faults)
+    (All-append IsShort (map import_text s.setup.imports) (map line_text s.lines) (imports_short s.setup.imports h.imports) (lines_short s.setup.imports agents [] s.lines lines h.lines)))

@@ -14,3 +14,4 @@ pub mod LinesGive
 pub mod SetupGives
 pub mod TextsGive
 pub mod Again
+pub mod Imports

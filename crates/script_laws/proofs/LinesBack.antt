@@ -1,5 +1,5 @@
 -- What is printed of a line is read as the line.
-use Rattle.std.proofs.Common.{◌≡◌, ℕ, List, [], ◌∷◌, Bool, Option, Some, None, Ok, codes, refl, sym, ap, ◌∙◌}
+use Rattle.std.proofs.Common.{◌≡◌, ℕ, List, [], ◌∷◌, Bool, false, Option, Some, None, Ok, codes, refl, sym, ap, ◌∙◌}
 use Rattle.serde_json.specs.Data.{Data}
 use Rattle.json_text.specs.Build.{pick}
 use Rattle.json_text.specs.Members.{MemberList, text, whole, object_of}
@@ -9,6 +9,7 @@ use Rattle.kube_types.specs.declared.parts.Kind.{Kind}
 use Rattle.kube_types.specs.declared.key.Key.{Key}
 use Rattle.kube_types.specs.declared.uid.Uid.{Uid}
 use Rattle.kube_types.specs.declared.objects.Object.{Object}
+use Rattle.binder_model.specs.Imports.{import_fault}
 use Rattle.call_types.specs.declared.edit.Edit.{Edit}
 use Rattle.call_types.specs.declared.request.Request.{Request}
 use Rattle.call_types.specs.declared.request.Request.TheVariants as asks
@@ -26,10 +27,10 @@ use Rattle.script_lines.specs.Verbs.{verb_named}
 use Rattle.script_text.specs.declared.script.Line.{Line}
 use Rattle.script_text.specs.declared.script.Line.TheVariants.{Call, Lose, Restart, Turn, Drain}
 use Rattle.script_text.specs.declared.script.Meaning.TheVariants as meanings
-use Rattle.script_text.specs.Said.{Said, losses_of, restarts_of}
-use Rattle.script_text.specs.LineReaders.{create_line, update_line, edit_line, delete_line, get_line, list_line, time_line, pool_line, fault_line, lose_line, restart_line, turn_line, verb_from, verb_at, as_line, meaning_by, meaning_of}
-use Rattle.script_print.specs.Printing.{line_pairs, line_data, pool_pairs, pool_data, fault_data}
-use Rattle.script_laws.specs.Given.{IsCount, IsNewCall, IsUsersCall, IsActor, IsLineAfter}
+use Rattle.script_text.specs.Said.{Said, has_begun, losses_of, restarts_of}
+use Rattle.script_text.specs.LineReaders.{create_line, update_line, edit_line, delete_line, get_line, list_line, time_line, pool_line, fault_line, import_line, lose_line, restart_line, turn_line, verb_from, verb_at, as_line, meaning_by, meaning_of}
+use Rattle.script_print.specs.Printing.{line_pairs, line_data, pool_pairs, pool_data, fault_data, import_pairs, import_data}
+use Rattle.script_laws.specs.Given.{IsCount, IsNewCall, IsLineObject, IsUsersCall, IsActor, IsLineAfter}
 use Rattle.script_laws.specs.Limits.{IsShortObject, HasShortObject, LineHasShortObject}
 use Rattle.script_laws.proofs.MembersBack.{has, text_back, count_back, new_call_back, user_back, key_back, kind_alone_back, condition_back, object_at_back, actor_back, when_back, size_back}
 use Rattle.script_laws.proofs.EditsBack.{edit_line_pairs, edit_back, no_edits, edit_has}
@@ -198,3 +199,11 @@ fault_means agents said call is =
     let line : Data = object_of ps in
     meaning_back agents said line (codes "fault") verbs.Fault (has (codes "do") ps) refl
     ∙ rw (new_call_back members.Call said.faults line call is (has (codes "call") ps)) refl
+
+pub import_means : (agents : List Pair) (said : Said) (o : Object) → IsLineObject o → IsShortObject o → has_begun said.lines ≡ false → import_fault said.imports o ≡ None → meaning_of agents said (import_data o) ≡ Ok (meanings.Import o)
+unfolding import_data import_line
+import_means agents said o is short early passes =
+    let ps : MemberList = import_pairs o in
+    let line : Data = object_of ps in
+    meaning_back agents said line (codes "import") verbs.Import (has (codes "do") ps) refl
+    ∙ rw (object_at_back line o is.given short (has (codes "object") ps), early, passes) refl

@@ -22,7 +22,7 @@ use Rattle.history_text.specs.Replies.{topology_pairs}
 use Rattle.script_lines.specs.Members.{is_namespaced, most_call, most_turn}
 use Rattle.script_text.specs.declared.script.Line.{Line}
 use Rattle.script_text.specs.declared.script.Line.TheVariants.{Call, Lose, Restart, Turn, Drain}
-use Rattle.script_print.specs.Printing.{user_pairs, line_key_pairs, call_pairs, line_pairs, line_data, pool_pairs, pool_data, fault_data}
+use Rattle.script_print.specs.Printing.{user_pairs, line_key_pairs, call_pairs, line_pairs, line_data, pool_pairs, pool_data, fault_data, import_pairs, import_data}
 use Rattle.script_laws.specs.Given.{IsCount, IsLineObject, IsUsersCall, IsLineAfter}
 use Rattle.script_laws.proofs.Lengths.{count_small}
 
@@ -114,3 +114,7 @@ pool_good pool size = good_object_of 126 (pool_pairs pool size) (good_string, (g
 pub fault_good : (call : ℕ) → IsCount most_call call → Good 127 (fault_data call)
 unfolding fault_data
 fault_good call is = good_object_of 126 ((codes "call", whole call) ∷ (codes "do", text (codes "fault")) ∷ []) (good_count most_call call (omega arith) is, (good_string, tt))
+
+pub import_good : (o : Object) → IsLineObject o → Good 127 (import_data o)
+unfolding import_data
+import_good o is = good_object_of 126 (import_pairs o) (good_string, (good_one o is, tt))

@@ -19,7 +19,7 @@ use Rattle.script_lines.specs.Answers.{◌>>=◌, taken}
 use Rattle.script_text.specs.declared.script.Meaning.{Meaning}
 use Rattle.script_text.specs.Said.{Said, and_said}
 use Rattle.script_text.specs.LineReaders.{verb_at, meaning_of}
-use Rattle.script_text.specs.Grammar.{most_line_bytes, most_lines, is_blank, object_value, line_value, limit_of, and_filled, and_line, create_by, own_create, node_from}
+use Rattle.script_text.specs.Grammar.{most_line_bytes, most_lines, is_blank, object_value, line_value, limit_of, and_filled, and_line, object_by, own_object, node_from}
 
 -- the text of a value is a line that is read as the value
 pub record IsRead (d : Data) : Type 0 where
@@ -45,9 +45,9 @@ unfolding and_line and_filled
 line_read agents said n d meaning h few means limit =
     rw (le-ltb most_line_bytes (length (compact_text d)) h.short, not_blank d h.members, value_read d h, means, le-ltb most_lines n few, limit) refl
 
--- what a line creates, by its own members
-pub own_read : (d : Data) → IsRead d → own_create (compact_text d) ≡ (verb_at d >>= λ verb. create_by verb d)
-unfolding own_create
+-- what a line creates or imports, by its own members
+pub own_read : (d : Data) → IsRead d → own_object (compact_text d) ≡ (verb_at d >>= λ verb. object_by verb d)
+unfolding own_object
 own_read d h = rw (le-ltb most_line_bytes (length (compact_text d)) h.short, value_read d h) refl
 
 -- the text that is empty says nothing
@@ -86,10 +86,10 @@ blank_line_value line e = by (is_utf8 line) (read line) (blank_value line e)
     by true o none = rw none refl
     by false o none = refl
 
-pub blank_node : (line : List ℕ) → list_all is_blank line ≡ true → node_from (own_create line) ≡ None
-unfolding own_create
+pub blank_node : (line : List ℕ) → list_all is_blank line ≡ true → node_from (own_object line) ≡ None
+unfolding own_object
 blank_node line e = by (nat_lt most_line_bytes (length line))
   where
-    by : (long : Bool) → node_from ((if long then Err TooLong else Ok line) >>= λ short. line_value short >>= λ value. verb_at value >>= λ verb. create_by verb value) ≡ None
+    by : (long : Bool) → node_from ((if long then Err TooLong else Ok line) >>= λ short. line_value short >>= λ value. verb_at value >>= λ verb. object_by verb value) ≡ None
     by true = refl
-    by false = ap (λ r. node_from (r >>= λ value. verb_at value >>= λ verb. create_by verb value)) (blank_line_value line e)
+    by false = ap (λ r. node_from (r >>= λ value. verb_at value >>= λ verb. object_by verb value)) (blank_line_value line e)

@@ -1,5 +1,5 @@
--- What the readers of pools and faults give is what a text can give, and its JSON is UTF-8.
-use Rattle.std.proofs.Common.{◌≡◌, ℕ, List, Option, Some, None, IfSome, Result, Ok, Err, IfOk, IsUtf8, refl}
+-- What the readers of pools, faults and imported objects give is what a text can give, and its JSON is UTF-8.
+use Rattle.std.proofs.Common.{◌≡◌, ℕ, List, [], ◌∷◌, false, Option, Some, None, IfSome, Result, Ok, Err, IfOk, IsUtf8, refl, sym, subst}
 use Rattle.std.specs.Bool.{⊤}
 use Rattle.json.proofs.Printed.Utf8.{IsUtf8-are_ascii}
 use Rattle.serde_json.specs.Data.{unsigned, negative, float, Data, null, boolean, number, string, array, object}
@@ -14,15 +14,22 @@ use Rattle.object_text.specs.PartReaders.{quantity_text, amount_from, amount_in}
 use Rattle.object_laws.proofs.GivesParts.{step as object_step}
 use Rattle.object_laws.proofs.Utf8Texts.{HasUtf8}
 use Rattle.script_lines.specs.declared.line_member.LineMember.TheVariants as members
-use Rattle.script_lines.specs.Members.{at, needed, text_of, text_at, new_call_at, size_taken, size_at, value_from, topology_from, topology_at}
+use Rattle.script_lines.specs.Members.{at, needed, text_of, text_at, new_call_at, object_at, size_taken, size_at, value_from, topology_from, topology_at}
+use Rattle.kube_types.specs.declared.names.ImportFault.{ImportFault}
+use Rattle.kube_types.specs.declared.objects.Object.{Object}
+use Rattle.binder_model.specs.Imports.{import_fault}
+use Rattle.script_lines.specs.declared.errors.Reason.TheVariants.{BadValue}
+use Rattle.script_lines.specs.Answers.{unless}
+use Rattle.script_text.specs.declared.script.Line.{Line}
+use Rattle.script_text.specs.Said.{has_begun}
 use Rattle.script_text.specs.declared.script.Meaning.{Meaning}
 use Rattle.script_text.specs.declared.script.Meaning.TheVariants as meanings
-use Rattle.script_text.specs.LineReaders.{pool_line, fault_line}
-use Rattle.script_print.specs.Printing.{pool_pairs, pool_data}
-use Rattle.script_laws.specs.Given.{IsNewCall}
-use Rattle.script_laws.proofs.Values.{step, WasRead, at_read, needed_read}
-use Rattle.script_laws.proofs.MembersGive.{text_of_gives, text_gives, new_call_gives}
-use Rattle.script_laws.proofs.LinesGive.{object_of_utf8, PairsUtf8}
+use Rattle.script_text.specs.LineReaders.{pool_line, fault_line, unless_fault, import_line}
+use Rattle.script_print.specs.Printing.{pool_pairs, pool_data, import_pairs, import_data}
+use Rattle.script_laws.specs.Given.{IsNewCall, IsLineObject}
+use Rattle.script_laws.proofs.Values.{step, unless_gives, WasRead, at_read, needed_read}
+use Rattle.script_laws.proofs.MembersGive.{text_of_gives, text_gives, new_call_gives, ObjectGiven, object_gives}
+use Rattle.script_laws.proofs.LinesGive.{object_of_utf8, object_utf8, PairsUtf8}
 
 -- a pool that a text can give, with its size as it was written, and whose JSON is UTF-8
 pub record PoolGiven (pool : Pool) (size : List ℕ) : Type 0 where
@@ -85,6 +92,7 @@ topology_utf8 (Some t) h = (IsUtf8-are_ascii _ refl, h.0, (IsUtf8-are_ascii _ re
 abbrev pub IsPool : Meaning → Type 0
 IsPool (meanings.Pool pool size) = PoolGiven pool size
 IsPool (meanings.Fault call) = ⊥
+IsPool (meanings.Import o) = ⊥
 IsPool (meanings.Line line) = ⊥
 
 pub pool_gives : (d : Data) → WasRead 127 d → IfOk (pool_line d) IsPool
@@ -100,8 +108,42 @@ pool_gives d h =
 abbrev pub IsFault : List ℕ → Meaning → Type 0
 IsFault faults (meanings.Pool pool size) = ⊥
 IsFault faults (meanings.Fault call) = IsNewCall faults call
+IsFault faults (meanings.Import o) = ⊥
 IsFault faults (meanings.Line line) = ⊥
 
 pub fault_gives : (faults : List ℕ) (d : Data) → IfOk (fault_line faults d) (IsFault faults)
 unfolding fault_line
 fault_gives faults d = step (IsNewCall faults) (IsFault faults) (new_call_at members.Call faults d) _ (new_call_gives members.Call faults d) (λ call is. is)
+
+-- an imported object that a text can give before any call and after these objects, and whose JSON is UTF-8
+pub record ImportGiven (lines : List Line) (before : List Object) (o : Object) : Type 0 where
+  pub object : IsLineObject o
+  pub early : has_begun lines ≡ false
+  pub passes : import_fault before o ≡ None
+  pub utf8 : HasUtf8 (import_data o)
+
+abbrev pub IsImport : List Line → List Object → Meaning → Type 0
+IsImport lines before (meanings.Pool pool size) = ⊥
+IsImport lines before (meanings.Fault call) = ⊥
+IsImport lines before (meanings.Import o) = ImportGiven lines before o
+IsImport lines before (meanings.Line line) = ⊥
+
+import_utf8 : (o : Object) → ObjectGiven o → HasUtf8 (import_data o)
+unfolding import_data
+import_utf8 o is = object_of_utf8 (import_pairs o) (IsUtf8-are_ascii _ refl, IsUtf8-are_ascii _ refl, (IsUtf8-are_ascii _ refl, object_utf8 o is, tt))
+
+-- the object is this one, before any call
+record IsEarly (lines : List Line) (o early : Object) : Type 0 where
+  pub same : early ≡ o
+  pub none : has_begun lines ≡ false
+
+passed_import : (lines : List Line) (before : List Object) (o : Object) (fault : Option ImportFault) → ObjectGiven o → has_begun lines ≡ false → import_fault before o ≡ fault → IfOk (unless_fault fault o) (IsImport lines before)
+passed_import lines before o None is early e = record { object = is.given; early = early; passes = e; utf8 = import_utf8 o is }
+passed_import lines before o (Some fault) is early e = tt
+
+pub import_gives : (lines : List Line) (before : List Object) (d : Data) → WasRead 127 d → IfOk (import_line lines before d) (IsImport lines before)
+unfolding import_line
+import_gives lines before d h =
+    step ObjectGiven (IsImport lines before) (object_at d) _ (object_gives d h) (λ o is.
+    step (IsEarly lines o) (IsImport lines before) (unless (has_begun lines) (BadValue members.Do) o) _ (unless_gives (IsEarly lines o) (has_begun lines) (BadValue members.Do) o (λ e. record { same = refl; none = e })) (λ early k.
+    passed_import lines before early (import_fault before early) (subst ObjectGiven (sym k.same) is) k.none refl))

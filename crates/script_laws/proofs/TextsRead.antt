@@ -20,29 +20,30 @@ use Rattle.script_lines.specs.Members.{most_call, is_given}
 use Rattle.script_text.specs.declared.script.Line.{Line}
 use Rattle.script_text.specs.declared.script.Meaning.TheVariants as meanings
 use Rattle.script_text.specs.declared.script.Script.{Script}
-use Rattle.script_text.specs.Said.{Said, nothing_said, and_said, and_node, created_node, agents_after, agents_of, nodes_of, numbered_of}
+use Rattle.script_text.specs.Said.{Said, nothing_said, and_said, and_node, created_node, imported_node, has_begun, agents_after, imported_after, agents_of, nodes_of, numbered_of}
 use Rattle.script_text.specs.Steps.Indexed.{AreFaults}
-use Rattle.script_text.specs.Grammar.{most_lines, most_pools, most_faults, line_limit, and_line, agents_beside, agents_in, lines_of, at_line, said_from, said_in, numbered_from, read_numbered_of, script_from}
-use Rattle.script_print.specs.Printing.{line_data, line_text, pool_data, pool_text, pool_lines, fault_data, fault_text, script_lines, script_text}
-use Rattle.script_laws.specs.Given.{IsCount, IsLineAfter}
-use Rattle.script_laws.specs.Limits.{IsShort, LineHasShortObject, ScriptFits}
-use Rattle.script_laws.specs.Scripts.{AreLinesAfter, AreSized, IsScript}
+use Rattle.script_text.specs.Grammar.{most_lines, most_pools, most_faults, line_limit, object_limit, and_line, agents_beside, agents_in, lines_of, at_line, said_from, said_in, numbered_from, read_numbered_of, script_from}
+use Rattle.script_print.specs.Printing.{line_data, line_text, pool_data, pool_text, pool_lines, fault_data, fault_text, import_data, import_text, script_lines, script_text}
+use Rattle.script_laws.specs.Given.{IsCount, IsLineAfter, IsLineObject}
+use Rattle.script_laws.specs.Limits.{IsShort, IsShortObject, LineHasShortObject, ScriptFits}
+use Rattle.script_laws.specs.Scripts.{IsImportAfter, AreImportsAfter, AreLinesAfter, AreSized, IsScript}
 use Rattle.script_laws.specs.Laws.{IsText, ScriptIsRead}
-use Rattle.script_laws.proofs.LinesBack.{line_means, pool_means, fault_means}
-use Rattle.script_laws.proofs.LinesGood.{line_good, pool_good, fault_good}
+use Rattle.script_laws.proofs.LinesBack.{line_means, pool_means, fault_means, import_means}
+use Rattle.script_laws.proofs.LinesGood.{line_good, pool_good, fault_good, import_good}
 use Rattle.script_laws.proofs.LinesRead.{IsRead, line_read, none_read, blank_node}
 use Rattle.script_laws.proofs.Lengths.{lines_objects, script_short}
-use Rattle.script_laws.proofs.Agents.{own_node, pool_node, fault_node}
+use Rattle.script_laws.proofs.Agents.{own_node, pool_node, fault_node, import_node}
 
 -- ---- lines that can be read
 
 -- within the limits of what is read
 record Fits (s : Script) : Type 0 where
   pub lines : All IsShort (script_lines s)
+  pub imports : All IsShortObject s.setup.imports
   pub objects : All LineHasShortObject s.lines
 
 fits_all : (s : Script) → IsScript s → ScriptFits s → Fits s
-fits_all s is h = record { lines = script_short s (agents_of s.lines) is.lines is.fault_numbers h; objects = lines_objects s.lines h.lines }
+fits_all s is h = record { lines = script_short s (agents_of s.setup.imports s.lines) is.lines is.fault_numbers h; imports = h.imports; objects = lines_objects s.lines h.lines }
 
 pub record IsFine (text : List ℕ) : Type 0 where
   pub short : IsShort text
@@ -68,6 +69,10 @@ pool_is_read pool size fine = record { members = refl; good = pool_good pool siz
 fault_is_read : (call : ℕ) → IsCount most_call call → IsFine (fault_text call) → IsRead (fault_data call)
 unfolding fault_text fault_data
 fault_is_read call is fine = record { members = refl; good = fault_good call is; utf8 = fine.utf8; short = fine.short }
+
+import_is_read : (o : Object) → IsLineObject o → IsFine (import_text o) → IsRead (import_data o)
+unfolding import_text import_data
+import_is_read o is fine = record { members = refl; good = import_good o is; utf8 = fine.utf8; short = fine.short }
 
 line_is_read : (agents : List Pair) (before : List Line) (line : Line) → IsLineAfter agents before line → IsFine (line_text line) → IsRead (line_data line)
 unfolding line_text line_data
@@ -115,15 +120,16 @@ record SamePools (a b : Said) (pools : List Pool) (sizes : List (List ℕ)) : Ty
   pub pools_are : b.pools ≡ a.pools ++ pools
   pub sizes_are : b.sizes ≡ a.sizes ++ sizes
   pub faults_are : b.faults ≡ a.faults
+  pub imports_are : b.imports ≡ a.imports
   pub lines_are : b.lines ≡ a.lines
 
 pools_kept : (pools : List Pool) (sizes : List (List ℕ)) (n : ℕ) (said : Said) → AreSized pools sizes → SamePools said (and_pools n said pools sizes) pools sizes
-pools_kept [] [] n said h = record { pools_are = sym (append-nil said.pools); sizes_are = sym (append-nil said.sizes); faults_are = refl; lines_are = refl }
+pools_kept [] [] n said h = record { pools_are = sym (append-nil said.pools); sizes_are = sym (append-nil said.sizes); faults_are = refl; imports_are = refl; lines_are = refl }
 pools_kept [] (size ∷ sizes) n said h = absurd h
 pools_kept (pool ∷ pools) [] n said h = absurd h
 pools_kept (pool ∷ pools) (size ∷ sizes) n said h =
     let k = pools_kept pools sizes (n + 1) (and_said said n (meanings.Pool pool size)) h.1 in
-    record { pools_are = k.pools_are ∙ append_assoc said.pools (pool ∷ []) pools; sizes_are = k.sizes_are ∙ append_assoc said.sizes (size ∷ []) sizes; faults_are = k.faults_are; lines_are = k.lines_are }
+    record { pools_are = k.pools_are ∙ append_assoc said.pools (pool ∷ []) pools; sizes_are = k.sizes_are ∙ append_assoc said.sizes (size ∷ []) sizes; faults_are = k.faults_are; imports_are = k.imports_are; lines_are = k.lines_are }
 
 -- ---- faults: each is put behind those that are there
 
@@ -178,13 +184,46 @@ record SameFaults (a b : Said) (calls : List ℕ) : Type 0 where
   pub pools_are : b.pools ≡ a.pools
   pub sizes_are : b.sizes ≡ a.sizes
   pub faults_are : b.faults ≡ a.faults ++ calls
+  pub imports_are : b.imports ≡ a.imports
   pub lines_are : b.lines ≡ a.lines
 
 faults_kept : (calls : List ℕ) (n : ℕ) (said : Said) → AreFaults (said.faults ++ calls) → SameFaults said (and_faults n said calls) calls
-faults_kept [] n said h = record { pools_are = refl; sizes_are = refl; faults_are = sym (append-nil said.faults); lines_are = refl }
+faults_kept [] n said h = record { pools_are = refl; sizes_are = refl; faults_are = sym (append-nil said.faults); imports_are = refl; lines_are = refl }
 faults_kept (call ∷ calls) n said h =
     let k = faults_kept calls (n + 1) (and_said said n (meanings.Fault call)) (still_rising said.faults call calls h) in
-    record { pools_are = k.pools_are; sizes_are = k.sizes_are; faults_are = k.faults_are ∙ ap (λ l. l ++ calls) (put_last said.faults call calls h) ∙ append_assoc said.faults (call ∷ []) calls; lines_are = k.lines_are }
+    record { pools_are = k.pools_are; sizes_are = k.sizes_are; faults_are = k.faults_are ∙ ap (λ l. l ++ calls) (put_last said.faults call calls h) ∙ append_assoc said.faults (call ∷ []) calls; imports_are = k.imports_are; lines_are = k.lines_are }
+
+-- ---- imported objects
+
+abbrev and_imports : ℕ → Said → List Object → Said
+and_imports n said [] = said
+and_imports n said (o ∷ os) = and_imports (n + 1) (and_said said n (meanings.Import o)) os
+
+import_step : (agents : List Pair) (said : Said) (n : ℕ) (o : Object) → IsImportAfter said.imports o → said.lines ≡ [] → IsShortObject o → IsFine (import_text o) → n ≤ most_lines
+    → and_line agents said n (import_text o) ≡ Ok (and_said said n (meanings.Import o))
+unfolding import_text
+import_step agents said n o is none short fine few =
+    line_read agents said n (import_data o) (meanings.Import o) (import_is_read o is.object fine) few (import_means agents said o is.object short (ap has_begun none) is.passes) (ap (λ lines. object_limit (said.imports ++ o ∷ []) lines) none ∙ is.few)
+
+imports_read : (agents : List Pair) (imports : List Object) (rest : List (List ℕ)) (n : ℕ) (said : Said) → AreImportsAfter said.imports imports → said.lines ≡ [] → All IsShortObject imports → All IsFine (map import_text imports) → n + length imports ≤ 4097
+    → said_from agents n (map import_text imports ++ rest) said ≡ said_from agents (past n imports) rest (and_imports n said imports)
+imports_read agents [] rest n said is none short fine few = refl
+imports_read agents (o ∷ os) rest n said is none short fine few =
+    go_on agents n (import_text o) (map import_text os ++ rest) said _ (import_step agents said n o is.0 none (All-head IsShortObject o os short) (All-head IsFine (import_text o) (map import_text os) fine) (omega arith))
+    ∙ imports_read agents os rest (n + 1) (and_said said n (meanings.Import o)) is.1 none (All-tail IsShortObject o os short) (All-tail IsFine (import_text o) (map import_text os) fine) (omega arith)
+
+record SameImports (a b : Said) (imports : List Object) : Type 0 where
+  pub pools_are : b.pools ≡ a.pools
+  pub sizes_are : b.sizes ≡ a.sizes
+  pub faults_are : b.faults ≡ a.faults
+  pub imports_are : b.imports ≡ a.imports ++ imports
+  pub lines_are : b.lines ≡ a.lines
+
+imports_kept : (imports : List Object) (n : ℕ) (said : Said) → SameImports said (and_imports n said imports) imports
+imports_kept [] n said = record { pools_are = refl; sizes_are = refl; faults_are = refl; imports_are = sym (append-nil said.imports); lines_are = refl }
+imports_kept (o ∷ os) n said =
+    let k = imports_kept os (n + 1) (and_said said n (meanings.Import o)) in
+    record { pools_are = k.pools_are; sizes_are = k.sizes_are; faults_are = k.faults_are; imports_are = k.imports_are ∙ append_assoc said.imports (o ∷ []) os; lines_are = k.lines_are }
 
 -- ---- lines
 
@@ -192,12 +231,12 @@ abbrev and_lines : ℕ → Said → List Line → Said
 and_lines n said [] = said
 and_lines n said (line ∷ lines) = and_lines (n + 1) (and_said said n (meanings.Line line)) lines
 
-line_step : (agents : List Pair) (said : Said) (n : ℕ) (line : Line) → IsLineAfter agents said.lines line → line_limit (said.lines ++ line ∷ []) line ≡ None → LineHasShortObject line → IsFine (line_text line) → n ≤ most_lines
+line_step : (agents : List Pair) (said : Said) (n : ℕ) (line : Line) → IsLineAfter agents said.lines line → line_limit said.imports (said.lines ++ line ∷ []) line ≡ None → LineHasShortObject line → IsFine (line_text line) → n ≤ most_lines
     → and_line agents said n (line_text line) ≡ Ok (and_said said n (meanings.Line line))
 unfolding line_text
 line_step agents said n line is limit fits fine few = line_read agents said n (line_data line) (meanings.Line line) (line_is_read agents said.lines line is fine) few (line_means agents said line is fits) limit
 
-lines_read : (agents : List Pair) (lines : List Line) (rest : List (List ℕ)) (n : ℕ) (said : Said) → AreLinesAfter agents said.lines lines → All LineHasShortObject lines → All IsFine (map line_text lines) → n + length lines ≤ 4097
+lines_read : (agents : List Pair) (lines : List Line) (rest : List (List ℕ)) (n : ℕ) (said : Said) → AreLinesAfter said.imports agents said.lines lines → All LineHasShortObject lines → All IsFine (map line_text lines) → n + length lines ≤ 4097
     → said_from agents n (map line_text lines ++ rest) said ≡ said_from agents (past n lines) rest (and_lines n said lines)
 lines_read agents [] rest n said h fits fine few = refl
 lines_read agents (line ∷ lines) rest n said h fits fine few =
@@ -208,13 +247,14 @@ record SameLines (a b : Said) (lines : List Line) : Type 0 where
   pub pools_are : b.pools ≡ a.pools
   pub sizes_are : b.sizes ≡ a.sizes
   pub faults_are : b.faults ≡ a.faults
+  pub imports_are : b.imports ≡ a.imports
   pub lines_are : b.lines ≡ a.lines ++ lines
 
 lines_kept : (lines : List Line) (n : ℕ) (said : Said) → SameLines said (and_lines n said lines) lines
-lines_kept [] n said = record { pools_are = refl; sizes_are = refl; faults_are = refl; lines_are = sym (append-nil said.lines) }
+lines_kept [] n said = record { pools_are = refl; sizes_are = refl; faults_are = refl; imports_are = refl; lines_are = sym (append-nil said.lines) }
 lines_kept (line ∷ lines) n said =
     let k = lines_kept lines (n + 1) (and_said said n (meanings.Line line)) in
-    record { pools_are = k.pools_are; sizes_are = k.sizes_are; faults_are = k.faults_are; lines_are = k.lines_are ∙ append_assoc said.lines (line ∷ []) lines }
+    record { pools_are = k.pools_are; sizes_are = k.sizes_are; faults_are = k.faults_are; imports_are = k.imports_are; lines_are = k.lines_are ∙ append_assoc said.lines (line ∷ []) lines }
 
 -- ---- agents
 
@@ -231,14 +271,22 @@ faults_beside agents (call ∷ calls) rest is fine =
     ap (λ o. agents_beside (and_node agents o) (map fault_text calls ++ rest)) (fault_node call (fault_is_read call (All-head (IsCount most_call) call calls is) (All-head IsFine (fault_text call) (map fault_text calls) fine)))
     ∙ faults_beside agents calls rest (All-tail (IsCount most_call) call calls is) (All-tail IsFine (fault_text call) (map fault_text calls) fine)
 
-lines_beside : (known : List Pair) (agents : List Pair) (before lines : List Line) (rest : List (List ℕ)) → AreLinesAfter known before lines → All LineHasShortObject lines → All IsFine (map line_text lines)
+imports_beside : (agents : List Pair) (before imports : List Object) (rest : List (List ℕ)) → AreImportsAfter before imports → All IsShortObject imports → All IsFine (map import_text imports)
+    → agents_beside agents (map import_text imports ++ rest) ≡ agents_beside (imported_after agents imports) rest
+imports_beside agents before [] rest is short fine = refl
+imports_beside agents before (o ∷ os) rest is short fine =
+    let object = is.0.object in
+    ap (λ n. agents_beside (and_node agents n) (map import_text os ++ rest)) (import_node o object (All-head IsShortObject o os short) (import_is_read o object (All-head IsFine (import_text o) (map import_text os) fine)))
+    ∙ imports_beside (and_node agents (imported_node o)) (before ++ o ∷ []) os rest is.1 (All-tail IsShortObject o os short) (All-tail IsFine (import_text o) (map import_text os) fine)
+
+lines_beside : (imports : List Object) (known : List Pair) (agents : List Pair) (before lines : List Line) (rest : List (List ℕ)) → AreLinesAfter imports known before lines → All LineHasShortObject lines → All IsFine (map line_text lines)
     → agents_beside agents (map line_text lines ++ rest) ≡ agents_beside (agents_after agents lines) rest
-lines_beside known agents before [] rest h fits fine = refl
-lines_beside known agents before (line ∷ lines) rest h fits fine =
+lines_beside imports known agents before [] rest h fits fine = refl
+lines_beside imports known agents before (line ∷ lines) rest h fits fine =
     let own_fits = All-head LineHasShortObject line lines fits in
     let own_fine = All-head IsFine (line_text line) (map line_text lines) fine in
     ap (λ o. agents_beside (and_node agents o) (map line_text lines ++ rest)) (own_node known before line h.0 own_fits (line_is_read known before line h.0 own_fine))
-    ∙ lines_beside known (and_node agents (created_node line)) (before ++ line ∷ []) lines rest h.2 (All-tail LineHasShortObject line lines fits) (All-tail IsFine (line_text line) (map line_text lines) fine)
+    ∙ lines_beside imports known (and_node agents (created_node line)) (before ++ line ∷ []) lines rest h.2 (All-tail LineHasShortObject line lines fits) (All-tail IsFine (line_text line) (map line_text lines) fine)
 
 -- ---- lines and line feeds
 
@@ -279,12 +327,19 @@ fault_lines_are_lines (call ∷ calls) h =
     let good = fault_good call (All-head (IsCount most_call) call calls h) in
     All-cons IsLine (fault_text call) (map fault_text calls) (text_line (fault_data call) good.canonical) (fault_lines_are_lines calls (All-tail (IsCount most_call) call calls h))
 
-line_lines_are_lines : (agents : List Pair) (before lines : List Line) → AreLinesAfter agents before lines → All IsLine (map line_text lines)
+import_lines_are_lines : (before imports : List Object) → AreImportsAfter before imports → All IsLine (map import_text imports)
+unfolding import_text
+import_lines_are_lines before [] h = All-nil IsLine
+import_lines_are_lines before (o ∷ os) h =
+    let good = import_good o h.0.object in
+    All-cons IsLine (import_text o) (map import_text os) (text_line (import_data o) good.canonical) (import_lines_are_lines (before ++ o ∷ []) os h.1)
+
+line_lines_are_lines : (imports : List Object) (agents : List Pair) (before lines : List Line) → AreLinesAfter imports agents before lines → All IsLine (map line_text lines)
 unfolding line_text
-line_lines_are_lines agents before [] h = All-nil IsLine
-line_lines_are_lines agents before (line ∷ lines) h =
+line_lines_are_lines imports agents before [] h = All-nil IsLine
+line_lines_are_lines imports agents before (line ∷ lines) h =
     let good = line_good agents before line h.0 in
-    All-cons IsLine (line_text line) (map line_text lines) (text_line (line_data line) good.canonical) (line_lines_are_lines agents (before ++ line ∷ []) lines h.2)
+    All-cons IsLine (line_text line) (map line_text lines) (text_line (line_data line) good.canonical) (line_lines_are_lines imports agents (before ++ line ∷ []) lines h.2)
 
 -- ---- the script
 
@@ -294,39 +349,59 @@ pools_of s = pool_lines s.setup.pools s.sizes
 abbrev faults_of : Script → List (List ℕ)
 faults_of s = map fault_text s.setup.faults
 
+abbrev imports_of : Script → List (List ℕ)
+imports_of s = map import_text s.setup.imports
+
 abbrev texts_of : Script → List (List ℕ)
 texts_of s = map line_text s.lines
 
 abbrev last_part : List (List ℕ)
 last_part = [] ∷ []
 
-parts_of : (s : Script) → IsScript s → lines_of (script_text s) ≡ pools_of s ++ (faults_of s ++ (texts_of s ++ last_part))
+-- what comes after the pools, and after the faults
+abbrev after_pool_lines : Script → List (List ℕ)
+after_pool_lines s = faults_of s ++ (imports_of s ++ texts_of s)
+
+abbrev script_agents : Script → List Pair
+script_agents s = agents_of s.setup.imports s.lines
+
+parts_of : (s : Script) → IsScript s → lines_of (script_text s) ≡ pools_of s ++ (faults_of s ++ (imports_of s ++ (texts_of s ++ last_part)))
 unfolding script_lines
 parts_of s is =
-    let all_lines = All-append IsLine (pools_of s) (faults_of s ++ texts_of s) (pool_lines_are_lines s.setup.pools s.sizes is.pools) (All-append IsLine (faults_of s) (texts_of s) (fault_lines_are_lines s.setup.faults is.fault_numbers) (line_lines_are_lines (agents_of s.lines) [] s.lines is.lines)) in
-    ap lines_of (with_joined [] (pools_of s ++ (faults_of s ++ texts_of s)))
-    ∙ split_joined (pools_of s ++ (faults_of s ++ texts_of s)) all_lines
-    ∙ append_assoc (pools_of s) (faults_of s ++ texts_of s) last_part
-    ∙ ap (λ l. pools_of s ++ l) (append_assoc (faults_of s) (texts_of s) last_part)
+    let all_texts = All-append IsLine (imports_of s) (texts_of s) (import_lines_are_lines [] s.setup.imports is.imports) (line_lines_are_lines s.setup.imports (script_agents s) [] s.lines is.lines) in
+    let all_lines = All-append IsLine (pools_of s) (after_pool_lines s) (pool_lines_are_lines s.setup.pools s.sizes is.pools) (All-append IsLine (faults_of s) (imports_of s ++ texts_of s) (fault_lines_are_lines s.setup.faults is.fault_numbers) all_texts) in
+    ap lines_of (with_joined [] (pools_of s ++ after_pool_lines s))
+    ∙ split_joined (pools_of s ++ after_pool_lines s) all_lines
+    ∙ append_assoc (pools_of s) (after_pool_lines s) last_part
+    ∙ ap (λ l. pools_of s ++ l) (append_assoc (faults_of s) (imports_of s ++ texts_of s) last_part)
+    ∙ ap (λ l. pools_of s ++ (faults_of s ++ l)) (append_assoc (imports_of s) (texts_of s) last_part)
 
 record AllFine (s : Script) : Type 0 where
   pub pools : All IsFine (pools_of s)
   pub faults : All IsFine (faults_of s)
+  pub imports : All IsFine (imports_of s)
   pub texts : All IsFine (texts_of s)
 
 all_fine : (s : Script) → Fits s → All IsText (script_lines s) → AllFine s
 unfolding script_lines
 all_fine s fits utf8 =
     let fine = fine_lines (script_lines s) fits.lines utf8 in
-    let rest = fine_second (pools_of s) (faults_of s ++ texts_of s) fine in
-    record { pools = fine_first (pools_of s) (faults_of s ++ texts_of s) fine; faults = fine_first (faults_of s) (texts_of s) rest; texts = fine_second (faults_of s) (texts_of s) rest }
+    let rest = fine_second (pools_of s) (after_pool_lines s) fine in
+    let last = fine_second (faults_of s) (imports_of s ++ texts_of s) rest in
+    record {
+      pools = fine_first (pools_of s) (after_pool_lines s) fine;
+      faults = fine_first (faults_of s) (imports_of s ++ texts_of s) rest;
+      imports = fine_first (imports_of s) (texts_of s) last;
+      texts = fine_second (imports_of s) (texts_of s) last;
+    }
 
-agents_read : (s : Script) → IsScript s → Fits s → AllFine s → agents_in (pools_of s ++ (faults_of s ++ (texts_of s ++ last_part))) ≡ agents_of s.lines
+agents_read : (s : Script) → IsScript s → Fits s → AllFine s → agents_in (pools_of s ++ (faults_of s ++ (imports_of s ++ (texts_of s ++ last_part)))) ≡ script_agents s
 agents_read s is fits fine =
-    pools_beside [] s.setup.pools s.sizes (faults_of s ++ (texts_of s ++ last_part)) is.pools fine.pools
-    ∙ faults_beside [] s.setup.faults (texts_of s ++ last_part) is.fault_numbers fine.faults
-    ∙ lines_beside (agents_of s.lines) [] [] s.lines last_part is.lines fits.objects fine.texts
-    ∙ ap (and_node (agents_of s.lines)) (blank_node [] refl)
+    pools_beside [] s.setup.pools s.sizes (faults_of s ++ (imports_of s ++ (texts_of s ++ last_part))) is.pools fine.pools
+    ∙ faults_beside [] s.setup.faults (imports_of s ++ (texts_of s ++ last_part)) is.fault_numbers fine.faults
+    ∙ imports_beside [] [] s.setup.imports (texts_of s ++ last_part) is.imports fits.imports fine.imports
+    ∙ lines_beside s.setup.imports (script_agents s) (imported_after [] s.setup.imports) [] s.lines last_part is.lines fits.objects fine.texts
+    ∙ ap (and_node (script_agents s)) (blank_node [] refl)
 
 abbrev after_pools : Script → Said
 after_pools s = and_pools 1 nothing_said s.setup.pools s.sizes
@@ -334,29 +409,50 @@ after_pools s = and_pools 1 nothing_said s.setup.pools s.sizes
 abbrev after_faults : Script → Said
 after_faults s = and_faults (past 1 s.setup.pools) (after_pools s) s.setup.faults
 
+abbrev after_imports : Script → Said
+after_imports s = and_imports (past (past 1 s.setup.pools) s.setup.faults) (after_faults s) s.setup.imports
+
 abbrev after_lines : Script → Said
-after_lines s = and_lines (past (past 1 s.setup.pools) s.setup.faults) (after_faults s) s.lines
+after_lines s = and_lines (past (past (past 1 s.setup.pools) s.setup.faults) s.setup.imports) (after_imports s) s.lines
+
+rising_behind : (xs ys : List ℕ) → xs ≡ [] → AreFaults ys → AreFaults (xs ++ ys)
+rising_behind xs ys e h = subst (λ (l : List ℕ). AreFaults (l ++ ys)) (sym e) h
+
+-- what was said after each part
+record AreSaid (s : Script) : Type 0 where
+  pub one : SamePools nothing_said (after_pools s) s.setup.pools s.sizes
+  pub two : SameFaults (after_pools s) (after_faults s) s.setup.faults
+  pub three : SameImports (after_faults s) (after_imports s) s.setup.imports
+  pub four : SameLines (after_imports s) (after_lines s) s.lines
+  pub rising : AreFaults ((after_pools s).faults ++ s.setup.faults)
+
+are_said : (s : Script) → IsScript s → AreSaid s
+are_said s is =
+    let one = pools_kept s.setup.pools s.sizes 1 nothing_said is.pools in
+    let rising = rising_behind (after_pools s).faults s.setup.faults one.faults_are is.faults in
+    record {
+      one = one;
+      two = faults_kept s.setup.faults (past 1 s.setup.pools) (after_pools s) rising;
+      three = imports_kept s.setup.imports (past (past 1 s.setup.pools) s.setup.faults) (after_faults s);
+      four = lines_kept s.lines (past (past (past 1 s.setup.pools) s.setup.faults) s.setup.imports) (after_imports s);
+      rising = rising;
+    }
 
 record IsSaid (s : Script) (f : Said) : Type 0 where
   pub pools : f.pools ≡ s.setup.pools
   pub sizes : f.sizes ≡ s.sizes
   pub faults : f.faults ≡ s.setup.faults
+  pub imports : f.imports ≡ s.setup.imports
   pub lines : f.lines ≡ s.lines
 
-rising_behind : (xs ys : List ℕ) → xs ≡ [] → AreFaults ys → AreFaults (xs ++ ys)
-rising_behind xs ys e h = subst (λ (l : List ℕ). AreFaults (l ++ ys)) (sym e) h
-
-is_said : (s : Script) → IsScript s → IsSaid s (after_lines s)
-is_said s is =
-    let one = pools_kept s.setup.pools s.sizes 1 nothing_said is.pools in
-    let two = faults_kept s.setup.faults (past 1 s.setup.pools) (after_pools s) (rising_behind (after_pools s).faults s.setup.faults one.faults_are is.faults) in
-    let three = lines_kept s.lines (past (past 1 s.setup.pools) s.setup.faults) (after_faults s) in
-    record {
-      pools = three.pools_are ∙ two.pools_are ∙ one.pools_are;
-      sizes = three.sizes_are ∙ two.sizes_are ∙ one.sizes_are;
-      faults = three.faults_are ∙ two.faults_are ∙ ap (λ l. l ++ s.setup.faults) one.faults_are;
-      lines = three.lines_are ∙ ap (λ l. l ++ s.lines) (two.lines_are ∙ one.lines_are);
-    }
+is_said : (s : Script) → AreSaid s → IsSaid s (after_lines s)
+is_said s are = record {
+  pools = are.four.pools_are ∙ are.three.pools_are ∙ are.two.pools_are ∙ are.one.pools_are;
+  sizes = are.four.sizes_are ∙ are.three.sizes_are ∙ are.two.sizes_are ∙ are.one.sizes_are;
+  faults = are.four.faults_are ∙ are.three.faults_are ∙ are.two.faults_are ∙ ap (λ l. l ++ s.setup.faults) are.one.faults_are;
+  imports = are.four.imports_are ∙ are.three.imports_are ∙ ap (λ l. l ++ s.setup.imports) (are.two.imports_are ∙ are.one.imports_are);
+  lines = are.four.lines_are ∙ ap (λ l. l ++ s.lines) (are.three.lines_are ∙ are.two.lines_are ∙ are.one.lines_are);
+}
 
 abbrev made : List Pool → List ℕ → List Object → List Line → List (List ℕ) → List (List ℕ) → Script
 made pools faults imports lines nodes sizes = record { setup = record { pools = pools; faults = faults; imports = imports }; lines = lines; node_names = nodes; sizes = sizes }
@@ -364,27 +460,32 @@ made pools faults imports lines nodes sizes = record { setup = record { pools = 
 same_script : (s : Script) (f : Said) → IsScript s → IsSaid s f → (numbered_of f).script ≡ s
 unfolding numbered_of
 same_script s f is said =
-    ap (λ x. made x f.faults [] f.lines (nodes_of (agents_of f.lines)) f.sizes) said.pools
-    ∙ ap (λ x. made s.setup.pools x [] f.lines (nodes_of (agents_of f.lines)) f.sizes) said.faults
-    ∙ ap (λ x. made s.setup.pools s.setup.faults [] x (nodes_of (agents_of x)) f.sizes) said.lines
-    ∙ ap (λ x. made s.setup.pools s.setup.faults [] s.lines (nodes_of (agents_of s.lines)) x) said.sizes
-    ∙ ap (λ x. made s.setup.pools s.setup.faults x s.lines (nodes_of (agents_of s.lines)) s.sizes) (sym is.imports)
+    ap (λ x. made x f.faults f.imports f.lines (nodes_of (agents_of f.imports f.lines)) f.sizes) said.pools
+    ∙ ap (λ x. made s.setup.pools x f.imports f.lines (nodes_of (agents_of f.imports f.lines)) f.sizes) said.faults
+    ∙ ap (λ x. made s.setup.pools s.setup.faults x f.lines (nodes_of (agents_of x f.lines)) f.sizes) said.imports
+    ∙ ap (λ x. made s.setup.pools s.setup.faults s.setup.imports x (nodes_of (agents_of s.setup.imports x)) f.sizes) said.lines
+    ∙ ap (λ x. made s.setup.pools s.setup.faults s.setup.imports s.lines (nodes_of (script_agents s)) x) said.sizes
     ∙ ap (λ x. made s.setup.pools s.setup.faults s.setup.imports s.lines x s.sizes) (sym is.nodes)
 
-said_read : (s : Script) → IsScript s → Fits s → AllFine s → said_from (agents_of s.lines) 1 (pools_of s ++ (faults_of s ++ (texts_of s ++ last_part))) nothing_said ≡ Ok (after_lines s)
+said_read : (s : Script) → IsScript s → Fits s → AllFine s → said_from (script_agents s) 1 (pools_of s ++ (faults_of s ++ (imports_of s ++ (texts_of s ++ last_part)))) nothing_said ≡ Ok (after_lines s)
 said_read s is fits fine =
-    let agents : List Pair = agents_of s.lines in
+    let agents : List Pair = script_agents s in
     let few = is.few_lines in
-    let one = pools_kept s.setup.pools s.sizes 1 nothing_said is.pools in
-    let two = faults_kept s.setup.faults (past 1 s.setup.pools) (after_pools s) (rising_behind (after_pools s).faults s.setup.faults one.faults_are is.faults) in
+    let are = are_said s is in
     let first = past_is 1 s.setup.pools in
     let second = past_is (past 1 s.setup.pools) s.setup.faults in
-    let none : length (after_pools s).faults ≡ 0 = ap length one.faults_are in
-    let before : (after_faults s).lines ≡ [] = two.lines_are ∙ one.lines_are in
-    pools_read agents s.setup.pools s.sizes (faults_of s ++ (texts_of s ++ last_part)) 1 nothing_said is.pools fine.pools (omega arith) (omega (arith, is.few_pools))
-    ∙ faults_read agents s.setup.faults (texts_of s ++ last_part) (past 1 s.setup.pools) (after_pools s) (rising_behind (after_pools s).faults s.setup.faults one.faults_are is.faults) is.fault_numbers fine.faults (omega arith) (omega (arith, is.few_faults))
-    ∙ lines_read agents s.lines last_part (past (past 1 s.setup.pools) s.setup.faults) (after_faults s) (subst (λ (b : List Line). AreLinesAfter agents b s.lines) (sym before) is.lines) fits.objects fine.texts (omega arith)
-    ∙ go_on agents (past (past (past 1 s.setup.pools) s.setup.faults) s.lines) [] [] (after_lines s) (after_lines s) (none_read agents (after_lines s) _)
+    let third = past_is (past (past 1 s.setup.pools) s.setup.faults) s.setup.imports in
+    let none : length (after_pools s).faults ≡ 0 = ap length are.one.faults_are in
+    let early : (after_faults s).lines ≡ [] = are.two.lines_are ∙ are.one.lines_are in
+    let no_imports : (after_faults s).imports ≡ [] = are.two.imports_are ∙ are.one.imports_are in
+    let before : (after_imports s).lines ≡ [] = are.three.lines_are ∙ early in
+    let imported : (after_imports s).imports ≡ s.setup.imports = are.three.imports_are ∙ ap (λ l. l ++ s.setup.imports) no_imports in
+    let lines : AreLinesAfter (after_imports s).imports agents (after_imports s).lines s.lines = subst (λ (b : List Line). AreLinesAfter (after_imports s).imports agents b s.lines) (sym before) (subst (λ (i : List Object). AreLinesAfter i agents [] s.lines) (sym imported) is.lines) in
+    pools_read agents s.setup.pools s.sizes (faults_of s ++ (imports_of s ++ (texts_of s ++ last_part))) 1 nothing_said is.pools fine.pools (omega arith) (omega (arith, is.few_pools))
+    ∙ faults_read agents s.setup.faults (imports_of s ++ (texts_of s ++ last_part)) (past 1 s.setup.pools) (after_pools s) are.rising is.fault_numbers fine.faults (omega arith) (omega (arith, is.few_faults))
+    ∙ imports_read agents s.setup.imports (texts_of s ++ last_part) (past (past 1 s.setup.pools) s.setup.faults) (after_faults s) (subst (λ (b : List Object). AreImportsAfter b s.setup.imports) (sym no_imports) is.imports) early fits.imports fine.imports (omega arith)
+    ∙ lines_read agents s.lines last_part (past (past (past 1 s.setup.pools) s.setup.faults) s.setup.imports) (after_imports s) lines fits.objects fine.texts (omega arith)
+    ∙ go_on agents (past (past (past (past 1 s.setup.pools) s.setup.faults) s.setup.imports) s.lines) [] [] (after_lines s) (after_lines s) (none_read agents (after_lines s) _)
 
 pub script_is_read : ScriptIsRead
 unfolding read_numbered_of
@@ -392,6 +493,6 @@ script_is_read s is h utf8 =
     let fits = fits_all s is h in
     let fine = all_fine s fits utf8 in
     ap (λ lines. script_from (numbered_from (said_in lines))) (parts_of s is)
-    ∙ ap (λ agents. script_from (numbered_from (said_from agents 1 (pools_of s ++ (faults_of s ++ (texts_of s ++ last_part))) nothing_said))) (agents_read s is fits fine)
+    ∙ ap (λ agents. script_from (numbered_from (said_from agents 1 (pools_of s ++ (faults_of s ++ (imports_of s ++ (texts_of s ++ last_part)))) nothing_said))) (agents_read s is fits fine)
     ∙ ap (λ r. script_from (numbered_from r)) (said_read s is fits fine)
-    ∙ ap Ok (same_script s (after_lines s) is (is_said s is))
+    ∙ ap Ok (same_script s (after_lines s) is (is_said s (are_said s is)))

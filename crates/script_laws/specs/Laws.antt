@@ -3,6 +3,8 @@
 use Rattle.std.specs.Prelude.{◌≡◌, ℕ, List, true, All, Ok}
 use Rattle.std.specs.Str.{is_utf8}
 use Rattle.plain_data.specs.Pairs.{Pair}
+use Rattle.binder_model.specs.Imports.{ImportsPass}
+use Rattle.object_laws.specs.Given.{IsGiven}
 use Rattle.script_text.specs.declared.script.Line.{Line}
 use Rattle.script_text.specs.declared.script.Script.{Script}
 use Rattle.script_text.specs.declared.script.Meaning.TheVariants as meanings
@@ -33,3 +35,12 @@ ScriptGives = (text : List ℕ) (s : Script) → script_of text ≡ Ok s → IsS
 -- and its printed text gives the script again, within the limits of what is read
 abbrev pub ScriptIsReadAgain : Type 0
 ScriptIsReadAgain = (text : List ℕ) (s : Script) → script_of text ≡ Ok s → ScriptFits s → script_of (script_text s) ≡ Ok s
+
+-- what a manifest can give, each after those before it
+pub record AreGivenImports (s : Script) : Type 0 where
+  pub given : All IsGiven s.setup.imports
+  pub pass : ImportsPass s.setup.imports
+
+-- the imported objects of a script that a text can give
+abbrev pub ImportsGiven : Type 0
+ImportsGiven = (s : Script) → IsScript s → AreGivenImports s

@@ -44,7 +44,8 @@ LineFits (Call user request) = CallFits user request
 LineFits Drain = ⊤
 LineFits line = IsShort (line_text line)
 
--- a script within the limits; faults are short
+-- a script within the limits; faults are short, and an object that is short makes its import line short
 pub record ScriptFits (s : Script) : Type 0 where
   pub pools : All IsShort (pool_lines s.setup.pools s.sizes)
+  pub imports : All IsShortObject s.setup.imports
   pub lines : All LineFits s.lines

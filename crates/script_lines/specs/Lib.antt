@@ -4,4 +4,5 @@ pub mod Actors
 pub mod Verbs
 pub mod Members
 pub mod Refusals
+pub mod Imports
 pub mod Steps

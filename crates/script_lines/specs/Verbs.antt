@@ -2,7 +2,7 @@
 use Rattle.std.specs.Prelude.{ℕ, List, [], ◌∷◌, Option, codes}
 use Rattle.kube_types.specs.Named.{value_named}
 use Rattle.script_lines.specs.declared.verbs.Verb.{Verb}
-use Rattle.script_lines.specs.declared.verbs.Verb.TheVariants.{Create, Update, Edit, Delete, Get, List as ListAll, Time, Pool, Fault, Lose, Restart, Turn, Drain}
+use Rattle.script_lines.specs.declared.verbs.Verb.TheVariants.{Create, Update, Edit, Delete, Get, List as ListAll, Time, Pool, Fault, Import, Lose, Restart, Turn, Drain}
 
 abbrev pub verb_word : Verb → List ℕ
 verb_word Create = codes "create"
@@ -14,13 +14,14 @@ verb_word ListAll = codes "list"
 verb_word Time = codes "time"
 verb_word Pool = codes "pool"
 verb_word Fault = codes "fault"
+verb_word Import = codes "import"
 verb_word Lose = codes "lose"
 verb_word Restart = codes "restart"
 verb_word Turn = codes "turn"
 verb_word Drain = codes "drain"
 
 abbrev pub all_verbs : List Verb
-all_verbs = Create ∷ Update ∷ Edit ∷ Delete ∷ Get ∷ ListAll ∷ Time ∷ Pool ∷ Fault ∷ Lose ∷ Restart ∷ Turn ∷ Drain ∷ []
+all_verbs = Create ∷ Update ∷ Edit ∷ Delete ∷ Get ∷ ListAll ∷ Time ∷ Pool ∷ Fault ∷ Import ∷ Lose ∷ Restart ∷ Turn ∷ Drain ∷ []
 
 abbrev pub verb_named : List ℕ → Option Verb
 verb_named word = value_named verb_word all_verbs word

@@ -26,8 +26,8 @@ pub enum Reason {
     BadQuantity(LineMember),
     /// A number within a listed member is no whole number of 64 bits.
     NotWhole,
-    /// A number is out of its range or was given before, an actor is unknown, an object is too long, or not
-    /// exactly one edit member stands in the line.
+    /// A number is out of its range or was given before, an actor is unknown, an object is too long or is not
+    /// imported, or not exactly one edit member stands in the line.
     BadValue(LineMember),
     TooManyLines,
     TooManyObjects,

@@ -9,6 +9,7 @@ pub mod actors;
 pub mod edit_members;
 pub mod edits;
 pub mod errors;
+pub mod imports;
 pub mod keys;
 pub mod line_member;
 pub mod members;

@@ -3,10 +3,11 @@
 ghost use Rattle.std.specs.Prelude.{◌≡◌};
 ghost use Rattle.script_lines.specs.MemberWords.{line_word};
 
+use kube_types::names::Field;
 use object_text::errors::Member;
 
 /// A member that readers of lines look at. `Edit` stands for the edit members together; a member of a
-/// manifest is `Of` that.
+/// manifest is `Of` that. A field of an imported object that is invalid stands by its own name.
 #[derive(Clone, Copy)]
 pub enum LineMember {
     Do,
@@ -33,6 +34,7 @@ pub enum LineMember {
     SetClaimRef,
     ClearClaimRef,
     Of(Member),
+    Field(Field),
 }
 
 impl LineMember {
@@ -65,6 +67,7 @@ impl LineMember {
             LineMember::SetClaimRef => "setClaimRef",
             LineMember::ClearClaimRef => "clearClaimRef",
             LineMember::Of(member) => member.name(),
+            LineMember::Field(field) => field.name(),
         }
     }
 }

@@ -1,4 +1,4 @@
--- What is printed for a script: the pools, the faults as they rise, and the lines in their order, a line for each.
+-- What is printed for a script: the pools, the faults as they rise, the imported objects and the lines in their order, a line for each.
 -- A choice of this project: the script format.
 use Rattle.std.specs.Prelude.{ℕ, ◌==◌, List, [], ◌∷◌, ◌++◌, Bool, true, false, if◌then◌else◌, Some, None, codes, decimal, map, option_map}
 use Rattle.serde_json.specs.Data.{Data}
@@ -6,6 +6,7 @@ use Rattle.serde_json.specs.Written.{compact_text}
 use Rattle.json_text.specs.Members.{MemberList, text, whole, object_of}
 use Rattle.kube_types.specs.Words.{kind_word}
 use Rattle.kube_types.specs.declared.key.Key.{Key}
+use Rattle.kube_types.specs.declared.objects.Object.{Object}
 use Rattle.call_types.specs.declared.request.Request.{Request}
 use Rattle.call_types.specs.declared.request.Request.TheVariants as asks
 use Rattle.call_types.specs.declared.setup.Pool.{Pool}
@@ -92,8 +93,17 @@ fault_data call = object_of ((codes "call", whole call) ∷ (codes "do", text (c
 unfoldable pub fault_text : ℕ → List ℕ
 fault_text call = compact_text (fault_data call)
 
+abbrev pub import_pairs : Object → MemberList
+import_pairs object = (codes "do", text (codes "import")) ∷ (codes "object", Some (object_data object)) ∷ []
+
+unfoldable pub import_data : Object → Data
+import_data object = object_of (import_pairs object)
+
+unfoldable pub import_text : Object → List ℕ
+import_text object = compact_text (import_data object)
+
 unfoldable pub script_lines : Script → List (List ℕ)
-script_lines s = pool_lines s.setup.pools s.sizes ++ (map fault_text s.setup.faults ++ map line_text s.lines)
+script_lines s = pool_lines s.setup.pools s.sizes ++ (map fault_text s.setup.faults ++ (map import_text s.setup.imports ++ map line_text s.lines))
 
 -- each line ends in a line feed
 abbrev pub script_text : Script → List ℕ

@@ -5,7 +5,7 @@ ghost use Rattle.json_text.specs.Members.{text, with_option, with_options, with_
 ghost use Rattle.json_text.specs.Writing.{written, with_value};
 ghost use Rattle.script_text.specs.declared.script.Line.TheVariants.{Call, Lose, Restart, Turn};
 ghost use Rattle.script_lines.specs.Members.{is_namespaced};
-ghost use Rattle.script_print.specs.Printing.{user_pairs, line_key_pairs, call_pairs, when_word, actor_pairs, line_pairs, line_data, pool_pairs, pool_data, fault_data};
+ghost use Rattle.script_print.specs.Printing.{user_pairs, line_key_pairs, call_pairs, when_word, actor_pairs, line_pairs, line_data, pool_pairs, pool_data, fault_data, import_data};
 
 use call_types::request::Request;
 use call_types::setup::Pool;
@@ -15,6 +15,7 @@ use json_text::member_texts::MemberTexts;
 use json_text::writing::JsonText;
 use kube_types::copies::OutOfMemory;
 use kube_types::key::Key;
+use kube_types::objects::Object;
 use object_print::members::{MemberSink, put_optional};
 use script_text::actors::Actor;
 use script_text::keys::is_namespaced;
@@ -183,5 +184,16 @@ pub fn write_fault(out: &mut JsonText, call: u64) -> Result<(), OutOfMemory>
     out.begin_object()?;
     out.put("call", &call)?;
     out.put_text("do", "fault")?;
+    out.end_object()
+}
+
+/// Puts the line of an imported object at the end.
+#[tactic(auto, using(crate::proofs::Closings::closes_import))]
+pub fn write_import(out: &mut JsonText, object: &Object) -> Result<(), OutOfMemory>
+    ensures { OnOk result (written out.new ≡ with_value (import_data object.now) (written out.old)) }
+{
+    out.begin_object()?;
+    out.put_text("do", "import")?;
+    out.put("object", object)?;
     out.end_object()
 }

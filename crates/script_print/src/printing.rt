@@ -2,14 +2,15 @@
 
 ghost use Rattle.std.specs.Prelude.{◌≡◌, [], OnOk, IfOk, decimal, map, option_map, unwrap_or};
 ghost use Rattle.history_text.specs.Output.{with_line, with_lines};
-ghost use Rattle.script_print.specs.Printing.{line_text, pool_text, pool_lines, fault_text, script_lines, script_text};
+ghost use Rattle.script_print.specs.Printing.{line_text, pool_text, pool_lines, fault_text, import_text, script_lines, script_text};
 
-use crate::lines::{write_fault, write_line, write_pool};
+use crate::lines::{write_fault, write_import, write_line, write_pool};
 use call_types::setup::Pool;
 use history_text::lines::Lines;
 use itoa::Buffer;
 use json_text::writing::JsonText;
 use kube_types::copies::OutOfMemory;
+use kube_types::objects::Object;
 use kube_types::text::{Bytes, Text};
 use script_text::script::{Line, Script};
 use std::alloc::Global;
@@ -46,6 +47,24 @@ fn push_faults(lines: &mut Lines, alloc: Global, faults: &[u64]) -> Result<(), O
 {
     for call in faults {
         push_fault(lines, alloc, *call)?;
+    }
+    Ok(())
+}
+
+#[tactic(auto, using(json_text::proofs::Closing::alone), unfolding(crate::specs::Printing::import_text))]
+fn push_import(lines: &mut Lines, alloc: Global, object: &Object) -> Result<(), OutOfMemory>
+    ensures ok { OnOk result (lines.new ≡ with_line lines.old (import_text object.now)) }
+{
+    let mut out = JsonText::new(alloc);
+    write_import(&mut out, object)?;
+    lines.push(out.as_slice())
+}
+
+fn push_imports(lines: &mut Lines, alloc: Global, imports: &[Object]) -> Result<(), OutOfMemory>
+    ensures ok { OnOk result (lines.new ≡ with_lines lines.old (map import_text imports.now)) }
+{
+    for object in imports {
+        push_import(lines, alloc, object)?;
     }
     Ok(())
 }
@@ -90,7 +109,7 @@ fn push_pools(
     Ok(())
 }
 
-/// The text of a script: its pools, its faults and its lines, each a line.
+/// The text of a script: its pools, its faults, its imported objects and its lines, each a line.
 #[tactic(auto, using(history_text::proofs::LineLists::with_lines_append), unfolding(crate::specs::Printing::script_lines))]
 pub fn print_script(alloc: Global, script: &Script) -> Result<Bytes, OutOfMemory>
     ensures { IfOk result (λ b. b ≡ script_text script.now) }
@@ -103,6 +122,7 @@ pub fn print_script(alloc: Global, script: &Script) -> Result<Bytes, OutOfMemory
         script.sizes.as_slice(),
     )?;
     push_faults(&mut lines, alloc, script.setup.faults.as_slice())?;
+    push_imports(&mut lines, alloc, script.setup.imports.as_slice())?;
     push_lines(&mut lines, alloc, script.lines.as_slice())?;
     Ok(lines.into_bytes())
 }

@@ -10,10 +10,9 @@ use Rattle.binder_model.specs.Due.{IsFirstDue, IsSettled}
 use Rattle.world_core.specs.declared.drained.Drained.{Drained}
 use Rattle.world_core.specs.declared.drained.Drained.TheVariants.{Settled, Spent}
 use Rattle.worker_threads.specs.declared.drainers.Drainer.{Drainer}
-use Rattle.worker_threads.specs.Drainers.{AreNew, AreNewAgents, AreStanding, HaveNoEntries, seats_of}
-use Rattle.worker_threads.specs.Longer.{IsOneOf}
-use Rattle.worker_threads.proofs.NewFacts.{new_seats as seats_of_new}
-use Rattle.worker_threads.specs.Rounds.{EndsWith, made_of}
+use Rattle.worker_threads.specs.Drainers.{AreNew, AreStanding, HaveNoEntries, seats_for, seats_of}
+use Rattle.worker_threads.proofs.NewFacts.{new_roles_for, new_seats_for}
+use Rattle.worker_threads.specs.Rounds.{EndsWith, all_pass, made_of}
 use Rattle.script_text.specs.declared.script.Line.{Line}
 use Rattle.script_text.specs.declared.script.Script.{Script}
 use Rattle.script_runs.specs.declared.player.Player.{Player}
@@ -21,8 +20,7 @@ use Rattle.script_runs.specs.declared.stage.Stage.{Stage}
 use Rattle.script_lines.specs.declared.actors.Actor.{Actor}
 use Rattle.script_lines.specs.declared.actors.WorkerKind.TheVariants as workers
 use Rattle.script_runs.specs.Budget.{first_budget}
-use Rattle.script_runs.specs.Parts.{drain_seat, drain_seats, first_actor_seat, seats_from}
-use Rattle.script_runs.specs.Diligent.{role_of}
+use Rattle.script_runs.specs.Parts.{drain_seat, drain_seats, first_actor_seat, role_of}
 use Rattle.script_runs.specs.Replays.{EndsAs, IsDrain, IsMove, IsReplay, MoreMoves, NoMoves, Progress, begun}
 use Rattle.script_runs.specs.Steps.Living.{Lives}
 use Rattle.worker_core.specs.declared.role.Role.{Role}
@@ -50,24 +48,10 @@ first_most : (option : Option ℕ) → IsBudget option (first_budget option)
 first_most (Some given) = refl
 first_most None = omega arith
 
--- ---- the seats of the new drainers are seats of the drains
+-- ---- the new drainers
 
-agent_seats : (first from : ℕ) (nodes : List (List ℕ)) (ds : List Drainer) → first ≡ from → AreNewAgents first nodes ds → (seat : ℕ) → IsOneOf (seats_of ds) seat → IsOneOf (seats_from from nodes) seat
-agent_seats first from [] ds same new seat own = subst (λ (xs : List Drainer). IsOneOf (seats_of xs) seat) new own
-agent_seats first from (node ∷ nodes) [] same new seat own = absurd new
-agent_seats first from (node ∷ nodes) (d ∷ ds) same new seat (inl at) = inl (sym same ∙ sym new.0.at ∙ at)
-agent_seats first from (node ∷ nodes) (d ∷ ds) same new seat (inr own) = inr (agent_seats (first + 1) (from + 1) nodes ds (ap (λ n. n + 1) same) new.1 seat own)
-
-new_seats : (script : Script) (first : ℕ) (ds : List Drainer) → AreNew first script.node_names ds → first ≡ drain_seat script → (seat : ℕ) → IsOneOf (seats_of ds) seat → IsOneOf (drain_seats script) seat
-new_seats script first ds new is seat own = by (subst (λ xs. IsOneOf xs seat) (seats_of_new first script.node_names ds new) own)
-  where
-    by : IsOneOf ((first + 2) ∷ (first + 1) ∷ first ∷ (first + 3) ∷ (first + 4) ∷ seats_of new.agents) seat → IsOneOf (drain_seats script) seat
-    by (inl at) = inr (inr (inl (ap (λ n. n + 2) (sym is) ∙ at)))
-    by (inr (inl at)) = inr (inl (ap (λ n. n + 1) (sym is) ∙ at))
-    by (inr (inr (inl at))) = inl (sym is ∙ at)
-    by (inr (inr (inr (inl at)))) = inr (inr (inr (inl (ap (λ n. n + 3) (sym is) ∙ at))))
-    by (inr (inr (inr (inr (inl at))))) = inr (inr (inr (inr (inl (ap (λ n. n + 4) (sym is) ∙ at)))))
-    by (inr (inr (inr (inr (inr later))))) = inr (inr (inr (inr (inr (agent_seats (first + 5) (drain_seat script + 5) script.node_names new.agents (ap (λ n. n + 5) is) new.agents_are seat later)))))
+new_seats : (script : Script) (first : ℕ) (ds : List Drainer) → AreNew first script.node_names ds → first ≡ drain_seat script → seats_of ds ≡ drain_seats script
+new_seats script first ds new is = new_seats_for first script.node_names ds new ∙ ap (λ n. seats_for n script.node_names) is
 
 -- ---- the players
 
@@ -161,10 +145,11 @@ begins script option s first past setup added are seat stand drained budget =
       setup = setup;
       parts = parts_new lines actors first_actor_seat items new;
       plays = λ place x at named. let some = some_actor lines actors first_actor_seat items new place x at in subst (λ h. Plays x h (λ seat. [])) (sym past) (new_plays some.0 x some.1);
-      lives = λ place actor x there at named. subst (Lives (role_of actor) x) (sym past) (new_lives (role_of actor) x (each_new lines actors first_actor_seat items new place actor x there at));
+      lives = λ place actor x there at named. subst (λ h. Lives (role_of actor) x h (λ seat. [])) (sym past) (new_lives (role_of actor) x (each_new lines actors first_actor_seat items new place actor x there at));
       made = λ place x at. (some_actor lines actors first_actor_seat items new place x at).1.made;
       drainers = subst (AreStanding s.drainers) (sym past) (stand [] (none_yet (seats_of s.drainers)));
       seats = new_seats script first s.drainers are seat;
+      roles = new_roles_for first script.node_names s.drainers are;
       drained = drained;
       budget = budget;
       few = omega (arith, drained);
@@ -192,10 +177,6 @@ so_far_on script option place line old new at so moved =
 
 -- ---- the end
 
-pub ends_by : (setup : Setup) (past : List Entry) (left : ℕ) (d : Drained) → EndsWith setup past left d → IsSettled setup (world setup past) ⊎ (made_of d ≡ left)
-ends_by setup past left (Settled made) ends = inl ends
-ends_by setup past left (Spent made key due) ends = inr ends.0
-
 ends_as : (script : Script) (option : Option ℕ) (after : Progress) (s : Stage) (d : Drained) → Stands script option after s → made_of d ≤ s.drained → EndsWith s.world.setup s.world.past (s.budget - (s.drained - made_of d)) d → EndsAs script.setup after (with_made s.drained d)
 ends_as script option after s (Settled made) stands some ends = (stands.drained, subst (λ h. IsSettled script.setup (world script.setup h)) stands.past (subst (λ u. IsSettled u (world u s.world.past)) stands.setup ends))
 ends_as script option after s (Spent made key due) stands some ends =
@@ -204,7 +185,7 @@ ends_as script option after s (Spent made key due) stands some ends =
     let budget = stands.budget in
     (stands.drained, omega (arith, spent, some, few, budget), subst (λ h. IsFirstDue script.setup (world script.setup h) (Some (key, due))) stands.past (subst (λ u. IsFirstDue u (world u s.world.past) (Some (key, due))) stands.setup ends.1))
 
-pub has_ended : (script : Script) (option : Option ℕ) (old new : Stage) (d ending : Drained) → HasMoved script option (IsDrain script option) old new → made_of d ≤ new.drained → EndsWith new.world.setup new.world.past (new.budget - (new.drained - made_of d)) d → ending ≡ with_made new.drained d
+pub has_ended : (script : Script) (option : Option ℕ) (old new : Stage) (d ending : Drained) → HasMoved script option (IsDrain all_pass script option) old new → made_of d ≤ new.drained → EndsWith new.world.setup new.world.past (new.budget - (new.drained - made_of d)) d → ending ≡ with_made new.drained d
     → (p : Progress) → Stands script option p old → Ended script option p new ending
 has_ended script option old new d ending moved some ends is p stands =
     let leads = moved p stands in

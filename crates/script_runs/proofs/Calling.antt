@@ -1,5 +1,5 @@
 -- What one call of an actor makes of the history, and of what the actor stands for.
-use Rattle.std.proofs.Common.{◌≡◌, ◌≢◌, ◌<◌, ℕ, List, ◌∷◌, length, Bool, true, false, Option, Some, None, refl, sym, ◌∙◌, ap, subst}
+use Rattle.std.proofs.Common.{◌≡◌, ◌≢◌, ◌<◌, ℕ, List, ◌∷◌, ◌++◌, length, Bool, true, false, Option, Some, None, refl, sym, ◌∙◌, ap, subst}
 use Rattle.call_types.specs.declared.entry.Entry.{Entry}
 use Rattle.call_types.specs.declared.request.Request.{Request}
 use Rattle.call_types.specs.declared.request.SeatKind.{SeatKind}
@@ -9,7 +9,7 @@ use Rattle.binder_model.specs.Promises.{most_entries}
 use Rattle.binder_model.specs.Told.{own}
 use Rattle.binder_model.specs.World.{IsHistory}
 use Rattle.attention_law.specs.Diligence.{entries}
-use Rattle.attention_law.specs.Played.{LostAfter as PlayedLostAfter, LostBefore as PlayedLostBefore, Told as PlayedTold}
+use Rattle.attention_law.specs.Resting.{Drops, Hears, Misses}
 use Rattle.informer_cache.specs.Cache.{IsTold}
 use Rattle.model_laws.proofs.Evidence.{own_mine, own_other}
 use Rattle.world_core.specs.Kept.{History}
@@ -84,11 +84,11 @@ module _ (seat : ℕ) (before after : History) (old new : State) (kind : SeatKin
       → new ≡ absorbed old new.caches request (outcomes.Told reply)
       → ((mine : List Entry) (e : Entry) (r : Reply) → outcomes.Told reply ≡ outcomes.Told r → IsTold e request r → e.kind ≡ old.role.kind → AreOwn (e ∷ mine) → StandsFor old mine → StandsFor new (e ∷ mine))
       → GoesOn seat Told request before after old new
-  told_goes is state absorbs role s calls played turns own_is = record {
+  told_goes is state absorbs role s earlier since played turns own_is = record {
     call = Some e;
     left = refl;
     own = ap (λ m. e ∷ m) own_is ∙ sym (front true is);
-    played = PlayedTold s calls e request reply played refl answered (record { turned = old; turns = turns; takes = state }) (absorbs (entries calls) e reply refl answered of (subst (λ m. AreOwn (e ∷ m)) (sym own_is) (are_own true is)) turns.stands);
+    played = Hears s since e request reply played refl answered (record { turned = old; turns = turns; takes = state }) (absorbs (entries (since ++ earlier)) e reply refl answered of (subst (λ m. AreOwn (e ∷ m)) (sym own_is) (are_own true is)) turns.stands);
   }
     where
       e : Entry
@@ -101,21 +101,21 @@ module _ (seat : ℕ) (before after : History) (old new : State) (kind : SeatKin
       → new ≡ absorbed old new.caches request outcomes.Lost
       → ((mine : List Entry) (e : Entry) → outcomes.Lost ≡ outcomes.Lost → e.told ≡ false → e.request ≡ request → e.kind ≡ old.role.kind → AreOwn (e ∷ mine) → StandsFor old mine → StandsFor new (e ∷ mine))
       → GoesOn seat LostAfter request before after old new
-  untold_goes is state absorbs role s calls played turns own_is = record {
+  untold_goes is state absorbs role s earlier since played turns own_is = record {
     call = Some (entry_of seat kind request reply false);
     left = refl;
     own = ap (λ m. entry_of seat kind request reply false ∷ m) own_is ∙ sym (front false is);
-    played = PlayedLostAfter s calls (entry_of seat kind request reply false) request played refl refl refl (record { turned = old; turns = turns; takes = state })
-        (absorbs (entries calls) (entry_of seat kind request reply false) refl refl refl of (subst (λ m. AreOwn (entry_of seat kind request reply false ∷ m)) (sym own_is) (are_own false is)) turns.stands);
+    played = Misses s since (entry_of seat kind request reply false) request played refl refl refl (record { turned = old; turns = turns; takes = state })
+        (absorbs (entries (since ++ earlier)) (entry_of seat kind request reply false) refl refl refl of (subst (λ m. AreOwn (entry_of seat kind request reply false ∷ m)) (sym own_is) (are_own false is)) turns.stands);
   }
 
 pub lost_goes : (seat : ℕ) (world : History) (old new : State) (request : Request) → new ≡ absorbed old new.caches request outcomes.Lost
     → ((mine : List Entry) → outcomes.Lost ≡ outcomes.Lost → StandsFor old mine → StandsFor new mine) → GoesOn seat LostBefore request world world old new
-lost_goes seat world old new request state absorbs role s calls played turns own_is = record {
+lost_goes seat world old new request state absorbs role s earlier since played turns own_is = record {
   call = None;
   left = refl;
   own = own_is;
-  played = PlayedLostBefore s calls request played refl (record { turned = old; turns = turns; takes = state }) (absorbs (entries calls) refl turns.stands);
+  played = Drops s since request played refl (record { turned = old; turns = turns; takes = state }) (absorbs (entries (since ++ earlier)) refl turns.stands);
 }
 
 pub lost_called : (seat : ℕ) (world : History) (old new : State) (kind : SeatKind) (request : Request) → new ≡ absorbed old new.caches request outcomes.Lost

@@ -1,5 +1,7 @@
 -- The examples compute.
 use Rattle.std.proofs.Common.{◌≡◌, refl, arith}
+use Rattle.binder_model.specs.Fields.{create_fault, faulty, kind_fault}
+use Rattle.binder_model.specs.Imports.{import_fault, fault_if, fault_of_field}
 use Rattle.script_runs.specs.Examples.{BudgetExamples, FateExamples, LimitExamples, PartExamples, SeatExamples}
 
 pub fates : FateExamples
@@ -62,9 +64,10 @@ budgets = record {
 }
 
 pub limits : LimitExamples
+unfolding import_fault fault_if fault_of_field create_fault faulty kind_fault
 limits = record {
   within = record {
-    imports = refl;
+    imports = tt;
     lines = (omega arith, (omega arith, (tt, (tt, (tt, (tt, (tt, (tt, (tt, tt)))))))));
     few = omega arith;
     nodes = omega arith;
@@ -76,7 +79,7 @@ limits = record {
   no_longer_turn = λ h. let turn = h.lines.0 in absurd (omega (arith, turn));
   no_ninth_node = λ h. let nodes = h.nodes in absurd (omega (arith, nodes));
   agents_of_its_nodes = record {
-    imports = refl;
+    imports = tt;
     lines = (omega arith, (tt, (tt, (omega arith, (omega arith, tt)))));
     few = omega arith;
     nodes = omega arith;
@@ -86,5 +89,6 @@ limits = record {
   no_other_agent = λ h. let known = h.known.0 in absurd (cc);
   no_node_twice = λ h. let order = h.order.0.0 in absurd (cc);
   no_other_order = λ h. let order = h.order.0.0 in absurd (cc);
-  no_imports = λ h. let imports = h.imports in absurd (cc);
+  an_import = record { imports = (refl, tt); lines = tt; few = omega arith; nodes = omega arith; order = (tt, tt); known = tt };
+  none_without_a_uid = λ h. let imports = h.imports.0 in absurd (cc);
 }

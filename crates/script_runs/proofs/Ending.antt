@@ -9,12 +9,13 @@ use Rattle.script_lines.specs.declared.actors.Actor.{Actor}
 use Rattle.script_lines.specs.Actors.{actor_word}
 use Rattle.script_text.specs.declared.script.Line.TheVariants as kinds_of_line
 use Rattle.script_text.specs.declared.script.Script.{Script}
+use Rattle.attention_law.specs.Diligence.{entries}
 use Rattle.script_runs.specs.declared.part.Part.{Part}
 use Rattle.script_runs.specs.Limits.{IsKnown, IsReadable}
-use Rattle.script_runs.specs.Parts.{is_named, lives_of, part_of}
+use Rattle.script_runs.specs.Parts.{is_named, lives_of, part_of, role_of}
 use Rattle.script_runs.specs.declared.player.Player.{Player}
 use Rattle.script_runs.specs.declared.stage.Stage.{Stage}
-use Rattle.script_runs.specs.Diligent.{AreDiligent, IsDiligentLife, IsDiligentReplay, role_of}
+use Rattle.script_runs.specs.Diligent.{AreDiligent, IsDiligentLife, IsDiligentReplay}
 use Rattle.script_runs.specs.Replays.{NoMoves, Progress}
 use Rattle.script_runs.specs.Steps.Standing.{Ended, SoFar, SomeStands, Stands, parts_in, place_of}
 use Rattle.script_runs.proofs.Casting.{actor_at, known_at, named_at, part_of_actor}
@@ -43,7 +44,7 @@ module _ (script : Script) (option : Option ℕ) (end : Progress) (s : Stage) (r
           let part : part_of script actor ≡ x.part = its_part script option actor s readable known some x at in
           let its : x.part.named ≡ true = its_name script option actor s readable known some x at named in
           let lives = stands.lives place actor x (actor_at script.node_names actor known) at its in
-          let life = each_life (role_of actor) x s.world.past end.idle (stands.plays place x at its) lives seat
+          let life = each_life (role_of actor) x s.world.past (λ seat_. entries (end.idle seat_)) end.idle (stands.plays place x at its) lives seat
           (subst (λ (p : Part). p.first ≤ seat) part low) (subst (λ (p : Part). seat < p.first + lives_of p) part high) in
           subst (λ h. IsDiligentLife (role_of actor) (part_of script actor) seat (end.made (part_of script actor).name) h) stands.past
           (subst (λ (p : Part). IsDiligentLife (role_of actor) p seat (end.made p.name) s.world.past) (sym part)

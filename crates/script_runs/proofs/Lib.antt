@@ -3,6 +3,7 @@ pub mod Readable
 mod Beginning
 pub mod Casting
 mod Calling
+pub mod Draining
 mod Ending
 mod Lived
 mod Lives
@@ -13,4 +14,3 @@ pub mod Since
 mod Staging
 mod Stepping
 mod Turning
-mod Stale

@@ -1,5 +1,5 @@
--- The lives of an actor as it is played: each that has ended is diligent.
-use Rattle.std.proofs.Common.{◌≡◌, ◌≢◌, ℕ, zero, suc, ◌<◌, ◌≤◌, ◌+◌, List, [], ◌∷◌, ◌++◌, map, Bool, true, false, Some, refl, sym, ◌∙◌, ap, subst, arith}
+-- The lives of an actor as it is played: each that has ended is diligent, and each of its calls was needed.
+use Rattle.std.proofs.Common.{◌≡◌, ◌≢◌, ℕ, zero, suc, ◌<◌, ◌≤◌, ◌+◌, List, [], ◌∷◌, ◌++◌, map, Bool, true, false, Some, inl, inr, refl, sym, ◌∙◌, ap, subst, arith}
 use Rattle.std.specs.Prelude.{◌==◌, is_some, nat_lt}
 use Rattle.std.proofs.lemmas.Bool.Decides.{Decides-eqb, nat_tests}
 use Rattle.kube_types.specs.Keys.{AreRows}
@@ -7,8 +7,12 @@ use Rattle.call_types.specs.declared.entry.Entry.{Entry}
 use Rattle.call_types.specs.declared.request.Request.{Request}
 use Rattle.binder_model.specs.Told.{own}
 use Rattle.attention_law.specs.Diligence.{Call, IsDiligent, entries}
-use Rattle.attention_law.specs.Played.{Begins, Wakes}
+use Rattle.attention_law.specs.Played.{Turns}
+use Rattle.attention_law.specs.Resting.{IsDone, Resumes, Starts, WasToldStale}
 use Rattle.attention_law.proofs.Following.{played_is_diligent, same_role, stands_now}
+use Rattle.attention_law.proofs.Needed.{played_is_needed, played_on}
+use Rattle.attention_law.proofs.Resting.{idle_is_done}
+use Rattle.attention_law.proofs.Silent.{played_is_silent}
 use Rattle.informer_cache.specs.All.{all_objects}
 use Rattle.world_core.specs.Kept.{History}
 use Rattle.worker_core.specs.declared.role.Role.{Role}
@@ -23,9 +27,10 @@ use Rattle.script_runs.specs.declared.part.Part.{Part}
 use Rattle.script_runs.specs.Fates.{fate_of}
 use Rattle.script_runs.specs.Parts.{lives_of}
 use Rattle.script_runs.specs.declared.player.Player.{Player}
-use Rattle.script_runs.specs.Calls.{restarts_before, seat_at}
-use Rattle.script_runs.specs.Diligent.{AreOfLife, IsDiligentLife, leaves_entry, left_by}
-use Rattle.script_runs.specs.Steps.Living.{GoesOn, Lives, LivesIdle, Living}
+use Rattle.script_runs.specs.Calls.{AreNeededLives, AreOfLife, IsNeededLife, leaves_entry, left_by, restarts_before, seat_at}
+use Rattle.script_runs.specs.Diligent.{IsDiligentLife}
+use Rattle.script_runs.specs.Replays.{and_idle}
+use Rattle.script_runs.specs.Steps.Living.{GoesOn, HasLasted, LivedAll, LivedFewer, Lives, LivesIdle, Living, NeededSoFar}
 use Rattle.script_runs.specs.Steps.Playing.{IsLife, IsNewPlayer, Plays}
 use Rattle.script_runs.proofs.Lives.{seat_more, seat_within}
 use Rattle.script_runs.proofs.Stepping.{less}
@@ -71,109 +76,198 @@ none_diligent role kind first fourth earlier between later is four key due = abs
 no_life : (part : Part) (seat made : ℕ) (past : List Entry) → own seat past ≡ [] → seat_at part made < seat → AreOfLife part seat made past []
 no_life part seat made past none before = record { of_seat = sym none; left = sym (left_none part seat made before) }
 
-ended_life : (role : Role) (part : Part) (seat made : ℕ) (past : List Entry) (s : State) → IsBuiltKind role.kind → Living role part seat made past s → IsDiligentLife role part seat made past
-ended_life role part seat made past s built living = record { calls = living.calls; are = living.are; diligent = played_is_diligent role s living.calls built living.played }
+needed_life : (role : Role) (part : Part) (seat made : ℕ) (past : List Entry) (earlier : List Call) (s : State) → Living role part seat made past earlier s → IsNeededLife role part seat made past earlier
+needed_life role part seat made past earlier s living = record {
+  since = living.since;
+  are = living.are;
+  needed = played_is_needed role s earlier living.since living.played;
+  silent = played_is_silent role s (living.since ++ earlier) (played_on role s earlier living.since living.played);
+}
+
+ended_life : (role : Role) (part : Part) (seat made : ℕ) (past : List Entry) (earlier : List Call) (s : State) → IsBuiltKind role.kind → Living role part seat made past earlier s → HasLasted role part seat made past earlier
+ended_life role part seat made past earlier s built living = record {
+  diligent = record { calls = living.since ++ earlier; are = living.are; diligent = played_is_diligent role s (living.since ++ earlier) built (played_on role s earlier living.since living.played) };
+  needed = needed_life role part seat made past earlier s living;
+}
 
 -- what others do leaves it
-kept_life : (role : Role) (part : Part) (seat made then_made : ℕ) (past later : List Entry) → own seat later ≡ own seat past → left_by part seat then_made ≡ left_by part seat made → IsDiligentLife role part seat made past → IsDiligentLife role part seat then_made later
-kept_life role part seat made then_made past later same left life = record {
-  calls = life.calls;
-  are = record { of_seat = life.are.of_seat ∙ sym same; left = life.are.left ∙ sym left };
-  diligent = life.diligent;
+kept_life : (role : Role) (part : Part) (seat made then_made : ℕ) (past later : List Entry) (earlier : List Call) → own seat later ≡ own seat past → left_by part seat then_made ≡ left_by part seat made → HasLasted role part seat made past earlier → HasLasted role part seat then_made later earlier
+kept_life role part seat made then_made past later earlier same left life = record {
+  diligent = record {
+    calls = life.diligent.calls;
+    are = record { of_seat = life.diligent.are.of_seat ∙ sym same; left = life.diligent.are.left ∙ sym left };
+    diligent = life.diligent.diligent;
+  };
+  needed = record {
+    since = life.needed.since;
+    are = record { of_seat = life.needed.are.of_seat ∙ sym same; left = life.needed.are.left ∙ sym left };
+    needed = life.needed.needed;
+    silent = life.needed.silent;
+  };
+}
+
+-- a life that no call has reached
+unborn_life : (role : Role) (part : Part) (seat made : ℕ) (past : List Entry) (earlier : List Call) → own seat past ≡ [] → seat_at part made < seat → earlier ≡ [] → HasLasted role part seat made past earlier
+unborn_life role part seat made past earlier none before first = record {
+  diligent = record { calls = []; are = no_life part seat made past none before; diligent = none_diligent role };
+  needed = subst (IsNeededLife role part seat made past) (sym first) (record { since = []; are = no_life part seat made past none before; needed = tt; silent = tt });
 }
 
 -- each life so far, and each later one
-pub each_life : (role : Role) (x : Player) (past : List Entry) (idle : ℕ → List Entry) → Plays x past idle → Lives role x past → (seat : ℕ) → x.part.first ≤ seat → seat < x.part.first + lives_of x.part → IsDiligentLife role x.part seat x.made past
-each_life role x past idle plays lives seat low high = by (nat_lt seat x.seat) (nat_lt x.seat seat) refl refl
+pub each_lasted : (role : Role) (x : Player) (past : List Entry) (told : ℕ → List Entry) (idle : ℕ → List Call) → Plays x past told → Lives role x past idle → (seat : ℕ) → x.part.first ≤ seat → seat < x.part.first + lives_of x.part → HasLasted role x.part seat x.made past (idle seat)
+each_lasted role x past told idle plays lives seat low high = by (nat_lt seat x.seat) (nat_lt x.seat seat) refl refl
   where
-    by : (b a : Bool) → nat_lt seat x.seat ≡ b → nat_lt x.seat seat ≡ a → IsDiligentLife role x.part seat x.made past
+    by : (b a : Bool) → nat_lt seat x.seat ≡ b → nat_lt x.seat seat ≡ a → HasLasted role x.part seat x.made past (idle seat)
     by true a eb ea = lives.ended seat low (grind (arith, nat_tests))
     by false true eb ea =
         let after : x.seat < seat = grind (arith, nat_tests) in
         let began = lives.began in
-        record { calls = []; are = no_life x.part seat x.made past (plays.unborn seat after high).0 (omega (arith, began, after)); diligent = none_diligent role }
+        unborn_life role x.part seat x.made past (idle seat) (plays.unborn seat after high).0 (omega (arith, began, after)) (lives.unborn seat after high)
     by false false eb ea =
         let same : x.seat ≡ seat = grind (arith, nat_tests) in
-        subst (λ s. IsDiligentLife role x.part s x.made past) same (ended_life role x.part x.seat x.made past x.actor lives.built lives.living)
+        subst (λ s. HasLasted role x.part s x.made past (idle s)) same (ended_life role x.part x.seat x.made past (idle x.seat) x.actor lives.built lives.living)
+
+pub each_life : (role : Role) (x : Player) (past : List Entry) (told : ℕ → List Entry) (idle : ℕ → List Call) → Plays x past told → Lives role x past idle → (seat : ℕ) → x.part.first ≤ seat → seat < x.part.first + lives_of x.part → IsDiligentLife role x.part seat x.made past
+each_life role x past told idle plays lives seat low high = (each_lasted role x past told idle plays lives seat low high).diligent
+
+-- those up to the player's
+needed_so_far : (role : Role) (x : Player) (past : List Entry) (idle : ℕ → List Call) → Lives role x past idle → NeededSoFar role x past idle
+needed_so_far role x past idle lives seat low high = by (nat_lt seat x.seat) refl
+  where
+    by : (b : Bool) → nat_lt seat x.seat ≡ b → IsNeededLife role x.part seat x.made past (idle seat)
+    by true e = (lives.ended seat low (grind (arith, nat_tests))).needed
+    by false e =
+        let same : x.seat ≡ seat = grind (arith, nat_tests) in
+        subst (λ s. IsNeededLife role x.part s x.made past (idle s)) same (needed_life role x.part x.seat x.made past (idle x.seat) x.actor lives.living)
+
+-- and all
+pub all_needed : (role : Role) (x : Player) (past : List Entry) (idle : ℕ → List Call) → seat_at x.part x.made ≤ x.seat → ((seat : ℕ) → x.seat < seat → seat < x.part.first + lives_of x.part → (own seat past ≡ []) × (idle seat ≡ [])) → NeededSoFar role x past idle → AreNeededLives role x.part x.made past idle
+all_needed role x past idle began unborn so_far seat low high = by (nat_lt x.seat seat) refl
+  where
+    by : (b : Bool) → nat_lt x.seat seat ≡ b → IsNeededLife role x.part seat x.made past (idle seat)
+    by false e = so_far seat low (grind (arith, nat_tests))
+    by true e =
+        let after : x.seat < seat = grind (arith, nat_tests) in
+        let none = unborn seat after high in
+        (unborn_life role x.part seat x.made past (idle seat) none.0 (omega (arith, began, after)) none.1).needed
 
 -- ---- steps
 
 -- a later life begins
-pub next_lives : (role : Role) (old : Player) (seat : ℕ) (actor : State) (past : List Entry) (idle : ℕ → List Entry) → old.part.named ≡ true → seat ≡ seat_at old.part (old.made + 1) → seat ≢ old.seat → IsNew old.actor.role actor → StandsFor actor [] → Plays old past idle
-    → Lives role old past → Lives role (record old { seat = seat; actor = actor }) past
-next_lives role old seat actor past idle named is other new stands plays lives =
+pub next_lives : (role : Role) (old : Player) (seat : ℕ) (actor : State) (past : List Entry) (told : ℕ → List Entry) (idle : ℕ → List Call) → old.part.named ≡ true → seat ≡ seat_at old.part (old.made + 1) → seat ≢ old.seat → IsNew old.actor.role actor → StandsFor actor [] → Plays old past told
+    → Lives role old past idle → Lives role (record old { seat = seat; actor = actor }) past idle
+next_lives role old seat actor past told idle named is other new stands plays lives =
     let within = seat_within old.part (old.made + 1) named in
     let later : old.seat < seat = less old.seat seat (seat_at old.part (old.made + 1)) plays.reached is other in
-    let none = plays.unborn seat later (omega (arith, within, is)) in
-    let its : old.actor.role ≡ role = same_role role old.actor lives.living.calls lives.living.played in
+    let below : seat < old.part.first + lives_of old.part = omega (arith, within, is) in
+    let none = plays.unborn seat later below in
+    let first = lives.unborn seat later below in
+    let its : old.actor.role ≡ role = same_role role old.actor (lives.living.since ++ idle old.seat) (played_on role old.actor (idle old.seat) lives.living.since lives.living.played) in
     record {
       built = lives.built;
       began = let more = seat_more old.part old.made in omega (arith, more, is);
-      living = record {
-        calls = [];
+      living = subst (λ c. Living role old.part seat old.made past c actor) (sym first) (record {
+        since = [];
         are = no_life old.part seat old.made past none.0 (let b = lives.began in omega (arith, b, later));
-        played = Begins refl (subst (λ r. IsNew r actor) its new) stands;
-      };
-      ended = λ s low below. each_life role old past idle plays lives s low (omega (arith, below, is, within));
+        played = Starts refl refl (subst (λ r. IsNew r actor) its new) stands;
+      });
+      ended = λ s low under. each_lasted role old past told idle plays lives s low (omega (arith, under, is, within));
+      unborn = λ s after under. lives.unborn s (omega (arith, later, after)) under;
     }
 
 -- a call was made
-pub made_lives : (role : Role) (mid : Player) (given actor : State) (request : Request) (fate : Fate) (before after : History) → mid.seat ≡ seat_at mid.part (mid.made + 1) → fate ≡ fate_of mid.part.losses (mid.made + 1)
+pub made_lives : (role : Role) (mid : Player) (given actor : State) (request : Request) (fate : Fate) (before after : History) (idle : ℕ → List Call) → mid.seat ≡ seat_at mid.part (mid.made + 1) → fate ≡ fate_of mid.part.losses (mid.made + 1)
     → AreRows (all_objects mid.actor.caches) → IsTurn mid.actor given (nexts.Call request) → ((mine : List Entry) → StandsFor mid.actor mine → StandsFor given mine) → GoesOn mid.seat fate request before after given actor
-    → ((other : ℕ) → other ≢ mid.seat → own other after.past ≡ own other before.past) → Lives role mid before.past → Lives role (record mid { made = mid.made + 1; actor = actor }) after.past
-made_lives role mid given actor request fate before after is lost order turn keeps goes others lives =
+    → ((other : ℕ) → other ≢ mid.seat → own other after.past ≡ own other before.past) → Lives role mid before.past idle → Lives role (record mid { made = mid.made + 1; actor = actor }) after.past idle
+made_lives role mid given actor request fate before after idle is lost order turn keeps goes others lives =
     let living = lives.living in
-    let stands = stands_now role mid.actor living.calls living.played in
-    let went = goes role mid.actor living.calls living.played (record { order = order; turn = turn; stands = keeps (entries living.calls) stands }) living.are.of_seat in
+    let calls = living.since ++ idle mid.seat in
+    let stands = stands_now role mid.actor calls (played_on role mid.actor (idle mid.seat) living.since living.played) in
+    let went = goes role mid.actor (idle mid.seat) living.since living.played (record { order = order; turn = turn; stands = keeps (entries calls) stands }) living.are.of_seat in
     record {
       built = lives.built;
       began = omega (arith, is);
       living = record {
-        calls = went.call ∷ living.calls;
+        since = went.call ∷ living.since;
         are = record {
           of_seat = went.own;
-          left = ap (λ b. b ∷ map is_some living.calls) (went.left ∙ ap leaves_entry lost) ∙ ap (λ bs. leaves_entry (fate_of mid.part.losses (mid.made + 1)) ∷ bs) living.are.left ∙ sym (left_own mid.part mid.seat mid.made is);
+          left = ap (λ b. b ∷ map is_some calls) (went.left ∙ ap leaves_entry lost) ∙ ap (λ bs. leaves_entry (fate_of mid.part.losses (mid.made + 1)) ∷ bs) living.are.left ∙ sym (left_own mid.part mid.seat mid.made is);
         };
         played = went.played;
       };
       ended = λ s low below.
-          kept_life role mid.part s mid.made (mid.made + 1) before.past after.past (others s (λ e. absurd (omega (arith, e, below)))) (left_other mid.part s mid.made (λ e. absurd (omega (arith, e, is, below)))) (lives.ended s low below);
+          kept_life role mid.part s mid.made (mid.made + 1) before.past after.past (idle s) (others s (λ e. absurd (omega (arith, e, below)))) (left_other mid.part s mid.made (λ e. absurd (omega (arith, e, is, below)))) (lives.ended s low below);
+      unborn = lives.unborn;
     }
 
 -- the turn gave none
-pub idle_lives : (role : Role) (mid : Player) (given : State) (past : List Entry) → AreRows (all_objects mid.actor.caches) → IsTurn mid.actor given nexts.Idle → ((mine : List Entry) → StandsFor mid.actor mine → StandsFor given mine) → Lives role mid past → LivesIdle role (record mid { actor = given }) past
-idle_lives role mid given past order turn keeps lives =
+pub idle_lives : (role : Role) (mid : Player) (given : State) (past : List Entry) (idle : ℕ → List Call) → AreRows (all_objects mid.actor.caches) → IsTurn mid.actor given nexts.Idle → ((mine : List Entry) → StandsFor mid.actor mine → StandsFor given mine) → Lives role mid past idle → LivesIdle role (record mid { actor = given }) past idle
+idle_lives role mid given past idle order turn keeps lives =
     let living = lives.living in
-    let stands = stands_now role mid.actor living.calls living.played in
+    let calls = living.since ++ idle mid.seat in
+    let stands = stands_now role mid.actor calls (played_on role mid.actor (idle mid.seat) living.since living.played) in
     record {
       before = mid.actor;
       lives = lives;
-      turns = record { order = order; turn = turn; stands = subst (StandsFor given) living.are.of_seat (keeps (entries living.calls) stands) };
+      turns = record { order = order; turn = turn; stands = subst (StandsFor given) living.are.of_seat (keeps (entries calls) stands) };
     }
 
--- and the actor is woken
-pub woken_lives : (role : Role) (p : Player) (actor : State) (past : List Entry) → actor ≡ woken p.actor → ((mine : List Entry) → StandsFor p.actor mine → StandsFor actor mine) → LivesIdle role p past → Lives role (record p { actor = actor }) past
-woken_lives role p actor past is keeps idle =
-    let living = idle.lives.living in
-    let stands : StandsFor p.actor (entries living.calls) = subst (StandsFor p.actor) (sym living.are.of_seat) idle.turns.stands in
-    record {
-      built = idle.lives.built;
-      began = idle.lives.began;
-      living = record {
-        calls = living.calls;
-        are = living.are;
-        played = Wakes idle.before p.actor living.played (record { order = idle.turns.order; turn = idle.turns.turn; stands = stands }) is (keeps (entries living.calls) stands);
-      };
-      ended = idle.lives.ended;
-    }
+at_seat : (seat : ℕ) (calls : List Call) (idle : ℕ → List Call) → and_idle seat calls idle seat ≡ calls
+at_seat seat calls idle = let same : (seat == seat) ≡ true = (Decides-eqb seat seat).1 refl in rw same refl
+
+at_other : (seat other : ℕ) (calls : List Call) (idle : ℕ → List Call) → other ≢ seat → and_idle seat calls idle other ≡ idle other
+at_other seat other calls idle differs = by (other == seat) refl
+  where
+    by : (b : Bool) → (other == seat) ≡ b → and_idle seat calls idle other ≡ idle other
+    by true e = absurd (differs ((Decides-eqb other seat).0 e))
+    by false e = rw e refl
+
+-- and the actor is woken: its life has done what it was told
+pub woken_lives : (role : Role) (calls : ℕ) (old p : Player) (actor : State) (past : List Entry) (idle : ℕ → List Call) → p.made < old.made + calls → actor ≡ woken p.actor → ((mine : List Entry) → StandsFor p.actor mine → StandsFor actor mine) → LivesIdle role p past idle
+    → LivedFewer role calls past idle old (record p { actor = actor })
+woken_lives role calls old p actor past idle few is keeps was = record {
+  few = few;
+  needed = needed_so_far role (record p { actor = was.before }) past idle was.lives;
+  since = living.since;
+  are = living.are;
+  done = λ unstale. idle_is_done role was.before p.actor (idle p.seat) living.since was.lives.built living.played turns (λ told. unstale (subst (WasToldStale role.kind) living.are.of_seat told));
+  lives = record {
+    built = was.lives.built;
+    began = was.lives.began;
+    living = subst (λ c. Living role p.part p.seat p.made past c actor) (sym (at_seat p.seat made idle)) (record {
+      since = [];
+      are = living.are;
+      played = Resumes was.before p.actor (idle p.seat) living.since living.played refl refl turns is (keeps (entries made) turns.stands);
+    });
+    ended = λ s low below. subst (HasLasted role p.part s p.made past) (sym (at_other p.seat s made idle (λ e. absurd (omega (arith, e, below))))) (was.lives.ended s low below);
+    unborn = λ s after below. at_other p.seat s made idle (λ e. absurd (omega (arith, e, after))) ∙ was.lives.unborn s after below;
+  };
+}
+  where
+    living : Living role p.part p.seat p.made past (idle p.seat) was.before
+    living = was.lives.living
+
+    made : List Call
+    made = living.since ++ idle p.seat
+
+    turns : Turns was.before p.actor nexts.Idle (entries made)
+    turns = record { order = was.turns.order; turn = was.turns.turn; stands = subst (StandsFor p.actor) (sym living.are.of_seat) was.turns.stands }
+
+-- a turn in which all calls were made
+pub lived_all : (role : Role) (calls : ℕ) (old p : Player) (past : List Entry) (idle : ℕ → List Call) → p.made ≡ old.made + calls → Lives role p past idle → LivedAll role calls past idle old p
+lived_all role calls old p past idle made lives = record { made = made; needed = needed_so_far role p past idle lives; lives = lives }
 
 -- entries of other seats leave the lives
-pub lives_on : (role : Role) (x : Player) (h later : List Entry) → IsLife x.part x.seat → ((seat : ℕ) → IsLife x.part seat → own seat later ≡ own seat h) → Lives role x h → Lives role x later
-lives_on role x h later at same lives = record {
+pub lives_on : (role : Role) (x : Player) (h later : List Entry) (idle then_idle : ℕ → List Call) → IsLife x.part x.seat → ((seat : ℕ) → IsLife x.part seat → own seat later ≡ own seat h) → ((seat : ℕ) → IsLife x.part seat → then_idle seat ≡ idle seat) → Lives role x h idle → Lives role x later then_idle
+lives_on role x h later idle then_idle at same same_idle lives = record {
   built = lives.built;
   began = lives.began;
-  living = record { calls = lives.living.calls; are = record { of_seat = lives.living.are.of_seat ∙ sym (same x.seat at); left = lives.living.are.left }; played = lives.living.played };
-  ended = λ seat low below. let high = at.1 in kept_life role x.part seat x.made x.made h later (same seat (low, omega (arith, below, high))) refl (lives.ended seat low below);
+  living = subst (λ c. Living role x.part x.seat x.made later c x.actor) (sym (same_idle x.seat at)) (record { since = lives.living.since; are = record { of_seat = lives.living.are.of_seat ∙ sym (same x.seat at); left = lives.living.are.left }; played = lives.living.played });
+  ended = λ seat low below.
+      let high = at.1 in
+      let life : IsLife x.part seat = (low, omega (arith, below, high)) in
+      subst (HasLasted role x.part seat x.made later) (sym (same_idle seat life)) (kept_life role x.part seat x.made x.made h later (idle seat) (same seat life) refl (lives.ended seat low below));
+  unborn = λ seat after below. same_idle seat (let a = at.0 in omega (arith, a, after), below) ∙ lives.unborn seat after below;
 }
 
 -- ---- the beginning
@@ -186,10 +280,11 @@ none_before (after ∷ restarts) = by (nat_lt after 0) refl (none_before restart
     by true e h = absurd (grind (arith, nat_tests))
     by false e h = rw e h
 
-pub new_lives : (role : Role) (x : Player) → IsNewPlayer role x → Lives role x []
+pub new_lives : (role : Role) (x : Player) → IsNewPlayer role x → Lives role x [] (λ seat. [])
 new_lives role x is = record {
   built = is.built;
   began = let first : seat_at x.part x.made ≡ x.part.first + 0 = ap (seat_at x.part) is.made ∙ ap (λ n. x.part.first + n) (none_before x.part.restarts) in let s = is.seat in omega (arith, first, s);
-  living = record { calls = []; are = record { of_seat = refl; left = sym (ap (left_by x.part x.seat) is.made) }; played = Begins refl is.new is.stands };
+  living = record { since = []; are = record { of_seat = refl; left = sym (ap (left_by x.part x.seat) is.made) }; played = Starts refl refl is.new is.stands };
   ended = λ seat low below. absurd (let s = is.seat in omega (arith, s, low, below));
+  unborn = λ seat after below. refl;
 }

@@ -3,6 +3,7 @@ use Rattle.std.proofs.Common.{◌≡◌, ◌≢◌, ◌⊎◌, ℕ, ◌<◌, ◌
 use Rattle.std.specs.Prelude.{slice_get}
 use Rattle.std.proofs.lemmas.List.{length-map}
 use Rattle.std.proofs.lemmas.Option.{slice_get_read, slice_get_within}
+use Rattle.attention_law.specs.Diligence.{entries}
 use Rattle.call_types.specs.declared.entry.Entry.{Entry}
 use Rattle.model_laws.proofs.Lists.{one}
 use Rattle.script_lines.specs.declared.actors.Actor.{Actor}
@@ -10,15 +11,14 @@ use Rattle.script_lines.specs.Actors.{actor_word}
 use Rattle.script_text.specs.declared.script.Script.{Script}
 use Rattle.script_runs.specs.declared.part.Part.{Part}
 use Rattle.script_runs.specs.Limits.{IsKnown, IsReadable}
-use Rattle.script_runs.specs.Parts.{is_named, lives_by, lives_of, part_of}
+use Rattle.script_runs.specs.Parts.{is_named, lives_by, lives_of, part_of, role_of}
 use Rattle.script_runs.specs.declared.player.Player.{Player}
 use Rattle.script_runs.specs.declared.stage.Stage.{Stage}
-use Rattle.worker_core.specs.declared.role.Role.{Role}
 use Rattle.script_runs.specs.Replays.{IsTurn}
-use Rattle.script_runs.specs.Steps.Living.{Lives}
+use Rattle.script_runs.specs.Steps.Living.{HasLivedOn}
 use Rattle.script_runs.specs.Steps.Playing.{EachPlayer, HasMadeAll, HasMadeFewer, HasTurned, IsLife, Plays, SomePlays}
-use Rattle.script_runs.specs.Steps.Standing.{HasMoved, MadeAtMost, SomeStands, all_parts, parts_in, place_of, seat_of_drains}
-use Rattle.script_runs.proofs.Casting.{drains_after, few_restarts, in_order, part_of_actor, small_drains}
+use Rattle.script_runs.specs.Steps.Standing.{HasMoved, MadeAtMost, SomeStands, actors_for, all_parts, parts_in, place_of, seat_of_drains}
+use Rattle.script_runs.proofs.Casting.{actor_at, drains_after, few_restarts, in_order, part_of_actor, small_drains}
 use Rattle.script_runs.proofs.Orders.{life_between, part_at_place}
 use Rattle.script_runs.proofs.Staging.{HasPlayed, set_cases, turn_moved}
 
@@ -58,7 +58,7 @@ module _ (script : Script) (option : Option ℕ) (actor : Actor) (s : Stage) (re
   its_seats x at named = subst (λ (p : Part). p.first + length p.restarts < 2 ^ 32) (its_part x at) (part_small script actor known named readable)
 
   pub it_plays : (x : Player) → slice_get s.players.items (place_of script.node_names actor) ≡ Some x → is_named (actor_word actor) script.lines ≡ true → SomePlays x s.world.past
-  it_plays x at named = record { idle = some.progress.idle; plays = some.stands.plays (place_of script.node_names actor) x at (its_name x at named) }
+  it_plays x at named = record { idle = λ seat. entries (some.progress.idle seat); plays = some.stands.plays (place_of script.node_names actor) x at (its_name x at named) }
 
 -- ---- the counts of calls
 
@@ -74,7 +74,7 @@ turned_made calls idle before after old new t = by t.made
 module _ (script : Script) (option : Option ℕ) (actor : Actor) (calls : ℕ) (old new : Stage) (place : ℕ) (x after : Player) (readable : IsReadable script) (known : IsKnown script.node_names actor) (named : is_named (actor_word actor) script.lines ≡ true)
     (some : SomeStands script option old) (is : place ≡ place_of script.node_names actor) (read : x ≡ get_or old.players.items place x) (players : new.players.items ≡ set old.players.items place after) (part : after.part ≡ x.part)
     (setup : new.world.setup ≡ old.world.setup) (drainers : new.drainers ≡ old.drainers) (drained : new.drained ≡ old.drained) (budget : new.budget ≡ old.budget)
-    (turns : (idle : ℕ → List Entry) → Plays x old.world.past idle → HasTurned calls idle old.world.past new.world.past x after) (lives : (role : Role) → Lives role x old.world.past → Lives role after new.world.past) where
+    (turns : (idle : ℕ → List Entry) → Plays x old.world.past idle → HasTurned calls idle old.world.past new.world.past x after) (lives : HasLivedOn calls old.world.past new.world.past x after) where
   at : slice_get old.players.items (place_of script.node_names actor) ≡ Some x
   at = player_there script option actor old readable known some place x is read
 
@@ -90,8 +90,10 @@ module _ (script : Script) (option : Option ℕ) (actor : Actor) (calls : ℕ) (
     budget = budget;
   }
 
-  pub turn_made : HasMoved script option (IsTurn (part_of script actor) calls) old new
-  turn_made = turn_moved script option calls old new place x after (part_of script actor) readable.order (drains_after script) (its_part script option actor old readable known some x at) played turns lives
+  pub turn_made : HasMoved script option (IsTurn (role_of actor) (part_of script actor) calls) old new
+  turn_made =
+      turn_moved script option calls old new place x after actor readable.order (drains_after script) (subst (λ n. slice_get (actors_for script.node_names) n ≡ Some actor) (sym is) (actor_at script.node_names actor known))
+      (its_part script option actor old readable known some x at) played turns lives
 
 -- no player has then made more than 1,000 calls more
 pub made_after : (script : Script) (option : Option ℕ) (actor : Actor) (calls most : ℕ) (old : Stage) (past : List Entry) (place : ℕ) (x after : Player) → IsReadable script → IsKnown script.node_names actor → is_named (actor_word actor) script.lines ≡ true

@@ -23,10 +23,11 @@ use Rattle.script_text.specs.declared.script.Line.{Line}
 use Rattle.script_text.specs.declared.script.Line.TheVariants.{Call, Lose, Restart, Turn, Drain}
 use Rattle.script_text.specs.declared.script.Numbered.{Numbered}
 use Rattle.script_text.specs.declared.script.Script.{Script}
-use Rattle.script_text.specs.Said.{agents_after, agents_of, and_node, created_by, created_node, creates, node_name, nodes_of}
-use Rattle.script_text.specs.Grammar.{create_limit, first_of, line_limit, most_nodes, most_objects, passed, read_numbered_of, script_from, script_of}
+use Rattle.script_text.specs.Said.{agents_after, agents_of, and_node, created_by, created_node, imported_after, imported_node, node_name, nodes_of, objects_of}
+use Rattle.script_text.specs.Grammar.{create_limit, first_of, line_limit, most_nodes, most_objects, object_limit, passed, read_numbered_of, script_from, script_of}
 use Rattle.script_laws.specs.Given.{IsActor, IsCount, IsLineAfter}
-use Rattle.script_laws.specs.Scripts.{AreLinesAfter, IsScript}
+use Rattle.script_laws.specs.Scripts.{AreImportsAfter, AreLinesAfter, IsScript}
+use Rattle.script_laws.proofs.Imports.{imports_given}
 use Rattle.script_laws.proofs.MembersGive.{AreAgents}
 use Rattle.script_laws.proofs.TextsGive.{ScriptGiven, agents_and, script_gives}
 use Rattle.script_runs.specs.Limits.{AreInOrder, AreWithinLimits, IsKnown, IsReadable, IsWithinLimits, NameKnown, NamesKnown}
@@ -49,41 +50,48 @@ line_within agents before (Restart actor after) is = tt
 line_within agents before (Turn actor calls) is = count_most most_turn calls is.1
 line_within agents before Drain is = tt
 
-lines_within : (agents : List Pair) (before lines : List Line) → AreLinesAfter agents before lines → AreWithinLimits lines
-lines_within agents before [] are = tt
-lines_within agents before (line ∷ lines) are = (line_within agents before line are.0, lines_within agents (before ++ line ∷ []) lines are.2)
+lines_within : (imports : List Object) (agents : List Pair) (before lines : List Line) → AreLinesAfter imports agents before lines → AreWithinLimits lines
+lines_within imports agents before [] are = tt
+lines_within imports agents before (line ∷ lines) are = (line_within agents before line are.0, lines_within imports agents (before ++ line ∷ []) lines are.2)
 
--- ---- the nodes of lines
+-- ---- how many nodes there are
 
-same_agents : (lines : List Line) (line : Line) → created_node line ≡ None → length (agents_of lines) ≤ 8 → length (agents_of (lines ++ line ∷ [])) ≤ 8
-same_agents lines line none few =
-    let same : agents_of (lines ++ line ∷ []) ≡ agents_of lines = agents_more [] lines line ∙ ap (λ o. and_node (agents_of lines) o) none in
-    let long : length (agents_of (lines ++ line ∷ [])) ≡ length (agents_of lines) = ap length same in
-    omega arith
-
-few_nodes : (lines : List Line) → create_limit lines true ≡ None → length (agents_of lines) ≤ 8
-few_nodes lines none = by (nat_lt most_objects (creates lines)) (nat_lt most_nodes (length (agents_of lines))) refl none
+few_nodes : (imports : List Object) (lines : List Line) → object_limit imports lines ≡ None → length (agents_of imports lines) ≤ 8
+few_nodes imports lines none = by (nat_lt most_objects (objects_of imports lines)) (nat_lt most_nodes (length (agents_of imports lines))) refl none
   where
-    by : (b c : Bool) → nat_lt most_nodes (length (agents_of lines)) ≡ c → first_of (passed b TooManyObjects) (passed c TooManyNodes) ≡ None → length (agents_of lines) ≤ 8
+    by : (b c : Bool) → nat_lt most_nodes (length (agents_of imports lines)) ≡ c → first_of (passed b TooManyObjects) (passed c TooManyNodes) ≡ None → length (agents_of imports lines) ≤ 8
     by true c is h = absurd (cc)
     by false true is h = absurd (cc)
-    by false false is h = ltb-false 8 (length (agents_of lines)) is
+    by false false is h = ltb-false 8 (length (agents_of imports lines)) is
 
-created_few : (lines : List Line) (created : Option Object) → create_limit lines (is_some created) ≡ None → (option_and_then node_name created ≡ None → length (agents_of lines) ≤ 8) → length (agents_of lines) ≤ 8
-created_few lines (Some o) none h = few_nodes lines none
-created_few lines None none h = h refl
+module _ (imports : List Object) where
+  same_agents : (lines : List Line) (line : Line) → created_node line ≡ None → length (agents_of imports lines) ≤ 8 → length (agents_of imports (lines ++ line ∷ [])) ≤ 8
+  same_agents lines line none few =
+      let same : agents_of imports (lines ++ line ∷ []) ≡ agents_of imports lines = agents_more (imported_after [] imports) lines line ∙ ap (λ o. and_node (agents_of imports lines) o) none in
+      let long : length (agents_of imports (lines ++ line ∷ [])) ≡ length (agents_of imports lines) = ap length same in
+      omega arith
 
-nodes_kept : (lines : List Line) (line : Line) → line_limit (lines ++ line ∷ []) line ≡ None → length (agents_of lines) ≤ 8 → length (agents_of (lines ++ line ∷ [])) ≤ 8
-nodes_kept lines (Call user request) none few = created_few (lines ++ Call user request ∷ []) (created_by request) none (λ no. same_agents lines (Call user request) no few)
-nodes_kept lines (Lose actor call after) none few = same_agents lines (Lose actor call after) refl few
-nodes_kept lines (Restart actor after) none few = same_agents lines (Restart actor after) refl few
-nodes_kept lines (Turn actor calls) none few = same_agents lines (Turn actor calls) refl few
-nodes_kept lines Drain none few = same_agents lines Drain refl few
+  created_few : (lines : List Line) (created : Option Object) → create_limit imports lines (is_some created) ≡ None → (option_and_then node_name created ≡ None → length (agents_of imports lines) ≤ 8) → length (agents_of imports lines) ≤ 8
+  created_few lines (Some o) none h = few_nodes imports lines none
+  created_few lines None none h = h refl
 
-lines_few : (agents : List Pair) (before lines : List Line) → AreLinesAfter agents before lines → length (agents_of before) ≤ 8 → length (agents_of (before ++ lines)) ≤ 8
-lines_few agents before [] are few = subst (λ (ls : List Line). length (agents_of ls) ≤ 8) (sym (append-nil before)) few
-lines_few agents before (line ∷ lines) are few =
-    subst (λ (ls : List Line). length (agents_of ls) ≤ 8) (append_assoc before (line ∷ []) lines) (lines_few agents (before ++ line ∷ []) lines are.2 (nodes_kept before line are.1 few))
+  nodes_kept : (lines : List Line) (line : Line) → line_limit imports (lines ++ line ∷ []) line ≡ None → length (agents_of imports lines) ≤ 8 → length (agents_of imports (lines ++ line ∷ [])) ≤ 8
+  nodes_kept lines (Call user request) none few = created_few (lines ++ Call user request ∷ []) (created_by request) none (λ no. same_agents lines (Call user request) no few)
+  nodes_kept lines (Lose actor call after) none few = same_agents lines (Lose actor call after) refl few
+  nodes_kept lines (Restart actor after) none few = same_agents lines (Restart actor after) refl few
+  nodes_kept lines (Turn actor calls) none few = same_agents lines (Turn actor calls) refl few
+  nodes_kept lines Drain none few = same_agents lines Drain refl few
+
+  lines_few : (agents : List Pair) (before lines : List Line) → AreLinesAfter imports agents before lines → length (agents_of imports before) ≤ 8 → length (agents_of imports (before ++ lines)) ≤ 8
+  lines_few agents before [] are few = subst (λ (ls : List Line). length (agents_of imports ls) ≤ 8) (sym (append-nil before)) few
+  lines_few agents before (line ∷ lines) are few =
+      subst (λ (ls : List Line). length (agents_of imports ls) ≤ 8) (append_assoc before (line ∷ []) lines) (lines_few agents (before ++ line ∷ []) lines are.2 (nodes_kept before line are.1 few))
+
+-- imported objects pass no limit either
+imports_few : (before imports : List Object) → AreImportsAfter before imports → length (agents_of before []) ≤ 8 → length (agents_of (before ++ imports) []) ≤ 8
+imports_few before [] are few = subst (λ (os : List Object). length (agents_of os []) ≤ 8) (sym (append-nil before)) few
+imports_few before (o ∷ os) are few =
+    subst (λ (all : List Object). length (agents_of all []) ≤ 8) (append_assoc before (o ∷ []) os) (imports_few (before ++ o ∷ []) os are.1 (few_nodes (before ++ o ∷ []) [] are.0.few))
 
 -- ---- the order of the nodes
 
@@ -95,6 +103,10 @@ pub record AreNamed (agents : List Pair) : Type 0 where
 named_and : (agents : List Pair) (node : Option (List ℕ)) → AreNamed agents → AreNamed (and_node agents node)
 named_and agents None h = h
 named_and agents (Some node) h = record { names = agents_and agents (Some node) h.names; order = rising_put nat_list_cmp_total pair_key (agent_word node, node) agents h.order }
+
+named_imported : (agents : List Pair) (imports : List Object) → AreNamed agents → AreNamed (imported_after agents imports)
+named_imported agents [] h = h
+named_imported agents (o ∷ os) h = named_imported (and_node agents (imported_node o)) os (named_and agents (imported_node o) h)
 
 named_after : (agents : List Pair) (lines : List Line) → AreNamed agents → AreNamed (agents_after agents lines)
 named_after agents [] h = h
@@ -141,9 +153,9 @@ line_known agents before (Restart actor after) is = actor_known agents actor is.
 line_known agents before (Turn actor calls) is = actor_known agents actor is.0
 line_known agents before Drain is = tt
 
-lines_known : (agents : List Pair) (before lines : List Line) → AreLinesAfter agents before lines → NameKnown (nodes_of agents) lines
-lines_known agents before [] are = tt
-lines_known agents before (line ∷ lines) are = (line_known agents before line are.0, lines_known agents (before ++ line ∷ []) lines are.2)
+lines_known : (imports : List Object) (agents : List Pair) (before lines : List Line) → AreLinesAfter imports agents before lines → NameKnown (nodes_of agents) lines
+lines_known imports agents before [] are = tt
+lines_known imports agents before (line ∷ lines) are = (line_known agents before line are.0, lines_known imports agents (before ++ line ∷ []) lines are.2)
 
 -- ---- the script
 
@@ -151,18 +163,20 @@ lines_known agents before (line ∷ lines) are = (line_known agents before line 
 pub script_readable : (script : Script) → IsScript script → IsReadable script
 script_readable script is =
     let nodes = sym is.nodes in
-    let agents = agents_of script.lines in
+    let imports = script.setup.imports in
+    let agents = agents_of imports script.lines in
     let long = length-map agents (λ (p : Pair). p.1) in
-    let most = lines_few agents [] script.lines is.lines (omega arith) in
+    let most = lines_few imports agents [] script.lines is.lines (imports_few [] imports is.imports (omega arith)) in
     let few = is.few_lines in
-    let named = named_after [] script.lines (record { names = tt; order = tt }) in
+    let named = named_after (imported_after [] imports) script.lines (named_imported [] imports (record { names = tt; order = tt })) in
+    let pass = imports_given script is in
     record {
-      imports = is.imports;
-      lines = lines_within agents [] script.lines is.lines;
+      imports = pass.pass;
+      lines = lines_within imports agents [] script.lines is.lines;
       few = omega (arith, few);
       nodes = subst (λ (names : List (List ℕ)). length names ≤ 8) nodes (omega (arith, long, most));
       order = subst AreInOrder nodes (nodes_in_order agents named.names named.order);
-      known = subst (λ (names : List (List ℕ)). NameKnown names script.lines) nodes (lines_known agents [] script.lines is.lines);
+      known = subst (λ (names : List (List ℕ)). NameKnown names script.lines) nodes (lines_known imports agents [] script.lines is.lines);
     }
 
 -- what `read_script` answers is readable

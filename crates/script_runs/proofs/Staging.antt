@@ -1,5 +1,5 @@
 -- What the moves of a script leave standing.
-use Rattle.std.proofs.Common.{◌≡◌, ◌≢◌, ◌⊎◌, ℕ, ◌<◌, ◌≤◌, ◌+◌, ◌-◌, zero, suc, List, [], ◌∷◌, length, set, Bool, true, false, Option, Some, inl, inr, refl, sym, ◌∙◌, ap, subst, arith}
+use Rattle.std.proofs.Common.{◌≡◌, ◌≢◌, ◌⊎◌, ℕ, ◌<◌, ◌≤◌, ◌+◌, ◌-◌, zero, suc, List, [], ◌∷◌, ◌++◌, length, set, Bool, true, false, Option, Some, inl, inr, refl, sym, ◌∙◌, ap, subst, arith, if◌then◌else◌}
 use Rattle.std.specs.Prelude.{◌==◌, bytes_eq, slice_get}
 use Rattle.std.proofs.lemmas.Bool.Decides.{Decides-eqb}
 use Rattle.std.proofs.lemmas.Slice.Eq.{bytes_eq-Decides}
@@ -11,29 +11,29 @@ use Rattle.call_types.specs.declared.reply.Reply.{Reply}
 use Rattle.binder_model.specs.Told.{own}
 use Rattle.model_laws.proofs.Evidence.{own_other}
 use Rattle.model_laws.proofs.Lists.{none_some, one}
-use Rattle.worker_core.specs.Stands.{StandsFor}
 use Rattle.worker_threads.specs.declared.drainers.Drainer.{Drainer}
-use Rattle.worker_threads.specs.Drainers.{AreStanding, seats_of}
-use Rattle.worker_threads.specs.Longer.{AreToldOf, IsLonger, IsOneOf, users_of}
+use Rattle.worker_threads.specs.Drainers.{AreStanding, StandsWhole, roles_of, seats_for, seats_from, seats_of}
+use Rattle.worker_threads.specs.Longer.{IsOneOf}
+use Rattle.worker_threads.specs.Rounds.{Drains, all_pass}
 use Rattle.script_text.specs.declared.script.Script.{Script}
 use Rattle.script_runs.specs.declared.part.Part.{Part}
 use Rattle.script_runs.specs.declared.player.Player.{Player}
 use Rattle.script_runs.specs.declared.stage.Stage.{Stage}
-use Rattle.script_runs.specs.Calls.{AreCalls, seat_at}
-use Rattle.binder_model.specs.World.{world}
-use Rattle.binder_model.specs.Due.{IsSettled}
+use Rattle.attention_law.specs.Diligence.{Call, entries}
+use Rattle.attention_law.specs.Resting.{WasToldStale}
+use Rattle.script_runs.specs.Calls.{AreCalls, AreNeededLives, AreOfLife, MayEnd, seat_at}
 use Rattle.script_runs.specs.Budget.{raised}
 use Rattle.script_runs.specs.Limits.{AreInOrder as NamesInOrder}
-use Rattle.script_runs.specs.Parts.{all_actors, all_lives, drain_seat, drain_seats, seats_from}
+use Rattle.script_runs.specs.Parts.{all_actors, all_lives, drain_roles, drain_seat, drain_seats, kind_of, lives_of, part_of, role_of}
 use Rattle.script_lines.specs.declared.actors.Actor.{Actor}
+use Rattle.script_lines.specs.declared.actors.Actor.TheVariants.{Worker, Agent}
 use Rattle.worker_core.specs.declared.role.Role.{Role}
-use Rattle.script_runs.specs.Diligent.{role_of}
 use Rattle.script_runs.specs.Replays.{IsDrain, IsTurn, IsUserCall, Progress, and_idle, and_made}
-use Rattle.script_runs.specs.Steps.Living.{Lives}
+use Rattle.script_runs.specs.Steps.Living.{HasLivedOn, LivedAll, LivedFewer, Lives}
 use Rattle.script_runs.specs.Steps.Playing.{HasMadeAll, HasMadeFewer, HasTurned, IsLife, Plays, StandsSince}
 use Rattle.script_runs.specs.Steps.Standing.{HasMoved, IsBudget, Leads, Stands, actors_for, all_parts, parts_in, seat_of_drains}
 use Rattle.script_runs.proofs.Casting.{in_order, names_differ, names_in}
-use Rattle.script_runs.proofs.Lived.{lives_on}
+use Rattle.script_runs.proofs.Lived.{all_needed, lives_on}
 use Rattle.script_runs.proofs.Lives.{seat_within}
 use Rattle.script_runs.proofs.Orders.{get_set_other, get_set_same, life_between, one_owner, other_name, part_at_place, parts_set}
 use Rattle.worker_threads.proofs.RoundFacts.{same_or_not}
@@ -50,6 +50,10 @@ name_at (x ∷ ps) (suc i) p at = name_at ps i p at
 -- the life that a player is at is one of its part
 life_at : (x : Player) (past : List Entry) (idle : ℕ → List Entry) → x.part.named ≡ true → Plays x past idle → IsLife x.part x.seat
 life_at x past idle named plays = let w = seat_within x.part (x.made + 1) named in let r = plays.reached in (plays.first, omega (arith, w, r))
+
+-- the entries of the calls that each life had made when it was last idle
+abbrev told_at : (ℕ → List Call) → ℕ → List Entry
+told_at idle seat = entries (idle seat)
 
 -- entries of other seats leave a player
 pub plays_on : (x : Player) (h later : List Entry) (idle then_idle : ℕ → List Entry) → x.part.named ≡ true → ((seat : ℕ) → IsLife x.part seat → own seat later ≡ own seat h) → ((seat : ℕ) → IsLife x.part seat → then_idle seat ≡ idle seat) → Plays x h idle → Plays x later then_idle
@@ -74,8 +78,8 @@ drainer_seat (x ∷ ds) (suc i) d at = inr (drainer_seat ds i d at)
 -- and the drainers
 pub drainers_on : (ds : List Drainer) (h later : List Entry) → ((seat : ℕ) → IsOneOf (seats_of ds) seat → own seat later ≡ own seat h) → AreStanding ds h → AreStanding ds later
 drainers_on ds h later same stands = record {
-  each = λ place d at. subst (λ (mine : List Entry). StandsFor d.actor mine) (sym (same d.seat (drainer_seat ds place d at))) (stands.each place d at);
-  steady = stands.steady;
+  each = λ place d at. subst (λ (mine : List Entry). StandsWhole d.actor mine) (sym (same d.seat (drainer_seat ds place d at))) (stands.each place d at);
+  roles = stands.roles;
 }
 
 -- ---- the seats of the drains are the last ones
@@ -85,7 +89,7 @@ seats_low low [] seat own = absurd own
 seats_low low (node ∷ nodes) seat (inl is) = omega (arith, is)
 seats_low low (node ∷ nodes) seat (inr later) = let rest = seats_low (low + 1) nodes seat later in omega (arith, rest)
 
-after_first : (first : ℕ) (nodes : List (List ℕ)) (seat : ℕ) → IsOneOf (first ∷ (first + 1) ∷ (first + 2) ∷ (first + 3) ∷ (first + 4) ∷ seats_from (first + 5) nodes) seat → first ≤ seat
+after_first : (first : ℕ) (nodes : List (List ℕ)) (seat : ℕ) → IsOneOf (seats_for first nodes) seat → first ≤ seat
 after_first first nodes seat (inl is) = omega (arith, is)
 after_first first nodes seat (inr (inl is)) = omega (arith, is)
 after_first first nodes seat (inr (inr (inl is))) = omega (arith, is)
@@ -116,13 +120,14 @@ module _ (script : Script) (option : Option ℕ) (user : ℕ) (request : Request
       parts = ap (λ (xs : _). parts_in xs.items) players ∙ stands.parts;
       plays = λ place x at named.
           let there = ap (λ (xs : _). slice_get xs.items place) (sym players) ∙ at in
-          plays_on x old.world.past new.world.past p.idle p.idle named (λ seat life. others seat (above place x there seat life)) (λ seat life. refl) (stands.plays place x there named);
+          plays_on x old.world.past new.world.past (told_at p.idle) (told_at p.idle) named (λ seat life. others seat (above place x there seat life)) (λ seat life. refl) (stands.plays place x there named);
       lives = λ place actor x is at named.
           let there = ap (λ (xs : _). slice_get xs.items place) (sym players) ∙ at in
-          lives_on (role_of actor) x old.world.past new.world.past (life_at x old.world.past p.idle named (stands.plays place x there named)) (λ seat life. others seat (above place x there seat life)) (stands.lives place actor x is there named);
+          lives_on (role_of actor) x old.world.past new.world.past p.idle p.idle (life_at x old.world.past (told_at p.idle) named (stands.plays place x there named)) (λ seat life. others seat (above place x there seat life)) (λ seat life. refl) (stands.lives place actor x is there named);
       made = λ place x at. stands.made place x (ap (λ (xs : _). slice_get xs.items place) (sym players) ∙ at);
-      drainers = subst (λ ds. AreStanding ds new.world.past) (sym drainers) (drainers_on old.drainers old.world.past new.world.past (λ seat own. others seat (drains_above seat (stands.seats seat own))) stands.drainers);
-      seats = subst (λ ds. (seat : ℕ) → IsOneOf (seats_of ds) seat → IsOneOf (drain_seats script) seat) (sym drainers) stands.seats;
+      drainers = subst (λ ds. AreStanding ds new.world.past) (sym drainers) (drainers_on old.drainers old.world.past new.world.past (λ seat own. others seat (drains_above seat (subst (λ ss. IsOneOf ss seat) stands.seats own))) stands.drainers);
+      seats = subst (λ ds. seats_of ds ≡ drain_seats script) (sym drainers) stands.seats;
+      roles = subst (λ ds. roles_of ds ≡ drain_roles script) (sym drainers) stands.roles;
       drained = drained ∙ stands.drained;
       budget = budget ∙ stands.budget;
       few = let a = stands.few in omega (arith, a, drained, budget);
@@ -149,7 +154,7 @@ set_cases xs place after j y within here = by (same_or_not j place)
     by (inl is) = inl (is, one after y (sym (get_set_same xs place after within) ∙ ap (slice_get (set xs place after)) (sym is) ∙ here))
     by (inr differs) = inr (differs, sym (get_set_other xs place j after differs) ∙ here)
 
-not_idle : (seat other : ℕ) (mine : List Entry) (idle : ℕ → List Entry) → other ≢ seat → and_idle seat mine idle other ≡ idle other
+not_idle : {X : Type 0} (seat other : ℕ) (mine : X) (idle : ℕ → X) → other ≢ seat → and_idle seat mine idle other ≡ idle other
 not_idle seat other mine idle differs = by (other == seat) refl
   where
     by : (b : Bool) → (other == seat) ≡ b → and_idle seat mine idle other ≡ idle other
@@ -191,8 +196,8 @@ module _ (script : Script) (option : Option ℕ) (old new : Stage) (place : ℕ)
   player_at : (j : ℕ) (y : Player) → slice_get new.players.items j ≡ Some y → ((j ≡ place) × (after ≡ y)) ⊎ ((j ≢ place) × (slice_get old.players.items j ≡ Some y))
   player_at j y at = set_cases old.players.items place after j y (slice_get_within old.players.items place x played.there) (ap (λ xs. slice_get xs j) (sym played.players) ∙ at)
 
-  stands_on : (count : ℕ) (idle : ℕ → List Entry) → after.made ≡ x.made + count → ((seat : ℕ) → (IsLife x.part seat → ⊥) → own seat new.world.past ≡ own seat old.world.past) → ((seat : ℕ) → (IsLife x.part seat → ⊥) → idle seat ≡ p.idle seat)
-      → Plays after new.world.past idle → ((actor : Actor) → slice_get (actors_for script.node_names) place ≡ Some actor → Lives (role_of actor) after new.world.past) → Stands script option (record p { past = new.world.past; made = and_made x.part.name count p.made; idle = idle }) new
+  stands_on : (count : ℕ) (idle : ℕ → List Call) → after.made ≡ x.made + count → ((seat : ℕ) → (IsLife x.part seat → ⊥) → own seat new.world.past ≡ own seat old.world.past) → ((seat : ℕ) → (IsLife x.part seat → ⊥) → idle seat ≡ p.idle seat)
+      → Plays after new.world.past (told_at idle) → ((actor : Actor) → slice_get (actors_for script.node_names) place ≡ Some actor → Lives (role_of actor) after new.world.past idle) → Stands script option (record p { past = new.world.past; made = and_made x.part.name count p.made; idle = idle }) new
   stands_on count idle more others same_idle plays lives = record {
     past = refl;
     setup = played.setup ∙ stands.setup;
@@ -200,21 +205,22 @@ module _ (script : Script) (option : Option ℕ) (old new : Stage) (place : ℕ)
     plays = λ j y at named. each_plays j y named (player_at j y at);
     lives = λ j actor y there at named. each_lives j actor y there named (player_at j y at);
     made = λ j y at. each_made j y (player_at j y at);
-    drainers = subst (λ ds. AreStanding ds new.world.past) (sym played.drainers) (drainers_on old.drainers old.world.past new.world.past (λ seat own. others seat (not_drains seat (stands.seats seat own))) stands.drainers);
-    seats = subst (λ ds. (seat : ℕ) → IsOneOf (seats_of ds) seat → IsOneOf (drain_seats script) seat) (sym played.drainers) stands.seats;
+    drainers = subst (λ ds. AreStanding ds new.world.past) (sym played.drainers) (drainers_on old.drainers old.world.past new.world.past (λ seat own. others seat (not_drains seat (subst (λ ss. IsOneOf ss seat) stands.seats own))) stands.drainers);
+    seats = subst (λ ds. seats_of ds ≡ drain_seats script) (sym played.drainers) stands.seats;
+    roles = subst (λ ds. roles_of ds ≡ drain_roles script) (sym played.drainers) stands.roles;
     drained = played.drained ∙ stands.drained;
     budget = played.budget ∙ stands.budget;
     few = let a = stands.few in let d = played.drained in let b = played.budget in omega (arith, a, d, b);
     most = subst (IsBudget option) (sym played.budget) stands.most;
   }
     where
-      each_plays : (j : ℕ) (y : Player) → y.part.named ≡ true → ((j ≡ place) × (after ≡ y)) ⊎ ((j ≢ place) × (slice_get old.players.items j ≡ Some y)) → Plays y new.world.past idle
-      each_plays j y named (inl is) = subst (λ z. Plays z new.world.past idle) is.1 plays
-      each_plays j y named (inr other) = plays_on y old.world.past new.world.past p.idle idle named (λ seat life. others seat (not_mine j y seat other.1 other.0 life)) (λ seat life. same_idle seat (not_mine j y seat other.1 other.0 life)) (stands.plays j y other.1 named)
+      each_plays : (j : ℕ) (y : Player) → y.part.named ≡ true → ((j ≡ place) × (after ≡ y)) ⊎ ((j ≢ place) × (slice_get old.players.items j ≡ Some y)) → Plays y new.world.past (told_at idle)
+      each_plays j y named (inl is) = subst (λ z. Plays z new.world.past (told_at idle)) is.1 plays
+      each_plays j y named (inr other) = plays_on y old.world.past new.world.past (told_at p.idle) (told_at idle) named (λ seat life. others seat (not_mine j y seat other.1 other.0 life)) (λ seat life. ap entries (same_idle seat (not_mine j y seat other.1 other.0 life))) (stands.plays j y other.1 named)
 
-      each_lives : (j : ℕ) (actor : Actor) (y : Player) → slice_get (actors_for script.node_names) j ≡ Some actor → y.part.named ≡ true → ((j ≡ place) × (after ≡ y)) ⊎ ((j ≢ place) × (slice_get old.players.items j ≡ Some y)) → Lives (role_of actor) y new.world.past
-      each_lives j actor y there named (inl is) = subst (λ z. Lives (role_of actor) z new.world.past) is.1 (lives actor (subst (λ n. slice_get (actors_for script.node_names) n ≡ Some actor) is.0 there))
-      each_lives j actor y there named (inr other) = lives_on (role_of actor) y old.world.past new.world.past (life_at y old.world.past p.idle named (stands.plays j y other.1 named)) (λ seat life. others seat (not_mine j y seat other.1 other.0 life)) (stands.lives j actor y there other.1 named)
+      each_lives : (j : ℕ) (actor : Actor) (y : Player) → slice_get (actors_for script.node_names) j ≡ Some actor → y.part.named ≡ true → ((j ≡ place) × (after ≡ y)) ⊎ ((j ≢ place) × (slice_get old.players.items j ≡ Some y)) → Lives (role_of actor) y new.world.past idle
+      each_lives j actor y there named (inl is) = subst (λ z. Lives (role_of actor) z new.world.past idle) is.1 (lives actor (subst (λ n. slice_get (actors_for script.node_names) n ≡ Some actor) is.0 there))
+      each_lives j actor y there named (inr other) = lives_on (role_of actor) y old.world.past new.world.past p.idle idle (life_at y old.world.past (told_at p.idle) named (stands.plays j y other.1 named)) (λ seat life. others seat (not_mine j y seat other.1 other.0 life)) (λ seat life. same_idle seat (not_mine j y seat other.1 other.0 life)) (stands.lives j actor y there other.1 named)
 
       each_made : (j : ℕ) (y : Player) → ((j ≡ place) × (after ≡ y)) ⊎ ((j ≢ place) × (slice_get old.players.items j ≡ Some y)) → y.made ≡ and_made x.part.name count p.made y.part.name
       each_made j y (inl is) = subst (λ z. z.made ≡ and_made x.part.name count p.made z.part.name) is.1 (more ∙ ap (λ n. n + count) (stands.made place x played.there) ∙ sym (own_made x.part.name count p.made) ∙ ap (λ (q : Part). and_made x.part.name count p.made q.name) (sym played.part))
@@ -223,80 +229,135 @@ module _ (script : Script) (option : Option ℕ) (old new : Stage) (place : ℕ)
   calls_at : (count : ℕ) → AreCalls x.part new.world.past (x.made + 1) count old.world.past → AreCalls x.part new.world.past (p.made x.part.name + 1) count p.past
   calls_at count calls = subst (λ h. AreCalls x.part new.world.past (p.made x.part.name + 1) count h) stands.past (subst (λ n. AreCalls x.part new.world.past (n + 1) count old.world.past) (stands.made place x played.there) calls)
 
-  turned : (calls : ℕ) → HasTurned calls p.idle old.world.past new.world.past x after → ((actor : Actor) → slice_get (actors_for script.node_names) place ≡ Some actor → Lives (role_of actor) after new.world.past) → Leads script option (IsTurn x.part calls) p new
-  turned calls t lives = by t.made
-    where
-      by : HasMadeAll calls p.idle old.world.past new.world.past x after ⊎ HasMadeFewer calls p.idle old.world.past new.world.past x after → Leads script option (IsTurn x.part calls) p new
-      by (inl all) = record {
-        after = record p { past = new.world.past; made = and_made x.part.name calls p.made };
-        move = inl (record { past = new.world.past; made = calls_at calls all.calls_are; is = refl });
-        stands = stands_on calls p.idle all.made t.others (λ seat other. refl) all.plays lives;
-      }
-      by (inr few) = record {
-        after = record p { past = new.world.past; made = and_made x.part.name few.count p.made; idle = and_idle after.seat (own after.seat new.world.past) p.idle };
-        move = inr (record {
-          count = few.count;
-          few = few.few;
-          past = new.world.past;
-          made = calls_at few.count few.calls_are;
-          seat = after.seat;
-          life = few.life ∙ ap (λ m. seat_at x.part (m + few.count + 1)) (stands.made place x played.there);
-          ends = few.ends;
-          is = refl;
-        });
-        stands = stands_on few.count (and_idle after.seat (own after.seat new.world.past) p.idle) few.made t.others (λ seat other. not_idle after.seat seat (own after.seat new.world.past) p.idle (λ e. other (mine seat e))) few.plays lives;
-      }
-        where
-          mine : (seat : ℕ) → seat ≡ after.seat → IsLife x.part seat
-          mine seat e = subst (IsLife x.part) (sym e) (subst (λ (q : Part). IsLife q after.seat) played.part (life_at after new.world.past (and_idle after.seat (own after.seat new.world.past) p.idle) (ap (λ (q : Part). q.named) played.part ∙ played.named) few.plays))
+  module _ (role : Role) (calls : ℕ) (each : (actor : Actor) → slice_get (actors_for script.node_names) place ≡ Some actor → role_of actor ≡ role) where
+    -- the counts and the parts as the move has them
+    needed_at : (count : ℕ) → after.made ≡ x.made + count → AreNeededLives role after.part after.made new.world.past p.idle → AreNeededLives role x.part (p.made x.part.name + count) new.world.past p.idle
+    needed_at count more needed =
+        subst (λ n. AreNeededLives role x.part n new.world.past p.idle) (more ∙ ap (λ n. n + count) (stands.made place x played.there))
+        (subst (λ (q : Part). AreNeededLives role q after.made new.world.past p.idle) played.part needed)
 
-pub turn_moved : (script : Script) (option : Option ℕ) (calls : ℕ) (old new : Stage) (place : ℕ) (x after : Player) (part : Part) → NamesInOrder script.node_names → drain_seat script ≡ seat_of_drains script → part ≡ x.part → HasPlayed old new place x after
-    → ((idle : ℕ → List Entry) → Plays x old.world.past idle → HasTurned calls idle old.world.past new.world.past x after) → ((role : Role) → Lives role x old.world.past → Lives role after new.world.past) → HasMoved script option (IsTurn part calls) old new
-turn_moved script option calls old new place x after part order last is played turns lives p stands =
-    subst (λ q. Leads script option (IsTurn q calls) p new) (sym is)
-    (turned script option old new place x after order last played p stands calls (turns p.idle (stands.plays place x played.there played.named)) (λ actor there. lives (role_of actor) (stands.lives place actor x there played.there played.named)))
+    of_actor : (idle : ℕ → List Call) → Lives role after new.world.past idle → (actor : Actor) → slice_get (actors_for script.node_names) place ≡ Some actor → Lives (role_of actor) after new.world.past idle
+    of_actor idle lives actor there = subst (λ r. Lives r after new.world.past idle) (sym (each actor there)) lives
+
+    all_turned : HasMadeAll calls (told_at p.idle) old.world.past new.world.past x after → LivedAll role calls new.world.past p.idle x after → HasTurned calls (told_at p.idle) old.world.past new.world.past x after → Leads script option (IsTurn role x.part calls) p new
+    all_turned all lived t = record {
+      after = record p { past = new.world.past; made = and_made x.part.name calls p.made };
+      move = inl (record {
+        past = new.world.past;
+        made = calls_at calls all.calls_are;
+        needed = needed_at calls all.made (all_needed role after new.world.past p.idle lived.lives.began (λ s later below. (((all.plays).unborn s later below).0, lived.lives.unborn s later below)) lived.needed);
+        is = refl;
+      });
+      stands = stands_on calls p.idle all.made t.others (λ seat other. refl) all.plays (of_actor p.idle lived.lives);
+    }
+
+    fewer_turned : HasMadeFewer calls (told_at p.idle) old.world.past new.world.past x after → LivedFewer role calls new.world.past p.idle x after → role.kind ≡ x.part.kind → HasTurned calls (told_at p.idle) old.world.past new.world.past x after → Leads script option (IsTurn role x.part calls) p new
+    fewer_turned few lived kind t = record {
+      after = record p { past = new.world.past; made = and_made x.part.name few.count p.made; idle = then_idle };
+      move = inr (record {
+        count = few.count;
+        few = few.few;
+        past = new.world.past;
+        made = calls_at few.count few.calls_are;
+        needed = needed_at few.count few.made (all_needed role after new.world.past p.idle lived.lives.began not_yet lived.needed);
+        seat = after.seat;
+        life = few.life ∙ ap (λ m. seat_at x.part (m + few.count + 1)) (stands.made place x played.there);
+        since = lived.since;
+        are =
+            subst (λ n. AreOfLife x.part after.seat n new.world.past (lived.since ++ p.idle after.seat)) (few.made ∙ ap (λ n. n + few.count) (stands.made place x played.there))
+            (subst (λ (q : Part). AreOfLife q after.seat after.made new.world.past (lived.since ++ p.idle after.seat)) played.part lived.are);
+        ends = few.ends;
+        done = λ unstale. lived.done (λ told. unstale (subst (λ k. WasToldStale k (own after.seat new.world.past)) kind told));
+        is = refl;
+      });
+      stands = stands_on few.count then_idle few.made t.others (λ seat other. not_idle after.seat seat made_so_far p.idle (λ e. other (mine seat e))) plays (of_actor then_idle lived.lives);
+    }
+      where
+        made_so_far : List Call
+        made_so_far = lived.since ++ p.idle after.seat
+
+        then_idle : ℕ → List Call
+        then_idle = and_idle after.seat (lived.since ++ p.idle after.seat) p.idle
+
+        told_then : ℕ → List Entry
+        told_then = and_idle after.seat (own after.seat new.world.past) (told_at p.idle)
+
+        its_life : IsLife after.part after.seat
+        its_life = life_at after new.world.past told_then (ap (λ (q : Part). q.named) played.part ∙ played.named) few.plays
+
+        mine : (seat : ℕ) → seat ≡ after.seat → IsLife x.part seat
+        mine seat e = subst (IsLife x.part) (sym e) (subst (λ (q : Part). IsLife q after.seat) played.part its_life)
+
+        -- the calls of lives that have not begun
+        not_yet : (s : ℕ) → after.seat < s → s < after.part.first + lives_of after.part → (own s new.world.past ≡ []) × (p.idle s ≡ [])
+        not_yet s later below = ((few.plays.unborn s later below).0, sym (not_idle after.seat s made_so_far p.idle (λ e. absurd (omega (arith, e, later)))) ∙ lived.lives.unborn s later below)
+
+        -- the entries of the calls that the life has made are its own
+        same_told : (seat : ℕ) → told_at then_idle seat ≡ told_then seat
+        same_told seat = by (seat == after.seat)
+          where
+            by : (b : Bool) → entries (if b then lived.since ++ p.idle after.seat else p.idle seat) ≡ (if b then own after.seat new.world.past else told_at p.idle seat)
+            by true = lived.are.of_seat
+            by false = refl
+
+        plays : Plays after new.world.past (told_at then_idle)
+        plays = plays_on after new.world.past new.world.past told_then (told_at then_idle) (ap (λ (q : Part). q.named) played.part ∙ played.named) (λ seat life. refl) (λ seat life. same_told seat) few.plays
+
+    turned : HasTurned calls (told_at p.idle) old.world.past new.world.past x after → LivedAll role calls new.world.past p.idle x after ⊎ LivedFewer role calls new.world.past p.idle x after → role.kind ≡ x.part.kind → Leads script option (IsTurn role x.part calls) p new
+    turned t lived kind = by t.made lived
+      where
+        by : HasMadeAll calls (told_at p.idle) old.world.past new.world.past x after ⊎ HasMadeFewer calls (told_at p.idle) old.world.past new.world.past x after → LivedAll role calls new.world.past p.idle x after ⊎ LivedFewer role calls new.world.past p.idle x after
+            → Leads script option (IsTurn role x.part calls) p new
+        by (inl all) (inl lived_all) = all_turned all lived_all t
+        by (inr few) (inr lived_few) = fewer_turned few lived_few kind t
+        by (inl all) (inr lived_few) = absurd (let a = all.made in let b = lived_few.few in omega (arith, a, b))
+        by (inr few) (inl lived_all) = absurd (let a = few.made in let b = lived_all.made in let c = few.few in omega (arith, a, b, c))
+
+-- the role of an actor is of the kind of its seats
+role_kind : (actor : Actor) → (role_of actor).kind ≡ kind_of actor
+role_kind (Worker w) = refl
+role_kind (Agent node) = refl
+
+pub turn_moved : (script : Script) (option : Option ℕ) (calls : ℕ) (old new : Stage) (place : ℕ) (x after : Player) (actor : Actor) → NamesInOrder script.node_names → drain_seat script ≡ seat_of_drains script → slice_get (actors_for script.node_names) place ≡ Some actor → part_of script actor ≡ x.part → HasPlayed old new place x after
+    → ((idle : ℕ → List Entry) → Plays x old.world.past idle → HasTurned calls idle old.world.past new.world.past x after) → HasLivedOn calls old.world.past new.world.past x after → HasMoved script option (IsTurn (role_of actor) (part_of script actor) calls) old new
+turn_moved script option calls old new place x after actor order last there is played turns lives p stands =
+    subst (λ q. Leads script option (IsTurn (role_of actor) q calls) p new) (sym is)
+    (turned script option old new place x after order last played p stands (role_of actor) calls (λ other at. ap role_of (one other actor (sym at ∙ there)))
+    (turns (told_at p.idle) (stands.plays place x played.there played.named)) (lives (role_of actor) p.idle (stands.lives place actor x there played.there played.named))
+    (role_kind actor ∙ ap (λ (q : Part). q.kind) is))
 
 -- ---- a drain
-
-widen : (some all : List ℕ) (entries : List Entry) → ((seat : ℕ) → IsOneOf some seat → IsOneOf all seat) → AreToldOf some entries → AreToldOf all entries
-widen some all [] more told = tt
-widen some all (e ∷ entries) more told = (more e.seat told.0, told.1, widen some all entries more told.2)
 
 -- what a drain made, as the stage sees it
 pub record HasDrained (script : Script) (option : Option ℕ) (old new : Stage) (made : ℕ) : Type 0 where
   pub budget : new.budget ≡ raised option old.world.setup old.world.past old.budget
-  pub entries : IsLonger (seats_of old.drainers) made old.world.past new.world.past
-  pub users : users_of new.world.past ≡ users_of old.world.past
+  pub rounds : Drains all_pass old.world.setup new.drainers new.world.past (new.budget - old.drained - made) old.drainers old.world.past (new.budget - old.drained)
   pub others : (seat : ℕ) → (IsOneOf (seats_of old.drainers) seat → ⊥) → own seat new.world.past ≡ own seat old.world.past
   pub few : made ≤ new.budget - old.drained
-  pub ends : IsSettled new.world.setup (world new.world.setup new.world.past) ⊎ (made ≡ new.budget - old.drained)
-  pub none : IsSettled old.world.setup (world old.world.setup old.world.past) → new.world.past ≡ old.world.past
   pub standing : AreStanding new.drainers new.world.past
   pub seats : seats_of new.drainers ≡ seats_of old.drainers
+  pub roles : roles_of new.drainers ≡ roles_of old.drainers
   pub setup : new.world.setup ≡ old.world.setup
   pub players : new.players ≡ old.players
   pub drained : new.drained ≡ old.drained + made
   pub room : old.drained ≤ new.budget
   pub most : IsBudget option new.budget
 
-pub drain_moved : (script : Script) (option : Option ℕ) (old new : Stage) (made : ℕ) → drain_seat script ≡ seat_of_drains script → HasDrained script option old new made → HasMoved script option (IsDrain script option) old new
+pub drain_moved : (script : Script) (option : Option ℕ) (old new : Stage) (made : ℕ) → drain_seat script ≡ seat_of_drains script → HasDrained script option old new made → HasMoved script option (IsDrain all_pass script option) old new
 drain_moved script option old new made last d p stands = record {
   after = record p { past = new.world.past; drained = p.drained + made; budget = new.budget };
   move = record {
     past = new.world.past;
     made = made;
     budget = new.budget;
+    drainers = old.drainers;
+    ran = new.drainers;
     raises = d.budget ∙ ap (λ s. raised option s old.world.past old.budget) stands.setup ∙ ap (λ h. raised option script.setup h old.budget) stands.past ∙ ap (raised option script.setup p.past) stands.budget;
-    entries = subst (λ h. IsLonger (drain_seats script) made h new.world.past) stands.past (record {
-      added = d.entries.added;
-      are = d.entries.are;
-      count = d.entries.count;
-      of_seats = widen (seats_of old.drainers) (drain_seats script) d.entries.added stands.seats d.entries.of_seats;
-    });
-    users = d.users ∙ ap users_of stands.past;
+    seats = stands.seats;
+    roles = stands.roles;
+    stand = subst (AreStanding old.drainers) stands.past stands.drainers;
     few = let f = d.few in let r = d.room in let e = stands.drained in omega (arith, f, r, e);
-    ends = ends d.ends;
-    none = λ settled. d.none (subst (λ s. IsSettled s (world s old.world.past)) (sym stands.setup) (subst (λ h. IsSettled script.setup (world script.setup h)) (sym stands.past) settled)) ∙ stands.past;
+    rounds = rounds;
     is = refl;
   };
   stands = record {
@@ -305,13 +366,14 @@ drain_moved script option old new made last d p stands = record {
     parts = ap (λ (xs : _). parts_in xs.items) d.players ∙ stands.parts;
     plays = λ place x at named.
         let there = ap (λ (xs : _). slice_get xs.items place) (sym d.players) ∙ at in
-        plays_on x old.world.past new.world.past p.idle p.idle named (λ s life. d.others s (λ own. below place x there s life (stands.seats s own))) (λ s life. refl) (stands.plays place x there named);
+        plays_on x old.world.past new.world.past (told_at p.idle) (told_at p.idle) named (λ s life. d.others s (λ own. below place x there s life (subst (λ ss. IsOneOf ss s) stands.seats own))) (λ s life. refl) (stands.plays place x there named);
     lives = λ place actor x is at named.
         let there = ap (λ (xs : _). slice_get xs.items place) (sym d.players) ∙ at in
-        lives_on (role_of actor) x old.world.past new.world.past (life_at x old.world.past p.idle named (stands.plays place x there named)) (λ s life. d.others s (λ own. below place x there s life (stands.seats s own))) (stands.lives place actor x is there named);
+        lives_on (role_of actor) x old.world.past new.world.past p.idle p.idle (life_at x old.world.past (told_at p.idle) named (stands.plays place x there named)) (λ s life. d.others s (λ own. below place x there s life (subst (λ ss. IsOneOf ss s) stands.seats own))) (λ s life. refl) (stands.lives place actor x is there named);
     made = λ place x at. stands.made place x (ap (λ (xs : _). slice_get xs.items place) (sym d.players) ∙ at);
     drainers = d.standing;
-    seats = λ s own. stands.seats s (subst (λ ss. IsOneOf ss s) d.seats own);
+    seats = d.seats ∙ stands.seats;
+    roles = d.roles ∙ stands.roles;
     drained = d.drained ∙ ap (λ n. n + made) stands.drained;
     budget = refl;
     few = let f = d.few in let r = d.room in let e = d.drained in omega (arith, f, r, e);
@@ -319,9 +381,14 @@ drain_moved script option old new made last d p stands = record {
   };
 }
   where
-    ends : IsSettled new.world.setup (world new.world.setup new.world.past) ⊎ (made ≡ new.budget - old.drained) → IsSettled script.setup (world script.setup new.world.past) ⊎ (p.drained + made ≡ new.budget)
-    ends (inl settled) = inl (subst (λ s. IsSettled s (world s new.world.past)) (d.setup ∙ stands.setup) settled)
-    ends (inr spent) = inr (let r = d.room in let e = stands.drained in omega (arith, spent, r, e))
+    rounds : Drains all_pass script.setup new.drainers new.world.past (new.budget - (p.drained + made)) old.drainers p.past (new.budget - p.drained)
+    rounds =
+        let rest : new.budget - old.drained - made ≡ new.budget - (p.drained + made) = let e = stands.drained in omega (arith, e) in
+        let at_first : new.budget - old.drained ≡ new.budget - p.drained = ap (λ n. new.budget - n) stands.drained in
+        subst (λ h. Drains all_pass script.setup new.drainers new.world.past (new.budget - (p.drained + made)) old.drainers h (new.budget - p.drained)) stands.past
+        (subst (λ n. Drains all_pass script.setup new.drainers new.world.past (new.budget - (p.drained + made)) old.drainers old.world.past n) at_first
+        (subst (λ n. Drains all_pass script.setup new.drainers new.world.past n old.drainers old.world.past (new.budget - old.drained)) rest
+        (subst (λ s. Drains all_pass s new.drainers new.world.past (new.budget - old.drained - made) old.drainers old.world.past (new.budget - old.drained)) stands.setup d.rounds)))
 
     below : (place : ℕ) (x : Player) → slice_get old.players.items place ≡ Some x → (s : ℕ) → IsLife x.part s → IsOneOf (drain_seats script) s → ⊥
     below place x there s life own =

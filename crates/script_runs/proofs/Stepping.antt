@@ -4,6 +4,7 @@ use Rattle.std.specs.Prelude.{nat_lt}
 use Rattle.std.proofs.lemmas.Bool.Decides.{nat_tests}
 use Rattle.call_types.specs.declared.entry.Entry.{Entry}
 use Rattle.call_types.specs.declared.request.SeatKind.{SeatKind}
+use Rattle.attention_law.proofs.Silent.{told_stale}
 use Rattle.binder_model.specs.Told.{own}
 use Rattle.world_core.specs.Kept.{History}
 use Rattle.worker_core.specs.declared.turn.Next.{Next}
@@ -24,7 +25,6 @@ use Rattle.script_runs.specs.Steps.Playing.{HasCalled, HasMade, IsLife, IsStill,
 use Rattle.script_runs.specs.Parts.{lives_of}
 use Rattle.script_runs.proofs.Lives.{seat_more, seat_within}
 use Rattle.script_runs.proofs.Since.{new_since, quiet_since, turn_since}
-use Rattle.script_runs.proofs.Stale.{told_stale}
 
 -- ---- a new life
 

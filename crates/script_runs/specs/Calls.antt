@@ -1,20 +1,22 @@
 -- The calls of an actor, counted over its lives, lost ones too. The newest entry of a history stands first.
 -- A choice of this project, after what a controller of Kubernetes meets: calls are lost, and it is restarted.
-use Rattle.std.specs.Prelude.{ℕ, ◌≡◌, ◌⊎◌, ◌+◌, nat_lt, Bool, true, false, List, [], ◌∷◌, ◌++◌, if◌then◌else◌}
+use Rattle.std.specs.Prelude.{ℕ, zero, suc, ◌≡◌, ◌≤◌, ◌<◌, ◌⊎◌, ◌+◌, ◌==◌, nat_lt, Bool, true, false, List, [], ◌∷◌, ◌++◌, is_some, map, if◌then◌else◌}
 use Rattle.kube_types.specs.declared.parts.Kind.{Kind}
 use Rattle.call_types.specs.declared.entry.Entry.{Entry}
 use Rattle.call_types.specs.declared.request.Request.{Request}
 use Rattle.call_types.specs.declared.request.SeatKind.{SeatKind}
-use Rattle.call_types.specs.declared.request.SeatKind.TheVariants as seats
 use Rattle.call_types.specs.declared.reply.Reply.{Reply}
 use Rattle.binder_model.specs.Reading.{follows}
-use Rattle.binder_model.specs.Told.{SomeOf}
-use Rattle.worker_core.specs.Memories.{is_stale_told}
+use Rattle.binder_model.specs.Told.{own}
+use Rattle.attention_law.specs.Diligence.{Call, entries}
+use Rattle.attention_law.specs.Resting.{AreNeeded, IsSilentOnceStale, WasToldStale}
+use Rattle.worker_core.specs.declared.role.Role.{Role}
 use Rattle.worker_core.specs.Stands.{HasNoNews}
 use Rattle.script_runs.specs.declared.loss.Fate.{Fate}
 use Rattle.script_runs.specs.declared.loss.Fate.TheVariants.{Told, LostBefore, LostAfter}
 use Rattle.script_runs.specs.Fates.{fate_of}
 use Rattle.script_runs.specs.declared.part.Part.{Part}
+use Rattle.script_runs.specs.Parts.{lives_of}
 
 -- how many of the restarts come before the call of this number: a restart comes after so many calls
 abbrev pub restarts_before : ℕ → List ℕ → ℕ
@@ -54,14 +56,38 @@ pub record IsQuietSince (kind : SeatKind) (earlier mine : List Entry) : Type 0 w
   pub are : mine ≡ recent ++ earlier
   pub quiet : (k : Kind) → follows kind k ≡ true → HasNoNews k recent
 
-abbrev pub TellsStale : Entry → Type 0
-TellsStale e = (e.told ≡ true) × (is_stale_told e.reply ≡ true)
-
--- an agent was told that its epoch is stale
-abbrev pub WasToldStale : SeatKind → List Entry → Type 0
-WasToldStale kind mine = (kind ≡ seats.Agent) × SomeOf TellsStale mine
-
 -- a turn may give fewer calls than its line says where its life has no news since it was last given fewer, or is an agent's
 -- that was told that its epoch is stale
 abbrev pub MayEnd : SeatKind → List Entry → List Entry → Type 0
 MayEnd kind earlier mine = IsQuietSince kind earlier mine ⊎ WasToldStale kind mine
+
+-- ---- the calls of each life, the newest first
+
+-- a call with this fate leaves an entry
+abbrev pub leaves_entry : Fate → Bool
+leaves_entry Told = true
+leaves_entry LostAfter = true
+leaves_entry LostBefore = false
+
+-- of the actor's calls up to this number those of the life at the seat, the newest first: whether each leaves an entry
+abbrev pub left_by : Part → ℕ → ℕ → List Bool
+left_by part seat zero = []
+left_by part seat (suc n) = if seat_at part (suc n) == seat then leaves_entry (fate_of part.losses (suc n)) ∷ left_by part seat n else left_by part seat n
+
+-- these are the calls of the life at the seat, where the actor has made so many over all lives: their entries are those of
+-- the seat, and a call has none where the script says that it is lost before its effect
+pub record AreOfLife (part : Part) (seat made : ℕ) (past : List Entry) (calls : List Call) : Type 0 where
+  pub of_seat : entries calls ≡ own seat past
+  pub left : map is_some calls ≡ left_by part seat made
+
+-- the life has made some calls since those `before`, after which a turn last gave it fewer, and each of them was needed. An
+-- agent that was told that its epoch is stale has asked nothing after that
+pub record IsNeededLife (role : Role) (part : Part) (seat made : ℕ) (past : List Entry) (before : List Call) : Type 0 where
+  pub since : List Call
+  pub are : AreOfLife part seat made past (since ++ before)
+  pub needed : AreNeeded role.kind since
+  pub silent : IsSilentOnceStale role.kind (since ++ before)
+
+-- each life of the actor is so
+abbrev pub AreNeededLives : Role → Part → ℕ → List Entry → (ℕ → List Call) → Type 0
+AreNeededLives role part made past idle = (seat : ℕ) → part.first ≤ seat → seat < part.first + lives_of part → IsNeededLife role part seat made past (idle seat)

@@ -3,6 +3,7 @@ use Rattle.std.specs.Prelude.{ℕ, ◌≡◌, ◌≢◌, true, false, List, [], 
 use Rattle.kube_types.specs.declared.objects.Meta.{Meta}
 use Rattle.kube_types.specs.declared.objects.Object.{Object}
 use Rattle.kube_types.specs.declared.objects.Object.TheVariants.{Node, Pod}
+use Rattle.kube_types.specs.Uids.{uid_of_serial}
 use Rattle.kube_types.specs.declared.parts.Kind.TheVariants as kinds
 use Rattle.call_types.specs.declared.entry.Entry.{Entry}
 use Rattle.call_types.specs.declared.request.Request.TheVariants as requests
@@ -125,11 +126,11 @@ pub record PartExamples : Type 0 where
   pub an_agent_without_turns_has_no_life : lives_of (part_of with_agents (agent_of (codes "n3"))) ≡ 0
 
 pub record SeatExamples : Type 0 where
-  pub drains_come_after_all_lives : drain_seats two_binders ≡ 10 ∷ 11 ∷ 12 ∷ 13 ∷ 14 ∷ 15 ∷ 16 ∷ []
-  pub a_seat_for_each_node : drain_seats (script_of (codes "n1" ∷ []) []) ≡ 5 ∷ 6 ∷ 7 ∷ 8 ∷ 9 ∷ 10 ∷ []
-  pub none_where_no_node_is : drain_seats with_protection ≡ 9 ∷ 10 ∷ 11 ∷ 12 ∷ 13 ∷ []
-  pub after_a_scheduler_too : drain_seats with_scheduler ≡ 8 ∷ 9 ∷ 10 ∷ 11 ∷ 12 ∷ 13 ∷ []
-  pub a_scheduler_takes_a_seat : drain_seats with_scheduler ≢ 7 ∷ 8 ∷ 9 ∷ 10 ∷ 11 ∷ 12 ∷ []
+  pub drains_come_after_all_lives : drain_seats two_binders ≡ 12 ∷ 11 ∷ 10 ∷ 13 ∷ 14 ∷ 15 ∷ 16 ∷ []
+  pub a_seat_for_each_node : drain_seats (script_of (codes "n1" ∷ []) []) ≡ 7 ∷ 6 ∷ 5 ∷ 8 ∷ 9 ∷ 10 ∷ []
+  pub none_where_no_node_is : drain_seats with_protection ≡ 11 ∷ 10 ∷ 9 ∷ 12 ∷ 13 ∷ []
+  pub after_a_scheduler_too : drain_seats with_scheduler ≡ 10 ∷ 9 ∷ 8 ∷ 11 ∷ 12 ∷ 13 ∷ []
+  pub a_scheduler_takes_a_seat : drain_seats with_scheduler ≢ 9 ∷ 8 ∷ 7 ∷ 10 ∷ 11 ∷ 12 ∷ []
 
 -- ---- budgets
 
@@ -170,6 +171,13 @@ pub record BudgetExamples : Type 0 where
 abbrev pub user_line : ℕ → Line
 user_line user = lines.Call user (requests.List kinds.Pod None)
 
+-- an object of an older store, and a script that begins with one
+abbrev pub imported_node : Object
+imported_node = Node (record { meta = record some_meta { uid = Some (uid_of_serial 7); version = 9 }; extra = [] })
+
+abbrev pub importing : Object → Script
+importing object = record (script_of [] []) { setup = record { pools = []; faults = []; imports = object ∷ [] }; node_names = codes "a" ∷ [] }
+
 pub record LimitExamples : Type 0 where
   pub within : IsReadable two_binders
   pub the_last_user_and_the_most_calls : AreWithinLimits (user_line 4 ∷ lines.Turn binder_1 1000 ∷ [])
@@ -180,4 +188,5 @@ pub record LimitExamples : Type 0 where
   pub no_other_agent : IsReadable (script_of (codes "n1" ∷ []) (lines.Turn (agent_of (codes "n2")) 1 ∷ [])) → ⊥
   pub no_node_twice : IsReadable (script_of (codes "n1" ∷ codes "n1" ∷ []) []) → ⊥
   pub no_other_order : IsReadable (script_of (codes "n2" ∷ codes "n1" ∷ []) []) → ⊥
-  pub no_imports : IsReadable (record (script_of [] []) { setup = record { pools = []; faults = []; imports = some_node ∷ [] } }) → ⊥
+  pub an_import : IsReadable (importing imported_node)
+  pub none_without_a_uid : IsReadable (importing some_node) → ⊥

@@ -5,5 +5,6 @@ pub mod Limits
 pub mod Parts
 pub mod Calls
 pub mod Diligent
+pub mod Drains
 pub mod Replays
 pub mod Steps

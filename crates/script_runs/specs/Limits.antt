@@ -4,6 +4,7 @@ use Rattle.std.specs.Prelude.{ℕ, ◌≡◌, ◌≤◌, ◌<◌, true, List, []
 use Rattle.plain_data.specs.Pairs.{text_cmp}
 use Rattle.plain_data.specs.Rows.{IsRising}
 use Rattle.kube_types.specs.Bindings.{has_name}
+use Rattle.binder_model.specs.Imports.{ImportsPass}
 use Rattle.script_lines.specs.declared.actors.Actor.{Actor}
 use Rattle.script_lines.specs.declared.actors.Actor.TheVariants.{Worker, Agent}
 use Rattle.script_text.specs.declared.script.Line.{Line}
@@ -43,10 +44,10 @@ NameKnown nodes (line ∷ lines) = NamesKnown nodes line × NameKnown nodes line
 abbrev pub AreInOrder : List (List ℕ) → Type 0
 AreInOrder names = IsRising text_cmp (λ name. name) names
 
--- what the reader of scripts gives: no imports, at most 4,096 lines, at most 8 nodes in the order of their names, and agents
--- of these nodes
+-- what the reader of scripts gives: imports that pass one after another, at most 4,096 lines, at most 8 nodes in the order of
+-- their names, and agents of these nodes
 pub record IsReadable (script : Script) : Type 0 where
-  pub imports : script.setup.imports ≡ []
+  pub imports : ImportsPass script.setup.imports
   pub lines : AreWithinLimits script.lines
   pub few : length script.lines ≤ 4096
   pub nodes : length script.node_names ≤ 8

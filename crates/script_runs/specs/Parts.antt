@@ -6,6 +6,7 @@ use Rattle.std.specs.Prelude.{ℕ, ◌+◌, List, [], ◌∷◌, ◌++◌, Bool,
 use Rattle.std.specs.List.{flat_map, list_any}
 use Rattle.call_types.specs.declared.request.SeatKind.{SeatKind}
 use Rattle.call_types.specs.declared.request.SeatKind.TheVariants as seats
+use Rattle.worker_core.specs.declared.role.Role.{Role}
 use Rattle.script_lines.specs.declared.actors.WorkerKind.{WorkerKind}
 use Rattle.script_lines.specs.declared.actors.WorkerKind.TheVariants as workers
 use Rattle.script_lines.specs.declared.actors.Actor.{Actor}
@@ -15,6 +16,7 @@ use Rattle.script_text.specs.declared.script.Line.TheVariants.{Lose, Turn}
 use Rattle.script_text.specs.declared.script.Script.{Script}
 use Rattle.script_lines.specs.Actors.{actor_word, all_workers}
 use Rattle.script_text.specs.Said.{restarts_of}
+use Rattle.worker_threads.specs.Drainers.{roles_for, seats_for}
 use Rattle.script_runs.specs.declared.loss.Loss.{Loss}
 use Rattle.script_runs.specs.declared.part.Part.{Part}
 
@@ -30,6 +32,11 @@ kind_of_worker workers.Volumes = seats.VolumeProtect
 abbrev pub kind_of : Actor → SeatKind
 kind_of (Worker w) = kind_of_worker w.kind
 kind_of (Agent node) = seats.Agent
+
+-- the role of an actor: an agent has its node
+abbrev pub role_of : Actor → Role
+role_of (Worker w) = record { kind = kind_of_worker w.kind; node = [] }
+role_of (Agent node) = record { kind = seats.Agent; node = node }
 
 -- what lines say of the actor of a name
 
@@ -100,18 +107,17 @@ part_of script actor = part_at (actor_word actor) (kind_of actor) (first_actor_s
 abbrev pub lives_of : Part → ℕ
 lives_of part = lives_by part.named (length part.restarts)
 
--- the seats of the drains' actors: binder, ops, scheduler, claim protection, volume protection, and the agents by the names
--- of their nodes
+-- the drains' actors
 
+-- the first of their seats
 abbrev pub drain_seat : Script → ℕ
 drain_seat script = first_actor_seat + all_lives (all_actors script) script.lines
 
--- the seat, and one more for each node
-abbrev pub seats_from : ℕ → List (List ℕ) → List ℕ
-seats_from seat [] = []
-seats_from seat (node ∷ nodes) = seat ∷ seats_from (seat + 1) nodes
+-- their seats and their roles, in the order of a round: the scheduler, ops, the binder, claim protection, volume protection, and
+-- the agents by the names of their nodes
 
 abbrev pub drain_seats : Script → List ℕ
-drain_seats script =
-    drain_seat script ∷ (drain_seat script + 1) ∷ (drain_seat script + 2) ∷ (drain_seat script + 3) ∷ (drain_seat script + 4)
-    ∷ seats_from (drain_seat script + 5) script.node_names
+drain_seats script = seats_for (drain_seat script) script.node_names
+
+abbrev pub drain_roles : Script → List Role
+drain_roles script = roles_for script.node_names

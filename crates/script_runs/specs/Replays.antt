@@ -1,6 +1,6 @@
 -- Whose calls the history of a replayed script has. The newest entry of a history stands first.
 -- A choice of this project.
-use Rattle.std.specs.Prelude.{ℕ, ◌≡◌, ◌≤◌, ◌<◌, ◌⊎◌, ◌+◌, ◌==◌, true, List, [], ◌∷◌, Option, Some, bytes_eq, if◌then◌else◌}
+use Rattle.std.specs.Prelude.{ℕ, ◌≡◌, ◌≤◌, ◌<◌, ◌⊎◌, ◌+◌, ◌-◌, ◌==◌, true, List, [], ◌∷◌, ◌++◌, Option, Some, bytes_eq, if◌then◌else◌}
 use Rattle.call_types.specs.declared.entry.Entry.{Entry}
 use Rattle.call_types.specs.declared.request.Request.{Request}
 use Rattle.call_types.specs.declared.request.SeatKind.TheVariants as seats
@@ -8,25 +8,30 @@ use Rattle.call_types.specs.declared.reply.Reply.{Reply}
 use Rattle.call_types.specs.declared.setup.Setup.{Setup}
 use Rattle.binder_model.specs.Told.{own}
 use Rattle.binder_model.specs.World.{world}
+use Rattle.attention_law.specs.Diligence.{Call as Calling, entries}
+use Rattle.attention_law.specs.Resting.{IsDone, WasToldStale}
+use Rattle.worker_core.specs.declared.role.Role.{Role}
 use Rattle.world_core.specs.declared.drained.Drained.{Drained}
 use Rattle.world_core.specs.declared.drained.Drained.TheVariants.{Settled, Spent}
 use Rattle.binder_model.specs.Due.{IsFirstDue, IsSettled}
-use Rattle.worker_threads.specs.Longer.{IsLonger, users_of}
+use Rattle.worker_threads.specs.declared.drainers.Drainer.{Drainer}
+use Rattle.worker_threads.specs.Drainers.{AreStanding, roles_of, seats_of}
+use Rattle.worker_threads.specs.Rounds.{Drains, Lets, all_pass}
 use Rattle.script_text.specs.declared.script.Line.{Line}
 use Rattle.script_text.specs.declared.script.Line.TheVariants.{Call, Lose, Restart, Turn, Drain}
 use Rattle.script_text.specs.declared.script.Script.{Script}
 use Rattle.script_runs.specs.declared.part.Part.{Part}
 use Rattle.script_runs.specs.Budget.{first_budget, raised}
-use Rattle.script_runs.specs.Calls.{AreCalls, MayEnd, seat_at}
-use Rattle.script_runs.specs.Parts.{drain_seats, part_of}
+use Rattle.script_runs.specs.Calls.{AreCalls, AreNeededLives, AreOfLife, MayEnd, seat_at}
+use Rattle.script_runs.specs.Parts.{drain_roles, drain_seats, part_of, role_of}
 
 -- how far a replay has come
 pub record Progress : Type 0 where
   pub past : List Entry
   -- how many calls each actor has made in turns, by its name
   pub made : List ℕ → ℕ
-  -- the entries that the life of a seat had when a turn last gave it fewer calls than its line says; none at first
-  pub idle : ℕ → List Entry
+  -- the calls that the life of a seat had made when a turn last gave it fewer than its line says; none at first
+  pub idle : ℕ → List Calling
   -- the calls of all drains so far, and how many they may make
   pub drained : ℕ
   pub budget : ℕ
@@ -45,43 +50,52 @@ pub record IsUserCall (user : ℕ) (request : Request) (before after : Progress)
 abbrev pub and_made : List ℕ → ℕ → (List ℕ → ℕ) → List ℕ → ℕ
 and_made name count made other = if bytes_eq other name then made other + count else made other
 
-abbrev pub and_idle : ℕ → List Entry → (ℕ → List Entry) → ℕ → List Entry
+abbrev pub and_idle : {X : Type 0} → ℕ → X → (ℕ → X) → ℕ → X
 and_idle seat mine idle other = if other == seat then mine else idle other
 
--- as many calls as the line says
-pub record MakesAll (part : Part) (calls : ℕ) (before after : Progress) : Type 0 where
+-- as many calls as the line says, each of them needed
+pub record MakesAll (role : Role) (part : Part) (calls : ℕ) (before after : Progress) : Type 0 where
   pub past : List Entry
   pub made : AreCalls part past (before.made part.name + 1) calls before.past
+  pub needed : AreNeededLives role part (before.made part.name + calls) past before.idle
   pub is : after ≡ record before { past = past; made = and_made part.name calls before.made }
 
--- fewer, as the life that would make the next one may end its turn
-pub record MakesFewer (part : Part) (calls : ℕ) (before after : Progress) : Type 0 where
+-- fewer, each of them needed, as the life that would make the next one may end its turn
+pub record MakesFewer (role : Role) (part : Part) (calls : ℕ) (before after : Progress) : Type 0 where
   pub count : ℕ
   pub few : count < calls
   pub past : List Entry
   pub made : AreCalls part past (before.made part.name + 1) count before.past
+  pub needed : AreNeededLives role part (before.made part.name + count) past before.idle
   pub seat : ℕ
   pub life : seat ≡ seat_at part (before.made part.name + count + 1)
-  pub ends : MayEnd part.kind (before.idle seat) (own seat past)
-  pub is : after ≡ record before { past = past; made = and_made part.name count before.made; idle = and_idle seat (own seat past) before.idle }
+  pub ends : MayEnd part.kind (entries (before.idle seat)) (own seat past)
+  -- the calls of the life since it was last given fewer leave nothing to be called for, unless an agent was told StaleEpoch
+  pub since : List Calling
+  pub are : AreOfLife part seat (before.made part.name + count) past (since ++ before.idle seat)
+  pub done : (WasToldStale part.kind (own seat past) → ⊥) → IsDone role (before.idle seat) since
+  pub is : after ≡ record before { past = past; made = and_made part.name count before.made; idle = and_idle seat (since ++ before.idle seat) before.idle }
 
-abbrev pub IsTurn : Part → ℕ → Progress → Progress → Type 0
-IsTurn part calls before after = MakesAll part calls before after ⊎ MakesFewer part calls before after
+abbrev pub IsTurn : Role → Part → ℕ → Progress → Progress → Type 0
+IsTurn role part calls before after = MakesAll role part calls before after ⊎ MakesFewer role part calls before after
 
 -- ---- a drain
 
--- the budget is raised; then come calls of the drains' seats, all told and none of them a user's, until the world is settled or
--- the budget is spent
-pub record IsDrain (script : Script) (option : Option ℕ) (before after : Progress) : Type 0 where
+-- the budget is raised; then come rounds of the drain's actors while something is due and calls are left, and nothing else. Their
+-- seats and roles are those of new ones (`AreNew`), and never change; at first each stands for the entries of its seat. What it
+-- has made are calls: one that is held back leaves no entry. `DrainComesTo` says what follows
+pub record IsDrain (lets : Lets) (script : Script) (option : Option ℕ) (before after : Progress) : Type 0 where
   pub past : List Entry
   pub made : ℕ
   pub budget : ℕ
+  pub drainers : List Drainer
+  pub ran : List Drainer
   pub raises : budget ≡ raised option script.setup before.past before.budget
-  pub entries : IsLonger (drain_seats script) made before.past past
-  pub users : users_of past ≡ users_of before.past
+  pub seats : seats_of drainers ≡ drain_seats script
+  pub roles : roles_of drainers ≡ drain_roles script
+  pub stand : AreStanding drainers before.past
   pub few : before.drained + made ≤ budget
-  pub ends : IsSettled script.setup (world script.setup past) ⊎ (before.drained + made ≡ budget)
-  pub none : IsSettled script.setup (world script.setup before.past) → past ≡ before.past
+  pub rounds : Drains lets script.setup ran past (budget - (before.drained + made)) drainers before.past (budget - before.drained)
   pub is : after ≡ record before { past = past; drained = before.drained + made; budget = budget }
 
 -- ---- the lines
@@ -90,8 +104,8 @@ abbrev pub IsMove : Script → Option ℕ → Line → Progress → Progress →
 IsMove script option (Call user request) before after = IsUserCall user request before after
 IsMove script option (Lose actor call lost) before after = after ≡ before
 IsMove script option (Restart actor calls) before after = after ≡ before
-IsMove script option (Turn actor calls) before after = IsTurn (part_of script actor) calls before after
-IsMove script option Drain before after = IsDrain script option before after
+IsMove script option (Turn actor calls) before after = IsTurn (role_of actor) (part_of script actor) calls before after
+IsMove script option Drain before after = IsDrain all_pass script option before after
 
 -- the lines in order, up to the progress `end`
 pub data AreMoves (script : Script) (option : Option ℕ) (end : Progress) : List Line → Progress → Type 0 where
@@ -110,6 +124,6 @@ pub record IsReplay (script : Script) (option : Option ℕ) (past : List Entry) 
   pub lines_done : Progress
   pub end : Progress
   pub moves : AreMoves script option lines_done script.lines (begun option)
-  pub last : IsDrain script option lines_done end
+  pub last : IsDrain all_pass script option lines_done end
   pub history : past ≡ end.past
   pub ends : EndsAs script.setup end ending

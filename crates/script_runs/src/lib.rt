@@ -1,7 +1,11 @@
 //! A script replayed on one kept world: whose calls its history has.
 //!
 //! Promises: `replay::replay` goes through the lines of a script in order and then drains; `specs/Replays` says what
-//! each line does to the history, so whose calls it has, and how it ends. The history is a run, and safe at every
+//! each line does to the history, so whose calls it has, and how it ends. A turn that gives fewer calls than its line
+//! says leaves no key that the life was told of, and that was due since, without a call. No turn watches a kind in
+//! vain, and an agent that was told StaleEpoch asks nothing more in that life. A drain is rounds of all controllers in
+//! their order, as `worker_threads` says, and nothing else; its clients and their kinds never change.
+//! `drains::drains_come_to` has what follows. The history is a run, and safe at every
 //! point. Each life of each actor that a turn line names is diligent (`specs/Diligent`), and each request of a binder
 //! or a scheduler was given by an actor. What a script says of one actor is `parts::part_from` (`specs/Parts`):
 //! whether a turn names it, which of its calls are lost, after how many calls it begins a new life. `loss::fate_of`
@@ -12,6 +16,7 @@
 
 pub mod budget;
 mod call;
+pub mod drains;
 pub mod examples;
 pub mod limits;
 pub mod loss;

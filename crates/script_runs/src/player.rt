@@ -3,9 +3,10 @@
 ghost use Rattle.std.specs.Prelude.{◌≡◌, ◌<◌, ◌+◌, ◌^◌, ℕ, List, true, IfOk, OnOk, length};
 ghost use Rattle.call_types.specs.declared.entry.Entry.{Entry};
 ghost use Rattle.size_calls.specs.Calls.{AreByActors};
+ghost use Rattle.attention_law.specs.Diligence.{Call};
 ghost use Rattle.worker_core.specs.declared.role.Role.{Role};
 ghost use Rattle.script_runs.specs.Calls.{restarts_before, seat_at};
-ghost use Rattle.script_runs.specs.Steps.Living.{HasLived, Lives};
+ghost use Rattle.script_runs.specs.Steps.Living.{HasLived, HasLivedOn, Lives};
 ghost use Rattle.script_runs.specs.Steps.Playing.{HasStepped, HasTurned, IsSmall, Plays, SomePlays};
 
 use crate::call::make;
@@ -66,7 +67,7 @@ fn begin_life(player: &mut Player)
     ensures made { player.new.made ≡ player.old.made }
     ensures seat { player.new.seat ≡ seat_at player.old.part (player.old.made + 1) }
     ensures plays { (past : List Entry) (idle : ℕ → List Entry) → player.old.part.named ≡ true → Plays player.old past idle → Plays player.new past idle }
-    ensures lives { (role : Role) (past : List Entry) (idle : ℕ → List Entry) → player.old.part.named ≡ true → Plays player.old past idle → Lives role player.old past → Lives role player.new past }
+    ensures lives { (role : Role) (past : List Entry) (told : ℕ → List Entry) (idle : ℕ → List Call) → player.old.part.named ≡ true → Plays player.old past told → Lives role player.old past idle → Lives role player.new past idle }
 {
     let seat = seat_at(&player.part, player.made + 1);
     if seat != player.seat {
@@ -82,7 +83,7 @@ fn step(world: &mut KeptWorld, player: &mut Player) -> Result<bool, OutOfMemory>
     requires plays { SomePlays player.old world.old.past }
     ensures part { player.new.part ≡ player.old.part }
     ensures stepped { IfOk result (λ called. (idle : ℕ → List Entry) → Plays player.old world.old.past idle → HasStepped idle world.old.past world.new.past player.old player.new called) }
-    ensures lived { IfOk result (λ called. (role : Role) → Lives role player.old world.old.past → HasLived role world.new.past player.new called) }
+    ensures lived { IfOk result (λ called. (role : Role) (idle : ℕ → List Call) → Lives role player.old world.old.past idle → HasLived role world.new.past idle player.new called) }
     ensures actors { OnOk result (AreByActors world.old.past → AreByActors world.new.past) }
     ensures setup { world.new.setup ≡ world.old.setup }
 {
@@ -113,7 +114,7 @@ pub(crate) fn turn(
     requires plays { SomePlays player.old world.old.past }
     ensures part { player.new.part ≡ player.old.part }
     ensures turned { OnOk result ((idle : ℕ → List Entry) → Plays player.old world.old.past idle → HasTurned calls idle world.old.past world.new.past player.old player.new) }
-    ensures lives { OnOk result ((role : Role) → Lives role player.old world.old.past → Lives role player.new world.new.past) }
+    ensures lives { OnOk result (HasLivedOn calls world.old.past world.new.past player.old player.new) }
     ensures actors { OnOk result (AreByActors world.old.past → AreByActors world.new.past) }
     ensures setup { world.new.setup ≡ world.old.setup }
 {

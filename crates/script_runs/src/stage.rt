@@ -7,11 +7,10 @@ ghost use Rattle.script_lines.specs.Actors.{actor_word};
 ghost use Rattle.size_calls.specs.Calls.{AreByActors};
 ghost use Rattle.worker_core.specs.Roles.{IsBuiltKind};
 ghost use Rattle.worker_core.specs.Stands.{IsNew, StandsFor};
-ghost use Rattle.worker_threads.specs.Rounds.{EndsWith, made_of};
+ghost use Rattle.worker_threads.specs.Rounds.{EndsWith, all_pass, made_of};
 ghost use Rattle.script_runs.specs.Budget.{first_budget};
 ghost use Rattle.script_runs.specs.Limits.{IsKnown, IsReadable};
-ghost use Rattle.script_runs.specs.Parts.{is_named, kind_of, part_of};
-ghost use Rattle.script_runs.specs.Diligent.{role_of};
+ghost use Rattle.script_runs.specs.Parts.{is_named, kind_of, part_of, role_of};
 ghost use Rattle.script_runs.specs.Replays.{IsDrain, IsMove, IsTurn, IsUserCall, Progress, begun};
 ghost use Rattle.script_runs.specs.Steps.Playing.{IsNewPlayer};
 ghost use Rattle.script_runs.specs.Steps.Standing.{Ended, HasAdded, HasMoved, MadeAtMost, SomeStands, Stands, actors_for, agents_for, part_from, place_of, place_of_kind, place_of_node, place_of_number, with_made, workers_of};
@@ -151,7 +150,7 @@ impl Stage {
         requires few { calls ≤ 1000 }
         requires most { most ≤ 4096000 }
         requires made { MadeAtMost most self.old }
-        ensures moved { OnOk result (HasMoved script.now option (IsTurn (part_of script.now actor.now) calls) self.old self.new) }
+        ensures moved { OnOk result (HasMoved script.now option (IsTurn (role_of actor.now) (part_of script.now actor.now) calls) self.old self.new) }
         ensures actors { OnOk result (AreByActors self.old.world.past → AreByActors self.new.world.past) }
         ensures made { OnOk result (MadeAtMost (most + 1000) self.new) }
     {
@@ -163,7 +162,7 @@ impl Stage {
     /// Raises the budget, and drains.
     fn drain(&mut self, script: &Script, option: Option<u64>) -> Result<Drained, OutOfMemory>
         requires stands { SomeStands script.now option self.old }
-        ensures moved { OnOk result (HasMoved script.now option (IsDrain script.now option) self.old self.new) }
+        ensures moved { OnOk result (HasMoved script.now option (IsDrain all_pass script.now option) self.old self.new) }
         ensures actors { OnOk result (AreByActors self.old.world.past → AreByActors self.new.world.past) }
         ensures ends { IfOk result (λ d. EndsWith self.new.world.setup self.new.world.past (self.new.budget - (self.new.drained - made_of d)) d) }
         ensures made { IfOk result (λ d. made_of d ≤ self.new.drained) }

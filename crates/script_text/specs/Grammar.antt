@@ -5,6 +5,7 @@ use Rattle.std.specs.List.{list_all, slice_split}
 use Rattle.std.specs.declared.result.Result.{Result}
 use Rattle.serde_json.specs.Data.{Data}
 use Rattle.plain_data.specs.Pairs.{Pair}
+use Rattle.kube_types.specs.declared.objects.Object.{Object}
 use Rattle.object_text.specs.Reading.{is_object, value_of}
 use Rattle.script_lines.specs.declared.errors.Reason.{Reason}
 use Rattle.script_lines.specs.declared.errors.Reason.TheVariants.{TooLong, NotObject, UnknownDo, TooManyLines, TooManyObjects, TooManyNodes, TooManyPools, TooManyFaults, TooManyRestarts, TooManyLosses, TooManyTurns}
@@ -19,8 +20,9 @@ use Rattle.script_text.specs.declared.script.Script.{Script}
 use Rattle.script_text.specs.declared.script.Numbered.{Numbered}
 use Rattle.script_lines.specs.Answers.{◌>>=◌, taken, unless}
 use Rattle.script_lines.specs.Actors.{actor_word}
-use Rattle.script_text.specs.Said.{Said, nothing_said, and_said, created_by, created_node, and_node, creates, agents_of, losses_of, restarts_of, calls_of, numbered_of}
-use Rattle.script_text.specs.LineReaders.{verb_at, create_line, meaning_of}
+use Rattle.script_lines.specs.Members.{object_at}
+use Rattle.script_text.specs.Said.{Said, nothing_said, and_said, created_by, meaning_node, and_node, agents_of, objects_of, losses_of, restarts_of, calls_of, numbered_of}
+use Rattle.script_text.specs.LineReaders.{verb_at, create_line, as_line, as_import, meaning_of}
 
 -- ---- limits
 
@@ -63,23 +65,28 @@ abbrev pub first_of : Option Reason → Option Reason → Option Reason
 first_of (Some reason) later = Some reason
 first_of None later = later
 
--- the limit that the last of these lines passes
-abbrev pub create_limit : List Line → Bool → Option Reason
-create_limit lines false = None
-create_limit lines true = first_of (passed (nat_lt most_objects (creates lines)) TooManyObjects) (passed (nat_lt most_nodes (length (agents_of lines))) TooManyNodes)
+-- the limit that imported and created objects pass together
+abbrev pub object_limit : List Object → List Line → Option Reason
+object_limit imports lines = first_of (passed (nat_lt most_objects (objects_of imports lines)) TooManyObjects) (passed (nat_lt most_nodes (length (agents_of imports lines))) TooManyNodes)
 
-abbrev pub line_limit : List Line → Line → Option Reason
-line_limit lines (Call user request) = create_limit lines (is_some (created_by request))
-line_limit lines (Lose actor call after) = passed (nat_lt most_losses (length (losses_of (actor_word actor) lines))) TooManyLosses
-line_limit lines (Restart actor after) = passed (nat_lt most_restarts (length (restarts_of (actor_word actor) lines))) TooManyRestarts
-line_limit lines (Turn actor calls) = passed (nat_lt most_calls (calls_of lines)) TooManyTurns
-line_limit lines Drain = None
+-- the limit that the last of these lines passes, where these objects were imported
+abbrev pub create_limit : List Object → List Line → Bool → Option Reason
+create_limit imports lines false = None
+create_limit imports lines true = object_limit imports lines
+
+abbrev pub line_limit : List Object → List Line → Line → Option Reason
+line_limit imports lines (Call user request) = create_limit imports lines (is_some (created_by request))
+line_limit imports lines (Lose actor call after) = passed (nat_lt most_losses (length (losses_of (actor_word actor) lines))) TooManyLosses
+line_limit imports lines (Restart actor after) = passed (nat_lt most_restarts (length (restarts_of (actor_word actor) lines))) TooManyRestarts
+line_limit imports lines (Turn actor calls) = passed (nat_lt most_calls (calls_of lines)) TooManyTurns
+line_limit imports lines Drain = None
 
 -- the limit that what a line means passes, with which this was said
 abbrev pub limit_of : Said → Meaning → Option Reason
 limit_of said (meanings.Pool pool size) = passed (nat_lt most_pools (length said.pools)) TooManyPools
 limit_of said (meanings.Fault call) = passed (nat_lt most_faults (length said.faults)) TooManyFaults
-limit_of said (meanings.Line line) = line_limit said.lines line
+limit_of said (meanings.Import object) = object_limit said.imports said.lines
+limit_of said (meanings.Line line) = line_limit said.imports said.lines line
 
 abbrev pub unless_passed : Option Reason → Said → Result Said Reason
 unless_passed None said = Ok said
@@ -113,26 +120,28 @@ and_line agents said n line =
 
 -- ---- the agents of the whole text
 
-abbrev pub create_by : Verb → Data → Result Line Reason
-create_by verbs.Create value = create_line value
-create_by verb value = Err UnknownDo
+-- the object that a line creates or imports
+abbrev pub object_by : Verb → Data → Result Meaning Reason
+object_by verbs.Create value = as_line (create_line value)
+object_by verbs.Import value = as_import (object_at value)
+object_by verb value = Err UnknownDo
 
--- what a line creates, by its own members alone
-unfoldable pub own_create : List ℕ → Result Line Reason
-own_create line = do
+-- what a line creates or imports, by its own members alone
+unfoldable pub own_object : List ℕ → Result Meaning Reason
+own_object line = do
   short ← unless (nat_lt most_line_bytes (length line)) TooLong line
   value ← line_value short
   verb ← verb_at value
-  create_by verb value
+  object_by verb value
 
-abbrev pub node_from : Result Line Reason → Option (List ℕ)
-node_from (Ok line) = created_node line
+abbrev pub node_from : Result Meaning Reason → Option (List ℕ)
+node_from (Ok meaning) = meaning_node meaning
 node_from (Err reason) = None
 
--- the agents of the nodes that create lines name, beside others
+-- the agents of the nodes that create and import lines name, beside others
 abbrev pub agents_beside : List Pair → List (List ℕ) → List Pair
 agents_beside agents [] = agents
-agents_beside agents (line ∷ lines) = agents_beside (and_node agents (node_from (own_create line))) lines
+agents_beside agents (line ∷ lines) = agents_beside (and_node agents (node_from (own_object line))) lines
 
 abbrev pub agents_in : List (List ℕ) → List Pair
 agents_in lines = agents_beside [] lines

@@ -6,22 +6,25 @@ use Rattle.serde_json.specs.Data.{Data}
 use Rattle.plain_data.specs.Pairs.{Pair}
 use Rattle.kube_types.specs.Keys.{meta_of}
 use Rattle.kube_types.specs.declared.objects.Object.{Object}
+use Rattle.kube_types.specs.declared.names.ImportFault.{ImportFault}
+use Rattle.binder_model.specs.Imports.{import_fault}
 use Rattle.call_types.specs.declared.request.Request.TheVariants as asks
 use Rattle.object_text.specs.declared.errors.Member.TheVariants as manifests
 use Rattle.script_lines.specs.declared.line_member.LineMember.TheVariants as members
 use Rattle.script_lines.specs.declared.errors.Reason.{Reason}
-use Rattle.script_lines.specs.declared.errors.Reason.TheVariants.{UnknownDo}
+use Rattle.script_lines.specs.declared.errors.Reason.TheVariants.{UnknownDo, BadValue}
 use Rattle.script_lines.specs.declared.verbs.Verb.{Verb}
 use Rattle.script_lines.specs.declared.verbs.Verb.TheVariants as verbs
 use Rattle.script_text.specs.declared.script.Line.{Line}
 use Rattle.script_text.specs.declared.script.Line.TheVariants.{Call, Lose, Restart, Turn, Drain}
 use Rattle.script_text.specs.declared.script.Meaning.{Meaning}
 use Rattle.script_text.specs.declared.script.Meaning.TheVariants as meanings
-use Rattle.script_lines.specs.Answers.{◌>>=◌}
+use Rattle.script_lines.specs.Answers.{◌>>=◌, unless}
 use Rattle.script_lines.specs.Actors.{actor_word}
 use Rattle.script_lines.specs.Members.{text_at, count_at, most_turn, new_call_at, user_at, kind_at, key_at, condition_at, object_at, actor_at, when_at, size_at, topology_at, edit_at}
+use Rattle.script_lines.specs.Imports.{import_reason}
 use Rattle.script_lines.specs.Verbs.{verb_named}
-use Rattle.script_text.specs.Said.{Said, losses_of, restarts_of}
+use Rattle.script_text.specs.Said.{Said, has_begun, losses_of, restarts_of}
 
 -- ---- users' calls
 
@@ -87,6 +90,18 @@ pool_line line = do
 unfoldable pub fault_line : List ℕ → Data → Result Meaning Reason
 fault_line faults line = new_call_at members.Call faults line >>= λ call. Ok (meanings.Fault call)
 
+-- the object, unless it is not imported
+abbrev pub unless_fault : Option ImportFault → Object → Result Meaning Reason
+unless_fault None object = Ok (meanings.Import object)
+unless_fault (Some fault) object = Err (import_reason fault)
+
+-- an object of an older store, before any call and after the objects that were imported before it
+unfoldable pub import_line : List Line → List Object → Data → Result Meaning Reason
+import_line lines before line = do
+  object ← object_at line
+  early ← unless (has_begun lines) (BadValue members.Do) object
+  unless_fault (import_fault before early) early
+
 -- ---- actors: those of these agents; no number of an actor's call twice
 
 unfoldable pub lose_line : List Pair → List Line → Data → Result Line Reason
@@ -121,6 +136,10 @@ abbrev pub as_line : Result Line Reason → Result Meaning Reason
 as_line (Ok line) = Ok (meanings.Line line)
 as_line (Err reason) = Err reason
 
+abbrev pub as_import : Result Object Reason → Result Meaning Reason
+as_import (Ok object) = Ok (meanings.Import object)
+as_import (Err reason) = Err reason
+
 abbrev pub meaning_by : Verb → List Pair → Said → Data → Result Meaning Reason
 meaning_by verbs.Create agents said line = as_line (create_line line)
 meaning_by verbs.Update agents said line = as_line (update_line line)
@@ -131,6 +150,7 @@ meaning_by verbs.List agents said line = as_line (list_line line)
 meaning_by verbs.Time agents said line = as_line (time_line line)
 meaning_by verbs.Pool agents said line = pool_line line
 meaning_by verbs.Fault agents said line = fault_line said.faults line
+meaning_by verbs.Import agents said line = import_line said.lines said.imports line
 meaning_by verbs.Lose agents said line = as_line (lose_line agents said.lines line)
 meaning_by verbs.Restart agents said line = as_line (restart_line agents said.lines line)
 meaning_by verbs.Turn agents said line = as_line (turn_line agents line)

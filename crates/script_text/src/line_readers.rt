@@ -4,12 +4,12 @@ ghost use Rattle.std.specs.Prelude.{◌≡◌};
 ghost use Rattle.serde_json.specs.View.{view};
 ghost use Rattle.script_lines.specs.declared.errors.Reason.TheVariants.{BadValue};
 ghost use Rattle.script_lines.specs.Answers.{Gives, unless};
-ghost use Rattle.script_text.specs.Steps.Results.{line_result};
-ghost use Rattle.script_text.specs.LineReaders.{create_line, condition_of, update_line, edit_line, delete_line, get_line, list_line, time_line, pool_line, fault_line, lose_line, restart_line, turn_line, verb_from, verb_at, meaning_by};
+ghost use Rattle.script_text.specs.Steps.Results.{import_result, line_result};
+ghost use Rattle.script_text.specs.LineReaders.{create_line, condition_of, update_line, edit_line, delete_line, get_line, list_line, time_line, pool_line, fault_line, import_line, lose_line, restart_line, turn_line, verb_from, verb_at, meaning_by};
 ghost use Rattle.script_lines.specs.declared.line_member.LineMember.TheVariants as members;
 ghost use Rattle.script_lines.specs.Actors.{actor_word};
 ghost use Rattle.script_lines.specs.Members.{new_call_at};
-ghost use Rattle.script_text.specs.Said.{losses_of, restarts_of};
+ghost use Rattle.script_text.specs.Said.{begins, has_begun, losses_of, restarts_of};
 ghost use Rattle.script_lines.specs.Verbs.{verb_named};
 ghost use Rattle.script_text.specs.Steps.Indexed.{Stands, said_by};
 
@@ -17,6 +17,7 @@ use crate::progress::Progress;
 use crate::script::{Line, Meaning};
 use call_types::request::Request;
 use call_types::setup::Pool;
+use field_rules::check_import;
 use kube_types::copies::Plain;
 use kube_types::key::meta_of;
 use kube_types::objects::{Object, Version};
@@ -25,6 +26,7 @@ use object_text::errors::Member;
 use script_lines::actors::Actor;
 use script_lines::edits::edit_at;
 use script_lines::errors::{LineError, Reason};
+use script_lines::imports::import_reason;
 use script_lines::line_member::LineMember;
 use script_lines::members::{
     actor_at, call_at, condition_at, count_at, key_at, kind_at, object_at, size_at, text_at,
@@ -178,6 +180,47 @@ fn fault_line(progress: &Progress, line: &Value) -> Result<Meaning, LineError>
     Ok(Meaning::Fault { call })
 }
 
+/// Whether the calls begin with the line: what comes from there on is not there from the start.
+fn begins(line: &Line) -> bool
+    ensures { result ≡ begins line.now }
+{
+    match line {
+        Line::Call {
+            user: _,
+            request: _,
+        } => true,
+        Line::Lose {
+            actor: _,
+            call: _,
+            after: _,
+        } => false,
+        Line::Restart { actor: _, after: _ } => false,
+        Line::Turn { actor: _, calls: _ } => true,
+        Line::Drain => true,
+    }
+}
+
+fn has_begun(lines: &[Line]) -> bool
+    ensures { result ≡ has_begun lines.now }
+{
+    lines.iter().any(begins)
+}
+
+/// An object of an older store: before any call, and none that the objects before it refuse.
+#[tactic(auto, unfolding(crate::specs::LineReaders::import_line))]
+fn import_line(alloc: Global, progress: &Progress, line: &Value) -> Result<Meaning, LineError>
+    ensures { Gives result (import_line progress.now.lines progress.now.imports (view line.now)) }
+{
+    let object = object_at(alloc, line)?;
+    if has_begun(progress.lines.as_slice()) {
+        return Err(LineError::Refused(Reason::BadValue(LineMember::Do)));
+    }
+    match check_import(progress.imports.as_slice(), &object) {
+        Ok(()) => Ok(Meaning::Import(object)),
+        Err(fault) => Err(LineError::Refused(import_reason(fault))),
+    }
+}
+
 // ---- actors
 
 fn new_loss(
@@ -267,8 +310,18 @@ pub(crate) fn verb_at(line: &Value) -> Result<Verb, LineError>
     known_verb(word)
 }
 
+/// An object that was read, as what its line means.
+pub(crate) fn as_import(read: Result<Object, LineError>) -> Result<Meaning, LineError>
+    ensures { result ≡ import_result read }
+{
+    match read {
+        Ok(object) => Ok(Meaning::Import(object)),
+        Err(e) => Err(e),
+    }
+}
+
 /// A line that was read, as what it means.
-fn as_line(read: Result<Line, LineError>) -> Result<Meaning, LineError>
+pub(crate) fn as_line(read: Result<Line, LineError>) -> Result<Meaning, LineError>
     ensures { result ≡ line_result read }
 {
     match read {
@@ -299,6 +352,7 @@ pub(crate) fn meaning_by(
         Verb::Time => as_line(time_line(alloc, line)),
         Verb::Pool => pool_line(alloc, line),
         Verb::Fault => fault_line(progress, line),
+        Verb::Import => import_line(alloc, progress, line),
         Verb::Lose => as_line(lose_line(alloc, agents, progress, line)),
         Verb::Restart => as_line(restart_line(alloc, agents, progress, line)),
         Verb::Turn => as_line(turn_line(alloc, agents, line)),

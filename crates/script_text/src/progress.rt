@@ -1,20 +1,21 @@
 //! What the lines so far said.
 
-ghost use Rattle.std.specs.Prelude.{◌≡◌, length, IfOk, IfErr, OnOk};
+ghost use Rattle.std.specs.Prelude.{◌≡◌, false, length, IfOk, IfErr, OnOk};
 ghost use Rattle.std.specs.List.Sorted.{IsSearchInRange};
 ghost use Rattle.std.specs.Ordering.{nat_cmp};
 ghost use Rattle.plain_data.specs.Rows.{IsAt, IsGap, put};
 ghost use Rattle.script_text.specs.declared.script.Meaning.TheVariants as meanings;
 ghost use Rattle.script_lines.specs.Members.{is_given};
-ghost use Rattle.script_text.specs.Said.{nothing_said, and_said, agents_of, losses_of, restarts_of, nodes_of, numbered_of};
+ghost use Rattle.script_text.specs.Said.{nothing_said, and_said, has_begun, agents_of, losses_of, restarts_of, nodes_of, numbered_of};
 ghost use Rattle.script_text.specs.Grammar.{limit_of, unless_passed};
 ghost use Rattle.script_text.specs.Steps.Indexed.{AreFaults, Stands, Takes, said_by};
 
-use crate::index::{Index, no_index, note_line};
+use crate::index::{Index, no_index, note_import, note_line};
 use crate::script::{Line, Numbered, Script};
 use call_types::setup::{Pool, Setup};
 use kube_types::copies::OutOfMemory;
 use kube_types::items::Items;
+use kube_types::objects::Object;
 use kube_types::text::{Names, Text};
 use script_lines::errors::{LineError, Reason};
 use std::alloc::Global;
@@ -23,11 +24,12 @@ const MOST_POOLS: usize = 64;
 
 const MOST_FAULTS: usize = 256;
 
-/// What was said, and the index of its lines.
+/// What was said, and the index of its objects and lines.
 pub struct Progress {
     pub pools: Items<Pool>,
     pub sizes: Names,
     pub faults: Vec<u64>,
+    pub imports: Items<Object>,
     pub lines: Items<Line>,
     pub numbers: Items<u64>,
     pub index: Index,
@@ -39,6 +41,7 @@ impl Drop for Progress {
             pools,
             sizes,
             faults,
+            imports,
             lines,
             numbers,
             index,
@@ -46,6 +49,7 @@ impl Drop for Progress {
         drop(pools);
         drop(sizes);
         drop(faults);
+        drop(imports);
         drop(lines);
         drop(numbers);
         drop(index);
@@ -86,6 +90,7 @@ impl Progress {
             pools: Items::new(alloc),
             sizes: Names::new(alloc),
             faults: Vec::new(alloc),
+            imports: Items::new(alloc),
             lines: Items::new(alloc),
             numbers: Items::new(alloc),
             index: no_index(alloc),
@@ -145,6 +150,27 @@ pub(crate) fn take_fault(progress: &mut Progress, _number: u64, call: u64) -> Re
     Ok(())
 }
 
+pub(crate) fn take_import(
+    alloc: Global,
+    progress: &mut Progress,
+    _number: u64,
+    object: Object,
+) -> Result<(), LineError>
+    requires stands { Stands progress.old }
+    requires early { has_begun progress.old.lines ≡ false }
+    ensures { Takes result progress.new (unless_passed (limit_of (and_said (said_by progress.old) _number (meanings.Import object)) (meanings.Import object)) (and_said (said_by progress.old) _number (meanings.Import object))) }
+{
+    note_import(
+        alloc,
+        &mut progress.index,
+        progress.imports.as_slice(),
+        progress.lines.as_slice(),
+        &object,
+    )?;
+    progress.imports.push(object)?;
+    Ok(())
+}
+
 pub(crate) fn take_line(
     alloc: Global,
     progress: &mut Progress,
@@ -154,7 +180,13 @@ pub(crate) fn take_line(
     requires { Stands progress.old }
     ensures { Takes result progress.new (unless_passed (limit_of (and_said (said_by progress.old) number (meanings.Line line)) (meanings.Line line)) (and_said (said_by progress.old) number (meanings.Line line))) }
 {
-    note_line(alloc, &mut progress.index, progress.lines.as_slice(), &line)?;
+    note_line(
+        alloc,
+        &mut progress.index,
+        progress.imports.as_slice(),
+        progress.lines.as_slice(),
+        &line,
+    )?;
     progress.lines.push(line)?;
     progress.numbers.push(number)?;
     Ok(())
@@ -176,13 +208,14 @@ impl Progress {
     pub fn into_numbered(self, alloc: Global) -> Result<Numbered, OutOfMemory>
         requires { Stands self }
         ensures said { IfOk result (λ n. n ≡ numbered_of (said_by self)) }
-        ensures nodes { IfOk result (λ n. n.script.node_names ≡ nodes_of (agents_of n.script.lines)) }
+        ensures nodes { IfOk result (λ n. n.script.node_names ≡ nodes_of (agents_of n.script.setup.imports n.script.lines)) }
     {
         let names = node_names(alloc, &self.index)?;
         let Progress {
             pools,
             sizes,
             faults,
+            imports,
             lines,
             numbers,
             index: _,
@@ -192,7 +225,7 @@ impl Progress {
                 setup: Setup {
                     pools,
                     faults: Items::from_vec(faults),
-                    imports: Items::new(alloc),
+                    imports,
                 },
                 lines,
                 node_names: names,

@@ -6,14 +6,14 @@ ghost use Rattle.serde_json.specs.View.{view};
 ghost use Rattle.json_text.specs.Trees.{tree_data};
 ghost use Rattle.object_text.specs.Reading.{value_of};
 ghost use Rattle.script_lines.specs.Answers.{Gives, GivesBy, ScriptGives, taken};
-ghost use Rattle.script_text.specs.Said.{agents_of, and_node, created_node, nodes_of};
+ghost use Rattle.script_text.specs.Said.{agents_of, and_node, created_node, meaning_node, nodes_of};
 ghost use Rattle.script_text.specs.LineReaders.{meaning_of};
-ghost use Rattle.script_text.specs.Grammar.{agents_in, and_filled, and_line, is_blank, line_value, lines_of, node_from, own_create, read_numbered_of, said_in, script_of};
+ghost use Rattle.script_text.specs.Grammar.{agents_in, and_filled, and_line, is_blank, line_value, lines_of, node_from, own_object, read_numbered_of, said_in, script_of};
 ghost use Rattle.script_text.specs.Steps.Indexed.{Stands, Takes, said_by};
 ghost use Rattle.script_text.specs.Steps.Known.{IfNamed, IsKnown, SaidGives, names_actor};
 
-use crate::index::{node_name, put_node};
-use crate::line_readers::{create_line, meaning_by, verb_at};
+use crate::index::{imported_node, node_name, put_node};
+use crate::line_readers::{as_import, as_line, create_line, meaning_by, verb_at};
 use crate::progress::Progress;
 use crate::script::{Line, Meaning, Numbered, Script};
 use call_types::request::Request;
@@ -23,6 +23,7 @@ use kube_types::pairs::Pairs;
 use kube_types::text::Text;
 use object_text::reading::value_of;
 use script_lines::errors::{BadLine, LineError, Reason, ScriptError};
+use script_lines::members::object_at;
 use script_lines::verbs::Verb;
 use serde_json::Value;
 use std::alloc::{AllocError, Global};
@@ -69,10 +70,10 @@ fn line_value(alloc: Global, line: &[u8]) -> Result<Tree, LineError>
 
 // ---- the agents of the whole text
 
-/// What a line creates, by its own members alone.
-#[tactic(auto, unfolding(crate::specs::Grammar::own_create))]
-fn own_create(alloc: Global, line: &[u8]) -> Result<Line, LineError>
-    ensures { Gives result (own_create line.now) }
+/// What a line creates or imports, by its own members alone.
+#[tactic(auto, using(crate::proofs::LineResults::line_gives, crate::proofs::LineResults::import_gives), unfolding(crate::specs::Grammar::own_object))]
+fn own_object(alloc: Global, line: &[u8]) -> Result<Meaning, LineError>
+    ensures { Gives result (own_object line.now) }
 {
     if line.len() > MOST_LINE_BYTES {
         return Err(LineError::Refused(Reason::TooLong));
@@ -80,7 +81,8 @@ fn own_create(alloc: Global, line: &[u8]) -> Result<Line, LineError>
     let tree = line_value(alloc, line)?;
     let verb = verb_at(tree.value())?;
     match verb {
-        Verb::Create => create_line(alloc, tree.value()),
+        Verb::Create => as_line(create_line(alloc, tree.value())),
+        Verb::Import => as_import(object_at(alloc, tree.value())),
         _ => Err(LineError::Refused(Reason::UnknownDo)),
     }
 }
@@ -98,11 +100,23 @@ fn created_node(line: &Line) -> Option<&Text>
     }
 }
 
-fn put_line_node(alloc: Global, agents: &mut Pairs, line: &[u8]) -> Result<(), OutOfMemory>
-    ensures ok { OnOk result (agents.new ≡ and_node agents.old (node_from (own_create line.now))) }
+/// The node that what a line means gives.
+fn meaning_node(meaning: &Meaning) -> Option<&Text>
+    ensures { option_map (λ n. n.now) result ≡ meaning_node meaning.now }
 {
-    match own_create(alloc, line) {
-        Ok(created) => match created_node(&created) {
+    match meaning {
+        Meaning::Pool { pool: _, size: _ } => None,
+        Meaning::Fault { call: _ } => None,
+        Meaning::Import(object) => imported_node(object),
+        Meaning::Line(line) => created_node(line),
+    }
+}
+
+fn put_line_node(alloc: Global, agents: &mut Pairs, line: &[u8]) -> Result<(), OutOfMemory>
+    ensures ok { OnOk result (agents.new ≡ and_node agents.old (node_from (own_object line.now))) }
+{
+    match own_object(alloc, line) {
+        Ok(meaning) => match meaning_node(&meaning) {
             Some(node) => put_node(alloc, agents, node),
             None => Ok(()),
         },
@@ -277,7 +291,7 @@ fn said_in(alloc: Global, lines: &[&[u8]]) -> Result<Progress, ScriptError>
 #[tactic(auto, unfolding(crate::specs::Grammar::read_numbered_of))]
 pub fn read_numbered(alloc: Global, text: &[u8]) -> Result<Numbered, ScriptError>
     ensures gives { ScriptGives result (read_numbered_of text.now) }
-    ensures nodes { IfOk result (λ n. n.script.node_names ≡ nodes_of (agents_of n.script.lines)) }
+    ensures nodes { IfOk result (λ n. n.script.node_names ≡ nodes_of (agents_of n.script.setup.imports n.script.lines)) }
 {
     let lines = lines_of(alloc, text)?;
     let progress = said_in(alloc, &lines)?;
@@ -287,7 +301,7 @@ pub fn read_numbered(alloc: Global, text: &[u8]) -> Result<Numbered, ScriptError
 /// The script of a text.
 pub fn read_script(alloc: Global, text: &[u8]) -> Result<Script, ScriptError>
     ensures gives { ScriptGives result (script_of text.now) }
-    ensures nodes { IfOk result (λ s. s.node_names ≡ nodes_of (agents_of s.lines)) }
+    ensures nodes { IfOk result (λ s. s.node_names ≡ nodes_of (agents_of s.setup.imports s.lines)) }
 {
     let numbered = read_numbered(alloc, text)?;
     Ok(numbered.into_script())

@@ -3,12 +3,13 @@
 ghost use Rattle.std.specs.Prelude.{◌≡◌};
 ghost use Rattle.script_text.specs.Said.{and_said};
 ghost use Rattle.script_text.specs.Grammar.{limit_of, unless_passed};
-ghost use Rattle.script_text.specs.Steps.Indexed.{Stands, Takes, said_by};
+ghost use Rattle.script_text.specs.Steps.Indexed.{CanTake, Stands, Takes, said_by};
 
-use crate::progress::{Progress, take_fault, take_line, take_pool};
+use crate::progress::{Progress, take_fault, take_import, take_line, take_pool};
 use call_types::request::Request;
 use call_types::setup::{Pool, Setup};
 use kube_types::items::Items;
+use kube_types::objects::Object;
 use kube_types::text::{Names, Text};
 use script_lines::actors::Actor;
 use script_lines::errors::LineError;
@@ -58,10 +59,11 @@ impl Drop for Line {
 }
 
 /// What one line of a text means: a pool, with its size as it was written; the number of a Provision or
-/// Erase call that fails; or a line of the script.
+/// Erase call that fails; an object of an older store; or a line of the script.
 pub enum Meaning {
     Pool { pool: Pool, size: Text },
     Fault { call: u64 },
+    Import(Object),
     Line(Line),
 }
 
@@ -73,6 +75,7 @@ impl Drop for Meaning {
                 drop(size);
             }
             Meaning::Fault { call: _ } => {}
+            Meaning::Import(object) => drop(object),
             Meaning::Line(line) => drop(line),
         }
     }
@@ -86,19 +89,21 @@ impl Meaning {
         progress: &mut Progress,
         number: u64,
     ) -> Result<(), LineError>
-        requires { Stands progress.old }
+        requires stands { Stands progress.old }
+        requires early { CanTake progress.old.lines self }
         ensures { Takes result progress.new (unless_passed (limit_of (and_said (said_by progress.old) number self) self) (and_said (said_by progress.old) number self)) }
     {
         match self {
             Meaning::Pool { pool, size } => take_pool(progress, number, pool, &size),
             Meaning::Fault { call } => take_fault(progress, number, call),
+            Meaning::Import(object) => take_import(alloc, progress, number, object),
             Meaning::Line(line) => take_line(alloc, progress, number, line),
         }
     }
 }
 
 /// What a script says: what the world begins with, and its lines in order. Beside them stand the nodes that
-/// its create lines name, in order, and the sizes of the pools as they were written.
+/// its create and import lines name, in order, and the sizes of the pools as they were written.
 pub struct Script {
     pub setup: Setup,
     pub lines: Items<Line>,
@@ -122,7 +127,8 @@ impl Drop for Script {
 }
 
 impl Script {
-    /// The names of the nodes that its create lines name, in order, each once.
+    /// The names of the nodes that its lines create or import, and of those on which imported pods are
+    /// scheduled, in order, each once.
     pub fn nodes(&self) -> &Names
         ensures { result.now ≡ self.now.node_names }
     {

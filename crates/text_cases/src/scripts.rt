@@ -76,13 +76,30 @@ fn counts(alloc: Global, text: &[u8]) -> Result<String, OutOfMemory> {
             let pools = script.setup.pools.as_slice().len();
             let faults = script.setup.faults.as_slice().len();
             let nodes = script.nodes().as_slice().len();
-            Ok(format!(in alloc; "lines {lines} pools {pools} faults {faults} nodes {nodes}")?)
+            let imports = script.setup.imports.as_slice().len();
+            let shown = format!(in alloc;
+                "lines {lines} pools {pools} faults {faults} nodes {nodes}"
+            )?;
+            if imports == 0 {
+                Ok(shown)
+            } else {
+                Ok(format!(in alloc; "{shown} imports {imports}")?)
+            }
         }
         Err(error) => refusal(alloc, error),
     }
 }
 
-/// The text so many times, a line each, with the number of the time for `#`, and then a last text.
+/// The number with zeros before it, twelve digits in all.
+fn padded(alloc: Global, number: &str) -> Result<String, OutOfMemory> {
+    let zeros = 12_usize.saturating_sub(number.len());
+    let mut padded = letters(alloc, zeros as u64, "0")?;
+    padded.push_str(number)?;
+    Ok(padded)
+}
+
+/// The text so many times, a line each, with the number of the time for `#`, in twelve digits for `%`, and then a
+/// last text.
 fn times(alloc: Global, count: u64, text: &str) -> Result<String, OutOfMemory> {
     let (text, last) = text.split_once("@@").unwrap_or((text, ""));
     let mut all = String::new(alloc);
@@ -90,6 +107,8 @@ fn times(alloc: Global, count: u64, text: &str) -> Result<String, OutOfMemory> {
         let number = i + 1;
         let number = format!(in alloc; "{number}")?;
         let line = replaced(alloc, text, "#", number.as_str())?;
+        let digits = padded(alloc, number.as_str())?;
+        let line = replaced(alloc, line.as_str(), "%", digits.as_str())?;
         all.push_str(line.as_str())?;
         all.push_str("\n")?;
     }

@@ -2,7 +2,7 @@
 
 ghost use Rattle.text_examples.specs.Script.Limits.{LimitExamples};
 ghost use Rattle.text_examples.specs.Script.Lines.{ActorExamples, CallExamples, EditExamples, SetupExamples};
-ghost use Rattle.text_examples.specs.Script.Refusals.{AgainExamples, OrderExamples, PlaceExamples, PrintedExamples, ReasonExamples};
+ghost use Rattle.text_examples.specs.Script.Refusals.{AgainExamples, ImportExamples, OrderExamples, PlaceExamples, PrintedExamples, ReasonExamples};
 ghost use Rattle.text_examples.specs.Script.Texts.{TextExamples};
 
 /// Lines of users' calls.
@@ -45,6 +45,12 @@ pub fn order_examples()
 #[tactic(auto, using(crate::proofs::Script::Refusing::again_examples))]
 pub fn again_examples()
     ensures { AgainExamples }
+{}
+
+/// Why an object of an older store is refused.
+#[tactic(auto, using(crate::proofs::Script::Refusing::import_examples))]
+pub fn import_examples()
+    ensures { ImportExamples }
 {}
 
 /// The line that is at fault.

@@ -1,5 +1,5 @@
 -- A history that has grown by calls of some seats.
-use Rattle.std.proofs.Common.{◌≡◌, ◌∙◌, ◌+◌, ℕ, List, [], ◌∷◌, ◌++◌, Bool, true, false, true≢false, cond, refl, sym, ap, subst, inl, append_assoc, length-append, arith, Result, Ok, Err}
+use Rattle.std.proofs.Common.{◌≡◌, ◌≤◌, ◌∙◌, ◌+◌, ℕ, List, [], ◌∷◌, ◌++◌, Bool, true, false, true≢false, cond, refl, sym, ap, subst, inl, append_assoc, length-append, arith, Result, Ok, Err}
 use Rattle.std.specs.Prelude.{OnErr}
 use Rattle.call_types.specs.declared.entry.Entry.{Entry}
 use Rattle.call_types.specs.declared.request.SeatKind.{SeatKind}
@@ -8,7 +8,7 @@ use Rattle.binder_model.specs.Answers.{is_user}
 use Rattle.binder_model.specs.Told.{own}
 use Rattle.model_laws.proofs.Evidence.{own_other}
 use Rattle.worker_core.specs.Roles.{IsBuiltKind}
-use Rattle.worker_threads.specs.Longer.{AreToldOf, HasGrown, IsLonger, IsOneOf, users_of}
+use Rattle.worker_threads.specs.Longer.{AreToldOf, GrowsWithin, HasGrown, IsLonger, IsOneOf, users_of}
 
 told_append : (seats : List ℕ) (es fs : List Entry) → AreToldOf seats es → AreToldOf seats fs → AreToldOf seats (es ++ fs)
 told_append seats [] fs a b = b
@@ -44,6 +44,27 @@ grown_then seats h middle past first second = record { made = first.made + secon
 
 pub not_grown : (seats : List ℕ) (h past : List Entry) → past ≡ h → HasGrown seats h past
 not_grown seats h past is = record { made = 0; longer = subst (λ p. IsLonger seats 0 h p) (sym is) (not_longer seats h) }
+
+-- no more entries than calls
+
+pub not_within : (seats : List ℕ) (calls : ℕ) (h past : List Entry) → past ≡ h → GrowsWithin seats calls h past
+not_within seats calls h past is = record { made = 0; few = omega arith; longer = subst (λ p. IsLonger seats 0 h p) (sym is) (not_longer seats h) }
+
+pub one_within : (seats : List ℕ) (e : Entry) (h : List Entry) → IsOneOf seats e.seat → e.told ≡ true → GrowsWithin seats 1 h (e ∷ h)
+one_within seats e h of_seat told = record { made = 1; few = omega arith; longer = one_longer seats e h of_seat told }
+
+pub within_then : (seats : List ℕ) (a b calls : ℕ) (h middle past : List Entry) → a + b ≤ calls → GrowsWithin seats a h middle → GrowsWithin seats b middle past → GrowsWithin seats calls h past
+within_then seats a b calls h middle past few first second = record {
+  made = first.made + second.made;
+  few = let f = first.few in let s = second.few in omega (arith, few, f, s);
+  longer = longer_then seats first.made second.made h middle past first.longer second.longer;
+}
+
+pub within_more : (seats : List ℕ) (a b : ℕ) (h past : List Entry) → a ≤ b → GrowsWithin seats a h past → GrowsWithin seats b h past
+within_more seats a b h past few g = record { made = g.made; few = let f = g.few in omega (arith, few, f); longer = g.longer }
+
+pub within_wider : (a b : List ℕ) → ((seat : ℕ) → IsOneOf a seat → IsOneOf b seat) → (calls : ℕ) (h past : List Entry) → GrowsWithin a calls h past → GrowsWithin b calls h past
+within_wider a b wider calls h past g = record { made = g.made; few = g.few; longer = longer_wider a b wider g.made h past g.longer }
 
 -- and one call more
 pub grown_more : (seat : ℕ) (first h past : List Entry) (e : Entry) → HasGrown (seat ∷ []) first h → past ≡ e ∷ h → e.seat ≡ seat → e.told ≡ true → HasGrown (seat ∷ []) first past

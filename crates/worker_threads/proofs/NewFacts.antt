@@ -1,7 +1,7 @@
--- New drainers: their seats differ, they stand where their seats have no entries, and the first is no agent.
+-- New drainers: which seats and roles they have, that their seats differ, and that they stand where their seats have no entries.
 use Rattle.std.proofs.Common.{◌≡◌, ◌∙◌, ◌+◌, ◌≤◌, ◌<◌, ℕ, zero, suc, List, [], ◌∷◌, ◌++◌, drop, length, get_or, add-one, Some, refl, sym, ap, subst, arith, append_assoc, append-nil}
 use Rattle.std.specs.Bool.{⊤}
-use Rattle.std.specs.Prelude.{slice_get}
+use Rattle.std.specs.Prelude.{map, slice_get}
 use Rattle.std.proofs.lemmas.List.{drop_all}
 use Rattle.std.proofs.Math.Seq.{drop-cons}
 use Rattle.call_types.specs.declared.entry.Entry.{Entry}
@@ -10,9 +10,9 @@ use Rattle.call_types.specs.declared.request.SeatKind.TheVariants as seats
 use Rattle.binder_model.specs.Told.{own}
 use Rattle.model_laws.proofs.Lists.{none_some, one}
 use Rattle.worker_core.specs.declared.role.Role.{Role}
-use Rattle.worker_core.specs.Stands.{StandsFor}
+use Rattle.attention_law.proofs.Kept.{new_queues}
 use Rattle.worker_threads.specs.declared.drainers.Drainer.{Drainer}
-use Rattle.worker_threads.specs.Drainers.{AreAdded, AreNew, AreNewAgents, AreSeats, AreStanding, BeginsSteady, HaveNoEntries, IsAdded, IsNewAt, roles_of, seats_of}
+use Rattle.worker_threads.specs.Drainers.{AreAdded, AreNew, AreNewAgents, AreSeats, AreStanding, HaveNoEntries, IsAdded, IsNewAt, StandsWhole, agent_of, of_kind, roles_for, roles_of, seats_for, seats_from, seats_of}
 
 -- ---- the seats
 
@@ -67,6 +67,32 @@ new_seats first nodes ds new =
     ∙ ap (λ s. (first + 2) ∷ (first + 1) ∷ first ∷ s ∷ new.volumes.seat ∷ seats_of new.agents) new.claims_is.at
     ∙ ap (λ s. (first + 2) ∷ (first + 1) ∷ first ∷ (first + 3) ∷ s ∷ seats_of new.agents) new.volumes_is.at
 
+agents_seats : (first : ℕ) (nodes : List (List ℕ)) (ds : List Drainer) → AreNewAgents first nodes ds → seats_of ds ≡ seats_from first nodes
+agents_seats first [] ds new = ap seats_of new
+agents_seats first (node ∷ nodes) [] new = absurd new
+agents_seats first (node ∷ nodes) (d ∷ ds) new = ap (λ (s : ℕ). s ∷ seats_of ds) new.0.at ∙ ap (λ (ss : List ℕ). first ∷ ss) (agents_seats (first + 1) nodes ds new.1)
+
+pub new_seats_for : (first : ℕ) (nodes : List (List ℕ)) (ds : List Drainer) → AreNew first nodes ds → seats_of ds ≡ seats_for first nodes
+new_seats_for first nodes ds new =
+    new_seats first nodes ds new ∙ ap (λ (ss : List ℕ). (first + 2) ∷ (first + 1) ∷ first ∷ (first + 3) ∷ (first + 4) ∷ ss) (agents_seats (first + 5) nodes new.agents new.agents_are)
+
+-- their roles
+
+agents_roles : (first : ℕ) (nodes : List (List ℕ)) (ds : List Drainer) → AreNewAgents first nodes ds → roles_of ds ≡ map agent_of nodes
+agents_roles first [] ds new = ap roles_of new
+agents_roles first (node ∷ nodes) [] new = absurd new
+agents_roles first (node ∷ nodes) (d ∷ ds) new = ap (λ (r : Role). r ∷ roles_of ds) new.0.is_new.is ∙ ap (λ (rs : List Role). agent_of node ∷ rs) (agents_roles (first + 1) nodes ds new.1)
+
+pub new_roles_for : (first : ℕ) (nodes : List (List ℕ)) (ds : List Drainer) → AreNew first nodes ds → roles_of ds ≡ roles_for nodes
+new_roles_for first nodes ds new =
+    ap roles_of new.are
+    ∙ ap (λ (r : Role). r ∷ new.ops.actor.role ∷ new.binder.actor.role ∷ new.claims.actor.role ∷ new.volumes.actor.role ∷ roles_of new.agents) new.scheduler_is.is_new.is
+    ∙ ap (λ (r : Role). of_kind seats.Scheduler ∷ r ∷ new.binder.actor.role ∷ new.claims.actor.role ∷ new.volumes.actor.role ∷ roles_of new.agents) new.ops_is.is_new.is
+    ∙ ap (λ (r : Role). of_kind seats.Scheduler ∷ of_kind seats.Ops ∷ r ∷ new.claims.actor.role ∷ new.volumes.actor.role ∷ roles_of new.agents) new.binder_is.is_new.is
+    ∙ ap (λ (r : Role). of_kind seats.Scheduler ∷ of_kind seats.Ops ∷ of_kind seats.Binder ∷ r ∷ new.volumes.actor.role ∷ roles_of new.agents) new.claims_is.is_new.is
+    ∙ ap (λ (r : Role). of_kind seats.Scheduler ∷ of_kind seats.Ops ∷ of_kind seats.Binder ∷ of_kind seats.ClaimProtect ∷ r ∷ roles_of new.agents) new.volumes_is.is_new.is
+    ∙ ap (λ (rs : List Role). of_kind seats.Scheduler ∷ of_kind seats.Ops ∷ of_kind seats.Binder ∷ of_kind seats.ClaimProtect ∷ of_kind seats.VolumeProtect ∷ rs) (agents_roles (first + 5) nodes new.agents new.agents_are)
+
 pub new_differ : (first : ℕ) (nodes : List (List ℕ)) (ds : List Drainer) → AreNew first nodes ds → AreSeats (seats_of ds)
 new_differ first nodes ds new =
     let last : first + 5 ≡ first + 4 + 1 = omega arith in
@@ -84,39 +110,36 @@ new_differ first nodes ds new =
 
 -- ---- what they stand for
 
+-- a new drainer stands whole for nothing
+new_whole : (kind : SeatKind) (node : List ℕ) (seat : ℕ) (d : Drainer) → IsNewAt kind node seat d → StandsWhole d.actor []
+new_whole kind node seat d new = record { told = new.stands; queue = new_queues (record { kind = kind; node = node }) d.actor new.is_new }
+
 -- drainers that stand for nothing
 abbrev AllStand : List Drainer → Type 0
-AllStand ds = (place : ℕ) (d : Drainer) → slice_get ds place ≡ Some d → StandsFor d.actor []
+AllStand ds = (place : ℕ) (d : Drainer) → slice_get ds place ≡ Some d → StandsWhole d.actor []
 
-one_more : (x : Drainer) (ds : List Drainer) → StandsFor x.actor [] → AllStand ds → AllStand (x ∷ ds)
-one_more x ds stands all zero d at = subst (λ (y : Drainer). StandsFor y.actor []) (one x d at) stands
+one_more : (x : Drainer) (ds : List Drainer) → StandsWhole x.actor [] → AllStand ds → AllStand (x ∷ ds)
+one_more x ds stands all zero d at = subst (λ (y : Drainer). StandsWhole y.actor []) (one x d at) stands
 one_more x ds stands all (suc place) d at = all place d at
 
 agents_stand : (first : ℕ) (nodes : List (List ℕ)) (ds : List Drainer) → AreNewAgents first nodes ds → AllStand ds
 agents_stand first [] ds new = subst AllStand (sym new) (λ place d at. none_some at)
 agents_stand first (node ∷ nodes) [] new = absurd new
-agents_stand first (node ∷ nodes) (x ∷ ds) new = one_more x ds new.0.stands (agents_stand (first + 1) nodes ds new.1)
+agents_stand first (node ∷ nodes) (x ∷ ds) new = one_more x ds (new_whole seats.Agent node first x new.0) (agents_stand (first + 1) nodes ds new.1)
 
-each_stands : (ds : List Drainer) → AllStand ds → (past : List Entry) → HaveNoEntries (seats_of ds) past → (place : ℕ) (d : Drainer) → slice_get ds place ≡ Some d → StandsFor d.actor (own d.seat past)
+each_stands : (ds : List Drainer) → AllStand ds → (past : List Entry) → HaveNoEntries (seats_of ds) past → (place : ℕ) (d : Drainer) → slice_get ds place ≡ Some d → StandsWhole d.actor (own d.seat past)
 each_stands [] all past none place d at = none_some at
-each_stands (x ∷ ds) all past none zero d at = subst (λ (y : Drainer). StandsFor y.actor (own y.seat past)) (one x d at) (subst (λ m. StandsFor x.actor m) (sym none.0) (all 0 x refl))
+each_stands (x ∷ ds) all past none zero d at = subst (λ (y : Drainer). StandsWhole y.actor (own y.seat past)) (one x d at) (subst (λ m. StandsWhole x.actor m) (sym none.0) (all 0 x refl))
 each_stands (x ∷ ds) all past none (suc place) d at = each_stands ds (λ i y there. all (suc i) y there) past none.1 place d at
-
-new_steady : (first : ℕ) (nodes : List (List ℕ)) (ds : List Drainer) → AreNew first nodes ds → BeginsSteady (roles_of ds)
-new_steady first nodes ds new = subst (λ (xs : List Drainer). BeginsSteady (roles_of xs)) (sym new.are) (record {
-  first = new.scheduler.actor.role;
-  is = refl;
-  steady = λ agent. let scheduler = ap (λ (r : Role). r.kind) new.scheduler_is.is_new.is in absurd (cc);
-})
 
 pub new_stand : (first : ℕ) (nodes : List (List ℕ)) (ds : List Drainer) → AreNew first nodes ds → (past : List Entry) → HaveNoEntries (seats_of ds) past → AreStanding ds past
 new_stand first nodes ds new past none =
-    let volumes = one_more new.volumes new.agents new.volumes_is.stands (agents_stand (first + 5) nodes new.agents new.agents_are) in
-    let claims = one_more new.claims (new.volumes ∷ new.agents) new.claims_is.stands volumes in
-    let binder = one_more new.binder (new.claims ∷ new.volumes ∷ new.agents) new.binder_is.stands claims in
-    let ops = one_more new.ops (new.binder ∷ new.claims ∷ new.volumes ∷ new.agents) new.ops_is.stands binder in
-    let all = one_more new.scheduler (new.ops ∷ new.binder ∷ new.claims ∷ new.volumes ∷ new.agents) new.scheduler_is.stands ops in
-    record { each = each_stands ds (subst AllStand (sym new.are) all) past none; steady = new_steady first nodes ds new }
+    let volumes = one_more new.volumes new.agents (new_whole seats.VolumeProtect [] (first + 4) new.volumes new.volumes_is) (agents_stand (first + 5) nodes new.agents new.agents_are) in
+    let claims = one_more new.claims (new.volumes ∷ new.agents) (new_whole seats.ClaimProtect [] (first + 3) new.claims new.claims_is) volumes in
+    let binder = one_more new.binder (new.claims ∷ new.volumes ∷ new.agents) (new_whole seats.Binder [] first new.binder new.binder_is) claims in
+    let ops = one_more new.ops (new.binder ∷ new.claims ∷ new.volumes ∷ new.agents) (new_whole seats.Ops [] (first + 1) new.ops new.ops_is) binder in
+    let all = one_more new.scheduler (new.ops ∷ new.binder ∷ new.claims ∷ new.volumes ∷ new.agents) (new_whole seats.Scheduler [] (first + 2) new.scheduler new.scheduler_is) ops in
+    record { each = each_stands ds (subst AllStand (sym new.are) all) past none; roles = record { nodes = nodes; are = new_roles_for first nodes ds new } }
 
 -- ---- how they are made
 

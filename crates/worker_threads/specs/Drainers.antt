@@ -1,12 +1,14 @@
--- The actors of a drain: their seats, and that each stands for its seat's entries.
+-- The actors of a drain: their seats and roles, and that each stands for its seat's entries.
 -- A choice of this project.
-use Rattle.std.specs.Prelude.{ℕ, ◌≡◌, ◌≢◌, ◌<◌, ◌+◌, List, [], ◌∷◌, ◌++◌, Some, length, map, slice_get, ⊤}
+use Rattle.std.specs.Prelude.{ℕ, ◌≡◌, ◌<◌, ◌+◌, List, [], ◌∷◌, ◌++◌, Some, length, map, slice_get, ⊤}
 use Rattle.call_types.specs.declared.entry.Entry.{Entry}
 use Rattle.call_types.specs.declared.request.SeatKind.{SeatKind}
 use Rattle.call_types.specs.declared.request.SeatKind.TheVariants as seats
 use Rattle.binder_model.specs.Told.{own}
 use Rattle.worker_core.specs.declared.role.Role.{Role}
 use Rattle.worker_core.specs.Stands.{IsNew, MayBeIdle, StandsFor}
+use Rattle.worker_core.specs.States.{State}
+use Rattle.attention_law.specs.Queues.{QueueStands}
 use Rattle.worker_threads.specs.declared.drainers.Drainer.{Drainer}
 
 abbrev pub seats_of : List Drainer → List ℕ
@@ -20,20 +22,50 @@ pub record AreSeats (seats : List ℕ) : Type 0 where
 abbrev pub roles_of : List Drainer → List Role
 roles_of ds = map (λ (d : Drainer). d.actor.role) ds
 
--- the first of these is no agent: an agent whose node was taken by another makes no more calls
-pub record BeginsSteady (roles : List Role) : Type 0 where
-  pub first : Role
-  pub is : slice_get roles 0 ≡ Some first
-  pub steady : first.kind ≢ seats.Agent
+-- ---- which actors there are
 
--- the actor stands for the entries of its seat
+-- a role of this kind that serves no node
+abbrev pub of_kind : SeatKind → Role
+of_kind kind = record { kind = kind; node = [] }
+
+abbrev pub agent_of : List ℕ → Role
+agent_of node = record { kind = seats.Agent; node = node }
+
+-- in the order of a round: the scheduler, ops, the binder, claim protection, volume protection, and an agent of each node. Only
+-- agents serve a node
+abbrev pub roles_for : List (List ℕ) → List Role
+roles_for nodes = of_kind seats.Scheduler ∷ of_kind seats.Ops ∷ of_kind seats.Binder ∷ of_kind seats.ClaimProtect ∷ of_kind seats.VolumeProtect ∷ map agent_of nodes
+
+-- the roles are those, for some nodes
+pub record AreRoles (roles : List Role) : Type 0 where
+  pub nodes : List (List ℕ)
+  pub are : roles ≡ roles_for nodes
+
+-- the seat, and one more for each node
+abbrev pub seats_from : ℕ → List (List ℕ) → List ℕ
+seats_from seat [] = []
+seats_from seat (node ∷ nodes) = seat ∷ seats_from (seat + 1) nodes
+
+-- their seats are counted in another order: binder, ops, scheduler, claim protection, volume protection, agents by node
+abbrev pub seats_for : ℕ → List (List ℕ) → List ℕ
+seats_for first nodes = (first + 2) ∷ (first + 1) ∷ first ∷ (first + 3) ∷ (first + 4) ∷ seats_from (first + 5) nodes
+
+-- ---- what they stand for
+
+-- the actor stands for the entries, each key stands once in its queue, and what is taken there is what it has under way
+pub record StandsWhole (s : State) (mine : List Entry) : Type 0 where
+  pub told : StandsFor s mine
+  pub queue : QueueStands s
+
+-- the actor stands whole for the entries of its seat
 abbrev pub IsStanding : Drainer → List Entry → Type 0
-IsStanding d past = StandsFor d.actor (own d.seat past)
+IsStanding d past = StandsWhole d.actor (own d.seat past)
 
--- each does, and the first is no agent
+-- each does, and there are all that a drain has. So the first is no agent: an agent whose node was taken by another makes no
+-- more calls
 pub record AreStanding (ds : List Drainer) (past : List Entry) : Type 0 where
   pub each : (place : ℕ) (d : Drainer) → slice_get ds place ≡ Some d → IsStanding d past
-  pub steady : BeginsSteady (roles_of ds)
+  pub roles : AreRoles (roles_of ds)
 
 -- the actor may be idle: none of its kinds has news
 abbrev pub IsIdleNow : Drainer → List Entry → Type 0
@@ -71,9 +103,7 @@ pub record AreAdded (seat : ℕ) (nodes : List (List ℕ)) (before after : List 
   pub are : after ≡ before ++ agents
   pub new : AreNewAgents seat nodes agents
 
--- new actors, in the order of a round: the scheduler, ops, the binder, claim protection, volume protection, and an agent of
--- each node. Their seats are counted in another order: binder, ops, scheduler, claim protection, volume protection, agents by
--- node. Only agents serve a node
+-- new actors, in the order of a round
 pub record AreNew (first_seat : ℕ) (nodes : List (List ℕ)) (ds : List Drainer) : Type 0 where
   pub scheduler : Drainer
   pub ops : Drainer

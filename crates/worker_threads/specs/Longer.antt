@@ -1,6 +1,6 @@
 -- A history that has grown by calls of some seats, whose answers were told. The newest entry stands first.
 -- A choice of this project.
-use Rattle.std.specs.Prelude.{ℕ, ◌≡◌, true, List, [], ◌∷◌, ◌++◌, filter, length, ⊤}
+use Rattle.std.specs.Prelude.{ℕ, ◌≡◌, ◌≤◌, true, List, [], ◌∷◌, ◌++◌, filter, length, ⊤}
 use Rattle.call_types.specs.declared.entry.Entry.{Entry}
 use Rattle.binder_model.specs.Answers.{is_user}
 use Rattle.binder_model.specs.Told.{SomeOf}
@@ -24,6 +24,12 @@ pub record IsLonger (seats : List ℕ) (made : ℕ) (earlier entries : List Entr
 -- the entries are the earlier ones and then some of these seats
 pub record HasGrown (seats : List ℕ) (earlier entries : List Entry) : Type 0 where
   pub made : ℕ
+  pub longer : IsLonger seats made earlier entries
+
+-- the entries are the earlier ones and then some of these seats, no more than so many calls: a call that was held back has none
+pub record GrowsWithin (seats : List ℕ) (calls : ℕ) (earlier entries : List Entry) : Type 0 where
+  pub made : ℕ
+  pub few : made ≤ calls
   pub longer : IsLonger seats made earlier entries
 
 -- the entries of users

@@ -5,9 +5,9 @@ ghost use Rattle.binder_model.specs.Told.{own};
 ghost use Rattle.binder_model.specs.Due.{IsSettled};
 ghost use Rattle.settle_check.specs.WorldOf.{world_of};
 ghost use Rattle.size_calls.specs.Calls.{AreByActors};
-ghost use Rattle.worker_threads.specs.Drainers.{AreStanding, seats_of};
+ghost use Rattle.worker_threads.specs.Drainers.{AreStanding, roles_of, seats_of};
 ghost use Rattle.worker_threads.specs.Longer.{HasGrown, IsLonger, IsOneOf, users_of};
-ghost use Rattle.worker_threads.specs.Rounds.{Drains, EndsHere, EndsWith, made_of};
+ghost use Rattle.worker_threads.specs.Rounds.{Drains, EndsHere, EndsWith, all_pass, made_of};
 
 use crate::drainers::Drainers;
 use crate::round::round;
@@ -28,7 +28,7 @@ pub fn drain(
 ) -> Result<Drained, OutOfMemory>
     requires stands { AreStanding drainers.old world.old.past }
     ensures ends { IfOk result (λ d. EndsWith world.new.setup world.new.past budget d) }
-    ensures rounds { IfOk result (λ d. Drains world.old.setup drainers.new world.new.past (budget - made_of d) drainers.old world.old.past budget) }
+    ensures rounds { IfOk result (λ d. Drains all_pass world.old.setup drainers.new world.new.past (budget - made_of d) drainers.old world.old.past budget) }
     ensures stands { OnOk result (AreStanding drainers.new world.new.past) }
     ensures entries { IfOk result (λ d. IsLonger (seats_of drainers.old) (made_of d) world.old.past world.new.past) }
     ensures others { (seat : ℕ) → (IsOneOf (seats_of drainers.old) seat → ⊥) → own seat world.new.past ≡ own seat world.old.past }
@@ -39,6 +39,7 @@ pub fn drain(
     ensures actors { AreByActors world.old.past → AreByActors world.new.past }
     ensures setup { world.new.setup ≡ world.old.setup }
     ensures seats { seats_of drainers.new ≡ seats_of drainers.old }
+    ensures roles { OnOk result (roles_of drainers.new ≡ roles_of drainers.old) }
 {
     let mut left = budget;
     'rounds: loop {

@@ -5,9 +5,9 @@ ghost use Rattle.call_types.specs.declared.request.SeatKind.TheVariants.{Agent};
 ghost use Rattle.binder_model.specs.Told.{own};
 ghost use Rattle.worker_core.specs.Absorbs.{woken};
 ghost use Rattle.size_calls.specs.Calls.{AreByActors};
-ghost use Rattle.worker_threads.specs.Drainers.{AreIdle, AreSeats, AreStanding, IsIdleNow, IsStanding, seats_of};
+ghost use Rattle.worker_threads.specs.Drainers.{AreIdle, AreSeats, AreStanding, IsIdleNow, IsStanding, roles_of, seats_of};
 ghost use Rattle.worker_threads.specs.Longer.{HasGrown, IsLonger, IsOneOf, users_of};
-ghost use Rattle.worker_threads.specs.Rounds.{IsRound, Runs};
+ghost use Rattle.worker_threads.specs.Rounds.{IsRound, Runs, all_pass};
 
 use crate::drainers::{Drainer, Drainers};
 use crate::run::{Ran, run};
@@ -30,7 +30,7 @@ pub fn round(
     budget: u64,
 ) -> Result<Rounded, OutOfMemory>
     requires stands { AreStanding drainers.old world.old.past }
-    ensures round { IfOk result (λ r. IsRound world.new.past (budget - r.made) drainers.old world.old.past budget drainers.new r.whole) }
+    ensures round { IfOk result (λ r. IsRound all_pass world.new.past (budget - r.made) drainers.old world.old.past budget drainers.new r.whole) }
     ensures stands { OnOk result (AreStanding drainers.new world.new.past) }
     ensures entries { IfOk result (λ r. IsLonger (seats_of drainers.old) r.made world.old.past world.new.past) }
     ensures others { (seat : ℕ) → (IsOneOf (seats_of drainers.old) seat → ⊥) → own seat world.new.past ≡ own seat world.old.past }
@@ -43,6 +43,7 @@ pub fn round(
     ensures actors { AreByActors world.old.past → AreByActors world.new.past }
     ensures setup { world.new.setup ≡ world.old.setup }
     ensures seats { seats_of drainers.new ≡ seats_of drainers.old }
+    ensures roles { OnOk result (roles_of drainers.new ≡ roles_of drainers.old) }
 {
     let ran = turns(world, &mut drainers.list, budget)?;
     Ok(Rounded {
@@ -59,7 +60,7 @@ fn turns(
 ) -> Result<Ran, OutOfMemory>
     requires seats { AreSeats (seats_of drainers.old.items) }
     requires stands { AreStanding drainers.old.items world.old.past }
-    ensures round { IfOk result (λ ran. IsRound world.new.past ran.left drainers.old.items world.old.past budget drainers.new.items ran.idle) }
+    ensures round { IfOk result (λ ran. IsRound all_pass world.new.past ran.left drainers.old.items world.old.past budget drainers.new.items ran.idle) }
     ensures stands { OnOk result (AreStanding drainers.new.items world.new.past) }
     ensures idle { IfOk result (λ ran. ran.idle ≡ true → AreIdle drainers.new.items world.new.past) }
     ensures some { IfOk result (λ ran. 0 < budget → ran.left < budget) }
@@ -68,6 +69,7 @@ fn turns(
     ensures actors { AreByActors world.old.past → AreByActors world.new.past }
     ensures setup { world.new.setup ≡ world.old.setup }
     ensures seats { seats_of drainers.new.items ≡ seats_of drainers.old.items }
+    ensures roles { OnOk result (roles_of drainers.new.items ≡ roles_of drainers.old.items) }
 {
     let mut left = budget;
     let mut whole = true;
@@ -82,7 +84,7 @@ fn turns(
 /// One drainer's turn: it is woken, and runs until it is idle. An agent whose epoch is stale is idle at once.
 fn turn(world: &mut KeptWorld, drainer: &mut Drainer, budget: u64) -> Result<Ran, OutOfMemory>
     requires { IsStanding drainer.old world.old.past }
-    ensures runs { IfOk result (λ ran. Runs drainer.old.seat drainer.new.actor world.new.past ran.left ran.idle (woken drainer.old.actor) world.old.past budget) }
+    ensures runs { IfOk result (λ ran. Runs all_pass drainer.old.seat drainer.new.actor world.new.past ran.left ran.idle (woken drainer.old.actor) world.old.past budget) }
     ensures stands { OnOk result (IsStanding drainer.new world.new.past) }
     ensures idle { IfOk result (λ ran. ran.idle ≡ true → IsIdleNow drainer.new world.new.past) }
     ensures some { IfOk result (λ ran. drainer.old.actor.role.kind ≢ Agent → 0 < budget → ran.left < budget) }

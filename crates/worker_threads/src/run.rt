@@ -7,10 +7,11 @@ ghost use Rattle.binder_model.specs.Promises.{most_entries};
 ghost use Rattle.binder_model.specs.Told.{own};
 ghost use Rattle.binder_model.specs.World.{IsHistory};
 ghost use Rattle.worker_core.specs.Roles.{IsBuiltKind};
-ghost use Rattle.worker_core.specs.Stands.{MayBeIdle, StandsFor};
+ghost use Rattle.worker_core.specs.Stands.{MayBeIdle};
 ghost use Rattle.size_calls.specs.Calls.{AreByActors};
+ghost use Rattle.worker_threads.specs.Drainers.{StandsWhole};
 ghost use Rattle.worker_threads.specs.Longer.{HasGrown, users_of};
-ghost use Rattle.worker_threads.specs.Rounds.{Runs};
+ghost use Rattle.worker_threads.specs.Rounds.{Runs, all_pass};
 
 use call_types::reply::Reply;
 use call_types::request::{Request, SeatKind};
@@ -36,9 +37,9 @@ pub(crate) fn run(
 ) -> Result<Ran, OutOfMemory>
     requires kind { kind ≡ actor.old.role.kind }
     requires built { IsBuiltKind kind }
-    requires stands { StandsFor actor.old (own seat world.old.past) }
-    ensures runs { IfOk result (λ ran. Runs seat actor.new world.new.past ran.left ran.idle actor.old world.old.past budget) }
-    ensures stands { OnOk result (StandsFor actor.new (own seat world.new.past)) }
+    requires stands { StandsWhole actor.old (own seat world.old.past) }
+    ensures runs { IfOk result (λ ran. Runs all_pass seat actor.new world.new.past ran.left ran.idle actor.old world.old.past budget) }
+    ensures stands { OnOk result (StandsWhole actor.new (own seat world.new.past)) }
     ensures idle { IfOk result (λ ran. ran.idle ≡ true → MayBeIdle actor.new.role actor.new.memory (own seat world.new.past)) }
     ensures role { OnOk result (actor.new.role ≡ actor.old.role) }
     ensures grown { HasGrown (seat ∷ []) world.old.past world.new.past }

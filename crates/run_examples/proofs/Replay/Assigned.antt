@@ -1,5 +1,6 @@
 -- The examples of a drain that gives a pod its node compute.
-use Rattle.std.proofs.Common.{◌≡◌, [], ◌∷◌, Bool, true, false, Option, Some, None, inl, inr, refl, sym, ◌∙◌, ap, subst, arith}
+use Rattle.std.proofs.Common.{◌≡◌, [], ◌∷◌, length, Bool, true, false, Option, Some, None, inl, inr, refl, sym, ◌∙◌, ap, subst, arith}
+use Rattle.std.specs.Prelude.{slice_get}
 use Rattle.std.specs.declared.cmp.Ordering.{Ordering}
 use Rattle.std.specs.declared.cmp.Ordering.TheVariants.{Less}
 use Rattle.kube_types.specs.declared.key.Key.{Key}
@@ -7,8 +8,11 @@ use Rattle.kube_types.specs.declared.names.Due.{Due}
 use Rattle.kube_types.specs.declared.names.Due.TheVariants as dues
 use Rattle.kube_types.specs.declared.objects.Object.{Object}
 use Rattle.kube_types.specs.declared.objects.Object.TheVariants.{Node, Pod}
+use Rattle.kube_types.specs.declared.parts.Kind.TheVariants as kinds
 use Rattle.kube_types.specs.Keys.{key_of, key_cmp, row_at}
 use Rattle.kube_types.proofs.KeyOrder.{row_at_key}
+use Rattle.call_types.specs.declared.entry.Entry.{Entry}
+use Rattle.call_types.specs.declared.request.Request.TheVariants as requests
 use Rattle.call_types.specs.declared.setup.Setup.{Setup}
 use Rattle.binder_model.specs.Answers.{after, bind, outcome, pod_with, refuse}
 use Rattle.binder_model.specs.Choice.{step_of}
@@ -16,12 +20,16 @@ use Rattle.binder_model.specs.Devices.{device_answer}
 use Rattle.binder_model.specs.Due.{IsDue, IsFirstDue, IsSettled, IsStepDue}
 use Rattle.binder_model.specs.Imports.{imported_object}
 use Rattle.binder_model.specs.Store.{at_version, leaves, with_meta}
+use Rattle.binder_model.specs.Told.{own}
 use Rattle.binder_model.specs.World.{World, effect, on_devices, world, world_after}
-use Rattle.model_examples.specs.Samples.{key_p, n1}
+use Rattle.model_examples.specs.Samples.{key_p, n1, node_1, uid_p}
 use Rattle.model_examples.proofs.Tellings.{IsIn, differ, found_in, one}
 use Rattle.settle_check.proofs.Settled.{not_settled}
-use Rattle.script_runs.specs.Replays.{IsDrain, NoMoves, begun}
+use Rattle.world_core.specs.declared.drained.Drained.TheVariants.{Spent}
+use Rattle.script_runs.specs.Replays.{IsReplay, NoMoves, Progress, begun}
 use Rattle.run_examples.specs.Replay.Drains.{AssignExamples, assigned_p, lone_p, pod_assigned, pod_script}
+use Rattle.run_examples.proofs.Replay.Drained.{spent_drain}
+use Rattle.run_examples.proofs.Replay.Firsts.{ends_so, first_call, no_lines}
 
 -- ---- the worlds
 
@@ -91,45 +99,23 @@ unsettled settled = not_settled setup first (key_p, dues.Assign) assign_due sett
 
 -- ---- the drains
 
-no_call : IsDrain pod_script (Some 0) (begun (Some 0)) (begun (Some 0))
-no_call = record {
-  past = [];
-  made = 0;
-  budget = 0;
-  raises = refl;
-  entries = record { added = []; are = refl; count = refl; of_seats = tt };
-  users = refl;
-  few = omega arith;
-  ends = inr refl;
-  none = λ settled. refl;
-  is = refl;
-}
-
-one_call : IsDrain pod_script (Some 1) (begun (Some 1)) (record (begun (Some 1)) { past = pod_assigned; drained = 1 })
-one_call = record {
-  past = pod_assigned;
-  made = 1;
-  budget = 1;
-  raises = refl;
-  entries = record { added = pod_assigned; are = refl; count = refl; of_seats = (inr (inr (inl refl)), refl, tt) };
-  users = refl;
-  few = omega arith;
-  ends = inr refl;
-  none = λ settled. absurd (unsettled settled);
-  is = refl;
-}
+-- the scheduler lists the volumes before it gives the pod a node
+lists_before : IsReplay pod_script (Some 1) pod_assigned (Spent 1 key_p dues.Mount) → ⊥
+lists_before r =
+    let none : r.lines_done ≡ begun (Some 1) = no_lines pod_script (Some 1) r.lines_done (begun (Some 1)) [] refl r.moves in
+    let empty : r.lines_done.past ≡ [] = ap (λ (p : Progress). p.past) none in
+    let call = first_call pod_script (Some 1) r.lines_done r.end r.last (λ same. let both : pod_assigned ≡ [] = r.history ∙ same ∙ empty in absurd (cc)) (ap (own 7) empty) in
+    let long : length r.lines_done.past ≡ 0 = ap length empty in
+    let at : slice_get pod_assigned 0 ≡ Some call.entry = ends_so pod_assigned call.later call.entry r.lines_done.past 0 (r.history ∙ call.are) (omega (arith, long)) in
+    let e : requests.BindPod key_p uid_p node_1 ≡ requests.List kinds.PersistentVolume None = ap (λ (x : Entry). x.request) (one _ call.entry at) ∙ call.asks in
+    absurd (cc)
 
 pub assign_cases : AssignExamples
 assign_cases = record {
-  due_until_it_has_a_node = record { lines_done = begun (Some 0); end = begun (Some 0); moves = NoMoves refl refl; last = no_call; history = refl; ends = (refl, refl, assign_due) };
-  then_it_is_to_be_mounted = record {
-    lines_done = begun (Some 1);
-    end = record (begun (Some 1)) { past = pod_assigned; drained = 1 };
-    moves = NoMoves refl refl;
-    last = one_call;
-    history = refl;
-    ends = (refl, refl, mount_due);
-  };
+  due_until_it_has_a_node =
+      record { lines_done = begun (Some 0); end = begun (Some 0); moves = NoMoves refl refl; last = spent_drain pod_script (key_p, dues.Assign) assign_due; history = refl; ends = (refl, refl, assign_due) };
+  then_it_is_to_be_mounted = (refl, refl, mount_due);
+  not_before_anything_was_listed = lists_before;
   not_assigned_twice = λ r. no_assign_due (subst (λ h. IsFirstDue setup (world setup h) (Some (key_p, dues.Assign))) (sym r.history) r.ends.2);
   not_settled_before = λ r. unsettled (subst (λ h. IsSettled setup (world setup h)) (sym r.history) r.ends.1);
 }

@@ -1,5 +1,5 @@
 -- The examples of drains compute.
-use Rattle.std.proofs.Common.{◌≡◌, ◌≤◌, ℕ, ◌+◌, List, [], ◌∷◌, Bool, true, false, true≢false, Option, Some, ◌⊎◌, inl, inr, refl, sym, ◌∙◌, ap, subst, append-nil, arith}
+use Rattle.std.proofs.Common.{◌≡◌, ◌≢◌, ◌≤◌, ℕ, ◌+◌, List, [], ◌∷◌, ◌++◌, Bool, true, false, true≢false, Option, Some, None, ◌⊎◌, inl, inr, refl, sym, ◌∙◌, ap, subst, arith}
 use Rattle.std.specs.Prelude.{is_none}
 use Rattle.std.specs.declared.cmp.Ordering.{Ordering}
 use Rattle.std.specs.declared.cmp.Ordering.TheVariants.{Less}
@@ -8,27 +8,39 @@ use Rattle.kube_types.specs.declared.names.Due.{Due}
 use Rattle.kube_types.specs.declared.names.Due.TheVariants as dues
 use Rattle.kube_types.specs.declared.objects.Object.{Object}
 use Rattle.kube_types.specs.declared.objects.Object.TheVariants.{Volume}
-use Rattle.kube_types.specs.Keys.{key_of, key_cmp}
+use Rattle.kube_types.specs.declared.parts.Kind.TheVariants as kinds
+use Rattle.kube_types.specs.Keys.{key_of, key_cmp, row_at}
 use Rattle.kube_types.proofs.KeyOrder.{row_at_key}
 use Rattle.call_types.specs.declared.entry.Entry.{Entry}
+use Rattle.call_types.specs.declared.request.Request.{Request}
+use Rattle.call_types.specs.declared.request.Request.TheVariants as requests
+use Rattle.call_types.specs.declared.request.SeatKind.{SeatKind}
 use Rattle.call_types.specs.declared.request.SeatKind.TheVariants as seats
+use Rattle.binder_model.specs.Answers.{after, list, outcome}
 use Rattle.binder_model.specs.BindWrites.{next_write, claim_write}
 use Rattle.binder_model.specs.BinderDue.{volume_due, reference_due, referred_due, claim_with, claim_due, named_due, completed_due}
+use Rattle.binder_model.specs.Devices.{device_answer}
 use Rattle.binder_model.specs.Due.{IsDue, IsFirstDue, IsSettled, or_due}
 use Rattle.binder_model.specs.Imports.{imported_object}
 use Rattle.binder_model.specs.Store.{leaves}
-use Rattle.binder_model.specs.World.{world}
+use Rattle.binder_model.specs.World.{effect, on_devices, world, world_after}
 use Rattle.model_examples.specs.DueActions.{pending_a}
 use Rattle.model_examples.specs.Samples.{key_a}
 use Rattle.model_examples.proofs.Tellings.{IsIn, differ, found_in, one}
-use Rattle.worker_threads.specs.Longer.{AreToldOf, IsOneOf, users_of}
+use Rattle.worker_threads.specs.Drainers.{HaveNoEntries, seats_of}
+use Rattle.worker_threads.specs.Rounds.{IsSpent, NothingDue, all_pass}
 use Rattle.script_text.specs.declared.script.Script.{Script}
-use Rattle.script_runs.specs.Parts.{drain_seats}
+use Rattle.script_runs.specs.Drains.{DrainComesTo}
+use Rattle.script_runs.specs.Parts.{drain_seat}
 use Rattle.script_runs.specs.Replays.{IsDrain, NoMoves, Progress, begun}
+use Rattle.script_runs.proofs.Draining.{drains_come_to}
 use Rattle.run_examples.specs.Replay.Calls.{reads}
-use Rattle.run_examples.specs.Replay.Drains.{DrainExamples, Drains, SpentExamples, node_script, volume_script}
+use Rattle.run_examples.specs.Replay.Drains.{DrainExamples, Drains, SpentExamples, begins_with, node_script, volume_script}
 use Rattle.run_examples.specs.Replay.Replays.{empty_script}
+use Rattle.run_examples.proofs.Replay.Drainers.{drainers_of, drainers_roles, drainers_seats, drainers_stand}
+use Rattle.run_examples.proofs.Replay.Firsts.{ends_so, first_call}
 use Rattle.run_examples.proofs.Replay.Replayed.{nothing_due}
+use Rattle.run_examples.proofs.Replay.Scheduled.{one_call_drain}
 
 -- ---- what is due in the world that begins with a volume
 
@@ -38,116 +50,6 @@ rows = Volume pending_a ∷ []
 unsettled : IsSettled volume_script.setup (world volume_script.setup []) → ⊥
 unfolding imported_object leaves or_due volume_due reference_due referred_due claim_with claim_due named_due completed_due next_write claim_write
 unsettled s = differ is_none (s key_a (Volume pending_a) refl) refl refl
-
--- ---- what a drain has made
-
-made_is : (script : Script) (budget made : ℕ) (past : List Entry) (d : Drains script budget made past) → made ≡ d.made
-made_is script budget made past d = ap (λ (p : Progress). p.drained) d.is ∙ (let e : 0 + d.made ≡ d.made = omega arith in e)
-
-added_are : (script : Script) (budget made : ℕ) (past : List Entry) (d : Drains script budget made past) → past ≡ d.entries.added
-added_are script budget made past d = ap (λ (p : Progress). p.past) d.is ∙ d.entries.are ∙ append-nil d.entries.added
-
-told_of : (script : Script) (budget made : ℕ) (past : List Entry) → Drains script budget made past → AreToldOf (drain_seats script) past
-told_of script budget made past d = subst (AreToldOf (drain_seats script)) (sym (added_are script budget made past d)) d.entries.of_seats
-
-within_budget : (script : Script) (budget made : ℕ) (past : List Entry) → Drains script budget made past → made ≤ budget
-within_budget script budget made past d =
-    let same = made_is script budget made past d in
-    let few = d.few in
-    let raises = d.raises in
-    omega (arith, same, few, raises)
-
--- one of the five seats from the fifth on
-seat_between : (seat : ℕ) → IsOneOf (drain_seats volume_script) seat → (5 ≤ seat) × (seat ≤ 9)
-seat_between seat (inl is) = (omega (arith, is), omega (arith, is))
-seat_between seat (inr (inl is)) = (omega (arith, is), omega (arith, is))
-seat_between seat (inr (inr (inl is))) = (omega (arith, is), omega (arith, is))
-seat_between seat (inr (inr (inr (inl is)))) = (omega (arith, is), omega (arith, is))
-seat_between seat (inr (inr (inr (inr (inl is))))) = (omega (arith, is), omega (arith, is))
-seat_between seat (inr (inr (inr (inr (inr none))))) = absurd none
-
-one_of_a_drain : (seat : ℕ) → IsOneOf (drain_seats volume_script) seat → Drains volume_script 1 1 (reads seat true ∷ [])
-one_of_a_drain seat own = record {
-  past = reads seat true ∷ [];
-  made = 1;
-  budget = 1;
-  raises = refl;
-  entries = record { added = reads seat true ∷ []; are = refl; count = refl; of_seats = (own, refl, tt) };
-  users = refl;
-  few = omega arith;
-  ends = inr refl;
-  none = λ settled. absurd (unsettled settled);
-  is = refl;
-}
-
-short : Drains volume_script 1 0 [] → ⊥
-short d = by d.ends
-  where
-    none : [] ≡ d.past
-    none = ap (λ (p : Progress). p.past) d.is
-
-    by : IsSettled volume_script.setup (world volume_script.setup d.past) ⊎ (0 + d.made ≡ d.budget) → ⊥
-    by (inl settled) = unsettled (subst (λ h. IsSettled volume_script.setup (world volume_script.setup h)) (sym none) settled)
-    by (inr spent) = let same = made_is volume_script 1 0 [] d in let raises = d.raises in absurd (omega (arith, spent, same, raises))
-
-no_need : Drains empty_script 1 0 []
-no_need = record {
-  past = [];
-  made = 0;
-  budget = 1;
-  raises = refl;
-  entries = record { added = []; are = refl; count = refl; of_seats = tt };
-  users = refl;
-  few = omega arith;
-  ends = inl nothing_due;
-  none = λ settled. refl;
-  is = refl;
-}
-
-agents_drain : Drains node_script 1 1 (reads 10 true ∷ [])
-agents_drain = record {
-  past = reads 10 true ∷ [];
-  made = 1;
-  budget = 1;
-  raises = refl;
-  entries = record { added = reads 10 true ∷ []; are = refl; count = refl; of_seats = (inr (inr (inr (inr (inr (inl refl))))), refl, tt) };
-  users = refl;
-  few = omega arith;
-  ends = inr refl;
-  none = λ settled. absurd (unsettled settled);
-  is = refl;
-}
-
-pub drain_cases : DrainExamples
-drain_cases = record {
-  one_call_is_made = one_of_a_drain 5 (inl refl);
-  by_any_of_the_drain_seats = one_of_a_drain 9 (inr (inr (inr (inr (inl refl)))));
-  not_by_a_seat_after_them = λ d. let b = (seat_between 10 (told_of volume_script 1 1 (reads 10 true ∷ []) d).0).1 in absurd (omega (arith, b));
-  by_the_agent_of_a_node = agents_drain;
-  not_by_a_user = λ d. let b = (seat_between 4 (told_of volume_script 1 1 (reads 4 true ∷ []) d).0).0 in absurd (omega (arith, b));
-  not_by_a_user_at_such_a_seat = λ d. let e : record (reads 9 true) { kind = seats.User } ∷ [] ≡ [] = ap (λ (p : Progress). users_of p.past) d.is ∙ d.users in absurd (cc);
-  not_with_its_answer_lost = λ d. absurd (true≢false (sym (told_of volume_script 1 1 (reads 5 false ∷ []) d).1));
-  not_past_the_budget = λ d. let few = within_budget volume_script 0 1 (reads 5 true ∷ []) d in absurd (omega (arith, few));
-  not_short_of_it_while_something_is_due = short;
-  none_where_nothing_is_due = no_need;
-  not_even_one = λ d. let e : reads 5 true ∷ [] ≡ [] = ap (λ (p : Progress). p.past) d.is ∙ d.none nothing_due in absurd (cc);
-}
-
--- ---- how it ends
-
-spent_drain : IsDrain volume_script (Some 0) (begun (Some 0)) (begun (Some 0))
-spent_drain = record {
-  past = [];
-  made = 0;
-  budget = 0;
-  raises = refl;
-  entries = record { added = []; are = refl; count = refl; of_seats = tt };
-  users = refl;
-  few = omega arith;
-  ends = inr refl;
-  none = λ settled. refl;
-  is = refl;
-}
 
 abbrev is_less : Ordering → Bool
 is_less Less = true
@@ -161,22 +63,148 @@ none_before : (earlier : Key) (o : Object) → key_of o ≡ earlier → key_cmp 
 none_before earlier o k less (inl e) = differ is_less (sym (subst (λ k. key_cmp k key_a ≡ Less) (sym (ap key_of e ∙ k)) less)) refl refl
 none_before earlier o k less (inr h) = h
 
-first_due : IsFirstDue volume_script.setup (world volume_script.setup []) (Some (key_a, dues.Available))
-unfolding imported_object leaves or_due volume_due reference_due referred_due claim_with claim_due named_due completed_due next_write claim_write
-first_due = record {
+due_first : (past : List Entry) → (world volume_script.setup past).store.rows ≡ rows → IsFirstDue volume_script.setup (world volume_script.setup past) (Some (key_a, dues.Available))
+unfolding or_due volume_due reference_due referred_due claim_with claim_due named_due completed_due next_write claim_write
+due_first past are = record {
   object = Volume pending_a;
-  there = refl;
+  there = ap (row_at key_a) are;
   due = refl;
-  first = λ earlier o e less. absurd (none_before earlier o (row_at_key earlier o rows e) less (found_in earlier o rows e));
+  first = λ earlier o e less. let there : row_at earlier rows ≡ Some o = sym (ap (row_at earlier) are) ∙ e in absurd (none_before earlier o (row_at_key earlier o rows there) less (found_in earlier o rows there));
 }
+
+rows_first : (world volume_script.setup []).store.rows ≡ rows
+unfolding imported_object leaves
+rows_first = refl
+
+rows_listed : (world volume_script.setup (begins_with 7 ∷ [])).store.rows ≡ rows
+unfolding world_after effect on_devices device_answer outcome list after imported_object leaves
+rows_listed = refl
+
+first_due : IsFirstDue volume_script.setup (world volume_script.setup []) (Some (key_a, dues.Available))
+first_due = due_first [] rows_first
 
 not_bound : IsFirstDue volume_script.setup (world volume_script.setup []) (Some (key_a, dues.Bound)) → ⊥
 unfolding imported_object leaves or_due volume_due reference_due referred_due claim_with claim_due named_due completed_due next_write claim_write
 not_bound f = differ is_available (sym (subst (λ o. IsDue volume_script.setup (world volume_script.setup []) o (Some dues.Bound)) (sym (one (Volume pending_a) f.object f.there)) f.due)) refl refl
 
+-- ---- what its one call is
+
+module _ (script : Script) (five : drain_seat script ≡ 5) (e : Entry) (d : Drains script 1 1 (e ∷ [])) where
+  its_call : (later : List Entry) (entry : Entry) → e ∷ [] ≡ later ++ entry ∷ [] → entry ≡ e
+  its_call later entry are = one entry e (sym (ends_so (e ∷ []) later entry [] 0 are refl))
+
+  its_seat : e.seat ≡ 7
+  its_seat =
+      let first = first_call script (Some 1) (begun (Some 1)) (record (begun (Some 1)) { past = e ∷ []; drained = 1 }) d (λ (none : e ∷ [] ≡ []). absurd (cc)) refl in
+      ap (λ (x : Entry). x.seat) (sym (its_call first.later first.entry first.are)) ∙ first.of_seat ∙ ap (λ n. n + 2) five
+
+  its_kind : e.kind ≡ seats.Scheduler
+  its_kind =
+      let first = first_call script (Some 1) (begun (Some 1)) (record (begun (Some 1)) { past = e ∷ []; drained = 1 }) d (λ (none : e ∷ [] ≡ []). absurd (cc)) refl in
+      ap (λ (x : Entry). x.kind) (sym (its_call first.later first.entry first.are)) ∙ first.of_kind
+
+  its_answer : e.told ≡ true
+  its_answer =
+      let first = first_call script (Some 1) (begun (Some 1)) (record (begun (Some 1)) { past = e ∷ []; drained = 1 }) d (λ (none : e ∷ [] ≡ []). absurd (cc)) refl in
+      ap (λ (x : Entry). x.told) (sym (its_call first.later first.entry first.are)) ∙ first.was_told
+
+  its_request : e.request ≡ requests.List kinds.PersistentVolume None
+  its_request =
+      let first = first_call script (Some 1) (begun (Some 1)) (record (begun (Some 1)) { past = e ∷ []; drained = 1 }) d (λ (none : e ∷ [] ≡ []). absurd (cc)) refl in
+      ap (λ (x : Entry). x.request) (sym (its_call first.later first.entry first.are)) ∙ first.asks
+
+not_at : (script : Script) (seat : ℕ) (told : Bool) → drain_seat script ≡ 5 → seat ≢ 7 → Drains script 1 1 (reads seat told ∷ []) → ⊥
+not_at script seat told five other d = other (its_seat script five (reads seat told) d)
+
+what_came : (script : Script) (budget made : ℕ) (past : List Entry) → Drains script budget made past → DrainComesTo script (begun (Some budget)) (record (begun (Some budget)) { past = past; drained = made })
+what_came script budget made past d = drains_come_to all_pass script (Some budget) (begun (Some budget)) (record (begun (Some budget)) { past = past; drained = made }) d
+
+-- tests that tell requests apart
+
+abbrev is_list : Request → Bool
+is_list (requests.List kind namespace) = true
+is_list request = false
+
+abbrev is_scheduler : SeatKind → Bool
+is_scheduler seats.Scheduler = true
+is_scheduler kind = false
+
+short : Drains volume_script 1 0 [] → ⊥
+short d = by (what_came volume_script 1 0 [] d).ends
+  where
+    by : IsSettled volume_script.setup (world volume_script.setup []) ⊎ (◌≡◌ {A = ℕ} 0 1) → ⊥
+    by (inl settled) = unsettled settled
+    by (inr spent) = absurd (omega (arith, spent))
+
+-- one within a budget of none
+too_many : Drains volume_script 0 1 (begins_with 7 ∷ []) → ⊥
+too_many d =
+    let few = (what_came volume_script 0 1 (begins_with 7 ∷ []) d).few in
+    let none : (begun (Some 0)).budget ≡ 0 = refl in
+    absurd (omega (arith, few, none))
+
+no_need : Drains empty_script 1 0 []
+no_need = record {
+  past = [];
+  made = 0;
+  budget = 1;
+  drainers = drainers_of empty_script;
+  ran = drainers_of empty_script;
+  raises = refl;
+  seats = drainers_seats empty_script;
+  roles = drainers_roles empty_script;
+  stand = drainers_stand empty_script [] (refl, (refl, (refl, (refl, (refl, tt)))));
+  few = omega arith;
+  rounds = NothingDue nothing_due refl refl refl;
+  is = refl;
+}
+
+pub drain_cases : DrainExamples
+drain_cases = record {
+  the_scheduler_begins = one_call_drain volume_script [] (begins_with 7).reply (refl, (refl, (refl, (refl, (refl, tt))))) (key_a, dues.Available) (key_a, dues.Available) first_due (due_first (begins_with 7 ∷ []) rows_listed);
+  also_where_there_is_an_agent = one_call_drain node_script [] (begins_with 7).reply (refl, (refl, (refl, (refl, (refl, (refl, tt)))))) (key_a, dues.Available) (key_a, dues.Available) first_due (due_first (begins_with 7 ∷ []) rows_listed);
+  not_the_binder = not_at volume_script 5 true refl (λ (e : 5 ≡ 7). absurd (omega (arith, e)));
+  not_volume_protection = not_at volume_script 9 true refl (λ (e : 9 ≡ 7). absurd (omega (arith, e)));
+  not_the_agent_of_a_node = not_at node_script 10 true refl (λ (e : 10 ≡ 7). absurd (omega (arith, e)));
+  not_a_seat_after_them = not_at volume_script 10 true refl (λ (e : 10 ≡ 7). absurd (omega (arith, e)));
+  not_a_user = not_at volume_script 4 true refl (λ (e : 4 ≡ 7). absurd (omega (arith, e)));
+  not_a_user_at_its_seat = λ d. absurd (true≢false (sym (ap is_scheduler (its_kind volume_script refl (record (begins_with 7) { kind = seats.User }) d))));
+  not_another_kind_at_its_seat = λ d. absurd (true≢false (sym (ap is_scheduler (its_kind volume_script refl (record (begins_with 7) { kind = seats.VolumeProtect }) d))));
+  not_by_a_read_of_one_object = λ d. absurd (true≢false (sym (ap is_list (its_request volume_script refl (record (begins_with 7) { request = requests.Get key_a }) d))));
+  not_by_a_watch = λ d. absurd (true≢false (sym (ap is_list (its_request volume_script refl (record (begins_with 7) { request = requests.Watch kinds.PersistentVolume 1 }) d))));
+  not_with_its_answer_lost = λ d. absurd (true≢false (sym (its_answer volume_script refl (record (begins_with 7) { told = false }) d)));
+  not_past_the_budget = too_many;
+  not_short_of_it_while_something_is_due = short;
+  none_where_nothing_is_due = no_need;
+  not_even_one = λ d. let e : begins_with 7 ∷ [] ≡ [] = (what_came empty_script 1 1 (begins_with 7 ∷ []) d).none nothing_due in absurd (cc);
+}
+
+-- ---- how it ends
+
+-- with no budget no call is made
+pub spent_drain : (script : Script) (first : Key × Due) → IsFirstDue script.setup (world script.setup []) (Some first) → IsDrain all_pass script (Some 0) (begun (Some 0)) (begun (Some 0))
+spent_drain script first due = record {
+  past = [];
+  made = 0;
+  budget = 0;
+  drainers = drainers_of script;
+  ran = drainers_of script;
+  raises = refl;
+  seats = drainers_seats script;
+  roles = drainers_roles script;
+  stand = drainers_stand script [] (none_at (seats_of (drainers_of script)));
+  few = omega arith;
+  rounds = IsSpent first due refl refl refl refl;
+  is = refl;
+}
+  where
+    none_at : (ss : List ℕ) → HaveNoEntries ss []
+    none_at [] = tt
+    none_at (seat ∷ ss) = (refl, none_at ss)
+
 pub spent_cases : SpentExamples
 spent_cases = record {
-  the_first_that_is_due = record { lines_done = begun (Some 0); end = begun (Some 0); moves = NoMoves refl refl; last = spent_drain; history = refl; ends = (refl, refl, first_due) };
+  the_first_that_is_due = record { lines_done = begun (Some 0); end = begun (Some 0); moves = NoMoves refl refl; last = spent_drain volume_script (key_a, dues.Available) first_due; history = refl; ends = (refl, refl, first_due) };
   not_another_action = λ r. not_bound (subst (λ h. IsFirstDue volume_script.setup (world volume_script.setup h) (Some (key_a, dues.Bound))) (sym r.history) r.ends.2);
   not_settled = λ r. unsettled (subst (λ h. IsSettled volume_script.setup (world volume_script.setup h)) (sym r.history) r.ends.1);
 }

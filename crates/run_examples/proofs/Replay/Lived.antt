@@ -8,8 +8,8 @@ use Rattle.worker_core.specs.declared.role.Role.{Role}
 use Rattle.script_lines.specs.declared.actors.Actor.{Actor}
 use Rattle.script_text.specs.declared.script.Line.TheVariants as lines
 use Rattle.script_runs.specs.Examples.{binder_1}
-use Rattle.script_runs.specs.Parts.{lives_of, part_of}
-use Rattle.script_runs.specs.Diligent.{IsDiligentLife, role_of}
+use Rattle.script_runs.specs.Parts.{lives_of, part_of, role_of}
+use Rattle.script_runs.specs.Diligent.{IsDiligentLife}
 use Rattle.script_runs.specs.Replays.{Progress}
 use Rattle.run_examples.specs.Replay.Calls.{reads}
 use Rattle.run_examples.specs.Replay.Lives.{LifeExamples, told}
@@ -51,7 +51,7 @@ tail_of [] = []
 tail_of (b ∷ bs) = bs
 
 -- the entries and the places of the lost calls say all
-same_calls : (calls others : List Call) → entries calls ≡ entries others → map is_some calls ≡ map is_some others → calls ≡ others
+pub same_calls : (calls others : List Call) → entries calls ≡ entries others → map is_some calls ≡ map is_some others → calls ≡ others
 same_calls [] [] are left = refl
 same_calls [] (other ∷ others) are left = absurd (cc)
 same_calls (call ∷ calls) [] are left = absurd (cc)

@@ -1,5 +1,6 @@
 -- The examples of a drain that reclaims a volume compute.
-use Rattle.std.proofs.Common.{◌≡◌, [], ◌∷◌, Bool, true, false, Option, Some, inl, inr, refl, sym, ◌∙◌, ap, subst, arith}
+use Rattle.std.proofs.Common.{◌≡◌, [], ◌∷◌, length, Bool, true, false, Option, Some, inl, inr, refl, sym, ◌∙◌, ap, subst, arith}
+use Rattle.std.specs.Prelude.{slice_get}
 use Rattle.std.specs.declared.cmp.Ordering.{Ordering}
 use Rattle.std.specs.declared.cmp.Ordering.TheVariants.{Less}
 use Rattle.kube_types.specs.declared.key.Key.{Key}
@@ -9,6 +10,9 @@ use Rattle.kube_types.specs.declared.objects.Object.{Object}
 use Rattle.kube_types.specs.declared.objects.Object.TheVariants.{Volume}
 use Rattle.kube_types.specs.Keys.{key_of, key_cmp, row_at}
 use Rattle.kube_types.proofs.KeyOrder.{row_at_key}
+use Rattle.call_types.specs.declared.entry.Entry.{Entry}
+use Rattle.call_types.specs.declared.reply.Reply.TheVariants as replies
+use Rattle.call_types.specs.declared.request.Request.TheVariants as requests
 use Rattle.call_types.specs.declared.setup.Setup.{Setup}
 use Rattle.binder_model.specs.Answers.{after, delete, delete_of, get, outcome, refuse}
 use Rattle.binder_model.specs.BindWrites.{next_write, claim_write}
@@ -17,12 +21,15 @@ use Rattle.binder_model.specs.Devices.{device_answer, erase, unless_planned}
 use Rattle.binder_model.specs.Due.{IsDue, IsFirstDue, IsSettled, or_due}
 use Rattle.binder_model.specs.Imports.{imported_object}
 use Rattle.binder_model.specs.Store.{first_moment, leaves, leaves_at_once, marked_object, with_meta}
+use Rattle.binder_model.specs.Told.{own}
 use Rattle.binder_model.specs.World.{World, effect, on_devices, world, world_after}
 use Rattle.model_examples.specs.Samples.{ended_a, key_a}
 use Rattle.model_examples.proofs.Tellings.{IsIn, differ, found_in, one}
 use Rattle.settle_check.proofs.Settled.{not_settled}
-use Rattle.script_runs.specs.Replays.{IsDrain, NoMoves, begun}
-use Rattle.run_examples.specs.Replay.Drains.{ReclaimExamples, data_erased, ended_script, volume_deleted}
+use Rattle.world_core.specs.declared.drained.Drained.TheVariants.{Spent}
+use Rattle.script_runs.specs.Replays.{IsReplay, Progress, begun}
+use Rattle.run_examples.specs.Replay.Drains.{ReclaimExamples, data_erased, ended_script, ops_asks, volume_deleted}
+use Rattle.run_examples.proofs.Replay.Firsts.{ends_so, first_call, no_lines}
 
 -- ---- the worlds
 
@@ -91,52 +98,22 @@ unsettled w rows settled = not_settled setup w (key_a, dues.Reclaim) (reclaim_du
 
 -- ---- the drains
 
-two_calls : IsDrain ended_script (Some 2) (begun (Some 2)) (record (begun (Some 2)) { past = data_erased; drained = 2 })
-two_calls = record {
-  past = data_erased;
-  made = 2;
-  budget = 2;
-  raises = refl;
-  entries = record { added = data_erased; are = refl; count = refl; of_seats = (inr (inl refl), refl, (inr (inl refl), refl, tt)) };
-  users = refl;
-  few = omega arith;
-  ends = inr refl;
-  none = λ settled. absurd (unsettled (world setup []) begins settled);
-  is = refl;
-}
-
-three_calls : IsDrain ended_script (Some 3) (begun (Some 3)) (record (begun (Some 3)) { past = volume_deleted; drained = 3 })
-three_calls = record {
-  past = volume_deleted;
-  made = 3;
-  budget = 3;
-  raises = refl;
-  entries = record { added = volume_deleted; are = refl; count = refl; of_seats = (inr (inl refl), refl, (inr (inl refl), refl, (inr (inl refl), refl, tt))) };
-  users = refl;
-  few = omega arith;
-  ends = inr refl;
-  none = λ settled. absurd (unsettled (world setup []) begins settled);
-  is = refl;
-}
+-- ops makes no first call
+begins_otherwise : IsReplay ended_script (Some 2) data_erased (Spent 2 key_a dues.Reclaim) → ⊥
+begins_otherwise r =
+    let none : r.lines_done ≡ begun (Some 2) = no_lines ended_script (Some 2) r.lines_done (begun (Some 2)) [] refl r.moves in
+    let empty : r.lines_done.past ≡ [] = ap (λ (p : Progress). p.past) none in
+    let first = first_call ended_script (Some 2) r.lines_done r.end r.last (λ same. let both : data_erased ≡ [] = r.history ∙ same ∙ empty in absurd (cc)) (ap (own 7) empty) in
+    let long : length r.lines_done.past ≡ 0 = ap length empty in
+    let at : slice_get data_erased 1 ≡ Some first.entry = ends_so data_erased first.later first.entry r.lines_done.past 1 (r.history ∙ first.are) (omega (arith, long)) in
+    let e : 7 ≡ 6 = sym first.of_seat ∙ ap (λ (x : Entry). x.seat) (sym (one (ops_asks (requests.Get key_a) (replies.Found (Volume ended_a))) first.entry at)) in
+    absurd (omega (arith, e))
 
 pub reclaim_cases : ReclaimExamples
 reclaim_cases = record {
-  due_until_it_is_deleted = record {
-    lines_done = begun (Some 2);
-    end = record (begun (Some 2)) { past = data_erased; drained = 2 };
-    moves = NoMoves refl refl;
-    last = two_calls;
-    history = refl;
-    ends = (refl, refl, reclaim_due (world setup data_erased) stands);
-  };
-  then_its_protection_is_dropped = record {
-    lines_done = begun (Some 3);
-    end = record (begun (Some 3)) { past = volume_deleted; drained = 3 };
-    moves = NoMoves refl refl;
-    last = three_calls;
-    history = refl;
-    ends = (refl, refl, unguard_due (world setup volume_deleted) marks);
-  };
+  due_until_it_is_deleted = (refl, refl, reclaim_due (world setup data_erased) stands);
+  then_its_protection_is_dropped = (refl, refl, unguard_due (world setup volume_deleted) marks);
+  not_by_ops_alone = begins_otherwise;
   not_reclaimed_twice = λ r. no_reclaim_due (world setup volume_deleted) marks (subst (λ h. IsFirstDue setup (world setup h) (Some (key_a, dues.Reclaim))) (sym r.history) r.ends.2);
   not_settled_before = λ r. unsettled (world setup data_erased) stands (subst (λ h. IsSettled setup (world setup h)) (sym r.history) r.ends.1);
 }

@@ -13,23 +13,30 @@ use Rattle.binder_model.specs.World.{effect, on_devices, world, world_after}
 use Rattle.world_core.specs.declared.drained.Drained.{Drained}
 use Rattle.world_core.specs.declared.drained.Drained.TheVariants.{Settled, Spent}
 use Rattle.binder_model.specs.Due.{IsSettled}
+use Rattle.worker_threads.specs.Drainers.{HaveNoEntries, seats_of}
+use Rattle.worker_threads.specs.Rounds.{NothingDue, all_pass}
 use Rattle.script_text.specs.declared.script.Line.{Line}
 use Rattle.script_text.specs.declared.script.Line.TheVariants as lines
 use Rattle.script_text.specs.declared.script.Script.{Script}
 use Rattle.script_runs.specs.declared.part.Part.{Part}
 use Rattle.script_runs.specs.Budget.{raised}
 use Rattle.script_runs.specs.Examples.{binder_1}
-use Rattle.script_runs.specs.Parts.{part_of}
-use Rattle.script_runs.specs.Calls.{MayEnd, MoreCalls, NoCalls}
+use Rattle.script_runs.specs.Parts.{part_of, role_of}
+use Rattle.script_runs.specs.Calls.{AreNeededLives, IsNeededLife, MayEnd, MoreCalls, NoCalls}
 use Rattle.script_runs.specs.Replays.{AreMoves, IsDrain, IsMove, IsReplay, IsTurn, IsUserCall, MoreMoves, NoMoves, Progress, and_made, begun}
-use Rattle.run_examples.specs.Replay.Calls.{reads, some_key}
+use Rattle.run_examples.specs.Replay.Calls.{reads, some_key, told_calls}
 use Rattle.run_examples.specs.Replay.Replays.{EmptyExamples, TurnExamples, UserExamples, empty_script, turn_script, user_reads, user_script}
+use Rattle.script_runs.proofs.Draining.{calls_leave_entries, drains_come_to}
+use Rattle.run_examples.proofs.Replay.Drainers.{drainers_of, drainers_roles, drainers_seats, drainers_stand}
+use Rattle.run_examples.proofs.Replay.Firsts.{no_lines}
+use Rattle.run_examples.proofs.Replay.Brought.{only_life, silent_binder}
 use Rattle.run_examples.proofs.Replay.Counted.{LeavesOne, end_cases, none_left, one_call}
 
 -- ---- a replay whose last drain has nothing to do
 
-abbrev pub settled_replay : (script : Script) (past : List Entry) (made : List ℕ → ℕ) → AreMoves script None (record (begun None) { past = past; made = made }) script.lines (begun None) → 2048 ≡ raised None script.setup past 0 → IsSettled script.setup (world script.setup past) → IsReplay script None past (Settled 0)
-settled_replay script past made moves budget settled = record {
+abbrev pub settled_replay : (script : Script) (past : List Entry) (made : List ℕ → ℕ) → AreMoves script None (record (begun None) { past = past; made = made }) script.lines (begun None) → 2048 ≡ raised None script.setup past 0 → IsSettled script.setup (world script.setup past)
+    → HaveNoEntries (seats_of (drainers_of script)) past → IsReplay script None past (Settled 0)
+settled_replay script past made moves budget settled none = record {
   lines_done = record (begun None) { past = past; made = made };
   end = record (begun None) { past = past; made = made; budget = 2048 };
   moves = moves;
@@ -37,12 +44,14 @@ settled_replay script past made moves budget settled = record {
     past = past;
     made = 0;
     budget = 2048;
+    drainers = drainers_of script;
+    ran = drainers_of script;
     raises = budget;
-    entries = record { added = []; are = refl; count = refl; of_seats = tt };
-    users = refl;
+    seats = drainers_seats script;
+    roles = drainers_roles script;
+    stand = drainers_stand script past none;
     few = omega arith;
-    ends = inl settled;
-    none = λ before. refl;
+    rounds = NothingDue settled refl refl refl;
     is = refl;
   };
   history = refl;
@@ -58,39 +67,32 @@ settled_at : (past : List Entry) → past ≡ [] → IsSettled empty_script.setu
 settled_at [] none = nothing_due
 settled_at (e ∷ past) none = absurd (cc)
 
-no_lines : (script : Script) (done now : Progress) (ls : List Line) → ls ≡ [] → AreMoves script None done ls now → done ≡ now
-no_lines script done now ls none (NoMoves are is) = is
-no_lines script done now ls none (MoreMoves line rest next are move more) = absurd (cc)
-
 none_added : (xs ys : List Entry) → [] ≡ xs ++ ys → length xs ≡ 0
 none_added [] ys is = refl
 none_added (x ∷ xs) ys is = absurd (cc)
 
 -- what the last drain comes to where no line came before it
 
-past_after : (before end : Progress) → before ≡ begun None → IsDrain empty_script None before end → end.past ≡ []
+past_after : (before end : Progress) → before ≡ begun None → IsDrain all_pass empty_script None before end → end.past ≡ []
 past_after before end is d =
     let first : before.past ≡ [] = ap (λ (p : Progress). p.past) is in
-    ap (λ (p : Progress). p.past) d.is ∙ d.none (settled_at before.past first) ∙ first
+    (drains_come_to all_pass empty_script None before end d).none (settled_at before.past first) ∙ first
 
-made_in : (before end : Progress) → before ≡ begun None → (d : IsDrain empty_script None before end) → d.made ≡ 0
-made_in before end is d =
-    let first : before.past ≡ [] = ap (λ (p : Progress). p.past) is in
-    let none : [] ≡ d.entries.added ++ before.past = sym first ∙ sym (d.none (settled_at before.past first)) ∙ d.entries.are in
-    sym d.entries.count ∙ none_added d.entries.added before.past none
-
-drained_after : (before end : Progress) → before ≡ begun None → IsDrain empty_script None before end → end.drained ≡ 0
+drained_after : (before end : Progress) → before ≡ begun None → IsDrain all_pass empty_script None before end → end.drained ≡ 0
 drained_after before end is d =
-    let all : end.drained ≡ before.drained + d.made = ap (λ (p : Progress). p.drained) d.is in
+    let l = calls_leave_entries empty_script None before end d in
+    let none : [] ≡ l.added ++ before.past = sym (past_after before end is d) ∙ l.are in
+    let long : length l.added ≡ 0 = none_added l.added before.past none in
+    let count = l.count in
+    let low = (drains_come_to all_pass empty_script None before end d).low in
     let first : before.drained ≡ 0 = ap (λ (p : Progress). p.drained) is in
-    let here = made_in before end is d in
-    omega (arith, all, first, here)
+    omega (arith, long, count, low, first)
 
-budget_after : (before end : Progress) → before ≡ begun None → IsDrain empty_script None before end → end.budget ≡ 2048
+budget_after : (before end : Progress) → before ≡ begun None → IsDrain all_pass empty_script None before end → end.budget ≡ 2048
 budget_after before end is d = ap (λ (p : Progress). p.budget) d.is ∙ d.raises ∙ ap (λ (p : Progress). raised None empty_script.setup p.past p.budget) is
 
 at_the_end : (done : Progress) → AreMoves empty_script None done [] (begun None) → done ≡ begun None
-at_the_end done moves = no_lines empty_script done (begun None) [] refl moves
+at_the_end done moves = no_lines empty_script None done (begun None) [] refl moves
 
 makes_no_call : IsReplay empty_script None (reads 5 true ∷ []) (Settled 0) → ⊥
 makes_no_call r =
@@ -109,7 +111,7 @@ spends_nothing r =
 
 pub empty_cases : EmptyExamples
 empty_cases = record {
-  ends_settled = settled_replay empty_script [] (λ name. 0) (NoMoves refl refl) refl nothing_due;
+  ends_settled = settled_replay empty_script [] (λ name. 0) (NoMoves refl refl) refl nothing_due (refl, (refl, (refl, (refl, (refl, tt)))));
   makes_no_call = makes_no_call;
   counts_no_call = counts_no_call;
   spends_nothing = spends_nothing;
@@ -127,10 +129,11 @@ pub record BeginsWith (seat : ℕ) (past : List Entry) : Type 0 where
 begins_with : (script : Script) (seat : ℕ) (past : List Entry) (ending : Drained) → ((done : Progress) → AreMoves script None done script.lines (begun None) → LeavesOne seat done.past) → IsReplay script None past ending → BeginsWith seat past
 begins_with script seat past ending leaves r =
     let one = leaves r.lines_done r.moves in
+    let drain = calls_leave_entries script None r.lines_done r.end r.last in
     record {
-      later = r.last.entries.added;
+      later = drain.added;
       entry = one.entry;
-      are = r.history ∙ ap (λ (p : Progress). p.past) r.last.is ∙ r.last.entries.are ∙ ap (λ xs. r.last.entries.added ++ xs) one.are;
+      are = r.history ∙ drain.are ∙ ap (λ xs. drain.added ++ xs) one.are;
       of_seat = one.of_seat;
       was_told = one.was_told;
     }
@@ -160,7 +163,7 @@ one_move script seat line done now ls are start leaves (MoreMoves first rest nex
     let same : first ≡ line = cc in
     let last : rest ≡ [] = cc in
     let begins : IsMove script None line (begun None) next = subst (λ p. IsMove script None line p next) start (subst (λ l. IsMove script None l now next) same move) in
-    subst (λ (p : Progress). LeavesOne seat p.past) (sym (no_lines script done next rest last more)) (leaves next begins)
+    subst (λ (p : Progress). LeavesOne seat p.past) (sym (no_lines script None done next rest last more)) (leaves next begins)
 
 -- ---- a user's line
 
@@ -180,7 +183,7 @@ budget_after_user = refl
 
 pub user_cases : UserExamples
 user_cases = record {
-  its_call_is_made = settled_replay user_script (user_reads 1 ∷ []) (λ name. 0) (MoreMoves (lines.Call 1 (Get some_key)) [] _ refl (record { reply = Refused NotFound; is = refl }) (NoMoves refl refl)) budget_after_user nothing_due_after;
+  its_call_is_made = settled_replay user_script (user_reads 1 ∷ []) (λ name. 0) (MoreMoves (lines.Call 1 (Get some_key)) [] _ refl (record { reply = Refused NotFound; is = refl }) (NoMoves refl refl)) budget_after_user nothing_due_after (refl, (refl, (refl, (refl, (refl, tt)))));
   not_by_another_user = λ r. let e : 2 ≡ 1 = its_seat 1 (user_reads 2) (user_begins (user_reads 2 ∷ []) (Settled 0) r) in absurd (omega (arith, e));
   not_left_out = λ r. not_empty 1 (user_begins [] (Settled 0) r);
 }
@@ -190,7 +193,7 @@ user_cases = record {
 abbrev binder_part : Part
 binder_part = part_of turn_script binder_1
 
-turn_moved : (next : Progress) → IsTurn binder_part 1 (begun None) next → LeavesOne 5 next.past
+turn_moved : (next : Progress) → IsTurn (role_of binder_1) binder_part 1 (begun None) next → LeavesOne 5 next.past
 turn_moved next (inl all) = subst (LeavesOne 5) (sym (ap (λ (p : Progress). p.past) all.is)) (one_call binder_part all.past 1 1 [] refl refl refl refl all.made)
 turn_moved next (inr fewer) =
     let few = fewer.few in
@@ -208,12 +211,20 @@ pub budget_after_turn : 2048 ≡ raised None turn_script.setup (reads 5 true ∷
 unfolding world_after effect on_devices device_answer after outcome get
 budget_after_turn = refl
 
+pub one_needed : AreNeededLives (role_of binder_1) binder_part 1 (reads 5 true ∷ []) (begun None).idle
+one_needed seat low high = subst (λ s. IsNeededLife (role_of binder_1) binder_part s 1 (reads 5 true ∷ []) []) (only_life seat low high) (record {
+  since = told_calls (reads 5 true ∷ []);
+  are = record { of_seat = refl; left = refl };
+  needed = (tt, λ watch through. true≢false (sym watch));
+  silent = silent_binder (told_calls (reads 5 true ∷ []));
+})
+
 abbrev pub turn_replay : IsReplay turn_script None (reads 5 true ∷ []) (Settled 0)
 turn_replay =
     settled_replay turn_script (reads 5 true ∷ []) (and_made binder_part.name 1 (λ name. 0))
     (MoreMoves (lines.Turn binder_1 1) [] _ refl
-    (inl (record { past = reads 5 true ∷ []; made = MoreCalls 0 (reads 5 true ∷ []) refl (record { request = Get some_key; reply = Refused NotFound; is = refl }) (NoCalls refl refl); is = refl }))
-    (NoMoves refl refl)) budget_after_turn nothing_due_in_turn
+    (inl (record { past = reads 5 true ∷ []; made = MoreCalls 0 (reads 5 true ∷ []) refl (record { request = Get some_key; reply = Refused NotFound; is = refl }) (NoCalls refl refl); needed = one_needed; is = refl }))
+    (NoMoves refl refl)) budget_after_turn nothing_due_in_turn (refl, (refl, (refl, (refl, (refl, tt)))))
 
 pub turn_cases : TurnExamples
 turn_cases = record {

@@ -1,5 +1,5 @@
 -- The examples of turns compute.
-use Rattle.std.proofs.Common.{◌≡◌, ◌≤◌, ◌<◌, ℕ, ◌+◌, List, [], ◌∷◌, length, None, inl, inr, refl, sym, ap, subst, arith}
+use Rattle.std.proofs.Common.{◌≡◌, ◌≤◌, ◌<◌, ℕ, ◌+◌, List, [], ◌∷◌, length, true≢false, None, inl, inr, refl, sym, ap, subst, arith}
 use Rattle.call_types.specs.declared.entry.Entry.{Entry}
 use Rattle.call_types.specs.declared.request.SeatKind.{SeatKind}
 use Rattle.call_types.specs.declared.request.SeatKind.TheVariants as seats
@@ -7,16 +7,22 @@ use Rattle.kube_types.specs.declared.parts.Kind.{Kind}
 use Rattle.call_types.specs.declared.reply.Reply.TheVariants.{Events}
 use Rattle.call_types.specs.declared.request.Request.TheVariants.{Watch}
 use Rattle.kube_types.specs.declared.parts.Kind.TheVariants as kinds
+use Rattle.attention_law.specs.Diligence.{entries}
+use Rattle.attention_law.specs.Resting.{IsDone}
+use Rattle.attention_law.proofs.Dues.{never_due}
 use Rattle.binder_model.specs.Told.{own}
 use Rattle.script_runs.specs.declared.loss.Fate.{Fate}
 use Rattle.script_runs.specs.declared.loss.Fate.TheVariants.{Told, LostBefore, LostAfter}
 use Rattle.script_runs.specs.declared.part.Part.{Part}
 use Rattle.script_runs.specs.Fates.{fate_of}
-use Rattle.script_runs.specs.Calls.{AreCalls, IsCallWith, MayEnd, MoreCalls, NoCalls, seat_at}
+use Rattle.script_runs.specs.Calls.{AreCalls, IsCallWith, IsNeededLife, MayEnd, MoreCalls, NoCalls, seat_at}
+use Rattle.script_runs.specs.Examples.{binder_1}
+use Rattle.script_runs.specs.Parts.{role_of}
 use Rattle.script_runs.specs.Replays.{IsTurn, Progress, begun}
-use Rattle.run_examples.specs.Replay.Calls.{whole_pass, watches}
+use Rattle.run_examples.specs.Replay.Calls.{told_calls, watches, whole_pass}
 use Rattle.run_examples.specs.Replay.Replays.{FewerExamples, after_a_pass, plain_part}
 use Rattle.run_examples.proofs.Replay.Counted.{end_cases}
+use Rattle.run_examples.proofs.Replay.Brought.{brought_at, only_life, silent_binder, watch_brings_none}
 
 -- ---- calls leave entries
 
@@ -53,17 +59,47 @@ three_calls =
     watched : (kind : Kind) (past : List Entry) → IsCallWith Told 5 seats.Binder past (watches kind ∷ past)
     watched kind past = record { request = Watch kind 3; reply = Events (record { events = []; upto = 3 }); is = refl }
 
-three_of_nine : IsTurn plain_part 9 (begun None) after_a_pass
-three_of_nine = inr (record { count = 3; few = omega arith; past = whole_pass; made = three_calls; seat = 5; life = refl; ends = end_cases.after_a_whole_pass; is = refl })
+three_of_nine : IsTurn (role_of binder_1) plain_part 9 (begun None) after_a_pass
+three_of_nine = inr (record {
+  count = 3;
+  few = omega arith;
+  past = whole_pass;
+  made = three_calls;
+  needed = λ seat low high. subst (λ s. IsNeededLife (role_of binder_1) plain_part s 3 whole_pass []) (only_life seat low high) three_needed;
+  seat = 5;
+  life = refl;
+  since = told_calls whole_pass;
+  are = record { of_seat = refl; left = refl };
+  ends = end_cases.after_a_whole_pass;
+  done = λ unstale. done_three;
+  is = refl;
+})
+  where
+    three_needed : IsNeededLife (role_of binder_1) plain_part 5 3 whole_pass []
+    three_needed = record {
+      since = told_calls whole_pass;
+      are = record { of_seat = refl; left = refl };
+      needed = (((tt, λ watch through. true≢false (sym through.whole)), λ watch through. true≢false (sym through.whole)), λ watch through. true≢false (sym through.whole));
+      silent = silent_binder (told_calls whole_pass);
+    }
 
-all_three : IsTurn plain_part 3 (begun None) after_a_pass → ⊥
-all_three (inl all) = let e : whole_pass ≡ [] = ap (λ (p : Progress). p.idle 5) all.is in absurd (cc)
+    done_three : IsDone (role_of binder_1) [] (told_calls whole_pass)
+    done_three = record {
+      passed = record { whole = refl; quiet = refl };
+      brought = λ key e later earlier at brings due. brought_at (role_of binder_1) [] [] (told_calls whole_pass)
+          ((λ key brings due. absurd (watch_brings_none kinds.StorageClass key brings)), ((λ key brings due. absurd (watch_brings_none kinds.PersistentVolumeClaim key brings)), ((λ key brings due. absurd (watch_brings_none kinds.PersistentVolume key brings)), tt)))
+          key e later earlier at brings due;
+      due = λ key due. absurd (never_due (role_of binder_1) key tt due.1.1.1);
+    }
+
+all_three : IsTurn (role_of binder_1) plain_part 3 (begun None) after_a_pass → ⊥
+all_three (inl all) = let e : told_calls whole_pass ≡ [] = ap (λ (p : Progress). p.idle 5) all.is in absurd (cc)
 all_three (inr fewer) =
     let same : 3 ≡ 0 + fewer.count = ap (λ (p : Progress). p.made plain_part.name) fewer.is in
     let few = fewer.few in
     absurd (omega (arith, same, few))
 
-no_call : IsTurn plain_part 9 after_a_pass after_a_pass → ⊥
+no_call : IsTurn (role_of binder_1) plain_part 9 after_a_pass after_a_pass → ⊥
 no_call (inl all) =
     let same : 3 ≡ length all.past = ap (λ (p : Progress). length p.past) all.is in
     let more : 3 < length all.past = told_grows plain_part all.past 4 9 whole_pass refl (omega arith) all.made in
@@ -71,8 +107,8 @@ no_call (inl all) =
 no_call (inr fewer) =
     let past : whole_pass ≡ fewer.past = ap (λ (p : Progress). p.past) fewer.is in
     let seat : fewer.seat ≡ 5 = fewer.life in
-    let ends : MayEnd seats.Binder (after_a_pass.idle fewer.seat) (own fewer.seat whole_pass) = subst (λ h. MayEnd seats.Binder (after_a_pass.idle fewer.seat) (own fewer.seat h)) (sym past) fewer.ends in
-    absurd (end_cases.not_by_the_pass_of_an_earlier_turn (subst (λ s. MayEnd seats.Binder (after_a_pass.idle s) (own s whole_pass)) seat ends))
+    let ends : MayEnd seats.Binder (entries (after_a_pass.idle fewer.seat)) (own fewer.seat whole_pass) = subst (λ h. MayEnd seats.Binder (entries (after_a_pass.idle fewer.seat)) (own fewer.seat h)) (sym past) fewer.ends in
+    absurd (end_cases.not_by_the_pass_of_an_earlier_turn (subst (λ s. MayEnd seats.Binder (entries (after_a_pass.idle s)) (own s whole_pass)) seat ends))
 
 pub fewer_cases : FewerExamples
 fewer_cases = record { fewer_after_a_whole_pass = three_of_nine; not_where_three_were_asked = all_three; the_next_begins_with_a_call = no_call }

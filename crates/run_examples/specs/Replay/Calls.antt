@@ -1,8 +1,9 @@
 -- The calls of an actor over its lives: cases that hold, and cases beside them that do not. A choice of this project.
-use Rattle.std.specs.Prelude.{ℕ, ◌≡◌, ◌≢◌, Bool, true, false, List, [], ◌∷◌, None, codes}
+use Rattle.std.specs.Prelude.{ℕ, ◌≡◌, ◌≢◌, Bool, true, false, List, [], ◌∷◌, Some, None, codes, map}
 use Rattle.kube_types.specs.declared.key.Key.{Key}
 use Rattle.kube_types.specs.declared.parts.Kind.{Kind}
 use Rattle.kube_types.specs.declared.parts.Kind.TheVariants as kinds
+use Rattle.attention_law.specs.Diligence.{Call}
 use Rattle.call_types.specs.declared.entry.Entry.{Entry}
 use Rattle.call_types.specs.declared.reply.Refusal.TheVariants.{NotFound, StaleEpoch}
 use Rattle.call_types.specs.declared.reply.Reply.TheVariants as replies
@@ -52,6 +53,10 @@ watches kind = record { seat = 5; kind = seats.Binder; request = requests.Watch 
 -- a list
 abbrev pub lists : Kind → Entry
 lists kind = record { seat = 5; kind = seats.Binder; request = requests.List kind None; reply = replies.Listed [] 3; told = true }
+
+-- calls that left these entries
+abbrev pub told_calls : List Entry → List Call
+told_calls entries = map (λ (e : Entry). Some e) entries
 
 -- each kind that a binder follows was watched
 abbrev pub whole_pass : List Entry

@@ -1,20 +1,34 @@
 -- Drains, and how they end: cases that hold, and cases beside them that do not. A choice of this project.
-use Rattle.std.specs.Prelude.{ℕ, true, false, List, [], ◌∷◌, Some, codes}
+use Rattle.std.specs.Prelude.{ℕ, ◌≡◌, true, false, List, [], ◌∷◌, Some, None, codes}
 use Rattle.kube_types.specs.declared.names.Due.TheVariants as dues
+use Rattle.kube_types.specs.declared.parts.Kind.TheVariants as kinds
+use Rattle.kube_types.specs.declared.parts.VolumePhase.TheVariants as phases
 use Rattle.kube_types.specs.declared.objects.Object.TheVariants.{Node, Pod, Volume}
 use Rattle.kube_types.specs.declared.objects.Pod.{Pod as PodData}
+use Rattle.kube_types.specs.declared.objects.Volume.{Volume as VolumeData}
 use Rattle.kube_types.specs.Sources.{data_id_of}
 use Rattle.call_types.specs.declared.entry.Entry.{Entry}
 use Rattle.call_types.specs.declared.reply.Reply.{Reply}
 use Rattle.call_types.specs.declared.reply.Reply.TheVariants as replies
 use Rattle.call_types.specs.declared.request.Request.{Request}
 use Rattle.call_types.specs.declared.request.Request.TheVariants as requests
+use Rattle.call_types.specs.declared.request.SeatKind.{SeatKind}
 use Rattle.call_types.specs.declared.request.SeatKind.TheVariants as seats
+use Rattle.binder_model.specs.ObjectKeys.{volume_key}
+use Rattle.model_laws.specs.Worked.{volume, volume_at}
 use Rattle.world_core.specs.declared.drained.Drained.TheVariants.{Settled, Spent}
+use Rattle.worker_threads.specs.declared.drainers.Drainer.{Drainer}
+use Rattle.worker_threads.specs.Drainers.{AreNew, roles_of, seats_of}
+use Rattle.worker_threads.specs.Rounds.{all_pass}
+use Rattle.script_text.specs.declared.script.Line.TheVariants as lines
 use Rattle.script_text.specs.declared.script.Script.{Script}
 use Rattle.model_examples.specs.DueActions.{pending_a}
 use Rattle.model_examples.specs.Samples.{deleting_a, ended_a, key_a, key_p, n1, node_1, uid_p, waiting_p}
-use Rattle.script_runs.specs.Replays.{IsDrain, IsReplay, begun}
+use Rattle.script_runs.specs.declared.stage.Stage.{Stage}
+use Rattle.script_runs.specs.Examples.{script_of}
+use Rattle.script_runs.specs.Parts.{drain_roles, drain_seat, drain_seats}
+use Rattle.script_runs.specs.Replays.{EndsAs, IsDrain, IsReplay, Progress, begun}
+use Rattle.script_runs.specs.Steps.Standing.{Stands}
 use Rattle.run_examples.specs.Replay.Calls.{reads}
 use Rattle.run_examples.specs.Replay.Replays.{empty_script}
 
@@ -28,20 +42,69 @@ node_script = record volume_script { node_names = codes "n1" ∷ [] }
 
 -- with a budget of so many calls a first drain makes so many, which are these entries
 abbrev pub Drains : Script → ℕ → ℕ → List Entry → Type 0
-Drains script budget made past = IsDrain script (Some budget) (begun (Some budget)) (record (begun (Some budget)) { past = past; drained = made })
+Drains script budget made past = IsDrain all_pass script (Some budget) (begun (Some budget)) (record (begun (Some budget)) { past = past; drained = made })
 
+-- the list with which the scheduler of a drain begins, at this seat
+abbrev pub begins_with : ℕ → Entry
+begins_with seat = record { seat = seat; kind = seats.Scheduler; request = requests.List kinds.PersistentVolume None; reply = replies.Listed (Volume pending_a ∷ []) 1; told = true }
+
+-- the seats of the drain: binder 5, ops 6, scheduler 7, claim protection 8, volume protection 9, and the agent of a node 10
 pub record DrainExamples : Type 0 where
-  pub one_call_is_made : Drains volume_script 1 1 (reads 5 true ∷ [])
-  pub by_any_of_the_drain_seats : Drains volume_script 1 1 (reads 9 true ∷ [])
-  pub not_by_a_seat_after_them : Drains volume_script 1 1 (reads 10 true ∷ []) → ⊥
-  pub by_the_agent_of_a_node : Drains node_script 1 1 (reads 10 true ∷ [])
-  pub not_by_a_user : Drains volume_script 1 1 (reads 4 true ∷ []) → ⊥
-  pub not_by_a_user_at_such_a_seat : Drains volume_script 1 1 (record (reads 9 true) { kind = seats.User } ∷ []) → ⊥
-  pub not_with_its_answer_lost : Drains volume_script 1 1 (reads 5 false ∷ []) → ⊥
-  pub not_past_the_budget : Drains volume_script 0 1 (reads 5 true ∷ []) → ⊥
+  pub the_scheduler_begins : Drains volume_script 1 1 (begins_with 7 ∷ [])
+  pub also_where_there_is_an_agent : Drains node_script 1 1 (begins_with 7 ∷ [])
+  pub not_the_binder : Drains volume_script 1 1 (reads 5 true ∷ []) → ⊥
+  pub not_volume_protection : Drains volume_script 1 1 (reads 9 true ∷ []) → ⊥
+  pub not_the_agent_of_a_node : Drains node_script 1 1 (reads 10 true ∷ []) → ⊥
+  pub not_a_seat_after_them : Drains volume_script 1 1 (reads 10 true ∷ []) → ⊥
+  pub not_a_user : Drains volume_script 1 1 (reads 4 true ∷ []) → ⊥
+  pub not_a_user_at_its_seat : Drains volume_script 1 1 (record (begins_with 7) { kind = seats.User } ∷ []) → ⊥
+  pub not_another_kind_at_its_seat : Drains volume_script 1 1 (record (begins_with 7) { kind = seats.VolumeProtect } ∷ []) → ⊥
+  pub not_by_a_read_of_one_object : Drains volume_script 1 1 (record (begins_with 7) { request = requests.Get key_a } ∷ []) → ⊥
+  pub not_by_a_watch : Drains volume_script 1 1 (record (begins_with 7) { request = requests.Watch kinds.PersistentVolume 1 } ∷ []) → ⊥
+  pub not_with_its_answer_lost : Drains volume_script 1 1 (record (begins_with 7) { told = false } ∷ []) → ⊥
+  pub not_past_the_budget : Drains volume_script 0 1 (begins_with 7 ∷ []) → ⊥
   pub not_short_of_it_while_something_is_due : Drains volume_script 1 0 [] → ⊥
   pub none_where_nothing_is_due : Drains empty_script 1 0 []
-  pub not_even_one : Drains empty_script 1 1 (reads 5 true ∷ []) → ⊥
+  pub not_even_one : Drains empty_script 1 1 (begins_with 7 ∷ []) → ⊥
+
+-- ---- its actors
+
+-- the actors of a drain of a script with a node, made for no node: the agent lacks
+pub record ActorExamples : Type 0 where
+  pub no_drain_without_its_agent : (before after : Progress) (d : IsDrain all_pass node_script None before after) → AreNew (drain_seat node_script) [] d.drainers → ⊥
+  pub no_stage_without_it : (p : Progress) (s : Stage) → AreNew (drain_seat node_script) [] s.drainers → Stands node_script None p s → ⊥
+  pub with_it_they_are_its_actors : (ds : List Drainer) → AreNew (drain_seat node_script) node_script.node_names ds → (seats_of ds ≡ drain_seats node_script) × (roles_of ds ≡ drain_roles node_script)
+
+-- ---- drains that do something else than rounds of all controllers in their order
+
+-- a user makes the volume, and then the calls are drained
+abbrev pub made_script : Script
+made_script = script_of [] (lines.Call 1 (requests.Create (Volume (volume (codes "a") 5))) ∷ [])
+
+abbrev pub made_a : VolumeData
+made_a = volume_at (codes "a") 5 1 1 phases.Pending
+
+abbrev pub made : List Entry
+made = record { seat = 1; kind = seats.User; request = requests.Create (Volume (volume (codes "a") 5)); reply = replies.Done (Volume made_a); told = true } ∷ []
+
+-- the list and the watch of an actor of this kind, at this seat
+
+abbrev pub lists_made : ℕ → SeatKind → Entry
+lists_made seat kind = record { seat = seat; kind = kind; request = requests.List kinds.PersistentVolume None; reply = replies.Listed (Volume made_a ∷ []) 1; told = true }
+
+abbrev pub watches_made : ℕ → SeatKind → Entry
+watches_made seat kind = record { seat = seat; kind = kind; request = requests.Watch kinds.PersistentVolume 1; reply = replies.Events (record { events = []; upto = 1 }); told = true }
+
+-- what the drain's binder or its scheduler would have made if it had listed the volumes, and watched them until four calls were spent
+abbrev pub only_watched : ℕ → SeatKind → List Entry
+only_watched seat kind = watches_made seat kind ∷ watches_made seat kind ∷ watches_made seat kind ∷ lists_made seat kind ∷ made
+
+pub record RoundExamples : Type 0 where
+  pub only_watches : IsReplay made_script (Some 4) (only_watched 5 seats.Binder) (Spent 4 (volume_key (codes "a")) dues.Available) → ⊥
+  pub nor_does_the_scheduler : IsReplay made_script (Some 4) (only_watched 7 seats.Scheduler) (Spent 4 (volume_key (codes "a")) dues.Available) → ⊥
+  pub wrong_kinds : IsReplay made_script (Some 1) (lists_made 5 seats.VolumeProtect ∷ made) (Spent 1 (volume_key (codes "a")) dues.Available) → ⊥
+  pub nor_at_the_seat_of_the_scheduler : IsReplay made_script (Some 1) (lists_made 7 seats.VolumeProtect ∷ made) (Spent 1 (volume_key (codes "a")) dues.Available) → ⊥
+  pub but_the_scheduler_lists_them : IsReplay made_script (Some 1) (lists_made 7 seats.Scheduler ∷ made) (Spent 1 (volume_key (codes "a")) dues.Available)
 
 -- the empty lines of that script, with a budget of no calls
 pub record SpentExamples : Type 0 where
@@ -66,9 +129,14 @@ data_erased = ops_asks (requests.Erase (data_id_of ended_a.source)) (replies.Era
 abbrev pub volume_deleted : List Entry
 volume_deleted = ops_asks (requests.Delete key_a ended_a.meta.uid) (replies.Done (Volume deleting_a)) ∷ data_erased
 
+-- all drains have made so many calls, as many as they may, and these are the entries
+abbrev pub drained : ℕ → List Entry → Progress
+drained calls past = record (begun (Some calls)) { past = past; drained = calls }
+
 pub record ReclaimExamples : Type 0 where
-  pub due_until_it_is_deleted : IsReplay ended_script (Some 2) data_erased (Spent 2 key_a dues.Reclaim)
-  pub then_its_protection_is_dropped : IsReplay ended_script (Some 3) volume_deleted (Spent 3 key_a dues.Unguard)
+  pub due_until_it_is_deleted : EndsAs ended_script.setup (drained 2 data_erased) (Spent 2 key_a dues.Reclaim)
+  pub then_its_protection_is_dropped : EndsAs ended_script.setup (drained 3 volume_deleted) (Spent 3 key_a dues.Unguard)
+  pub not_by_ops_alone : IsReplay ended_script (Some 2) data_erased (Spent 2 key_a dues.Reclaim) → ⊥
   pub not_reclaimed_twice : IsReplay ended_script (Some 3) volume_deleted (Spent 3 key_a dues.Reclaim) → ⊥
   pub not_settled_before : IsReplay ended_script (Some 3) data_erased (Settled 2) → ⊥
 
@@ -92,6 +160,7 @@ pod_assigned = record { seat = 7; kind = seats.Scheduler; request = requests.Bin
 
 pub record AssignExamples : Type 0 where
   pub due_until_it_has_a_node : IsReplay pod_script (Some 0) [] (Spent 0 key_p dues.Assign)
-  pub then_it_is_to_be_mounted : IsReplay pod_script (Some 1) pod_assigned (Spent 1 key_p dues.Mount)
+  pub then_it_is_to_be_mounted : EndsAs pod_script.setup (drained 1 pod_assigned) (Spent 1 key_p dues.Mount)
+  pub not_before_anything_was_listed : IsReplay pod_script (Some 1) pod_assigned (Spent 1 key_p dues.Mount) → ⊥
   pub not_assigned_twice : IsReplay pod_script (Some 1) pod_assigned (Spent 1 key_p dues.Assign) → ⊥
   pub not_settled_before : IsReplay pod_script (Some 0) [] (Settled 0) → ⊥

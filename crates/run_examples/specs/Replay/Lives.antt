@@ -7,7 +7,8 @@ use Rattle.script_text.specs.declared.script.Line.TheVariants as lines
 use Rattle.script_runs.specs.declared.part.Part.{Part}
 use Rattle.script_runs.specs.Examples.{binder_1, script_of}
 use Rattle.script_runs.specs.Parts.{part_of}
-use Rattle.script_runs.specs.Diligent.{AreOfLife, IsDiligentReplay, left_by}
+use Rattle.script_runs.specs.Calls.{AreOfLife, left_by}
+use Rattle.script_runs.specs.Diligent.{IsDiligentReplay}
 use Rattle.run_examples.specs.Replay.Calls.{part, reads}
 use Rattle.run_examples.specs.Replay.Replays.{turn_script}
 

@@ -1,11 +1,12 @@
 -- How the life of an actor goes on, call by call, as the actor is played; and what is known of its lives so far.
 -- A choice of this project.
-use Rattle.std.specs.Prelude.{ℕ, ◌≡◌, ◌≤◌, ◌<◌, Bool, true, false, List, ◌∷◌, is_some}
+use Rattle.std.specs.Prelude.{ℕ, ◌≡◌, ◌≤◌, ◌<◌, ◌⊎◌, ◌+◌, Bool, true, false, List, [], ◌∷◌, ◌++◌, is_some}
 use Rattle.call_types.specs.declared.entry.Entry.{Entry}
 use Rattle.call_types.specs.declared.request.Request.{Request}
 use Rattle.binder_model.specs.Told.{own}
 use Rattle.attention_law.specs.Diligence.{Call, entries}
-use Rattle.attention_law.specs.Played.{IsPlayed, Turns}
+use Rattle.attention_law.specs.Played.{Turns}
+use Rattle.attention_law.specs.Resting.{IsDone, IsPlayedSince, WasToldStale}
 use Rattle.worker_core.specs.declared.role.Role.{Role}
 use Rattle.worker_core.specs.declared.turn.Next.TheVariants as nexts
 use Rattle.worker_core.specs.Roles.{IsBuiltKind}
@@ -14,45 +15,77 @@ use Rattle.world_core.specs.Kept.{History}
 use Rattle.script_runs.specs.declared.loss.Fate.{Fate}
 use Rattle.script_runs.specs.declared.part.Part.{Part}
 use Rattle.script_runs.specs.declared.player.Player.{Player}
-use Rattle.script_runs.specs.Calls.{seat_at}
-use Rattle.script_runs.specs.Diligent.{AreOfLife, IsDiligentLife, leaves_entry}
+use Rattle.script_runs.specs.Calls.{AreOfLife, IsNeededLife, leaves_entry, seat_at}
+use Rattle.script_runs.specs.Diligent.{IsDiligentLife}
+use Rattle.script_runs.specs.Parts.{lives_of}
+use Rattle.script_runs.specs.Replays.{and_idle}
 
 -- ---- a call
 
 -- the calls are one more, with this fate, and the actor was played on
-pub record WentOn (role : Role) (fate : Fate) (new : State) (calls : List Call) (mine : List Entry) : Type 0 where
+pub record WentOn (role : Role) (fate : Fate) (new : State) (earlier since : List Call) (mine : List Entry) : Type 0 where
   pub call : Call
   pub left : is_some call ≡ leaves_entry fate
-  pub own : entries (call ∷ calls) ≡ mine
-  pub played : IsPlayed role new (call ∷ calls)
+  pub own : entries (call ∷ (since ++ earlier)) ≡ mine
+  pub played : IsPlayedSince role new earlier (call ∷ since)
 
 -- the call that the turn of a played actor gave has this fate
 abbrev pub GoesOn : ℕ → Fate → Request → History → History → State → State → Type 0
-GoesOn seat fate request before after old new = (role : Role) (s : State) (calls : List Call) → IsPlayed role s calls → Turns s old (nexts.Call request) (entries calls) → entries calls ≡ own seat before.past
-    → WentOn role fate new calls (own seat after.past)
+GoesOn seat fate request before after old new = (role : Role) (s : State) (earlier since : List Call) → IsPlayedSince role s earlier since → Turns s old (nexts.Call request) (entries (since ++ earlier)) → entries (since ++ earlier) ≡ own seat before.past
+    → WentOn role fate new earlier since (own seat after.past)
 
 -- ---- the lives of a part
 
--- the life at the seat, so far, of an actor of this role that is in this state
-pub record Living (role : Role) (part : Part) (seat made : ℕ) (past : List Entry) (s : State) : Type 0 where
-  pub calls : List Call
-  pub are : AreOfLife part seat made past calls
-  pub played : IsPlayed role s calls
+-- the life at the seat, so far, of an actor of this role that is in this state and was last idle after the calls `earlier`
+pub record Living (role : Role) (part : Part) (seat made : ℕ) (past : List Entry) (earlier : List Call) (s : State) : Type 0 where
+  pub since : List Call
+  pub are : AreOfLife part seat made past (since ++ earlier)
+  pub played : IsPlayedSince role s earlier since
 
--- the life of the player, and those before it
-pub record Lives (role : Role) (p : Player) (past : List Entry) : Type 0 where
+-- a life to which no call will come
+pub record HasLasted (role : Role) (part : Part) (seat made : ℕ) (past : List Entry) (earlier : List Call) : Type 0 where
+  pub diligent : IsDiligentLife role part seat made past
+  pub needed : IsNeededLife role part seat made past earlier
+
+-- the life of the player, and those before it; later ones have made no calls
+pub record Lives (role : Role) (p : Player) (past : List Entry) (idle : ℕ → List Call) : Type 0 where
   pub built : IsBuiltKind role.kind
   pub began : seat_at p.part p.made ≤ p.seat
-  pub living : Living role p.part p.seat p.made past p.actor
-  pub ended : (seat : ℕ) → p.part.first ≤ seat → seat < p.seat → IsDiligentLife role p.part seat p.made past
+  pub living : Living role p.part p.seat p.made past (idle p.seat) p.actor
+  pub ended : (seat : ℕ) → p.part.first ≤ seat → seat < p.seat → HasLasted role p.part seat p.made past (idle seat)
+  pub unborn : (seat : ℕ) → p.seat < seat → seat < p.part.first + lives_of p.part → idle seat ≡ []
 
 -- the turn of the player has given no call
-pub record LivesIdle (role : Role) (p : Player) (past : List Entry) : Type 0 where
+pub record LivesIdle (role : Role) (p : Player) (past : List Entry) (idle : ℕ → List Call) : Type 0 where
   pub before : State
-  pub lives : Lives role (record p { actor = before }) past
+  pub lives : Lives role (record p { actor = before }) past idle
   pub turns : Turns before p.actor nexts.Idle (own p.seat past)
 
 -- after a step, in which a call was made or none
-abbrev pub HasLived : Role → List Entry → Player → Bool → Type 0
-HasLived role past p true = Lives role p past
-HasLived role past p false = LivesIdle role p past
+abbrev pub HasLived : Role → List Entry → (ℕ → List Call) → Player → Bool → Type 0
+HasLived role past idle p true = Lives role p past idle
+HasLived role past idle p false = LivesIdle role p past idle
+
+-- ---- a turn
+
+-- the lives up to that of the player are needed ones
+abbrev pub NeededSoFar : Role → Player → List Entry → (ℕ → List Call) → Type 0
+NeededSoFar role p past idle = (seat : ℕ) → p.part.first ≤ seat → seat ≤ p.seat → IsNeededLife role p.part seat p.made past (idle seat)
+
+pub record LivedAll (role : Role) (calls : ℕ) (past : List Entry) (idle : ℕ → List Call) (old new : Player) : Type 0 where
+  pub made : new.made ≡ old.made + calls
+  pub needed : NeededSoFar role new past idle
+  pub lives : Lives role new past idle
+
+-- the player's life was idle, and the actor was woken
+pub record LivedFewer (role : Role) (calls : ℕ) (past : List Entry) (idle : ℕ → List Call) (old new : Player) : Type 0 where
+  pub few : new.made < old.made + calls
+  pub needed : NeededSoFar role new past idle
+  pub since : List Call
+  pub are : AreOfLife new.part new.seat new.made past (since ++ idle new.seat)
+  pub done : (WasToldStale role.kind (own new.seat past) → ⊥) → IsDone role (idle new.seat) since
+  pub lives : Lives role new past (and_idle new.seat (since ++ idle new.seat) idle)
+
+-- after so many calls of a turn, or fewer
+abbrev pub HasLivedOn : ℕ → List Entry → List Entry → Player → Player → Type 0
+HasLivedOn calls before after old new = (role : Role) (idle : ℕ → List Call) → Lives role old before idle → LivedAll role calls after idle old new ⊎ LivedFewer role calls after idle old new

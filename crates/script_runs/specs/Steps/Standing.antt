@@ -1,7 +1,8 @@
 -- What stands for how far a replay has come: a world, the actors, and the numbers of the drains. A choice of this project.
 use Rattle.std.specs.Prelude.{ℕ, ◌≡◌, ◌≤◌, ◌+◌, true, List, [], ◌∷◌, ◌++◌, Option, Some, None, bytes_eq, drop, map, slice_get, if◌then◌else◌}
-use Rattle.worker_threads.specs.Drainers.{AreStanding, seats_of}
-use Rattle.worker_threads.specs.Longer.{IsOneOf}
+use Rattle.attention_law.specs.Diligence.{entries}
+use Rattle.worker_threads.specs.Drainers.{AreStanding, roles_of, seats_of}
+use Rattle.worker_threads.specs.Rounds.{all_pass}
 use Rattle.world_core.specs.declared.drained.Drained.{Drained}
 use Rattle.world_core.specs.declared.drained.Drained.TheVariants.{Settled, Spent}
 use Rattle.script_lines.specs.declared.actors.Worker.{Worker as WorkerData}
@@ -17,10 +18,9 @@ use Rattle.script_runs.specs.declared.part.Part.{Part}
 use Rattle.script_runs.specs.declared.player.Player.{Player}
 use Rattle.script_runs.specs.declared.stage.Stage.{Stage}
 use Rattle.script_runs.specs.Budget.{most_budget}
-use Rattle.script_runs.specs.Parts.{drain_seats, first_actor_seat, kind_of, lives_of, part_at}
+use Rattle.script_runs.specs.Parts.{drain_roles, drain_seats, first_actor_seat, kind_of, lives_of, part_at, role_of}
 use Rattle.script_lines.specs.Actors.{actor_word, four}
 use Rattle.worker_core.specs.declared.role.Role.{Role}
-use Rattle.script_runs.specs.Diligent.{role_of}
 use Rattle.script_runs.specs.Replays.{AreMoves, EndsAs, IsDrain, Progress, begun}
 use Rattle.script_runs.specs.Steps.Living.{Lives}
 use Rattle.script_runs.specs.Steps.Playing.{EachPlayer, IsNewPlayer, Plays}
@@ -111,11 +111,12 @@ pub record Stands (script : Script) (option : Option ℕ) (p : Progress) (s : St
   pub past : s.world.past ≡ p.past
   pub setup : s.world.setup ≡ script.setup
   pub parts : parts_in s.players.items ≡ all_parts script
-  pub plays : EachPlayer (λ x. x.part.named ≡ true → Plays x s.world.past p.idle) s.players.items
-  pub lives : EachWithRole (λ role x. x.part.named ≡ true → Lives role x s.world.past) (actors_for script.node_names) s.players.items
+  pub plays : EachPlayer (λ x. x.part.named ≡ true → Plays x s.world.past (λ seat. entries (p.idle seat))) s.players.items
+  pub lives : EachWithRole (λ role x. x.part.named ≡ true → Lives role x s.world.past p.idle) (actors_for script.node_names) s.players.items
   pub made : EachPlayer (λ x. x.made ≡ p.made x.part.name) s.players.items
   pub drainers : AreStanding s.drainers s.world.past
-  pub seats : (seat : ℕ) → IsOneOf (seats_of s.drainers) seat → IsOneOf (drain_seats script) seat
+  pub seats : seats_of s.drainers ≡ drain_seats script
+  pub roles : roles_of s.drainers ≡ drain_roles script
   pub drained : s.drained ≡ p.drained
   pub budget : s.budget ≡ p.budget
   pub few : s.drained ≤ s.budget
@@ -142,7 +143,7 @@ HasMoved script option Moves old new = (p : Progress) → Stands script option p
 -- the last drain was made, and so all drains ended
 pub record Ended (script : Script) (option : Option ℕ) (before : Progress) (s : Stage) (ending : Drained) : Type 0 where
   pub after : Progress
-  pub move : IsDrain script option before after
+  pub move : IsDrain all_pass script option before after
   pub stands : Stands script option after s
   pub ends : EndsAs script.setup after ending
 

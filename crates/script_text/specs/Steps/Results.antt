@@ -2,6 +2,7 @@
 use Rattle.std.specs.Prelude.{Ok, Err}
 use Rattle.std.specs.declared.result.Result.{Result}
 use Rattle.script_lines.specs.declared.errors.LineError.{LineError}
+use Rattle.kube_types.specs.declared.objects.Object.{Object}
 use Rattle.script_text.specs.declared.script.Line.{Line}
 use Rattle.script_text.specs.declared.script.Meaning.{Meaning}
 use Rattle.script_text.specs.declared.script.Meaning.TheVariants as meanings
@@ -9,3 +10,7 @@ use Rattle.script_text.specs.declared.script.Meaning.TheVariants as meanings
 abbrev pub line_result : Result Line LineError → Result Meaning LineError
 line_result (Ok line) = Ok (meanings.Line line)
 line_result (Err e) = Err e
+
+abbrev pub import_result : Result Object LineError → Result Meaning LineError
+import_result (Ok object) = Ok (meanings.Import object)
+import_result (Err e) = Err e

@@ -44,7 +44,18 @@ long_turn = Turn (worker Binder One) 1000
 
 -- the last of these lines passes this limit, or none
 abbrev pub Passes : Line → List Line → Option Reason → Type 0
-Passes line before limit = line_limit (line ∷ before) line ≡ limit
+Passes line before limit = line_limit [] (line ∷ before) line ≡ limit
+
+-- the last of these imports passes this limit, or none; no line came before
+abbrev pub ImportPasses : Object → List Object → Option Reason → Type 0
+ImportPasses object before limit = limit_of (record nothing_said { imports = object ∷ before }) (meanings.Import object) ≡ limit
+
+abbrev pub pod_on : List ℕ → Object
+pod_on node = objects.Pod (record { meta = record { namespace = codes "default"; name = codes "p"; uid = None; version = 0; created = []; deleted = None; labels = []; annotations = []; finalizers = [] }; claims = []; node = node; extra = [] })
+
+-- pods that are scheduled on eight nodes
+abbrev pub eight_pods : List Object
+eight_pods = pod_on (codes "1") ∷ pod_on (codes "2") ∷ pod_on (codes "3") ∷ pod_on (codes "4") ∷ pod_on (codes "5") ∷ pod_on (codes "6") ∷ pod_on (codes "7") ∷ pod_on (codes "8") ∷ []
 
 pub record LimitExamples : Type 0 where
   pub pools : limit_of (record nothing_said { pools = times 64 pool_p }) (meanings.Pool pool_p (codes "5")) ≡ None
@@ -56,6 +67,15 @@ pub record LimitExamples : Type 0 where
   pub objects : Passes (Call 1 (Create node_n)) (times 1023 (Call 1 (Create node_n))) None
   pub too_many_objects : Passes (Call 1 (Create node_n)) (times 1024 (Call 1 (Create node_n))) (Some TooManyObjects)
   pub a_get_is_no_object : Passes (Call 1 (Get (key_of kinds.Node [] (codes "n")))) (times 1025 (Call 1 (Create node_n))) None
+  pub imports : ImportPasses node_n (times 1023 node_n) None
+  pub too_many_imports : ImportPasses node_n (times 1024 node_n) (Some TooManyObjects)
+  pub a_create_after_imports : line_limit (times 1023 node_n) (Call 1 (Create node_n) ∷ []) (Call 1 (Create node_n)) ≡ None
+  pub a_create_after_too_many : line_limit (times 1024 node_n) (Call 1 (Create node_n) ∷ []) (Call 1 (Create node_n)) ≡ Some TooManyObjects
+  pub a_node_of_an_imported_pod : ImportPasses (node_named (codes "8")) eight_pods None
+  pub too_many_nodes_of_imports : ImportPasses (node_named (codes "9")) eight_pods (Some TooManyNodes)
+  pub a_pod_on_no_node : ImportPasses (pod_on []) eight_pods None
+  pub a_created_pod_counts_for_no_node : line_limit eight_pods (Call 1 (Create (pod_on (codes "9"))) ∷ []) (Call 1 (Create (pod_on (codes "9")))) ≡ None
+  pub too_many_nodes_with_a_created_one : line_limit eight_pods (creates_node (codes "9") ∷ []) (creates_node (codes "9")) ≡ Some TooManyNodes
   pub losses : Passes lost (times 63 lost) None
   pub too_many_losses : Passes lost (times 64 lost) (Some TooManyLosses)
   pub losses_of_another_actor : Passes (Lose (worker Ops One) 3 false) (times 64 lost) None

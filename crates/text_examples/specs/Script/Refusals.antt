@@ -1,7 +1,12 @@
 -- Why lines are refused: each reason, and which comes first where several apply.
 -- A choice of this project: the script format, and its limits.
-use Rattle.std.specs.Prelude.{◌≡◌, [], ◌∷◌, Ok, codes, false}
+use Rattle.std.specs.Prelude.{◌≡◌, ℕ, List, [], ◌∷◌, Some, None, Ok, codes, false}
+use Rattle.kube_types.specs.Uids.{uid_of_serial}
+use Rattle.kube_types.specs.declared.names.Field.TheVariants as fields
+use Rattle.kube_types.specs.declared.objects.Object.{Object}
+use Rattle.kube_types.specs.declared.objects.Object.TheVariants as objects
 use Rattle.object_text.specs.declared.errors.Member.TheVariants as manifests
+use Rattle.binder_model.specs.Imports.{import_fault}
 use Rattle.script_lines.specs.declared.line_member.LineMember.TheVariants as members
 use Rattle.script_lines.specs.declared.errors.Reason.TheVariants as reasons
 use Rattle.script_lines.specs.Refusals.{refusal_line}
@@ -10,6 +15,7 @@ use Rattle.script_lines.specs.declared.actors.WorkerNumber.TheVariants.{One}
 use Rattle.script_text.specs.declared.script.Line.TheVariants.{Lose, Restart, Drain}
 use Rattle.script_text.specs.declared.script.Meaning.TheVariants as meanings
 use Rattle.script_text.specs.Said.{Said, nothing_said}
+use Rattle.script_text.specs.LineReaders.{unless_fault}
 use Rattle.script_text.specs.Grammar.{script_of}
 use Rattle.text_examples.specs.Script.Samples.{means, means_after, IsLine, refuses, worker, at_fault}
 
@@ -52,6 +58,27 @@ pub record AgainExamples : Type 0 where
   pub no_call_is_lost_twice : means_after third_is_lost (codes "{\"do\":\"lose\",\"actor\":\"binder-1\",\"call\":3,\"when\":\"after\"}") ≡ refuses (reasons.BadValue members.Call)
   pub a_restart_has_its_own_numbers : means_after third_is_lost (codes "{\"do\":\"restart\",\"actor\":\"binder-1\",\"after\":3}") ≡ IsLine (Restart (worker Binder One) 3)
 
+-- ---- objects of an older store
+
+-- an import of the node `n` without a UID
+abbrev pub imports_n : List ℕ
+imports_n = codes "{\"do\":\"import\",\"object\":{\"apiVersion\":\"v1\",\"kind\":\"Node\",\"metadata\":{\"name\":\"n\"}}}"
+
+abbrev pub node_nine : Object
+node_nine = objects.Node (record { meta = record { namespace = []; name = codes "n"; uid = Some (uid_of_serial 9); version = 0; created = []; deleted = None; labels = []; annotations = []; finalizers = [] }; extra = [] })
+
+-- a drain came before
+abbrev pub drained : Said
+drained = record nothing_said { lines = Drain ∷ []; numbers = 1 ∷ [] }
+
+pub record ImportExamples : Type 0 where
+  pub none_without_a_uid : means imports_n ≡ refuses (reasons.Missing (members.Of manifests.Uid))
+  pub lost_calls_may_come_before : means_after third_is_lost imports_n ≡ refuses (reasons.Missing (members.Of manifests.Uid))
+  pub no_call_comes_before : means_after drained imports_n ≡ refuses (reasons.BadValue members.Do)
+  pub members_come_first : means_after drained (codes "{\"do\":\"import\"}") ≡ refuses (reasons.Missing members.Object)
+  pub passes : unless_fault (import_fault [] node_nine) node_nine ≡ Ok (meanings.Import node_nine)
+  pub the_name_comes_before_the_uid : unless_fault (import_fault (node_nine ∷ []) node_nine) node_nine ≡ refuses (reasons.BadValue (members.Of manifests.Name))
+
 -- ---- the line that is at fault
 
 pub record PlaceExamples : Type 0 where
@@ -63,4 +90,5 @@ pub record PlaceExamples : Type 0 where
 pub record PrintedExamples : Type 0 where
   pub with_its_member : refusal_line (record { line = 12; reason = reasons.BadValue members.User }) ≡ codes "line 12: BadValue user"
   pub with_none : refusal_line (record { line = 4097; reason = reasons.TooManyLines }) ≡ codes "line 4097: TooManyLines"
+  pub with_a_field : refusal_line (record { line = 2; reason = reasons.BadValue (members.Field fields.Name) }) ≡ codes "line 2: BadValue Name"
   pub with_that_of_the_manifest : refusal_line (record { line = 1; reason = reasons.Missing (members.Of manifests.Source) }) ≡ codes "line 1: Missing source"

@@ -54,21 +54,21 @@ returns-clause-actors c = λ before.
     c.in_ok-make-in-Call.ensures.actors (c.in_ok-answer.ensures.stands (own c.begin_life.new.player.seat past) plays.since.stands) before
 
 pub returns-in-Idle-clause-lived : goal.returns-in-Idle-clause-lived
-returns-in-Idle-clause-lived c = λ role lives.
+returns-in-Idle-clause-lived c = λ role idle lives.
     let mid = c.begin_life.new.player in
     let past = c.args.world.now.past in
     let some = c.requires.plays in
-    idle_lives role mid c.next.new.self past c.next.ensures.order (subst (λ (a : Next). IsTurn mid.actor c.next.new.self a) c.in-Idle.is c.in_ok-answer.ensures.turn) c.in_ok-answer.ensures.stands
-    (c.begin_life.ensures.lives role past some.idle c.requires.named some.plays lives)
+    idle_lives role mid c.next.new.self past idle c.next.ensures.order (subst (λ (a : Next). IsTurn mid.actor c.next.new.self a) c.in-Idle.is c.in_ok-answer.ensures.turn) c.in_ok-answer.ensures.stands
+    (c.begin_life.ensures.lives role past some.idle idle c.requires.named some.plays lives)
 
 pub returns-clause-lived : goal.returns-clause-lived
-returns-clause-lived c = λ role lives.
+returns-clause-lived c = λ role idle lives.
     let mid = c.begin_life.new.player in
     let past = c.args.world.now.past in
     let some = c.requires.plays in
     let called = c.in_ok-make-in-Call.ensures.called in
     let life : mid.seat ≡ seat_at mid.part (mid.made + 1) = c.begin_life.ensures.seat ∙ sym (ap (λ (p : Part). seat_at p (mid.made + 1)) c.begin_life.ensures.part ∙ ap (λ m. seat_at c.args.player.now.part (m + 1)) c.begin_life.ensures.made) in
-    made_lives role mid c.next.new.self c.make.new.actor c.in-Call.request c.fate_of-fate.result c.args.world.now c.make.new.world life
+    made_lives role mid c.next.new.self c.make.new.actor c.in-Call.request c.fate_of-fate.result c.args.world.now c.make.new.world idle life
     (c.fate_of-fate.ensures ∙ ap (λ (losses : List Loss). fate_of losses (mid.made + 1)) c.as_slice.ensures) c.next.ensures.order
     (subst (λ (a : Next). IsTurn mid.actor c.next.new.self a) c.in-Call.is c.in_ok-answer.ensures.turn) c.in_ok-answer.ensures.stands c.in_ok-make-in-Call.ensures.goes called.others
-    (c.begin_life.ensures.lives role past some.idle c.requires.named some.plays lives)
+    (c.begin_life.ensures.lives role past some.idle idle c.requires.named some.plays lives)

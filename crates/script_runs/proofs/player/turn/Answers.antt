@@ -1,10 +1,10 @@
-use Rattle.std.proofs.Common.{◌∙◌, ◌+◌, ◌<◌, ◌^◌, ap, refl, subst, sym, arith, length, Bool, List, ℕ}
+use Rattle.std.proofs.Common.{◌∙◌, ◌+◌, ◌<◌, ◌^◌, inl, inr, ap, refl, subst, sym, arith, length, Bool, List, ℕ}
 use Rattle.call_types.specs.declared.entry.Entry.{Entry}
 use Rattle.script_runs.specs.declared.part.Part.{Part}
 use Rattle.script_runs.specs.Steps.Living.{HasLived}
 use Rattle.worker_core.specs.States.{State}
 use Rattle.script_runs.specs.Steps.Playing.{HasStepped, Plays}
-use Rattle.script_runs.proofs.Lived.{woken_lives}
+use Rattle.script_runs.proofs.Lived.{lived_all, woken_lives}
 use Rattle.script_runs.proofs.Since.{woken_since}
 use Rattle.script_runs.proofs.Turning.{gone_on, not_gone, turned_all, turned_few}
 use Rattle.script_runs.proofs.player.turn.Goals as goal
@@ -17,7 +17,7 @@ loop-made-init c = record {
   setup = refl;
   actors = λ before. before;
   some = c.requires.plays;
-  lives = λ role lives. lives;
+  lives = λ role idle lives. lives;
   gone = λ idle plays. not_gone idle c.args.world.now.past c.args.player.now plays;
 }
 
@@ -63,7 +63,7 @@ loop-made-preserved c =
       setup = c.step.ensures.setup ∙ i.setup;
       actors = λ before. c.in_ok-step.ensures.actors (i.actors before);
       some = record { idle = i.some.idle; plays = (made i.some.idle i.some.plays).plays };
-      lives = λ role lives. subst (λ (b : Bool). HasLived role after new b) c.if-not-branch.false (c.in_ok-step.ensures.lived role (i.lives role lives));
+      lives = λ role idle lives. subst (λ (b : Bool). HasLived role after idle new b) c.if-not-branch.false (c.in_ok-step.ensures.lived role idle (i.lives role idle lives));
       gone = λ idle plays.
           let gone = i.gone idle plays in
           gone_on c.loop-made.made idle c.args.world.now.past h after c.args.player.now old new i.part i.count gone (made idle gone.plays);
@@ -78,10 +78,16 @@ pub returns-then-not-branch-clause-actors : goal.returns-then-not-branch-clause-
 returns-then-not-branch-clause-actors c = λ before. c.in_ok-step.ensures.actors (c.loop-made.invariant.actors before)
 
 pub returns-then-not-branch-clause-lives : goal.returns-then-not-branch-clause-lives
-returns-then-not-branch-clause-lives c = λ role lives.
+returns-then-not-branch-clause-lives c = λ role idle lives.
+    let i = c.loop-made.invariant in
     let mid = c.step.new.player in
     let after = c.step.new.world.past in
-    woken_lives role mid c.wake.new.self after c.in_ok-wake.ensures.state c.in_ok-wake.ensures.stands (subst (λ (b : Bool). HasLived role after mid b) c.if-not-branch.true (c.in_ok-step.ensures.lived role (c.loop-made.invariant.lives role lives)))
+    let still = subst (λ (b : Bool). HasStepped i.some.idle c.loop-made.world.past after c.loop-made.player mid b) c.if-not-branch.true (c.in_ok-step.ensures.stepped i.some.idle i.some.plays) in
+    let same = still.made in
+    inr (woken_lives role c.args.calls c.args.player.now mid c.wake.new.self after idle (omega (arith, same, i.count, c.loop-made-test.true)) c.in_ok-wake.ensures.state c.in_ok-wake.ensures.stands
+    (subst (λ (b : Bool). HasLived role after idle mid b) c.if-not-branch.true (c.in_ok-step.ensures.lived role idle (i.lives role idle lives))))
 
 pub returns-clause-lives : goal.returns-clause-lives
-returns-clause-lives c = c.loop-made.invariant.lives
+returns-clause-lives c = λ role idle lives.
+    let i = c.loop-made.invariant in
+    inl (lived_all role c.args.calls c.args.player.now c.loop-made.player c.loop-made.world.past idle (omega (arith, i.count, i.few, c.loop-made-test.false)) (i.lives role idle lives))

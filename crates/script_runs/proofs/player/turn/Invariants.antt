@@ -1,4 +1,5 @@
 use Rattle.std.proofs.Common.{◌≡◌, ◌≤◌, ◌+◌, ◌-◌, ℕ, List}
+use Rattle.attention_law.specs.Diligence.{Call}
 use Rattle.call_types.specs.declared.entry.Entry.{Entry}
 use Rattle.size_calls.specs.Calls.{AreByActors}
 use Rattle.worker_core.specs.declared.role.Role.{Role}
@@ -14,7 +15,7 @@ invariant-loop-made l = record {
   setup : l.world.setup ≡ l.initial.world.setup;
   actors : AreByActors l.initial.world.past → AreByActors l.world.past;
   some : SomePlays l.player l.world.past;
-  lives : (role : Role) → Lives role l.initial.player l.initial.world.past → Lives role l.player l.world.past;
+  lives : (role : Role) (idle : ℕ → List Call) → Lives role l.initial.player l.initial.world.past idle → Lives role l.player l.world.past idle;
   gone : (idle : ℕ → List Entry) → Plays l.initial.player l.initial.world.past idle → HasGone l.made idle l.initial.world.past l.world.past l.initial.player l.player;
 }
 

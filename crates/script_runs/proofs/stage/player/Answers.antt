@@ -5,7 +5,7 @@ use Rattle.script_lines.specs.declared.actors.Actor.{Actor}
 use Rattle.script_lines.specs.declared.actors.Actor.TheVariants.{Agent, Worker}
 use Rattle.script_lines.specs.Actors.{actor_word}
 use Rattle.script_runs.specs.Parts.{kind_of}
-use Rattle.script_runs.specs.Diligent.{role_of}
+use Rattle.script_runs.specs.Parts.{role_of}
 use Rattle.script_runs.proofs.Casting.{actor_built, few_restarts}
 use Rattle.script_runs.proofs.stage.player.Goals as goal
 

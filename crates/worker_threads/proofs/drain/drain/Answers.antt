@@ -32,7 +32,7 @@ returns-in-Some-clause-entries c =
     drained_longer c.args.world.now.setup c.args.drainers.now c.rounds.drainers c.args.world.now.past c.rounds.world.past c.args.budget (made_of c.in-Some.drained) few (returns-in-Some-clause-rounds c)
 
 pub returns-in-Some-clause-none : goal.returns-in-Some-clause-none
-returns-in-Some-clause-none c = λ nothing. drains_none _ _ _ _ _ _ _ (returns-in-Some-clause-rounds c) nothing
+returns-in-Some-clause-none c = λ nothing. drains_none _ _ _ _ _ _ _ _ (returns-in-Some-clause-rounds c) nothing
 
 pub returns-in_err-rounded-in-None-clause-others : goal.returns-in_err-rounded-in-None-clause-others
 returns-in_err-rounded-in-None-clause-others c = λ seat other.
@@ -61,6 +61,7 @@ rounds-preserved c =
       drains = λ after past left more. i.drains after past left (Goes ends.1.0 ends.1.1 ends.0 c.round.new.drainers c.round.new.world.past (c.rounds.left - made) c.in_ok-rounded-in-None.rounded.whole r.round more);
       stands = r.stands;
       seats = r.seats ∙ i.seats;
+      roles = r.roles ∙ i.roles;
       setup = r.setup ∙ i.setup;
       grown = grown_then (seats_of c.args.drainers.now) c.args.world.now.past c.rounds.world.past c.round.new.world.past i.grown
           (record { made = made; longer = subst (λ (seats : List ℕ). IsLonger seats made c.rounds.world.past c.round.new.world.past) i.seats r.entries });

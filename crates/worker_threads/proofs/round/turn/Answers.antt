@@ -3,6 +3,8 @@ use Rattle.binder_model.specs.Told.{own}
 use Rattle.worker_core.specs.Roles.{IsBuiltKind}
 use Rattle.worker_core.specs.States.{State}
 use Rattle.worker_core.proofs.ByKind.{built_fresh}
+use Rattle.attention_law.specs.Queues.{QueueStands}
+use Rattle.attention_law.proofs.Kept.{wakes_queues}
 use Rattle.worker_threads.proofs.RunFacts.{busy_where}
 use Rattle.worker_threads.proofs.round.turn.Goals as goal
 
@@ -13,4 +15,9 @@ returns-clause-some c =
     let woken_kind = ap (λ (t : State). t.role.kind) c.in_ok-wake.ensures.state in
     let kind = woken_kind ∙ sym c.kind-kind.ensures.kind in
     busy_where c.args.drainer.now.seat c.run.new.actor s c.run.new.world.past c.args.world.now.past c.args.budget c.run.result c.run.ensures.runs c.in_ok-wake.ensures.busy
-    (λ other. built_fresh s mine (subst IsBuiltKind (sym kind) c.kind-kind.ensures.built) (λ agent. other (sym woken_kind ∙ agent)) (c.in_ok-wake.ensures.stands mine c.requires))
+    (λ other. built_fresh s mine (subst IsBuiltKind (sym kind) c.kind-kind.ensures.built) (λ agent. other (sym woken_kind ∙ agent)) (c.in_ok-wake.ensures.stands mine c.requires.told))
+
+pub run-requires-clause-stands : goal.run-requires-clause-stands
+run-requires-clause-stands c =
+    let mine = own c.args.drainer.now.seat c.args.world.now.past in
+    record { told = c.in_ok-wake.ensures.stands mine c.requires.told; queue = subst QueueStands (sym c.in_ok-wake.ensures.state) (wakes_queues c.args.drainer.now.actor c.requires.queue) }

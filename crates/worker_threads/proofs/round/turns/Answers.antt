@@ -1,10 +1,9 @@
 use Rattle.std.proofs.Common.{◌≡◌, ◌∙◌, ◌+◌, ◌≤◌, ◌&&◌, ◌++◌, sym, subst, refl, arith, length, take, List, [], ◌∷◌, Some, ℕ, Bool}
 use Rattle.std.specs.Prelude.{slice_get, slice_set}
 use Rattle.std.proofs.lemmas.Option.{slice_get_within}
-use Rattle.worker_core.specs.Stands.{StandsFor}
-use Rattle.worker_threads.specs.Drainers.{AreSeats, BeginsSteady, roles_of, seats_of}
+use Rattle.worker_threads.specs.Drainers.{AreRoles, AreSeats, StandsWhole, roles_of, seats_of}
 use Rattle.worker_threads.specs.Longer.{HasGrown}
-use Rattle.worker_threads.specs.Rounds.{IsRound}
+use Rattle.worker_threads.specs.Rounds.{IsRound, all_pass}
 use Rattle.worker_threads.proofs.Entries.{grown_then, grown_wider, not_grown}
 use Rattle.worker_threads.proofs.RunFacts.{run_left}
 use Rattle.worker_threads.proofs.RoundFacts.{IsIdleAt, and_else, and_then, at_place, both, each_set, fewer_left, first_steady, length_set, one_of_seats, roles_set, same_length, seats_set, turn_more, turns_end}
@@ -67,7 +66,7 @@ loop-place-preserved c =
     let i = c.loop-place.invariant in
     let r = c.in_ok-ran.ensures in
     let at : slice_get items place ≡ Some d = at_place c.args.drainers.now.items items c.loop-place.place d c.loop-place.invariant.seats (omega (arith, c.loop-place-test.true, c.len-place-end.ensures)) c.index_mut.ensures.value in
-    let low : rest ≤ left = run_left _ _ _ _ _ _ _ _ r.runs in
+    let low : rest ≤ left = run_left _ _ _ _ _ _ _ _ _ r.runs in
     let whole : c.if-whole.whole ≡ (c.loop-place.whole && idle) =
     elim c.if-whole.branch [ then-whole w ↦ and_then _ _ _ w.if-whole.true w.whole-is | else-whole w ↦ and_else _ _ _ w.if-whole.false w.whole-is ] in
     let seats_ok = subst (λ (seats : List ℕ). AreSeats seats) (sym i.seats) c.requires.seats in
@@ -75,10 +74,10 @@ loop-place-preserved c =
     let wide = grown_wider (d.seat ∷ []) (seats_of items) (one_of_seats items place d at) h new grown in
     record {
       few = omega (arith, i.few, low);
-      some = λ more any. fewer_left place rest left c.args.budget low i.few i.some (λ first. r.some (first_steady items (roles_of c.args.drainers.now.items) place d i.roles c.requires.stands.steady first at)) any;
-      round = λ past last after all more. subst (λ (w : Bool). IsRound past last c.args.drainers.now.items c.args.world.now.past c.args.budget (take (place + 1) (slice_set items place ran) ++ after) (w && all)) (sym whole)
+      some = λ more any. fewer_left place rest left c.args.budget low i.few i.some (λ first. r.some (first_steady items (roles_of c.args.drainers.now.items) place d i.roles c.requires.stands.roles first at)) any;
+      round = λ past last after all more. subst (λ (w : Bool). IsRound all_pass past last c.args.drainers.now.items c.args.world.now.past c.args.budget (take (place + 1) (slice_set items place ran) ++ after) (w && all)) (sym whole)
           (turn_more c.args.drainers.now.items c.args.world.now.past c.args.budget items place d ran h new left rest c.loop-place.whole idle i.round at r.seat r.runs past last after all more);
-      stands = each_set StandsFor (length items) (length (slice_set items place ran)) items place d ran h new seats_ok at grown (λ p lt other. omega (arith, lt, length_set items place ran)) i.stands r.stands;
+      stands = each_set StandsWhole (length items) (length (slice_set items place ran)) items place d ran h new seats_ok at grown (λ p lt other. omega (arith, lt, length_set items place ran)) i.stands r.stands;
       idle = λ still.
           let halves = both c.loop-place.whole idle (sym whole ∙ still) in
           each_set IsIdleAt place (place + 1) items place d ran h new seats_ok at grown (λ p lt other. omega arith) (i.idle halves.0) (r.idle halves.1);
@@ -100,7 +99,7 @@ returns-clause-round c =
 pub returns-clause-stands : goal.returns-clause-stands
 returns-clause-stands c = record {
   each = λ place d at. c.loop-place.invariant.stands place d (slice_get_within c.loop-place.drainers.items place d at) at;
-  steady = subst BeginsSteady (sym c.loop-place.invariant.roles) c.requires.stands.steady;
+  roles = subst AreRoles (sym c.loop-place.invariant.roles) c.requires.stands.roles;
 }
 
 pub returns-clause-idle : goal.returns-clause-idle

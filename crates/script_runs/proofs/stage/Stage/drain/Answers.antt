@@ -2,7 +2,6 @@ use Rattle.std.proofs.Common.{◌≡◌, ◌+◌, ◌-◌, ap, refl, subst, arit
 use Rattle.world_core.specs.Kept.{History}
 use Rattle.worker_threads.specs.Rounds.{EndsWith, made_of}
 use Rattle.script_runs.specs.Budget.{raised}
-use Rattle.script_runs.proofs.Beginning.{ends_by}
 use Rattle.script_runs.proofs.Casting.{drains_after}
 use Rattle.script_runs.proofs.Moving.{budget_after, most_of, room_in}
 use Rattle.script_runs.proofs.Staging.{drain_moved}
@@ -36,14 +35,12 @@ returns-clause-moved c =
     let raises = c.raised-budget.ensures.value in
     drain_moved c.args.script.now c.args.option s _ (made_of d) (drains_after c.args.script.now) (record {
       budget = subst (λ (h : History). c.raised-budget.result ≡ raised c.args.option h.setup h.past s.budget) c.world.ensures.value raises;
-      entries = c.in_ok-drained.ensures.entries;
-      users = c.drain.ensures.users;
+      rounds = c.in_ok-drained.ensures.rounds;
       others = c.drain.ensures.others;
       few = c.in_ok-drained.ensures.few;
-      ends = ends_by c.drain.new.world.setup c.drain.new.world.past (c.raised-budget.result - s.drained) d c.in_ok-drained.ensures.ends;
-      none = c.in_ok-drained.ensures.none;
       standing = c.in_ok-drained.ensures.stands;
       seats = c.drain.ensures.seats;
+      roles = c.in_ok-drained.ensures.roles;
       setup = c.drain.ensures.setup;
       players = refl;
       drained = ap (λ n. s.drained + n) c.made_in.ensures;

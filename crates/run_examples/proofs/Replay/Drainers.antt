@@ -1,0 +1,124 @@
+-- New actors of a drain, and that they stand where their seats have no entries.
+use Rattle.std.proofs.Common.{◌≡◌, ℕ, ◌+◌, List, [], ◌∷◌, length, true, false, true≢false, Option, Some, None, refl, sym, ◌∙◌, ap, subst, arith}
+use Rattle.kube_types.specs.declared.key.Key.{Key}
+use Rattle.kube_types.specs.declared.parts.Kind.{Kind}
+use Rattle.kube_types.specs.declared.parts.Kind.TheVariants as kinds
+use Rattle.kube_types.specs.Keys.{AreRows}
+use Rattle.call_types.specs.declared.entry.Entry.{Entry}
+use Rattle.call_types.specs.declared.request.SeatKind.{SeatKind}
+use Rattle.call_types.specs.declared.request.SeatKind.TheVariants as seats
+use Rattle.binder_model.specs.Told.{newest}
+use Rattle.informer_cache.specs.Cache.{Known, StandsFor as CacheStands, known_of, kind_known}
+use Rattle.informer_cache.specs.All.{AllKnown, AllStandFor, all_objects, cache_of}
+use Rattle.sync_queue.specs.Work.{no_work}
+use Rattle.worker_core.specs.declared.role.Role.{Role}
+use Rattle.worker_core.specs.Absorbs.{woken}
+use Rattle.worker_core.specs.Memories.{no_memory}
+use Rattle.worker_core.specs.Roles.{kinds_of}
+use Rattle.worker_core.specs.Stands.{IsNew, StandsFor}
+use Rattle.worker_core.specs.States.{State}
+use Rattle.worker_core.proofs.Begins.{begins}
+use Rattle.attention_law.proofs.Kept.{new_queues, wakes_queues}
+use Rattle.worker_threads.specs.declared.drainers.Drainer.{Drainer}
+use Rattle.worker_threads.specs.Drainers.{AreNew, AreNewAgents, AreStanding, HaveNoEntries, IsNewAt, StandsWhole, agent_of, of_kind, roles_of, seats_of}
+use Rattle.worker_threads.specs.Rounds.{IsReady}
+use Rattle.worker_threads.proofs.NewFacts.{new_roles_for, new_seats_for, new_stand}
+use Rattle.script_text.specs.declared.script.Script.{Script}
+use Rattle.script_runs.specs.Parts.{drain_roles, drain_seat, drain_seats}
+use Rattle.run_examples.specs.Replay.Runs.{begun_as, knows_nothing, no_caches}
+
+-- ---- caches that know nothing
+
+nothing_told : (kind : Kind) → CacheStands (knows_nothing kind) []
+nothing_told kind = record { known = λ key own. refl; rows = λ key own. refl; from = refl }
+
+no_caches_stand : AllStandFor no_caches []
+no_caches_stand = record { kinds = kind_is; each = each; rows = λ key. refl }
+  where
+    kind_is : (kind : Kind) → kind_known (cache_of kind no_caches) ≡ kind
+    kind_is kinds.StorageClass = refl
+    kind_is kinds.Node = refl
+    kind_is kinds.PersistentVolume = refl
+    kind_is kinds.PersistentVolumeClaim = refl
+    kind_is kinds.Pod = refl
+
+    each : (kind : Kind) → CacheStands (cache_of kind no_caches) []
+    each kinds.StorageClass = nothing_told kinds.StorageClass
+    each kinds.Node = nothing_told kinds.Node
+    each kinds.PersistentVolume = nothing_told kinds.PersistentVolume
+    each kinds.PersistentVolumeClaim = nothing_told kinds.PersistentVolumeClaim
+    each kinds.Pod = nothing_told kinds.Pod
+
+-- ---- a new actor
+
+begun_new : (role : Role) → IsNew role (begun_as role)
+begun_new role = record { is = refl; caches = no_caches_stand; work = refl; pass = refl; memory = refl; under = refl; given = refl }
+
+begun_stands : (role : Role) → StandsFor (begun_as role) []
+begun_stands role = begins role (begun_as role) (begun_new role)
+
+-- a wake leaves it standing
+woken_stands : (s : State) (mine : List Entry) → StandsFor s mine → StandsFor (woken s) mine
+woken_stands s mine stands = record {
+  caches = stands.caches;
+  under_way = stands.under_way;
+  pass = λ quiet place kind low at. absurd (omega (arith, low));
+  memory = stands.memory;
+  licensed = stands.licensed;
+  own = stands.own;
+  start = stands.start;
+  given = stands.given;
+}
+
+pub woken_whole : (role : Role) → StandsWhole (woken (begun_as role)) []
+woken_whole role = record { told = woken_stands (begun_as role) [] (begun_stands role); queue = wakes_queues (begun_as role) (new_queues role (begun_as role) (begun_new role)) }
+
+-- ---- the actors of a drain
+
+abbrev pub at_seat : Role → ℕ → Drainer
+at_seat role seat = record { seat = seat; actor = begun_as role }
+
+new_at : (kind : SeatKind) (node : List ℕ) (seat : ℕ) → IsNewAt kind node seat (at_seat (record { kind = kind; node = node }) seat)
+new_at kind node seat = record { at = refl; is_new = begun_new (record { kind = kind; node = node }); stands = begun_stands (record { kind = kind; node = node }) }
+
+abbrev pub agents_at : ℕ → List (List ℕ) → List Drainer
+agents_at seat [] = []
+agents_at seat (node ∷ nodes) = at_seat (agent_of node) seat ∷ agents_at (seat + 1) nodes
+
+agents_new : (seat : ℕ) (nodes : List (List ℕ)) → AreNewAgents seat nodes (agents_at seat nodes)
+agents_new seat [] = refl
+agents_new seat (node ∷ nodes) = (new_at seats.Agent node seat, agents_new (seat + 1) nodes)
+
+abbrev pub drainers_at : ℕ → List (List ℕ) → List Drainer
+drainers_at first nodes =
+    at_seat (of_kind seats.Scheduler) (first + 2) ∷ at_seat (of_kind seats.Ops) (first + 1) ∷ at_seat (of_kind seats.Binder) first
+    ∷ at_seat (of_kind seats.ClaimProtect) (first + 3) ∷ at_seat (of_kind seats.VolumeProtect) (first + 4) ∷ agents_at (first + 5) nodes
+
+drainers_new : (first : ℕ) (nodes : List (List ℕ)) → AreNew first nodes (drainers_at first nodes)
+drainers_new first nodes = record {
+  scheduler = at_seat (of_kind seats.Scheduler) (first + 2);
+  ops = at_seat (of_kind seats.Ops) (first + 1);
+  binder = at_seat (of_kind seats.Binder) first;
+  claims = at_seat (of_kind seats.ClaimProtect) (first + 3);
+  volumes = at_seat (of_kind seats.VolumeProtect) (first + 4);
+  agents = agents_at (first + 5) nodes;
+  are = refl;
+  scheduler_is = new_at seats.Scheduler [] (first + 2);
+  ops_is = new_at seats.Ops [] (first + 1);
+  binder_is = new_at seats.Binder [] first;
+  claims_is = new_at seats.ClaimProtect [] (first + 3);
+  volumes_is = new_at seats.VolumeProtect [] (first + 4);
+  agents_are = agents_new (first + 5) nodes;
+}
+
+abbrev pub drainers_of : Script → List Drainer
+drainers_of script = drainers_at (drain_seat script) script.node_names
+
+pub drainers_seats : (script : Script) → seats_of (drainers_of script) ≡ drain_seats script
+drainers_seats script = new_seats_for (drain_seat script) script.node_names (drainers_of script) (drainers_new (drain_seat script) script.node_names)
+
+pub drainers_roles : (script : Script) → roles_of (drainers_of script) ≡ drain_roles script
+drainers_roles script = new_roles_for (drain_seat script) script.node_names (drainers_of script) (drainers_new (drain_seat script) script.node_names)
+
+pub drainers_stand : (script : Script) (past : List Entry) → HaveNoEntries (seats_of (drainers_of script)) past → AreStanding (drainers_of script) past
+drainers_stand script past none = new_stand (drain_seat script) script.node_names (drainers_of script) (drainers_new (drain_seat script) script.node_names) past none

@@ -1,0 +1,315 @@
+-- The examples of what turns may not leave undone compute.
+use Rattle.std.proofs.Common.{◌≡◌, ◌⊎◌, ℕ, ◌<◌, ◌≤◌, ◌+◌, List, [], ◌∷◌, ◌++◌, length, true, true≢false, Option, Some, None, inl, inr, refl, sym, ◌∙◌, ap, subst, append-nil, arith}
+use Rattle.kube_types.specs.declared.key.Key.{Key}
+use Rattle.kube_types.specs.declared.parts.Kind.{Kind}
+use Rattle.kube_types.specs.declared.parts.Kind.TheVariants as kinds
+use Rattle.kube_types.specs.declared.parts.VolumePhase.TheVariants as volumes
+use Rattle.kube_types.specs.declared.objects.Object.{Object}
+use Rattle.kube_types.specs.declared.objects.Object.TheVariants.{Volume}
+use Rattle.kube_types.specs.Keys.{row_at}
+use Rattle.call_types.specs.declared.entry.Entry.{Entry}
+use Rattle.call_types.specs.declared.request.SeatKind.TheVariants as seats
+use Rattle.binder_model.specs.Reading.{follows}
+use Rattle.binder_model.specs.Told.{listing, newest, object_of, own}
+use Rattle.volume_sync.specs.VolumeDecision.{volume_decision}
+use Rattle.binder_machines.specs.declared.machine.Machine.TheVariants.{Frees}
+use Rattle.binder_machines.specs.Machines.{call_of, write_phase}
+use Rattle.model_examples.specs.Samples.{key_a}
+use Rattle.worker_core.specs.declared.role.Role.{Role}
+use Rattle.worker_core.specs.declared.task.Task.TheVariants as tasks
+use Rattle.worker_core.specs.declared.task.Under.{Under}
+use Rattle.worker_core.specs.Stands.{HasNoNews}
+use Rattle.attention_law.specs.Diligence.{Call, IsDue}
+use Rattle.attention_law.specs.Resting.{AreNeeded, Brings, IsDone, IsSilentOnceStale, WasCalledSince, WasToldStale}
+use Rattle.attention_law.proofs.Dues.{asked_no_read, never_due}
+use Rattle.attention_law.proofs.Showings.{one_showing}
+use Rattle.script_runs.specs.declared.loss.Fate.TheVariants.{Told}
+use Rattle.script_runs.specs.declared.loss.Loss.{Loss}
+use Rattle.script_runs.specs.declared.part.Part.{Part}
+use Rattle.script_runs.specs.Fates.{fate_of}
+use Rattle.script_runs.specs.Examples.{binder_1}
+use Rattle.script_runs.specs.Parts.{role_of}
+use Rattle.script_runs.specs.Calls.{AreCalls, AreNeededLives, AreOfLife, IsCallWith, IsNeededLife, MoreCalls, NoCalls, seat_at}
+use Rattle.script_runs.specs.Replays.{IsTurn, Progress, begun}
+use Rattle.run_examples.specs.Replay.Calls.{told_calls, watches}
+use Rattle.run_examples.specs.Replay.Replays.{plain_part}
+use Rattle.run_examples.specs.Replay.Turns.{LeftExamples, NeededExamples, StaleExamples, agent_n, agent_part, is_stale, lists, lost_node, made_all, made_fewer, only_watches, pending_a, six, takes}
+use Rattle.run_examples.proofs.Replay.Brought.{brought_at, no_binder_is_stale, only_life, silent_binder, watch_brings_none}
+use Rattle.run_examples.proofs.Replay.Lived.{same_calls}
+
+-- ---- of an actor that loses no call
+
+told_count : (p : Part) (new : List Entry) (n count : ℕ) (past : List Entry) → p.losses ≡ [] → AreCalls p new n count past → length new ≡ length past + count
+told_count p new n count past none (NoCalls is are) = let long = ap length are in omega (arith, is, long)
+told_count p new n count past none (MoreCalls rest middle is call more) =
+    let told : IsCallWith Told (seat_at p n) p.kind past middle = subst (λ (losses : List Loss). IsCallWith (fate_of losses n) (seat_at p n) p.kind past middle) none call in
+    let here = ap length told.is in
+    let later = told_count p new (n + 1) rest middle none more in
+    omega (arith, is, here, later)
+
+-- its calls are those of its entries
+told_life : (p : Part) (seat made : ℕ) (past expected : List Entry) (since before : List Call) → AreOfLife p seat made past (since ++ before) → before ≡ [] → AreOfLife p seat made past (told_calls expected) → since ≡ told_calls expected
+told_life p seat made past expected since before are none life =
+    sym (append-nil since) ∙ ap (λ c. since ++ c) (sym none) ∙ same_calls (since ++ before) (told_calls expected) (are.of_seat ∙ sym life.of_seat) (are.left ∙ sym life.left)
+
+-- ---- a life that is idle after six calls, and one that goes on
+
+list_brings_none : (kind : Kind) (key : Key) → Brings key (lists kind []) → ⊥
+list_brings_none kind key brings = true≢false (sym brings.has)
+
+abbrev binder : Role
+binder = role_of binder_1
+
+its_six : AreOfLife plain_part 5 6 six (told_calls six)
+its_six = record { of_seat = refl; left = refl }
+
+needed_six : AreNeeded seats.Binder (told_calls six)
+needed_six = ((((((tt, λ watch through. true≢false (sym watch)), λ watch through. true≢false (sym watch)), λ watch through. true≢false (sym watch)), λ watch through. true≢false (sym through.whole)), λ watch through. true≢false (sym through.whole)), λ watch through. true≢false (sym through.whole))
+
+needed_lives : AreNeededLives (role_of binder_1) plain_part 6 six (begun None).idle
+needed_lives seat low high =
+    subst (λ s. IsNeededLife (role_of binder_1) plain_part s 6 six []) (only_life seat low high) (record { since = told_calls six; are = its_six; needed = needed_six; silent = silent_binder (told_calls six) })
+
+six_calls : AreCalls plain_part six 1 6 []
+six_calls =
+    MoreCalls {n = 1} {past = []} 5 (lists kinds.PersistentVolume [] ∷ []) refl (record { request = _; reply = _; is = refl })
+    (MoreCalls {n = 2} {past = lists kinds.PersistentVolume [] ∷ []} 4 (lists kinds.PersistentVolumeClaim [] ∷ lists kinds.PersistentVolume [] ∷ []) refl (record { request = _; reply = _; is = refl })
+    (MoreCalls {n = 3} {past = lists kinds.PersistentVolumeClaim [] ∷ lists kinds.PersistentVolume [] ∷ []} 3 (lists kinds.StorageClass [] ∷ lists kinds.PersistentVolumeClaim [] ∷ lists kinds.PersistentVolume [] ∷ []) refl (record { request = _; reply = _; is = refl })
+    (MoreCalls {n = 4} {past = lists kinds.StorageClass [] ∷ lists kinds.PersistentVolumeClaim [] ∷ lists kinds.PersistentVolume [] ∷ []} 2 (watches kinds.PersistentVolume ∷ lists kinds.StorageClass [] ∷ lists kinds.PersistentVolumeClaim [] ∷ lists kinds.PersistentVolume [] ∷ []) refl (record { request = _; reply = _; is = refl })
+    (MoreCalls {n = 5} {past = watches kinds.PersistentVolume ∷ lists kinds.StorageClass [] ∷ lists kinds.PersistentVolumeClaim [] ∷ lists kinds.PersistentVolume [] ∷ []} 1 (watches kinds.PersistentVolumeClaim ∷ watches kinds.PersistentVolume ∷ lists kinds.StorageClass [] ∷ lists kinds.PersistentVolumeClaim [] ∷ lists kinds.PersistentVolume [] ∷ []) refl (record { request = _; reply = _; is = refl })
+    (MoreCalls {n = 6} {past = watches kinds.PersistentVolumeClaim ∷ watches kinds.PersistentVolume ∷ lists kinds.StorageClass [] ∷ lists kinds.PersistentVolumeClaim [] ∷ lists kinds.PersistentVolume [] ∷ []} 0 six refl (record { request = _; reply = _; is = refl })
+    (NoCalls refl refl))))))
+
+one_more : (after : Progress) → after.past ≡ watches kinds.PersistentVolume ∷ six → IsTurn (role_of binder_1) plain_part 7 (begun None) after → ⊥
+one_more after at (inl all) =
+    let past : all.past ≡ watches kinds.PersistentVolume ∷ six = sym (ap (λ (p : Progress). p.past) all.is) ∙ at in
+    let low : 5 ≤ 5 = omega arith in
+    let high : 5 < 5 + 1 = omega arith in
+    let life : IsNeededLife (role_of binder_1) plain_part 5 7 all.past [] = all.needed 5 low high in
+    let since = told_life plain_part 5 7 all.past (watches kinds.PersistentVolume ∷ six) life.since [] life.are refl (subst (λ h. AreOfLife plain_part 5 7 h (told_calls (watches kinds.PersistentVolume ∷ six))) (sym past) (record { of_seat = refl; left = refl })) in
+    (subst (AreNeeded seats.Binder) since life.needed).1 refl (record { whole = refl; quiet = refl })
+one_more after at (inr fewer) =
+    let past : length fewer.past ≡ 7 = ap length (sym (ap (λ (p : Progress). p.past) fewer.is) ∙ at) in
+    let count : length fewer.past ≡ 0 + fewer.count = told_count plain_part fewer.past 1 fewer.count [] refl fewer.made in
+    let few = fewer.few in
+    absurd (omega (arith, past, count, few))
+
+pub needed_cases : NeededExamples
+needed_cases = record {
+  as_many_as_it_needs = inl (record { past = six; made = six_calls; needed = needed_lives; is = refl });
+  not_one_more = one_more;
+}
+
+-- ---- a pending volume is due
+
+abbrev rows : List Object
+rows = Volume pending_a ∷ []
+
+listed_row : (version : ℕ) (row : Option Object) → object_of (Some (listing version row)) ≡ row
+listed_row version None = refl
+listed_row version (Some o) = refl
+
+pending_due : (mine : List Entry) → ((key : Key) → row_at key rows ≡ object_of (newest mine key)) → IsDue binder key_a mine
+unfolding volume_decision call_of
+pending_due mine shown = one_showing binder key_a mine rows under tt (record { order = (tt, tt); shown = shown }) tt refl (record { decided = refl; call = refl })
+  where
+    under : Under
+    under = record { key = key_a; task = tasks.Binder (Frees pending_a); call = write_phase pending_a volumes.Available }
+
+abbrev list_a : Entry
+list_a = lists kinds.PersistentVolume (Volume pending_a ∷ [])
+
+abbrev Shown : List Entry → Kind → List ℕ → List ℕ → Type 0
+Shown mine kind namespace name = row_at (record { kind = kind; namespace = namespace; name = name }) rows ≡ object_of (newest mine (record { kind = kind; namespace = namespace; name = name }))
+
+shown_one : (kind : Kind) (namespace name : List ℕ) → Shown (list_a ∷ []) kind namespace name
+shown_one kinds.PersistentVolume namespace name = sym (listed_row 1 (row_at (record { kind = kinds.PersistentVolume; namespace = namespace; name = name }) rows))
+shown_one kinds.PersistentVolumeClaim namespace name = refl
+shown_one kinds.StorageClass namespace name = refl
+shown_one kinds.Node namespace name = refl
+shown_one kinds.Pod namespace name = refl
+
+shown_two : (kind : Kind) (namespace name : List ℕ) → Shown (lists kinds.PersistentVolumeClaim [] ∷ list_a ∷ []) kind namespace name
+shown_two kinds.PersistentVolume namespace name = shown_one kinds.PersistentVolume namespace name
+shown_two kinds.PersistentVolumeClaim namespace name = refl
+shown_two kinds.StorageClass namespace name = refl
+shown_two kinds.Node namespace name = refl
+shown_two kinds.Pod namespace name = refl
+
+shown_three : (kind : Kind) (namespace name : List ℕ) → Shown (lists kinds.StorageClass [] ∷ lists kinds.PersistentVolumeClaim [] ∷ list_a ∷ []) kind namespace name
+shown_three kinds.PersistentVolume namespace name = shown_one kinds.PersistentVolume namespace name
+shown_three kinds.PersistentVolumeClaim namespace name = refl
+shown_three kinds.StorageClass namespace name = refl
+shown_three kinds.Node namespace name = refl
+shown_three kinds.Pod namespace name = refl
+
+-- it is so at each point from the list on, whatever watches without events come later
+
+due_one : IsDue binder key_a (list_a ∷ [])
+due_one = pending_due _ (λ key. shown_one key.kind key.namespace key.name)
+
+due_two : IsDue binder key_a (lists kinds.PersistentVolumeClaim [] ∷ list_a ∷ [])
+due_two = pending_due _ (λ key. shown_two key.kind key.namespace key.name)
+
+due_three : IsDue binder key_a (lists kinds.StorageClass [] ∷ lists kinds.PersistentVolumeClaim [] ∷ list_a ∷ [])
+due_three = pending_due _ (λ key. shown_three key.kind key.namespace key.name)
+
+due_four : IsDue binder key_a (watches kinds.PersistentVolume ∷ lists kinds.StorageClass [] ∷ lists kinds.PersistentVolumeClaim [] ∷ list_a ∷ [])
+due_four = pending_due _ (λ key. shown_three key.kind key.namespace key.name)
+
+due_five : IsDue binder key_a (watches kinds.PersistentVolumeClaim ∷ watches kinds.PersistentVolume ∷ lists kinds.StorageClass [] ∷ lists kinds.PersistentVolumeClaim [] ∷ list_a ∷ [])
+due_five = pending_due _ (λ key. shown_three key.kind key.namespace key.name)
+
+due_six : IsDue binder key_a only_watches
+due_six = pending_due _ (λ key. shown_three key.kind key.namespace key.name)
+
+abbrev newer : List Call
+newer = Some (watches kinds.StorageClass) ∷ Some (watches kinds.PersistentVolumeClaim) ∷ Some (watches kinds.PersistentVolume) ∷ Some (lists kinds.StorageClass []) ∷ Some (lists kinds.PersistentVolumeClaim []) ∷ []
+
+-- it was not called for by a list or a watch, whatever calls came before
+none_called : (start : List Call) → WasCalledSince binder key_a start newer → ⊥
+none_called start (inl asked) = asked_no_read binder key_a _ (watches kinds.StorageClass).request kinds.StorageClass refl asked
+none_called start (inr (inl asked)) = asked_no_read binder key_a _ (watches kinds.PersistentVolumeClaim).request kinds.PersistentVolumeClaim refl asked
+none_called start (inr (inr (inl asked))) = asked_no_read binder key_a _ (watches kinds.PersistentVolume).request kinds.PersistentVolume refl asked
+none_called start (inr (inr (inr (inl asked)))) = asked_no_read binder key_a _ (lists kinds.StorageClass []).request kinds.StorageClass refl asked
+none_called start (inr (inr (inr (inr (inl asked))))) = asked_no_read binder key_a _ (lists kinds.PersistentVolumeClaim []).request kinds.PersistentVolumeClaim refl asked
+none_called start (inr (inr (inr (inr (inr none))))) = none
+
+brings_a : Brings key_a list_a
+brings_a = record { kind = kinds.PersistentVolume; reads = refl; told = refl; has = refl }
+
+left_a : (since : List Call) → since ≡ told_calls only_watches → IsDone binder [] since → ⊥
+left_a since is done = none_called (Some list_a ∷ []) (done.brought key_a list_a newer [] is brings_a (due_six, (due_five, (due_four, (due_three, (due_two, due_one))))))
+
+lost_earlier : IsDone binder [] (newer ++ (Some list_a ∷ None ∷ [])) → ⊥
+lost_earlier done = none_called (Some list_a ∷ None ∷ []) (done.brought key_a list_a newer (None ∷ []) refl brings_a (due_six, (due_five, (due_four, (due_three, (due_two, due_one))))))
+
+left_told : (after : Progress) → after.past ≡ only_watches → IsTurn (role_of binder_1) plain_part 50 (begun None) after → ⊥
+left_told after at (inl all) =
+    let past : length all.past ≡ 6 = ap length (sym (ap (λ (p : Progress). p.past) all.is) ∙ at) in
+    let count : length all.past ≡ 0 + 50 = told_count plain_part all.past 1 50 [] refl all.made in
+    absurd (omega (arith, past, count))
+left_told after at (inr fewer) =
+    let past : fewer.past ≡ only_watches = sym (ap (λ (p : Progress). p.past) fewer.is) ∙ at in
+    let long : length fewer.past ≡ 6 = ap length past in
+    let count : length fewer.past ≡ 0 + fewer.count = told_count plain_part fewer.past 1 fewer.count [] refl fewer.made in
+    let made : 0 + fewer.count ≡ 6 = omega (arith, long, count) in
+    let seat : fewer.seat ≡ 5 = fewer.life in
+    let its : AreOfLife plain_part fewer.seat (0 + fewer.count) fewer.past (told_calls only_watches) =
+    subst (λ h. AreOfLife plain_part fewer.seat (0 + fewer.count) h (told_calls only_watches)) (sym past)
+    (subst (λ n. AreOfLife plain_part fewer.seat n only_watches (told_calls only_watches)) (sym made)
+    (subst (λ s. AreOfLife plain_part s 6 only_watches (told_calls only_watches)) (sym seat) (record { of_seat = refl; left = refl }))) in
+    left_a fewer.since (told_life plain_part fewer.seat (0 + fewer.count) fewer.past only_watches fewer.since [] fewer.are refl its) (fewer.done (no_binder_is_stale (own fewer.seat fewer.past)))
+
+-- ---- lives that are done
+
+-- nothing is due where nothing was told
+nothing_due : (key : Key) → IsDue binder key [] → ⊥
+nothing_due key due = never_due binder key tt due
+
+abbrev lossy : List Call
+lossy = Some (watches kinds.StorageClass) ∷ Some (watches kinds.PersistentVolumeClaim) ∷ Some (watches kinds.PersistentVolume) ∷ None ∷ Some (lists kinds.StorageClass []) ∷ Some (lists kinds.PersistentVolumeClaim []) ∷ Some list_a ∷ []
+
+done_six : IsDone binder [] (told_calls six)
+done_six = record {
+  passed = record { whole = refl; quiet = refl };
+  brought = λ key e later earlier at brings due. brought_at binder [] [] (told_calls six) (
+    (λ key brings due. absurd (watch_brings_none kinds.StorageClass key brings)),
+    (
+      (λ key brings due. absurd (watch_brings_none kinds.PersistentVolumeClaim key brings)),
+      (
+        (λ key brings due. absurd (watch_brings_none kinds.PersistentVolume key brings)),
+        ((λ key brings due. absurd (list_brings_none kinds.StorageClass key brings)), ((λ key brings due. absurd (list_brings_none kinds.PersistentVolumeClaim key brings)), ((λ key brings due. absurd (list_brings_none kinds.PersistentVolume key brings)), tt))),
+      ),
+    ),
+  )
+      key e later earlier at brings due;
+  due = λ key due. absurd (nothing_due key due.1.1.1.1.1.1);
+}
+
+done_lossy : IsDone binder [] lossy
+done_lossy = record {
+  passed = record { whole = refl; quiet = refl };
+  brought = λ key e later earlier at brings due. brought_at binder [] [] lossy (
+    (λ key brings due. absurd (watch_brings_none kinds.StorageClass key brings)),
+    (
+      (λ key brings due. absurd (watch_brings_none kinds.PersistentVolumeClaim key brings)),
+      (
+        (λ key brings due. absurd (watch_brings_none kinds.PersistentVolume key brings)),
+        ((λ key brings due. absurd (list_brings_none kinds.StorageClass key brings)), ((λ key brings due. absurd (list_brings_none kinds.PersistentVolumeClaim key brings)), ((λ key brings due. inr (inr (inr tt))), tt))),
+      ),
+    ),
+  )
+      key e later earlier at brings due;
+  due = λ key due. absurd (nothing_due key due.1.1.1.1.1.1.1);
+}
+
+six_end : IsTurn (role_of binder_1) plain_part 9 (begun None) (made_fewer plain_part 6 six)
+six_end = inr (record {
+  count = 6;
+  few = omega arith;
+  past = six;
+  made = six_calls;
+  needed = needed_lives;
+  seat = 5;
+  life = refl;
+  since = told_calls six;
+  are = its_six;
+  ends = inl (record { recent = six; are = refl; quiet = quiet });
+  done = λ unstale. done_six;
+  is = refl;
+})
+  where
+    quiet : (k : Kind) → follows seats.Binder k ≡ true → HasNoNews k six
+    quiet kinds.PersistentVolume follows_it = refl
+    quiet kinds.PersistentVolumeClaim follows_it = refl
+    quiet kinds.StorageClass follows_it = refl
+    quiet kinds.Node follows_it = absurd (true≢false (sym follows_it))
+    quiet kinds.Pod follows_it = absurd (true≢false (sym follows_it))
+
+pub left_cases : LeftExamples
+left_cases = record {
+  where_nothing_is_due = six_end;
+  not_where_a_told_key_is_left = left_told;
+  a_lost_call_counts_for_it = done_lossy;
+  not_one_lost_before_it_was_told = lost_earlier;
+}
+
+-- ---- an agent
+
+one_told : AreCalls agent_part (is_stale ∷ lost_node.past) 2 1 lost_node.past
+one_told = MoreCalls {n = 2} {past = lost_node.past} 0 (is_stale ∷ lost_node.past) refl (record { request = _; reply = _; is = refl }) (NoCalls refl refl)
+
+-- what the agent was told before is nothing of its epoch
+not_told : (seat epoch : ℕ) → WasToldStale seats.Agent (takes seat epoch ∷ []) → ⊥
+not_told seat epoch told = elim told.1 [ inl tells ↦ true≢false (sym tells.1) | inr none ↦ none ]
+
+told_life_needed : AreNeededLives (role_of agent_n) agent_part 2 (is_stale ∷ lost_node.past) lost_node.idle
+told_life_needed seat low high =
+    subst (λ s. IsNeededLife (role_of agent_n) agent_part s 2 (is_stale ∷ lost_node.past) []) (only_life seat low high) (record {
+      since = told_calls (is_stale ∷ takes 5 1 ∷ []);
+      are = record { of_seat = refl; left = refl };
+      needed = ((tt, λ watch through. true≢false (sym watch)), λ watch through. true≢false (sym watch));
+      silent = ((tt, λ told. told.1), not_told 5 1);
+    })
+
+taken_back : (after : Progress) → after.past ≡ takes 5 3 ∷ is_stale ∷ lost_node.past → IsTurn (role_of agent_n) agent_part 2 lost_node after → ⊥
+taken_back after at (inl all) =
+    let past : all.past ≡ takes 5 3 ∷ is_stale ∷ lost_node.past = sym (ap (λ (p : Progress). p.past) all.is) ∙ at in
+    let low : 5 ≤ 5 = omega arith in
+    let high : 5 < 5 + 1 = omega arith in
+    let life : IsNeededLife (role_of agent_n) agent_part 5 3 all.past [] = all.needed 5 low high in
+    let since = told_life agent_part 5 3 all.past (takes 5 3 ∷ is_stale ∷ takes 5 1 ∷ []) life.since [] life.are refl (subst (λ h. AreOfLife agent_part 5 3 h (told_calls (takes 5 3 ∷ is_stale ∷ takes 5 1 ∷ []))) (sym past) (record { of_seat = refl; left = refl })) in
+    let silent : IsSilentOnceStale seats.Agent (told_calls (takes 5 3 ∷ is_stale ∷ takes 5 1 ∷ [])) = subst (IsSilentOnceStale seats.Agent) (append-nil life.since ∙ since) life.silent in
+    silent.1 (refl, inl (refl, refl))
+taken_back after at (inr fewer) =
+    let past : length fewer.past ≡ 4 = ap length (sym (ap (λ (p : Progress). p.past) fewer.is) ∙ at) in
+    let count : length fewer.past ≡ 2 + fewer.count = told_count agent_part fewer.past 2 fewer.count lost_node.past refl fewer.made in
+    let few = fewer.few in
+    absurd (omega (arith, past, count, few))
+
+pub stale_cases : StaleExamples
+stale_cases = record {
+  it_is_told_so = inl (record { past = is_stale ∷ lost_node.past; made = one_told; needed = told_life_needed; is = refl });
+  it_takes_no_node_back = taken_back;
+}

@@ -1,0 +1,83 @@
+-- The queue of an actor, and a call that is held back: cases that hold, and cases beside them that do not.
+-- A choice of this project.
+use Rattle.std.specs.Prelude.{ℕ, ◌≡◌, Bool, true, false, List, [], ◌∷◌, Some, None, codes, length}
+use Rattle.kube_types.specs.declared.key.Key.{Key}
+use Rattle.kube_types.specs.declared.parts.Kind.{Kind}
+use Rattle.kube_types.specs.declared.parts.Kind.TheVariants as kinds
+use Rattle.call_types.specs.declared.entry.Entry.{Entry}
+use Rattle.call_types.specs.declared.request.Request.{Request}
+use Rattle.call_types.specs.declared.request.Request.TheVariants as requests
+use Rattle.call_types.specs.declared.request.SeatKind.TheVariants as seats
+use Rattle.informer_cache.specs.Cache.{Known}
+use Rattle.informer_cache.specs.All.{AllKnown}
+use Rattle.sync_queue.specs.Work.{Work, no_work}
+use Rattle.worker_core.specs.declared.role.Role.{Role}
+use Rattle.worker_core.specs.declared.turn.Given.TheVariants as givens
+use Rattle.worker_core.specs.declared.turn.Outcome.TheVariants.{Lost}
+use Rattle.worker_core.specs.Absorbs.{absorbed, woken}
+use Rattle.worker_core.specs.Memories.{no_memory}
+use Rattle.worker_core.specs.Roles.{kinds_of}
+use Rattle.worker_core.specs.States.{State}
+use Rattle.attention_law.specs.Queues.{QueueStands}
+use Rattle.worker_threads.specs.Drainers.{of_kind}
+use Rattle.worker_threads.specs.Rounds.{Lets, Runs, all_pass}
+
+-- ---- an actor that was told nothing
+
+abbrev pub knows_nothing : Kind → Known
+knows_nothing kind = record { rows = record { kind = kind; marks = []; objects = [] }; lists = record { whole = None; spaces = [] }; from = None }
+
+abbrev pub no_caches : AllKnown
+no_caches = record {
+  classes = knows_nothing kinds.StorageClass;
+  nodes = knows_nothing kinds.Node;
+  volumes = knows_nothing kinds.PersistentVolume;
+  claims = knows_nothing kinds.PersistentVolumeClaim;
+  pods = knows_nothing kinds.Pod;
+}
+
+abbrev pub begun_as : Role → State
+begun_as role = record { role = role; caches = no_caches; work = no_work; pass = record { behind = length (kinds_of role.kind); event = true }; memory = no_memory; under = None; given = None }
+
+-- ---- queues
+
+abbrev pub volume_a : Key
+volume_a = record { kind = kinds.PersistentVolume; namespace = []; name = codes "a" }
+
+abbrev pub volume_b : Key
+volume_b = record volume_a { name = codes "b" }
+
+-- a binder with this queue, and nothing under way
+abbrev pub with_queue : Work → State
+with_queue work = record (begun_as (of_kind seats.Binder)) { work = work }
+
+pub record QueueExamples : Type 0 where
+  pub nothing_queued : QueueStands (with_queue no_work)
+  pub one_waits_and_one_is_parked : QueueStands (with_queue (record { waiting = volume_a ∷ []; taken = []; parked = volume_b ∷ [] }))
+  pub none_waits_twice : QueueStands (with_queue (record { waiting = volume_a ∷ volume_a ∷ []; taken = []; parked = [] })) → ⊥
+  pub none_waits_and_is_parked : QueueStands (with_queue (record { waiting = volume_a ∷ []; taken = []; parked = volume_a ∷ [] })) → ⊥
+  -- such a key would be marked each time that it is added, and never wait
+  pub none_is_taken_with_nothing_under_way : QueueStands (with_queue (record { waiting = []; taken = record { key = volume_a; again = false } ∷ []; parked = [] })) → ⊥
+
+-- ---- calls that are held back
+
+abbrev pub none_pass : Lets
+none_pass h request = false
+
+-- a scheduler that was woken, and as it has given its first call
+abbrev pub woken_scheduler : State
+woken_scheduler = woken (begun_as (of_kind seats.Scheduler))
+
+abbrev pub list_volumes : Request
+list_volumes = requests.List kinds.PersistentVolume None
+
+abbrev pub giving_scheduler : State
+giving_scheduler = record woken_scheduler { given = Some (givens.Read kinds.PersistentVolume) }
+
+-- a budget of one call is spent, and there is no entry
+abbrev pub LeavesNone : Lets → State → Type 0
+LeavesNone lets after = Runs lets 7 after [] 0 false woken_scheduler [] 1
+
+pub record HeldExamples : Type 0 where
+  pub a_held_call_counts_and_leaves_no_entry : LeavesNone none_pass (absorbed giving_scheduler no_caches list_volumes Lost)
+  pub none_is_held_where_all_pass : (after : State) → LeavesNone all_pass after → ⊥

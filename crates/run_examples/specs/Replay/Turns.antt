@@ -1,0 +1,90 @@
+-- What a turn may not leave undone, and what it may not do beside: cases that hold, and cases beside them that do not.
+-- A choice of this project. The newest entry and the newest call stand first.
+use Rattle.std.specs.Prelude.{ℕ, ◌≡◌, true, List, [], ◌∷◌, Some, None, codes}
+use Rattle.kube_types.specs.declared.parts.Kind.{Kind}
+use Rattle.kube_types.specs.declared.parts.Kind.TheVariants as kinds
+use Rattle.kube_types.specs.declared.parts.VolumePhase.TheVariants as volumes
+use Rattle.kube_types.specs.declared.objects.Object.{Object}
+use Rattle.kube_types.specs.declared.objects.Object.TheVariants.{Volume}
+use Rattle.kube_types.specs.declared.objects.Volume.{Volume as VolumeData}
+use Rattle.call_types.specs.declared.entry.Entry.{Entry}
+use Rattle.call_types.specs.declared.request.Request.{Request}
+use Rattle.call_types.specs.declared.request.Request.TheVariants as requests
+use Rattle.call_types.specs.declared.request.SeatKind.TheVariants as seats
+use Rattle.call_types.specs.declared.reply.Refusal.TheVariants.{StaleEpoch}
+use Rattle.call_types.specs.declared.reply.Reply.{Reply}
+use Rattle.call_types.specs.declared.reply.Reply.TheVariants as replies
+use Rattle.attention_law.specs.Resting.{IsDone}
+use Rattle.model_examples.specs.Samples.{a, in_phase}
+use Rattle.script_lines.specs.declared.actors.Actor.{Actor}
+use Rattle.script_lines.specs.declared.actors.Actor.TheVariants.{Agent}
+use Rattle.script_text.specs.declared.script.Line.TheVariants as lines
+use Rattle.script_runs.specs.declared.part.Part.{Part}
+use Rattle.script_runs.specs.Examples.{binder_1, script_of}
+use Rattle.script_runs.specs.Parts.{part_of, role_of}
+use Rattle.script_runs.specs.Replays.{IsTurn, Progress, and_idle, and_made, begun}
+use Rattle.run_examples.specs.Replay.Calls.{told_calls, watches}
+use Rattle.run_examples.specs.Replay.Replays.{plain_part}
+
+-- ---- a turn goes on only where its life is not idle
+
+-- each kind was listed, and then watched in a pass without events: the life is idle after these six
+abbrev pub lists : Kind → List Object → Entry
+lists kind os = record { seat = 5; kind = seats.Binder; request = requests.List kind None; reply = replies.Listed os 1; told = true }
+
+abbrev pub six : List Entry
+six = watches kinds.StorageClass ∷ watches kinds.PersistentVolumeClaim ∷ watches kinds.PersistentVolume ∷ lists kinds.StorageClass [] ∷ lists kinds.PersistentVolumeClaim [] ∷ lists kinds.PersistentVolume [] ∷ []
+
+-- after a turn of so many calls, with these entries
+abbrev pub made_all : Part → ℕ → List Entry → Progress → Progress
+made_all part calls past before = record before { past = past; made = and_made part.name calls before.made }
+
+pub record NeededExamples : Type 0 where
+  pub as_many_as_it_needs : IsTurn (role_of binder_1) plain_part 6 (begun None) (made_all plain_part 6 six (begun None))
+  pub not_one_more : (after : Progress) → after.past ≡ watches kinds.PersistentVolume ∷ six → IsTurn (role_of binder_1) plain_part 7 (begun None) after → ⊥
+
+-- ---- a turn that ends leaves no key that it was told, and that was due since, without a call
+
+-- a volume that is still to become Available
+abbrev pub pending_a : VolumeData
+pending_a = in_phase volumes.Pending a
+
+-- it is listed, and the life only watches
+abbrev pub only_watches : List Entry
+only_watches = watches kinds.StorageClass ∷ watches kinds.PersistentVolumeClaim ∷ watches kinds.PersistentVolume ∷ lists kinds.StorageClass [] ∷ lists kinds.PersistentVolumeClaim [] ∷ lists kinds.PersistentVolume (Volume pending_a ∷ []) ∷ []
+
+-- after a turn that gave it fewer, and these were its calls
+abbrev pub made_fewer : Part → ℕ → List Entry → Progress
+made_fewer part calls past = record (begun None) { past = past; made = and_made part.name calls (begun None).made; idle = and_idle 5 (told_calls past) (begun None).idle }
+
+pub record LeftExamples : Type 0 where
+  pub where_nothing_is_due : IsTurn (role_of binder_1) plain_part 9 (begun None) (made_fewer plain_part 6 six)
+  pub not_where_a_told_key_is_left : (after : Progress) → after.past ≡ only_watches → IsTurn (role_of binder_1) plain_part 50 (begun None) after → ⊥
+  -- the call that was lost may have been that of the key
+  pub a_lost_call_counts_for_it : IsDone (role_of binder_1) [] (Some (watches kinds.StorageClass) ∷ Some (watches kinds.PersistentVolumeClaim) ∷ Some (watches kinds.PersistentVolume) ∷ None ∷ Some (lists kinds.StorageClass []) ∷ Some (lists kinds.PersistentVolumeClaim []) ∷ Some (lists kinds.PersistentVolume (Volume pending_a ∷ [])) ∷ [])
+  pub not_one_lost_before_it_was_told : IsDone (role_of binder_1) [] (Some (watches kinds.StorageClass) ∷ Some (watches kinds.PersistentVolumeClaim) ∷ Some (watches kinds.PersistentVolume) ∷ Some (lists kinds.StorageClass []) ∷ Some (lists kinds.PersistentVolumeClaim []) ∷ Some (lists kinds.PersistentVolume (Volume pending_a ∷ [])) ∷ None ∷ []) → ⊥
+
+-- ---- an agent that was told StaleEpoch asks nothing more
+
+abbrev pub agent_n : Actor
+agent_n = Agent (codes "n")
+
+abbrev pub agent_part : Part
+agent_part = part_of (script_of [] (lines.Turn agent_n 9 ∷ [])) agent_n
+
+abbrev pub asks : ℕ → Request → Reply → Entry
+asks seat request reply = record { seat = seat; kind = seats.Agent; request = request; reply = reply; told = true }
+
+abbrev pub takes : ℕ → ℕ → Entry
+takes seat epoch = asks seat (requests.TakeNode (codes "n")) (replies.Epoch epoch)
+
+abbrev pub is_stale : Entry
+is_stale = asks 5 (requests.Mounts (codes "n") 1) (replies.Refused (StaleEpoch 2))
+
+-- another took the node since its first call
+abbrev pub lost_node : Progress
+lost_node = record (begun None) { past = takes 9 2 ∷ takes 5 1 ∷ []; made = and_made agent_part.name 1 (begun None).made }
+
+pub record StaleExamples : Type 0 where
+  pub it_is_told_so : IsTurn (role_of agent_n) agent_part 1 lost_node (made_all agent_part 1 (is_stale ∷ lost_node.past) lost_node)
+  pub it_takes_no_node_back : (after : Progress) → after.past ≡ takes 5 3 ∷ is_stale ∷ lost_node.past → IsTurn (role_of agent_n) agent_part 2 lost_node after → ⊥

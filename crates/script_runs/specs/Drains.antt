@@ -1,0 +1,30 @@
+-- What a drain comes to: it follows from how a drain is made. The newest entry of a history stands first.
+-- A choice of this project.
+use Rattle.std.specs.Prelude.{ℕ, ◌≡◌, ◌≤◌, ◌⊎◌, ◌-◌, Option}
+use Rattle.binder_model.specs.Due.{IsSettled}
+use Rattle.binder_model.specs.World.{world}
+use Rattle.worker_threads.specs.Longer.{GrowsWithin, IsLonger, users_of}
+use Rattle.worker_threads.specs.Rounds.{Lets, all_pass}
+use Rattle.script_text.specs.declared.script.Script.{Script}
+use Rattle.script_runs.specs.Parts.{drain_seats}
+use Rattle.script_runs.specs.Replays.{IsDrain, Progress}
+
+pub record DrainComesTo (script : Script) (before after : Progress) : Type 0 where
+  -- the entries are the earlier ones and then some of the drain's seats, all told, no more than calls were made
+  pub entries : GrowsWithin (drain_seats script) (after.drained - before.drained) before.past after.past
+  -- none of them is a user's
+  pub users : users_of after.past ≡ users_of before.past
+  -- no more calls were made than the budget says
+  pub low : before.drained ≤ after.drained
+  pub few : after.drained ≤ after.budget
+  -- it ends where nothing is due, or with the budget spent
+  pub ends : IsSettled script.setup (world script.setup after.past) ⊎ (after.drained ≡ after.budget)
+  -- where nothing is due it makes no call
+  pub none : IsSettled script.setup (world script.setup before.past) → after.past ≡ before.past
+
+abbrev pub DrainsComeTo : Type 0
+DrainsComeTo = (lets : Lets) (script : Script) (option : Option ℕ) (before after : Progress) → IsDrain lets script option before after → DrainComesTo script before after
+
+-- where no call is held back each call leaves its entry
+abbrev pub CallsLeaveEntries : Type 0
+CallsLeaveEntries = (script : Script) (option : Option ℕ) (before after : Progress) → IsDrain all_pass script option before after → IsLonger (drain_seats script) (after.drained - before.drained) before.past after.past
