@@ -1,5 +1,6 @@
-"""One run of a program: its seconds of processor time, the most memory that it held, and what it wrote."""
+"""One run of a program: its seconds of processor time, the most memory that it held, and what it wrote; or its instructions."""
 import os
+import re
 import subprocess
 import sys
 import tempfile
@@ -23,3 +24,11 @@ def measured(words, given=b""):
 def best(words, given=b"", runs=5):
     """The quickest of so many runs."""
     return min((measured(words, given) for _ in range(runs)), key=lambda run: run[0])
+
+
+def counted(words, given=b""):
+    """Instructions of one run, by valgrind's callgrind, and its output. They do not depend on what else the machine does."""
+    with tempfile.TemporaryDirectory() as folder:
+        callgrind = ["valgrind", "--tool=callgrind", f"--callgrind-out-file={folder}/out"]
+        run = subprocess.run(callgrind + words, input=given, capture_output=True, check=True)
+    return int(re.search(rb"Collected : (\d+)", run.stderr).group(1)), run.stdout

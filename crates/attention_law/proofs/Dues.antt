@@ -30,11 +30,11 @@ use Rattle.worker_core.specs.Memories.{Memory, memory_of}
 use Rattle.worker_core.specs.Roles.{IsBuiltKind, kinds_of}
 use Rattle.worker_core.specs.Rules.{WasCalled, WasDropped}
 use Rattle.worker_core.specs.Stands.{AnyIsUnderWay, StandsFor}
-use Rattle.worker_core.specs.States.{State, call_under}
+use Rattle.worker_core.specs.States.{ActorState, call_under}
 use Rattle.worker_core.specs.Tasks.{GivesCall, IsAgentFirst, IsDecision, IsFirstOf, agent_first, task_call}
 use Rattle.worker_core.proofs.Machines.{task_reads_none, under_calls}
 use Rattle.worker_core.proofs.Quiet.{itself}
-use Rattle.attention_law.specs.Diligence.{BeginsCall, IsAskedFor, IsDue, Shows}
+use Rattle.attention_law.specs.Diligence.{BeginsCall, IsAskedFor, IsKeyDue, Shows}
 
 abbrev task_in : First → Option Task
 task_in (firsts.Begins task) = Some task
@@ -105,7 +105,7 @@ pub record IsCached (seat : SeatKind) (key : Key) (c : AllKnown) : Type 0 where
   pub followed : IsIn key.kind (kinds_of seat)
   pub there : list_any (same_key key) (map key_of (objects_of (cache_of key.kind c))) ≡ true
 
-module _ (role : Role) (mine : List Entry) (key : Key) (built : IsBuiltKind role.kind) (due : IsDue role key mine) where
+module _ (role : Role) (mine : List Entry) (key : Key) (built : IsBuiltKind role.kind) (due : IsKeyDue role key mine) where
   pub due_cached : (c : AllKnown) → AllStandFor c mine → AreRows (all_objects c) → ((k : Key) (o : Object) → row_at k (objects_of (cache_of k.kind c)) ≡ Some o → list_any (same_key k) (map key_of (objects_of (cache_of k.kind c))) ≡ true) → IsCached role.kind key c
   due_cached c stand order there = by (row_at key (all_objects c)) refl
     where
@@ -126,16 +126,16 @@ module _ (role : Role) (mine : List Entry) (key : Key) (built : IsBuiltKind role
       ]
 
 -- before anything was told nothing is due
-pub never_due : (role : Role) (key : Key) → IsBuiltKind role.kind → IsDue role key [] → ⊥
+pub never_due : (role : Role) (key : Key) → IsBuiltKind role.kind → IsKeyDue role key [] → ⊥
 never_due role key built due = no_drop (due.only due.rows due.shows firsts.Drops (none_dropped role.node (memory_of role []) due.rows due.rows key due.under.key (firsts.Begins due.under.task) role.kind built due.gives.decided (due.shows.shown key)))
 
 -- in an actor that stands for the entries
 
-module _ (s : State) (mine : List Entry) (key : Key) (stands : StandsFor s mine) (order : AreRows (all_objects s.caches)) where
+module _ (s : ActorState) (mine : List Entry) (key : Key) (stands : StandsFor s mine) (order : AreRows (all_objects s.caches)) where
   shows : Shows mine (all_objects s.caches)
   shows = record { order = order; shown = stands.caches.rows }
 
-  pub not_dropped : IsDue s.role key mine → WasDropped s key → ⊥
+  pub not_dropped : IsKeyDue s.role key mine → WasDropped s key → ⊥
   not_dropped due dropped =
       let b = due.only (all_objects s.caches) shows dropped.first (subst (λ m. IsDecision s.role m (all_objects s.caches) key dropped.first) stands.memory dropped.none.decided) in
       none_some (sym (dropped.none.none b.task b.begins) ∙ b.call)

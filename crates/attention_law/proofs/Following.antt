@@ -17,10 +17,10 @@ use Rattle.worker_core.specs.Absorbs.{woken}
 use Rattle.worker_core.specs.Memories.{Memory, memory_of}
 use Rattle.worker_core.specs.Roles.{IsBuiltKind, kinds_of}
 use Rattle.worker_core.specs.Stands.{StandsFor}
-use Rattle.worker_core.specs.States.{State, waits}
+use Rattle.worker_core.specs.States.{ActorState, waits}
 use Rattle.worker_core.proofs.Answered.{turn_role}
 use Rattle.worker_core.proofs.KeysKept.{absorbed_keys}
-use Rattle.attention_law.specs.Diligence.{AreQuiet, Call, IsAskedFor, IsDue, IsDueThroughout, IsQuiet, WasAskedSince, entries, watches, watches_kind}
+use Rattle.attention_law.specs.Diligence.{AreQuiet, Call, IsAskedFor, IsKeyDue, IsDueThroughout, IsQuiet, WasAskedSince, entries, watches, watches_kind}
 use Rattle.attention_law.specs.Played.{Begins, Gives, IsPlayed, LostAfter, LostBefore, PlayedIsDiligent, Told, Turns, Wakes}
 use Rattle.attention_law.proofs.Dues.{asked_no_watch}
 use Rattle.attention_law.proofs.Passing.{Goes, told_goes}
@@ -49,7 +49,7 @@ no_list x xs e = none_some (ap head_in e)
 
 -- what holds after each step
 
-pub stands_now : (role : Role) (s : State) (calls : List Call) → IsPlayed role s calls → StandsFor s (entries calls)
+pub stands_now : (role : Role) (s : ActorState) (calls : List Call) → IsPlayed role s calls → StandsFor s (entries calls)
 stands_now role s calls (Begins none new stands) = subst (λ c. StandsFor s (entries c)) (sym none) stands
 stands_now role s calls (Told old before e request reply played is told gives stands) = stands
 stands_now role s calls (LostBefore old before request played is gives stands) = stands
@@ -57,30 +57,30 @@ stands_now role s calls (LostAfter old before e request played is lost own gives
 stands_now role s calls (Wakes old turned played turns wakes stands) = stands
 
 -- a turn and what came of it
-record Came (s new : State) : Type 0 where
+record Came (s new : ActorState) : Type 0 where
   taken : OneTaken s → OneTaken new
   role : new.role ≡ s.role
 
-came : (s new : State) (request : Request) (outcome : Outcome) (before : List Entry) → Gives s new request outcome before → Came s new
+came : (s new : ActorState) (request : Request) (outcome : Outcome) (before : List Entry) → Gives s new request outcome before → Came s new
 came s new request outcome before g = record {
   taken = λ own. subst (λ x. OneTaken x) (sym g.takes) (answer_taken g.turned new.caches request outcome (turn_taken s g.turned (nexts.Call request) g.turns.turn own));
-  role = ap (λ (x : State). x.role) g.takes ∙ answer_role g.turned new.caches request outcome ∙ turn_role s g.turned (nexts.Call request) g.turns.turn;
+  role = ap (λ (x : ActorState). x.role) g.takes ∙ answer_role g.turned new.caches request outcome ∙ turn_role s g.turned (nexts.Call request) g.turns.turn;
 }
 
-woke : (s turned new : State) (mine : List Entry) → Turns s turned nexts.Idle mine → new ≡ woken turned → Came s new
+woke : (s turned new : ActorState) (mine : List Entry) → Turns s turned nexts.Idle mine → new ≡ woken turned → Came s new
 woke s turned new mine t wakes = record {
   taken = λ own. subst (λ x. OneTaken x) (sym wakes) (woken_taken turned (turn_taken s turned nexts.Idle t.turn own));
-  role = ap (λ (x : State). x.role) wakes ∙ turn_role s turned nexts.Idle t.turn;
+  role = ap (λ (x : ActorState). x.role) wakes ∙ turn_role s turned nexts.Idle t.turn;
 }
 
-pub one_taken : (role : Role) (s : State) (calls : List Call) → IsPlayed role s calls → OneTaken s
+pub one_taken : (role : Role) (s : ActorState) (calls : List Call) → IsPlayed role s calls → OneTaken s
 one_taken role s calls (Begins none new stands) = ap taken_keys new.work ∙ sym (ap under_keys new.under)
 one_taken role s calls (Told old before e request reply played is told gives stands) = (came old s request _ _ gives).taken (one_taken role old before played)
 one_taken role s calls (LostBefore old before request played is gives stands) = (came old s request _ _ gives).taken (one_taken role old before played)
 one_taken role s calls (LostAfter old before e request played is lost own gives stands) = (came old s request _ _ gives).taken (one_taken role old before played)
 one_taken role s calls (Wakes old turned played turns wakes stands) = (woke old turned s _ turns wakes).taken (one_taken role old calls played)
 
-pub same_role : (role : Role) (s : State) (calls : List Call) → IsPlayed role s calls → s.role ≡ role
+pub same_role : (role : Role) (s : ActorState) (calls : List Call) → IsPlayed role s calls → s.role ≡ role
 same_role role s calls (Begins none new stands) = new.is
 same_role role s calls (Told old before e request reply played is told gives stands) = (came old s request _ _ gives).role ∙ same_role role old before played
 same_role role s calls (LostBefore old before request played is gives stands) = (came old s request _ _ gives).role ∙ same_role role old before played
@@ -88,18 +88,18 @@ same_role role s calls (LostAfter old before e request played is lost own gives 
 same_role role s calls (Wakes old turned played turns wakes stands) = (woke old turned s _ turns wakes).role ∙ same_role role old calls played
 
 -- what an actor remembers hangs on its calls alone, so a wake changes nothing of it
-pub remembered : (role : Role) (s : State) (calls : List Call) → IsPlayed role s calls → s.memory ≡ memory_of role (entries calls)
+pub remembered : (role : Role) (s : ActorState) (calls : List Call) → IsPlayed role s calls → s.memory ≡ memory_of role (entries calls)
 remembered role s calls played = (stands_now role s calls played).memory ∙ ap (λ r. memory_of r (entries calls)) (same_role role s calls played)
 
-pub still_fresh : (role : Role) (old new : State) (calls : List Call) → IsPlayed role old calls → IsPlayed role new calls → new.memory.stale ≡ false → old.memory.stale ≡ false
+pub still_fresh : (role : Role) (old new : ActorState) (calls : List Call) → IsPlayed role old calls → IsPlayed role new calls → new.memory.stale ≡ false → old.memory.stale ≡ false
 still_fresh role old new calls before after fresh = ap (λ (m : Memory). m.stale) (remembered role old calls before ∙ sym (remembered role new calls after)) ∙ fresh
 
 -- earlier calls were played too
 record WasPlayed (role : Role) (calls : List Call) : Type 0 where
-  state : State
+  state : ActorState
   played : IsPlayed role state calls
 
-was_played : (role : Role) (s : State) (calls : List Call) → IsPlayed role s calls → (later now : List Call) → calls ≡ later ++ now → WasPlayed role now
+was_played : (role : Role) (s : ActorState) (calls : List Call) → IsPlayed role s calls → (later now : List Call) → calls ≡ later ++ now → WasPlayed role now
 was_played role s calls p [] now e = record { state = s; played = subst (λ c. IsPlayed role s c) e p }
 was_played role s calls (Begins none new stands) (c ∷ later) now e = absurd (no_list c (later ++ now) (sym none ∙ e))
 was_played role s calls (Told old before x request reply played is told gives stands) (c ∷ later) now e = was_played role old before played later now (same_tail _ _ _ _ (sym is ∙ e))
@@ -108,12 +108,12 @@ was_played role s calls (LostAfter old before x request played is lost own gives
 was_played role s calls (Wakes old turned played turns wakes stands) (c ∷ later) now e = was_played role old calls played (c ∷ later) now e
 
 -- the step of a told call
-record ToldStep (role : Role) (e : Entry) (before : List Call) (s new : State) : Type 0 where
+record ToldStep (role : Role) (e : Entry) (before : List Call) (s new : ActorState) : Type 0 where
   played : IsPlayed role s before
   gives : Gives s new e.request (outcomes.Told e.reply) (entries before)
   stands : StandsFor new (e ∷ entries before)
 
-told_step : (role : Role) (s new : State) (calls before : List Call) (x e : Entry) (request : Request) (reply : Reply) → IsPlayed role s before → calls ≡ Some x ∷ before → IsTold x request reply
+told_step : (role : Role) (s new : ActorState) (calls before : List Call) (x e : Entry) (request : Request) (reply : Reply) → IsPlayed role s before → calls ≡ Some x ∷ before → IsTold x request reply
     → Gives s new request (outcomes.Told reply) (entries before) → StandsFor new (entries calls) → (old : List Call) → calls ≡ Some e ∷ old → ToldStep role e old s new
 told_step role s new calls before x e request reply played is told gives stands old at =
     let own : x ≡ e = one x e (same_head _ _ _ _ (sym is ∙ at)) in
@@ -125,7 +125,7 @@ told_step role s new calls before x e request reply played is told gives stands 
     }))
 
 -- a step that brought no news
-module _ (role : Role) (built : IsBuiltKind role.kind) (e : Entry) (before : List Call) (s new : State) (quiet : IsQuiet e) (step : ToldStep role e before s new) where
+module _ (role : Role) (built : IsBuiltKind role.kind) (e : Entry) (before : List Call) (s new : ActorState) (quiet : IsQuiet e) (step : ToldStep role e before s new) where
   kind_turned : step.gives.turned.role.kind ≡ role.kind
   kind_turned = ap (λ (r : Role). r.kind) (turn_role s step.gives.turned (nexts.Call e.request) step.gives.turns.turn ∙ same_role role s before step.played)
 
@@ -135,7 +135,7 @@ module _ (role : Role) (built : IsBuiltKind role.kind) (e : Entry) (before : Lis
   first_phase : (kind : Kind) (key : Key) → watches_kind kind e.request ≡ true → (slice_get (kinds_of role.kind) step.gives.turned.pass.behind ≡ Some kind) × Phase step.gives.turned.pass.behind key new 0
   first_phase kind key watch = opens role.kind kind key step.gives.turned new e.request kind_turned watch goes
 
-  next_phase : (kind : Kind) (place : ℕ) → slice_get (kinds_of role.kind) place ≡ Some kind → (key : Key) (n : ℕ) → IsDue role key (entries before) → Phase place key s n
+  next_phase : (kind : Kind) (place : ℕ) → slice_get (kinds_of role.kind) place ≡ Some kind → (key : Key) (n : ℕ) → IsKeyDue role key (entries before) → Phase place key s n
       → IsAskedFor role key (entries before) e.request ⊎ Phase place key new (if watches_kind kind e.request then n + 1 else n)
   next_phase kind place at key n due phase = elim called [
     | inl asked ↦ inl (subst (λ r. IsAskedFor r key (entries before) e.request) own asked)
@@ -146,18 +146,18 @@ module _ (role : Role) (built : IsBuiltKind role.kind) (e : Entry) (before : Lis
       own = same_role role s before step.played
 
       called : IsAskedFor s.role key (entries before) e.request ⊎ (waits key s.work ≡ true → waits key step.gives.turned.work ≡ true)
-      called = called_or_waits key s step.gives.turned (entries before) (stands_now role s before step.played) step.gives.turns.order (subst (λ r. IsDue r key (entries before)) (sym own) due) e.request step.gives.turns.turn
+      called = called_or_waits key s step.gives.turned (entries before) (stands_now role s before step.played) step.gives.turns.order (subst (λ r. IsKeyDue r key (entries before)) (sym own) due) e.request step.gives.turns.turn
 
       kept : waits key step.gives.turned.work ≡ true → waits key new.work ≡ true
       kept there = (absorbed_keys step.gives.turned new e.request (outcomes.Told e.reply) step.gives.takes).stays key there
 
 -- the last told call of a life, whatever wakes came after it
 record LastStep (role : Role) (e : Entry) (before : List Call) : Type 0 where
-  old : State
-  new : State
+  old : ActorState
+  new : ActorState
   step : ToldStep role e before old new
 
-last_step : (role : Role) (s : State) (calls : List Call) → IsPlayed role s calls → (e : Entry) (before : List Call) → e.told ≡ true → calls ≡ Some e ∷ before → LastStep role e before
+last_step : (role : Role) (s : ActorState) (calls : List Call) → IsPlayed role s calls → (e : Entry) (before : List Call) → e.told ≡ true → calls ≡ Some e ∷ before → LastStep role e before
 last_step role s calls (Begins none new stands) e before told at = absurd (no_list _ _ (sym none ∙ at))
 last_step role s calls (Told old b x request reply played is tells gives stands) e before told at = record { old = old; new = s; step = told_step role old s calls b x e request reply played is tells gives stands before at }
 last_step role s calls (LostBefore old b request played is gives stands) e before told at = none_some (same_head _ _ _ _ (sym is ∙ at))
@@ -167,7 +167,7 @@ last_step role s calls (LostAfter old b x request played is lost own gives stand
 last_step role s calls (Wakes old turned played turns wakes stands) e before told at = last_step role old calls played e before told at
 
 -- the key is due now
-pub due_now : (role : Role) (key : Key) (before since : List Call) → IsDueThroughout role key before since → IsDue role key (entries (since ++ before))
+pub due_now : (role : Role) (key : Key) (before since : List Call) → IsDueThroughout role key before since → IsKeyDue role key (entries (since ++ before))
 due_now role key before [] due = due
 due_now role key before (c ∷ since) due = due.0
 
@@ -178,10 +178,10 @@ module _ (role : Role) (built : IsBuiltKind role.kind) (kind : Kind) (place : �
   abbrev start : List Call
   start = Some first ∷ earlier
 
-  abbrev Followed : State → List Call → Type 0
+  abbrev Followed : ActorState → List Call → Type 0
   Followed s since = WasAskedSince role key start since ⊎ Phase place key s (watches kind since)
 
-  told_on : (s new : State) (calls before : List Call) (x : Entry) (request : Request) (reply : Reply) → IsPlayed role s before → calls ≡ Some x ∷ before → IsTold x request reply
+  told_on : (s new : ActorState) (calls before : List Call) (x : Entry) (request : Request) (reply : Reply) → IsPlayed role s before → calls ≡ Some x ∷ before → IsTold x request reply
       → Gives s new request (outcomes.Told reply) (entries before) → StandsFor new (entries calls) → (since : List Call) → calls ≡ since ++ start → AreQuiet since → IsDueThroughout role key start since
       → ((rest : List Call) → before ≡ rest ++ start → AreQuiet rest → IsDueThroughout role key start rest → s.memory.stale ≡ false → Followed s rest) → Followed new since
   told_on s new calls before x request reply played is told gives stands [] e quiet due earlier_on =
@@ -201,7 +201,7 @@ module _ (role : Role) (built : IsBuiltKind role.kind) (kind : Kind) (place : �
       ]
 
   -- an agent that was told StaleEpoch makes no call any more, and is not followed on
-  follow : (s : State) (calls : List Call) → IsPlayed role s calls → (since : List Call) → calls ≡ since ++ start → AreQuiet since → IsDueThroughout role key start since → s.memory.stale ≡ false → Followed s since
+  follow : (s : ActorState) (calls : List Call) → IsPlayed role s calls → (since : List Call) → calls ≡ since ++ start → AreQuiet since → IsDueThroughout role key start since → s.memory.stale ≡ false → Followed s since
   follow s calls (Begins none new stands) [] e quiet due fresh = absurd (no_list _ _ (sym none ∙ e))
   follow s calls (Begins none new stands) (c ∷ since) e quiet due fresh = absurd (no_list _ _ (sym none ∙ e))
   follow s calls (Told old before x request reply played is told gives stands) since e quiet due fresh = told_on old s calls before x request reply played is told gives stands since e quiet due (follow old before played)
@@ -219,7 +219,7 @@ module _ (role : Role) (built : IsBuiltKind role.kind) (kind : Kind) (place : �
     | inl asked ↦ inl asked
     | inr phase ↦
         let own : old.role ≡ role = same_role role old calls played in
-        let due_here : IsDue old.role key (entries calls) = subst (λ c. IsDue old.role key (entries c)) (sym e) (subst (λ r. IsDue r key (entries (since ++ start))) (sym own) (due_now role key start since due)) in
+        let due_here : IsKeyDue old.role key (entries calls) = subst (λ c. IsKeyDue old.role key (entries c)) (sym e) (subst (λ r. IsKeyDue r key (entries (since ++ start))) (sym own) (due_now role key start since due)) in
         inr (wake_phase role.kind built kind place at key old turned s (entries calls) (watches kind since) (ap (λ (r : Role). r.kind) own) (stands_now role old calls played) turns.order due_here (one_taken role old calls played) fresh_old turns.turn wakes phase)
   ]
     where

@@ -1,5 +1,5 @@
 -- The queue of a new actor stands, and a turn, an answer, a loss and a wake leave it so.
-use Rattle.std.proofs.Common.{◌≡◌, List, [], ◌∷◌, Bool, true, false, Option, Some, None, inl, inr, sym, ◌∙◌, ap, subst, if◌then◌else◌}
+use Rattle.std.proofs.Common.{List, [], ◌∷◌, Bool, true, false, Option, Some, None, inl, inr, sym, ◌∙◌, ap, subst, if◌then◌else◌}
 use Rattle.std.specs.Prelude.{is_some, map}
 use Rattle.kube_types.specs.declared.key.Key.{Key}
 use Rattle.kube_types.specs.declared.parts.Kind.{Kind}
@@ -19,17 +19,17 @@ use Rattle.worker_core.specs.declared.turn.Given.TheVariants as givens
 use Rattle.worker_core.specs.declared.turn.Next.{Next}
 use Rattle.worker_core.specs.declared.turn.Outcome.{Outcome}
 use Rattle.worker_core.specs.declared.turn.Outcome.TheVariants as outcomes
-use Rattle.worker_core.specs.Absorbs.{absorbed, all_added, ended_work, given_told, kind_added, kinds_added, learned, lost_given, lost_under, task_told, work_after, woken}
+use Rattle.worker_core.specs.Absorbs.{absorbed, all_added, ended_work, given_told, kind_added, kinds_added, learned, lost_given, lost_under, task_told, work_after}
 use Rattle.worker_core.specs.Memories.{Memory}
 use Rattle.worker_core.specs.Roles.{kinds_of}
-use Rattle.worker_core.specs.States.{State, start_call}
+use Rattle.worker_core.specs.States.{ActorState, start_call}
 use Rattle.worker_core.specs.Tasks.{task_parks, under_after}
 use Rattle.worker_core.specs.Turns.{AfterKeys, Begins, Decides, Drops, IsTurn, Nothing, TurnBy, dropped, passing, unlisted}
 use Rattle.attention_law.specs.Queues.{AnswersKeepQueues, NewQueuesStand, TurnsKeepQueues, WakesKeepQueues, taken_keys, under_keys}
 use Rattle.attention_law.proofs.Once.{added_once, begun_once, finished_once, put_off_once}
 use Rattle.attention_law.proofs.Turned.{answer_taken, turn_taken, woken_taken}
 
-abbrev IsOnce : State → Type 0
+abbrev IsOnce : ActorState → Type 0
 IsOnce s = StandsOnce s.work
 
 -- ---- the keys of a list, and of the caches
@@ -54,7 +54,7 @@ decides_once role memory rows after under w (Nothing empty same none) once = sub
 decides_once role memory rows after under w (Begins u old gives same some) once = subst StandsOnce (sym same) (begun_once w once)
 decides_once role memory rows after under w (Drops k first old none rest) once = decides_once role memory rows after under _ rest (dropped_once first k w once)
 
-turn_once : (s new : State) (answer : Next) → IsTurn s new answer → StandsOnce s.work → StandsOnce new.work
+turn_once : (s new : ActorState) (answer : Next) → IsTurn s new answer → StandsOnce s.work → StandsOnce new.work
 turn_once s new answer turn once = by s.memory.stale s.under (start_call s.role s.memory) (unlisted s) (passing s) turn
   where
     keys : (w : Work) (under : Option Under) → StandsOnce w → AfterKeys s new answer w under → IsOnce new
@@ -83,7 +83,7 @@ after_once u reply w once = by (is_some (under_after u reply))
     by true = once
     by false = ended_once (task_parks u.task reply) u.key w once
 
-module _ (s : State) (once : StandsOnce s.work) where
+module _ (s : ActorState) (once : StandsOnce s.work) where
   told_once : (caches : AllKnown) (request : Request) (reply : Reply) (g : Option Given) → IsOnce (given_told (learned s caches request reply) request reply g)
   told_once caches request reply None = once
   told_once caches request reply (Some givens.Start) = once

@@ -1,5 +1,5 @@
 -- The passes of a life by its calls are those of its actor; so no kind is watched again after a whole pass without events.
-use Rattle.std.proofs.Common.{◌≡◌, ◌≢◌, ℕ, ◌<◌, ◌≤◌, List, [], ◌∷◌, ◌++◌, length, Bool, true, false, true≢false, Option, Some, None, inl, inr, refl, sym, ◌∙◌, ap, subst, arith, if◌then◌else◌}
+use Rattle.std.proofs.Common.{◌≡◌, ℕ, ◌<◌, ◌≤◌, List, [], ◌++◌, length, Bool, true, false, true≢false, Option, Some, None, refl, sym, ◌∙◌, ap, subst, arith, if◌then◌else◌}
 use Rattle.std.specs.Prelude.{◌&&◌, nat_lt, not}
 use Rattle.std.proofs.lemmas.Bool.Decides.{nat_tests}
 use Rattle.std.proofs.lemmas.Option.{slice_get_within}
@@ -19,16 +19,16 @@ use Rattle.worker_core.specs.declared.turn.Next.TheVariants as nexts
 use Rattle.worker_core.specs.declared.turn.Outcome.TheVariants as outcomes
 use Rattle.worker_core.specs.declared.turn.Pass.{Pass}
 use Rattle.worker_core.specs.Absorbs.{absorbed, given_told, is_passing, learned, lost_given, lost_to, lost_under, pass_after}
-use Rattle.worker_core.specs.Roles.{IsBuiltKind, kinds_of}
+use Rattle.worker_core.specs.Roles.{kinds_of}
 use Rattle.worker_core.specs.Stands.{StandsFor}
-use Rattle.worker_core.specs.States.{State, asked}
+use Rattle.worker_core.specs.States.{ActorState}
 use Rattle.worker_core.specs.Turns.{IsTurn, passing}
 use Rattle.worker_core.proofs.Answered.{gives_asked, passed, turn_role}
 use Rattle.worker_core.proofs.PassRules.{passes_begin, watches_follow}
 use Rattle.worker_core.proofs.Quiet.{itself}
 use Rattle.attention_law.specs.Diligence.{Call, entries}
 use Rattle.attention_law.specs.Played.{IsPlayed, LostAfter, LostBefore, Told, Wakes, Begins}
-use Rattle.attention_law.specs.Resting.{AreNeeded, Drops, HasPassed, Hears, IsPlayedSince, Misses, PlayedIsNeeded, PlayedSinceIsPlayed, Resumes, Starts, is_watch, is_whole, new_pass, next_pass, pass_since, pass_with, watches_on}
+use Rattle.attention_law.specs.Resting.{AreNeeded, Drops, HasPassed, Hears, IsPlayedSince, Misses, PlayedIsNeeded, PlayedSinceIsPlayed, Resumes, Starts, is_watch, is_whole, new_pass, next_pass, pass_since, pass_with}
 use Rattle.attention_law.proofs.Following.{same_role}
 use Rattle.attention_law.proofs.Passing.{given_read, told_stays}
 use Rattle.attention_law.proofs.Turned.{Kept, PassAfter, Renewed, turn_pass}
@@ -46,7 +46,7 @@ played_on role s before since (Resumes old turned earlier made played is none tu
 
 -- which pass a watch is of
 
-abbrev pass_of : State → Pass
+abbrev pass_of : ActorState → Pass
 pass_of s = s.pass
 
 pub whole_from : (kind : SeatKind) (pass : Pass) → length (kinds_of kind) ≤ pass.behind → is_whole kind pass ≡ true
@@ -78,7 +78,7 @@ next_over kind pass brought whole = ap (λ b. if b && is_whole kind pass then ne
 
 -- a turn leaves the pass that the next watch is of
 
-turn_next : (kind : SeatKind) (s turned : State) (answer : Next) → s.role.kind ≡ kind → IsTurn s turned answer → next_pass kind turned.pass ≡ next_pass kind s.pass
+turn_next : (kind : SeatKind) (s turned : ActorState) (answer : Next) → s.role.kind ≡ kind → IsTurn s turned answer → next_pass kind turned.pass ≡ next_pass kind s.pass
 turn_next kind s turned answer own turn = by (turn_pass s turned answer turn)
   where
     over : s.pass.event ≡ true → turned.pass ≡ new_pass → is_whole kind s.pass ≡ true
@@ -90,7 +90,7 @@ turn_next kind s turned answer own turn = by (turn_pass s turned answer turn)
     by (Kept same) = ap (next_pass kind) same
     by (Renewed brought is) = ap (next_pass kind) is ∙ sym (next_over kind s.pass brought (over brought is))
 
-lost_leaves : (s : State) → (lost_to s).pass ≡ s.pass
+lost_leaves : (s : ActorState) → (lost_to s).pass ≡ s.pass
 lost_leaves s = by s.given
   where
     task : (u : Option Under) → (lost_under s u).pass ≡ s.pass
@@ -105,7 +105,7 @@ lost_leaves s = by s.given
 
 -- a turn that gives a watch, where the passes by the calls have come to p
 
-module _ (kind : SeatKind) (s turned : State) (mine : List Entry) (k : Kind) (from : ℕ) (p : Pass) (own : s.role.kind ≡ kind) (turn : IsTurn s turned (nexts.Call (requests.Watch k from))) (stands : StandsFor turned mine) (fits : next_pass kind p ≡ next_pass kind s.pass) where
+module _ (kind : SeatKind) (s turned : ActorState) (mine : List Entry) (k : Kind) (from : ℕ) (p : Pass) (own : s.role.kind ≡ kind) (turn : IsTurn s turned (nexts.Call (requests.Watch k from))) (stands : StandsFor turned mine) (fits : next_pass kind p ≡ next_pass kind s.pass) where
   gives_read : turned.given ≡ Some (givens.Read k)
   gives_read = given_read turned mine k from stands (sym (gives_asked s turned (nexts.Call (requests.Watch k from)) turn))
 
@@ -124,7 +124,7 @@ module _ (kind : SeatKind) (s turned : State) (mine : List Entry) (k : Kind) (fr
       let is : p ≡ turned.pass = sym (next_quiet kind p quiet) ∙ same in
       true≢false (sym whole ∙ ap (is_whole kind) is ∙ open_below kind turned.pass below)
 
-  pub watch_leads : (new : State) (reply : Reply) → new ≡ absorbed turned new.caches (requests.Watch k from) (outcomes.Told reply) → pass_after (next_pass kind p) true (requests.Watch k from) reply ≡ new.pass
+  pub watch_leads : (new : ActorState) (reply : Reply) → new ≡ absorbed turned new.caches (requests.Watch k from) (outcomes.Told reply) → pass_after (next_pass kind p) true (requests.Watch k from) reply ≡ new.pass
   watch_leads new reply takes =
       ap (λ x. pass_after x true (requests.Watch k from) reply) same
       ∙ sym (ap pass_of takes
@@ -134,7 +134,7 @@ module _ (kind : SeatKind) (s turned : State) (mine : List Entry) (k : Kind) (fr
 
 -- the answer to a call leads the passes by the calls where it leads the actor's
 
-module _ (kind : SeatKind) (s turned new : State) (mine : List Entry) (request : Request) (p : Pass) (own : s.role.kind ≡ kind) (turn : IsTurn s turned (nexts.Call request)) (stands : StandsFor turned mine) (fits : next_pass kind p ≡ next_pass kind s.pass) where
+module _ (kind : SeatKind) (s turned new : ActorState) (mine : List Entry) (request : Request) (p : Pass) (own : s.role.kind ≡ kind) (turn : IsTurn s turned (nexts.Call request)) (stands : StandsFor turned mine) (fits : next_pass kind p ≡ next_pass kind s.pass) where
   stays_fit : turned.pass ≡ new.pass → next_pass kind p ≡ next_pass kind new.pass
   stays_fit same_ = fits ∙ sym (turn_next kind s turned (nexts.Call request) own turn) ∙ ap (next_pass kind) same_
 
@@ -163,7 +163,7 @@ module _ (kind : SeatKind) (s turned new : State) (mine : List Entry) (request :
   pub lost_fits : new ≡ absorbed turned new.caches request outcomes.Lost → next_pass kind p ≡ next_pass kind new.pass
   lost_fits takes = stays_fit (sym (ap pass_of takes ∙ lost_leaves turned))
 
-pub pass_fits : (role : Role) (s : State) (before since : List Call) → IsPlayedSince role s before since → next_pass role.kind (pass_since role.kind since) ≡ next_pass role.kind s.pass
+pub pass_fits : (role : Role) (s : ActorState) (before since : List Call) → IsPlayedSince role s before since → next_pass role.kind (pass_since role.kind since) ≡ next_pass role.kind s.pass
 pass_fits role s before since (Starts none_before none new stands) =
     let all : length (kinds_of role.kind) ≤ length (kinds_of role.kind) = omega arith in
     ap (λ c. next_pass role.kind (pass_since role.kind c)) none
@@ -182,11 +182,11 @@ pass_fits role s before since (Misses old rest e request played is lost own give
     ∙ lost_fits role.kind old gives.turned s (entries (rest ++ before)) request (pass_since role.kind rest) (ap (λ (r : Role). r.kind) (same_role role old (rest ++ before) (played_on role old before rest played))) gives.turns.turn gives.turns.stands
     (pass_fits role old before rest played) gives.takes
 pass_fits role s before since (Resumes old turned earlier made played is none turns wakes stands) =
-    ap (λ c. next_pass role.kind (pass_since role.kind c)) none ∙ sym (ap (λ (x : State). next_pass role.kind x.pass) wakes)
+    ap (λ c. next_pass role.kind (pass_since role.kind c)) none ∙ sym (ap (λ (x : ActorState). next_pass role.kind x.pass) wakes)
 
 -- no kind is watched in vain
 
-needed_call : (role : Role) (s turned : State) (before rest : List Call) (e : Entry) (request : Request) → IsPlayedSince role s before rest → IsTurn s turned (nexts.Call request) → StandsFor turned (entries (rest ++ before)) → e.request ≡ request → is_watch e.request ≡ true → HasPassed role.kind rest → ⊥
+needed_call : (role : Role) (s turned : ActorState) (before rest : List Call) (e : Entry) (request : Request) → IsPlayedSince role s before rest → IsTurn s turned (nexts.Call request) → StandsFor turned (entries (rest ++ before)) → e.request ≡ request → is_watch e.request ≡ true → HasPassed role.kind rest → ⊥
 needed_call role s turned before rest e request played turn stands asks watches through = by request refl
   where
     by : (r : Request) → request ≡ r → ⊥

@@ -1,11 +1,11 @@
 -- A key stands once in a queue after each of its moves. Shown by counting: of each key there is at most one.
-use Rattle.std.proofs.Common.{◌≡◌, ◌≤◌, ◌+◌, ℕ, zero, suc, List, [], ◌∷◌, ◌++◌, Bool, true, false, Option, Some, None, refl, sym, ◌∙◌, ap, subst, arith, if◌then◌else◌}
+use Rattle.std.proofs.Common.{◌≡◌, ◌≤◌, ◌+◌, ℕ, suc, List, [], ◌∷◌, ◌++◌, Bool, true, false, Option, Some, None, refl, sym, ◌∙◌, ap, subst, arith, if◌then◌else◌}
 use Rattle.std.specs.Prelude.{◌||◌, map}
 use Rattle.std.specs.List.{list_any}
 use Rattle.kube_types.specs.declared.key.Key.{Key}
 use Rattle.kube_types.specs.Keys.{same_key}
 use Rattle.kube_types.proofs.SameKeys.{KeyCases, One, Two, key_cases, same_key_itself}
-use Rattle.sync_queue.specs.Work.{AreOnce, StandsOnce, Taken, Work, added, begin_oldest, begun, done_by, finished, is_of, mark, mark_of, put_off, queued, released, retry_by, set_aside, unparked, without}
+use Rattle.sync_queue.specs.Work.{AreOnce, StandsOnce, Taken, Work, added, begin_oldest, begun, done_by, finished, is_of, mark, mark_of, put_off, queued, released, retry_by, unparked, without_waiting}
 use Rattle.attention_law.specs.Queues.{key_in, taken_keys}
 use Rattle.attention_law.proofs.Queues.{marked_keys}
 
@@ -77,28 +77,28 @@ counts_once (x ∷ xs) few = (counted_none x xs (alone (same_key x x) (same_key_
 
 -- a key that is left out
 
-left_out : (j : Key) (xs : List Key) → list_any (same_key j) xs ≡ true → (k : Key) → count k xs ≡ count k (without (same_key j) xs) + count k (j ∷ [])
+left_out : (j : Key) (xs : List Key) → list_any (same_key j) xs ≡ true → (k : Key) → count k xs ≡ count k (without_waiting (same_key j) xs) + count k (j ∷ [])
 left_out j [] there k = absurd (cc)
 left_out j (x ∷ xs) there k = by (key_cases j x) there (left_out j xs)
   where
-    by : KeyCases j x → (same_key j x || list_any (same_key j) xs) ≡ true → (list_any (same_key j) xs ≡ true → (q : Key) → count q xs ≡ count q (without (same_key j) xs) + count q (j ∷ []))
-        → count_by (same_key k x) (count k xs) ≡ count k (if same_key j x then xs else x ∷ without (same_key j) xs) + count k (j ∷ [])
+    by : KeyCases j x → (same_key j x || list_any (same_key j) xs) ≡ true → (list_any (same_key j) xs ≡ true → (q : Key) → count q xs ≡ count q (without_waiting (same_key j) xs) + count q (j ∷ []))
+        → count_by (same_key k x) (count k xs) ≡ count k (if same_key j x then xs else x ∷ without_waiting (same_key j) xs) + count k (j ∷ [])
     by (One e is) h rest = rw e (ap (λ y. count_by (same_key k y) (count k xs)) (sym is) ∙ plus (same_key k j) (count k xs))
       where
         plus : (b : Bool) (n : ℕ) → count_by b n ≡ n + count_by b 0
         plus true n = omega arith
         plus false n = omega arith
-    by (Two e differs) h rest = rw e (more (count k xs) (count k (without (same_key j) xs)) (count k (j ∷ [])) (same_key k x) (rest (sym (ap (λ b. b || list_any (same_key j) xs) e) ∙ h) k))
+    by (Two e differs) h rest = rw e (more (count k xs) (count k (without_waiting (same_key j) xs)) (count k (j ∷ [])) (same_key k x) (rest (sym (ap (λ b. b || list_any (same_key j) xs) e) ∙ h) k))
       where
         more : (n m o : ℕ) (b : Bool) → n ≡ m + o → count_by b n ≡ count_by b m + o
         more n m o true is = omega (arith, is)
         more n m o false is = is
 
-nothing_left_out : (j : Key) (xs : List Key) → list_any (same_key j) xs ≡ false → without (same_key j) xs ≡ xs
+nothing_left_out : (j : Key) (xs : List Key) → list_any (same_key j) xs ≡ false → without_waiting (same_key j) xs ≡ xs
 nothing_left_out j [] e = refl
 nothing_left_out j (x ∷ xs) e =
     let f = or_false (same_key j x) (list_any (same_key j) xs) e in
-    ap (λ b. if b then xs else x ∷ without (same_key j) xs) f.0 ∙ ap (λ ys. x ∷ ys) (nothing_left_out j xs f.1)
+    ap (λ b. if b then xs else x ∷ without_waiting (same_key j) xs) f.0 ∙ ap (λ ys. x ∷ ys) (nothing_left_out j xs f.1)
 
 -- the keys of a queue, counted over its three lists
 
@@ -123,11 +123,11 @@ taken_any : (j : Key) (ts : List Taken) → list_any (is_of j) ts ≡ list_any (
 taken_any j [] = refl
 taken_any j (t ∷ ts) = ap (λ b. same_key j t.key || b) (taken_any j ts)
 
-keys_without : (j : Key) (ts : List Taken) → map key_in (without (is_of j) ts) ≡ without (same_key j) (map key_in ts)
+keys_without : (j : Key) (ts : List Taken) → map key_in (without_waiting (is_of j) ts) ≡ without_waiting (same_key j) (map key_in ts)
 keys_without j [] = refl
 keys_without j (t ∷ ts) = by (same_key j t.key) (keys_without j ts)
   where
-    by : (b : Bool) → map key_in (without (is_of j) ts) ≡ without (same_key j) (map key_in ts) → map key_in (if b then ts else t ∷ without (is_of j) ts) ≡ (if b then map key_in ts else t.key ∷ without (same_key j) (map key_in ts))
+    by : (b : Bool) → map key_in (without_waiting (is_of j) ts) ≡ without_waiting (same_key j) (map key_in ts) → map key_in (if b then ts else t ∷ without_waiting (is_of j) ts) ≡ (if b then map key_in ts else t.key ∷ without_waiting (same_key j) (map key_in ts))
     by true e = refl
     by false e = ap (λ xs. t.key ∷ xs) e
 
@@ -168,12 +168,12 @@ added_once j w once = all_once (added j w) (by (list_any (is_of j) w.taken) (lis
             let a : count k w.waiting ≡ 0 = subst (λ y. count y w.waiting ≡ 0) (sym is) (none_counted j w.waiting waits) in
             let b : count k (taken_keys w) ≡ 0 = subst (λ y. count y (taken_keys w) ≡ 0) (sym is) (none_counted j (taken_keys w) (sym (taken_any j w.taken) ∙ taken)) in
             let c : count k w.parked ≡ 0 = subst (λ y. count y w.parked ≡ 0) (sym is) (none_counted j w.parked parks) in
-            let same : count k (without (same_key j) w.parked) ≡ count k w.parked = ap (count k) (nothing_left_out j w.parked parks) in
+            let same : count k (without_waiting (same_key j) w.parked) ≡ count k w.parked = ap (count k) (nothing_left_out j w.parked parks) in
             let back : count k (w.waiting ++ j ∷ []) ≡ count k w.waiting + 1 = count_append k w.waiting (j ∷ []) ∙ ap (λ t. count k w.waiting + count_by t 0) e in
             omega (arith, a, b, c, same, back)
         case (Two e differs) =
             let few = each k in
-            let same : count k (without (same_key j) w.parked) ≡ count k w.parked = ap (count k) (nothing_left_out j w.parked parks) in
+            let same : count k (without_waiting (same_key j) w.parked) ≡ count k w.parked = ap (count k) (nothing_left_out j w.parked parks) in
             let back : count k (w.waiting ++ j ∷ []) ≡ count k w.waiting + 0 = count_append k w.waiting (j ∷ []) ∙ ap (λ t. count k w.waiting + count_by t 0) e in
             omega (arith, few, same, back)
 

@@ -21,7 +21,7 @@ use Rattle.binder_model.specs.BindWrites.{next_write}
 use Rattle.binder_model.specs.Matching.{IsBestAt, binder_takes, eligible, has_match, is_delayed, only_own_passes, waits_for_pod}
 use Rattle.binder_model.specs.ObjectKeys.{class_key}
 use Rattle.volume_match.specs.Volumes.{as_volume}
-use Rattle.claim_sync.specs.ClaimDecision.{IsChoice, claim_decision, may_assign}
+use Rattle.claim_sync.specs.ClaimDecision.{IsVolumeFor, claim_decision, may_assign}
 use Rattle.claim_sync.specs.declared.action.ClaimStep.{ClaimStep}
 use Rattle.claim_sync.specs.declared.action.ClaimStep.TheVariants as steps
 use Rattle.binder_machines.specs.declared.decide.First.{First as BinderFirst}
@@ -39,7 +39,7 @@ use Rattle.worker_core.specs.declared.task.Under.{Under}
 use Rattle.worker_core.specs.Memories.{memory_of}
 use Rattle.worker_core.specs.Roles.{IsBuiltKind}
 use Rattle.worker_core.specs.Tasks.{GivesCall, IsBinderFirst, IsFirstOf, task_call}
-use Rattle.attention_law.specs.Diligence.{BeginsCall, Call, IsDue, IsDueThroughout, Shows, entries}
+use Rattle.attention_law.specs.Diligence.{BeginsCall, Call, IsKeyDue, IsDueThroughout, Shows, entries}
 use Rattle.attention_law.specs.Showing.{HaveNoNamespace, IsDueInOrderThroughout, IsLookedUp, PlayedIsDiligentInOrder, RowsInOrderAreEnough}
 use Rattle.attention_law.proofs.Following.{played_is_diligent}
 use Rattle.attention_law.proofs.Seeking.{binds, found_any, placed_row, serves}
@@ -83,7 +83,7 @@ module _ (rows : List Object) (order : AreRows rows) (spaceless : HaveNoNamespac
       by false ea d = record { staying = ea; binding = d }
 
   best_in : (rs : List Object) (first : BinderFirst) (b : IsBindingTo rs c first) → IsBestAt rs c None (waits_for_pod rs c) [] b.place
-  best_in rs first b = subst (λ e. IsChoice e rs c (Some b.place)) unnamed b.choice
+  best_in rs first b = subst (λ e. IsVolumeFor e rs c (Some b.place)) unnamed b.choice
 
   best : IsBestAt rows c None (waits_for_pod rows c) [] sought_here.binding.place
   best = best_in rows (binder_firsts.Begins m) sought_here.binding
@@ -171,10 +171,10 @@ unmatched rows c open_ unnamed none e = by (is_deleting c.meta) (may_assign rows
     by false true n = true≢false (sym (ap is_bind n))
     by false false n = true≢false (sym (ap is_bind n))
 
-in_order : (role : Role) (key : Key) (mine : List Entry) (rows : List Object) (u : Under) → role.kind ≡ Binder → Shows mine rows → HaveNoNamespace rows → u.key ≡ key → GivesCall role (memory_of role mine) rows u → IsDue role key mine
+in_order : (role : Role) (key : Key) (mine : List Entry) (rows : List Object) (u : Under) → role.kind ≡ Binder → Shows mine rows → HaveNoNamespace rows → u.key ≡ key → GivesCall role (memory_of role mine) rows u → IsKeyDue role key mine
 in_order role key mine rows u binder shows spaceless own gives = by (row_at key rows) refl
   where
-    looked : IsLookedUp Binder (row_at key rows) → IsDue role key mine
+    looked : IsLookedUp Binder (row_at key rows) → IsKeyDue role key mine
     looked l = one_showing role key mine rows u (subst IsBuiltKind (sym binder) tt) shows (subst (λ seat. IsLookedUp seat (row_at key rows)) (sym binder) l) own gives
 
     decided : IsBinderFirst rows key (firsts.Begins u.task)
@@ -183,13 +183,13 @@ in_order role key mine rows u binder shows spaceless own gives = by (row_at key 
     begun : (m : Machine) × ((u.task ≡ tasks.Binder m) × IsFirst rows (row_at key rows) (binder_firsts.Begins m))
     begun = begins_binder rows key u.task decided
 
-    nothing : binder_firsts.Begins begun.0 ≡ binder_firsts.Drops → IsDue role key mine
+    nothing : binder_firsts.Begins begun.0 ≡ binder_firsts.Drops → IsKeyDue role key mine
     nothing e = none_some (sym (ap machine_in e))
 
     at : (r : Option Object) → row_at key rows ≡ r → IsFirst rows r (binder_firsts.Begins begun.0)
     at r e = subst (λ x. IsFirst rows x (binder_firsts.Begins begun.0)) e begun.1.1
 
-    finds : (c : ClaimData) → row_at key rows ≡ Some (Claim c) → is_completed c ≡ false → is_empty c.volume_name ≡ true → has_match rows c ≡ true → IsDue role key mine
+    finds : (c : ClaimData) → row_at key rows ≡ Some (Claim c) → is_completed c ≡ false → is_empty c.volume_name ≡ true → has_match rows c ≡ true → IsKeyDue role key mine
     finds c e open_ unnamed matches = record {
       rows = rows;
       shows = shows;
@@ -206,7 +206,7 @@ in_order role key mine rows u binder shows spaceless own gives = by (row_at key 
     same c e open_ unnamed none f g d h =
         claim_same rows c (claim_decision rows c NotAsked) f g (λ binds. absurd (unmatched rows c open_ unnamed none binds)) (subst (λ r. IsFirst rows r f) e d) (subst (λ r. IsFirst rows r g) e h)
 
-    finds_none : (c : ClaimData) → row_at key rows ≡ Some (Claim c) → is_completed c ≡ false → is_empty c.volume_name ≡ true → has_match rows c ≡ false → IsDue role key mine
+    finds_none : (c : ClaimData) → row_at key rows ≡ Some (Claim c) → is_completed c ≡ false → is_empty c.volume_name ≡ true → has_match rows c ≡ false → IsKeyDue role key mine
     finds_none c e open_ unnamed none = record {
       rows = rows;
       shows = shows;
@@ -218,16 +218,16 @@ in_order role key mine rows u binder shows spaceless own gives = by (row_at key 
           (subst (λ rs. IsBinderFirst rs key first) (rows_alike rows other shows.order others.order (λ k. others.shown k ∙ sym (shows.shown k))) (subst (λ x. IsFirstOf x role.node (memory_of role mine) other key first) binder d));
     }
 
-    seeks : (c : ClaimData) → row_at key rows ≡ Some (Claim c) → is_completed c ≡ false → is_empty c.volume_name ≡ true → (b : Bool) → has_match rows c ≡ b → IsDue role key mine
+    seeks : (c : ClaimData) → row_at key rows ≡ Some (Claim c) → is_completed c ≡ false → is_empty c.volume_name ≡ true → (b : Bool) → has_match rows c ≡ b → IsKeyDue role key mine
     seeks c e open_ unnamed true matches = finds c e open_ unnamed matches
     seeks c e open_ unnamed false matches = finds_none c e open_ unnamed matches
 
-    claim : (c : ClaimData) → row_at key rows ≡ Some (Claim c) → (a b : Bool) → is_completed c ≡ a → is_empty c.volume_name ≡ b → IsDue role key mine
+    claim : (c : ClaimData) → row_at key rows ≡ Some (Claim c) → (a b : Bool) → is_completed c ≡ a → is_empty c.volume_name ≡ b → IsKeyDue role key mine
     claim c e true b ea eb = looked (subst (λ r. IsLookedUp Binder r) (sym e) (inl ea))
     claim c e false false ea eb = looked (subst (λ r. IsLookedUp Binder r) (sym e) (inr eb))
     claim c e false true ea eb = seeks c e ea eb (has_match rows c) refl
 
-    by : (r : Option Object) → row_at key rows ≡ r → IsDue role key mine
+    by : (r : Option Object) → row_at key rows ≡ r → IsKeyDue role key mine
     by None e = nothing (at None e)
     by (Some (Class x)) e = nothing (at (Some (Class x)) e)
     by (Some (Node x)) e = nothing (at (Some (Node x)) e)
@@ -238,10 +238,10 @@ in_order role key mine rows u binder shows spaceless own gives = by (row_at key 
 pub rows_in_order : RowsInOrderAreEnough
 rows_in_order role key mine built due = by role.kind refl built
   where
-    looked : IsLookedUp role.kind (row_at key due.rows) → IsDue role key mine
+    looked : IsLookedUp role.kind (row_at key due.rows) → IsKeyDue role key mine
     looked l = one_showing role key mine due.rows due.under built due.shows l due.own due.gives
 
-    by : (seat : SeatKind) → role.kind ≡ seat → IsBuiltKind seat → IsDue role key mine
+    by : (seat : SeatKind) → role.kind ≡ seat → IsBuiltKind seat → IsKeyDue role key mine
     by seats.Binder is b = in_order role key mine due.rows due.under is due.shows (due.spaceless is) due.own due.gives
     by seats.ClaimProtect is b = looked (subst (λ seat. IsLookedUp seat (row_at key due.rows)) (sym is) tt)
     by seats.VolumeProtect is b = looked (subst (λ seat. IsLookedUp seat (row_at key due.rows)) (sym is) tt)

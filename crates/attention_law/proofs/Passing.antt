@@ -22,7 +22,7 @@ use Rattle.worker_core.specs.Absorbs.{absorbed, given_told, learned, pass_after,
 use Rattle.worker_core.specs.Roles.{IsBuiltKind}
 use Rattle.worker_core.specs.Rules.{BroughtEvent, IsAskedAgain, IsWatchAnswer}
 use Rattle.worker_core.specs.Stands.{AreOwn, StandsFor}
-use Rattle.worker_core.specs.States.{State, asked, given_call, read_request}
+use Rattle.worker_core.specs.States.{ActorState, asked, given_call, read_request}
 use Rattle.worker_core.specs.Turns.{IsTurn, passing}
 use Rattle.worker_core.proofs.Answered.{gives_asked}
 use Rattle.worker_core.proofs.ByKind.{start_reads_none}
@@ -35,12 +35,12 @@ use Rattle.attention_law.specs.Resting.{is_watch}
 use Rattle.attention_law.proofs.Dues.{under_no_watch}
 
 -- what an answer without news makes of the pass: a watch is that of the pass's kind, and the pass goes on to the next
-pub data Goes (s new : State) (request : Request) : Type 0 where
+pub data Goes (s new : ActorState) (request : Request) : Type 0 where
   Stays : ((kind : Kind) → watches_kind kind request ≡ false) → new.pass ≡ s.pass → Goes s new request
   GoesOn : (kind : Kind) (from : ℕ) → request ≡ requests.Watch kind from → passing s ≡ Some kind → new.pass.behind ≡ s.pass.behind + 1 → (s.pass.event ≡ false → new.pass.event ≡ false) → Goes s new request
 
 -- the call that is asked is a read of the kind
-module _ (s : State) (mine : List Entry) (kind : Kind) (from : ℕ) (stands : StandsFor s mine) where
+module _ (s : ActorState) (mine : List Entry) (kind : Kind) (from : ℕ) (stands : StandsFor s mine) where
   abbrev kind_watched : Request → Option Kind
   kind_watched (requests.Watch k f) = Some k
   kind_watched r = None
@@ -59,7 +59,7 @@ module _ (s : State) (mine : List Entry) (kind : Kind) (from : ℕ) (stands : St
       by (Some (givens.Read k)) at e = at ∙ ap (λ x. Some (givens.Read x)) (read_kind k (ask_of (cache_of k s.caches)) e)
 
 -- any other answer leaves the pass
-module _ (s : State) (caches : AllKnown) (request : Request) (reply : Reply) (other : is_watch request ≡ false) where
+module _ (s : ActorState) (caches : AllKnown) (request : Request) (reply : Reply) (other : is_watch request ≡ false) where
   pass_stays : (pass : Pass) (passes : Bool) → pass_after pass passes request reply ≡ pass
   pass_stays pass passes = by request other
     where
@@ -80,7 +80,7 @@ module _ (s : State) (caches : AllKnown) (request : Request) (reply : Reply) (ot
       by (Some givens.Start) = refl
       by (Some (givens.Read kind)) = pass_stays s.pass _
 
-module _ (s turned new : State) (mine : List Entry) (e : Entry) (request : Request) (reply : Reply) (built : IsBuiltKind turned.role.kind) (turn : IsTurn s turned (nexts.Call request)) (stands : StandsFor turned mine)
+module _ (s turned new : ActorState) (mine : List Entry) (e : Entry) (request : Request) (reply : Reply) (built : IsBuiltKind turned.role.kind) (turn : IsTurn s turned (nexts.Call request)) (stands : StandsFor turned mine)
     (told : IsTold e request reply) (own : AreOwn (e ∷ mine)) (quiet : IsQuiet e) (takes : new ≡ absorbed turned new.caches request (outcomes.Told reply)) where
   is_asked : asked turned ≡ Some request
   is_asked = sym (gives_asked s turned (nexts.Call request) turn)
@@ -88,7 +88,7 @@ module _ (s turned new : State) (mine : List Entry) (e : Entry) (request : Reque
   calm : is_news reply ≡ false
   calm = ap is_news (sym told.answered) ∙ quiet.no_news
 
-  after : State
+  after : ActorState
   after = absorbed turned new.caches request (outcomes.Told reply)
 
   -- the watch brought no event
@@ -131,7 +131,7 @@ module _ (s turned new : State) (mine : List Entry) (e : Entry) (request : Reque
 
       on : new.pass.behind ≡ turned.pass.behind + 1
       on = elim (passes_go_on turned new.caches kind from (outcomes.Told reply) given follows) [
-        | inl next ↦ ap (λ (x : State). x.pass.behind) taken ∙ next
+        | inl next ↦ ap (λ (x : ActorState). x.pass.behind) taken ∙ next
         | inr again ↦ absurd (not_again answered again)
       ]
 
@@ -140,13 +140,13 @@ module _ (s turned new : State) (mine : List Entry) (e : Entry) (request : Reque
         where
           by : (b : Bool) → new.pass.event ≡ b → new.pass.event ≡ false
           by false is2 = is2
-          by true is2 = absurd (no_event kind from answered (events_are_brought turned new.caches (requests.Watch kind from) (outcomes.Told reply) (sym (ap (λ (x : State). x.pass.event) taken) ∙ is2) f))
+          by true is2 = absurd (no_event kind from answered (events_are_brought turned new.caches (requests.Watch kind from) (outcomes.Told reply) (sym (ap (λ (x : ActorState). x.pass.event) taken) ∙ is2) f))
 
   pub told_goes : Goes turned new request
   told_goes = by request refl
     where
       other : (r : Request) → request ≡ r → is_watch r ≡ false → ((kind : Kind) → watches_kind kind r ≡ false) → Goes turned new request
-      other r is o none = Stays (λ kind. ap (watches_kind kind) is ∙ none kind) (ap (λ (x : State). x.pass) takes ∙ told_stays turned new.caches request reply (ap is_watch is ∙ o))
+      other r is o none = Stays (λ kind. ap (watches_kind kind) is ∙ none kind) (ap (λ (x : ActorState). x.pass) takes ∙ told_stays turned new.caches request reply (ap is_watch is ∙ o))
 
       by : (r : Request) → request ≡ r → Goes turned new request
       by (requests.Watch kind from) is = watch_goes kind from is

@@ -22,12 +22,12 @@ use Rattle.worker_core.specs.Absorbs.{woken}
 use Rattle.worker_core.specs.Roles.{IsBuiltKind, kinds_of}
 use Rattle.worker_core.specs.Rules.{WasCalled}
 use Rattle.worker_core.specs.Stands.{StandsFor}
-use Rattle.worker_core.specs.States.{State, call_in, waits}
+use Rattle.worker_core.specs.States.{ActorState, call_in, waits}
 use Rattle.worker_core.specs.Turns.{IsTurn}
 use Rattle.worker_core.proofs.Answered.{passed, turn_role}
 use Rattle.worker_core.proofs.KeysKept.{turn_keys}
 use Rattle.worker_core.proofs.Quiet.{alike, itself}
-use Rattle.attention_law.specs.Diligence.{IsAskedFor, IsDue, watches_kind}
+use Rattle.attention_law.specs.Diligence.{IsAskedFor, IsKeyDue, watches_kind}
 use Rattle.attention_law.proofs.Dues.{IsCached, due_cached, not_dropped, was_asked}
 use Rattle.attention_law.proofs.Passing.{Goes, GoesOn, Stays}
 use Rattle.attention_law.specs.Queues.{OneTaken, taken_keys, under_keys}
@@ -81,7 +81,7 @@ place_is seats.Agent (suc i) kind built e = none_some e
 -- the phases: how many watches of the kind, at this place of the pass, came since the first; whether the pass has the kind
 -- behind it; and whether the key waits
 
-pub data Phase (place : ℕ) (key : Key) (s : State) (n : ℕ) : Type 0 where
+pub data Phase (place : ℕ) (key : Key) (s : ActorState) (n : ℕ) : Type 0 where
   -- the pass of the first watch, and the next one
   Opened : n ≡ 0 → place < s.pass.behind → Phase place key s n
   Began : n ≡ 0 → s.pass.behind ≤ place → s.pass.event ≡ false → Phase place key s n
@@ -91,7 +91,7 @@ pub data Phase (place : ℕ) (key : Key) (s : State) (n : ℕ) : Type 0 where
   -- the kind was watched once more, and the key still waits
   Waits : n ≡ 2 → place < s.pass.behind → s.pass.event ≡ false → waits key s.work ≡ true → Phase place key s n
 
-pub few_watches : (place : ℕ) (key : Key) (s : State) (n : ℕ) → Phase place key s n → n ≤ 2
+pub few_watches : (place : ℕ) (key : Key) (s : ActorState) (n : ℕ) → Phase place key s n → n ≤ 2
 few_watches place key s n (Opened is past) = omega (arith, is)
 few_watches place key s n (Began is before quiet) = omega (arith, is)
 few_watches place key s n (Passed is past quiet) = omega (arith, is)
@@ -105,7 +105,7 @@ abbrev event_in : Pass → Bool
 event_in p = p.event
 
 -- the phase goes over to a state with the same pass, in which the key goes on waiting
-same_phase : (place : ℕ) (key : Key) (s new : State) (n : ℕ) → new.pass ≡ s.pass → (waits key s.work ≡ true → waits key new.work ≡ true) → Phase place key s n → Phase place key new n
+same_phase : (place : ℕ) (key : Key) (s new : ActorState) (n : ℕ) → new.pass ≡ s.pass → (waits key s.work ≡ true → waits key new.work ≡ true) → Phase place key s n → Phase place key new n
 same_phase place key s new n same stays (Opened is past) = Opened is (subst (λ p. place < behind_in p) (sym same) past)
 same_phase place key s new n same stays (Began is before quiet) = Began is (subst (λ p. behind_in p ≤ place) (sym same) before) (ap event_in same ∙ quiet)
 same_phase place key s new n same stays (Passed is past quiet) = Passed is (subst (λ p. place < behind_in p) (sym same) past) (ap event_in same ∙ quiet)
@@ -114,7 +114,7 @@ same_phase place key s new n same stays (Waits is past quiet there) = Waits is (
 
 -- a turn
 
-module _ (key : Key) (s turned : State) (mine : List Entry) (stands : StandsFor s mine) (order : AreRows (all_objects s.caches)) (due : IsDue s.role key mine) where
+module _ (key : Key) (s turned : ActorState) (mine : List Entry) (stands : StandsFor s mine) (order : AreRows (all_objects s.caches)) (due : IsKeyDue s.role key mine) where
   -- in a turn a key that is due goes on waiting, or is called for
   goes_on_waiting : (answer : Next) → IsTurn s turned answer → (WasCalled s answer key → ⊥) → waits key s.work ≡ true → waits key turned.work ≡ true
   goes_on_waiting answer turn no_call there = by (waits key turned.work) refl
@@ -137,14 +137,14 @@ module _ (key : Key) (s turned : State) (mine : List Entry) (stands : StandsFor 
         | inr dropped ↦ absurd (not_dropped s mine key stands order due dropped)
       ]
 
-renewed : (place : ℕ) (key : Key) (s turned : State) (n : ℕ) → s.pass.event ≡ true → turned.pass ≡ record { behind = 0; event = false } → Phase place key s n → Phase place key turned n
+renewed : (place : ℕ) (key : Key) (s turned : ActorState) (n : ℕ) → s.pass.event ≡ true → turned.pass ≡ record { behind = 0; event = false } → Phase place key s n → Phase place key turned n
 renewed place key s turned n brought is (Opened zero_ past) = Began zero_ (subst (λ p. behind_in p ≤ place) (sym is) (omega arith)) (ap event_in is)
 renewed place key s turned n brought is (Began zero_ before quiet) = absurd (true≢false (sym brought ∙ quiet))
 renewed place key s turned n brought is (Passed one_ past quiet) = absurd (true≢false (sym brought ∙ quiet))
 renewed place key s turned n brought is (Woken one_ before quiet there) = absurd (true≢false (sym brought ∙ quiet))
 renewed place key s turned n brought is (Waits two past quiet there) = absurd (true≢false (sym brought ∙ quiet))
 
-pub turn_phase : (place : ℕ) (key : Key) (s turned : State) (answer : Next) (n : ℕ) → IsTurn s turned answer → (waits key s.work ≡ true → waits key turned.work ≡ true) → Phase place key s n → Phase place key turned n
+pub turn_phase : (place : ℕ) (key : Key) (s turned : ActorState) (answer : Next) (n : ℕ) → IsTurn s turned answer → (waits key s.work ≡ true → waits key turned.work ≡ true) → Phase place key s n → Phase place key turned n
 turn_phase place key s turned answer n turn stays phase = by (turn_pass s turned answer turn)
   where
     by : PassAfter s turned → Phase place key turned n
@@ -153,7 +153,7 @@ turn_phase place key s turned answer n turn stays phase = by (turn_pass s turned
 
 -- an answer
 
-module _ (seat : SeatKind) (built : IsBuiltKind seat) (kind : Kind) (place : ℕ) (at : slice_get (kinds_of seat) place ≡ Some kind) (key : Key) (s new : State) (n : ℕ) (stays : waits key s.work ≡ true → waits key new.work ≡ true) where
+module _ (seat : SeatKind) (built : IsBuiltKind seat) (kind : Kind) (place : ℕ) (at : slice_get (kinds_of seat) place ≡ Some kind) (key : Key) (s new : ActorState) (n : ℕ) (stays : waits key s.work ≡ true → waits key new.work ≡ true) where
   -- the kind itself was watched
   own_watch : s.pass.behind ≡ place → new.pass.behind ≡ s.pass.behind + 1 → (s.pass.event ≡ false → new.pass.event ≡ false) → Phase place key s n → Phase place key new (n + 1)
   own_watch own on still (Opened is past) = absurd (omega (arith, own, past))
@@ -192,7 +192,7 @@ module _ (seat : SeatKind) (built : IsBuiltKind seat) (kind : Kind) (place : ℕ
               true≢false (sym (itself kind) ∙ subst (λ x. same_kind x kind ≡ false) same e)
 
 -- the first watch
-pub opens : (seat : SeatKind) (kind : Kind) (key : Key) (s new : State) (request : Request) → s.role.kind ≡ seat → watches_kind kind request ≡ true → Goes s new request → (slice_get (kinds_of seat) s.pass.behind ≡ Some kind) × Phase s.pass.behind key new 0
+pub opens : (seat : SeatKind) (kind : Kind) (key : Key) (s new : ActorState) (request : Request) → s.role.kind ≡ seat → watches_kind kind request ≡ true → Goes s new request → (slice_get (kinds_of seat) s.pass.behind ≡ Some kind) × Phase s.pass.behind key new 0
 opens seat kind key s new request of_seat watch (Stays none same) = absurd (true≢false (sym watch ∙ none kind))
 opens seat kind key s new request of_seat watch (GoesOn k from is follows on still) =
     let same : k ≡ kind = alike k kind (sym (ap (watches_kind kind) is) ∙ watch) in
@@ -204,14 +204,14 @@ same_place seat kind i j built ei ej = place_is seat i kind built ei ∙ sym (pl
 
 -- an idle turn and a wake of an actor for which a key is due
 
-module _ (key : Key) (s turned new : State) (mine : List Entry) (built : IsBuiltKind s.role.kind) (stands : StandsFor s mine) (order : AreRows (all_objects s.caches)) (due : IsDue s.role key mine) (own : OneTaken s) (fresh : s.memory.stale ≡ false)
+module _ (key : Key) (s turned new : ActorState) (mine : List Entry) (built : IsBuiltKind s.role.kind) (stands : StandsFor s mine) (order : AreRows (all_objects s.caches)) (due : IsKeyDue s.role key mine) (own : OneTaken s) (fresh : s.memory.stale ≡ false)
     (turn : IsTurn s turned nexts.Idle) (wakes : new ≡ woken turned) where
   rests : Rests s turned
   rests = idle_rests s turned turn fresh
 
   -- the key is cached, and waits after the wake
   pub waits_now : waits key new.work ≡ true
-  waits_now = ap (λ (x : State). waits key x.work) wakes ∙ cached_self turned.caches (kinds_of turned.role.kind) key.kind key turned.work followed there none
+  waits_now = ap (λ (x : ActorState). waits key x.work) wakes ∙ cached_self turned.caches (kinds_of turned.role.kind) key.kind key turned.work followed there none
     where
       cached : IsCached s.role.kind key s.caches
       cached = due_cached s.role mine key built due s.caches stands.caches order (λ k o e. row_any k o _ e)
@@ -235,8 +235,8 @@ module _ (key : Key) (s turned new : State) (mine : List Entry) (built : IsBuilt
       let gone : waits key turned.work ≡ false = ap (λ ks. list_any (same_key key) ks) rests.empty in
       true≢false (sym still ∙ gone)
 
-module _ (seat : SeatKind) (built : IsBuiltKind seat) (kind : Kind) (place : ℕ) (at : slice_get (kinds_of seat) place ≡ Some kind) (key : Key) (s turned new : State) (mine : List Entry) (n : ℕ) (of_seat : s.role.kind ≡ seat)
-    (stands : StandsFor s mine) (order : AreRows (all_objects s.caches)) (due : IsDue s.role key mine) (own : OneTaken s) (fresh : s.memory.stale ≡ false) (turn : IsTurn s turned nexts.Idle) (wakes : new ≡ woken turned) where
+module _ (seat : SeatKind) (built : IsBuiltKind seat) (kind : Kind) (place : ℕ) (at : slice_get (kinds_of seat) place ≡ Some kind) (key : Key) (s turned new : ActorState) (mine : List Entry) (n : ℕ) (of_seat : s.role.kind ≡ seat)
+    (stands : StandsFor s mine) (order : AreRows (all_objects s.caches)) (due : IsKeyDue s.role key mine) (own : OneTaken s) (fresh : s.memory.stale ≡ false) (turn : IsTurn s turned nexts.Idle) (wakes : new ≡ woken turned) where
   built_now : IsBuiltKind s.role.kind
   built_now = subst IsBuiltKind (sym of_seat) built
 
@@ -248,7 +248,7 @@ module _ (seat : SeatKind) (built : IsBuiltKind seat) (kind : Kind) (place : ℕ
       omega (arith, all, low)
 
   pass_now : new.pass ≡ record { behind = 0; event = false }
-  pass_now = ap (λ (x : State). x.pass) wakes
+  pass_now = ap (λ (x : ActorState). x.pass) wakes
 
   behind_now : new.pass.behind ≤ place
   behind_now = subst (λ p. behind_in p ≤ place) (sym pass_now) (omega arith)

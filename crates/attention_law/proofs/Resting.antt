@@ -1,5 +1,5 @@
 -- Where a life is idle nothing that was due since it was last woken is left to be called for.
-use Rattle.std.proofs.Common.{◌≡◌, ◌⊎◌, ℕ, ◌<◌, ◌≤◌, List, [], ◌∷◌, ◌++◌, length, Bool, true, false, true≢false, Option, Some, None, inl, inr, refl, sym, ◌∙◌, ap, subst, arith, append_assoc}
+use Rattle.std.proofs.Common.{◌≡◌, ◌⊎◌, ◌<◌, ◌≤◌, List, [], ◌∷◌, ◌++◌, length, Bool, true, false, true≢false, Option, Some, None, inl, inr, refl, sym, ◌∙◌, ap, subst, arith, append_assoc}
 use Rattle.std.specs.Prelude.{option_map}
 use Rattle.std.specs.List.{list_any}
 use Rattle.kube_types.specs.declared.key.Key.{Key}
@@ -21,19 +21,18 @@ use Rattle.worker_core.specs.declared.turn.Next.TheVariants as nexts
 use Rattle.worker_core.specs.declared.turn.Outcome.{Outcome}
 use Rattle.worker_core.specs.declared.turn.Outcome.TheVariants as outcomes
 use Rattle.worker_core.specs.declared.turn.Pass.{Pass}
-use Rattle.worker_core.specs.Absorbs.{absorbed, all_added, given_told, learned, woken}
+use Rattle.worker_core.specs.Absorbs.{given_told, learned, woken}
 use Rattle.worker_core.specs.Memories.{Memory}
 use Rattle.worker_core.specs.Roles.{IsBuiltKind, kinds_of}
 use Rattle.worker_core.specs.Stands.{AnyIsUnderWay, GivenStands, StandsFor}
-use Rattle.worker_core.specs.States.{State, asked, call_under, given_call, waits}
-use Rattle.worker_core.specs.Turns.{passing}
+use Rattle.worker_core.specs.States.{ActorState, asked, call_under, given_call, waits}
 use Rattle.worker_core.proofs.Answered.{gives_asked, passed}
 use Rattle.worker_core.proofs.ByKind.{start_reads_none}
 use Rattle.worker_core.proofs.KeysKept.{absorbed_keys}
 use Rattle.worker_core.proofs.Machines.{task_reads_none, under_calls}
-use Rattle.attention_law.specs.Diligence.{Call, IsAskedFor, IsDue, IsDueThroughout, entries}
+use Rattle.attention_law.specs.Diligence.{Call, IsAskedFor, IsKeyDue, IsDueThroughout, entries}
 use Rattle.attention_law.specs.Played.{Gives, IsPlayed, Turns, Wakes}
-use Rattle.attention_law.specs.Resting.{Brings, Drops, HasPassed, Hears, IdleIsDone, IsPlayedSince, Misses, Resumes, Starts, WasCalledSince, WasToldStale, is_whole, new_pass, next_pass, pass_since}
+use Rattle.attention_law.specs.Resting.{Brings, Drops, HasPassed, Hears, IdleIsDone, IsPlayedSince, Misses, Resumes, Starts, WasCalledSince, is_whole, next_pass, pass_since}
 use Rattle.attention_law.proofs.Dues.{never_due}
 use Rattle.attention_law.proofs.Following.{due_now, no_list, one_taken, remembered, same_head, same_role, same_tail, stands_now, still_fresh}
 use Rattle.attention_law.proofs.Needed.{next_open, next_over, next_quiet, pass_fits, played_on, whole_from}
@@ -45,12 +44,12 @@ use Rattle.attention_law.proofs.Turned.{calls_fresh, idle_rests, turn_taken}
 
 -- a call that reads a kind is given as a read, with nothing under way
 
-record IsRead (s : State) : Type 0 where
+record IsRead (s : ActorState) : Type 0 where
   kind : Kind
   given : s.given ≡ Some (givens.Read kind)
   none : s.under ≡ None
 
-read_given : (s : State) (mine : List Entry) (request : Request) (kind : Kind) → StandsFor s mine → asked s ≡ Some request → reads_kind kind request ≡ true → IsRead s
+read_given : (s : ActorState) (mine : List Entry) (request : Request) (kind : Kind) → StandsFor s mine → asked s ≡ Some request → reads_kind kind request ≡ true → IsRead s
 read_given s mine request kind stands ask reads = by s.given refl ask stands.given
   where
     under : (u : Option Under) → AnyIsUnderWay s.role u mine → option_map call_under u ≡ Some request → IsRead s
@@ -65,9 +64,9 @@ read_given s mine request kind stands ask reads = by s.given refl ask stands.giv
 
 -- a key that is brought waits
 
-brought_waits : (key : Key) (s new : State) (mine : List Entry) (e : Entry) (request : Request) (reply : Reply) → OneTaken s → Gives s new request (outcomes.Told reply) mine → IsTold e request reply → Brings key e → waits key new.work ≡ true
+brought_waits : (key : Key) (s new : ActorState) (mine : List Entry) (e : Entry) (request : Request) (reply : Reply) → OneTaken s → Gives s new request (outcomes.Told reply) mine → IsTold e request reply → Brings key e → waits key new.work ≡ true
 brought_waits key s new mine e request reply own g told brings =
-    ap (λ (x : State). waits key x.work) g.takes
+    ap (λ (x : ActorState). waits key x.work) g.takes
     ∙ ap (λ x. waits key (given_told (learned g.turned new.caches request reply) request reply x).work) read.given
     ∙ all_self (keys_in reply) key g.turned.work (subst (λ r. list_any (same_key key) (keys_in r) ≡ true) told.answered brings.has) none
   where
@@ -79,30 +78,30 @@ brought_waits key s new mine e request reply own g told brings =
 
 -- a key that waits, and is due, is called for or goes on waiting
 
-call_waits : (role : Role) (key : Key) (s new : State) (mine : List Entry) (request : Request) (outcome : Outcome) → s.role ≡ role → StandsFor s mine → Gives s new request outcome mine → IsDue role key mine → waits key s.work ≡ true
+call_waits : (role : Role) (key : Key) (s new : ActorState) (mine : List Entry) (request : Request) (outcome : Outcome) → s.role ≡ role → StandsFor s mine → Gives s new request outcome mine → IsKeyDue role key mine → waits key s.work ≡ true
     → IsAskedFor role key mine request ⊎ (waits key new.work ≡ true)
 call_waits role key s new mine request outcome own stands g due there =
-    elim (called_or_waits key s g.turned mine stands g.turns.order (subst (λ r. IsDue r key mine) (sym own) due) request g.turns.turn) [
+    elim (called_or_waits key s g.turned mine stands g.turns.order (subst (λ r. IsKeyDue r key mine) (sym own) due) request g.turns.turn) [
       | inl asked ↦ inl (subst (λ r. IsAskedFor r key mine request) own asked)
       | inr stays ↦ inr ((absorbed_keys g.turned new request outcome g.takes).stays key (stays there))
     ]
 
 -- it was called for since these calls, or waits
-abbrev CalledOrWaits : Role → Key → List Call → List Call → State → Type 0
+abbrev CalledOrWaits : Role → Key → List Call → List Call → ActorState → Type 0
 CalledOrWaits role key start since s = WasCalledSince role key start since ⊎ (waits key s.work ≡ true)
 
-goes_on : (role : Role) (key : Key) (start rest : List Call) (e : Entry) (s new : State) → CalledOrWaits role key start rest s → (waits key s.work ≡ true → IsAskedFor role key (entries (rest ++ start)) e.request ⊎ (waits key new.work ≡ true)) → CalledOrWaits role key start (Some e ∷ rest) new
+goes_on : (role : Role) (key : Key) (start rest : List Call) (e : Entry) (s new : ActorState) → CalledOrWaits role key start rest s → (waits key s.work ≡ true → IsAskedFor role key (entries (rest ++ start)) e.request ⊎ (waits key new.work ≡ true)) → CalledOrWaits role key start (Some e ∷ rest) new
 goes_on role key start rest e s new so_far on = elim so_far [
   | inl called ↦ inl (inr called)
   | inr there ↦ elim (on there) [ inl asked ↦ inl (inl asked) | inr still ↦ inr still ]
 ]
 
 -- one call of a life that goes on
-module _ (role : Role) (key : Key) (before rest : List Call) (s new : State) (request : Request) (outcome : Outcome) (played : IsPlayedSince role s before rest) (gives : Gives s new request outcome (entries (rest ++ before))) where
+module _ (role : Role) (key : Key) (before rest : List Call) (s new : ActorState) (request : Request) (outcome : Outcome) (played : IsPlayedSince role s before rest) (gives : Gives s new request outcome (entries (rest ++ before))) where
   pub is_life : IsPlayed role s (rest ++ before)
   is_life = played_on role s before rest played
 
-  pub still_waits : (start later : List Call) (e : Entry) → e.request ≡ request → rest ++ before ≡ later ++ start → IsDue role key (entries (later ++ start)) → CalledOrWaits role key start later s → CalledOrWaits role key start (Some e ∷ later) new
+  pub still_waits : (start later : List Call) (e : Entry) → e.request ≡ request → rest ++ before ≡ later ++ start → IsKeyDue role key (entries (later ++ start)) → CalledOrWaits role key start later s → CalledOrWaits role key start (Some e ∷ later) new
   still_waits start later e asks same due so_far = goes_on role key start later e s new so_far (λ there. subst (λ r. IsAskedFor role key (entries (later ++ start)) r ⊎ (waits key new.work ≡ true)) (sym asks) (on there))
     where
       on : waits key s.work ≡ true → IsAskedFor role key (entries (later ++ start)) request ⊎ (waits key new.work ≡ true)
@@ -112,14 +111,14 @@ module _ (role : Role) (key : Key) (before rest : List Call) (s new : State) (re
 
 -- keys that are due since the life was woken
 
-woken_waits : (role : Role) (built : IsBuiltKind role.kind) (key : Key) (s turned new : State) (calls : List Call) → IsPlayed role s calls → Turns s turned nexts.Idle (entries calls) → new ≡ woken turned → s.memory.stale ≡ false → IsDue role key (entries calls) → waits key new.work ≡ true
+woken_waits : (role : Role) (built : IsBuiltKind role.kind) (key : Key) (s turned new : ActorState) (calls : List Call) → IsPlayed role s calls → Turns s turned nexts.Idle (entries calls) → new ≡ woken turned → s.memory.stale ≡ false → IsKeyDue role key (entries calls) → waits key new.work ≡ true
 woken_waits role built key s turned new calls played turns wakes fresh due =
     let own = same_role role s calls played in
-    waits_now key s turned new (entries calls) (subst (λ (r : Role). IsBuiltKind r.kind) (sym own) built) (stands_now role s calls played) turns.order (subst (λ r. IsDue r key (entries calls)) (sym own) due) (one_taken role s calls played) fresh turns.turn wakes
+    waits_now key s turned new (entries calls) (subst (λ (r : Role). IsBuiltKind r.kind) (sym own) built) (stands_now role s calls played) turns.order (subst (λ r. IsKeyDue r key (entries calls)) (sym own) due) (one_taken role s calls played) fresh turns.turn wakes
 
-follow_due : (role : Role) (key : Key) → IsBuiltKind role.kind → (s : State) (before since : List Call) → IsPlayedSince role s before since → s.memory.stale ≡ false → IsDueThroughout role key before since → CalledOrWaits role key before since s
+follow_due : (role : Role) (key : Key) → IsBuiltKind role.kind → (s : ActorState) (before since : List Call) → IsPlayedSince role s before since → s.memory.stale ≡ false → IsDueThroughout role key before since → CalledOrWaits role key before since s
 follow_due role key built s before since (Starts none_before none new stands) fresh due =
-    absurd (never_due role key built (subst (λ c. IsDue role key (entries c)) none_before (subst (IsDueThroughout role key before) none due)))
+    absurd (never_due role key built (subst (λ c. IsKeyDue role key (entries c)) none_before (subst (IsDueThroughout role key before) none due)))
 follow_due role key built s before since (Hears old rest e request reply played is told gives stands) fresh due =
     let then_ = subst (IsDueThroughout role key before) is due in
     subst (λ c. CalledOrWaits role key before c s) (sym is)
@@ -146,7 +145,7 @@ module _ (role : Role) (key : Key) (e : Entry) (earlier before : List Call) (bri
   joined : (rest later : List Call) → rest ≡ later ++ (Some e ∷ earlier) → rest ++ before ≡ later ++ start
   joined rest later is = ap (λ c. c ++ before) is ∙ append_assoc later (Some e ∷ earlier) before
 
-  follow_brought : (s : State) (since : List Call) → IsPlayedSince role s before since → (later : List Call) → since ≡ later ++ (Some e ∷ earlier) → IsDueThroughout role key start later → CalledOrWaits role key start later s
+  follow_brought : (s : ActorState) (since : List Call) → IsPlayedSince role s before since → (later : List Call) → since ≡ later ++ (Some e ∷ earlier) → IsDueThroughout role key start later → CalledOrWaits role key start later s
   follow_brought s since (Starts none_before none new stands) later at due = absurd (never_empty later earlier e (sym none ∙ at))
   follow_brought s since (Hears old rest x request reply played is told gives stands) [] at due =
       let same : x ≡ e = one x e (same_head _ _ _ _ (sym is ∙ at)) in
@@ -196,7 +195,7 @@ idle_is_done role s turned before since built played turns unstale = record {
   passed = through;
   brought = λ key e later earlier at brings due. elim (follow_brought role key e earlier before brings s since played later at due) [
     | inl called ↦ called
-    | inr there ↦ absurd (nothing_waits key (subst (λ c. IsDue role key (entries c)) (sym (joined role key e earlier before brings since later at)) (due_now role key (Some e ∷ (earlier ++ before)) later due)) there)
+    | inr there ↦ absurd (nothing_waits key (subst (λ c. IsKeyDue role key (entries c)) (sym (joined role key e earlier before brings since later at)) (due_now role key (Some e ∷ (earlier ++ before)) later due)) there)
   ];
   due = λ key due. elim (follow_due role key built s before since played fresh due) [
     | inl called ↦ called
@@ -217,9 +216,9 @@ idle_is_done role s turned before since built played turns unstale = record {
         by false is = refl
         by true is = absurd (unstale (told_stale role (entries (since ++ before)) built (sym (ap (λ (m : Memory). m.stale) (remembered role s (since ++ before) life)) ∙ is)))
 
-    nothing_waits : (key : Key) → IsDue role key (entries (since ++ before)) → waits key s.work ≡ true → ⊥
+    nothing_waits : (key : Key) → IsKeyDue role key (entries (since ++ before)) → waits key s.work ≡ true → ⊥
     nothing_waits key due =
-        decided key s turned (woken turned) (entries (since ++ before)) (subst (λ (r : Role). IsBuiltKind r.kind) (sym own) built) (stands_now role s (since ++ before) life) turns.order (subst (λ r. IsDue r key (entries (since ++ before))) (sym own) due)
+        decided key s turned (woken turned) (entries (since ++ before)) (subst (λ (r : Role). IsBuiltKind r.kind) (sym own) built) (stands_now role s (since ++ before) life) turns.order (subst (λ r. IsKeyDue r key (entries (since ++ before))) (sym own) due)
         (one_taken role s (since ++ before) life) fresh turns.turn refl
 
     through : HasPassed role.kind since

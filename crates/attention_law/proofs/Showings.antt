@@ -12,7 +12,7 @@ use Rattle.call_types.specs.declared.request.SeatKind.{SeatKind}
 use Rattle.call_types.specs.declared.request.SeatKind.TheVariants as seats
 use Rattle.call_types.specs.declared.reply.MountRow.{MountRow}
 use Rattle.volume_match.specs.Volumes.{as_volume}
-use Rattle.claim_sync.specs.ClaimDecision.{IsChoice, claim_decision, unless_lost}
+use Rattle.claim_sync.specs.ClaimDecision.{IsVolumeFor, claim_decision, unless_lost}
 use Rattle.claim_sync.specs.declared.action.ClaimStep.{ClaimStep}
 use Rattle.claim_sync.specs.declared.action.ClaimStep.TheVariants as steps
 use Rattle.binder_machines.specs.declared.decide.First.{First as BinderFirst}
@@ -42,8 +42,8 @@ module _ (rows : List Object) where
   -- the volume that the claim names is one
   binding_same : (c : ClaimData) (f g : BinderFirst) → is_empty c.volume_name ≡ false → IsBindingTo rows c f → IsBindingTo rows c g → g ≡ f
   binding_same c f g named b d =
-      let chosen_b : IsChoice false rows c (Some b.place) = subst (λ e. IsChoice e rows c (Some b.place)) named b.choice in
-      let chosen_d : IsChoice false rows c (Some d.place) = subst (λ e. IsChoice e rows c (Some d.place)) named d.choice in
+      let chosen_b : IsVolumeFor false rows c (Some b.place) = subst (λ e. IsVolumeFor e rows c (Some b.place)) named b.choice in
+      let chosen_d : IsVolumeFor false rows c (Some d.place) = subst (λ e. IsVolumeFor e rows c (Some d.place)) named d.choice in
       let volumes : Some (Volume d.volume) ≡ Some (Volume b.volume) = sym d.there ∙ chosen_d ∙ sym chosen_b ∙ b.there in
       d.begins ∙ ap (λ v. binder_firsts.Begins (Binds v c)) (one d.volume b.volume (ap as_volume volumes)) ∙ sym b.begins
 

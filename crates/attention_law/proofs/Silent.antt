@@ -1,5 +1,5 @@
 -- Agents that were told that their epoch is stale, and what they remember.
-use Rattle.std.proofs.Common.{◌≡◌, ◌⊎◌, ℕ, List, [], ◌∷◌, Bool, true, false, true≢false, Some, None, inl, inr, refl, sym, ◌∙◌, ap, subst, if◌then◌else◌}
+use Rattle.std.proofs.Common.{◌≡◌, ◌⊎◌, ℕ, List, [], ◌∷◌, Bool, true, false, true≢false, inl, inr, refl, sym, ◌∙◌, ap, subst, if◌then◌else◌}
 use Rattle.std.specs.Prelude.{◌||◌}
 use Rattle.call_types.specs.declared.entry.Entry.{Entry}
 use Rattle.call_types.specs.declared.request.SeatKind.{SeatKind}
@@ -8,7 +8,7 @@ use Rattle.binder_model.specs.Told.{SomeOf}
 use Rattle.worker_core.specs.declared.role.Role.{Role}
 use Rattle.worker_core.specs.Memories.{Memory, agent_remembers, is_stale_told, memory_after, memory_of, remembers}
 use Rattle.worker_core.specs.Roles.{IsBuiltKind}
-use Rattle.worker_core.specs.States.{State}
+use Rattle.worker_core.specs.States.{ActorState}
 use Rattle.attention_law.specs.Diligence.{Call, entries}
 use Rattle.attention_law.specs.Played.{Begins, IsPlayed, LostAfter, LostBefore, Told, Wakes}
 use Rattle.attention_law.specs.Resting.{IsSilentOnceStale, PlayedIsSilent, TellsStale, WasToldStale}
@@ -64,7 +64,7 @@ pub stale_told : (role : Role) (mine : List Entry) → WasToldStale role.kind mi
 stale_told role mine told = subst (λ k. (memory_of (record { kind = k; node = role.node }) mine).stale ≡ true) (sym told.0) (agent_stale role.node mine told.1)
 
 -- no call of an agent comes after it was told so
-fresh_calls : (role : Role) (s : State) (calls : List Call) → IsPlayed role s calls → s.memory.stale ≡ false → WasToldStale role.kind (entries calls) → ⊥
+fresh_calls : (role : Role) (s : ActorState) (calls : List Call) → IsPlayed role s calls → s.memory.stale ≡ false → WasToldStale role.kind (entries calls) → ⊥
 fresh_calls role s calls played fresh told = true≢false (sym (stale_told role (entries calls) told) ∙ sym (ap (λ (m : Memory). m.stale) (remembered role s calls played)) ∙ fresh)
 
 pub played_is_silent : PlayedIsSilent

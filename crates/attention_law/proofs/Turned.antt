@@ -25,7 +25,7 @@ use Rattle.worker_core.specs.declared.turn.Pass.{Pass}
 use Rattle.worker_core.specs.Absorbs.{absorbed, ended_work, given_told, learned, lost_given, lost_under, task_told, woken}
 use Rattle.worker_core.specs.Memories.{Memory}
 use Rattle.worker_core.specs.Roles.{kinds_of}
-use Rattle.worker_core.specs.States.{State, call_in, start_call}
+use Rattle.worker_core.specs.States.{ActorState, call_in, start_call}
 use Rattle.worker_core.specs.Tasks.{task_call, task_moved, task_parks, under_after, with_call, with_task}
 use Rattle.worker_core.specs.Turns.{AfterKeys, Begins, Decides, Drops, IsTurn, Nothing, TurnBy, dropped, passing, unlisted}
 use Rattle.attention_law.specs.Queues.{OneTaken, taken_keys, under_keys}
@@ -52,14 +52,14 @@ module _ (role : Role) (memory : Memory) (rows : List Object) (after : Work) (un
 
 -- what a turn leaves as it was
 
-pub data PassAfter (s new : State) : Type 0 where
+pub data PassAfter (s new : ActorState) : Type 0 where
   Kept : new.pass ≡ s.pass → PassAfter s new
   Renewed : s.pass.event ≡ true → new.pass ≡ record { behind = 0; event = false } → PassAfter s new
 
-abbrev pass_of : State → Pass
+abbrev pass_of : ActorState → Pass
 pass_of s = s.pass
 
-pub turn_pass : (s new : State) (answer : Next) → IsTurn s new answer → PassAfter s new
+pub turn_pass : (s new : ActorState) (answer : Next) → IsTurn s new answer → PassAfter s new
 turn_pass s new answer = by s.memory.stale s.under (start_call s.role s.memory) (unlisted s) (passing s)
   where
     keys : (w : Work) (under : Option Under) → AfterKeys s new answer w under → PassAfter s new
@@ -75,10 +75,10 @@ turn_pass s new answer = by s.memory.stale s.under (start_call s.role s.memory) 
     by false None None None (Some kind) t = Kept (ap pass_of t.state)
     by false None None None None t = keys t.work t.under t.then_
 
-pub turn_taken : (s new : State) (answer : Next) → IsTurn s new answer → OneTaken s → OneTaken new
+pub turn_taken : (s new : ActorState) (answer : Next) → IsTurn s new answer → OneTaken s → OneTaken new
 turn_taken s new answer turn one_ = by s.memory.stale s.under (start_call s.role s.memory) (unlisted s) (passing s) refl turn
   where
-    is_taken : State → Type 0
+    is_taken : ActorState → Type 0
     is_taken x = OneTaken x
 
     keys : (w : Work) (under : Option Under) → taken_keys w ≡ under_keys under → s.under ≡ None → AfterKeys s new answer w under → OneTaken new
@@ -95,7 +95,7 @@ turn_taken s new answer turn one_ = by s.memory.stale s.under (start_call s.role
     by false None None None None at t = keys t.work t.under (decides_taken s.role s.memory (all_objects s.caches) t.work t.under s.work t.decides (one_ ∙ ap under_keys at)) at t.then_
 
 -- a turn that gives a call is none of an agent that was told StaleEpoch
-pub calls_fresh : (s new : State) (request : Request) → IsTurn s new (nexts.Call request) → s.memory.stale ≡ false
+pub calls_fresh : (s new : ActorState) (request : Request) → IsTurn s new (nexts.Call request) → s.memory.stale ≡ false
 calls_fresh s new request turn = by s.memory.stale turn
   where
     by : (stale : Bool) → TurnBy s new (nexts.Call request) stale s.under (start_call s.role s.memory) (unlisted s) (passing s) → stale ≡ false
@@ -104,7 +104,7 @@ calls_fresh s new request turn = by s.memory.stale turn
 
 -- an idle turn
 
-pub record Rests (s new : State) : Type 0 where
+pub record Rests (s new : ActorState) : Type 0 where
   pub passed : passing s ≡ None
   pub quiet : s.pass.event ≡ false
   pub none : new.under ≡ None
@@ -112,7 +112,7 @@ pub record Rests (s new : State) : Type 0 where
   pub caches : new.caches ≡ s.caches
   pub pass : new.pass ≡ s.pass
 
-pub idle_rests : (s new : State) → IsTurn s new nexts.Idle → s.memory.stale ≡ false → Rests s new
+pub idle_rests : (s new : ActorState) → IsTurn s new nexts.Idle → s.memory.stale ≡ false → Rests s new
 idle_rests s new turn fresh = by s.memory.stale s.under (start_call s.role s.memory) (unlisted s) (passing s) refl refl refl turn
   where
     no_call : (r : Request) → nexts.Idle ≡ nexts.Call r → Rests s new
@@ -124,9 +124,9 @@ idle_rests s new turn fresh = by s.memory.stale s.under (start_call s.role s.mem
     keys w None eu ep d (inr b) = record {
       passed = ep;
       quiet = b.quiet;
-      none = ap (λ (x : State). x.under) b.state ∙ eu;
-      empty = ap (λ (x : State). x.work.waiting) b.state ∙ decides_all s.role s.memory (all_objects s.caches) w None s.work d refl;
-      caches = ap (λ (x : State). x.caches) b.state;
+      none = ap (λ (x : ActorState). x.under) b.state ∙ eu;
+      empty = ap (λ (x : ActorState). x.work.waiting) b.state ∙ decides_all s.role s.memory (all_objects s.caches) w None s.work d refl;
+      caches = ap (λ (x : ActorState). x.caches) b.state;
       pass = ap pass_of b.state;
     }
 
@@ -155,7 +155,7 @@ ended_taken : (parks : Bool) (k : Key) (w : Work) → taken_keys w ≡ k ∷ [] 
 ended_taken true k w e = put_off_taken k w e
 ended_taken false k w e = finished_taken k w e
 
-module _ (s : State) (caches : AllKnown) (request : Request) (reply : Reply) (own : OneTaken s) where
+module _ (s : ActorState) (caches : AllKnown) (request : Request) (reply : Reply) (own : OneTaken s) where
   task_taken : (u : Option Under) → s.under ≡ u → OneTaken (task_told (learned s caches request reply) reply u)
   task_taken None at = own
   task_taken (Some u) at = by (under_after u reply) refl
@@ -173,7 +173,7 @@ module _ (s : State) (caches : AllKnown) (request : Request) (reply : Reply) (ow
   told_taken (Some givens.Start) = own
   told_taken (Some (givens.Read kind)) = all_taken (keys_in reply) s.work ∙ own
 
-lost_taken : (s : State) (g : Option Given) → OneTaken s → OneTaken (lost_given s g)
+lost_taken : (s : ActorState) (g : Option Given) → OneTaken s → OneTaken (lost_given s g)
 lost_taken s None own = own
 lost_taken s (Some givens.Start) own = own
 lost_taken s (Some (givens.Read kind)) own = own
@@ -183,16 +183,16 @@ lost_taken s (Some givens.Task) own = by s.under refl
     by None at = own
     by (Some u) at = put_off_taken u.key s.work (own ∙ ap under_keys at)
 
-pub answer_taken : (s : State) (caches : AllKnown) (request : Request) (outcome : Outcome) → OneTaken s → OneTaken (absorbed s caches request outcome)
+pub answer_taken : (s : ActorState) (caches : AllKnown) (request : Request) (outcome : Outcome) → OneTaken s → OneTaken (absorbed s caches request outcome)
 answer_taken s caches request (outcomes.Told reply) own = told_taken s caches request reply own s.given
 answer_taken s caches request outcomes.Lost own = lost_taken s s.given own
 
-pub woken_taken : (s : State) → OneTaken s → OneTaken (woken s)
+pub woken_taken : (s : ActorState) → OneTaken s → OneTaken (woken s)
 woken_taken s own = cached_taken s.caches (kinds_of s.role.kind) s.work ∙ own
 
 -- the role stays
 
-pub answer_role : (s : State) (caches : AllKnown) (request : Request) (outcome : Outcome) → (absorbed s caches request outcome).role ≡ s.role
+pub answer_role : (s : ActorState) (caches : AllKnown) (request : Request) (outcome : Outcome) → (absorbed s caches request outcome).role ≡ s.role
 answer_role s caches request (outcomes.Told reply) = by s.given
   where
     task : (u : Option Under) → (task_told (learned s caches request reply) reply u).role ≡ s.role

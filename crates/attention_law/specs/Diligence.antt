@@ -50,7 +50,7 @@ pub record BeginsCall (first : First) : Type 0 where
 
 -- after these entries the rules give the life a call for the key: on some rows that show the newest told they give one, and
 -- on no such rows they decide anything else
-pub record IsDue (role : Role) (key : Key) (mine : List Entry) : Type 0 where
+pub record IsKeyDue (role : Role) (key : Key) (mine : List Entry) : Type 0 where
   pub rows : List Object
   pub shows : Shows mine rows
   pub under : Under
@@ -112,8 +112,8 @@ watches kind (Some e ∷ calls) = if watches_kind kind e.request then watches ki
 
 -- the key is due at each point from the calls `before` on, up to those that came since
 abbrev pub IsDueThroughout : Role → Key → List Call → List Call → Type 0
-IsDueThroughout role key before [] = IsDue role key (entries before)
-IsDueThroughout role key before (call ∷ since) = IsDue role key (entries (call ∷ since ++ before)) × IsDueThroughout role key before since
+IsDueThroughout role key before [] = IsKeyDue role key (entries before)
+IsDueThroughout role key before (call ∷ since) = IsKeyDue role key (entries (call ∷ since ++ before)) × IsDueThroughout role key before since
 
 -- a call that the rules give for the key was asked since
 abbrev pub WasAskedSince : Role → Key → List Call → List Call → Type 0

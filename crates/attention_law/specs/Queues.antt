@@ -12,7 +12,7 @@ use Rattle.worker_core.specs.declared.turn.Next.{Next}
 use Rattle.worker_core.specs.declared.turn.Outcome.{Outcome}
 use Rattle.worker_core.specs.Absorbs.{absorbed, woken}
 use Rattle.worker_core.specs.Stands.{IsNew}
-use Rattle.worker_core.specs.States.{State}
+use Rattle.worker_core.specs.States.{ActorState}
 use Rattle.worker_core.specs.Turns.{IsTurn}
 
 abbrev pub key_in : Taken → Key
@@ -26,25 +26,25 @@ under_keys None = []
 under_keys (Some u) = u.key ∷ []
 
 -- what is taken is what is under way
-abbrev pub OneTaken : State → Type 0
+abbrev pub OneTaken : ActorState → Type 0
 OneTaken s = taken_keys s.work ≡ under_keys s.under
 
 -- each key stands once in the queue: it waits, is taken or is parked; and what is taken is what is under way. So a key that is
 -- queued while nothing is under way waits for its decision
-pub record QueueStands (s : State) : Type 0 where
+pub record QueueStands (s : ActorState) : Type 0 where
   pub once : StandsOnce s.work
   pub taken : OneTaken s
 
 -- ---- a new actor's queue stands, and every step of an actor leaves it so
 
 abbrev pub NewQueuesStand : Type 0
-NewQueuesStand = (role : Role) (s : State) → IsNew role s → QueueStands s
+NewQueuesStand = (role : Role) (s : ActorState) → IsNew role s → QueueStands s
 
 abbrev pub TurnsKeepQueues : Type 0
-TurnsKeepQueues = (s new : State) (answer : Next) → IsTurn s new answer → QueueStands s → QueueStands new
+TurnsKeepQueues = (s new : ActorState) (answer : Next) → IsTurn s new answer → QueueStands s → QueueStands new
 
 abbrev pub AnswersKeepQueues : Type 0
-AnswersKeepQueues = (s : State) (caches : AllKnown) (request : Request) (outcome : Outcome) → QueueStands s → QueueStands (absorbed s caches request outcome)
+AnswersKeepQueues = (s : ActorState) (caches : AllKnown) (request : Request) (outcome : Outcome) → QueueStands s → QueueStands (absorbed s caches request outcome)
 
 abbrev pub WakesKeepQueues : Type 0
-WakesKeepQueues = (s : State) → QueueStands s → QueueStands (woken s)
+WakesKeepQueues = (s : ActorState) → QueueStands s → QueueStands (woken s)

@@ -1,7 +1,7 @@
 -- What a life has done since it was last idle and was woken, or since it began. Each call of it was needed; and where it is
 -- idle again, nothing that it was told is left to be called for. The newest call stands first.
 -- A choice of this project, after the informers and the work queue of a controller in client-go.
-use Rattle.std.specs.Prelude.{ℕ, ◌≡◌, ◌⊎◌, nat_lt, not, Bool, true, false, ◌&&◌, List, [], ◌∷◌, ◌++◌, Option, Some, None, length, ⊤, if◌then◌else◌}
+use Rattle.std.specs.Prelude.{◌≡◌, ◌⊎◌, nat_lt, not, Bool, true, false, ◌&&◌, List, [], ◌∷◌, ◌++◌, Some, None, length, ⊤, if◌then◌else◌}
 use Rattle.std.specs.List.{list_any}
 use Rattle.kube_types.specs.declared.key.Key.{Key}
 use Rattle.kube_types.specs.declared.parts.Kind.{Kind}
@@ -23,7 +23,7 @@ use Rattle.worker_core.specs.Absorbs.{pass_after, woken}
 use Rattle.worker_core.specs.Memories.{is_stale_told}
 use Rattle.worker_core.specs.Roles.{IsBuiltKind, kinds_of}
 use Rattle.worker_core.specs.Stands.{IsNew, StandsFor}
-use Rattle.worker_core.specs.States.{State}
+use Rattle.worker_core.specs.States.{ActorState}
 use Rattle.attention_law.specs.Diligence.{Call, IsAskedFor, IsDueThroughout, entries}
 use Rattle.attention_law.specs.Played.{Gives, IsPlayed, Turns}
 
@@ -111,31 +111,31 @@ pub record IsDone (role : Role) (before since : List Call) : Type 0 where
 
 -- how a life is played: with the calls that it had made when it was last woken, none at first, and with those since
 
-pub data IsPlayedSince (role : Role) : State → List Call → List Call → Type 0 where
-  Starts : {s : State} {before since : List Call} → before ≡ [] → since ≡ [] → IsNew role s → StandsFor s [] → IsPlayedSince role s before since
-  Hears : {new : State} {before since : List Call} (s : State) (rest : List Call) (e : Entry) (request : Request) (reply : Reply) → IsPlayedSince role s before rest → since ≡ Some e ∷ rest → IsTold e request reply
+pub data IsPlayedSince (role : Role) : ActorState → List Call → List Call → Type 0 where
+  Starts : {s : ActorState} {before since : List Call} → before ≡ [] → since ≡ [] → IsNew role s → StandsFor s [] → IsPlayedSince role s before since
+  Hears : {new : ActorState} {before since : List Call} (s : ActorState) (rest : List Call) (e : Entry) (request : Request) (reply : Reply) → IsPlayedSince role s before rest → since ≡ Some e ∷ rest → IsTold e request reply
       → Gives s new request (outcomes.Told reply) (entries (rest ++ before)) → StandsFor new (entries (since ++ before)) → IsPlayedSince role new before since
-  Drops : {new : State} {before since : List Call} (s : State) (rest : List Call) (request : Request) → IsPlayedSince role s before rest → since ≡ None ∷ rest
+  Drops : {new : ActorState} {before since : List Call} (s : ActorState) (rest : List Call) (request : Request) → IsPlayedSince role s before rest → since ≡ None ∷ rest
       → Gives s new request outcomes.Lost (entries (rest ++ before)) → StandsFor new (entries (since ++ before)) → IsPlayedSince role new before since
-  Misses : {new : State} {before since : List Call} (s : State) (rest : List Call) (e : Entry) (request : Request) → IsPlayedSince role s before rest → since ≡ Some e ∷ rest → e.told ≡ false → e.request ≡ request
+  Misses : {new : ActorState} {before since : List Call} (s : ActorState) (rest : List Call) (e : Entry) (request : Request) → IsPlayedSince role s before rest → since ≡ Some e ∷ rest → e.told ≡ false → e.request ≡ request
       → Gives s new request outcomes.Lost (entries (rest ++ before)) → StandsFor new (entries (since ++ before)) → IsPlayedSince role new before since
-  Resumes : {new : State} {before since : List Call} (s turned : State) (earlier made : List Call) → IsPlayedSince role s earlier made → before ≡ made ++ earlier → since ≡ [] → Turns s turned nexts.Idle (entries before) → new ≡ woken turned
+  Resumes : {new : ActorState} {before since : List Call} (s turned : ActorState) (earlier made : List Call) → IsPlayedSince role s earlier made → before ≡ made ++ earlier → since ≡ [] → Turns s turned nexts.Idle (entries before) → new ≡ woken turned
       → StandsFor new (entries before) → IsPlayedSince role new before since
 
 -- the laws, of each kind of actor that is built
 
 -- it is a life that is played
 abbrev pub PlayedSinceIsPlayed : Type 0
-PlayedSinceIsPlayed = (role : Role) (s : State) (before since : List Call) → IsPlayedSince role s before since → IsPlayed role s (since ++ before)
+PlayedSinceIsPlayed = (role : Role) (s : ActorState) (before since : List Call) → IsPlayedSince role s before since → IsPlayed role s (since ++ before)
 
 -- no kind is watched in vain
 abbrev pub PlayedIsNeeded : Type 0
-PlayedIsNeeded = (role : Role) (s : State) (before since : List Call) → IsPlayedSince role s before since → AreNeeded role.kind since
+PlayedIsNeeded = (role : Role) (s : ActorState) (before since : List Call) → IsPlayedSince role s before since → AreNeeded role.kind since
 
 -- a stale agent is silent
 abbrev pub PlayedIsSilent : Type 0
-PlayedIsSilent = (role : Role) (s : State) (calls : List Call) → IsPlayed role s calls → IsSilentOnceStale role.kind calls
+PlayedIsSilent = (role : Role) (s : ActorState) (calls : List Call) → IsPlayed role s calls → IsSilentOnceStale role.kind calls
 
 -- where a turn gives no call, nothing is left to be called for, but by an agent that was told StaleEpoch
 abbrev pub IdleIsDone : Type 0
-IdleIsDone = (role : Role) (s turned : State) (before since : List Call) → IsBuiltKind role.kind → IsPlayedSince role s before since → Turns s turned nexts.Idle (entries (since ++ before)) → (WasToldStale role.kind (entries (since ++ before)) → ⊥) → IsDone role before since
+IdleIsDone = (role : Role) (s turned : ActorState) (before since : List Call) → IsBuiltKind role.kind → IsPlayedSince role s before since → Turns s turned nexts.Idle (entries (since ++ before)) → (WasToldStale role.kind (entries (since ++ before)) → ⊥) → IsDone role before since

@@ -15,8 +15,8 @@ use Rattle.worker_core.specs.declared.task.Under.{Under}
 use Rattle.worker_core.specs.Memories.{memory_of}
 use Rattle.worker_core.specs.Roles.{IsBuiltKind}
 use Rattle.worker_core.specs.Tasks.{GivesCall}
-use Rattle.worker_core.specs.States.{State}
-use Rattle.attention_law.specs.Diligence.{AreFourWatches, Call, IsDue, Shows, WasAskedSince, entries}
+use Rattle.worker_core.specs.States.{ActorState}
+use Rattle.attention_law.specs.Diligence.{AreFourWatches, Call, IsKeyDue, Shows, WasAskedSince, entries}
 use Rattle.attention_law.specs.Played.{IsPlayed}
 
 -- the decision on the row is the same on all rows in order that show the same: of a binder each but that on a claim for which
@@ -34,7 +34,7 @@ IsLookedUp seat row = ⊥
 
 -- where the rules give a call for such a key on some rows that show the newest told, the key is due
 abbrev pub OneShowingIsEnough : Type 0
-OneShowingIsEnough = (role : Role) (key : Key) (mine : List Entry) (rows : List Object) (u : Under) → IsBuiltKind role.kind → Shows mine rows → IsLookedUp role.kind (row_at key rows) → u.key ≡ key → GivesCall role (memory_of role mine) rows u → IsDue role key mine
+OneShowingIsEnough = (role : Role) (key : Key) (mine : List Entry) (rows : List Object) (u : Under) → IsBuiltKind role.kind → Shows mine rows → IsLookedUp role.kind (row_at key rows) → u.key ≡ key → GivesCall role (memory_of role mine) rows u → IsKeyDue role key mine
 
 -- no volume of the rows stands in a namespace: no store takes one that does
 abbrev pub HaveNoNamespace : List Object → Type 0
@@ -52,7 +52,7 @@ pub record IsDueInOrder (role : Role) (key : Key) (mine : List Entry) : Type 0 w
 
 -- such a key is due, whatever rows are looked at
 abbrev pub RowsInOrderAreEnough : Type 0
-RowsInOrderAreEnough = (role : Role) (key : Key) (mine : List Entry) → IsBuiltKind role.kind → IsDueInOrder role key mine → IsDue role key mine
+RowsInOrderAreEnough = (role : Role) (key : Key) (mine : List Entry) → IsBuiltKind role.kind → IsDueInOrder role key mine → IsKeyDue role key mine
 
 -- at each point from the calls `before` on, up to those that came since
 abbrev pub IsDueInOrderThroughout : Role → Key → List Call → List Call → Type 0
@@ -67,4 +67,4 @@ IsDiligentInOrder role calls = (kind : Kind) (first fourth : Entry) (earlier bet
 
 -- a life that is played is so, of each kind of actor that is built
 abbrev pub PlayedIsDiligentInOrder : Type 0
-PlayedIsDiligentInOrder = (role : Role) (s : State) (calls : List Call) → IsBuiltKind role.kind → IsPlayed role s calls → IsDiligentInOrder role calls
+PlayedIsDiligentInOrder = (role : Role) (s : ActorState) (calls : List Call) → IsBuiltKind role.kind → IsPlayed role s calls → IsDiligentInOrder role calls

@@ -7,7 +7,7 @@ ghost use Rattle.worker_core.specs.declared.role.Role.{Role};
 ghost use Rattle.worker_core.specs.declared.turn.Next.TheVariants as nexts;
 ghost use Rattle.worker_core.specs.Roles.{IsBuiltKind};
 ghost use Rattle.worker_core.specs.Stands.{AreOwn, StandsFor};
-ghost use Rattle.worker_core.specs.States.{State, asked};
+ghost use Rattle.worker_core.specs.States.{ActorState, asked};
 ghost use Rattle.attention_law.specs.Diligence.{Call, entries};
 ghost use Rattle.attention_law.specs.Played.{IsPlayed, Turns};
 
@@ -45,7 +45,7 @@ pub fn turn(actor: &mut Actor) -> Result<Next, OutOfMemory>
 /// The call was told.
 pub fn told(actor: &mut Actor, request: &Request, reply: Reply) -> Result<(), OutOfMemory>
     requires { asked actor.old ≡ Some request.now }
-    ensures { OnOk result ((role : Role) (s : State) (calls : List Call) (e : Entry) → IsPlayed role s calls → Turns s actor.old (nexts.Call request.now) (entries calls) → IsTold e request.now reply → e.kind ≡ actor.old.role.kind → AreOwn (e ∷ entries calls) → IsPlayed role actor.new (Some e ∷ calls)) }
+    ensures { OnOk result ((role : Role) (s : ActorState) (calls : List Call) (e : Entry) → IsPlayed role s calls → Turns s actor.old (nexts.Call request.now) (entries calls) → IsTold e request.now reply → e.kind ≡ actor.old.role.kind → AreOwn (e ∷ entries calls) → IsPlayed role actor.new (Some e ∷ calls)) }
 {
     actor.absorb(request, Outcome::Told(reply))
 }
@@ -53,15 +53,15 @@ pub fn told(actor: &mut Actor, request: &Request, reply: Reply) -> Result<(), Ou
 /// The call was lost.
 pub fn lost(actor: &mut Actor, request: &Request) -> Result<(), OutOfMemory>
     requires { asked actor.old ≡ Some request.now }
-    ensures before { OnOk result ((role : Role) (s : State) (calls : List Call) → IsPlayed role s calls → Turns s actor.old (nexts.Call request.now) (entries calls) → IsPlayed role actor.new (None ∷ calls)) }
-    ensures after { OnOk result ((role : Role) (s : State) (calls : List Call) (e : Entry) → IsPlayed role s calls → Turns s actor.old (nexts.Call request.now) (entries calls) → e.told ≡ false → e.request ≡ request.now → e.kind ≡ actor.old.role.kind → AreOwn (e ∷ entries calls) → IsPlayed role actor.new (Some e ∷ calls)) }
+    ensures before { OnOk result ((role : Role) (s : ActorState) (calls : List Call) → IsPlayed role s calls → Turns s actor.old (nexts.Call request.now) (entries calls) → IsPlayed role actor.new (None ∷ calls)) }
+    ensures after { OnOk result ((role : Role) (s : ActorState) (calls : List Call) (e : Entry) → IsPlayed role s calls → Turns s actor.old (nexts.Call request.now) (entries calls) → e.told ≡ false → e.request ≡ request.now → e.kind ≡ actor.old.role.kind → AreOwn (e ∷ entries calls) → IsPlayed role actor.new (Some e ∷ calls)) }
 {
     actor.absorb(request, Outcome::Lost)
 }
 
 /// The actor was idle, and is woken.
 pub fn wake(actor: &mut Actor) -> Result<(), OutOfMemory>
-    ensures { OnOk result ((role : Role) (s : State) (calls : List Call) → IsPlayed role s calls → Turns s actor.old nexts.Idle (entries calls) → IsPlayed role actor.new calls) }
+    ensures { OnOk result ((role : Role) (s : ActorState) (calls : List Call) → IsPlayed role s calls → Turns s actor.old nexts.Idle (entries calls) → IsPlayed role actor.new calls) }
 {
     actor.wake()
 }

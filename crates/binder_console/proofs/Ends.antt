@@ -1,9 +1,11 @@
 -- How the program ends.
-use Rattle.std.proofs.Common.{◌≡◌, ◌≤◌, ◌<◌, ◌∙◌, ℕ, List, String, Some, None, Ok, IfSome, length, refl, sym, ap, subst, true, false, true≢false, arith, inl, inr}
+use Rattle.std.proofs.Common.{◌≡◌, ◌≢◌, ◌≤◌, ◌<◌, ◌∙◌, ℕ, List, String, Some, None, Ok, Err, IfSome, length, refl, sym, ap, subst, true, false, true≢false, arith, inl, inr}
 use Rattle.std.specs.Prelude.{IsErr, is_err}
 use Rattle.std.specs.declared.result.Result.{Result}
 use Rattle.std.specs.declared.option.Option.{Option}
 use Rattle.std.specs.declared.alloc.Global.{Global}
+use Rattle.fault_io.specs.declared.ends.ReadError.{ReadError}
+use Rattle.fault_io.specs.declared.ends.ReadError.TheVariants as read_errors
 use Rattle.fault_io.specs.Faults.{Rose}
 use Rattle.fault_io.specs.Reading.{TakesFront}
 use Rattle.fault_io.specs.Writing.{Appends}
@@ -21,6 +23,14 @@ use Rattle.binder_console.specs.Ends.{Ends, EndsAnswered, EndsBy, EndsCut, EndsM
 use Rattle.binder_console.specs.Exactly.{AreExact, IsNoInput, IsToBeRefused}
 use Rattle.binder_console.specs.Inputs.{IsInput, IsInputOf, IsReadThrough, IsTooLong, IsTooMuchOf, ReadsNothing, most_input}
 use Rattle.binder_console.specs.Outcomes.{Answers, IsAnswer, IsDueText, OfInput, OfRefusal, OfTask, OfUsage, Refuses, TooLong, Written, Whole, Front, answer_status, answer_text, too_long_text, usage_text}
+
+-- ---- an input that was read, or is too long, is no failed read
+
+pub read_is_no_fault : {T : Type 0} (x : T) (result : Result T ReadError) → result ≡ Ok x → result ≢ Err read_errors.ReadFault
+read_is_no_fault x result is fault = let e : Ok x ≡ Err read_errors.ReadFault = sym is ∙ fault in absurd (cc)
+
+pub too_long_is_no_fault : {T : Type 0} (result : Result T ReadError) → result ≡ Err read_errors.TooLong → result ≢ Err read_errors.ReadFault
+too_long_is_no_fault result is fault = let e : Err read_errors.TooLong ≡ Err read_errors.ReadFault = sym is ∙ fault in absurd (cc)
 
 -- ---- a text that is due was written, or a front of it
 

@@ -11,7 +11,7 @@ use Rattle.history_read.specs.declared.errors.HistoryError.{HistoryError}
 use Rattle.history_read.specs.declared.errors.HistoryError.TheVariants.{BadLine, OutOfMemory}
 use Rattle.history_read.specs.Grammar.{history_of}
 use Rattle.history_read.specs.Refusals.{refusal_line}
-use Rattle.history_laws.specs.Given.{IsHistory}
+use Rattle.history_laws.specs.Given.{IsTextHistory}
 use Rattle.history_laws.specs.Texts.{IsTextOf}
 use Rattle.audit_check.specs.declared.verdict.Verdict.{Verdict}
 use Rattle.audit_check.specs.declared.verdict.Verdict.TheVariants.{Yes, No}
@@ -46,7 +46,7 @@ pub record Audits (status : Status) (input text : List ℕ) : Type 0 where
   pub verdict : Verdict
   pub read : history_of input ≡ Ok history
   -- the text has no other history
-  pub only : (setup : Setup) (entries : List Entry) → IsHistory setup entries → IsTextOf input setup entries → (setup ≡ history.setup) × (entries ≡ history.entries)
+  pub only : (setup : Setup) (entries : List Entry) → IsTextHistory setup entries → IsTextOf input setup entries → (setup ≡ history.setup) × (entries ≡ history.entries)
   pub judged : IsVerdict history.setup history.entries verdict
   pub safe : verdict ≡ Yes → Safe history.setup (reverse history.entries)
   pub printed : text ≡ verdict_text verdict (length history.entries)

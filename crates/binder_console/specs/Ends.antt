@@ -75,6 +75,8 @@ EndsBy Memory words before after = ⊤
 -- how the program ends with this status
 pub record Ends (status : Status) (words : List (String Global)) (before after : Outside) : Type 0 where
   pub by : EndsBy status words before after
+  -- with any status but ReadFault no read failed
+  pub unfailed : (status ≡ ReadFault → ⊥) → after.read_faults ≡ before.read_faults
   -- the counts of failed reads and writes never fall
   pub reads_later : before.read_faults ≤ after.read_faults
   pub writes_later : before.write_faults ≤ after.write_faults

@@ -1,6 +1,6 @@
 //! The input of a task.
 
-ghost use Rattle.std.specs.Prelude.{ℕ, List, ◌≡◌, ◌≤◌, OnOk, IfOk, IsErr, Some, Err};
+ghost use Rattle.std.specs.Prelude.{ℕ, List, ◌≡◌, ◌≢◌, ◌≤◌, OnOk, IfOk, IsErr, Some, Err};
 ghost use Rattle.fault_io.specs.Faults.{Rose};
 ghost use Rattle.fault_io.specs.Reading.{TakesFront};
 ghost use Rattle.binder_console.specs.Inputs.{IsInput, IsReadThrough, IsTooLong, IsTooMuch, ReadsNothing, most_input};
@@ -41,6 +41,8 @@ pub fn read_input<S: Source>(alloc: Global, task: Task, source: &mut S) -> Resul
     ensures reads { result ≡ Err ReadError.ReadFault → ReadsNothing task → ⊥ }
     ensures front { result ≡ Err ReadError.ReadFault → TakesFront (S.left source.old) (S.left source.new) }
 
+    // With any other answer no read failed.
+    ensures unfailed { result ≢ Err ReadError.ReadFault → S.faults source.new ≡ S.faults source.old }
     ensures later { S.faults source.old ≤ S.faults source.new }
     ensures unread { ReadsNothing task → source.new ≡ source.old }
 {

@@ -28,7 +28,7 @@ use Rattle.claim_sync.specs.ClaimDecision.{claim_decision}
 use Rattle.claim_sync.proofs.Assigned.{gets_class}
 use Rattle.claim_sync.specs.declared.action.ClaimStep.{ClaimStep}
 use Rattle.claim_sync.specs.declared.action.ClaimStep.TheVariants as steps
-use Rattle.volume_sync.specs.VolumeDecision.{claim_by_reference, claim_by_uid, or_else, seen_claim, has_uid, volume_decision}
+use Rattle.volume_sync.specs.VolumeDecision.{claim_by_reference, claim_by_uid, or_else, seen_claim, refers_by_uid, volume_decision}
 use Rattle.volume_sync.specs.declared.action.VolumeAction.{VolumeAction}
 use Rattle.volume_sync.specs.declared.action.VolumeAction.TheVariants as actions
 use Rattle.model_laws.proofs.Lists.{none_some}
@@ -60,7 +60,7 @@ pub record Known (v : VolumeData) : Type 0 where
   pub refers : v.claim_ref ≡ Some reference
   pub known : reference.uid ≡ Some uid
 
-pub known_of : (v : VolumeData) → has_uid v ≡ true → Known v
+pub known_of : (v : VolumeData) → refers_by_uid v ≡ true → Known v
 known_of v = by v.claim_ref refl
   where
     by_uid : (r : Ref) (u : Option Uid) → v.claim_ref ≡ Some r → r.uid ≡ u → is_some u ≡ true → Known v
@@ -97,7 +97,7 @@ module _ (rows : List Object) (mine : List Entry) (order : AreRows rows) (shows 
       told : ToldThis v mine
       told = newest_volume (λ u. u ≡ v) mine key v (newest_row key (Volume v) at) refl
 
-      lacking : is_ended v.phase ≡ false → has_uid v ≡ true → seen_claim rows v NotAsked ≡ None → Some (ReadsClaim v) ≡ Some machine → Keeps machine mine
+      lacking : is_ended v.phase ≡ false → refers_by_uid v ≡ true → seen_claim rows v NotAsked ≡ None → Some (ReadsClaim v) ≡ Some machine → Keeps machine mine
       lacking live has none s =
           let k = known_of v has in
           let lacking = lacks k.uid (row_at (claim_key k.reference.namespace k.reference.name) rows) (sym (seen_row rows v k) ∙ none) in
@@ -121,7 +121,7 @@ module _ (rows : List Object) (mine : List Entry) (order : AreRows rows) (shows 
             };
           })
 
-      seen : (c : ClaimData) → has_uid v ≡ true → seen_claim rows v NotAsked ≡ Some c → Seen v c mine
+      seen : (c : ClaimData) → refers_by_uid v ≡ true → seen_claim rows v NotAsked ≡ Some c → Seen v c mine
       seen c has is =
           let k = known_of v has in
           let place = claim_key k.reference.namespace k.reference.name in

@@ -28,10 +28,10 @@ use Rattle.binder_model.specs.BinderDue.{has_other_uid}
 use Rattle.binder_model.specs.BindWrites.{claim_write, next_write, shows_bound, write_bound, write_claim_status, write_completion, write_reference}
 use Rattle.binder_model.specs.Matching.{eligible, fits, may_serve}
 use Rattle.volume_match.specs.Volumes.{as_volume}
-use Rattle.claim_sync.specs.ClaimDecision.{IsChoice, claim_decision, completed_step, has_write, is_blocked, named_step, named_volume, unless_lost, unnamed_step}
+use Rattle.claim_sync.specs.ClaimDecision.{IsVolumeFor, claim_decision, completed_step, has_write, is_blocked, named_step, named_volume, unless_lost, unnamed_step}
 use Rattle.claim_sync.specs.declared.action.ClaimStep.{ClaimStep}
 use Rattle.claim_sync.specs.declared.action.ClaimStep.TheVariants as steps
-use Rattle.volume_sync.specs.VolumeDecision.{free_action, has_uid, referred_action, seen_claim, volume_decision}
+use Rattle.volume_sync.specs.VolumeDecision.{free_action, refers_by_uid, referred_action, seen_claim, volume_decision}
 use Rattle.volume_sync.specs.declared.action.VolumeAction.{VolumeAction}
 use Rattle.volume_sync.specs.declared.action.VolumeAction.TheVariants as actions
 use Rattle.model_laws.proofs.Lists.{none_some, one}
@@ -69,15 +69,15 @@ phase_calls v phase placed = ap (λ (n : List ℕ). is_some (if is_empty n then 
 
 -- volumes
 
-known_to_read : (rows : List Object) (v : VolumeData) → volume_decision rows v NotAsked ≡ actions.ReadClaim → has_uid v ≡ true
+known_to_read : (rows : List Object) (v : VolumeData) → volume_decision rows v NotAsked ≡ actions.ReadClaim → refers_by_uid v ≡ true
 unfolding volume_decision
-known_to_read rows v e = by (has_uid v) e
+known_to_read rows v e = by (refers_by_uid v) e
   where
     by : (b : Bool) → (if not b then free_action v else if is_ended v.phase then actions.Nothing else referred_action v false (seen_claim rows v NotAsked)) ≡ actions.ReadClaim → b ≡ true
     by true e = refl
     by false e = absurd (free_reads_none (is_available v.phase) e)
 
-read_calls : (v : VolumeData) → v.meta.namespace ≡ [] → is_some v.meta.uid ≡ true → has_uid v ≡ true → is_some (call_of (ReadsClaim v)) ≡ true
+read_calls : (v : VolumeData) → v.meta.namespace ≡ [] → is_some v.meta.uid ≡ true → refers_by_uid v ≡ true → is_some (call_of (ReadsClaim v)) ≡ true
 unfolding call_of
 read_calls v placed known has =
     let k = known_of v has in
@@ -229,13 +229,13 @@ record Chosen (v : VolumeData) (c : ClaimData) : Type 0 where
   named : (is_empty c.volume_name || bytes_eq c.volume_name v.meta.name) ≡ true
   bindable : Bindable v c
 
-chosen : (rows : List Object) (c : ClaimData) (place : ℕ) (v : VolumeData) → IsChoice (is_empty c.volume_name) rows c (Some place) → slice_get (rows_of kinds.PersistentVolume rows) place ≡ Some (Volume v) → claim_decision rows c NotAsked ≡ steps.Bind → Chosen v c
+chosen : (rows : List Object) (c : ClaimData) (place : ℕ) (v : VolumeData) → IsVolumeFor (is_empty c.volume_name) rows c (Some place) → slice_get (rows_of kinds.PersistentVolume rows) place ≡ Some (Volume v) → claim_decision rows c NotAsked ≡ steps.Bind → Chosen v c
 chosen rows c place v choice there decided = by (is_empty c.volume_name) refl choice
   where
     same_volume : (a b : VolumeData) → Some (Volume a) ≡ Some (Volume b) → a ≡ b
     same_volume a b e = one a b (ap as_volume e)
 
-    by : (none : Bool) → is_empty c.volume_name ≡ none → IsChoice none rows c (Some place) → Chosen v c
+    by : (none : Bool) → is_empty c.volume_name ≡ none → IsVolumeFor none rows c (Some place) → Chosen v c
     by true n best =
         let same = same_volume best.volume v (sym best.candidate.there ∙ there) in
         record { named = left_true _ _ n; bindable = best_bindable v c (best_open rows c n decided) (subst (λ u. eligible u c None ≡ true) same best.candidate.eligible) }

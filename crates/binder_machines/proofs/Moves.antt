@@ -24,13 +24,13 @@ use Rattle.volume_match.specs.Volumes.{as_volume}
 use Rattle.claim_sync.specs.ClaimDecision.{read_step, unless_lost}
 use Rattle.claim_sync.specs.declared.action.ClaimStep.{ClaimStep}
 use Rattle.claim_sync.specs.declared.action.ClaimStep.TheVariants as steps
-use Rattle.volume_sync.specs.VolumeDecision.{claimed_action, free_action, has_uid, referred_action}
+use Rattle.volume_sync.specs.VolumeDecision.{claimed_action, free_action, refers_by_uid, referred_action}
 use Rattle.volume_sync.specs.declared.action.VolumeAction.TheVariants as actions
 use Rattle.model_laws.proofs.Evidence.{told_claim, told_volume}
 use Rattle.model_laws.proofs.Lists.{none_some, one}
 use Rattle.binder_machines.specs.declared.machine.Machine.{Machine}
 use Rattle.binder_machines.specs.declared.machine.Machine.TheVariants.{Frees, Binds, MarksBound, ReadsClaim, Releases, Unbinds, ReadsVolume, Loses}
-use Rattle.binder_machines.specs.Machines.{call_of, claim_in, claim_read, confirmed_for, machine_for, moved, read_of, unbound_to, volume_read}
+use Rattle.binder_machines.specs.Machines.{call_of, claim_of_uid, claim_read, confirmed_for, machine_for, moved, read_of, unbound_to, volume_read}
 use Rattle.binder_machines.specs.Evidence.{Keeps, MayReadClaim, MayReadVolume, ToldThis, ToldThisClaim}
 use Rattle.safety_invariant.proofs.Tests.{same_text, uid_is}
 use Rattle.binder_machines.proofs.Tests.{bytes_differ, empty_is, filled_is, uid_differs, uid_of}
@@ -104,7 +104,7 @@ no_uid None e = refl
 no_uid (Some u) e = absurd (true≢false e)
 
 -- what is begun about a volume without the UID of a claim
-free_keeps : (v : VolumeData) (mine : List Entry) (next : Machine) → ToldThis v mine → has_uid v ≡ false → machine_for v (free_action v) ≡ Some next → Keeps next mine
+free_keeps : (v : VolumeData) (mine : List Entry) (next : Machine) → ToldThis v mine → refers_by_uid v ≡ false → machine_for v (free_action v) ≡ Some next → Keeps next mine
 free_keeps v mine next told none = by (is_available v.phase)
   where
     by : (b : Bool) → machine_for v (if b then actions.Nothing else actions.Available) ≡ Some next → Keeps next mine
@@ -113,12 +113,12 @@ free_keeps v mine next told none = by (is_available v.phase)
 
 -- what is begun about a volume, where this claim of its reference is seen
 pub decided_keeps : (v : VolumeData) (asked : Bool) (claim : Option ClaimData) (mine : List Entry) (next : Machine) → ToldThis v mine
-    → (is_ended v.phase ≡ false → has_uid v ≡ true → claim ≡ None → machine_for v (referred_action v asked None) ≡ Some next → Keeps next mine)
-    → ((c : ClaimData) → has_uid v ≡ true → claim ≡ Some c → Seen v c mine)
-    → machine_for v (if not (has_uid v) then free_action v else if is_ended v.phase then actions.Nothing else referred_action v asked claim) ≡ Some next → Keeps next mine
-decided_keeps v asked claim mine next told lacking seen = by (has_uid v) (is_ended v.phase) claim refl refl refl
+    → (is_ended v.phase ≡ false → refers_by_uid v ≡ true → claim ≡ None → machine_for v (referred_action v asked None) ≡ Some next → Keeps next mine)
+    → ((c : ClaimData) → refers_by_uid v ≡ true → claim ≡ Some c → Seen v c mine)
+    → machine_for v (if not (refers_by_uid v) then free_action v else if is_ended v.phase then actions.Nothing else referred_action v asked claim) ≡ Some next → Keeps next mine
+decided_keeps v asked claim mine next told lacking seen = by (refers_by_uid v) (is_ended v.phase) claim refl refl refl
   where
-    by : (known ended : Bool) (x : Option ClaimData) → has_uid v ≡ known → is_ended v.phase ≡ ended → claim ≡ x
+    by : (known ended : Bool) (x : Option ClaimData) → refers_by_uid v ≡ known → is_ended v.phase ≡ ended → claim ≡ x
         → machine_for v (if not known then free_action v else if ended then actions.Nothing else referred_action v asked x) ≡ Some next → Keeps next mine
     by false ended x k d c e = free_keeps v mine next told k e
     by true true x k d c e = none_some e
@@ -181,12 +181,12 @@ record ReadAs (e : Entry) (o : Option Object) : Type 1 where
 claim_goes_on : (v : VolumeData) (o : Option Object) (mine : List Entry) (e : Entry) (next : Machine) → MayReadClaim v mine → e.told ≡ true → call_of (ReadsClaim v) ≡ Some e.request
     → ReadAs e o → machine_for v (volume_read v o) ≡ Some next → Keeps next (e ∷ mine)
 unfolding volume_read
-claim_goes_on v o mine e next kept told call read = decided_keeps v true (claim_in (ref_uid v.claim_ref) o) (e ∷ mine) next (inr kept.volume) lacking seen
+claim_goes_on v o mine e next kept told call read = decided_keeps v true (claim_of_uid (ref_uid v.claim_ref) o) (e ∷ mine) next (inr kept.volume) lacking seen
   where
-    uid_is_its : claim_in (ref_uid v.claim_ref) o ≡ claim_with kept.uid o
-    uid_is_its = ap (λ u. claim_in u o) (uid_of v kept.reference kept.uid kept.refers kept.known)
+    uid_is_its : claim_of_uid (ref_uid v.claim_ref) o ≡ claim_with kept.uid o
+    uid_is_its = ap (λ u. claim_of_uid u o) (uid_of v kept.reference kept.uid kept.refers kept.known)
 
-    lacking : is_ended v.phase ≡ false → has_uid v ≡ true → claim_in (ref_uid v.claim_ref) o ≡ None → Some (Releases v) ≡ Some next → Keeps next (e ∷ mine)
+    lacking : is_ended v.phase ≡ false → refers_by_uid v ≡ true → claim_of_uid (ref_uid v.claim_ref) o ≡ None → Some (Releases v) ≡ Some next → Keeps next (e ∷ mine)
     lacking live known none s =
         let c = claim_was_asked v kept.reference e.request kept.refers call in
         let same : IsSameObject v.meta v.meta = record { uid = c.uid; first = c.has; second = c.has } in
@@ -196,7 +196,7 @@ claim_goes_on v o mine e next kept told call read = decided_keeps v true (claim_
         becomes (Releases v) next (e ∷ mine) s
         (inr kept.volume, record { live = kept.live; reference = kept.reference; uid = kept.uid; refers = kept.refers; known = kept.known; why = inl was })
 
-    seen : (c : ClaimData) → has_uid v ≡ true → claim_in (ref_uid v.claim_ref) o ≡ Some c → Seen v c (e ∷ mine)
+    seen : (c : ClaimData) → refers_by_uid v ≡ true → claim_of_uid (ref_uid v.claim_ref) o ≡ Some c → Seen v c (e ∷ mine)
     seen c known is =
         let f = found kept.uid c o (sym uid_is_its ∙ is) in
         record {
@@ -271,9 +271,9 @@ volume_goes_on c o mine e next kept told call read = by (claim_read c o) refl
 -- what is left after unbinding
 
 unbound_keeps : (v : VolumeData) (mine : List Entry) (next : Machine) → ToldThis v mine → unbound_to v ≡ Some next → Keeps next mine
-unbound_keeps v mine next told = by (has_uid v) refl
+unbound_keeps v mine next told = by (refers_by_uid v) refl
   where
-    by : (b : Bool) → has_uid v ≡ b → (if b then None else machine_for v (free_action v)) ≡ Some next → Keeps next mine
+    by : (b : Bool) → refers_by_uid v ≡ b → (if b then None else machine_for v (free_action v)) ≡ Some next → Keeps next mine
     by true k e = none_some e
     by false k e = free_keeps v mine next told k e
 

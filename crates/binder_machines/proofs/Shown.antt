@@ -18,9 +18,9 @@ use Rattle.volume_match.specs.Volumes.{as_volume}
 use Rattle.claim_sync.specs.ClaimDecision.{claim_decision, completed_step, has_write, is_blocked, is_open_to, may_assign, named_step, named_volume, other_step, read_step, unless_lost}
 use Rattle.claim_sync.specs.declared.action.ClaimStep.{ClaimStep}
 use Rattle.claim_sync.specs.declared.action.ClaimStep.TheVariants as steps
-use Rattle.volume_sync.specs.VolumeDecision.{claim_by_reference, claim_by_uid, free_action, has_uid, live_claim, or_else, referred_action, seen_claim, volume_decision}
+use Rattle.volume_sync.specs.VolumeDecision.{claim_by_reference, claim_by_uid, free_action, refers_by_uid, live_claim, or_else, referred_action, seen_claim, volume_decision}
 use Rattle.volume_sync.specs.declared.action.VolumeAction.TheVariants as actions
-use Rattle.binder_machines.specs.Machines.{claim_in, claim_read, volume_read}
+use Rattle.binder_machines.specs.Machines.{claim_of_uid, claim_read, volume_read}
 
 -- what was read
 abbrev pub shown : Live → Option Object
@@ -30,7 +30,7 @@ shown (Present o) = Some o.now
 
 -- volumes
 
-live_shown : (uid : Uid) (live : Live) → is_asked live ≡ true → live_claim uid live ≡ claim_in (Some uid) (shown live)
+live_shown : (uid : Uid) (live : Live) → is_asked live ≡ true → live_claim uid live ≡ claim_of_uid (Some uid) (shown live)
 unfolding claim_with
 live_shown uid NotAsked asked = absurd (true≢false (sym asked))
 live_shown uid Absent asked = refl
@@ -41,22 +41,22 @@ else_other None other e = refl
 else_other (Some c) other e = cc
 
 -- the claim that is seen, where the look-up shows none
-seen_live : (rows : List Object) (v : VolumeData) (live : Live) → is_asked live ≡ true → seen_claim rows v NotAsked ≡ None → seen_claim rows v live ≡ claim_in (ref_uid v.claim_ref) (shown live)
+seen_live : (rows : List Object) (v : VolumeData) (live : Live) → is_asked live ≡ true → seen_claim rows v NotAsked ≡ None → seen_claim rows v live ≡ claim_of_uid (ref_uid v.claim_ref) (shown live)
 seen_live rows v live asked none = by v.claim_ref none
   where
-    by_uid : (r : Ref) (uid : Option Uid) → claim_by_uid rows r uid NotAsked ≡ None → claim_by_uid rows r uid live ≡ claim_in uid (shown live)
+    by_uid : (r : Ref) (uid : Option Uid) → claim_by_uid rows r uid NotAsked ≡ None → claim_by_uid rows r uid live ≡ claim_of_uid uid (shown live)
     by_uid r None e = refl
     by_uid r (Some uid) e = else_other (claim_with uid (row_at (claim_key r.namespace r.name) rows)) (live_claim uid live) e ∙ live_shown uid live asked
 
-    by : (r : Option Ref) → claim_by_reference rows r NotAsked ≡ None → claim_by_reference rows r live ≡ claim_in (ref_uid r) (shown live)
+    by : (r : Option Ref) → claim_by_reference rows r NotAsked ≡ None → claim_by_reference rows r live ≡ claim_of_uid (ref_uid r) (shown live)
     by None e = refl
     by (Some r) e = by_uid r r.uid e
 
 pub volume_reads : (rows : List Object) (v : VolumeData) (live : Live) → is_asked live ≡ true → seen_claim rows v NotAsked ≡ None → volume_decision rows v live ≡ volume_read v (shown live)
 unfolding volume_decision volume_read
 volume_reads rows v live asked none =
-    ap (λ (b : Bool). if not (has_uid v) then free_action v else if is_ended v.phase then actions.Nothing else referred_action v b (seen_claim rows v live)) asked
-    ∙ ap (λ (c : Option ClaimData). if not (has_uid v) then free_action v else if is_ended v.phase then actions.Nothing else referred_action v true c) (seen_live rows v live asked none)
+    ap (λ (b : Bool). if not (refers_by_uid v) then free_action v else if is_ended v.phase then actions.Nothing else referred_action v b (seen_claim rows v live)) asked
+    ∙ ap (λ (c : Option ClaimData). if not (refers_by_uid v) then free_action v else if is_ended v.phase then actions.Nothing else referred_action v true c) (seen_live rows v live asked none)
 
 unseen_nowhere : (v : VolumeData) → seen_claim [] v NotAsked ≡ None
 unfolding claim_with
@@ -88,7 +88,7 @@ claimed_reads_none false false settled false e = cc
 -- the claim is to be read where the look-up shows none
 pub unseen : (rows : List Object) (v : VolumeData) → volume_decision rows v NotAsked ≡ actions.ReadClaim → seen_claim rows v NotAsked ≡ None
 unfolding volume_decision
-unseen rows v e = by (has_uid v) (is_ended v.phase) (seen_claim rows v NotAsked) e
+unseen rows v e = by (refers_by_uid v) (is_ended v.phase) (seen_claim rows v NotAsked) e
   where
     by : (known ended : Bool) (claim : Option ClaimData) → (if not known then free_action v else if ended then actions.Nothing else referred_action v false claim) ≡ actions.ReadClaim → claim ≡ None
     by known ended None e = refl

@@ -13,7 +13,7 @@ use Rattle.kube_types.specs.Keys.{rows_of}
 use Rattle.kube_types.specs.Defaults.{IsDefaultOf, StandsIn}
 use Rattle.kube_types.specs.Bindings.{is_empty}
 use Rattle.binder_model.specs.ObjectKeys.{claim_key}
-use Rattle.claim_sync.specs.ClaimDecision.{IsChoice, claim_decision}
+use Rattle.claim_sync.specs.ClaimDecision.{IsVolumeFor, claim_decision}
 use Rattle.claim_sync.specs.declared.action.ClaimStep.{ClaimStep}
 use Rattle.claim_sync.specs.declared.action.ClaimStep.TheVariants as steps
 use Rattle.volume_sync.specs.VolumeDecision.{volume_decision}
@@ -56,7 +56,7 @@ claim_first c _ = Drops
 -- the volume to which the claim is to be bound: the best match where the claim names none, else the one that it names
 pub record IsBindingTo (rows : List Object) (c : ClaimData) (first : First) : Type 0 where
   pub place : ℕ
-  pub choice : IsChoice (is_empty c.volume_name) rows c (Some place)
+  pub choice : IsVolumeFor (is_empty c.volume_name) rows c (Some place)
   pub volume : VolumeData
   pub there : slice_get (rows_of kinds.PersistentVolume rows) place ≡ Some (Volume volume)
   pub begins : first ≡ Begins (Binds volume c)

@@ -26,7 +26,7 @@ use Rattle.volume_match.specs.Volumes.{as_volume}
 use Rattle.claim_sync.specs.ClaimDecision.{read_step, unless_lost}
 use Rattle.claim_sync.specs.declared.action.ClaimStep.{ClaimStep}
 use Rattle.claim_sync.specs.declared.action.ClaimStep.TheVariants as steps
-use Rattle.volume_sync.specs.VolumeDecision.{free_action, has_uid, referred_action}
+use Rattle.volume_sync.specs.VolumeDecision.{free_action, refers_by_uid, referred_action}
 use Rattle.volume_sync.specs.declared.action.VolumeAction.{VolumeAction}
 use Rattle.volume_sync.specs.declared.action.VolumeAction.TheVariants as actions
 use Rattle.binder_machines.specs.declared.machine.Machine.{Machine}
@@ -112,16 +112,16 @@ confirmed_for c _ = None
 
 -- the decisions after a read
 
-abbrev pub claim_in : Option Uid → Option Object → Option ClaimData
-claim_in None o = None
-claim_in (Some uid) o = claim_with uid o
+abbrev pub claim_of_uid : Option Uid → Option Object → Option ClaimData
+claim_of_uid None o = None
+claim_of_uid (Some uid) o = claim_with uid o
 
 -- the decision on a volume, where the claim of its reference was read by itself and this was found
 unfoldable pub volume_read : VolumeData → Option Object → VolumeAction
 volume_read v o =
-    if not (has_uid v) then free_action v
+    if not (refers_by_uid v) then free_action v
     else if is_ended v.phase then actions.Nothing
-    else referred_action v true (claim_in (ref_uid v.claim_ref) o)
+    else referred_action v true (claim_of_uid (ref_uid v.claim_ref) o)
 
 -- the decision on a claim, where the volume that it names was read by itself and this was found
 unfoldable pub claim_read : ClaimData → Option Object → ClaimStep
@@ -134,7 +134,7 @@ claim_read c o =
 -- After unbinding phase Available is written where the phase is another. The volume that was answered is the one that was written, so it
 -- has no UID in its reference: the test fails in no history
 abbrev pub unbound_to : VolumeData → Option Machine
-unbound_to v = if has_uid v then None else machine_for v (free_action v)
+unbound_to v = if refers_by_uid v then None else machine_for v (free_action v)
 
 -- A claim that was read and names no volume is not queued: the caches lack it, so that its key has nothing to be decided on yet. The event
 -- that tells the claim queues it

@@ -4,7 +4,7 @@ ghost use Rattle.std.specs.Prelude.{◌≡◌, []};
 ghost use Rattle.std.specs.Option.{option_copied};
 ghost use Rattle.kube_types.specs.Bindings.{is_available};
 ghost use Rattle.claim_sync.specs.ClaimDecision.{step_of};
-ghost use Rattle.volume_sync.specs.VolumeDecision.{has_uid};
+ghost use Rattle.volume_sync.specs.VolumeDecision.{refers_by_uid};
 ghost use Rattle.binder_machines.specs.Machines.{claim_read, volume_read};
 
 use claim_sync::{ClaimAction, decide_claim};
@@ -59,7 +59,7 @@ pub(crate) fn claim_read(claim: &Claim, object: Option<&Object>) -> ClaimAction
 
 /// Whether the volume's reference has a UID.
 pub(crate) fn has_uid(volume: &Volume) -> bool
-    ensures { result ≡ has_uid volume.now }
+    ensures { result ≡ refers_by_uid volume.now }
 {
     match &volume.claim_ref {
         None => false,

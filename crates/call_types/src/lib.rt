@@ -5,6 +5,7 @@
 //! request gets. That is `binder_model`'s to define and the store's and the devices' to give.
 #![tactic(auto)]
 
+pub mod ask;
 pub mod edit;
 pub mod entry;
 pub mod reply;

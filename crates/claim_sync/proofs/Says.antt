@@ -18,7 +18,7 @@ use Rattle.case_table.specs.Cases.{action_of}
 use Rattle.claim_sync.specs.declared.action.ClaimStep.{ClaimStep}
 use Rattle.claim_sync.specs.declared.action.ClaimStep.TheVariants as steps
 use Rattle.claim_sync.specs.ClaimTable.{claim_rows, step_number, step_numbered}
-use Rattle.claim_sync.specs.ClaimDecision.{IsChoice, IsVolumeAt, claim_decision, completed_step, has_write, is_blocked, is_open_to, may_assign, named_step, named_volume, read_step, unless_lost}
+use Rattle.claim_sync.specs.ClaimDecision.{IsVolumeFor, IsVolumeAt, claim_decision, completed_step, has_write, is_blocked, is_open_to, may_assign, named_step, named_volume, read_step, unless_lost}
 use Rattle.claim_sync.specs.Steps.Conditions.{claim_conditions, conditions_on, has_best, lacks_claim, live_volume, on_volume, reads_live}
 use Rattle.claim_sync.proofs.Matches.{best_matches}
 use Rattle.claim_sync.proofs.Rows.{chosen, rows_say}
@@ -117,10 +117,10 @@ read_off rows c live table conditions number answer rows_are conditions_are pick
     ∙ numbered_back (claim_decision rows c live)))))
 
 -- a choice is there where a match exists
-pub choice_matches : (rows : List Object) (c : ClaimData) (answer : Option ℕ) → IsChoice (is_empty c.volume_name) rows c answer → (is_empty c.volume_name && is_some answer) ≡ has_best rows c
+pub choice_matches : (rows : List Object) (c : ClaimData) (answer : Option ℕ) → IsVolumeFor (is_empty c.volume_name) rows c answer → (is_empty c.volume_name && is_some answer) ≡ has_best rows c
 choice_matches rows c answer choice = by_name (is_empty c.volume_name) choice
   where
-    by_name : (empty : Bool) → IsChoice empty rows c answer → (empty && is_some answer) ≡ (empty && has_match rows c)
+    by_name : (empty : Bool) → IsVolumeFor empty rows c answer → (empty && is_some answer) ≡ (empty && has_match rows c)
     by_name true choice = best_matches rows c answer choice
     by_name false choice = refl
 
@@ -173,19 +173,19 @@ seen rows c live row e = by (as_volume row) refl e
     by (Some v) is e = (v, volume_seen row v is)
 
 -- a volume stands at the place of what is to be bound
-pub bound_there : (rows : List Object) (c : ClaimData) (live : Live) (place : ℕ) → IsChoice (is_empty c.volume_name) rows c (Some place) → claim_decision rows c live ≡ steps.Bind → IsVolumeAt rows place
+pub bound_there : (rows : List Object) (c : ClaimData) (live : Live) (place : ℕ) → IsVolumeFor (is_empty c.volume_name) rows c (Some place) → claim_decision rows c live ≡ steps.Bind → IsVolumeAt rows place
 unfolding claim_decision
 bound_there rows c live place choice e = by (is_empty c.volume_name) choice e
   where
-    by : (empty : Bool) → IsChoice empty rows c (Some place) → decided_for rows c live empty (named_volume rows c) ≡ steps.Bind → IsVolumeAt rows place
+    by : (empty : Bool) → IsVolumeFor empty rows c (Some place) → decided_for rows c live empty (named_volume rows c) ≡ steps.Bind → IsVolumeAt rows place
     by true choice e = record { volume = choice.volume; there = choice.candidate.there }
     by false choice e = let s = seen rows c live (row_at (volume_key c.volume_name) rows) e in record { volume = s.0; there = choice ∙ s.1 }
 
 -- without a choice nothing is bound
-pub no_choice : (rows : List Object) (c : ClaimData) (live : Live) → IsChoice (is_empty c.volume_name) rows c None → claim_decision rows c live ≡ steps.Bind → ⊥
+pub no_choice : (rows : List Object) (c : ClaimData) (live : Live) → IsVolumeFor (is_empty c.volume_name) rows c None → claim_decision rows c live ≡ steps.Bind → ⊥
 unfolding claim_decision
 no_choice rows c live choice e = by (is_empty c.volume_name) choice e
   where
-    by : (empty : Bool) → IsChoice empty rows c None → decided_for rows c live empty (named_volume rows c) ≡ steps.Bind → ⊥
+    by : (empty : Bool) → IsVolumeFor empty rows c None → decided_for rows c live empty (named_volume rows c) ≡ steps.Bind → ⊥
     by true choice e = let match = matched_binds c (is_completed c) (is_deleting c.meta) (has_match rows c) (may_assign rows c) live (named_volume rows c) e in let none = best_matches rows c None choice in cc
     by false choice e = unseen_binds_none c (is_completed c) (is_deleting c.meta) (has_match rows c) (may_assign rows c) live (ap (λ (o : Option Object). decided_for rows c live false (as_volume o)) (sym choice) ∙ e)

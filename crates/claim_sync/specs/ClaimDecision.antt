@@ -107,14 +107,14 @@ step_of (actions.AssignClass place) = AssignClass
 step_of actions.Lost = Lost
 
 -- the best match where the claim names no volume, else the volume that it names
-abbrev pub IsChoice : Bool → List Object → ClaimData → Option ℕ → Type 0
-IsChoice true rows c answer = IsBest rows c None (waits_for_pod rows c) [] answer
-IsChoice false rows c None = row_at (volume_key c.volume_name) rows ≡ None
-IsChoice false rows c (Some place) = slice_get (rows_of kinds.PersistentVolume rows) place ≡ row_at (volume_key c.volume_name) rows
+abbrev pub IsVolumeFor : Bool → List Object → ClaimData → Option ℕ → Type 0
+IsVolumeFor true rows c answer = IsBest rows c None (waits_for_pod rows c) [] answer
+IsVolumeFor false rows c None = row_at (volume_key c.volume_name) rows ≡ None
+IsVolumeFor false rows c (Some place) = slice_get (rows_of kinds.PersistentVolume rows) place ≡ row_at (volume_key c.volume_name) rows
 
 -- the place is that of the volume to be bound
 abbrev pub BindsTo : List Object → ClaimData → ClaimAction → Type 0
-BindsTo rows c (actions.Bind place) = IsChoice (is_empty c.volume_name) rows c (Some place)
+BindsTo rows c (actions.Bind place) = IsVolumeFor (is_empty c.volume_name) rows c (Some place)
 BindsTo rows c _ = ⊤
 
 -- a volume stands at this place among the volumes

@@ -3,7 +3,7 @@
 ghost use Rattle.std.specs.Prelude.{◌≡◌, IfSome, is_some};
 ghost use Rattle.kube_types.specs.Bindings.{is_empty};
 ghost use Rattle.kube_types.specs.Defaults.{IsDefaultAt};
-ghost use Rattle.claim_sync.specs.ClaimDecision.{IsChoice, may_assign};
+ghost use Rattle.claim_sync.specs.ClaimDecision.{IsVolumeFor, may_assign};
 
 use kube_types::bindings::{is_empty, lacks_class};
 use kube_types::defaults::default_class;
@@ -14,7 +14,7 @@ use volume_match::{best, place_named, waits_for_pod};
 
 /// The place of the best match where the claim names no volume, else of the volume that it names.
 pub(crate) fn bind_place<L: Lookup>(lookup: &L, claim: &Claim) -> Option<usize>
-    ensures { IsChoice (is_empty claim.now.volume_name) (L.rows lookup.now) claim.now result }
+    ensures { IsVolumeFor (is_empty claim.now.volume_name) (L.rows lookup.now) claim.now result }
 {
     if is_empty(&claim.volume_name) {
         best(lookup, claim, None, waits_for_pod(lookup, claim), &[])

@@ -1,6 +1,6 @@
 //! One run of the program.
 
-use crate::ends;
+use crate::{ends, tables};
 use binder_console::console::pvbind;
 use fault_io::gate::NoGate;
 use fault_io::memory::{MemorySink, MemorySource};
@@ -51,7 +51,8 @@ fn case_of(line: &str) -> Case<'_> {
     }
 }
 
-fn words_of(alloc: Global, words: &str) -> Result<Vec<String>, OutOfMemory> {
+/// The words, which commas join.
+pub fn words_of(alloc: Global, words: &str) -> Result<Vec<String>, OutOfMemory> {
     let mut found = Vec::new(alloc);
     if words != "-" {
         for word in words.split(',') {
@@ -69,7 +70,8 @@ fn plain(byte: u8) -> u8 {
     }
 }
 
-fn input(alloc: Global, case: Case<'_>) -> Result<Vec<u8>, OutOfMemory> {
+/// The bytes of the input.
+pub fn input(alloc: Global, case: Case<'_>) -> Result<Vec<u8>, OutOfMemory> {
     let mut bytes = Vec::new(alloc);
     for _ in 0..case.times {
         for byte in case.text.as_bytes() {
@@ -85,7 +87,8 @@ pub fn source(alloc: Global, case: Case<'_>) -> Result<MemorySource, OutOfMemory
     MemorySource::new(alloc, &bytes, PIECE, &[case.fails])
 }
 
-fn shown(alloc: Global, written: &[u8]) -> Result<String, OutOfMemory> {
+/// The bytes as one line.
+pub fn shown(alloc: Global, written: &[u8]) -> Result<String, OutOfMemory> {
     let mut bytes = Vec::new(alloc);
     for byte in written {
         bytes.push(if *byte == b'\n' { b'|' } else { *byte })?;
@@ -158,11 +161,19 @@ pub fn answer<R: Threads + Wait + Sync>(
     line: &str,
 ) -> Result<String, OutOfMemory> {
     let case = case_of(line);
+    if let Some((table, asked)) = case.words.split_once('=') {
+        return match table {
+            "@cuts" => tables::cuts(rt, alloc, case, asked),
+            "@sinks" => tables::sinks(rt, alloc, case, asked),
+            "@reads" => tables::reads(rt, alloc, case, asked),
+            _ => run(rt, alloc, case),
+        };
+    }
     match case.words {
         "@read" => ends::read(alloc, case),
         "@write" => ends::write(alloc, case),
-        "@broken-source" => ends::broken_source(alloc),
-        "@broken-sink" => ends::broken_sink(alloc),
+        "@broken-source" => ends::broken_source(alloc, case.fails),
+        "@broken-sink" => ends::broken_sink(alloc, case.fails),
         _ => run(rt, alloc, case),
     }
 }

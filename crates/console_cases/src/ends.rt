@@ -37,16 +37,39 @@ pub fn write(alloc: Global, case: Case<'_>) -> Result<String, OutOfMemory> {
     Ok(format!(in alloc; "whole {whole} faults {faults} room {room} written {written}")?)
 }
 
-/// Gives and takes one byte at the first call, and fails from then on.
+/// Is interrupted at the first calls, gives and takes one byte at the next, and fails from then on.
 #[derive(Drop)]
 struct Broken {
+    interrupts: u64,
     calls: u64,
+}
+
+impl Broken {
+    fn new(interrupts: u64) -> Broken {
+        Broken {
+            interrupts,
+            calls: 0,
+        }
+    }
+
+    /// Counts the call, and says how it ends where it is interrupted.
+    fn begin(&mut self) -> std::io::Result<()> {
+        self.calls = self.calls.saturating_add(1);
+        if self.calls <= self.interrupts {
+            return Err(Error::from(ErrorKind::Interrupted));
+        }
+        Ok(())
+    }
+
+    fn is_spent(&self) -> bool {
+        self.calls > self.interrupts.saturating_add(1)
+    }
 }
 
 impl Read for Broken {
     fn read(&mut self, buf: &mut [u8]) -> std::io::Result<usize> {
-        self.calls = self.calls.saturating_add(1);
-        if self.calls > 1 || buf.is_empty() {
+        self.begin()?;
+        if self.is_spent() || buf.is_empty() {
             return Err(Error::from(ErrorKind::BrokenPipe));
         }
         buf[0] = 7;
@@ -56,8 +79,8 @@ impl Read for Broken {
 
 impl Write for Broken {
     fn write(&mut self, buf: &[u8]) -> std::io::Result<usize> {
-        self.calls = self.calls.saturating_add(1);
-        if self.calls > 1 || buf.is_empty() {
+        self.begin()?;
+        if self.is_spent() || buf.is_empty() {
             return Ok(0);
         }
         Ok(1)
@@ -68,9 +91,9 @@ impl Write for Broken {
     }
 }
 
-/// Two reads of a source whose second one breaks.
-pub fn broken_source(alloc: Global) -> Result<String, OutOfMemory> {
-    let mut source = StdSource::new(Broken { calls: 0 });
+/// Two reads of a source whose second one breaks, and whose first one is interrupted so often.
+pub fn broken_source(alloc: Global, interrupts: u64) -> Result<String, OutOfMemory> {
+    let mut source = StdSource::new(Broken::new(interrupts));
     let mut buf = [0u8; 4];
     let first = source.read(&mut buf).unwrap_or(0);
     let fails = source.read(&mut buf).is_err();
@@ -78,9 +101,9 @@ pub fn broken_source(alloc: Global) -> Result<String, OutOfMemory> {
     Ok(format!(in alloc; "{first} {fails} faults {faults}")?)
 }
 
-/// Two writes into a sink whose second one breaks.
-pub fn broken_sink(alloc: Global) -> Result<String, OutOfMemory> {
-    let mut sink = StdSink::new(Broken { calls: 0 });
+/// Two writes into a sink whose second one breaks, and whose first one is interrupted so often.
+pub fn broken_sink(alloc: Global, interrupts: u64) -> Result<String, OutOfMemory> {
+    let mut sink = StdSink::new(Broken::new(interrupts));
     let first = sink.write(b"abcd").unwrap_or(0);
     let fails = sink.write(b"abcd").is_err();
     let faults = sink.faults();

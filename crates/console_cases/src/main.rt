@@ -5,11 +5,15 @@
 //! number and `@` stand before the words, the entries from the first of this seat or of a later one on are
 //! left out, up to the objects.
 //! In place of the words stand `@read` and `@write` for a source and a sink by themselves, and
-//! `@broken-source` and `@broken-sink` for those over streams of std that break.
+//! `@broken-source` and `@broken-sink` for those over streams of std that break, which are interrupted as often before as
+//! the third number says.
+//! Before the words stand `@cuts=` for a run with each front of the input, `@sinks=` for one with room for each number of
+//! bytes, and `@reads=` for one with ten bytes a read whose read k fails, for each k.
 #![tactic(auto)]
 
 mod cases;
 mod ends;
+mod tables;
 
 use plain_data::copies::OutOfMemory;
 use std::io;

@@ -3,6 +3,7 @@ pub mod Bests
 pub mod Dues
 pub mod Fitting
 pub mod Known
+pub mod Marking
 pub mod Nth
 pub mod Placing
 pub mod Rounds

@@ -23,7 +23,7 @@ use Rattle.binder_model.specs.ObjectKeys.{node_key}
 use Rattle.model_laws.proofs.Lists.{none_some, one}
 use Rattle.delayed_binding.specs.declared.choice.Choice.{Choice}
 use Rattle.delayed_binding.specs.declared.choice.Choice.TheVariants.{Assign, Prepare, Wait, NoNode}
-use Rattle.delayed_binding.specs.Choices.{HasNoNode, IsChoiceAt, IsFirstNode, IsPreparing, IsSearching, IsThere, Serves, is_past, round_cmp}
+use Rattle.delayed_binding.specs.Choices.{HasNoNode, IsChoiceAt, IsFirstNode, IsPreparing, IsSearching, IsThere, ServesClaims, is_past, round_cmp}
 use Rattle.delayed_binding.specs.Steps.Scans.{IsFirstInTurn, IsFirstOrNone, IsFoundInTurn, NoneBelow, ServesInTurn, as_node, in_turn, node_at}
 
 -- places of what is chosen from rows in order rise with the keys
@@ -166,13 +166,13 @@ is_in_turn last past (Some m) n e = by (beq (is_past last m) past) refl e
 -- both turns together
 
 module _ (rows : List Object) (claims : List ClaimData) (last : Option (List ℕ)) where
-  prepared_is : (n : NodeData) (choice : Choice) → IsPreparing rows claims n choice → IsFirstNode rows last (Serves rows claims) n → IsChoiceAt IsSearching rows claims last choice
+  prepared_is : (n : NodeData) (choice : Choice) → IsPreparing rows claims n choice → IsFirstNode rows last (ServesClaims rows claims) n → IsChoiceAt IsSearching rows claims last choice
   prepared_is n (Prepare name binds provisions) p first = record { node = n; named = p.0; first = first; prepares = p.1 }
   prepared_is n (Assign name) p first = absurd p
   prepared_is n Wait p first = absurd p
   prepared_is n NoNode p first = absurd p
 
-  serves_is : (n : NodeData) (choice : Choice) → IsPreparing rows claims n choice → Serves rows claims n
+  serves_is : (n : NodeData) (choice : Choice) → IsPreparing rows claims n choice → ServesClaims rows claims n
   serves_is n (Prepare name binds provisions) p = (p.1.shares, p.1.serves)
   serves_is n (Assign name) p = absurd p
   serves_is n Wait p = absurd p
@@ -198,11 +198,11 @@ module _ (rows : List Object) (claims : List ClaimData) (last : Option (List ℕ
       apart false y x k = absurd (true≢false (sym x))
 
   module _ (order : AreRows rows) where
-    found_node : (past : Bool) (choice : Choice) (f : IsFoundInTurn rows claims last past choice) → ((other : NodeData) → IsThere rows other → Serves rows claims other → is_past last other ≢ past → round_cmp last f.node other ≢ Greater) → IsChoiceAt IsSearching rows claims last choice
+    found_node : (past : Bool) (choice : Choice) (f : IsFoundInTurn rows claims last past choice) → ((other : NodeData) → IsThere rows other → ServesClaims rows claims other → is_past last other ≢ past → round_cmp last f.node other ≢ Greater) → IsChoiceAt IsSearching rows claims last choice
     found_node past choice f across =
         prepared_is f.node choice f.preparing (record { there = node_there rows order f.place f.node f.there; holds = serves_is f.node choice f.preparing; first = first })
       where
-        first : (other : NodeData) → IsThere rows other → Serves rows claims other → round_cmp last f.node other ≢ Greater
+        first : (other : NodeData) → IsThere rows other → ServesClaims rows claims other → round_cmp last f.node other ≢ Greater
         first other there serves = by (bool_tells (is_past last other) past)
           where
             bool_tells : (a b : Bool) → (a ≡ b) ⊎ (a ≢ b)
@@ -218,7 +218,7 @@ module _ (rows : List Object) (claims : List ClaimData) (last : Option (List ℕ
     pub first_turn : (choice : Choice) → IsFirstInTurn rows claims last true (Some choice) → IsChoiceAt IsSearching rows claims last choice
     first_turn choice f = found_node true choice f across
       where
-        across : (other : NodeData) → IsThere rows other → Serves rows claims other → is_past last other ≢ true → round_cmp last f.node other ≢ Greater
+        across : (other : NodeData) → IsThere rows other → ServesClaims rows claims other → is_past last other ≢ true → round_cmp last f.node other ≢ Greater
         across other there serves differs = before f.node other f.turn (not_true (is_past last other) differs)
           where
             not_true : (b : Bool) → b ≢ true → b ≡ false
@@ -228,7 +228,7 @@ module _ (rows : List Object) (claims : List ClaimData) (last : Option (List ℕ
     pub second_turn : (choice : Choice) → IsFirstInTurn rows claims last true None → IsFirstInTurn rows claims last false (Some choice) → IsChoiceAt IsSearching rows claims last choice
     second_turn choice none f = found_node false choice f across
       where
-        across : (other : NodeData) → IsThere rows other → Serves rows claims other → is_past last other ≢ false → round_cmp last f.node other ≢ Greater
+        across : (other : NodeData) → IsThere rows other → ServesClaims rows claims other → is_past last other ≢ false → round_cmp last f.node other ≢ Greater
         across other there serves differs = absurd (none other there (record { turn = not_false (is_past last other) differs; serves = serves }))
           where
             not_false : (b : Bool) → b ≢ false → b ≡ true

@@ -1,8 +1,9 @@
 -- Scans of the objects of one kind, place by place.
-use Rattle.std.proofs.Common.{ℕ, zero, suc, ◌≡◌, ◌∙◌, ◌+◌, Bool, true, false, true≢false, not, ◌&&◌, ◌||◌, List, [], ◌∷◌, ◌++◌, drop, cond, Some, refl, sym, ap, subst, arith, if◌then◌else◌}
+use Rattle.std.proofs.Common.{ℕ, zero, suc, ◌≡◌, ◌∙◌, ◌+◌, Bool, true, false, true≢false, not, ◌&&◌, ◌||◌, List, [], ◌∷◌, ◌++◌, ◌==◌, drop, length, cond, Some, refl, sym, ap, subst, arith, if◌then◌else◌}
 use Rattle.std.specs.Prelude.{slice_get}
 use Rattle.std.specs.List.{list_all, list_any}
-use Rattle.std.proofs.lemmas.List.{append_assoc}
+use Rattle.std.proofs.lemmas.List.{drop_all}
+use Rattle.std.proofs.lemmas.List.Folds.{list_any-append}
 use Rattle.kube_types.specs.declared.parts.Kind.{Kind}
 use Rattle.kube_types.specs.declared.parts.Kind.TheVariants as kinds
 use Rattle.kube_types.specs.declared.objects.Claim.{Claim as ClaimData}
@@ -12,8 +13,10 @@ use Rattle.kube_types.specs.declared.objects.Object.TheVariants.{Class, Node, Vo
 use Rattle.kube_types.specs.Bindings.{is_empty}
 use Rattle.kube_types.specs.Keys.{is_of_kind, meta_of, rows_of}
 use Rattle.binder_model.specs.Choice.{admits_if_carrying, carries_claim}
+use Rattle.binder_model.specs.Matching.{is_excluded}
 use Rattle.delayed_binding.specs.Choices.{places_from}
 use Rattle.delayed_binding.specs.Steps.Places.{admits_at, carries_at, is_in_namespace}
+use Rattle.delayed_binding.specs.Steps.Sharing.{AreSame}
 use Rattle.volume_match.specs.Volumes.{as_volume}
 
 -- what the objects of other kinds cannot change
@@ -130,9 +133,26 @@ kept_at (o ∷ os) (suc i) at h = kept_at os i at h
 pub place_kept : (os : List Object) (i : ℕ) → is_in_namespace (slice_get os i) ≡ false → places_from i (drop i os) ≡ places_from (i + 1) (drop (i + 1) os)
 place_kept os i h = subst (λ k. places_from i (drop i os) ≡ places_from (i + 1) (drop k os)) (next i) (kept_at os i i h)
 
-pub aside_step : (os : List Object) (i : ℕ) (xs : List ℕ) → (if is_in_namespace (slice_get os i) then xs ++ i ∷ [] else xs) ++ places_from (i + 1) (drop (i + 1) os) ≡ xs ++ places_from i (drop i os)
-aside_step os i xs = by (is_in_namespace (slice_get os i)) refl
+or_none : (b : Bool) → (b || false) ≡ b
+or_none true = refl
+or_none false = refl
+
+drop_whole : (os : List Object) (i : ℕ) → i ≡ length os → drop i os ≡ []
+drop_whole os i end = drop_all i os (omega (arith, end))
+
+pub aside_step : (os : List Object) (i : ℕ) (xs after : List ℕ) → AreSame after (if is_in_namespace (slice_get os i) then i ∷ xs else xs) → AreSame (after ++ places_from (i + 1) (drop (i + 1) os)) (xs ++ places_from i (drop i os))
+aside_step os i xs after more k = list_any-append (λ p. p == k) after (places_from (i + 1) (drop (i + 1) os)) ∙ (by (is_in_namespace (slice_get os i)) refl more ∙ sym (list_any-append (λ p. p == k) xs (places_from i (drop i os))))
   where
-    by : (b : Bool) → is_in_namespace (slice_get os i) ≡ b → (if b then xs ++ i ∷ [] else xs) ++ places_from (i + 1) (drop (i + 1) os) ≡ xs ++ places_from i (drop i os)
-    by true h = append_assoc xs (i ∷ []) (places_from (i + 1) (drop (i + 1) os)) ∙ ap (λ ys. xs ++ ys) (sym (place_aside os i h))
-    by false h = ap (λ ys. xs ++ ys) (sym (place_kept os i h))
+    turned : (a b p : Bool) → ((p || a) || b) ≡ (a || (p || b))
+    turned true b true = refl
+    turned true b false = refl
+    turned false b true = refl
+    turned false b false = refl
+
+    by : (b : Bool) → is_in_namespace (slice_get os i) ≡ b → AreSame after (if b then i ∷ xs else xs) → (is_excluded after k || is_excluded (places_from (i + 1) (drop (i + 1) os)) k) ≡ (is_excluded xs k || is_excluded (places_from i (drop i os)) k)
+    by true h same = ap (λ b. b || is_excluded (places_from (i + 1) (drop (i + 1) os)) k) (same k) ∙ (turned (is_excluded xs k) (is_excluded (places_from (i + 1) (drop (i + 1) os)) k) (i == k) ∙ ap (λ ys. is_excluded xs k || is_excluded ys k) (sym (place_aside os i h)))
+    by false h same = ap (λ b. b || is_excluded (places_from (i + 1) (drop (i + 1) os)) k) (same k) ∙ ap (λ ys. is_excluded xs k || is_excluded ys k) (sym (place_kept os i h))
+
+-- past the last object no place is set aside
+pub aside_end : (os : List Object) (i : ℕ) (xs ys : List ℕ) → i ≡ length os → AreSame (xs ++ places_from i (drop i os)) ys → AreSame xs ys
+aside_end os i xs ys end same k = sym (list_any-append (λ p. p == k) xs (places_from i (drop i os)) ∙ ap (λ zs. is_excluded xs k || is_excluded (places_from i zs) k) (drop_whole os i end) ∙ or_none (is_excluded xs k)) ∙ same k

@@ -1,6 +1,5 @@
 -- Claims get their shares one by one, and there is one way to share.
-use Rattle.std.proofs.Common.{ℕ, ◌≡◌, ◌∙◌, Bool, true, false, true≢false, ◌||◌, ◌==◌, List, [], ◌∷◌, ◌++◌, Some, None, inl, inr, refl, sym, ap, subst, append_assoc}
-use Rattle.std.proofs.lemmas.List.Folds.{list_any-append}
+use Rattle.std.proofs.Common.{ℕ, ◌≡◌, ◌∙◌, true, false, true≢false, ◌||◌, ◌==◌, List, [], ◌∷◌, ◌++◌, Some, None, inl, inr, refl, sym, ap, subst, append_assoc}
 use Rattle.kube_types.specs.declared.key.Key.{Key}
 use Rattle.kube_types.specs.declared.objects.Claim.{Claim as ClaimData}
 use Rattle.kube_types.specs.declared.objects.Node.{Node as NodeData}
@@ -80,20 +79,12 @@ module _ (rows : List Object) (n : NodeData) where
   taken_kept (TakesVolume p ∷ shares) taken = taken_kept shares (p ∷ taken)
   taken_kept (IsProvisioned ∷ shares) taken = taken_kept shares taken
 
-  same_more : (xs ys : List ℕ) (place : ℕ) → AreSame xs ys → AreSame (xs ++ place ∷ []) (place ∷ ys)
-  same_more xs ys place same k = list_any-append (λ p. p == k) xs (place ∷ []) ∙ turned (is_excluded xs k) (is_excluded ys k) (place == k) (same k)
-    where
-      turned : (a b p : Bool) → a ≡ b → (a || (p || false)) ≡ (p || b)
-      turned true true true e = refl
-      turned true true false e = refl
-      turned false false true e = refl
-      turned false false false e = refl
-      turned true false p e = absurd (true≢false e)
-      turned false true p e = absurd (true≢false (sym e))
+  same_more : (after xs ys : List ℕ) (place : ℕ) → AreSame after (place ∷ xs) → AreSame xs ys → AreSame after (place ∷ ys)
+  same_more after xs ys place more same k = more k ∙ ap (λ b. (place == k) || b) (same k)
 
   -- none yet
-  pub shared_none : (held : Held) → held ≡ record { taken = set_aside rows; binds = []; provisions = [] } → IsSharedOut rows n [] held
-  shared_none held is = record { shares = []; are = tt; taken_are = λ place. ap (λ (h : Held). is_excluded h.taken place) is; binds_are = ap (λ (h : Held). h.binds) is; provisions_are = ap (λ (h : Held). h.provisions) is }
+  pub shared_none : (held : Held) → AreSame held.taken (set_aside rows) → held.binds ≡ [] → held.provisions ≡ [] → IsSharedOut rows n [] held
+  shared_none held aside binds provisions = record { shares = []; are = tt; taken_are = aside; binds_are = binds; provisions_are = provisions }
 
   module _ (cs : List ClaimData) (held after : Held) (done : IsSharedOut rows n cs held) (c : ClaimData) where
     -- the next one takes a volume
@@ -101,9 +92,9 @@ module _ (rows : List Object) (n : NodeData) where
     shared_taken t = record {
       shares = done.shares ++ TakesVolume t.place ∷ [];
       are = takes_more cs done.shares (set_aside rows) c t.place done.are (best_same rows c (Some n) false held.taken (taken_by (set_aside rows) done.shares) done.taken_are (Some t.place) t.best);
-      taken_are = λ place. ap (λ (h : Held). is_excluded h.taken place) t.after_is ∙ (same_more held.taken (taken_by (set_aside rows) done.shares) t.place done.taken_are place ∙ sym (ap (λ ys. is_excluded ys place) (taken_more done.shares (set_aside rows) t.place)));
-      binds_are = ap (λ (h : Held). h.binds) t.after_is ∙ (ap (λ bs. bs ++ pair_of c (volume_at rows t.place)) done.binds_are ∙ sym (binds_more cs done.shares (set_aside rows) c t.place done.are));
-      provisions_are = ap (λ (h : Held). h.provisions) t.after_is ∙ (done.provisions_are ∙ sym (keys_kept cs done.shares (set_aside rows) c t.place done.are));
+      taken_are = λ place. same_more after.taken held.taken (taken_by (set_aside rows) done.shares) t.place t.taken_are done.taken_are place ∙ sym (ap (λ ys. is_excluded ys place) (taken_more done.shares (set_aside rows) t.place));
+      binds_are = t.binds_are ∙ (ap (λ bs. bs ++ pair_of c (volume_at rows t.place)) done.binds_are ∙ sym (binds_more cs done.shares (set_aside rows) c t.place done.are));
+      provisions_are = t.provisions_are ∙ (done.provisions_are ∙ sym (keys_kept cs done.shares (set_aside rows) c t.place done.are));
     }
 
     -- the next one is to be provisioned

@@ -97,8 +97,8 @@ pub record ServesAll (rows : List Object) (claims : List ClaimData) (node : Node
   pub fixed : list_all (fixed_admit rows node) claims ≡ true
   pub shared : AreShares rows node (set_aside rows) (others_in rows claims) shares
 
-abbrev pub Serves : List Object → List ClaimData → NodeData → Type 0
-Serves rows claims node = (shares : List Share) × ServesAll rows claims node shares
+abbrev pub ServesClaims : List Object → List ClaimData → NodeData → Type 0
+ServesClaims rows claims node = (shares : List Share) × ServesAll rows claims node shares
 
 -- what is prepared: the keys of each claim that takes a volume and of its volume, and of each that is to be provisioned
 
@@ -130,7 +130,7 @@ IsPreparing rows claims n choice = ⊥
 -- what is prepared on the node, or none where it does not serve the claims
 abbrev pub IsPreparedOn : List Object → List ClaimData → NodeData → Option Choice → Type 0
 IsPreparedOn rows claims n (Some choice) = IsPreparing rows claims n choice
-IsPreparedOn rows claims n None = Serves rows claims n → ⊥
+IsPreparedOn rows claims n None = ServesClaims rows claims n → ⊥
 
 -- the choice
 
@@ -144,7 +144,7 @@ pub record IsAssigned (rows : List Object) (claims : List ClaimData) (name : Lis
 pub record IsPrepared (rows : List Object) (claims : List ClaimData) (last : Option (List ℕ)) (name : List ℕ) (binds : List (Key × Key)) (provisions : List Key) : Type 0 where
   pub node : NodeData
   pub named : name ≡ node.meta.name
-  pub first : IsFirstNode rows last (Serves rows claims) node
+  pub first : IsFirstNode rows last (ServesClaims rows claims) node
   pub prepares : Prepares rows claims node binds provisions
 
 abbrev pub IsChoiceAt : Stage → List Object → List ClaimData → Option (List ℕ) → Choice → Type 0
@@ -155,7 +155,7 @@ IsChoiceAt IsCompleted rows claims last choice = ⊥
 IsChoiceAt IsServedElsewhere rows claims last choice = choice ≡ Wait
 IsChoiceAt IsUnderWay rows claims last choice = choice ≡ Wait
 IsChoiceAt IsSearching rows claims last (Prepare name binds provisions) = IsPrepared rows claims last name binds provisions
-IsChoiceAt IsSearching rows claims last NoNode = HasNoNode rows (Serves rows claims)
+IsChoiceAt IsSearching rows claims last NoNode = HasNoNode rows (ServesClaims rows claims)
 IsChoiceAt IsSearching rows claims last choice = ⊥
 
 -- what is chosen for the pod on these rows, where `last` is the node that was refused last for one of its claims

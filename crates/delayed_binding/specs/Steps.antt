@@ -1,3 +1,4 @@
+pub mod Marks
 pub mod Nth
 pub mod Places
 pub mod Scans

@@ -12,6 +12,7 @@
 mod choice;
 mod claims;
 pub mod laws;
+mod marks;
 mod nodes;
 mod shares;
 mod volumes;

@@ -11,9 +11,10 @@ ghost use Rattle.binder_model.specs.ObjectKeys.{class_key};
 ghost use Rattle.volume_match.specs.Volumes.{volume_at};
 ghost use Rattle.delayed_binding.specs.Choices.{IsPreparedOn, others_in, pair_of};
 ghost use Rattle.delayed_binding.specs.Steps.Scans.{IsFirstInTurn, IsPreparedIf};
-ghost use Rattle.delayed_binding.specs.Steps.Sharing.{HaveNoShares, IsGiven, IsSharedOut, held_by, place_in};
+ghost use Rattle.delayed_binding.specs.Steps.Sharing.{AreSame, HaveNoShares, IsGiven, IsSharedOut, held_by, place_in};
 
 use crate::choice::Choice;
+use crate::marks::Marks;
 use crate::nodes::node_in_turn;
 use crate::volumes::{all_fixed_admit, has_carrier, set_aside, volume_at};
 use kube_types::bindings::{NO_PROVISIONER, class_of_claim, is_completed};
@@ -26,7 +27,7 @@ use kube_types::text::Text;
 use plain_data::items::Items;
 use std::alloc::Global;
 use std::cmp::Ordering;
-use volume_match::{best, row_named};
+use volume_match::{best_outside, row_named};
 
 /// The claims that are neither completed nor carried by a volume, by rising size and name.
 pub(crate) fn others_in<L: Lookup>(
@@ -86,7 +87,7 @@ fn compare(left: &Claim, right: &Claim) -> Ordering
 /// What claims get on a node, and the places of the volumes that are taken or set aside.
 #[derive(Debug, Drop)]
 struct Shares {
-    taken: Vec<usize>,
+    taken: Marks,
     binds: Vec<(Key, Key)>,
     provisions: Vec<Key>,
 }
@@ -103,7 +104,7 @@ impl Shares {
     ) -> Result<bool, OutOfMemory>
         ensures { IfOk result (λ given. IsGiven (L.rows lookup.now) node.now claim.now (held_by self.old) (held_by self.new) given) }
     {
-        match best(lookup, claim, Some(node), false, &self.taken) {
+        match best_outside(lookup, claim, Some(node), false, &self.taken) {
             Some(place) => {
                 self.take(alloc, lookup, claim, place)?;
                 Ok(true)
@@ -120,13 +121,12 @@ impl Shares {
         claim: &Claim,
         place: usize,
     ) -> Result<(), OutOfMemory>
-        ensures taken { OnOk result (self.new.taken.items ≡ self.old.taken.items ++ place ∷ []) }
+        ensures taken { OnOk result (AreSame self.new.taken (place ∷ self.old.taken)) }
         ensures binds { OnOk result (self.new.binds.items ≡ self.old.binds.items ++ pair_of claim.now (volume_at (L.rows lookup.now) place)) }
         ensures provisions { OnOk result (self.new.provisions.items ≡ self.old.provisions.items) }
     {
         self.bind(alloc, claim, volume_at(lookup, place))?;
-        self.taken.push(place)?;
-        Ok(())
+        self.taken.put(place)
     }
 
     fn bind(
@@ -135,7 +135,7 @@ impl Shares {
         claim: &Claim,
         volume: Option<&Volume>,
     ) -> Result<(), OutOfMemory>
-        ensures taken { OnOk result (self.new.taken.items ≡ self.old.taken.items) }
+        ensures taken { OnOk result (self.new.taken ≡ self.old.taken) }
         ensures binds { OnOk result (self.new.binds.items ≡ self.old.binds.items ++ pair_of claim.now (option_copied volume.entry)) }
         ensures provisions { OnOk result (self.new.provisions.items ≡ self.old.provisions.items) }
     {
@@ -158,7 +158,7 @@ impl Shares {
         claim: &Claim,
     ) -> Result<bool, OutOfMemory>
         ensures can { IfOk result (λ given. given ≡ can_provision (L.rows lookup.now) claim.now) }
-        ensures taken { OnOk result (self.new.taken.items ≡ self.old.taken.items) }
+        ensures taken { OnOk result (self.new.taken ≡ self.old.taken) }
         ensures binds { OnOk result (self.new.binds.items ≡ self.old.binds.items) }
         ensures provisions { IfOk result (λ given. OnTrue given (self.new.provisions.items ≡ self.old.provisions.items ++ key_of (ClaimObject claim.now) ∷ [])) }
     {

@@ -1,6 +1,6 @@
 //! The volumes of the look-up, and which nodes they admit.
 
-ghost use Rattle.std.specs.Prelude.{◌≡◌, [], ◌∷◌, ◌++◌, if◌then◌else◌, IfOk, OnOk};
+ghost use Rattle.std.specs.Prelude.{◌≡◌, ◌∷◌, if◌then◌else◌, IfOk, OnOk};
 ghost use Rattle.std.specs.List.{list_all};
 ghost use Rattle.std.specs.Option.{option_copied};
 ghost use Rattle.kube_types.specs.Keys.{AreRows};
@@ -8,7 +8,9 @@ ghost use Rattle.binder_model.specs.Choice.{admits_if_carrying, fixed_admit, has
 ghost use Rattle.volume_match.specs.Volumes.{volume_at};
 ghost use Rattle.delayed_binding.specs.Choices.{set_aside};
 ghost use Rattle.delayed_binding.specs.Steps.Places.{admits_at, carries_at, is_in_namespace};
+ghost use Rattle.delayed_binding.specs.Steps.Sharing.{AreSame};
 
+use crate::marks::Marks;
 use kube_types::bindings::{carries, is_completed, is_empty};
 use kube_types::copies::OutOfMemory;
 use kube_types::key::meta_of;
@@ -115,11 +117,11 @@ pub(crate) fn all_fixed_admit<L: Lookup>(lookup: &L, node: &Node, claims: &[Clai
 }
 
 /// The places of the volumes that stand in a namespace, which no claim takes.
-pub(crate) fn set_aside<L: Lookup>(alloc: Global, lookup: &L) -> Result<Vec<usize>, OutOfMemory>
-    ensures places { IfOk result (λ places. places.items ≡ set_aside (L.rows lookup.now)) }
+pub(crate) fn set_aside<L: Lookup>(alloc: Global, lookup: &L) -> Result<Marks, OutOfMemory>
+    ensures places { IfOk result (λ places. AreSame places (set_aside (L.rows lookup.now))) }
     ensures order { AreRows (L.rows lookup.now) }
 {
-    let mut places = Vec::new(alloc);
+    let mut places = Marks::new(alloc);
     for place in 0..lookup.count(Kind::PersistentVolume) {
         let aside = is_in_namespace(lookup.at(Kind::PersistentVolume, place));
         note_if(aside, place, &mut places)?;
@@ -127,11 +129,11 @@ pub(crate) fn set_aside<L: Lookup>(alloc: Global, lookup: &L) -> Result<Vec<usiz
     Ok(places)
 }
 
-fn note_if(aside: bool, place: usize, places: &mut Vec<usize>) -> Result<(), OutOfMemory>
-    ensures { OnOk result (places.new.items ≡ (if aside then places.old.items ++ place ∷ [] else places.old.items)) }
+fn note_if(aside: bool, place: usize, places: &mut Marks) -> Result<(), OutOfMemory>
+    ensures { OnOk result (AreSame places.new (if aside then place ∷ places.old else places.old)) }
 {
     if aside {
-        places.push(place)?;
+        places.put(place)?;
     }
     Ok(())
 }

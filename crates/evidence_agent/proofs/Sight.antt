@@ -62,6 +62,12 @@ ready_from mine behind place a b namespace name uid claim same_namespace same_na
     let first = subst (λ x. IsRead mine (claim_key x b) behind place (Found (Claim claim))) same_namespace read in
     ready_by mine behind place namespace name uid claim (subst (λ x. IsRead mine (claim_key namespace x) behind place (Found (Claim claim))) same_name first) fit volume
 
+-- the later ones of the tellings
+pub told_dropped : (k : ℕ) (ts : List ToldPod) (mine : List Entry) → AreTold ts mine → AreTold (drop k ts) mine
+told_dropped zero ts mine all = all
+told_dropped (suc k) [] mine all = all
+told_dropped (suc k) (t ∷ ts) mine all = told_dropped k ts mine all.1
+
 -- claims in order
 
 pub ready_step : (recent : List Entry) (namespace : List ℕ) (names : List (List ℕ)) (uids : List Uid) (i : ℕ) (n : List ℕ) (u : Uid) → i < length names → i < length uids → n ≡ get_or names i n → u ≡ get_or uids i u → IsReadReady recent namespace n u → AreReadReady recent namespace (drop (suc i) names) (drop (suc i) uids) → AreReadReady recent namespace (drop i names) (drop i uids)

@@ -1,6 +1,6 @@
 //! Where the index shows that an agent may make a call.
 
-ghost use Rattle.std.specs.Prelude.{◌≡◌, [], ℕ, List, IfSome, IsTrue, Some, is_some, reverse, true};
+ghost use Rattle.std.specs.Prelude.{◌≡◌, ◌≤◌, [], ℕ, List, IfSome, IsTrue, Some, is_some, length, reverse, true};
 ghost use Rattle.kube_types.specs.declared.objects.Object.TheVariants as objects;
 ghost use Rattle.call_types.specs.declared.entry.Entry.{Entry};
 ghost use Rattle.call_types.specs.declared.reply.Reply.TheVariants as replies;
@@ -382,7 +382,7 @@ fn is_shown(
 }
 
 /// Whether one of the tellings of the pod shows that its claims may be mounted.
-fn shows_mount(
+fn shows_among(
     index: &AgentIndex,
     caches: &Caches,
     entries: &[Entry],
@@ -403,6 +403,70 @@ fn shows_mount(
         }
     }
     false
+}
+
+/// Whether the pod was told before the place, or without a node.
+fn is_early(told: &ToldPod, listed: usize) -> bool {
+    if told.place < listed {
+        return true;
+    }
+    !is_scheduled(&told.pod)
+}
+
+/// Where the tellings begin that are not early. A pod that has a node keeps it, so no early one is behind them.
+fn first_late(tellings: &[ToldPod], listed: usize) -> usize
+    ensures { result ≤ length tellings.now }
+{
+    let mut low = 0;
+    let mut high = tellings.len();
+    while low < high {
+        let middle = low + (high - low) / 2;
+        if is_early(&tellings[middle], listed) {
+            low = middle + 1;
+        } else {
+            high = middle;
+        }
+    }
+    low
+}
+
+/// The tellings from the last list of all pods on, where the pod has a node.
+fn late<'a>(index: &AgentIndex, tellings: &'a [ToldPod]) -> &'a [ToldPod]
+    ensures { (mine : List Entry) → AreTold tellings.now mine → AreTold result.now mine }
+{
+    match index
+        .lasts
+        .place(&About::object(Matter::Listed, Kind::Pod, "", ""))
+    {
+        None => &[],
+        Some(listed) => {
+            let (_early, late) = tellings.split_at(first_late(tellings, listed));
+            late
+        }
+    }
+}
+
+/// The same; the tellings from the last list of all pods on are looked at first.
+fn shows_mount(
+    index: &AgentIndex,
+    caches: &Caches,
+    entries: &[Entry],
+    taken: usize,
+    node: &Text,
+    uid: Uid,
+    claims: &[Uid],
+    tellings: &[ToldPod],
+) -> bool
+    requires index { IsAgentIndexOf index.now (reverse entries.now) }
+    requires known { AllStandFor caches.now (reverse entries.now) }
+    requires told { AreTold tellings.now (reverse entries.now) }
+    ensures { IsTrue result → ((epoch : ℕ) → IsTakenAt (reverse entries.now) node.now epoch taken → WasShownReady (reverse entries.now) node.now uid claims.now [] (since_epoch node.now (reverse entries.now))) }
+{
+    let late = late(index, tellings);
+    if shows_among(index, caches, entries, taken, node, uid, claims, late) {
+        return true;
+    }
+    shows_among(index, caches, entries, taken, node, uid, claims, tellings)
 }
 
 /// Whether the index shows that the seat never asked to finish the pod.
@@ -449,12 +513,15 @@ fn is_ending(uid: Uid, node: &Text, pod: &Pod) -> bool
     is_uid(pod.meta.uid, uid) && pod.node.same(node) && is_scheduled(pod) && is_deleting(&pod.meta)
 }
 
-/// Whether one of the tellings is of the pod, scheduled, on the node, deleting.
+/// Whether one of the tellings is of the pod, scheduled, on the node, deleting. The last ones are looked at first, since a
+/// deletion is not taken back.
 pub(crate) fn told_ending(tellings: &[ToldPod], node: &Text, uid: Uid) -> bool
     ensures { (mine : List Entry) → AreTold tellings.now mine → IsTrue result → WasTold (IsEndingPod uid node.now) mine }
 {
-    for told in tellings {
-        if is_ending(uid, node, &told.pod) {
+    let mut left = tellings.len();
+    while left > 0 {
+        left -= 1;
+        if is_ending(uid, node, &tellings[left].pod) {
             return true;
         }
     }

@@ -13,6 +13,7 @@ use crate::index::AgentIndex;
 use call_types::entry::Entry;
 use call_types::reply::Reply;
 use evidence_pages::pages::Pages;
+use evidence_pages::sought::Sought;
 use evidence_places::topics::{About, Matter};
 use kube_types::bindings::is_scheduled;
 use kube_types::copies::Plain;
@@ -128,7 +129,8 @@ fn is_named(index: &AgentIndex, entries: &[Entry], page: &[Entry], key: &Key) ->
     false
 }
 
-/// Whether the index shows that the object of the key may be read.
+/// Whether the index shows that the object of the key may be read. Of the pods that name a claim the last one is
+/// looked at first.
 pub fn may_get(index: &AgentIndex, pages: &Pages, entries: &[Entry], key: &Key) -> bool
     requires index { IsAgentIndexOf index.now (reverse entries.now) }
     requires pages { ArePages pages.now (reverse entries.now) }
@@ -137,6 +139,12 @@ pub fn may_get(index: &AgentIndex, pages: &Pages, entries: &[Entry], key: &Key) 
     if was_found_naming(index, entries, key) {
         return true;
     }
-    let page = pages.about(key.kind, key.namespace.as_str(), key.name.as_str());
+    let namespace = key.namespace.as_str();
+    let name = key.name.as_str();
+    let last = pages.about(key.kind, namespace, name, Sought::Scheduled);
+    if is_named(index, entries, last, key) {
+        return true;
+    }
+    let page = pages.about(key.kind, namespace, name, Sought::All);
     is_named(index, entries, page, key)
 }

@@ -16,6 +16,7 @@ use crate::lookups::{
 use call_types::entry::Entry;
 use call_types::request::{Request, SeatKind};
 use evidence_pages::index::Index;
+use evidence_pages::sought::Sought;
 use kube_types::copies::{OutOfMemory, Plain};
 use kube_types::items::Items;
 use kube_types::key::Key;
@@ -184,16 +185,16 @@ impl Record for Evidence {
         shows_default(&self.index, name)
     }
 
-    fn about(&self, kind: Kind, namespace: &str, name: &str) -> &[Entry] {
-        self.index.pages.about(kind, namespace, name)
+    fn about(&self, kind: Kind, namespace: &str, name: &str, sought: Sought) -> &[Entry] {
+        self.index.pages.about(kind, namespace, name, sought)
     }
 
-    fn provisioned(&self, name: &Text) -> &[Entry] {
-        self.index.pages.provisioned(name)
+    fn provisioned(&self, name: &Text, sought: Sought) -> &[Entry] {
+        self.index.pages.provisioned(name, sought)
     }
 
-    fn wanted(&self, uid: &str) -> &[Entry] {
-        self.index.pages.wanted(uid)
+    fn wanted(&self, uid: &str, sought: Sought) -> &[Entry] {
+        self.index.pages.wanted(uid, sought)
     }
 
     fn last_over(&self, id: &DataId) -> Option<&Volume> {

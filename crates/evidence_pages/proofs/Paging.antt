@@ -1,6 +1,7 @@
 -- Pages that get one entry more.
-use Rattle.std.proofs.Common.{◌≡◌, ℕ, zero, suc, ◌<◌, List, [], ◌∷◌, ◌++◌, length, get_or, set, reverse, arith, sym, ◌∙◌, ap, subst}
-use Rattle.std.proofs.lemmas.List.{reverse-append}
+use Rattle.std.proofs.Common.{◌≡◌, ℕ, zero, suc, ◌<◌, List, [], ◌∷◌, ◌++◌, length, get_or, set, reverse, take, drop, arith, sym, ◌∙◌, ap, subst}
+use Rattle.std.proofs.lemmas.List.{reverse-append, take-append-drop}
+use Rattle.std.proofs.Math.Seq.{drop-append_seam, take-append_seam}
 use Rattle.std.specs.List.{insert}
 use Rattle.kube_types.specs.declared.objects.Object.{Object}
 use Rattle.call_types.specs.declared.entry.Entry.{Entry}
@@ -45,3 +46,32 @@ pages_insert mine after entry behind [] zero is e all = (grown mine after entry 
 pages_insert mine after entry behind [] (suc i) is e all = (grown mine after entry behind [] is.entries e Begins, tt)
 pages_insert mine after entry behind (p ∷ ps) zero is e all = (grown mine after entry behind [] is.entries e Begins, pages_grow mine after (λ small part. (behind small part).0) (p ∷ ps) all)
 pages_insert mine after entry behind (p ∷ ps) (suc i) is e all = ((behind _ all.0).0, pages_insert mine after entry behind ps i is e all.1)
+
+-- a stretch of a part is a part
+
+part_take : (k : ℕ) (small mine : List Entry) → IsPart small mine → IsPart (take k small) mine
+part_take zero small mine part = Begins
+part_take (suc k) small mine Begins = Begins
+part_take (suc k) small mine (Skips e part) = Skips e (part_take (suc k) _ _ part)
+part_take (suc k) small mine (Keeps e part) = Keeps e (part_take k _ _ part)
+part_take (suc k) small mine (Tells t o is told part) = Tells t o is told (part_take k _ _ part)
+
+part_drop : (k : ℕ) (small mine : List Entry) → IsPart small mine → IsPart (drop k small) mine
+part_drop zero small mine part = part
+part_drop (suc k) small mine Begins = Begins
+part_drop (suc k) small mine (Skips e part) = Skips e (part_drop (suc k) _ _ part)
+part_drop (suc k) small mine (Keeps e part) = Skips e (part_drop k _ _ part)
+part_drop (suc k) small mine (Tells t o is told part) = part_drop k _ _ part
+
+split : (k : ℕ) (xs : List Entry) → reverse xs ≡ reverse (drop k xs) ++ reverse (take k xs)
+split k xs = ap reverse (sym (take-append-drop k xs)) ∙ reverse-append (take k xs) (drop k xs)
+
+pub part_taken : (k : ℕ) (xs mine : List Entry) → IsPart (reverse xs) mine → IsPart (reverse (take k xs)) mine
+part_taken k xs mine part =
+    let back = reverse (drop k xs) in
+    subst (λ l. IsPart l mine) (drop-append_seam back (reverse (take k xs))) (part_drop (length back) _ mine (subst (λ l. IsPart l mine) (split k xs) part))
+
+pub part_dropped : (k : ℕ) (xs mine : List Entry) → IsPart (reverse xs) mine → IsPart (reverse (drop k xs)) mine
+part_dropped k xs mine part =
+    let back = reverse (drop k xs) in
+    subst (λ l. IsPart l mine) (take-append_seam back (reverse (take k xs))) (part_take (length back) _ mine (subst (λ l. IsPart l mine) (split k xs) part))

@@ -7,7 +7,9 @@
 #![tactic(auto)]
 
 pub mod index;
+mod marks;
 pub mod newest;
 pub mod pages;
 pub mod parts;
+pub mod sought;
 mod tellings;

@@ -5,15 +5,19 @@ ghost use Rattle.std.specs.List.Sorted.{IsSearchInRange};
 ghost use Rattle.call_types.specs.declared.entry.Entry.{Entry};
 ghost use Rattle.evidence_pages.specs.Parts.{ArePages, IsPart, MayStandBehind};
 
+use crate::marks::Marks;
 use crate::parts::{Parts, uid_in, wanted_by};
+use crate::sought::Sought;
 use call_types::entry::Entry;
-use kube_types::copies::OutOfMemory;
+use call_types::reply::Reply;
+use kube_types::copies::{OutOfMemory, Plain, same_option};
 use kube_types::items::Items;
-use kube_types::key::{Key, kind_index};
-use kube_types::objects::Ref;
+use kube_types::key::{Key, kind_index, meta_of};
+use kube_types::objects::Object;
 use kube_types::parts::Kind;
 use kube_types::rows::{Ranked, place_of};
 use kube_types::text::Text;
+use kube_types::uid::Uid;
 use std::alloc::Global;
 use std::cmp::Ordering;
 use std::marker::Model;
@@ -22,13 +26,19 @@ use std::marker::Model;
 pub struct Page {
     pub key: Key,
     pub entries: Items<Entry>,
+    marks: Marks,
 }
 
 impl Drop for Page {
     fn drop(self) {
-        let Page { key, entries } = self;
+        let Page {
+            key,
+            entries,
+            marks,
+        } = self;
         drop(key);
         drop(entries);
+        drop(marks);
     }
 }
 
@@ -87,16 +97,75 @@ fn new_page(alloc: Global, key: &Parts<'_>, entry: Entry) -> Result<Page, OutOfM
             name: Text::new(alloc, key.name)?,
         },
         entries,
+        marks: Marks::new(alloc),
     })
+}
+
+/// So many entries are read without a mark.
+const FEW: usize = 8;
+
+/// Whether the page is so short that all of it is read.
+fn is_short(page: &Page) -> bool {
+    page.entries.as_slice().len() <= FEW
+}
+
+/// Marks the entries of a page that is not short.
+fn mark(page: &mut Page) -> Result<(), OutOfMemory>
+    ensures { page.new.entries ≡ page.old.entries }
+{
+    if is_short(page) {
+        return Ok(());
+    }
+    page.marks.catch_up(page.entries.as_slice())
 }
 
 fn put_last(page: &mut Page, entry: Entry) -> Result<(), OutOfMemory>
     ensures { OnOk result (page.new.entries ≡ page.old.entries ++ entry ∷ []) }
 {
-    page.entries.push(entry)
+    page.entries.push(entry)?;
+    mark(page)
 }
 
-/// Puts the entry last on the page of the key.
+/// Whether the entry tells alone an object with this UID.
+fn tells_uid(entry: &Entry, uid: Option<Uid>) -> bool {
+    match &entry.reply {
+        Reply::Done(object) => same_option(&meta_of(object).uid, &uid),
+        _ => false,
+    }
+}
+
+/// Whether the page tells the object in this version.
+fn has_object(page: &Page, object: &Object) -> bool {
+    match page.marks.of_version(object) {
+        None => false,
+        Some(place) => {
+            let entries = page.entries.as_slice();
+            if place >= entries.len() {
+                return false;
+            }
+            tells_uid(&entries[place], meta_of(object).uid)
+        }
+    }
+}
+
+/// Whether the entry is the last on the page.
+fn is_last(page: &Page, entry: &Entry) -> bool {
+    match page.entries.as_slice().last() {
+        None => false,
+        Some(last) => last.same(entry),
+    }
+}
+
+/// Whether the page tells what the entry tells alone, or ends with the same read. Put there again it shows nothing
+/// more.
+fn has_entry(page: &Page, entry: &Entry) -> bool {
+    match &entry.reply {
+        Reply::Done(object) => has_object(page, object),
+        _ => is_last(page, entry),
+    }
+}
+
+/// Puts the entry last on the page of the key, unless it shows nothing more there.
 fn add_to(
     alloc: Global,
     pages: &mut Vec<Page>,
@@ -106,7 +175,12 @@ fn add_to(
     ensures { OnOk result ((mine after : List Entry) → MayStandBehind entry mine after → ArePages pages.old.items mine → ArePages pages.new.items after) }
 {
     match page_place(pages, key) {
-        Ok(at) => put_last(&mut pages[at], entry),
+        Ok(at) => {
+            if has_entry(&pages[at], &entry) {
+                return Ok(());
+            }
+            put_last(&mut pages[at], entry)
+        }
         Err(at) => {
             let page = new_page(alloc, key, entry)?;
             pages.insert(at, page)?;
@@ -115,12 +189,57 @@ fn add_to(
     }
 }
 
-/// The entries of the page of the key.
-fn entries_at<'a>(pages: &'a [Page], key: &Parts<'_>) -> &'a [Entry]
+/// The entries from the one place to the last.
+fn stretch_of<'a>(entries: &'a [Entry], first: usize, last: usize) -> &'a [Entry]
+    ensures { (mine : List Entry) → IsPart (reverse entries.now) mine → IsPart (reverse result.now) mine }
+{
+    if last >= entries.len() {
+        return &[];
+    }
+    if first > last {
+        return &[];
+    }
+    let (older, _newer) = entries.split_at(last + 1);
+    let (_before, stretch) = older.split_at(first);
+    stretch
+}
+
+/// The stretch of the page where what is sought stands.
+fn found_on<'a>(page: &'a Page, sought: Sought) -> &'a [Entry]
+    ensures { (mine : List Entry) → IsPart (reverse page.now.entries) mine → IsPart (reverse result.now) mine }
+{
+    match page.marks.find(page.key.kind, sought) {
+        None => &[],
+        Some((first, last)) => stretch_of(page.entries.as_slice(), first, last),
+    }
+}
+
+/// All entries of the page.
+fn entries_of<'a>(page: &'a Page) -> &'a [Entry]
+    ensures { (mine : List Entry) → IsPart (reverse page.now.entries) mine → IsPart (reverse result.now) mine }
+{
+    page.entries.as_slice()
+}
+
+/// What is sought on the page, or all of a short one.
+fn sought_on<'a>(page: &'a Page, sought: Sought) -> &'a [Entry]
+    ensures { (mine : List Entry) → IsPart (reverse page.now.entries) mine → IsPart (reverse result.now) mine }
+{
+    if is_short(page) {
+        return entries_of(page);
+    }
+    match sought {
+        Sought::All => entries_of(page),
+        _ => found_on(page, sought),
+    }
+}
+
+/// What is sought on the page of the key.
+fn entries_at<'a>(pages: &'a [Page], key: &Parts<'_>, sought: Sought) -> &'a [Entry]
     ensures { (mine : List Entry) → ArePages pages.now mine → IsPart (reverse result.now) mine }
 {
     match page_place(pages, key) {
-        Ok(at) => pages[at].entries.as_slice(),
+        Ok(at) => sought_on(&pages[at], sought),
         Err(_) => &[],
     }
 }
@@ -141,8 +260,8 @@ impl Pages {
         add_to(alloc, &mut self.list, key, entry)
     }
 
-    /// What speaks of the key, the oldest first.
-    pub fn about(&self, kind: Kind, namespace: &str, name: &str) -> &[Entry]
+    /// What is sought of that which speaks of the key, the oldest first.
+    pub fn about(&self, kind: Kind, namespace: &str, name: &str, sought: Sought) -> &[Entry]
         ensures { (mine : List Entry) → ArePages self.now mine → IsPart (reverse result.now) mine }
     {
         let key = Parts {
@@ -150,41 +269,23 @@ impl Pages {
             namespace,
             name,
         };
-        entries_at(&self.list, &key)
+        entries_at(&self.list, &key, sought)
     }
 
-    /// What speaks of what is provisioned under this name.
-    pub fn provisioned(&self, name: &Text) -> &[Entry]
+    /// The same of what is provisioned under this name.
+    pub fn provisioned(&self, name: &Text, sought: Sought) -> &[Entry]
         ensures { (mine : List Entry) → ArePages self.now mine → IsPart (reverse result.now) mine }
     {
         match uid_in(name.as_str()) {
             None => &[],
-            Some(uid) => entries_at(&self.list, &wanted_by(uid)),
+            Some(uid) => entries_at(&self.list, &wanted_by(uid), sought),
         }
     }
 
-    /// What speaks of what is provisioned for the claim with the UID of this text.
-    pub fn wanted(&self, uid: &str) -> &[Entry]
+    /// The same of what is provisioned for the claim with the UID of this text.
+    pub fn wanted(&self, uid: &str, sought: Sought) -> &[Entry]
         ensures { (mine : List Entry) → ArePages self.now mine → IsPart (reverse result.now) mine }
     {
-        entries_at(&self.list, &wanted_by(uid))
-    }
-
-    /// What speaks of the volume of this name.
-    pub fn volume(&self, name: &Text) -> &[Entry]
-        ensures { (mine : List Entry) → ArePages self.now mine → IsPart (reverse result.now) mine }
-    {
-        self.about(Kind::PersistentVolume, "", name.as_str())
-    }
-
-    /// What speaks of the claim that the reference names.
-    pub fn claim(&self, reference: &Ref) -> &[Entry]
-        ensures { (mine : List Entry) → ArePages self.now mine → IsPart (reverse result.now) mine }
-    {
-        self.about(
-            Kind::PersistentVolumeClaim,
-            reference.namespace.as_str(),
-            reference.name.as_str(),
-        )
+        entries_at(&self.list, &wanted_by(uid), sought)
     }
 }

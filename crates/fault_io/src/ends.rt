@@ -52,7 +52,8 @@ pub trait Source {
     fn read(&mut self, buf: &mut [u8]) -> Result<usize, Failed>
         ensures bound { ReadsAtMost result buf.new }
         ensures bytes { Reads (left self.old) (left self.new) result buf.new }
-        ensures cause { HasCause (faults self.old) (faults self.new) result };
+        ensures cause { HasCause (faults self.old) (faults self.new) result }
+        ensures unfailed { OnOk result (faults self.new ≡ faults self.old) };
 }
 
 /// What bytes are written to.
@@ -84,6 +85,7 @@ pub fn read_all<S: Source>(alloc: Global, source: &mut S, most: usize) -> Result
     ensures too_much { (bytes : List ℕ) → S.left source.old ≡ Some bytes → most < length bytes → IsErr result }
 
     ensures fault { result ≡ Err ReadError.ReadFault → Rose (S.faults source.old) (S.faults source.new) }
+    ensures unfailed { result ≢ Err ReadError.ReadFault → S.faults source.new ≡ S.faults source.old }
     ensures later { S.faults source.old ≤ S.faults source.new }
     ensures front { OnErr result (TakesFront (S.left source.old) (S.left source.new)) }
 {

@@ -1,6 +1,6 @@
 //! A source and a sink in memory.
 
-ghost use Rattle.std.specs.Prelude.{◌≡◌, ◌<◌, ◌-◌, ◌++◌, [], length, take, drop, min, Contains, Some, Ok, IfOk, OnErr, IsErr, ◌↔◌};
+ghost use Rattle.std.specs.Prelude.{◌≡◌, ◌<◌, ◌-◌, ◌++◌, [], length, take, drop, min, Contains, Some, Ok, IfOk, OnOk, OnErr, IsErr, ◌↔◌};
 ghost use Rattle.std.specs.Io.{ReadsAtMost, WritesAtMost};
 ghost use Rattle.fault_io.specs.Faults.{HasCause, Rose, one_more};
 ghost use Rattle.fault_io.specs.Reading.{Reads};
@@ -79,6 +79,7 @@ impl Source for MemorySource {
         ensures bound { ReadsAtMost result buf.new }
         ensures bytes { Reads (Some self.old.left) (Some self.new.left) result buf.new }
         ensures cause { HasCause self.old.faults self.new.faults result }
+        ensures unfailed { OnOk result (self.new.faults ≡ self.old.faults) }
 
         // Which reads fail, and what the others give.
         ensures fails { IsErr result ↔ Contains self.old.fails (one_more self.old.calls) }

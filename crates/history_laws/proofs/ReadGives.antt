@@ -24,7 +24,7 @@ use Rattle.history_read.specs.declared.errors.Reason.{Reason}
 use Rattle.history_read.specs.declared.errors.BadLine.{BadLine}
 use Rattle.history_type.specs.declared.History.{History}
 use Rattle.history_read.specs.Grammar.{lines_of, in_line, at_line, entries_from, with_setup, history_in, history_of}
-use Rattle.history_laws.specs.Given.{IsNumber, IsRequest, IsReply, IsEntry, IsPool, IsSetup, IsHistory, IsShallow, AreShallow}
+use Rattle.history_laws.specs.Given.{IsNumber, IsRequest, IsReply, IsEntry, IsPool, IsSetup, IsTextHistory, IsShallow, AreShallow}
 use Rattle.history_laws.specs.Laws.{ReadGives, ReadIsOnly}
 use Rattle.json_text.proofs.Deep.{read_shallow}
 use Rattle.history_laws.proofs.GoodLines.{entry_good, good_setup}
@@ -173,7 +173,7 @@ are_shallow [] h = All-nil IsShallow
 are_shallow (e ∷ es) h = let first = All-head IsTold e es h in All-cons IsShallow e es first.1 (are_shallow es (All-tail IsTold e es h))
 
 abbrev IsOne : History → Type 0
-IsOne h = IsHistory h.setup h.entries × AreShallow h.setup h.entries
+IsOne h = IsTextHistory h.setup h.entries × AreShallow h.setup h.entries
 
 history_given : (lines : List (List ℕ)) → IfOk (history_in lines) IsOne
 history_given [] = tt

@@ -11,7 +11,7 @@ use Rattle.history_text.specs.Output.{with_lines, history_lines, history_text}
 use Rattle.history_text.proofs.LineLists.{with_lines_append}
 use Rattle.history_lines.specs.Entries.{entry_of, setup_of}
 use Rattle.history_read.specs.Grammar.{lines_of, at_line, entries_from, with_setup, history_in}
-use Rattle.history_laws.specs.Given.{IsEntry, IsShallow, IsHistory}
+use Rattle.history_laws.specs.Given.{IsEntry, IsShallow, IsTextHistory}
 use Rattle.history_laws.specs.Texts.{lines_before_end, IsRest, IsTextOf, IsLineToRead}
 use Rattle.history_laws.specs.Laws.{TextIsRead, PrintedIsRead}
 use Rattle.history_laws.proofs.GoodLines.{entry_good, setup_good}
@@ -28,7 +28,7 @@ pub entry_lines : (es : List Entry) → All IsEntry es → All IsLine (map entry
 entry_lines [] is = All-nil IsLine
 entry_lines (e ∷ es) is = All-cons IsLine (entry_line e) (map entry_line es) (entry_is_line e (All-head IsEntry e es is)) (entry_lines es (All-tail IsEntry e es is))
 
-pub all_lines : (s : Setup) (es : List Entry) → IsHistory s es → All IsLine (lines_before_end s es)
+pub all_lines : (s : Setup) (es : List Entry) → IsTextHistory s es → All IsLine (lines_before_end s es)
 unfolding setup_line
 all_lines s es is = let good = setup_good s is.setup in All-cons IsLine (setup_line s) (map entry_line es) (text_line (setup_data s) good.canonical) (entry_lines es is.entries)
 
@@ -49,7 +49,7 @@ end_first (b ∷ bs) is =
     (lines_of bs, ap (λ c. lines_of (codes "end" ++ c ∷ bs)) is ∙ line_first (codes "end") bs end_is_line)
 
 -- the lines of a text of the history
-pub lines_are : (text : List ℕ) (s : Setup) (es : List Entry) → IsHistory s es → (h : IsTextOf text s es) → lines_of text ≡ setup_line s ∷ (map entry_line es ++ lines_of (codes "end" ++ h.0))
+pub lines_are : (text : List ℕ) (s : Setup) (es : List Entry) → IsTextHistory s es → (h : IsTextOf text s es) → lines_of text ≡ setup_line s ∷ (map entry_line es ++ lines_of (codes "end" ++ h.0))
 lines_are text s es is h =
     ap lines_of (h.2 ∙ ap (λ l. l ++ (codes "end" ++ h.0)) (with_joined [] (lines_before_end s es)))
     ∙ lines_first (lines_before_end s es) (codes "end" ++ h.0) (all_lines s es is)

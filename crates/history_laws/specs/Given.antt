@@ -102,7 +102,7 @@ pub record IsSetup (s : Setup) : Type 0 where
   pub imports : All IsGiven s.imports
   pub passing : ImportsPass s.imports
 
-pub record IsHistory (s : Setup) (es : List Entry) : Type 0 where
+pub record IsTextHistory (s : Setup) (es : List Entry) : Type 0 where
   pub setup : IsSetup s
   pub entries : All IsEntry es
 

@@ -17,7 +17,7 @@ use Rattle.informer_cache.specs.Marks.{mark_at}
 use Rattle.informer_cache.specs.Knowledge.{RowState, ListState, AreKept, absence, lacked, telling_in, told_at, tells_key}
 use Rattle.kube_types.specs.declared.parts.Kind.TheVariants as kinds
 use Rattle.informer_cache.specs.All.{AllKnown, AllStandFor, AreCaches, EachStandsFor, all_objects, cache_of}
-use Rattle.informer_cache.specs.Cache.{Known, IsDone, IsLeft, IsQuiet, IsTold, Learns, StandsFor, kind_known, known_of, objects_of, tells_done, tells_left, watch_from}
+use Rattle.informer_cache.specs.Cache.{Known, IsDone, IsLeft, IsQuiet, IsTold, Learns, CacheStandsFor, kind_known, known_of, objects_of, tells_done, tells_left, watch_from}
 
 -- the rows have the objects that are known
 row_known : (rows : RowState) (lists : ListState) (key : Key) → AreKept rows.kind rows.marks rows.objects → row_at key rows.objects ≡ object_of (telling_in rows lists key)
@@ -29,8 +29,8 @@ row_known rows lists key kept = by (mark_at key rows.marks) (lacked lists key) (
     by (Some m) l h = refl
 
 -- a cache that learned what an entry tells stands for the entries with it
-module _ (before after : Known) (tells : Key → Option Telling) (learns : Learns before after tells) (kept : AreKept after.rows.kind after.rows.marks after.rows.objects) (mine : List Entry) (e : Entry) (stands : StandsFor before mine) where
-  pub stands_on : ((key : Key) → told_of e key ≡ tells key) → after.from ≡ watch_from (following_of (e ∷ mine) (kind_known before)) → StandsFor after (e ∷ mine)
+module _ (before after : Known) (tells : Key → Option Telling) (learns : Learns before after tells) (kept : AreKept after.rows.kind after.rows.marks after.rows.objects) (mine : List Entry) (e : Entry) (stands : CacheStandsFor before mine) where
+  pub stands_on : ((key : Key) → told_of e key ≡ tells key) → after.from ≡ watch_from (following_of (e ∷ mine) (kind_known before)) → CacheStandsFor after (e ∷ mine)
   stands_on told from =
       let known : (key : Key) → key.kind ≡ kind_known after → known_of after key ≡ newest (e ∷ mine) key = λ key of.
       let own : key.kind ≡ kind_known before = of ∙ learns.kind in
@@ -49,7 +49,7 @@ followed_is : (e : Entry) (request : Request) (reply : Reply) (mine : List Entry
 followed_is e request reply mine kind is =
     ap (λ b. if b then follow_on e.request e.reply kind (following_of mine kind) else following_of mine kind) is.told ∙ ap (λ r. follow_on r e.reply kind (following_of mine kind)) is.asked ∙ ap (λ r. follow_on request r kind (following_of mine kind)) is.answered
 
-pub absorbs : (before after : Known) (request : Request) (reply : Reply) → Learns before after (tells_of request reply) → AreKept after.rows.kind after.rows.marks after.rows.objects → ((f : Following) → before.from ≡ watch_from f → after.from ≡ watch_from (follow_on request reply (kind_known before) f)) → (mine : List Entry) (e : Entry) → IsTold e request reply → StandsFor before mine → StandsFor after (e ∷ mine)
+pub absorbs : (before after : Known) (request : Request) (reply : Reply) → Learns before after (tells_of request reply) → AreKept after.rows.kind after.rows.marks after.rows.objects → ((f : Following) → before.from ≡ watch_from f → after.from ≡ watch_from (follow_on request reply (kind_known before) f)) → (mine : List Entry) (e : Entry) → IsTold e request reply → CacheStandsFor before mine → CacheStandsFor after (e ∷ mine)
 absorbs before after request reply learns kept from mine e is stands =
     stands_on before after (tells_of request reply) learns kept mine e stands (told_is e request reply is)
     (from (following_of mine (kind_known before)) stands.from ∙ ap watch_from (sym (followed_is e request reply mine (kind_known before) is)))
@@ -68,20 +68,20 @@ follow_left (requests.List k (Some namespace)) o kind f = refl
 follow_left (requests.Watch k from) o kind f = refl
 follow_left _ o kind f = refl
 
-pub notes : (before after : Known) (o : Object) → Learns before after (tells_done o) → AreKept after.rows.kind after.rows.marks after.rows.objects → after.from ≡ before.from → (mine : List Entry) (e : Entry) → IsDone e o → StandsFor before mine → StandsFor after (e ∷ mine)
+pub notes : (before after : Known) (o : Object) → Learns before after (tells_done o) → AreKept after.rows.kind after.rows.marks after.rows.objects → after.from ≡ before.from → (mine : List Entry) (e : Entry) → IsDone e o → CacheStandsFor before mine → CacheStandsFor after (e ∷ mine)
 notes before after o learns kept from mine e is stands =
     let whole : IsTold e e.request (Done o) = record { told = is.told; asked = refl; answered = is.answered } in
     stands_on before after (tells_done o) learns kept mine e stands (told_is e e.request (Done o) whole)
     (from ∙ stands.from ∙ ap watch_from (sym (followed_is e e.request (Done o) mine (kind_known before) whole ∙ follow_done e.request o (kind_known before) (following_of mine (kind_known before)))))
 
-pub forgets : (before after : Known) (gone : Key) (version : ℕ) → Learns before after (tells_left gone version) → AreKept after.rows.kind after.rows.marks after.rows.objects → after.from ≡ before.from → (mine : List Entry) (e : Entry) → IsLeft e gone version → StandsFor before mine → StandsFor after (e ∷ mine)
+pub forgets : (before after : Known) (gone : Key) (version : ℕ) → Learns before after (tells_left gone version) → AreKept after.rows.kind after.rows.marks after.rows.objects → after.from ≡ before.from → (mine : List Entry) (e : Entry) → IsLeft e gone version → CacheStandsFor before mine → CacheStandsFor after (e ∷ mine)
 forgets before after gone version learns kept from mine e is stands =
     let whole : IsTold e e.request (Left is.object) = record { told = is.told; asked = refl; answered = is.answered } in
     stands_on before after (tells_left gone version) learns kept mine e stands
     (λ key. told_is e e.request (Left is.object) whole key ∙ ap (λ g. tells_key g (told_at (meta_of is.object).version None) key) is.own ∙ ap (λ v. tells_key gone (told_at v None) key) is.at)
     (from ∙ stands.from ∙ ap watch_from (sym (followed_is e e.request (Left is.object) mine (kind_known before) whole ∙ follow_left e.request is.object (kind_known before) (following_of mine (kind_known before)))))
 
-pub quiet_stands : (c : Known) (mine : List Entry) (e : Entry) → IsQuiet (kind_known c) e → StandsFor c mine → StandsFor c (e ∷ mine)
+pub quiet_stands : (c : Known) (mine : List Entry) (e : Entry) → IsQuiet (kind_known c) e → CacheStandsFor c mine → CacheStandsFor c (e ∷ mine)
 quiet_stands c mine e quiet stands = record {
   known = λ key of. stands.known key of ∙ ap (λ t. later t (newest mine key)) (sym (quiet.tells key of));
   rows = λ key of. stands.rows key of ∙ ap (λ t. object_of (later t (newest mine key))) (sym (quiet.tells key of));
@@ -95,7 +95,7 @@ untold_quiet kind e lost = record {
 }
 
 -- the caches of all kinds, each of which stands for the entries
-pub each_stands : (a b c d e : Known) (mine : List Entry) → StandsFor a mine → StandsFor b mine → StandsFor c mine → StandsFor d mine → StandsFor e mine → EachStandsFor (record { classes = a; nodes = b; volumes = c; claims = d; pods = e }) mine
+pub each_stands : (a b c d e : Known) (mine : List Entry) → CacheStandsFor a mine → CacheStandsFor b mine → CacheStandsFor c mine → CacheStandsFor d mine → CacheStandsFor e mine → EachStandsFor (record { classes = a; nodes = b; volumes = c; claims = d; pods = e }) mine
 each_stands a b c d e mine sa sb sc sd se kinds.StorageClass = sa
 each_stands a b c d e mine sa sb sc sd se kinds.Node = sb
 each_stands a b c d e mine sa sb sc sd se kinds.PersistentVolume = sc

@@ -7,7 +7,7 @@ use Rattle.kube_types.specs.declared.objects.Object.{Object}
 use Rattle.kube_types.specs.Keys.{row_at}
 use Rattle.call_types.specs.declared.entry.Entry.{Entry}
 use Rattle.binder_model.specs.Told.{newest, object_of}
-use Rattle.informer_cache.specs.Cache.{Known, StandsFor, kind_known, objects_of}
+use Rattle.informer_cache.specs.Cache.{Known, CacheStandsFor, kind_known, objects_of}
 
 pub record AllKnown : Type 0 where
   pub classes : Known
@@ -33,7 +33,7 @@ all_objects c = objects_of c.classes ++ (objects_of c.nodes ++ (objects_of c.vol
 
 -- each cache stands for what the seat with these entries was told of its kind
 abbrev pub EachStandsFor : AllKnown → List Entry → Type 0
-EachStandsFor c mine = (kind : Kind) → StandsFor (cache_of kind c) mine
+EachStandsFor c mine = (kind : Kind) → CacheStandsFor (cache_of kind c) mine
 
 -- the caches stand for what the seat with these entries was told: each is one of its kind and stands for what was told of
 -- it, and among all objects the one of a key is that of the newest told

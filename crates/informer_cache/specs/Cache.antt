@@ -50,7 +50,7 @@ ask_of c = ask_from c.from
 
 -- what the cache of a kind knows is what the seat with these entries was told: of each key the newest, an object in its
 -- rows exactly where the newest told is one, and the read is the one that the seat may make
-pub record StandsFor (c : Known) (mine : List Entry) : Type 0 where
+pub record CacheStandsFor (c : Known) (mine : List Entry) : Type 0 where
   pub known : (key : Key) → key.kind ≡ kind_known c → known_of c key ≡ newest mine key
   pub rows : (key : Key) → key.kind ≡ kind_known c → row_at key (objects_of c) ≡ object_of (newest mine key)
   pub from : c.from ≡ watch_from (following_of mine (kind_known c))

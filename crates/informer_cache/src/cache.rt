@@ -5,7 +5,7 @@ ghost use Rattle.kube_types.specs.declared.parts.Kind.{Kind};
 ghost use Rattle.kube_types.specs.Keys.{AreRows};
 ghost use Rattle.call_types.specs.declared.entry.Entry.{Entry};
 ghost use Rattle.binder_model.specs.Told.{tells_of};
-ghost use Rattle.informer_cache.specs.Cache.{IsDone, IsLeft, IsQuiet, IsTold, Known, Learns, StandsFor, ask_of, keys_in, kind_known, objects_of, tells_done, tells_left};
+ghost use Rattle.informer_cache.specs.Cache.{IsDone, IsLeft, IsQuiet, IsTold, Known, Learns, CacheStandsFor, ask_of, keys_in, kind_known, objects_of, tells_done, tells_left};
 ghost use Rattle.informer_cache.specs.Knowledge.{AreOfKind};
 
 use crate::learn::{from_after, keys_in, learn};
@@ -62,7 +62,7 @@ impl Cache {
     /// A cache that was told nothing. It takes no memory.
     pub fn new(alloc: Global, kind: Kind) -> Cache
         ensures kind { kind_known result ≡ kind }
-        ensures stands { StandsFor result [] }
+        ensures stands { CacheStandsFor result [] }
     {
         Cache {
             alloc,
@@ -103,7 +103,7 @@ impl Cache {
         ensures keys { IfOk result (λ keys. keys ≡ keys_in reply.now) }
         ensures kind { kind_known self.new ≡ kind_known self.old }
         ensures learns { OnOk result (Learns self.old self.new (tells_of request.now reply.now)) }
-        ensures stands { OnOk result ((mine : List Entry) (e : Entry) → IsTold e request.now reply.now → StandsFor self.old mine → StandsFor self.new (e ∷ mine)) }
+        ensures stands { OnOk result ((mine : List Entry) (e : Entry) → IsTold e request.now reply.now → CacheStandsFor self.old mine → CacheStandsFor self.new (e ∷ mine)) }
     {
         let keys = keys_in(self.alloc, reply)?;
         self.take(request, reply)?;
@@ -114,7 +114,7 @@ impl Cache {
     pub(crate) fn take(&mut self, request: &Request, reply: &Reply) -> Result<(), OutOfMemory>
         ensures kind { kind_known self.new ≡ kind_known self.old }
         ensures learns { OnOk result (Learns self.old self.new (tells_of request.now reply.now)) }
-        ensures stands { OnOk result ((mine : List Entry) (e : Entry) → IsTold e request.now reply.now → StandsFor self.old mine → StandsFor self.new (e ∷ mine)) }
+        ensures stands { OnOk result ((mine : List Entry) (e : Entry) → IsTold e request.now reply.now → CacheStandsFor self.old mine → CacheStandsFor self.new (e ∷ mine)) }
     {
         learn(self.alloc, &mut self.rows, &mut self.lists, request, reply)?;
         self.from = from_after(self.rows.kind(), request, reply, self.from);
@@ -126,7 +126,7 @@ impl Cache {
     pub fn note(&mut self, object: &Object) -> Result<(), OutOfMemory>
         ensures kind { kind_known self.new ≡ kind_known self.old }
         ensures learns { OnOk result (Learns self.old self.new (tells_done object.now)) }
-        ensures stands { OnOk result ((mine : List Entry) (e : Entry) → IsDone e object.now → StandsFor self.old mine → StandsFor self.new (e ∷ mine)) }
+        ensures stands { OnOk result ((mine : List Entry) (e : Entry) → IsDone e object.now → CacheStandsFor self.old mine → CacheStandsFor self.new (e ∷ mine)) }
     {
         let version = meta_of(object).version;
         tell_object(
@@ -145,7 +145,7 @@ impl Cache {
     pub fn forget(&mut self, key: &Key, version: Version) -> Result<(), OutOfMemory>
         ensures kind { kind_known self.new ≡ kind_known self.old }
         ensures learns { OnOk result (Learns self.old self.new (tells_left key.now version)) }
-        ensures stands { OnOk result ((mine : List Entry) (e : Entry) → IsLeft e key.now version → StandsFor self.old mine → StandsFor self.new (e ∷ mine)) }
+        ensures stands { OnOk result ((mine : List Entry) (e : Entry) → IsLeft e key.now version → CacheStandsFor self.old mine → CacheStandsFor self.new (e ∷ mine)) }
     {
         tell_absent(self.alloc, &mut self.rows, &self.lists, key, version)?;
         let _ = self.rows.objects();
@@ -156,6 +156,6 @@ impl Cache {
 /// An entry that tells nothing of the kind changes nothing: one that did not reach the seat, among
 /// others.
 pub fn quiet_entries()
-    ensures quiet { (c : Known) (mine : List Entry) (e : Entry) → IsQuiet (kind_known c) e → StandsFor c mine → StandsFor c (e ∷ mine) }
+    ensures quiet { (c : Known) (mine : List Entry) (e : Entry) → IsQuiet (kind_known c) e → CacheStandsFor c mine → CacheStandsFor c (e ∷ mine) }
     ensures untold { (kind : Kind) (e : Entry) → e.told ≡ false → IsQuiet kind e }
 {}

@@ -1,6 +1,8 @@
 //! Keys with the versions at which they were told, in the order of the keys.
 
-ghost use Rattle.std.specs.Prelude.{◌≡◌, IfOk, IfErr, OnOk, OnErr, length, option_map};
+ghost use Rattle.std.specs.Prelude.{◌≡◌, ◌-◌, Some, IfOk, IfErr, OnOk, OnErr, length, option_map, slice_get};
+ghost use Rattle.std.specs.Bool.{OnTrue};
+ghost use Rattle.std.specs.declared.cmp.Ordering.TheVariants.{Less};
 ghost use Rattle.std.specs.List.Sorted.{IsSearchInRange};
 ghost use Rattle.informer_cache.specs.Marks.{AreMarks, IsMarkAt, IsMarkGap, mark_at, put_mark};
 
@@ -27,8 +29,30 @@ impl Ranked<Key> for Mark {
     }
 }
 
+/// Whether the key comes after the last row: so it does where rows are put in order.
+pub(crate) fn comes_last<T: Ranked<Key>>(rows: &[T], key: &Key) -> bool
+    ensures { OnTrue result ((last : T) → slice_get rows.now (length rows.now - 1) ≡ Some last → T.rank last key.now ≡ Less) }
+{
+    match rows.last() {
+        None => true,
+        Some(last) => last.rank(key).is_lt(),
+    }
+}
+
 /// Where the mark of the key is, or where it would stand.
 fn mark_place(marks: &[Mark], key: &Key) -> Result<usize, usize>
+    requires { AreMarks marks.now }
+    ensures bound { IsSearchInRange result (length marks.now) }
+    ensures at { IfOk result (IsMarkAt marks.now key.now) }
+    ensures gap { IfErr result (IsMarkGap marks.now key.now) }
+{
+    if comes_last(marks, key) {
+        return Err(marks.len());
+    }
+    searched_place(marks, key)
+}
+
+fn searched_place(marks: &[Mark], key: &Key) -> Result<usize, usize>
     requires { AreMarks marks.now }
     ensures bound { IsSearchInRange result (length marks.now) }
     ensures at { IfOk result (IsMarkAt marks.now key.now) }

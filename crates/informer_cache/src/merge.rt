@@ -2,7 +2,9 @@
 
 ghost use Rattle.std.specs.Prelude.{◌≡◌, Some, None, true, IfOk, IsTrue, OnOk, is_some, option_map, if◌then◌else◌};
 ghost use Rattle.kube_types.specs.declared.key.Key.{Key};
-ghost use Rattle.kube_types.specs.Keys.{AreRows, key_of, row_at, same_key};
+ghost use Rattle.std.specs.Bool.{OnTrue};
+ghost use Rattle.std.specs.Ordering.{is_lt};
+ghost use Rattle.kube_types.specs.Keys.{AreRows, key_cmp, key_of, row_at, same_key};
 ghost use Rattle.binder_model.specs.Told.{first_some, later};
 ghost use Rattle.informer_cache.specs.Marks.{mark_at};
 ghost use Rattle.informer_cache.specs.Steps.Views.{sight_of};
@@ -12,8 +14,8 @@ ghost use Rattle.informer_cache.specs.Steps.Sights.{AreRight, Fits, GoesOn, lack
 use crate::lists::{Lists, covers, greater};
 use crate::rows::{Rows, put_object};
 use crate::told::{Told, later};
-use kube_types::copies::{OutOfMemory, Plain};
-use kube_types::key::{Key, key_of, meta_of};
+use kube_types::copies::{OutOfMemory, Plain, copy_all};
+use kube_types::key::{Key, key_of, kind_index, kind_of, meta_of};
 use kube_types::objects::{Object, Version};
 use kube_types::table::row;
 use kube_types::text::Text;
@@ -188,8 +190,42 @@ fn put_first(alloc: Global, sorted: &mut Vec<Object>, object: &Object) -> Result
     }
 }
 
-/// The first object of each key, in the order of the keys.
+/// Whether the key of the first object stands before that of the second.
+fn stands_before(first: &Object, second: &Object) -> bool
+    ensures { result ≡ is_lt (key_cmp (key_of first.now) (key_of second.now)) }
+{
+    let (one, other) = (meta_of(first), meta_of(second));
+    kind_index(kind_of(first))
+        .cmp(&kind_index(kind_of(second)))
+        .then(one.namespace.as_str().cmp(other.namespace.as_str()))
+        .then(one.name.as_str().cmp(other.name.as_str()))
+        .is_lt()
+}
+
+/// Whether each object stands before the next one. It takes no memory.
+fn are_in_order(items: &[Object]) -> bool
+    ensures { OnTrue result (AreRows items.now) }
+{
+    for place in 1..items.len() {
+        if !stands_before(&items[place - 1], &items[place]) {
+            return false;
+        }
+    }
+    true
+}
+
+/// The first object of each key, in the order of the keys. What stands in order is not sorted again.
 fn in_order(alloc: Global, items: &[Object]) -> Result<Vec<Object>, OutOfMemory>
+    ensures rows { IfOk result (λ sorted. AreRows sorted.items) }
+    ensures found { IfOk result (λ sorted. (key : Key) → row_at key sorted.items ≡ row_at key items.now) }
+{
+    if are_in_order(items) {
+        return copy_all(alloc, items);
+    }
+    sorted(alloc, items)
+}
+
+fn sorted(alloc: Global, items: &[Object]) -> Result<Vec<Object>, OutOfMemory>
     ensures rows { IfOk result (λ sorted. AreRows sorted.items) }
     ensures found { IfOk result (λ sorted. (key : Key) → row_at key sorted.items ≡ row_at key items.now) }
 {

@@ -1,13 +1,14 @@
 //! What was told of keys one by one.
 
-ghost use Rattle.std.specs.Prelude.{◌≡◌, [], Some, None, IfOk, IfSome, OnOk, OnErr, option_map, if◌then◌else◌};
+ghost use Rattle.std.specs.Prelude.{◌≡◌, [], Some, None, IfOk, IfErr, IfSome, OnOk, OnErr, length, option_map, if◌then◌else◌};
+ghost use Rattle.std.specs.List.Sorted.{IsSearchInRange};
 ghost use Rattle.std.specs.Option.{option_copied};
 ghost use Rattle.kube_types.specs.declared.key.Key.{Key};
-ghost use Rattle.kube_types.specs.Keys.{AreRows, key_of, put_row, same_key};
+ghost use Rattle.kube_types.specs.Keys.{AreRows, IsRowAt, IsRowGap, key_of, put_row, same_key};
 ghost use Rattle.informer_cache.specs.Marks.{AreMarks};
 ghost use Rattle.informer_cache.specs.Knowledge.{AreKept, row_told, telling_of, told_at};
 
-use crate::marks::{Mark, put_in, version_in};
+use crate::marks::{Mark, comes_last, put_in, version_in};
 use crate::told::Told;
 use kube_types::copies::{OutOfMemory, Plain};
 use kube_types::key::Key;
@@ -47,6 +48,19 @@ impl Model for Rows {
     ghost invariant = { λ r. AreKept r.kind r.marks.items r.objects.items };
 }
 
+/// Where the object of the key is, or where it would stand.
+fn object_place(objects: &[Object], key: &Key) -> Result<usize, usize>
+    requires { AreRows objects.now }
+    ensures bound { IsSearchInRange result (length objects.now) }
+    ensures at { IfOk result (IsRowAt objects.now key.now) }
+    ensures gap { IfErr result (IsRowGap objects.now key.now) }
+{
+    if comes_last(objects, key) {
+        return Err(objects.len());
+    }
+    row_place(objects, key)
+}
+
 /// Puts the object in place of the one of its key, or in its place in the order.
 pub(crate) fn put_object(
     objects: &mut Vec<Object>,
@@ -58,7 +72,7 @@ pub(crate) fn put_object(
     ensures ok { OnOk result (objects.new.items ≡ put_row object objects.old.items) }
     ensures err { OnErr result (objects.new.items ≡ objects.old.items) }
 {
-    match row_place(objects, key) {
+    match object_place(objects, key) {
         Ok(at) => objects[at] = object,
         Err(at) => objects.insert(at, object)?,
     }

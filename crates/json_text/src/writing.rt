@@ -1,11 +1,11 @@
 //! Compact JSON text that grows by values, with no tree.
 
-ghost use Rattle.std.specs.Prelude.{◌≡◌, [], false, OnOk};
+ghost use Rattle.std.specs.Prelude.{◌≡◌, [], false, IfOk, OnOk};
 ghost use Rattle.json.specs.Print.{quoted};
 ghost use Rattle.serde_json.specs.Data.{boolean, number, unsigned, string};
 ghost use Rattle.json_text.specs.Writing.{written, after_comma, text_of, line_ended, with_text, with_key, with_value, opened, closed};
 
-use crate::quote::push_quoted;
+use crate::quote::{push_name, push_quoted};
 use itoa::Buffer;
 use plain_data::copies::OutOfMemory;
 use plain_data::text::Bytes;
@@ -30,7 +30,18 @@ impl JsonText {
         }
     }
 
+    /// No text, with room for so many bytes.
+    pub fn with_room(alloc: Global, room: usize) -> Result<JsonText, OutOfMemory>
+        ensures { IfOk result (λ out. written out ≡ ([], false)) }
+    {
+        Ok(JsonText {
+            bytes: Vec::with_capacity(alloc, room)?,
+            later: false,
+        })
+    }
+
     #[tactic(auto, unfolding(crate::specs::Writing::after_comma))]
+    #[inline(always)]
     fn comma(&mut self) -> Result<(), OutOfMemory>
         ensures { OnOk result (self.new.bytes.items ≡ after_comma (written self.old)) }
     {
@@ -84,11 +95,12 @@ impl JsonText {
 
     /// Puts the name of a member at the end.
     #[tactic(auto, unfolding(crate::specs::Writing::with_key))]
+    #[inline(always)]
     pub fn key(&mut self, name: &str) -> Result<(), OutOfMemory>
         ensures ok { OnOk result (written self.new ≡ with_key name.now (written self.old)) }
     {
         self.comma()?;
-        push_quoted(&mut self.bytes, name)?;
+        push_name(&mut self.bytes, name)?;
         self.bytes.push(b':')?;
         self.later = false;
         Ok(())

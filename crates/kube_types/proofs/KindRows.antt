@@ -16,10 +16,10 @@ module _ {X : Type 0} (level : X → ℕ) where
   abbrev pub IsStart : ℕ → List X → ℕ → Type 0
   IsStart k xs i = IsPartitionPoint (λ x. level x < k) (λ x. k ≤ level x) xs i
 
-  tail_of : (k : ℕ) (y : X) (ys : List X) (i : ℕ) → IsStart k (y ∷ ys) (suc i) → IsStart k ys i
+  pub tail_of : (k : ℕ) (y : X) (ys : List X) (i : ℕ) → IsStart k (y ∷ ys) (suc i) → IsStart k ys i
   tail_of k y ys i s = (λ j d ge lt. s.0 (suc j) d (omega arith) (omega arith), λ j d ge lt. s.1 (suc j) d (omega arith) (omega arith))
 
-  tail_at : (k : ℕ) (y : X) (ys : List X) → IsStart k (y ∷ ys) zero → IsStart k ys zero
+  pub tail_at : (k : ℕ) (y : X) (ys : List X) → IsStart k (y ∷ ys) zero → IsStart k ys zero
   tail_at k y ys s = (λ j d ge lt. absurd (omega arith), λ j d ge lt. s.1 (suc j) d (omega arith) (omega arith))
 
   pub ordered : (k : ℕ) (xs : List X) (i j : ℕ) → i ≤ length xs → IsStart k xs i → IsStart (k + 1) xs j → i ≤ j

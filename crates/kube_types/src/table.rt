@@ -5,7 +5,7 @@ ghost use Rattle.std.specs.Option.{option_copied};
 ghost use Rattle.std.specs.List.Sorted.{IsSearchInRange};
 ghost use Rattle.kube_types.specs.Keys.{AreRows, IsRowAt, IsRowGap, key_of, row_at, put_row, without_row, rows_of, IsKindStart};
 
-use crate::key::{Key, key_of, kind_index, kind_of};
+use crate::key::{Key, key_of, kind_index, kind_of, same_kind};
 use crate::lookup::Lookup;
 use crate::objects::Object;
 use crate::parts::Kind;
@@ -127,9 +127,14 @@ pub fn at_of_kind<'a>(rows: &'a [Object], kind: Kind, place: usize) -> Option<&'
     requires { AreRows rows.now }
     ensures { option_copied result ≡ slice_get (rows_of kind rows.now) place }
 {
-    let (start, count) = kind_span(rows, kind);
-    if place < count {
-        Some(&rows[start + place])
+    // One search: where the kind begins. What stands at the place from there on tells by itself whether it is of the kind.
+    let start = kind_start(rows, kind_index(kind));
+    if place >= rows.len() - start {
+        return None;
+    }
+    let object = &rows[start + place];
+    if same_kind(kind_of(object), kind) {
+        Some(object)
     } else {
         None
     }

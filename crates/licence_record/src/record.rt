@@ -15,6 +15,7 @@ ghost use Rattle.licence_record.specs.Judged.{Judges};
 
 use call_types::entry::Entry;
 use call_types::request::SeatKind;
+use evidence_pages::sought::Sought;
 use kube_types::key::Key;
 use kube_types::objects::{DataId, Object, Version, Volume};
 use kube_types::parts::Kind;
@@ -53,18 +54,18 @@ pub trait Record {
 
     // parts of the entries
 
-    /// The entries that speak of the key, the oldest first.
-    fn about(&self, kind: Kind, namespace: &str, name: &str) -> &[Entry]
+    /// What is sought among the entries that speak of the key, the oldest first.
+    fn about(&self, kind: Kind, namespace: &str, name: &str, sought: Sought) -> &[Entry]
         ensures part { IsPart (reverse result.now) (told self.now) }
         ensures all { whole self.now → reverse result.now ≡ told self.now };
 
-    /// The entries that speak of data provisioned under this name.
-    fn provisioned(&self, name: &Text) -> &[Entry]
+    /// The same among those that speak of data provisioned under this name.
+    fn provisioned(&self, name: &Text, sought: Sought) -> &[Entry]
         ensures part { IsPart (reverse result.now) (told self.now) }
         ensures all { whole self.now → reverse result.now ≡ told self.now };
 
-    /// The entries that speak of data provisioned for the claim with the UID of this text.
-    fn wanted(&self, uid: &str) -> &[Entry]
+    /// The same among those that speak of data provisioned for the claim with the UID of this text.
+    fn wanted(&self, uid: &str, sought: Sought) -> &[Entry]
         ensures part { IsPart (reverse result.now) (told self.now) }
         ensures all { whole self.now → reverse result.now ≡ told self.now };
 

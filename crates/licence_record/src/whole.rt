@@ -12,6 +12,7 @@ use crate::classes::is_default_named;
 use crate::record::Record;
 use call_types::entry::Entry;
 use call_types::request::SeatKind;
+use evidence_pages::sought::Sought;
 use kube_types::copies::Plain;
 use kube_types::key::Key;
 use kube_types::objects::{DataId, Object, Version, Volume};
@@ -98,15 +99,15 @@ impl<'a> Record for Whole<'a> {
         is_default_named(self.entries, name)
     }
 
-    fn about(&self, _kind: Kind, _namespace: &str, _name: &str) -> &[Entry] {
+    fn about(&self, _kind: Kind, _namespace: &str, _name: &str, _sought: Sought) -> &[Entry] {
         as_part(self.entries)
     }
 
-    fn provisioned(&self, _name: &Text) -> &[Entry] {
+    fn provisioned(&self, _name: &Text, _sought: Sought) -> &[Entry] {
         as_part(self.entries)
     }
 
-    fn wanted(&self, _uid: &str) -> &[Entry] {
+    fn wanted(&self, _uid: &str, _sought: Sought) -> &[Entry] {
         as_part(self.entries)
     }
 

@@ -2,12 +2,14 @@
 
 ghost use Rattle.std.specs.Prelude.{◌≡◌, ◌↔◌, IsTrue};
 ghost use Rattle.call_types.specs.declared.request.Request.TheVariants as requests;
+ghost use Rattle.call_types.specs.declared.request.SeatKind.TheVariants as seats;
 ghost use Rattle.binder_model.specs.Reading.{IsDeletingIn, MayGet, MayListNamespace, MayRead};
 ghost use Rattle.binder_model.specs.Told.{ToldClaim};
 ghost use Rattle.licence_record.specs.Judged.{Judges};
 
 use crate::asking::{asks_for_claim, asks_for_ended, asks_for_volume};
 use call_types::request::{Request, SeatKind};
+use evidence_pages::sought::Sought;
 use kube_types::bindings::is_deleting;
 use kube_types::key::Key;
 use kube_types::objects::{Claim, Version};
@@ -40,7 +42,7 @@ fn told_deleting<R: Record>(seat: &R, namespace: &Text) -> bool
     ensures { Judges (R.whole seat.now) result (ToldClaim (IsDeletingIn namespace.now) (R.told seat.now)) }
 {
     let test = DeletingIn { namespace };
-    let page = seat.about(Kind::Pod, namespace.as_str(), "");
+    let page = seat.about(Kind::Pod, namespace.as_str(), "", Sought::Deleting);
     told_claim(&test, page)
 }
 
@@ -77,17 +79,35 @@ fn may_watch<R: Record>(seat: &R, kind: SeatKind, of: Kind, from: Version) -> bo
     seat.is_from(of, from)
 }
 
+/// Whether the binder may read the object of the key, by what is sought of it.
+fn asks_for<R: Record>(seat: &R, key: &Key, volume: Sought, claim: Sought) -> bool
+    ensures { Judges (R.whole seat.now) result (MayGet seats.Binder (R.told seat.now) key.now) }
+{
+    let namespace = key.namespace.as_str();
+    let name = key.name.as_str();
+    let page = seat.about(key.kind, namespace, name, volume);
+    if asks_for_claim(seat, page, key) {
+        return true;
+    }
+    let page = seat.about(key.kind, namespace, name, claim);
+    asks_for_volume(seat, page, key)
+}
+
+/// Whether the binder may read the object of the key. The last that was told to refer to it is looked at first.
+fn binder_may_get<R: Record>(seat: &R, key: &Key) -> bool
+    ensures { Judges (R.whole seat.now) result (MayGet seats.Binder (R.told seat.now) key.now) }
+{
+    if asks_for(seat, key, Sought::Referring, Sought::Completed) {
+        return true;
+    }
+    asks_for(seat, key, Sought::All, Sought::All)
+}
+
 fn may_get<R: Record>(seat: &R, kind: SeatKind, key: &Key) -> bool
     ensures { Judges (R.whole seat.now) result (MayGet kind (R.told seat.now) key.now) }
 {
     match kind {
-        SeatKind::Binder => {
-            let page = seat.about(key.kind, key.namespace.as_str(), key.name.as_str());
-            if asks_for_claim(seat, page, key) {
-                return true;
-            }
-            asks_for_volume(seat, page, key)
-        }
+        SeatKind::Binder => binder_may_get(seat, key),
         SeatKind::Ops => asks_for_ended(seat, key),
         SeatKind::Agent => seat.asks_for_mount(key),
         _ => false,

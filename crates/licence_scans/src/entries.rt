@@ -5,7 +5,7 @@ ghost use Rattle.call_types.specs.declared.entry.Entry.{Entry};
 ghost use Rattle.binder_model.specs.Told.{After, SomeOf, ToldObject};
 ghost use Rattle.licence_scans.specs.Last.{IsLast};
 
-use crate::told::{ObjectTest, told_object};
+use crate::told::{ObjectTest, told_early};
 use call_types::entry::Entry;
 
 /// A condition on an entry.
@@ -41,12 +41,13 @@ pub fn some_entry<T: EntryTest>(test: &T, mine: &[Entry]) -> bool
     }
 }
 
-/// Whether the second condition holds of an entry after an object was told of which the first holds.
+/// Whether the second condition holds of an entry after an object was told of which the first holds. The last
+/// such entry is looked for from the end, and the object from the beginning.
 pub fn after<T: ObjectTest, U: EntryTest>(told: &T, entry: &U, mine: &[Entry]) -> bool
     ensures { IsTrue result ↔ After (ToldObject (T.allows told.now)) (U.allows entry.now) (reverse mine.now) }
 {
     match last_place(entry, mine) {
         None => false,
-        Some(place) => told_object(told, &mine[..place]),
+        Some(place) => told_early(told, &mine[..place]),
     }
 }

@@ -6,6 +6,7 @@ ghost use Rattle.binder_model.specs.BinderLicence.{MayAssignClass};
 ghost use Rattle.binder_model.specs.Licence.{AtClaim};
 ghost use Rattle.licence_record.specs.Judged.{Judges};
 
+use evidence_pages::sought::Sought;
 use kube_types::bindings::{is_completed, is_deleting, lacks_class};
 use kube_types::objects::{Claim, Version};
 use kube_types::parts::Kind;
@@ -79,6 +80,7 @@ pub fn may_assign_class<R: Record>(seat: &R, new: &Claim, given: Option<Version>
         Kind::PersistentVolumeClaim,
         namespace.as_str(),
         name.as_str(),
+        Sought::Version(given),
     );
     told_claim_at(&row, page, given, namespace, name)
 }

@@ -9,17 +9,43 @@ ghost use Rattle.binder_model.specs.Licence.{AtClaim, AtClaimKey, AtVolume, AtVo
 ghost use Rattle.licence_record.specs.Judged.{Judges};
 
 use crate::assign::may_assign_class;
-use crate::pages::{called, carried, named, referred};
+use crate::pages::{Claimed, called, carried, named, referred};
 use crate::status::{claim_status, volume_status};
 use call_types::request::NewStatus;
+use evidence_pages::sought::Sought;
 use kube_types::bindings::is_completed;
 use kube_types::key::Key;
-use kube_types::objects::{Amount, Claim, Object, Version, Volume};
+use kube_types::objects::{Amount, Claim, Object, Ref, Version, Volume};
 use kube_types::parts::{ClaimPhase, Kind, Modes, VolumePhase};
 use licence_record::record::Record;
 use licence_rows::binder::{Bind, Complete, Free, Lose, Release, Show, Take, Unbind};
 use licence_rows::parts::ref_uid;
 use licence_scans::rows::{told_claim_at, told_volume_at};
+
+// what is sought on the page of the other object
+
+/// The claim to which the volume shall refer.
+fn sought_of(reference: &Option<Ref>) -> Sought {
+    match ref_uid(reference) {
+        None => Sought::All,
+        Some(uid) => Sought::Claim(uid),
+    }
+}
+
+/// A volume that is Bound for the claim.
+fn sought_bound(claim: &Claim) -> Sought {
+    match claim.meta.uid {
+        None => Sought::All,
+        Some(uid) => Sought::Bound(uid),
+    }
+}
+
+fn bytes_of(amount: &Option<Amount>) -> Option<u64> {
+    match amount {
+        None => None,
+        Some(amount) => Some(amount.bytes),
+    }
+}
 
 // volumes
 
@@ -29,8 +55,13 @@ pub(crate) fn takes<R: Record>(seat: &R, new: &Volume, given: Option<Version>) -
 {
     let namespace = &new.meta.namespace;
     let name = &new.meta.name;
-    let page = seat.about(Kind::PersistentVolume, namespace.as_str(), name.as_str());
-    let mine = referred(seat, page, &new.claim_ref);
+    let page = seat.about(
+        Kind::PersistentVolume,
+        namespace.as_str(),
+        name.as_str(),
+        Sought::Version(given),
+    );
+    let mine = referred(seat, page, &new.claim_ref, sought_of(&new.claim_ref));
     let row = Take { mine, new };
     told_volume_at(&row, page, given, namespace, name)
 }
@@ -40,8 +71,13 @@ fn unbinds<R: Record>(seat: &R, new: &Volume, given: Option<Version>) -> bool
 {
     let namespace = &new.meta.namespace;
     let name = &new.meta.name;
-    let page = seat.about(Kind::PersistentVolume, namespace.as_str(), name.as_str());
-    let mine = carried(seat, page, given);
+    let page = seat.about(
+        Kind::PersistentVolume,
+        namespace.as_str(),
+        name.as_str(),
+        Sought::Version(given),
+    );
+    let mine = carried(seat, page, given, Claimed::Named);
     let row = Unbind { mine, new };
     told_volume_at(&row, page, given, namespace, name)
 }
@@ -53,6 +89,7 @@ fn frees<R: Record>(seat: &R, key: &Key, given: Option<Version>) -> bool
         Kind::PersistentVolume,
         key.namespace.as_str(),
         key.name.as_str(),
+        Sought::Version(given),
     );
     volume_status(&Free {}, page, key, given)
 }
@@ -64,21 +101,34 @@ fn binds<R: Record>(seat: &R, key: &Key, given: Option<Version>) -> bool
         Kind::PersistentVolume,
         key.namespace.as_str(),
         key.name.as_str(),
+        Sought::Version(given),
     );
-    let mine = carried(seat, page, given);
+    let mine = carried(seat, page, given, Claimed::Nameless);
     volume_status(&Bind { mine }, page, key, given)
 }
 
-fn releases<R: Record>(seat: &R, key: &Key, given: Option<Version>) -> bool
+/// Whether what is sought of the volume's claim shows that phase Released may be written.
+fn releases_by<R: Record>(seat: &R, key: &Key, given: Option<Version>, claimed: Claimed) -> bool
     ensures { Judges (R.whole seat.now) result (AtVolumeKey (R.told seat.now) key.now given (λ o. MayRelease (R.told seat.now) o)) }
 {
     let page = seat.about(
         Kind::PersistentVolume,
         key.namespace.as_str(),
         key.name.as_str(),
+        Sought::Version(given),
     );
-    let mine = carried(seat, page, given);
+    let mine = carried(seat, page, given, claimed);
     volume_status(&Release { mine }, page, key, given)
+}
+
+/// Whether phase Released may be written, since the claim was read gone or was told with another volume.
+fn releases<R: Record>(seat: &R, key: &Key, given: Option<Version>) -> bool
+    ensures { Judges (R.whole seat.now) result (AtVolumeKey (R.told seat.now) key.now given (λ o. MayRelease (R.told seat.now) o)) }
+{
+    if releases_by(seat, key, given, Claimed::Released) {
+        return true;
+    }
+    releases_by(seat, key, given, Claimed::Named)
 }
 
 // claims
@@ -92,8 +142,9 @@ fn completes<R: Record>(seat: &R, new: &Claim, given: Option<Version>) -> bool
         Kind::PersistentVolumeClaim,
         namespace.as_str(),
         name.as_str(),
+        Sought::Version(given),
     );
-    let mine = called(seat, &new.volume_name);
+    let mine = called(seat, &new.volume_name, sought_bound(new));
     let row = Complete { mine, new };
     told_claim_at(&row, page, given, namespace, name)
 }
@@ -111,8 +162,9 @@ fn shows_bound<R: Record>(
         Kind::PersistentVolumeClaim,
         key.namespace.as_str(),
         key.name.as_str(),
+        Sought::Version(given),
     );
-    let mine = named(seat, page, given);
+    let mine = named(seat, page, given, bytes_of(amount));
     let row = Show {
         mine,
         modes,
@@ -134,8 +186,9 @@ fn loses<R: Record>(
         Kind::PersistentVolumeClaim,
         key.namespace.as_str(),
         key.name.as_str(),
+        Sought::Version(given),
     );
-    let mine = named(seat, page, given);
+    let mine = named(seat, page, given, None);
     let row = Lose {
         mine,
         modes,

@@ -5,6 +5,7 @@ ghost use Rattle.binder_model.specs.OpsLicence.{MayCreate};
 ghost use Rattle.licence_ops.specs.Providing.{Creates};
 ghost use Rattle.licence_record.specs.Judged.{Judges};
 
+use evidence_pages::sought::Sought;
 use kube_types::bindings::class_of_claim;
 use kube_types::objects::{Claim, Class, Ref, Volume};
 use kube_types::uid::Uid;
@@ -16,7 +17,8 @@ use licence_record::record::Record;
 fn creates<R: Record>(seat: &R, claim: &Claim, uid: Uid, class: &Class, new: &Volume) -> bool
     ensures { Judges (R.whole seat.now) result (Creates (R.told seat.now) claim.now uid class.now new.now) }
 {
-    page_creates(seat.provisioned(&new.meta.name), claim, uid, class, new)
+    let page = seat.provisioned(&new.meta.name, Sought::Provisioned);
+    page_creates(page, claim, uid, class, new)
 }
 
 /// Whether the volume, which names the claim of this UID, may be created.

@@ -7,6 +7,7 @@ ghost use Rattle.binder_model.specs.Licence.{AtClaim, AtVolume, GuardsClaim, Gua
 ghost use Rattle.binder_model.specs.GuardLicence.{MayUnguardClaim, MayUnguardVolume};
 ghost use Rattle.licence_record.specs.Judged.{Judges};
 
+use evidence_pages::sought::Sought;
 use kube_types::bindings::{is_protected_claim, is_protected_volume};
 use kube_types::objects::{Claim, Object, Version, Volume};
 use kube_types::parts::Kind;
@@ -19,7 +20,12 @@ fn guards_volume<R: Record>(seat: &R, new: &Volume, given: Option<Version>) -> b
 {
     let namespace = &new.meta.namespace;
     let name = &new.meta.name;
-    let page = seat.about(Kind::PersistentVolume, namespace.as_str(), name.as_str());
+    let page = seat.about(
+        Kind::PersistentVolume,
+        namespace.as_str(),
+        name.as_str(),
+        Sought::Version(given),
+    );
     told_volume_at(&GuardVolume { new }, page, given, namespace, name)
 }
 
@@ -28,7 +34,12 @@ fn unguards_volume<R: Record>(seat: &R, new: &Volume, given: Option<Version>) ->
 {
     let namespace = &new.meta.namespace;
     let name = &new.meta.name;
-    let page = seat.about(Kind::PersistentVolume, namespace.as_str(), name.as_str());
+    let page = seat.about(
+        Kind::PersistentVolume,
+        namespace.as_str(),
+        name.as_str(),
+        Sought::Version(given),
+    );
     told_volume_at(&UnguardVolume { new }, page, given, namespace, name)
 }
 
@@ -41,8 +52,17 @@ fn guards_claim<R: Record>(seat: &R, new: &Claim, given: Option<Version>) -> boo
         Kind::PersistentVolumeClaim,
         namespace.as_str(),
         name.as_str(),
+        Sought::Version(given),
     );
     told_claim_at(&GuardClaim { new }, page, given, namespace, name)
+}
+
+/// That no pod uses the claim.
+fn sought_unused(claim: &Claim) -> Sought {
+    match claim.meta.uid {
+        None => Sought::All,
+        Some(uid) => Sought::Unused(uid),
+    }
 }
 
 fn unguards_claim<R: Record>(seat: &R, new: &Claim, given: Option<Version>) -> bool
@@ -54,8 +74,9 @@ fn unguards_claim<R: Record>(seat: &R, new: &Claim, given: Option<Version>) -> b
         Kind::PersistentVolumeClaim,
         namespace.as_str(),
         name.as_str(),
+        Sought::Version(given),
     );
-    let mine = seat.about(Kind::Pod, namespace.as_str(), "");
+    let mine = seat.about(Kind::Pod, namespace.as_str(), "", sought_unused(new));
     let row = UnguardClaim { mine, new };
     told_claim_at(&row, page, given, namespace, name)
 }

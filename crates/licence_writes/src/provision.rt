@@ -9,6 +9,7 @@ ghost use Rattle.binder_model.specs.Told.{IsNewest};
 ghost use Rattle.licence_ops.specs.Providing.{IsProvided, IsProvidedBy};
 ghost use Rattle.licence_record.specs.Judged.{Judges};
 
+use evidence_pages::sought::Sought;
 use kube_types::bindings::{SELECTED_NODE, class_of_claim};
 use kube_types::copies::Plain;
 use kube_types::objects::{Claim, Class};
@@ -121,5 +122,5 @@ pub fn may_provision<R: Record>(
     };
     let may = OfSomeClaims { test: &asked };
     let row = OfClaims { test: &provided };
-    some_newest(&may, &row, seat.provisioned(name), seat)
+    some_newest(&may, &row, seat.provisioned(name, Sought::Last), seat)
 }

@@ -9,6 +9,7 @@ ghost use Rattle.licence_record.specs.Judged.{Judges};
 use crate::pages::called;
 use crate::status::volume_status;
 use call_types::entry::Entry;
+use evidence_pages::sought::Sought;
 use kube_types::copies::Plain;
 use kube_types::key::Key;
 use kube_types::objects::{DataId, Version};
@@ -32,8 +33,9 @@ pub fn may_erase<R: Record>(seat: &R, id: &DataId) -> bool
 pub fn may_fail<R: Record>(seat: &R, key: &Key, given: Option<Version>) -> bool
     ensures { Judges (R.whole seat.now) result (AtVolumeKey (R.told seat.now) key.now given (λ o. MayFail (R.told seat.now) o)) }
 {
-    let page = called(seat, &key.name);
-    volume_status(&Fail { mine: page }, page, key, given)
+    let page = called(seat, &key.name, Sought::Version(given));
+    let mine = called(seat, &key.name, Sought::Failed(given));
+    volume_status(&Fail { mine }, page, key, given)
 }
 
 fn deletes(page: &[Entry], key: &Key, given: Option<Uid>) -> bool
@@ -50,9 +52,17 @@ fn deletes(page: &[Entry], key: &Key, given: Option<Uid>) -> bool
     }
 }
 
+/// That the data of the volume were erased.
+fn sought_erased(given: Option<Uid>) -> Sought {
+    match given {
+        None => Sought::All,
+        Some(uid) => Sought::Erased(uid),
+    }
+}
+
 /// Whether the volume may be deleted.
 pub fn may_delete<R: Record>(seat: &R, key: &Key, given: Option<Uid>) -> bool
     ensures { Judges (R.whole seat.now) result (MayDeleteVolume (R.told seat.now) key.now given) }
 {
-    deletes(called(seat, &key.name), key, given)
+    deletes(called(seat, &key.name, sought_erased(given)), key, given)
 }

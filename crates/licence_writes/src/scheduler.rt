@@ -9,6 +9,7 @@ ghost use Rattle.licence_record.specs.Judged.{Judges};
 ghost use Rattle.licence_rows.specs.Scheduling.{IsAdmitted, IsAssignable, IsDelayed, IsNodeTold, SelectsNode};
 
 use crate::binder::takes;
+use evidence_pages::sought::Sought;
 use kube_types::bindings::{SELECTED_NODE, class_of_claim, is_completed};
 use kube_types::copies::Plain;
 use kube_types::key::Key;
@@ -96,6 +97,7 @@ fn may_select<R: Record>(seat: &R, new: &Claim, given: Option<Version>) -> bool
         Kind::PersistentVolumeClaim,
         namespace.as_str(),
         name.as_str(),
+        Sought::Version(given),
     );
     told_claim_at(&row, page, given, namespace, name)
 }

@@ -7,6 +7,7 @@ ghost use Rattle.binder_model.specs.Provisioning.{data_name};
 ghost use Rattle.binder_model.specs.Told.{After, ToldClaim};
 ghost use Rattle.licence_record.specs.Judged.{Judges};
 
+use evidence_pages::sought::Sought;
 use kube_types::bindings::{SELECTED_NODE, is_completed};
 use kube_types::objects::{Claim, Version};
 use kube_types::parts::Kind;
@@ -24,7 +25,11 @@ fn is_exhausted<R: Record>(seat: &R, claim: &Claim, uid: Uid) -> bool
     let mut buffer = Uuid::encode_buffer();
     let uuid = Uuid::from_u128(uid.0);
     let text = uuid.hyphenated().encode_lower(&mut buffer);
-    was_exhausted(seat.wanted(text), claim, uid)
+    was_exhausted(
+        seat.wanted(text, Sought::Exhausted(Some(claim.meta.version))),
+        claim,
+        uid,
+    )
 }
 
 /// Whether the claim cannot be provisioned on the node that was chosen for it.
@@ -83,6 +88,7 @@ pub fn may_clear_node<R: Record>(seat: &R, new: &Claim, given: Option<Version>) 
         Kind::PersistentVolumeClaim,
         namespace.as_str(),
         name.as_str(),
+        Sought::Version(given),
     );
     told_claim_at(&row, page, given, namespace, name)
 }

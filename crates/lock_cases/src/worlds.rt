@@ -3,6 +3,7 @@ ghost use Rattle.std.specs.Prelude.{◌≡◌, ◌<◌};
 ghost use Rattle.seat_lock.specs.Passes.{forks_of};
 ghost use Rattle.shared_world.specs.Passes.{IsOf};
 
+use call_types::ask::Ask;
 use call_types::reply::{Refusal, Reply};
 use call_types::request::{Request, SeatKind};
 use call_types::setup::Setup;
@@ -11,7 +12,6 @@ use kube_types::items::Items;
 use kube_types::key::Key;
 use kube_types::parts::Kind;
 use kube_types::text::Text;
-use shared_world::ask::Ask;
 use shared_world::shared::{SharedWorld, WorldPass};
 use std::alloc::Global;
 use std::process::Abort;

@@ -24,7 +24,7 @@ use Rattle.node_agent.specs.declared.agent.AgentOp.{AgentOp}
 use Rattle.node_agent.specs.declared.step.AgentStep.{AgentStep}
 use Rattle.node_agent.specs.declared.step.AgentStep.TheVariants as steps
 use Rattle.node_agent.specs.declared.step.ReadyClaim.{ReadyClaim}
-use Rattle.node_agent.specs.Agents.{agent_call, call_at, finish_call, mount_call, uids_of}
+use Rattle.node_agent.specs.Agents.{agent_call, agent_call_at, finish_call, mount_call, uids_of}
 use Rattle.node_agent.specs.BeginLaw.{CallsReadNoKind, ReadsNoKind}
 use Rattle.node_agent.specs.Evidence.{AgentKeeps, AreFoundReady, MayFinishPod, MayMountPod, MayReadClaim, StepKeeps, at_rest}
 
@@ -84,7 +84,7 @@ mounts op mine kept =
 finishes : (op : AgentOp) (mine : List Entry) → MayFinishPod op mine → MayFinish mine (pod_key op.pod.meta.namespace op.pod.meta.name) op.uid op.node op.epoch
 finishes op mine kept = record { current = kept.ending.current; kind = refl; told = kept.ending.told; unmounted = kept.unmounted }
 
-row_allows : (step : AgentStep) (op : AgentOp) (mine : List Entry) (request : Request) → StepKeeps step (at_rest op) mine → call_at op step ≡ Some request → RowAllows seats.Agent mine request
+row_allows : (step : AgentStep) (op : AgentOp) (mine : List Entry) (request : Request) → StepKeeps step (at_rest op) mine → agent_call_at op step ≡ Some request → RowAllows seats.Agent mine request
 row_allows (steps.ReadsClaim name) op mine request kept e = answered mine (requests.Get (claim_key op.pod.meta.namespace name)) request e (reads_claim (at_rest op) name mine kept)
 row_allows (steps.ReadsVolume name c) op mine request kept e = answered mine (requests.Get (volume_key c.volume_name)) request e (inr kept.naming)
 row_allows steps.MountsPod op mine request kept e = answered mine (mount_call op) request e (mounts (at_rest op) mine kept)
@@ -119,7 +119,7 @@ reads_none : (x : Option Request) (request : Request) → ReadsNone x → x ≡ 
 reads_none None request h e = none_some e
 reads_none (Some r) request h e = subst ReadsNoKind (one r request e) h
 
-step_reads_none : (step : AgentStep) (op : AgentOp) → ReadsNone (call_at op step)
+step_reads_none : (step : AgentStep) (op : AgentOp) → ReadsNone (agent_call_at op step)
 step_reads_none (steps.ReadsClaim name) op = no_kind _ refl refl
 step_reads_none (steps.ReadsVolume name c) op = no_kind _ refl refl
 step_reads_none steps.MountsPod op = no_kind _ refl refl
@@ -131,4 +131,4 @@ step_reads_none steps.Parked op = tt
 
 pub calls_read_no_kind : CallsReadNoKind
 unfolding agent_call
-calls_read_no_kind op request e = reads_none (call_at op op.step) request (step_reads_none op.step op) e
+calls_read_no_kind op request e = reads_none (agent_call_at op op.step) request (step_reads_none op.step op) e

@@ -27,7 +27,7 @@ use Rattle.node_agent.specs.declared.agent.AgentOp.{AgentOp}
 use Rattle.node_agent.specs.declared.step.AgentStep.{AgentStep}
 use Rattle.node_agent.specs.declared.step.AgentStep.TheVariants as steps
 use Rattle.node_agent.specs.declared.step.ReadyClaim.{ReadyClaim}
-use Rattle.node_agent.specs.Agents.{after_claim, after_last, after_mounts, after_unmount, agent_after, agent_call, agent_moved, call_at, is_claim_read, is_ready, is_volume_read, next_step, ready_by, ready_claim}
+use Rattle.node_agent.specs.Agents.{after_claim, after_last, after_mounts, after_unmount, agent_after, agent_call, agent_moved, agent_call_at, is_claim_read, is_agent_ready, is_volume_read, next_step, ready_by, ready_claim}
 use Rattle.node_agent.specs.Evidence.{AgentKeeps, AreFoundReady, IsFoundReady, MayEnd, MayRead, MayReadClaim, MayReadVolume, StepKeeps, at_rest}
 use Rattle.node_agent.proofs.Gets.{IsFound, both, claim_past, claims_past, epoch_past, last_found, never_past, newest_past, no_epoch, since_epoch_past, volumes_past}
 
@@ -68,7 +68,7 @@ next_keeps op mine m = by (slice_get op.pod.claims (length op.ready)) refl
 
 -- after the read of a claim
 
-found_claim : (op : AgentOp) (name : List ℕ) (c : ClaimData) (mine : List Entry) (e : Entry) → MayReadClaim op name mine → IsFound (claim_key op.pod.meta.namespace name) (Claim c) e → is_ready c ≡ true → is_volume_read c.volume_name op.ready ≡ false → MayReadVolume op name c (e ∷ mine)
+found_claim : (op : AgentOp) (name : List ℕ) (c : ClaimData) (mine : List Entry) (e : Entry) → MayReadClaim op name mine → IsFound (claim_key op.pod.meta.namespace name) (Claim c) e → is_agent_ready c ≡ true → is_volume_read c.volume_name op.ready ≡ false → MayReadVolume op name c (e ∷ mine)
 found_claim op name c mine e kept f ready apart =
     let m = kept.pod in
     let key = claim_key op.pod.meta.namespace name in
@@ -86,13 +86,13 @@ found_claim op name c mine e kept f ready apart =
 claim_goes_on : (op : AgentOp) (name : List ℕ) (mine : List Entry) (e : Entry) → MayReadClaim (at_rest op) name mine → e.request ≡ requests.Get (claim_key op.pod.meta.namespace name) → e.told ≡ true → StepKeeps (after_claim name op.ready e.reply) (at_rest op) (e ∷ mine)
 claim_goes_on op name mine e kept asked told = by e.reply refl
   where
-    by_test : (c : ClaimData) (a b : Bool) → e.reply ≡ replies.Found (Claim c) → is_ready c ≡ a → is_volume_read c.volume_name op.ready ≡ b → StepKeeps (if a && not b then steps.ReadsVolume name c else steps.Parked) (at_rest op) (e ∷ mine)
+    by_test : (c : ClaimData) (a b : Bool) → e.reply ≡ replies.Found (Claim c) → is_agent_ready c ≡ a → is_volume_read c.volume_name op.ready ≡ b → StepKeeps (if a && not b then steps.ReadsVolume name c else steps.Parked) (at_rest op) (e ∷ mine)
     by_test c true false found r v = found_claim (at_rest op) name c mine e kept (record { told = told; asked = asked; found = found }) r v
     by_test c true true found r v = tt
     by_test c false b found r v = tt
 
     by : (reply : Reply) → e.reply ≡ reply → StepKeeps (after_claim name op.ready reply) (at_rest op) (e ∷ mine)
-    by (replies.Found (Claim c)) is = by_test c (is_ready c) (is_volume_read c.volume_name op.ready) is refl refl
+    by (replies.Found (Claim c)) is = by_test c (is_agent_ready c) (is_volume_read c.volume_name op.ready) is refl refl
     by (replies.Found (Class x)) is = tt
     by (replies.Found (Node x)) is = tt
     by (replies.Found (Volume x)) is = tt
@@ -204,7 +204,7 @@ last_keeps _ op mine = tt
 was_asked : (a : Request) (e : Entry) → Some a ≡ Some e.request → e.request ≡ a
 was_asked a e is = sym (one a e.request is)
 
-step_goes_on : (step : AgentStep) (op : AgentOp) (mine : List Entry) (e : Entry) → StepKeeps step (at_rest op) mine → call_at op step ≡ Some e.request → e.told ≡ true → AgentKeeps (agent_after op step (ready_by step e.reply) e.reply) (e ∷ mine)
+step_goes_on : (step : AgentStep) (op : AgentOp) (mine : List Entry) (e : Entry) → StepKeeps step (at_rest op) mine → agent_call_at op step ≡ Some e.request → e.told ≡ true → AgentKeeps (agent_after op step (ready_by step e.reply) e.reply) (e ∷ mine)
 step_goes_on (steps.ReadsClaim name) op mine e kept call told = claim_goes_on op name mine e kept (was_asked _ e call) told
 step_goes_on (steps.ReadsVolume name c) op mine e kept call told = volume_goes_on op name c mine e kept (was_asked _ e call) told
 step_goes_on steps.MountsPod op mine e kept call told = last_keeps e.reply (at_rest op) (e ∷ mine)

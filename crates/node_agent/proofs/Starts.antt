@@ -5,7 +5,7 @@ use Rattle.std.specs.List.{list_any}
 use Rattle.binder_model.specs.AgentLicence.{epoch_in}
 use Rattle.node_agent.specs.declared.step.AgentStep.{AgentStep}
 use Rattle.node_agent.specs.declared.step.AgentStep.TheVariants as steps
-use Rattle.node_agent.specs.Agents.{agent_call, agent_parks, call_at}
+use Rattle.node_agent.specs.Agents.{agent_call, agent_parks, agent_call_at}
 use Rattle.pod_law.specs.Tellings.{tells_pod}
 use Rattle.node_agent.specs.Evidence.{HasStarted, StartedBy}
 use Rattle.node_agent.specs.StartLaw.{ParkedHaveEnded, StartGoesOn, UntoldHasStarted}
@@ -29,7 +29,7 @@ pub parked_have_ended : ParkedHaveEnded
 unfolding agent_call
 parked_have_ended op = by op.step
   where
-    by : (step : AgentStep) → agent_parks step ≡ true → call_at op step ≡ None
+    by : (step : AgentStep) → agent_parks step ≡ true → agent_call_at op step ≡ None
     by steps.Parked e = refl
     by (steps.ReadsClaim name) e = absurd (true≢false (sym e))
     by (steps.ReadsVolume name c) e = absurd (true≢false (sym e))

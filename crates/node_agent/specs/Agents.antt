@@ -33,18 +33,18 @@ mount_call op = requests.Mount op.node op.epoch op.uid (uids_of op.ready)
 abbrev pub finish_call : AgentOp → Request
 finish_call op = requests.FinishPod (pod_key op.pod.meta.namespace op.pod.meta.name) op.uid op.node op.epoch
 
-abbrev pub call_at : AgentOp → AgentStep → Option Request
-call_at op (steps.ReadsClaim name) = Some (requests.Get (claim_key op.pod.meta.namespace name))
-call_at op (steps.ReadsVolume name c) = Some (requests.Get (volume_key c.volume_name))
-call_at op steps.MountsPod = Some (mount_call op)
-call_at op steps.Unmounts = Some (requests.Unmount op.node op.epoch op.uid)
-call_at op steps.ReadsMounts = Some (requests.Mounts op.node op.epoch)
-call_at op steps.Finishes = Some (finish_call op)
-call_at op steps.Done = None
-call_at op steps.Parked = None
+abbrev pub agent_call_at : AgentOp → AgentStep → Option Request
+agent_call_at op (steps.ReadsClaim name) = Some (requests.Get (claim_key op.pod.meta.namespace name))
+agent_call_at op (steps.ReadsVolume name c) = Some (requests.Get (volume_key c.volume_name))
+agent_call_at op steps.MountsPod = Some (mount_call op)
+agent_call_at op steps.Unmounts = Some (requests.Unmount op.node op.epoch op.uid)
+agent_call_at op steps.ReadsMounts = Some (requests.Mounts op.node op.epoch)
+agent_call_at op steps.Finishes = Some (finish_call op)
+agent_call_at op steps.Done = None
+agent_call_at op steps.Parked = None
 
 unfoldable pub agent_call : AgentOp → Option Request
-agent_call op = call_at op op.step
+agent_call op = agent_call_at op op.step
 
 -- what is read next
 
@@ -64,8 +64,8 @@ abbrev pub step_for : PodData → List ReadyClaim → AgentStep
 step_for p ready = next_step ready (slice_get p.claims (length ready))
 
 -- the claim stays, is protected, completed and bound
-abbrev pub is_ready : ClaimData → Bool
-is_ready c = not (is_deleting c.meta) && is_protected_claim c && is_completed c && is_claim_bound c.phase
+abbrev pub is_agent_ready : ClaimData → Bool
+is_agent_ready c = not (is_deleting c.meta) && is_protected_claim c && is_completed c && is_claim_bound c.phase
 
 -- what the answer to the next call makes of the machine
 
@@ -80,7 +80,7 @@ ready_by step reply = None
 
 -- the reads stop at the first claim that is not ready, and at one whose volume was read for another claim
 abbrev pub after_claim : List ℕ → List ReadyClaim → Reply → AgentStep
-after_claim name ready (Found (Claim c)) = if is_ready c && not (is_volume_read c.volume_name ready) then steps.ReadsVolume name c else steps.Parked
+after_claim name ready (Found (Claim c)) = if is_agent_ready c && not (is_volume_read c.volume_name ready) then steps.ReadsVolume name c else steps.Parked
 after_claim name ready reply = steps.Parked
 
 abbrev pub after_unmount : Reply → AgentStep
@@ -96,19 +96,19 @@ abbrev pub after_last : Reply → AgentStep
 after_last (Refused refusal) = steps.Parked
 after_last reply = steps.Done
 
-abbrev pub step_after : Uid → List ReadyClaim → AgentStep → Reply → AgentStep
-step_after uid ready (steps.ReadsClaim name) reply = after_claim name ready reply
-step_after uid ready (steps.ReadsVolume name c) reply = steps.Parked
-step_after uid ready steps.MountsPod reply = after_last reply
-step_after uid ready steps.Unmounts reply = after_unmount reply
-step_after uid ready steps.ReadsMounts reply = after_mounts uid reply
-step_after uid ready steps.Finishes reply = after_last reply
-step_after uid ready steps.Done reply = steps.Done
-step_after uid ready steps.Parked reply = steps.Parked
+abbrev pub agent_step_after : Uid → List ReadyClaim → AgentStep → Reply → AgentStep
+agent_step_after uid ready (steps.ReadsClaim name) reply = after_claim name ready reply
+agent_step_after uid ready (steps.ReadsVolume name c) reply = steps.Parked
+agent_step_after uid ready steps.MountsPod reply = after_last reply
+agent_step_after uid ready steps.Unmounts reply = after_unmount reply
+agent_step_after uid ready steps.ReadsMounts reply = after_mounts uid reply
+agent_step_after uid ready steps.Finishes reply = after_last reply
+agent_step_after uid ready steps.Done reply = steps.Done
+agent_step_after uid ready steps.Parked reply = steps.Parked
 
 abbrev pub agent_after : AgentOp → AgentStep → Option ReadyClaim → Reply → AgentOp
 agent_after op step (Some r) reply = record op { ready = op.ready ++ r ∷ []; step = step_for op.pod (op.ready ++ r ∷ []) }
-agent_after op step None reply = record op { step = step_after op.uid op.ready step reply }
+agent_after op step None reply = record op { step = agent_step_after op.uid op.ready step reply }
 
 unfoldable pub agent_moved : AgentOp → Reply → AgentOp
 agent_moved op reply = agent_after op op.step (ready_by op.step reply) reply

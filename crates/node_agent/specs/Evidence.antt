@@ -18,7 +18,7 @@ use Rattle.node_agent.specs.declared.agent.AgentOp.{AgentOp}
 use Rattle.node_agent.specs.declared.step.AgentStep.{AgentStep}
 use Rattle.node_agent.specs.declared.step.AgentStep.TheVariants as steps
 use Rattle.node_agent.specs.declared.step.ReadyClaim.{ReadyClaim}
-use Rattle.node_agent.specs.Agents.{is_claim_read, is_ready, is_volume_read}
+use Rattle.node_agent.specs.Agents.{is_claim_read, is_agent_ready, is_volume_read}
 
 -- a claim that was counted as ready was read so, and then its volume
 pub record IsFoundReady (recent : List Entry) (namespace name : List ℕ) (r : ReadyClaim) : Type 0 where
@@ -62,7 +62,7 @@ pub record MayReadVolume (op : AgentOp) (name : List ℕ) (c : ClaimData) (mine 
   pub pod : MayRead op mine
   pub next : IsNext op name
   pub read : last_get (claim_key op.pod.meta.namespace name) pod.recent ≡ Some (Found (Claim c))
-  pub ready : is_ready c ≡ true
+  pub ready : is_agent_ready c ≡ true
   pub apart : is_volume_read c.volume_name op.ready ≡ false
   pub naming : SomeOf (λ e. (e.told ≡ true) × FoundNaming (volume_key c.volume_name) e.reply) mine
 

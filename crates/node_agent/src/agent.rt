@@ -2,7 +2,7 @@
 
 ghost use Rattle.std.specs.Prelude.{◌≡◌, IfOk, OnOk};
 ghost use Rattle.binder_model.specs.AgentLicence.{has_row};
-ghost use Rattle.node_agent.specs.Agents.{after_last, after_mounts, after_unmount, agent_at, agent_call, agent_moved, agent_parks, at_start, finish_call, mount_call, step_after};
+ghost use Rattle.node_agent.specs.Agents.{after_last, after_mounts, after_unmount, agent_at, agent_call, agent_moved, agent_parks, at_start, finish_call, mount_call, agent_step_after};
 
 use crate::reads::{after_claim, pod_key, ready_by, step_for, uids_of};
 use crate::step::{AgentStep, ReadyClaim};
@@ -135,7 +135,7 @@ impl AgentOp {
 
     /// Where the step leads, where the answer shows no claim to be ready.
     fn step_after(&self, alloc: Global, reply: &Reply) -> Result<AgentStep, OutOfMemory>
-        ensures { IfOk result (λ step. step ≡ step_after self.now.uid self.now.ready self.now.step reply.now) }
+        ensures { IfOk result (λ step. step ≡ agent_step_after self.now.uid self.now.ready self.now.step reply.now) }
     {
         match &self.step {
             AgentStep::ReadsClaim(name) => after_claim(alloc, name, self.ready.as_slice(), reply),

@@ -4,7 +4,7 @@ ghost use Rattle.std.specs.Prelude.{◌≡◌, IfOk};
 ghost use Rattle.std.specs.Option.{option_copied};
 ghost use Rattle.binder_model.specs.BindWrites.{is_claim_bound};
 ghost use Rattle.binder_model.specs.ObjectKeys.{pod_key};
-ghost use Rattle.node_agent.specs.Agents.{after_claim, is_claim_read, is_ready, is_volume_read, next_step, ready_by, ready_claim, step_for, uids_of};
+ghost use Rattle.node_agent.specs.Agents.{after_claim, is_claim_read, is_agent_ready, is_volume_read, next_step, ready_by, ready_claim, step_for, uids_of};
 
 use crate::step::{AgentStep, ReadyClaim};
 use call_types::reply::Reply;
@@ -84,7 +84,7 @@ pub(crate) fn uids_of(alloc: Global, ready: &[ReadyClaim]) -> Result<Items<Uid>,
 
 /// Whether the claim stays, is protected, completed and bound.
 fn is_ready(claim: &Claim) -> bool
-    ensures { result ≡ is_ready claim.now }
+    ensures { result ≡ is_agent_ready claim.now }
 {
     !is_deleting(&claim.meta)
         && is_protected_claim(claim)

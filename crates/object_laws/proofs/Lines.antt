@@ -17,6 +17,7 @@ use Rattle.object_print.proofs.LineLaws.{objects_are_lines}
 use Rattle.object_text.specs.declared.errors.ObjectError.{ObjectError}
 use Rattle.object_text.specs.Reading.{most_bytes, object_of, read_text_of}
 use Rattle.object_text.specs.Listing.{is_list, item_of, list_in, list_of}
+use Rattle.object_text.proofs.WholeSizes.{least_whole}
 use Rattle.object_laws.specs.Given.{IsGiven}
 use Rattle.object_laws.proofs.Canonical.{object_good}
 use Rattle.object_laws.proofs.Back.{TellsKind, object_tells, object_back}
@@ -54,4 +55,4 @@ unfolding object_line list_of list_in item_of
 line_is_listed o h utf8 short =
     let good = object_good o h in
     let tells = object_tells o h in
-    rw (utf8, read-compact_text (object_data o) good.canonical good.shallow, tells.members, no_list (kind_of o) (object_data o) tells, no_float_good good, le-ltb most_bytes (length (compact_text (object_data o))) short, object_back o h) refl
+    rw (utf8, read-compact_text (object_data o) good.canonical good.shallow, tells.members, no_list (kind_of o) (object_data o) tells, least_whole (object_data o) (no_float_good good), le-ltb most_bytes (length (compact_text (object_data o))) short, object_back o h) refl

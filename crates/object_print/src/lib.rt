@@ -16,7 +16,7 @@ pub mod volumes;
 ghost use Rattle.std.specs.Prelude.{◌≡◌, IfOk};
 ghost use Rattle.object_print.specs.Objects.{object_line};
 
-use crate::members::{AsJson, print};
+use crate::members::AsJson;
 use json_text::writing::JsonText;
 use kube_types::copies::OutOfMemory;
 use kube_types::objects::Object;
@@ -40,10 +40,15 @@ impl AsJson for Object {
     }
 }
 
+/// For how many bytes there is room at once where an object is printed: few are longer.
+const ROOM: usize = 1024;
+
 /// The compact JSON of an object, without a line feed.
-#[tactic(auto, unfolding(crate::specs::Objects::object_line))]
+#[tactic(auto, using(json_text::proofs::Closing::alone), unfolding(crate::specs::Objects::object_line))]
 pub fn print_object(alloc: Global, object: &Object) -> Result<Bytes, OutOfMemory>
     ensures { IfOk result (λ b. b ≡ object_line object.now) }
 {
-    print(alloc, object)
+    let mut out = JsonText::with_room(alloc, ROOM)?;
+    object.write(&mut out)?;
+    Ok(out.into_bytes())
 }

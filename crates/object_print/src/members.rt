@@ -162,18 +162,21 @@ impl MemberSink for JsonText {
     ghost with_member = { with_member };
 
     #[tactic(auto, unfolding(json_text::specs::Members::with_option))]
+    #[inline(always)]
     fn put<T: AsJson>(&mut self, key: &str, value: &T) -> Result<(), OutOfMemory> {
         self.key(key)?;
         value.write(self)
     }
 
     #[tactic(auto, unfolding(json_text::specs::Members::with_option))]
+    #[inline(always)]
     fn put_text(&mut self, key: &str, text: &str) -> Result<(), OutOfMemory> {
         self.key(key)?;
         self.text(text)
     }
 
     #[tactic(auto, unfolding(json_text::specs::Members::with_option))]
+    #[inline(always)]
     fn put_list<T: AsJson>(&mut self, key: &str, items: &[T]) -> Result<(), OutOfMemory> {
         self.key(key)?;
         write_list(self, items)
@@ -212,6 +215,7 @@ impl MemberSink for MemberTexts {
 
 /// Puts the member, if there is one.
 #[tactic(auto, unfolding(json_text::specs::Members::with_option))]
+#[inline(always)]
 pub fn put_optional<T: AsJson, S: MemberSink>(
     out: &mut S,
     key: &str,
@@ -228,6 +232,7 @@ pub fn put_optional<T: AsJson, S: MemberSink>(
 
 /// Puts the member, left out where the text is empty.
 #[tactic(auto, unfolding(json_text::specs::Members::with_option))]
+#[inline(always)]
 pub fn put_filled<S: MemberSink>(out: &mut S, key: &str, text: &str) -> Result<(), OutOfMemory>
     ensures ok { OnOk result (S.state out.new
         ≡ with_option S.with_member key.now (filled text.now) (S.state out.old)) }
@@ -241,6 +246,7 @@ pub fn put_filled<S: MemberSink>(out: &mut S, key: &str, text: &str) -> Result<(
 
 /// Puts the number in a text, left out where it is 0.
 #[tactic(auto, unfolding(json_text::specs::Members::with_option))]
+#[inline(always)]
 pub fn put_counted<S: MemberSink>(out: &mut S, key: &str, n: u64) -> Result<(), OutOfMemory>
     ensures ok { OnOk result (S.state out.new
         ≡ with_option S.with_member key.now (counted n) (S.state out.old)) }
@@ -255,6 +261,7 @@ pub fn put_counted<S: MemberSink>(out: &mut S, key: &str, n: u64) -> Result<(), 
 
 /// Puts the array of a list, left out where it is empty.
 #[tactic(auto, unfolding(json_text::specs::Members::with_option))]
+#[inline(always)]
 pub fn put_filled_list<T: AsJson, S: MemberSink>(
     out: &mut S,
     key: &str,
@@ -272,6 +279,7 @@ pub fn put_filled_list<T: AsJson, S: MemberSink>(
 
 /// Puts the object of the pairs, left out where there are none.
 #[tactic(auto, unfolding(json_text::specs::Members::with_option))]
+#[inline(always)]
 pub fn put_filled_pairs<S: MemberSink>(
     out: &mut S,
     key: &str,

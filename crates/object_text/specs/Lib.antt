@@ -7,4 +7,5 @@ pub mod Steps
 pub mod ExtraMembers
 pub mod KindReaders
 pub mod Reading
+pub mod Sizes
 pub mod Listing

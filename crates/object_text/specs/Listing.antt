@@ -1,9 +1,8 @@
 -- The objects of one manifest, or of a list of manifests.
 -- Source: Kubernetes API, List; the numbers of the items in refusals and the limit are a choice of this project.
-use Rattle.std.specs.Prelude.{ℕ, ◌+◌, List, [], ◌∷◌, ◌++◌, Bool, false, nat_lt, length, if◌then◌else◌, Ok, Err, Option, Some, None, codes, bytes_eq}
+use Rattle.std.specs.Prelude.{ℕ, ◌+◌, List, [], ◌∷◌, ◌++◌, Bool, false, nat_lt, if◌then◌else◌, Ok, Err, Option, Some, None, codes, bytes_eq}
 use Rattle.std.specs.declared.result.Result.{Result}
 use Rattle.serde_json.specs.Data.{Data, Items, no_items, item}
-use Rattle.serde_json.specs.Written.{compact_text, has_float}
 use Rattle.json_text.specs.Look.{text_in}
 use Rattle.kube_types.specs.declared.objects.Object.{Object}
 use Rattle.object_text.specs.declared.errors.Member.TheVariants as members
@@ -12,11 +11,11 @@ use Rattle.object_text.specs.declared.errors.ObjectError.TheVariants.{NotObject,
 use Rattle.object_text.specs.declared.errors.ListError.{ListError}
 use Rattle.object_text.specs.MemberReaders.{at, needed_items}
 use Rattle.object_text.specs.Reading.{is_object, most_bytes, object_of, value_of}
+use Rattle.object_text.specs.Sizes.{least_bytes}
 
--- the compact text of the value has more bytes than a manifest may have; a value that holds a number which is not whole has no such text, and
--- is refused for that number, whatever its size
+-- the compact text of the value has more bytes than a manifest may have, even if each number that is not whole had as few as it can
 abbrev pub is_long : Data → Bool
-is_long d = if has_float d then false else nat_lt most_bytes (length (compact_text d))
+is_long d = nat_lt most_bytes (least_bytes d)
 
 -- the object of an item of at most so many bytes
 unfoldable pub item_of : Data → Result Object ObjectError

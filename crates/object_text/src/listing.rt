@@ -1,6 +1,6 @@
 //! The objects of one manifest, or of a list of manifests.
 
-ghost use Rattle.std.specs.Prelude.{◌≡◌, [], Some, IfOk};
+ghost use Rattle.std.specs.Prelude.{◌≡◌, [], Some};
 ghost use Rattle.object_text.specs.declared.errors.Member.TheVariants as members;
 ghost use Rattle.serde_json.specs.View.{view, items_view};
 ghost use Rattle.object_text.specs.Answers.{Gives, ListGives};
@@ -10,22 +10,17 @@ ghost use Rattle.object_text.specs.MemberReaders.{needed_items};
 use crate::errors::{ListError, Member, ObjectError};
 use crate::member_readers::{at, needed_items};
 use crate::reading::{MOST_BYTES, object_of, value_of};
-use json_text::floats::holds_float;
+use crate::sizes::is_longer;
 use json_text::look::text_in;
-use kube_types::copies::OutOfMemory;
 use kube_types::items::Items;
 use kube_types::objects::Object;
 use serde_json::Value;
 use std::alloc::Global;
 
-fn is_long(alloc: Global, value: &Value) -> Result<bool, OutOfMemory>
-    ensures { IfOk result (λ b. b ≡ is_long (view value.now)) }
+fn is_long(value: &Value) -> bool
+    ensures { result ≡ is_long (view value.now) }
 {
-    if holds_float(value) {
-        return Ok(false);
-    }
-    let text = value.to_vec(alloc)?;
-    Ok(text.len() > MOST_BYTES)
+    is_longer(value, MOST_BYTES)
 }
 
 /// The object of an item, whose compact text has at most 8 KiB.
@@ -33,7 +28,7 @@ fn is_long(alloc: Global, value: &Value) -> Result<bool, OutOfMemory>
 pub fn item_of(alloc: Global, value: &Value) -> Result<Object, ObjectError>
     ensures { Gives result (item_of (view value.now)) }
 {
-    if is_long(alloc, value)? {
+    if is_long(value) {
         return Err(ObjectError::TooLong);
     }
     object_of(alloc, value)

@@ -14,7 +14,7 @@ use Rattle.pod_scheduler.specs.declared.schedule.ScheduleStep.{ScheduleStep}
 use Rattle.pod_scheduler.specs.declared.schedule.ScheduleStep.TheVariants as steps
 use Rattle.pod_scheduler.specs.BeginLaw.{CallsAreWrites, ParkedHaveEnded}
 use Rattle.pod_scheduler.specs.Evidence.{MayUpdate, MayWrite, ScheduleKeeps, StepKeeps}
-use Rattle.pod_scheduler.specs.Schedules.{call_at, is_write, schedule_call, schedule_parks, write_of}
+use Rattle.pod_scheduler.specs.Schedules.{schedule_call_at, is_write, schedule_call, schedule_parks, only_write}
 
 -- the write of a call
 
@@ -22,7 +22,7 @@ pub record IsWriteOf (o : Option Request) (request : Request) : Type 0 where
   pub is : o ≡ Some request
   pub write : is_write request ≡ true
 
-pub write_of_is : (o : Option Request) (request : Request) → write_of o ≡ Some request → IsWriteOf o request
+pub write_of_is : (o : Option Request) (request : Request) → only_write o ≡ Some request → IsWriteOf o request
 write_of_is None request e = none_some e
 write_of_is (Some r) request e = by (is_write r) refl e
   where
@@ -46,7 +46,7 @@ may_at mine [] (suc place) w may at = none_some at
 may_at mine (v ∷ writes) zero w may at = subst (RowAllows seats.Scheduler mine) (one v w at) may.0
 may_at mine (v ∷ writes) (suc place) w may at = may_at mine writes place w may at
 
-step_may : (step : ScheduleStep) (writes : List Request) (mine : List Entry) (request : Request) → StepKeeps step writes mine → call_at writes step ≡ Some request → RowAllows seats.Scheduler mine request
+step_may : (step : ScheduleStep) (writes : List Request) (mine : List Entry) (request : Request) → StepKeeps step writes mine → schedule_call_at writes step ≡ Some request → RowAllows seats.Scheduler mine request
 step_may (steps.Writes place) writes mine request kept call = may_at mine writes place request kept (write_of_is (slice_get writes place) request call).is
 step_may steps.Done writes mine request kept call = none_some call
 step_may steps.Parked writes mine request kept call = none_some call
@@ -57,7 +57,7 @@ calls_are_allowed op mine request own kept call = (own, step_may op.step op.writ
 
 -- each call is a write
 
-step_writes : (step : ScheduleStep) (writes : List Request) (request : Request) → call_at writes step ≡ Some request → is_write request ≡ true
+step_writes : (step : ScheduleStep) (writes : List Request) (request : Request) → schedule_call_at writes step ≡ Some request → is_write request ≡ true
 step_writes (steps.Writes place) writes request call = (write_of_is (slice_get writes place) request call).write
 step_writes steps.Done writes request call = none_some call
 step_writes steps.Parked writes request call = none_some call
@@ -66,7 +66,7 @@ pub calls_are_writes : CallsAreWrites
 unfolding schedule_call
 calls_are_writes op request call = step_writes op.step op.writes request call
 
-step_ended : (step : ScheduleStep) (writes : List Request) → schedule_parks step ≡ true → call_at writes step ≡ None
+step_ended : (step : ScheduleStep) (writes : List Request) → schedule_parks step ≡ true → schedule_call_at writes step ≡ None
 step_ended (steps.Writes place) writes parks = absurd (true≢false (sym parks))
 step_ended steps.Done writes parks = absurd (true≢false (sym parks))
 step_ended steps.Parked writes parks = refl

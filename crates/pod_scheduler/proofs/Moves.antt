@@ -23,7 +23,7 @@ use Rattle.pod_scheduler.specs.declared.schedule.ScheduleOp.{ScheduleOp}
 use Rattle.pod_scheduler.specs.declared.schedule.ScheduleStep.{ScheduleStep}
 use Rattle.pod_scheduler.specs.declared.schedule.ScheduleStep.TheVariants as steps
 use Rattle.pod_scheduler.specs.Evidence.{MayUpdate, MayWrite, ScheduleKeeps, StepKeeps}
-use Rattle.pod_scheduler.specs.Schedules.{is_refused, is_written, schedule_call, schedule_moved, step_after}
+use Rattle.pod_scheduler.specs.Schedules.{is_refused, is_written, schedule_call, schedule_moved, schedule_step_after}
 use Rattle.pod_scheduler.proofs.Allowed.{each_may}
 
 -- the entry tells nothing of classes and nodes
@@ -105,7 +105,7 @@ module _ (writes : List Request) (place : ℕ) (mine : List Entry) (e : Entry) (
   write_goes_on false true false h = tt
   write_goes_on false false more h = tt
 
-step_goes_on : (step : ScheduleStep) (writes : List Request) (mine : List Entry) (e : Entry) → StepKeeps step writes mine → StepKeeps (step_after writes step e.reply) writes (e ∷ mine)
+step_goes_on : (step : ScheduleStep) (writes : List Request) (mine : List Entry) (e : Entry) → StepKeeps step writes mine → StepKeeps (schedule_step_after writes step e.reply) writes (e ∷ mine)
 step_goes_on (steps.Writes place) writes mine e kept = write_goes_on writes place mine e kept (is_refused e.reply) (is_written e.reply) (nat_lt place (length writes)) refl
 step_goes_on steps.Done writes mine e kept = tt
 step_goes_on steps.Parked writes mine e kept = tt

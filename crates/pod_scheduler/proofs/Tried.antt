@@ -14,7 +14,7 @@ use Rattle.binder_model.specs.Told.{After, IsClaimWith, SomeOf, objects_in}
 use Rattle.model_laws.proofs.Lists.{IsIn, none_some, one, some_filter}
 use Rattle.pod_scheduler.specs.declared.tries.Tried.{Tried}
 use Rattle.pod_scheduler.specs.declared.tries.Tries.{Tries}
-use Rattle.pod_scheduler.specs.Tries.{is_of, is_refusal, node_in, refuse_if, refused_in, see, see_all, see_claim, select, select_if, tried_of, tries_after, tries_of}
+use Rattle.pod_scheduler.specs.Tries.{is_try_of, is_refusal, node_in, refuse_if, refused_in, see, see_all, see_claim, select, select_if, tried_of, tries_after, tries_of}
 use Rattle.pod_scheduler.specs.TryLaw.{HasNode, IsWithout, RefusedWereRefused, SelectedWereSelected, Selecting, Selects, TellsRefused}
 
 -- what is found
@@ -28,9 +28,9 @@ same_is a b e = ap (λ n. record { 0 = n }) ((Decides-eqb a.0 b.0).0 e)
 
 found : (uid : Uid) (ts : List Tried) (t : Tried) → tried_of uid ts ≡ Some t → IsFound uid ts t
 found uid [] t e = none_some e
-found uid (x ∷ ts) t e = by (is_of uid x) refl e (found uid ts t)
+found uid (x ∷ ts) t e = by (is_try_of uid x) refl e (found uid ts t)
   where
-    by : (b : Bool) → is_of uid x ≡ b → (if b then Some x else tried_of uid ts) ≡ Some t → (tried_of uid ts ≡ Some t → IsFound uid ts t) → IsFound uid (x ∷ ts) t
+    by : (b : Bool) → is_try_of uid x ≡ b → (if b then Some x else tried_of uid ts) ≡ Some t → (tried_of uid ts ≡ Some t → IsFound uid ts t) → IsFound uid (x ∷ ts) t
     by true is e more = let same = one x t e in record { among = inl same; claim = subst (λ (y : Tried). y.claim ≡ uid) same (same_is x.claim uid is) }
     by false is e more = let f = more e in record { among = inr f.among; claim = f.claim }
 
@@ -50,7 +50,7 @@ refused_is c (Some x) t e = by (is_refusal x c) refl e
 
 stays_selected : (o : Option Tried) (m : Tries) (t : Tried) → IsIn t (refuse_if o m).selected → IsIn t m.selected
 stays_selected None m t h = h
-stays_selected (Some x) m t h = some_filter (λ y. y ≡ t) (λ y. not (is_of x.claim y)) m.selected h
+stays_selected (Some x) m t h = some_filter (λ y. y ≡ t) (λ y. not (is_try_of x.claim y)) m.selected h
 
 see_selected : (o : Object) (m : Tries) (t : Tried) → IsIn t (see o m).selected → IsIn t m.selected
 see_selected (Claim c) m t h = by c.meta.uid h
@@ -77,7 +77,7 @@ see_refused (Claim c) m t h = by c.meta.uid refl h
           let r = refused_is c (tried_of uid m.selected) x is in
           let f = found uid m.selected x r.is in
           inr (subst (λ y. IsNewlyRefused (Claim c) m y) same (f.among, record { claim = known ∙ ap Some (sym f.claim); refused = r.refusal }))
-      | inr more ↦ inl (some_filter (λ y. y ≡ t) (λ y. not (is_of x.claim y)) m.refused more)
+      | inr more ↦ inl (some_filter (λ y. y ≡ t) (λ y. not (is_try_of x.claim y)) m.refused more)
     ]
 
     by : (u : Option Uid) → c.meta.uid ≡ u → IsIn t (see_claim u c m).refused → IsIn t m.refused ⊎ IsNewlyRefused (Claim c) m t
@@ -118,7 +118,7 @@ select_refused _ _ m = refl
 selected_by_claim : (c : ClaimData) (m : Tries) (t : Tried) (u : Option Uid) (n : Option (List ℕ)) → c.meta.uid ≡ u → node_in c ≡ n → IsIn t (select u n c m).selected → IsIn t m.selected ⊎ HasNode t c
 selected_by_claim c m t (Some uid) (Some node) known on h = elim h [
   | inl same ↦ inr (subst (λ y. HasNode y c) same (record { claim = known; node = on; version = refl }))
-  | inr more ↦ inl (some_filter (λ y. y ≡ t) (λ y. not (is_of uid y)) m.selected more)
+  | inr more ↦ inl (some_filter (λ y. y ≡ t) (λ y. not (is_try_of uid y)) m.selected more)
 ]
 selected_by_claim c m t (Some uid) None known on h = inl h
 selected_by_claim c m t None n known on h = inl h

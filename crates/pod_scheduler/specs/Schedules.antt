@@ -18,17 +18,17 @@ is_write (requests.Update new given) = true
 is_write (requests.BindPod key uid node) = true
 is_write request = false
 
-abbrev pub write_of : Option Request → Option Request
-write_of None = None
-write_of (Some request) = if is_write request then Some request else None
+abbrev pub only_write : Option Request → Option Request
+only_write None = None
+only_write (Some request) = if is_write request then Some request else None
 
-abbrev pub call_at : List Request → ScheduleStep → Option Request
-call_at writes (steps.Writes place) = write_of (slice_get writes place)
-call_at writes step = None
+abbrev pub schedule_call_at : List Request → ScheduleStep → Option Request
+schedule_call_at writes (steps.Writes place) = only_write (slice_get writes place)
+schedule_call_at writes step = None
 
 -- the next call, or none where nothing is left to be asked
 unfoldable pub schedule_call : ScheduleOp → Option Request
-schedule_call op = call_at op.writes op.step
+schedule_call op = schedule_call_at op.writes op.step
 
 -- a write of a volume or of a claim was done
 abbrev pub is_written : Reply → Bool
@@ -41,17 +41,17 @@ is_refused (Refused refusal) = true
 is_refused reply = false
 
 -- where the step leads: a machine that has ended stays so, a refusal parks the key, and a write that was done leads to the next
-abbrev pub step_after : List Request → ScheduleStep → Reply → ScheduleStep
-step_after writes steps.Done reply = steps.Done
-step_after writes steps.Parked reply = steps.Parked
-step_after writes (steps.Writes place) reply =
+abbrev pub schedule_step_after : List Request → ScheduleStep → Reply → ScheduleStep
+schedule_step_after writes steps.Done reply = steps.Done
+schedule_step_after writes steps.Parked reply = steps.Parked
+schedule_step_after writes (steps.Writes place) reply =
     if is_refused reply then steps.Parked
     else if is_written reply && nat_lt place (length writes) then steps.Writes (place + 1)
     else steps.Done
 
 -- what the answer to the next call makes of the machine
 unfoldable pub schedule_moved : ScheduleOp → Reply → ScheduleOp
-schedule_moved op reply = record op { step = step_after op.writes op.step reply }
+schedule_moved op reply = record op { step = schedule_step_after op.writes op.step reply }
 
 -- the key is parked
 abbrev pub schedule_parks : ScheduleStep → Bool

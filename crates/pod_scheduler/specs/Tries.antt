@@ -24,18 +24,18 @@ no_tries = record { selected = []; refused = [] }
 
 -- of one claim at most one
 
-abbrev pub is_of : Uid → Tried → Bool
-is_of uid t = same_uid t.claim uid
+abbrev pub is_try_of : Uid → Tried → Bool
+is_try_of uid t = same_uid t.claim uid
 
-abbrev pub without : Uid → List Tried → List Tried
-without uid ts = filter (λ t. not (is_of uid t)) ts
+abbrev pub without_tried : Uid → List Tried → List Tried
+without_tried uid ts = filter (λ t. not (is_try_of uid t)) ts
 
 abbrev pub renewed : Tried → List Tried → List Tried
-renewed t ts = t ∷ without t.claim ts
+renewed t ts = t ∷ without_tried t.claim ts
 
 abbrev pub tried_of : Uid → List Tried → Option Tried
 tried_of uid [] = None
-tried_of uid (t ∷ ts) = if is_of uid t then Some t else tried_of uid ts
+tried_of uid (t ∷ ts) = if is_try_of uid t then Some t else tried_of uid ts
 
 abbrev pub node_in : ClaimData → Option (List ℕ)
 node_in c = value_at selected_node c.meta.annotations
@@ -56,12 +56,12 @@ refused_in c None = None
 refused_in c (Some t) = if is_refusal t c then Some t else None
 
 -- it stands selected no more, and is the one that was refused last
-abbrev pub refuse : Tried → Tries → Tries
-refuse t m = record { selected = without t.claim m.selected; refused = renewed t m.refused }
+abbrev pub and_refused : Tried → Tries → Tries
+and_refused t m = record { selected = without_tried t.claim m.selected; refused = renewed t m.refused }
 
 abbrev pub refuse_if : Option Tried → Tries → Tries
 refuse_if None m = m
-refuse_if (Some t) m = refuse t m
+refuse_if (Some t) m = and_refused t m
 
 abbrev pub see_claim : Option Uid → ClaimData → Tries → Tries
 see_claim None c m = m

@@ -1,7 +1,7 @@
 //! What the scheduler has under way for one pod.
 
 ghost use Rattle.std.specs.Prelude.{◌≡◌, IfOk, Some};
-ghost use Rattle.pod_scheduler.specs.Schedules.{is_refused, is_write, is_written, schedule_call, schedule_moved, schedule_parks, step_after, write_of};
+ghost use Rattle.pod_scheduler.specs.Schedules.{is_refused, is_write, is_written, schedule_call, schedule_moved, schedule_parks, schedule_step_after, only_write};
 
 use call_types::reply::Reply;
 use call_types::request::Request;
@@ -60,7 +60,7 @@ impl ScheduleOp {
 
     /// Where the step leads.
     fn step_after(&self, reply: &Reply) -> ScheduleStep
-        ensures { result ≡ step_after self.now.writes self.now.step reply.now }
+        ensures { result ≡ schedule_step_after self.now.writes self.now.step reply.now }
     {
         match self.step {
             ScheduleStep::Done => ScheduleStep::Done,
@@ -109,7 +109,7 @@ fn is_refused(reply: &Reply) -> bool
 
 /// The request, where it updates an object or binds a pod.
 fn write_of(alloc: Global, request: &Request) -> Result<Option<Request>, OutOfMemory>
-    ensures { IfOk result (λ call. call ≡ write_of (Some request.now)) }
+    ensures { IfOk result (λ call. call ≡ only_write (Some request.now)) }
 {
     if !is_write(request) {
         return Ok(None);

@@ -3,7 +3,7 @@
 ghost use Rattle.std.specs.Prelude.{◌≡◌, IfOk, OnOk, Some};
 ghost use Rattle.std.specs.Option.{option_copied};
 ghost use Rattle.binder_model.specs.Told.{objects_in, objects_of_event, objects_of_events};
-ghost use Rattle.pod_scheduler.specs.Tries.{is_other_node, is_refusal, no_tries, refuse, refused_in, renewed, see, see_all, see_claim, selected_by, tried_of, tries_after, without};
+ghost use Rattle.pod_scheduler.specs.Tries.{is_other_node, is_refusal, no_tries, and_refused, refused_in, renewed, see, see_all, see_claim, selected_by, tried_of, tries_after, without_tried};
 
 use call_types::reply::{Change, Event, Reply};
 use call_types::request::Request;
@@ -146,7 +146,7 @@ impl Tries {
     }
 
     fn refuse(&mut self, alloc: Global, tried: Tried) -> Result<(), OutOfMemory>
-        ensures { OnOk result (self.new ≡ refuse tried self.old) }
+        ensures { OnOk result (self.new ≡ and_refused tried self.old) }
     {
         let selected = without(alloc, tried.claim, self.selected.as_slice())?;
         self.refused = Items::from_vec(renewed(alloc, tried, self.refused.as_slice())?);
@@ -226,7 +226,7 @@ fn is_other_node(tried: &Text, seen: Option<&Text>) -> bool
 
 /// Those of other claims.
 fn without(alloc: Global, claim: Uid, tries: &[Tried]) -> Result<Vec<Tried>, OutOfMemory>
-    ensures { IfOk result (λ rest. rest.items ≡ without claim tries.now) }
+    ensures { IfOk result (λ rest. rest.items ≡ without_tried claim tries.now) }
 {
     let mut rest = Vec::new(alloc);
     for tried in tries {

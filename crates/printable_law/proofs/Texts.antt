@@ -4,14 +4,14 @@ use Rattle.std.specs.Prelude.{ℕ, List}
 use Rattle.call_types.specs.declared.entry.Entry.{Entry}
 use Rattle.call_types.specs.declared.setup.Setup.{Setup}
 use Rattle.history_text.specs.Output.{with_lines, history_text}
-use Rattle.history_laws.specs.Given.{IsHistory}
+use Rattle.history_laws.specs.Given.{IsTextHistory}
 use Rattle.history_laws.specs.Texts.{IsTextOf}
 use Rattle.history_laws.proofs.Texts.{joined, with_joined}
 use Rattle.history_laws.proofs.TextsRead.{printed_text}
 use Rattle.history_laws.proofs.OneHistory.{one_history}
 use Rattle.printable_law.specs.Laws.{HasOneHistory}
 
-pub has_one : (s : Setup) (es : List Entry) (lines : List (List ℕ)) → IsHistory s es → HasOneHistory (with_lines (history_text s es) lines) s es
+pub has_one : (s : Setup) (es : List Entry) (lines : List (List ℕ)) → IsTextHistory s es → HasOneHistory (with_lines (history_text s es) lines) s es
 has_one s es lines is =
     let has = subst (λ (text : List ℕ). IsTextOf text s es) (sym (with_joined (history_text s es) lines)) (printed_text s es (joined lines)) in
     record { given = is; has = has; only = λ other others also has_too. one_history (with_lines (history_text s es) lines) other s others es also is has_too has }

@@ -10,7 +10,7 @@ use Rattle.binder_model.specs.Licence.{Licensed}
 use Rattle.binder_model.specs.Promises.{most_entries}
 use Rattle.binder_model.specs.Run.{Run}
 use Rattle.history_text.specs.Output.{history_text, with_lines}
-use Rattle.history_laws.specs.Given.{IsNumber, IsRequest, IsEntry, IsSetup, IsHistory}
+use Rattle.history_laws.specs.Given.{IsNumber, IsRequest, IsEntry, IsSetup, IsTextHistory}
 use Rattle.history_laws.specs.Texts.{IsTextOf}
 
 -- what a controller may ask a text can give, after entries that a text can give
@@ -33,13 +33,13 @@ pub record IsGivenRun (setup : Setup) (past : List Entry) : Type 0 where
 
 -- is a history that a text can give, the oldest entry first
 abbrev pub RunsGive : Type 0
-RunsGive = (setup : Setup) (past : List Entry) → IsGivenRun setup past → IsHistory setup (reverse past)
+RunsGive = (setup : Setup) (past : List Entry) → IsGivenRun setup past → IsTextHistory setup (reverse past)
 
 -- the text has this setup and these entries, and no others that a text can give
 pub record HasOneHistory (text : List ℕ) (setup : Setup) (entries : List Entry) : Type 0 where
-  pub given : IsHistory setup entries
+  pub given : IsTextHistory setup entries
   pub has : IsTextOf text setup entries
-  pub only : (other : Setup) (others : List Entry) → IsHistory other others → IsTextOf text other others → (other ≡ setup) × (others ≡ entries)
+  pub only : (other : Setup) (others : List Entry) → IsTextHistory other others → IsTextOf text other others → (other ≡ setup) × (others ≡ entries)
 
 -- what is printed of such a run has it alone, whatever lines follow it
 abbrev pub RunTextsHaveOne : Type 0

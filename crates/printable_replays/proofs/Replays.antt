@@ -1,13 +1,10 @@
 -- What a replay brings about has only values that a text can give.
 use Rattle.std.proofs.Common.{refl, sym, subst, ◌∙◌, inl, inr, true≢false, arith}
-use Rattle.std.specs.Prelude.{◌≡◌, ◌⊎◌, ℕ, ◌+◌, ◌≤◌, Bool, true, false, cond, List, [], ◌∷◌, ◌++◌, Option, All}
+use Rattle.std.specs.Prelude.{◌≡◌, ℕ, ◌≤◌, Bool, true, false, cond, List, [], ◌∷◌, ◌++◌, Option, All}
 use Rattle.std.proofs.lemmas.List.Elements.{All-nil, All-cons, All-head, All-tail}
 use Rattle.plain_data.specs.Pairs.{Pair}
 use Rattle.call_types.specs.declared.entry.Entry.{Entry}
-use Rattle.call_types.specs.declared.request.Request.{Request}
 use Rattle.call_types.specs.declared.request.SeatKind.{SeatKind}
-use Rattle.call_types.specs.declared.request.SeatKind.TheVariants as seats
-use Rattle.call_types.specs.declared.reply.Reply.{Reply}
 use Rattle.binder_model.specs.Answers.{is_user}
 use Rattle.world_core.specs.declared.drained.Drained.{Drained}
 use Rattle.worker_threads.specs.Longer.{IsOneOf, AreToldOf, users_of}
@@ -22,15 +19,15 @@ use Rattle.script_text.specs.declared.script.Script.{Script}
 use Rattle.script_text.specs.Said.{agents_of}
 use Rattle.script_laws.specs.Given.{IsLineAfter}
 use Rattle.script_laws.specs.Scripts.{AreLinesAfter, IsScript}
-use Rattle.script_runs.specs.declared.loss.Fate.{Fate}
-use Rattle.script_runs.specs.declared.loss.Fate.TheVariants.{Told, LostBefore, LostAfter}
-use Rattle.script_runs.specs.declared.part.Part.{Part}
-use Rattle.script_runs.specs.Fates.{fate_of}
-use Rattle.script_runs.specs.Parts.{kind_of_worker, kind_of, drain_seats, part_of, role_of}
-use Rattle.script_runs.specs.Calls.{seat_at, IsOneMore, IsCallWith, AreCalls, NoCalls, MoreCalls}
+use Rattle.actor_turns.specs.declared.loss.Fate.{Fate}
+use Rattle.actor_turns.specs.declared.loss.Fate.TheVariants.{Told, LostBefore, LostAfter}
+use Rattle.actor_turns.specs.declared.part.Part.{Part}
+use Rattle.actor_turns.specs.Fates.{fate_of}
+use Rattle.script_runs.specs.Parts.{kind_of_worker, seat_kind_of, drain_seats, part_of, role_of}
+use Rattle.actor_turns.specs.Calls.{seat_at, IsOneMore, IsCallWith, AreCalls, NoCalls, MoreCalls}
 use Rattle.worker_threads.specs.Rounds.{all_pass}
 use Rattle.script_runs.proofs.Draining.{calls_leave_entries, drains_come_to}
-use Rattle.script_runs.specs.Replays.{Progress, begun, IsTurn, IsDrain, IsMove, AreMoves, NoMoves, MoreMoves, IsReplay}
+use Rattle.script_runs.specs.Replays.{Progress, first_progress, IsTurnLine, IsDrain, IsMove, AreMoves, NoMoves, MoreMoves, IsReplay}
 use Rattle.printable_law.specs.Laws.{IsAskedGiven, IsGivenRun}
 use Rattle.printable_law.proofs.Runs.{runs_give, run_texts_have_one}
 use Rattle.printable_replays.specs.Laws.{IsReplayedRun, ReplaysGive, ReplayTextsHaveOne}
@@ -67,20 +64,20 @@ fine_told e past seat other h = record { seats = All-cons HasSeat e past seat h.
 
 -- ---- a turn's calls
 
-more_fine : (seat : ℕ) (kind : SeatKind) (told : Bool) (past new : List Entry) → IsNumber seat → is_user kind ≡ false → IsOneMore seat kind told past new → AreFine past → AreFine new
+more_fine : (seat : ℕ) (kind : SeatKind) (told : Bool) (past new : List Entry) → IsNumber seat → is_user kind ≡ false → IsOneMore all_pass seat kind told past new → AreFine past → AreFine new
 more_fine seat kind told past new is other more h = subst AreFine (sym more.is) (fine_told _ past is other h)
 
-call_fine : (fate : Fate) (seat : ℕ) (kind : SeatKind) (past new : List Entry) → IsNumber seat → is_user kind ≡ false → IsCallWith fate seat kind past new → AreFine past → AreFine new
+call_fine : (fate : Fate) (seat : ℕ) (kind : SeatKind) (past new : List Entry) → IsNumber seat → is_user kind ≡ false → IsCallWith all_pass fate seat kind past new → AreFine past → AreFine new
 call_fine Told seat kind past new is other call h = more_fine seat kind true past new is other call h
 call_fine LostAfter seat kind past new is other call h = more_fine seat kind false past new is other call h
 call_fine LostBefore seat kind past new is other call h = subst AreFine (sym call) h
 
-calls_fine : (part : Part) (new : List Entry) → ((n : ℕ) → IsNumber (seat_at part n)) → is_user part.kind ≡ false → (n count : ℕ) (past : List Entry) → AreCalls part new n count past → AreFine past → AreFine new
+calls_fine : (part : Part) (new : List Entry) → ((n : ℕ) → IsNumber (seat_at part n)) → is_user part.kind ≡ false → (n count : ℕ) (past : List Entry) → AreCalls all_pass [] part new n count past → AreFine past → AreFine new
 calls_fine part new is other n count past (NoCalls none same) h = subst AreFine (sym same) h
 calls_fine part new is other n count past (MoreCalls rest middle some call more) h =
     calls_fine part new is other _ rest middle more (call_fine (fate_of part.losses n) (seat_at part n) part.kind past middle (is n) other call h)
 
-turn_fine : (actor : Actor) (part : Part) (calls : ℕ) (before after : Progress) → ((n : ℕ) → IsNumber (seat_at part n)) → is_user part.kind ≡ false → IsTurn (role_of actor) part calls before after → AreFine before.past → AreFine after.past
+turn_fine : (actor : Actor) (part : Part) (calls : ℕ) (before after : Progress) → ((n : ℕ) → IsNumber (seat_at part n)) → is_user part.kind ≡ false → IsTurnLine all_pass [] (role_of actor) part calls before after → AreFine before.past → AreFine after.past
 turn_fine actor part calls before after is other (inl all) h = subst (λ (p : Progress). AreFine p.past) (sym all.is) (calls_fine part all.past is other _ _ before.past all.made h)
 turn_fine actor part calls before after is other (inr few) h = subst (λ (p : Progress). AreFine p.past) (sym few.is) (calls_fine part few.past is other _ _ before.past few.made h)
 
@@ -91,7 +88,7 @@ no_worker_is_user workers.Scheduler = refl
 no_worker_is_user workers.Claims = refl
 no_worker_is_user workers.Volumes = refl
 
-no_actor_is_user : (actor : Actor) → is_user (kind_of actor) ≡ false
+no_actor_is_user : (actor : Actor) → is_user (seat_kind_of actor) ≡ false
 no_actor_is_user (Worker w) = no_worker_is_user w.kind
 no_actor_is_user (Agent node) = refl
 
@@ -137,7 +134,7 @@ replay_fine : (script : Script) (budget : Option ℕ) (past : List Entry) (endin
 replay_fine script budget past ending is replay =
     subst AreFine (sym replay.history)
     (drain_fine script budget replay.lines_done replay.end is replay.last
-    (moves_fine script budget replay.lines_done (agents_of script.setup.imports script.lines) is [] script.lines (begun budget) is.lines replay.moves nothing_fine))
+    (moves_fine script budget replay.lines_done (agents_of script.setup.imports script.lines) is [] script.lines (first_progress budget) is.lines replay.moves nothing_fine))
 
 -- ---- the history
 

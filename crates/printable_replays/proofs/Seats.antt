@@ -17,7 +17,7 @@ use Rattle.script_text.specs.declared.script.Script.{Script}
 use Rattle.script_text.specs.Said.{created_node, imported_node, and_node, imported_after, agents_after, agents_of, nodes_of, restarts_of}
 use Rattle.script_laws.specs.Scripts.{IsScript}
 use Rattle.script_runs.specs.Parts.{is_named, lives_in, all_actors, lives_before, all_lives, drain_seat, drain_seats, part_of}
-use Rattle.script_runs.specs.Calls.{restarts_before, seat_at}
+use Rattle.actor_turns.specs.Calls.{restarts_before, seat_at}
 use Rattle.worker_threads.specs.Drainers.{seats_for, seats_from}
 use Rattle.worker_threads.specs.Longer.{IsOneOf}
 use Rattle.history_laws.specs.Given.{IsNumber}

@@ -5,7 +5,7 @@ use Rattle.call_types.specs.declared.entry.Entry.{Entry}
 use Rattle.binder_model.specs.Promises.{most_entries}
 use Rattle.binder_model.specs.Run.{Run}
 use Rattle.world_core.specs.declared.drained.Drained.{Drained}
-use Rattle.history_laws.specs.Given.{IsSetup, IsHistory}
+use Rattle.history_laws.specs.Given.{IsSetup, IsTextHistory}
 use Rattle.history_text.specs.Output.{history_text, with_lines}
 use Rattle.script_text.specs.declared.script.Script.{Script}
 use Rattle.script_laws.specs.Scripts.{IsScript}
@@ -25,7 +25,7 @@ pub record IsReplayedRun (script : Script) (budget : Option ℕ) (past : List En
 
 -- is a history that a text can give, the oldest entry first
 abbrev pub ReplaysGive : Type 0
-ReplaysGive = (script : Script) (budget : Option ℕ) (past : List Entry) (ending : Drained) → IsReplayedRun script budget past ending → IsHistory script.setup (reverse past)
+ReplaysGive = (script : Script) (budget : Option ℕ) (past : List Entry) (ending : Drained) → IsReplayedRun script budget past ending → IsTextHistory script.setup (reverse past)
 
 -- and what is printed of it has it alone, whatever lines follow it
 abbrev pub ReplayTextsHaveOne : Type 0

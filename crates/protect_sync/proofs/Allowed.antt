@@ -31,10 +31,10 @@ use Rattle.protect_sync.specs.declared.volumes.VolumeGuardStep.{VolumeGuardStep}
 use Rattle.protect_sync.specs.declared.volumes.VolumeGuardStep.TheVariants as volumes
 use Rattle.protect_sync.specs.BeginLaw.{ClaimCallsReadNoKind, ReadsNoKind, VolumeCallsReadNoKind}
 use Rattle.protect_sync.specs.ClaimGuards as on_claims
-use Rattle.protect_sync.specs.ClaimGuards.{claim_call, guarded_claim, list_call, unguarded_claim}
+use Rattle.protect_sync.specs.ClaimGuards.{claim_guard_call, guarded_claim, list_call, unguarded_claim}
 use Rattle.protect_sync.specs.Evidence.{ClaimKeeps, ClaimStepKeeps, MayAdd, MayAddVolume, MayDrop, MayDropVolume, MayList, VolumeKeeps, VolumeStepKeeps}
 use Rattle.protect_sync.specs.VolumeGuards as on_volumes
-use Rattle.protect_sync.specs.VolumeGuards.{guarded_volume, unguarded_volume, volume_call}
+use Rattle.protect_sync.specs.VolumeGuards.{guarded_volume, unguarded_volume, volume_guard_call}
 
 -- the finalizer stands in what is written, or it does not
 
@@ -63,17 +63,17 @@ claim_guarded : (mine : List Entry) (new o : ClaimData) (has : Bool) → is_prot
 claim_guarded mine new o has is row = subst (λ (b : Bool). ClaimMay (claim_guard b) mine new o) (sym is) row
 
 -- a claim is written over the one that was told
-claim_written : (c new : ClaimData) (mine : List Entry) → ToldClaim (λ o. o ≡ c) mine → new.meta.namespace ≡ c.meta.namespace → new.meta.name ≡ c.meta.name → ClaimMay (claim_guard (is_protected_claim new)) mine new c → RowAllows seats.ClaimProtect mine (on_claims.write_over c new)
+claim_written : (c new : ClaimData) (mine : List Entry) → ToldClaim (λ o. o ≡ c) mine → new.meta.namespace ≡ c.meta.namespace → new.meta.name ≡ c.meta.name → ClaimMay (claim_guard (is_protected_claim new)) mine new c → RowAllows seats.ClaimProtect mine (on_claims.claim_write_over c new)
 claim_written c new mine told placed named row =
     told_claim (λ o. IsWrittenAt (Some c.meta.version) new.meta.namespace new.meta.name o.meta × ClaimMay (claim_guard (is_protected_claim new)) mine new o) c mine told
     (record { version = refl; placed = sym placed; named = sym named }, row)
 
-adds : (c : ClaimData) (mine : List Entry) → MayAdd c mine → RowAllows seats.ClaimProtect mine (on_claims.write_over c (guarded_claim c))
+adds : (c : ClaimData) (mine : List Entry) → MayAdd c mine → RowAllows seats.ClaimProtect mine (on_claims.claim_write_over c (guarded_claim c))
 adds c mine kept =
     let row : GuardsClaim c (guarded_claim c) = record { guard = record { staying = kept.staying; lacks = kept.lacks; change = refl }; rest = refl } in
     claim_written c (guarded_claim c) mine kept.told refl refl (claim_guarded mine (guarded_claim c) c true (with_it pvc_protection c.meta.finalizers) row)
 
-drops : (c : ClaimData) (mine : List Entry) → MayDrop c mine → RowAllows seats.ClaimProtect mine (on_claims.write_over c (unguarded_claim c))
+drops : (c : ClaimData) (mine : List Entry) → MayDrop c mine → RowAllows seats.ClaimProtect mine (on_claims.claim_write_over c (unguarded_claim c))
 drops c mine kept =
     let row : MayUnguardClaim mine c (unguarded_claim c) = record { deleting = kept.deleting; unused = kept.unused; change = refl } in
     claim_written c (unguarded_claim c) mine kept.told refl refl (claim_guarded mine (unguarded_claim c) c false (without_it pvc_protection c.meta.finalizers) row)
@@ -85,15 +85,15 @@ lists c mine request kept = by (is_some c.meta.uid)
     by false e = none_some e
     by true e = claim_answered mine (ListOf kinds.Pod (Some c.meta.namespace)) request e (told_claim (IsDeletingIn c.meta.namespace) c mine kept.told (record { placed = refl; deleting = kept.deleting }))
 
-claim_row : (step : ClaimGuardStep) (c : ClaimData) (mine : List Entry) (request : Request) → ClaimStepKeeps step c mine → on_claims.call_at step c ≡ Some request → RowAllows seats.ClaimProtect mine request
-claim_row claims.Adds c mine request kept e = claim_answered mine (on_claims.write_over c (guarded_claim c)) request e (adds c mine kept)
+claim_row : (step : ClaimGuardStep) (c : ClaimData) (mine : List Entry) (request : Request) → ClaimStepKeeps step c mine → on_claims.claim_guard_call_at step c ≡ Some request → RowAllows seats.ClaimProtect mine request
+claim_row claims.Adds c mine request kept e = claim_answered mine (on_claims.claim_write_over c (guarded_claim c)) request e (adds c mine kept)
 claim_row claims.ListsPods c mine request kept e = lists c mine request kept e
-claim_row claims.Drops c mine request kept e = claim_answered mine (on_claims.write_over c (unguarded_claim c)) request e (drops c mine kept)
+claim_row claims.Drops c mine request kept e = claim_answered mine (on_claims.claim_write_over c (unguarded_claim c)) request e (drops c mine kept)
 claim_row claims.Done c mine request kept e = none_some e
 claim_row claims.Parked c mine request kept e = none_some e
 
-pub claim_allowed : (op : ClaimGuardOp) (mine : List Entry) (request : Request) → AreOfKind ClaimProtect mine → ClaimKeeps op mine → claim_call op ≡ Some request → Licensed ClaimProtect mine request
-unfolding claim_call
+pub claim_allowed : (op : ClaimGuardOp) (mine : List Entry) (request : Request) → AreOfKind ClaimProtect mine → ClaimKeeps op mine → claim_guard_call op ≡ Some request → Licensed ClaimProtect mine request
+unfolding claim_guard_call
 claim_allowed op mine request own kept e = (own, claim_row op.step op.claim mine request kept e)
 
 -- a volume
@@ -105,29 +105,29 @@ volume_guarded : (mine : List Entry) (new o : VolumeData) (has : Bool) → is_pr
 volume_guarded mine new o has is row = subst (λ (b : Bool). VolumeMay (volume_guard b) mine new o) (sym is) row
 
 -- a volume is written over the one that was told
-volume_written : (v new : VolumeData) (mine : List Entry) → ToldVolume (λ o. o ≡ v) mine → new.meta.namespace ≡ v.meta.namespace → new.meta.name ≡ v.meta.name → VolumeMay (volume_guard (is_protected_volume new)) mine new v → RowAllows seats.VolumeProtect mine (on_volumes.write_over v new)
+volume_written : (v new : VolumeData) (mine : List Entry) → ToldVolume (λ o. o ≡ v) mine → new.meta.namespace ≡ v.meta.namespace → new.meta.name ≡ v.meta.name → VolumeMay (volume_guard (is_protected_volume new)) mine new v → RowAllows seats.VolumeProtect mine (on_volumes.volume_write_over v new)
 volume_written v new mine told placed named row =
     told_volume (λ o. IsWrittenAt (Some v.meta.version) new.meta.namespace new.meta.name o.meta × VolumeMay (volume_guard (is_protected_volume new)) mine new o) v mine told
     (record { version = refl; placed = sym placed; named = sym named }, row)
 
-adds_to_volume : (v : VolumeData) (mine : List Entry) → MayAddVolume v mine → RowAllows seats.VolumeProtect mine (on_volumes.write_over v (guarded_volume v))
+adds_to_volume : (v : VolumeData) (mine : List Entry) → MayAddVolume v mine → RowAllows seats.VolumeProtect mine (on_volumes.volume_write_over v (guarded_volume v))
 adds_to_volume v mine kept =
     let row : GuardsVolume v (guarded_volume v) = record { guard = record { staying = kept.staying; lacks = kept.lacks; change = refl }; rest = refl } in
     volume_written v (guarded_volume v) mine kept.told refl refl (volume_guarded mine (guarded_volume v) v true (with_it pv_protection v.meta.finalizers) row)
 
-drops_from_volume : (v : VolumeData) (mine : List Entry) → MayDropVolume v mine → RowAllows seats.VolumeProtect mine (on_volumes.write_over v (unguarded_volume v))
+drops_from_volume : (v : VolumeData) (mine : List Entry) → MayDropVolume v mine → RowAllows seats.VolumeProtect mine (on_volumes.volume_write_over v (unguarded_volume v))
 drops_from_volume v mine kept =
     let row : MayUnguardVolume v (unguarded_volume v) = record { deleting = kept.deleting; loose = kept.loose; change = refl } in
     volume_written v (unguarded_volume v) mine kept.told refl refl (volume_guarded mine (unguarded_volume v) v false (without_it pv_protection v.meta.finalizers) row)
 
-volume_row : (step : VolumeGuardStep) (v : VolumeData) (mine : List Entry) (request : Request) → VolumeStepKeeps step v mine → on_volumes.call_at step v ≡ Some request → RowAllows seats.VolumeProtect mine request
-volume_row volumes.Adds v mine request kept e = volume_answered mine (on_volumes.write_over v (guarded_volume v)) request e (adds_to_volume v mine kept)
-volume_row volumes.Drops v mine request kept e = volume_answered mine (on_volumes.write_over v (unguarded_volume v)) request e (drops_from_volume v mine kept)
+volume_row : (step : VolumeGuardStep) (v : VolumeData) (mine : List Entry) (request : Request) → VolumeStepKeeps step v mine → on_volumes.volume_guard_call_at step v ≡ Some request → RowAllows seats.VolumeProtect mine request
+volume_row volumes.Adds v mine request kept e = volume_answered mine (on_volumes.volume_write_over v (guarded_volume v)) request e (adds_to_volume v mine kept)
+volume_row volumes.Drops v mine request kept e = volume_answered mine (on_volumes.volume_write_over v (unguarded_volume v)) request e (drops_from_volume v mine kept)
 volume_row volumes.Done v mine request kept e = none_some e
 volume_row volumes.Parked v mine request kept e = none_some e
 
-pub volume_allowed : (op : VolumeGuardOp) (mine : List Entry) (request : Request) → AreOfKind VolumeProtect mine → VolumeKeeps op mine → volume_call op ≡ Some request → Licensed VolumeProtect mine request
-unfolding volume_call
+pub volume_allowed : (op : VolumeGuardOp) (mine : List Entry) (request : Request) → AreOfKind VolumeProtect mine → VolumeKeeps op mine → volume_guard_call op ≡ Some request → Licensed VolumeProtect mine request
+unfolding volume_guard_call
 volume_allowed op mine request own kept e = (own, volume_row op.step op.volume mine request kept e)
 
 -- no call reads a whole kind
@@ -158,7 +158,7 @@ reads_none : (x : Option Request) (request : Request) → ReadsNone x → x ≡ 
 reads_none None request h e = none_some e
 reads_none (Some r) request h e = subst ReadsNoKind (one r request e) h
 
-claim_reads_none : (step : ClaimGuardStep) (c : ClaimData) → ReadsNone (on_claims.call_at step c)
+claim_reads_none : (step : ClaimGuardStep) (c : ClaimData) → ReadsNone (on_claims.claim_guard_call_at step c)
 claim_reads_none claims.Adds c = written _ _
 claim_reads_none claims.Drops c = written _ _
 claim_reads_none claims.Done c = tt
@@ -170,15 +170,15 @@ claim_reads_none claims.ListsPods c = by (is_some c.meta.uid)
     by false = tt
 
 pub claim_calls_read_no_kind : ClaimCallsReadNoKind
-unfolding claim_call
-claim_calls_read_no_kind op request e = reads_none (on_claims.call_at op.step op.claim) request (claim_reads_none op.step op.claim) e
+unfolding claim_guard_call
+claim_calls_read_no_kind op request e = reads_none (on_claims.claim_guard_call_at op.step op.claim) request (claim_reads_none op.step op.claim) e
 
-volume_reads_none : (step : VolumeGuardStep) (v : VolumeData) → ReadsNone (on_volumes.call_at step v)
+volume_reads_none : (step : VolumeGuardStep) (v : VolumeData) → ReadsNone (on_volumes.volume_guard_call_at step v)
 volume_reads_none volumes.Adds v = written _ _
 volume_reads_none volumes.Drops v = written _ _
 volume_reads_none volumes.Done v = tt
 volume_reads_none volumes.Parked v = tt
 
 pub volume_calls_read_no_kind : VolumeCallsReadNoKind
-unfolding volume_call
-volume_calls_read_no_kind op request e = reads_none (on_volumes.call_at op.step op.volume) request (volume_reads_none op.step op.volume) e
+unfolding volume_guard_call
+volume_calls_read_no_kind op request e = reads_none (on_volumes.volume_guard_call_at op.step op.volume) request (volume_reads_none op.step op.volume) e

@@ -22,10 +22,10 @@ use Rattle.protect_sync.specs.declared.volumes.VolumeGuardOp.{VolumeGuardOp}
 use Rattle.protect_sync.specs.declared.volumes.VolumeGuardStep.{VolumeGuardStep}
 use Rattle.protect_sync.specs.declared.volumes.VolumeGuardStep.TheVariants as volumes
 use Rattle.protect_sync.specs.ClaimGuards as on_claims
-use Rattle.protect_sync.specs.ClaimGuards.{claim_call, claim_moved, list_call}
+use Rattle.protect_sync.specs.ClaimGuards.{claim_guard_call, claim_moved, list_call}
 use Rattle.protect_sync.specs.Evidence.{ClaimKeeps, ClaimStepKeeps, MayDrop, MayList, VolumeKeeps, VolumeStepKeeps}
 use Rattle.protect_sync.specs.VolumeGuards as on_volumes
-use Rattle.protect_sync.specs.VolumeGuards.{volume_call, volume_moved}
+use Rattle.protect_sync.specs.VolumeGuards.{volume_guard_call, volume_moved}
 
 -- what was asked, and the UID of the claim for which it was asked
 record Asked (c : ClaimData) (request : Request) : Type 0 where
@@ -52,39 +52,39 @@ dropping c mine e items version kept call told is none =
       unused = inl (tells, told_claim (IsDeletingVersion c) c mine kept.told version_told);
     }
 
-listing : (c : ClaimData) (mine : List Entry) (e : Entry) → MayList c mine → list_call c ≡ Some e.request → e.told ≡ true → ClaimStepKeeps (on_claims.step_after claims.ListsPods c e.reply) c (e ∷ mine)
+listing : (c : ClaimData) (mine : List Entry) (e : Entry) → MayList c mine → list_call c ≡ Some e.request → e.told ≡ true → ClaimStepKeeps (on_claims.claim_guard_step_after claims.ListsPods c e.reply) c (e ∷ mine)
 listing c mine e kept call told = by e.reply refl
   where
     by_use : (items : List Object) (version : ℕ) (b : Bool) → e.reply ≡ replies.Listed items version → list_any (uses c) items ≡ b → ClaimStepKeeps (if b then claims.Done else claims.Drops) c (e ∷ mine)
     by_use items version true is h = tt
     by_use items version false is h = dropping c mine e items version kept (asked c e.request call) told is h
 
-    by : (reply : Reply) → e.reply ≡ reply → ClaimStepKeeps (on_claims.step_after claims.ListsPods c reply) c (e ∷ mine)
+    by : (reply : Reply) → e.reply ≡ reply → ClaimStepKeeps (on_claims.claim_guard_step_after claims.ListsPods c reply) c (e ∷ mine)
     by (replies.Listed items version) is = by_use items version (list_any (uses c) items) is refl
     by (replies.Refused r) is = tt
     by _ is = tt
 
 -- after a write nothing is left
-added : (c : ClaimData) (reply : Reply) (mine : List Entry) → ClaimStepKeeps (on_claims.step_after claims.Adds c reply) c mine
+added : (c : ClaimData) (reply : Reply) (mine : List Entry) → ClaimStepKeeps (on_claims.claim_guard_step_after claims.Adds c reply) c mine
 added c (replies.Refused r) mine = tt
 added c _ mine = tt
 
-dropped : (c : ClaimData) (reply : Reply) (mine : List Entry) → ClaimStepKeeps (on_claims.step_after claims.Drops c reply) c mine
+dropped : (c : ClaimData) (reply : Reply) (mine : List Entry) → ClaimStepKeeps (on_claims.claim_guard_step_after claims.Drops c reply) c mine
 dropped c (replies.Refused r) mine = tt
 dropped c _ mine = tt
 
-claim_step_goes_on : (step : ClaimGuardStep) (c : ClaimData) (mine : List Entry) (e : Entry) → ClaimStepKeeps step c mine → on_claims.call_at step c ≡ Some e.request → e.told ≡ true → ClaimStepKeeps (on_claims.step_after step c e.reply) c (e ∷ mine)
+claim_step_goes_on : (step : ClaimGuardStep) (c : ClaimData) (mine : List Entry) (e : Entry) → ClaimStepKeeps step c mine → on_claims.claim_guard_call_at step c ≡ Some e.request → e.told ≡ true → ClaimStepKeeps (on_claims.claim_guard_step_after step c e.reply) c (e ∷ mine)
 claim_step_goes_on claims.ListsPods c mine e kept call told = listing c mine e kept call told
 claim_step_goes_on claims.Adds c mine e kept call told = added c e.reply (e ∷ mine)
 claim_step_goes_on claims.Drops c mine e kept call told = dropped c e.reply (e ∷ mine)
 claim_step_goes_on claims.Done c mine e kept call told = none_some call
 claim_step_goes_on claims.Parked c mine e kept call told = none_some call
 
-pub claim_goes_on : (op : ClaimGuardOp) (mine : List Entry) (e : Entry) → ClaimKeeps op mine → claim_call op ≡ Some e.request → e.told ≡ true → ClaimKeeps (claim_moved op e.reply) (e ∷ mine)
-unfolding claim_call claim_moved
+pub claim_goes_on : (op : ClaimGuardOp) (mine : List Entry) (e : Entry) → ClaimKeeps op mine → claim_guard_call op ≡ Some e.request → e.told ≡ true → ClaimKeeps (claim_moved op e.reply) (e ∷ mine)
+unfolding claim_guard_call claim_moved
 claim_goes_on op mine e kept call told = claim_step_goes_on op.step op.claim mine e kept call told
 
-volume_step_goes_on : (step : VolumeGuardStep) (v : VolumeData) (reply : Reply) (mine : List Entry) → VolumeStepKeeps (on_volumes.step_after step reply) v mine
+volume_step_goes_on : (step : VolumeGuardStep) (v : VolumeData) (reply : Reply) (mine : List Entry) → VolumeStepKeeps (on_volumes.volume_guard_step_after step reply) v mine
 volume_step_goes_on volumes.Adds v (replies.Refused r) mine = tt
 volume_step_goes_on volumes.Adds v _ mine = tt
 volume_step_goes_on volumes.Drops v (replies.Refused r) mine = tt
@@ -92,6 +92,6 @@ volume_step_goes_on volumes.Drops v _ mine = tt
 volume_step_goes_on volumes.Done v reply mine = tt
 volume_step_goes_on volumes.Parked v reply mine = tt
 
-pub volume_goes_on : (op : VolumeGuardOp) (mine : List Entry) (e : Entry) → VolumeKeeps op mine → volume_call op ≡ Some e.request → e.told ≡ true → VolumeKeeps (volume_moved op e.reply) (e ∷ mine)
+pub volume_goes_on : (op : VolumeGuardOp) (mine : List Entry) (e : Entry) → VolumeKeeps op mine → volume_guard_call op ≡ Some e.request → e.told ≡ true → VolumeKeeps (volume_moved op e.reply) (e ∷ mine)
 unfolding volume_moved
 volume_goes_on op mine e kept call told = volume_step_goes_on op.step op.volume e.reply (e ∷ mine)

@@ -9,19 +9,19 @@ use Rattle.call_types.specs.declared.request.Request.{Request}
 use Rattle.call_types.specs.declared.request.Request.TheVariants as requests
 use Rattle.protect_sync.specs.declared.claims.ClaimGuardOp.{ClaimGuardOp}
 use Rattle.protect_sync.specs.declared.volumes.VolumeGuardOp.{VolumeGuardOp}
-use Rattle.protect_sync.specs.ClaimGuards.{claim_call, claim_parks}
-use Rattle.protect_sync.specs.Decisions.{claim_begins, volume_begins}
-use Rattle.protect_sync.specs.VolumeGuards.{volume_call, volume_parks}
+use Rattle.protect_sync.specs.ClaimGuards.{claim_guard_call, claim_parks}
+use Rattle.protect_sync.specs.Decisions.{claim_guard_begins, volume_guard_begins}
+use Rattle.protect_sync.specs.VolumeGuards.{volume_guard_call, volume_parks}
 
 -- each object has its UID
 abbrev pub AreKnown : List Object → Type 0
 AreKnown rows = (key : Key) (o : Object) → row_at key rows ≡ Some o → is_some (meta_of o).uid ≡ true
 
 abbrev pub BegunClaimsHaveCalls : Type 0
-BegunClaimsHaveCalls = (rows : List Object) (key : Key) (op : ClaimGuardOp) → AreKnown rows → claim_begins rows (row_at key rows) ≡ Some op → is_some (claim_call op) ≡ true
+BegunClaimsHaveCalls = (rows : List Object) (key : Key) (op : ClaimGuardOp) → AreKnown rows → claim_guard_begins rows (row_at key rows) ≡ Some op → is_some (claim_guard_call op) ≡ true
 
 abbrev pub BegunVolumesHaveCalls : Type 0
-BegunVolumesHaveCalls = (row : Option Object) (op : VolumeGuardOp) → volume_begins row ≡ Some op → is_some (volume_call op) ≡ true
+BegunVolumesHaveCalls = (row : Option Object) (op : VolumeGuardOp) → volume_guard_begins row ≡ Some op → is_some (volume_guard_call op) ≡ true
 
 -- the request neither lists nor watches a whole kind
 pub record ReadsNoKind (request : Request) : Type 0 where
@@ -29,15 +29,15 @@ pub record ReadsNoKind (request : Request) : Type 0 where
   pub watches : (kind : Kind) (from : ℕ) → request ≢ requests.Watch kind from
 
 abbrev pub ClaimCallsReadNoKind : Type 0
-ClaimCallsReadNoKind = (op : ClaimGuardOp) (request : Request) → claim_call op ≡ Some request → ReadsNoKind request
+ClaimCallsReadNoKind = (op : ClaimGuardOp) (request : Request) → claim_guard_call op ≡ Some request → ReadsNoKind request
 
 abbrev pub VolumeCallsReadNoKind : Type 0
-VolumeCallsReadNoKind = (op : VolumeGuardOp) (request : Request) → volume_call op ≡ Some request → ReadsNoKind request
+VolumeCallsReadNoKind = (op : VolumeGuardOp) (request : Request) → volume_guard_call op ≡ Some request → ReadsNoKind request
 
 -- a machine whose key is parked has ended
 
 abbrev pub ParkedClaimsHaveEnded : Type 0
-ParkedClaimsHaveEnded = (op : ClaimGuardOp) → claim_parks op.step ≡ true → claim_call op ≡ None
+ParkedClaimsHaveEnded = (op : ClaimGuardOp) → claim_parks op.step ≡ true → claim_guard_call op ≡ None
 
 abbrev pub ParkedVolumesHaveEnded : Type 0
-ParkedVolumesHaveEnded = (op : VolumeGuardOp) → volume_parks op.step ≡ true → volume_call op ≡ None
+ParkedVolumesHaveEnded = (op : VolumeGuardOp) → volume_parks op.step ≡ true → volume_guard_call op ≡ None

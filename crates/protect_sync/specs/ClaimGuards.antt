@@ -24,36 +24,36 @@ abbrev pub unguarded_claim : ClaimData → ClaimData
 unguarded_claim c = record c { meta = unguarded_meta pvc_protection c.meta }
 
 -- the write of a claim that was told, at its version
-abbrev pub write_over : ClaimData → ClaimData → Request
-write_over c new = Update (Claim new) (Some c.meta.version)
+abbrev pub claim_write_over : ClaimData → ClaimData → Request
+claim_write_over c new = Update (Claim new) (Some c.meta.version)
 
 -- the list of the pods of the claim's namespace. An object has a UID from its creation on. So the test fails in no history
 abbrev pub list_call : ClaimData → Option Request
 list_call c = if is_some c.meta.uid then Some (ListOf kinds.Pod (Some c.meta.namespace)) else None
 
-abbrev pub call_at : ClaimGuardStep → ClaimData → Option Request
-call_at steps.Adds c = Some (write_over c (guarded_claim c))
-call_at steps.ListsPods c = list_call c
-call_at steps.Drops c = Some (write_over c (unguarded_claim c))
-call_at steps.Done c = None
-call_at steps.Parked c = None
+abbrev pub claim_guard_call_at : ClaimGuardStep → ClaimData → Option Request
+claim_guard_call_at steps.Adds c = Some (claim_write_over c (guarded_claim c))
+claim_guard_call_at steps.ListsPods c = list_call c
+claim_guard_call_at steps.Drops c = Some (claim_write_over c (unguarded_claim c))
+claim_guard_call_at steps.Done c = None
+claim_guard_call_at steps.Parked c = None
 
 -- the next call, or none where nothing is left to be asked
-unfoldable pub claim_call : ClaimGuardOp → Option Request
-claim_call op = call_at op.step op.claim
+unfoldable pub claim_guard_call : ClaimGuardOp → Option Request
+claim_guard_call op = claim_guard_call_at op.step op.claim
 
 -- where the step leads: a machine that has ended stays so, a refusal parks the key, and a list that tells a scheduled pod which
 -- uses the claim leaves the finalizer
-abbrev pub step_after : ClaimGuardStep → ClaimData → Reply → ClaimGuardStep
-step_after steps.Done c reply = steps.Done
-step_after steps.Parked c reply = steps.Parked
-step_after step c (Refused refusal) = steps.Parked
-step_after steps.ListsPods c (Listed items version) = if list_any (uses c) items then steps.Done else steps.Drops
-step_after step c reply = steps.Done
+abbrev pub claim_guard_step_after : ClaimGuardStep → ClaimData → Reply → ClaimGuardStep
+claim_guard_step_after steps.Done c reply = steps.Done
+claim_guard_step_after steps.Parked c reply = steps.Parked
+claim_guard_step_after step c (Refused refusal) = steps.Parked
+claim_guard_step_after steps.ListsPods c (Listed items version) = if list_any (uses c) items then steps.Done else steps.Drops
+claim_guard_step_after step c reply = steps.Done
 
 -- what the answer to the next call makes of the machine
 unfoldable pub claim_moved : ClaimGuardOp → Reply → ClaimGuardOp
-claim_moved op reply = record op { step = step_after op.step op.claim reply }
+claim_moved op reply = record op { step = claim_guard_step_after op.step op.claim reply }
 
 -- the key is parked
 abbrev pub claim_parks : ClaimGuardStep → Bool

@@ -15,21 +15,21 @@ use Rattle.protect_sync.specs.declared.volumes.VolumeGuardOp.{VolumeGuardOp}
 use Rattle.protect_sync.specs.declared.volumes.VolumeGuardStep.TheVariants as volumes
 
 -- the machine for what is due of a claim: before the finalizer is dropped the pods are listed
-abbrev pub claim_for : ClaimData → Option Due → Option ClaimGuardOp
-claim_for c (Some dues.Guard) = Some (record { claim = c; step = claims.Adds })
-claim_for c (Some dues.Unguard) = Some (record { claim = c; step = claims.ListsPods })
-claim_for c action = None
+abbrev pub claim_guard_for : ClaimData → Option Due → Option ClaimGuardOp
+claim_guard_for c (Some dues.Guard) = Some (record { claim = c; step = claims.Adds })
+claim_guard_for c (Some dues.Unguard) = Some (record { claim = c; step = claims.ListsPods })
+claim_guard_for c action = None
 
-abbrev pub claim_begins : List Object → Option Object → Option ClaimGuardOp
-claim_begins rows (Some (Claim c)) = claim_for c (claim_guard_due rows c)
-claim_begins rows row = None
+abbrev pub claim_guard_begins : List Object → Option Object → Option ClaimGuardOp
+claim_guard_begins rows (Some (Claim c)) = claim_guard_for c (claim_guard_due rows c)
+claim_guard_begins rows row = None
 
 -- the machine for what is due of a volume
-abbrev pub volume_for : VolumeData → Option Due → Option VolumeGuardOp
-volume_for v (Some dues.Guard) = Some (record { volume = v; step = volumes.Adds })
-volume_for v (Some dues.Unguard) = Some (record { volume = v; step = volumes.Drops })
-volume_for v action = None
+abbrev pub volume_guard_for : VolumeData → Option Due → Option VolumeGuardOp
+volume_guard_for v (Some dues.Guard) = Some (record { volume = v; step = volumes.Adds })
+volume_guard_for v (Some dues.Unguard) = Some (record { volume = v; step = volumes.Drops })
+volume_guard_for v action = None
 
-abbrev pub volume_begins : Option Object → Option VolumeGuardOp
-volume_begins (Some (Volume v)) = volume_for v (volume_guard_due v)
-volume_begins row = None
+abbrev pub volume_guard_begins : Option Object → Option VolumeGuardOp
+volume_guard_begins (Some (Volume v)) = volume_guard_for v (volume_guard_due v)
+volume_guard_begins row = None

@@ -22,29 +22,29 @@ abbrev pub unguarded_volume : VolumeData → VolumeData
 unguarded_volume v = record v { meta = unguarded_meta pv_protection v.meta }
 
 -- the write of a volume that was told, at its version
-abbrev pub write_over : VolumeData → VolumeData → Request
-write_over v new = Update (Volume new) (Some v.meta.version)
+abbrev pub volume_write_over : VolumeData → VolumeData → Request
+volume_write_over v new = Update (Volume new) (Some v.meta.version)
 
-abbrev pub call_at : VolumeGuardStep → VolumeData → Option Request
-call_at steps.Adds v = Some (write_over v (guarded_volume v))
-call_at steps.Drops v = Some (write_over v (unguarded_volume v))
-call_at steps.Done v = None
-call_at steps.Parked v = None
+abbrev pub volume_guard_call_at : VolumeGuardStep → VolumeData → Option Request
+volume_guard_call_at steps.Adds v = Some (volume_write_over v (guarded_volume v))
+volume_guard_call_at steps.Drops v = Some (volume_write_over v (unguarded_volume v))
+volume_guard_call_at steps.Done v = None
+volume_guard_call_at steps.Parked v = None
 
 -- the next call, or none where nothing is left to be asked
-unfoldable pub volume_call : VolumeGuardOp → Option Request
-volume_call op = call_at op.step op.volume
+unfoldable pub volume_guard_call : VolumeGuardOp → Option Request
+volume_guard_call op = volume_guard_call_at op.step op.volume
 
 -- where the step leads: a machine that has ended stays so, and a refusal parks the key
-abbrev pub step_after : VolumeGuardStep → Reply → VolumeGuardStep
-step_after steps.Done reply = steps.Done
-step_after steps.Parked reply = steps.Parked
-step_after step (Refused refusal) = steps.Parked
-step_after step reply = steps.Done
+abbrev pub volume_guard_step_after : VolumeGuardStep → Reply → VolumeGuardStep
+volume_guard_step_after steps.Done reply = steps.Done
+volume_guard_step_after steps.Parked reply = steps.Parked
+volume_guard_step_after step (Refused refusal) = steps.Parked
+volume_guard_step_after step reply = steps.Done
 
 -- what the answer to the next call makes of the machine
 unfoldable pub volume_moved : VolumeGuardOp → Reply → VolumeGuardOp
-volume_moved op reply = record op { step = step_after op.step reply }
+volume_moved op reply = record op { step = volume_guard_step_after op.step reply }
 
 -- the key is parked
 abbrev pub volume_parks : VolumeGuardStep → Bool

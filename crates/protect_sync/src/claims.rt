@@ -3,8 +3,8 @@
 ghost use Rattle.std.specs.Prelude.{◌≡◌, IfOk, option_map};
 ghost use Rattle.kube_types.specs.Bindings.{is_deleting, is_protected_claim};
 ghost use Rattle.binder_model.specs.Due.{guard_due};
-ghost use Rattle.protect_sync.specs.ClaimGuards.{claim_call, claim_moved, claim_parks, guarded_claim, list_call, unguarded_claim, write_over};
-ghost use Rattle.protect_sync.specs.Decisions.{claim_for};
+ghost use Rattle.protect_sync.specs.ClaimGuards.{claim_guard_call, claim_moved, claim_parks, guarded_claim, list_call, unguarded_claim, claim_write_over};
+ghost use Rattle.protect_sync.specs.Decisions.{claim_guard_for};
 
 use crate::names::with_name;
 use crate::uses::some_uses;
@@ -47,7 +47,7 @@ impl ClaimGuardOp {
         claim: &Claim,
         is_used: bool,
     ) -> Result<Option<ClaimGuardOp>, OutOfMemory>
-        ensures { IfOk result (λ op. op ≡ claim_for claim.now (guard_due (is_deleting claim.now.meta) (is_protected_claim claim.now) is_used)) }
+        ensures { IfOk result (λ op. op ≡ claim_guard_for claim.now (guard_due (is_deleting claim.now.meta) (is_protected_claim claim.now) is_used)) }
     {
         match first_step(claim, is_used) {
             None => Ok(None),
@@ -59,9 +59,9 @@ impl ClaimGuardOp {
     }
 
     /// The next call, or none where the machine has nothing more to do.
-    #[tactic(auto, unfolding(crate::specs::ClaimGuards::claim_call))]
+    #[tactic(auto, unfolding(crate::specs::ClaimGuards::claim_guard_call))]
     pub fn next(&self, alloc: Global) -> Result<Option<Request>, OutOfMemory>
-        ensures { IfOk result (λ call. call ≡ claim_call self.now) }
+        ensures { IfOk result (λ call. call ≡ claim_guard_call self.now) }
     {
         match self.step {
             ClaimGuardStep::Adds => {
@@ -109,7 +109,7 @@ impl ClaimGuardOp {
 
 /// The first step for the claim, where protection is due.
 fn first_step(claim: &Claim, is_used: bool) -> Option<ClaimGuardStep>
-    ensures { option_map (λ step. record { claim = claim.now; step = step }) result ≡ claim_for claim.now (guard_due (is_deleting claim.now.meta) (is_protected_claim claim.now) is_used) }
+    ensures { option_map (λ step. record { claim = claim.now; step = step }) result ≡ claim_guard_for claim.now (guard_due (is_deleting claim.now.meta) (is_protected_claim claim.now) is_used) }
 {
     match (is_deleting(&claim.meta), is_protected_claim(claim), is_used) {
         (false, false, _) => Some(ClaimGuardStep::Adds),
@@ -120,7 +120,7 @@ fn first_step(claim: &Claim, is_used: bool) -> Option<ClaimGuardStep>
 
 /// The write of the new claim, at the version of the one that was told.
 fn write_over(alloc: Global, claim: &Claim, new: Claim) -> Result<Request, OutOfMemory>
-    ensures { IfOk result (λ write. write ≡ write_over claim.now new) }
+    ensures { IfOk result (λ write. write ≡ claim_write_over claim.now new) }
 {
     Ok(Request::Update {
         object: Object::Claim(Shared::new(alloc, new)?),

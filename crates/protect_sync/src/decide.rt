@@ -2,7 +2,7 @@
 
 ghost use Rattle.std.specs.Prelude.{◌≡◌, IfOk};
 ghost use Rattle.kube_types.specs.Keys.{row_at};
-ghost use Rattle.protect_sync.specs.Decisions.{claim_begins, claim_for, volume_begins};
+ghost use Rattle.protect_sync.specs.Decisions.{claim_guard_begins, claim_guard_for, volume_guard_begins};
 ghost use Rattle.binder_model.specs.Due.{claim_guard_due};
 
 use crate::claims::ClaimGuardOp;
@@ -21,7 +21,7 @@ pub fn decide_claim<L: Lookup>(
     lookup: &L,
     key: &Key,
 ) -> Result<Option<ClaimGuardOp>, OutOfMemory>
-    ensures { IfOk result (λ op. op ≡ claim_begins (L.rows lookup.now) (row_at key.now (L.rows lookup.now))) }
+    ensures { IfOk result (λ op. op ≡ claim_guard_begins (L.rows lookup.now) (row_at key.now (L.rows lookup.now))) }
 {
     match lookup.row(key) {
         Some(Object::Claim(claim)) => first_for(alloc, lookup, claim),
@@ -37,7 +37,7 @@ fn first_for<L: Lookup>(
     lookup: &L,
     claim: &Claim,
 ) -> Result<Option<ClaimGuardOp>, OutOfMemory>
-    ensures { IfOk result (λ op. op ≡ claim_for claim.now (claim_guard_due (L.rows lookup.now) claim.now)) }
+    ensures { IfOk result (λ op. op ≡ claim_guard_for claim.now (claim_guard_due (L.rows lookup.now) claim.now)) }
 {
     if is_deleting(&claim.meta) {
         ClaimGuardOp::new(alloc, claim, is_used(lookup, claim))
@@ -52,7 +52,7 @@ pub fn decide_volume<L: Lookup>(
     lookup: &L,
     key: &Key,
 ) -> Result<Option<VolumeGuardOp>, OutOfMemory>
-    ensures { IfOk result (λ op. op ≡ volume_begins (row_at key.now (L.rows lookup.now))) }
+    ensures { IfOk result (λ op. op ≡ volume_guard_begins (row_at key.now (L.rows lookup.now))) }
 {
     match lookup.row(key) {
         Some(Object::Volume(volume)) => VolumeGuardOp::new(alloc, volume),

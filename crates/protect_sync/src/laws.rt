@@ -11,24 +11,24 @@ ghost use Rattle.informer_cache.specs.All.{AllKnown, AllStandFor, all_objects};
 ghost use Rattle.protect_sync.specs.declared.claims.ClaimGuardOp.{ClaimGuardOp};
 ghost use Rattle.protect_sync.specs.declared.volumes.VolumeGuardOp.{VolumeGuardOp};
 ghost use Rattle.protect_sync.specs.BeginLaw.{BegunClaimsHaveCalls, BegunVolumesHaveCalls, ClaimCallsReadNoKind, ParkedClaimsHaveEnded, ParkedVolumesHaveEnded, VolumeCallsReadNoKind};
-ghost use Rattle.protect_sync.specs.ClaimGuards.{claim_call, claim_moved};
-ghost use Rattle.protect_sync.specs.Decisions.{claim_begins, volume_begins};
+ghost use Rattle.protect_sync.specs.ClaimGuards.{claim_guard_call, claim_moved};
+ghost use Rattle.protect_sync.specs.Decisions.{claim_guard_begins, volume_guard_begins};
 ghost use Rattle.protect_sync.specs.Evidence.{ClaimKeeps, VolumeKeeps};
-ghost use Rattle.protect_sync.specs.VolumeGuards.{volume_call, volume_moved};
+ghost use Rattle.protect_sync.specs.VolumeGuards.{volume_guard_call, volume_moved};
 
 /// The next call of a claim's machine is allowed by its evidence.
 pub fn claim_calls_are_allowed()
-    ensures { (op : ClaimGuardOp) (mine : List Entry) (request : Request) → AreOfKind ClaimProtect mine → ClaimKeeps op mine → claim_call op ≡ Some request → Licensed ClaimProtect mine request }
+    ensures { (op : ClaimGuardOp) (mine : List Entry) (request : Request) → AreOfKind ClaimProtect mine → ClaimKeeps op mine → claim_guard_call op ≡ Some request → Licensed ClaimProtect mine request }
 {}
 
 /// The evidence of a claim's machine goes on with the answer to its call.
 pub fn claim_evidence_goes_on()
-    ensures { (op : ClaimGuardOp) (mine : List Entry) (e : Entry) → ClaimKeeps op mine → claim_call op ≡ Some e.request → e.told ≡ true → ClaimKeeps (claim_moved op e.reply) (e ∷ mine) }
+    ensures { (op : ClaimGuardOp) (mine : List Entry) (e : Entry) → ClaimKeeps op mine → claim_guard_call op ≡ Some e.request → e.told ≡ true → ClaimKeeps (claim_moved op e.reply) (e ∷ mine) }
 {}
 
 /// Where the caches stand for what was told, a claim's machine that begins has its evidence.
 pub fn claim_decisions_keep()
-    ensures { (caches : AllKnown) (mine : List Entry) (key : Key) (op : ClaimGuardOp) → AllStandFor caches mine → claim_begins (all_objects caches) (row_at key (all_objects caches)) ≡ Some op → ClaimKeeps op mine }
+    ensures { (caches : AllKnown) (mine : List Entry) (key : Key) (op : ClaimGuardOp) → AllStandFor caches mine → claim_guard_begins (all_objects caches) (row_at key (all_objects caches)) ≡ Some op → ClaimKeeps op mine }
 {}
 
 /// On a look-up whose objects have UIDs, each claim's machine that begins has a next call.
@@ -43,17 +43,17 @@ pub fn claim_calls_read_no_kind()
 
 /// The next call of a volume's machine is allowed by its evidence.
 pub fn volume_calls_are_allowed()
-    ensures { (op : VolumeGuardOp) (mine : List Entry) (request : Request) → AreOfKind VolumeProtect mine → VolumeKeeps op mine → volume_call op ≡ Some request → Licensed VolumeProtect mine request }
+    ensures { (op : VolumeGuardOp) (mine : List Entry) (request : Request) → AreOfKind VolumeProtect mine → VolumeKeeps op mine → volume_guard_call op ≡ Some request → Licensed VolumeProtect mine request }
 {}
 
 /// The evidence of a volume's machine goes on with the answer to its call.
 pub fn volume_evidence_goes_on()
-    ensures { (op : VolumeGuardOp) (mine : List Entry) (e : Entry) → VolumeKeeps op mine → volume_call op ≡ Some e.request → e.told ≡ true → VolumeKeeps (volume_moved op e.reply) (e ∷ mine) }
+    ensures { (op : VolumeGuardOp) (mine : List Entry) (e : Entry) → VolumeKeeps op mine → volume_guard_call op ≡ Some e.request → e.told ≡ true → VolumeKeeps (volume_moved op e.reply) (e ∷ mine) }
 {}
 
 /// Where the caches stand for what was told, a volume's machine that begins has its evidence.
 pub fn volume_decisions_keep()
-    ensures { (caches : AllKnown) (mine : List Entry) (key : Key) (op : VolumeGuardOp) → AllStandFor caches mine → volume_begins (row_at key (all_objects caches)) ≡ Some op → VolumeKeeps op mine }
+    ensures { (caches : AllKnown) (mine : List Entry) (key : Key) (op : VolumeGuardOp) → AllStandFor caches mine → volume_guard_begins (row_at key (all_objects caches)) ≡ Some op → VolumeKeeps op mine }
 {}
 
 /// Each volume's machine that begins has a next call.

@@ -2,9 +2,9 @@
 
 ghost use Rattle.std.specs.Prelude.{◌≡◌, IfOk, option_map};
 ghost use Rattle.binder_model.specs.Due.{volume_guard_due};
-ghost use Rattle.protect_sync.specs.Decisions.{volume_for};
+ghost use Rattle.protect_sync.specs.Decisions.{volume_guard_for};
 ghost use Rattle.kube_types.specs.Bindings.{is_bound};
-ghost use Rattle.protect_sync.specs.VolumeGuards.{guarded_volume, unguarded_volume, volume_call, volume_moved, volume_parks, write_over};
+ghost use Rattle.protect_sync.specs.VolumeGuards.{guarded_volume, unguarded_volume, volume_guard_call, volume_moved, volume_parks, volume_write_over};
 
 use crate::names::with_name;
 use call_types::reply::Reply;
@@ -39,7 +39,7 @@ pub struct VolumeGuardOp {
 impl VolumeGuardOp {
     /// The machine for the volume, where protection is due.
     pub fn new(alloc: Global, volume: &Volume) -> Result<Option<VolumeGuardOp>, OutOfMemory>
-        ensures { IfOk result (λ op. op ≡ volume_for volume.now (volume_guard_due volume.now)) }
+        ensures { IfOk result (λ op. op ≡ volume_guard_for volume.now (volume_guard_due volume.now)) }
     {
         match first_step(volume) {
             None => Ok(None),
@@ -51,9 +51,9 @@ impl VolumeGuardOp {
     }
 
     /// The next call, or none where the machine has nothing more to do.
-    #[tactic(auto, unfolding(crate::specs::VolumeGuards::volume_call))]
+    #[tactic(auto, unfolding(crate::specs::VolumeGuards::volume_guard_call))]
     pub fn next(&self, alloc: Global) -> Result<Option<Request>, OutOfMemory>
-        ensures { IfOk result (λ call. call ≡ volume_call self.now) }
+        ensures { IfOk result (λ call. call ≡ volume_guard_call self.now) }
     {
         match self.step {
             VolumeGuardStep::Adds => {
@@ -93,7 +93,7 @@ impl VolumeGuardOp {
 
 /// The first step for the volume, where protection is due.
 fn first_step(volume: &Volume) -> Option<VolumeGuardStep>
-    ensures { option_map (λ step. record { volume = volume.now; step = step }) result ≡ volume_for volume.now (volume_guard_due volume.now) }
+    ensures { option_map (λ step. record { volume = volume.now; step = step }) result ≡ volume_guard_for volume.now (volume_guard_due volume.now) }
 {
     match (
         is_deleting(&volume.meta),
@@ -117,7 +117,7 @@ pub(crate) fn is_bound(phase: VolumePhase) -> bool
 
 /// The write of the new volume, at the version of the one that was told.
 fn write_over(alloc: Global, volume: &Volume, new: Volume) -> Result<Request, OutOfMemory>
-    ensures { IfOk result (λ write. write ≡ write_over volume.now new) }
+    ensures { IfOk result (λ write. write ≡ volume_write_over volume.now new) }
 {
     Ok(Request::Update {
         object: Object::Volume(Shared::new(alloc, new)?),

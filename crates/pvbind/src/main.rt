@@ -6,17 +6,37 @@ use binder_console::status::Status;
 use fault_io::gate::NoGate;
 use fault_io::standard::{StdSink, StdSource};
 use std::alloc::Global;
-use std::env::Args;
+use std::env::{Args, Env, FillError};
 use std::process::ExitCode;
 use std::{env, io};
 
-/// The words after the program's name. Where one of them is no UTF-8 there are none, since such a
-/// word is part of no command and no words are no command either.
-fn words_after_name(alloc: Global, args: io::Result<Args>) -> io::Result<Vec<String>> {
+/// The words of the command line without the program's own name, which may be no UTF-8.
+#[derive(Drop)]
+struct AfterName<R: Env> {
+    env: R,
+}
+
+impl<R: Env> Env for AfterName<R> {
+    fn arg(&self, i: usize, buf: &mut [u8]) -> Result<usize, FillError> {
+        self.env.arg(i.saturating_add(1), buf)
+    }
+
+    fn var(&self, name: &str, buf: &mut [u8]) -> Result<usize, FillError> {
+        self.env.var(name, buf)
+    }
+
+    fn var_at(&self, i: usize, buf: &mut [u8]) -> Result<usize, FillError> {
+        self.env.var_at(i, buf)
+    }
+}
+
+/// The words. Where one of them is no UTF-8 there are none, since such a word is part of no command and
+/// no words are no command either.
+fn words_of(alloc: Global, args: io::Result<Args>) -> io::Result<Vec<String>> {
     let mut words = Vec::new(alloc);
     match args {
         Ok(args) => {
-            for word in args.skip(1) {
+            for word in args {
                 words.push(word)?;
             }
             Ok(words)
@@ -27,7 +47,8 @@ fn words_after_name(alloc: Global, args: io::Result<Args>) -> io::Result<Vec<Str
 }
 
 fn main(rt: HostRuntime) -> ExitCode {
-    let words = match words_after_name(rt.alloc(), env::args(&rt)) {
+    let after_name = (AfterName { env: &rt }, rt.alloc());
+    let words = match words_of(rt.alloc(), env::args(&after_name)) {
         Ok(words) => words,
         Err(_) => return ExitCode::from(Status::Memory.number()),
     };

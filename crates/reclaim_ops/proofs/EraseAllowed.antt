@@ -20,15 +20,15 @@ use Rattle.reclaim_ops.specs.declared.erase.EraseOp.{EraseOp}
 use Rattle.reclaim_ops.specs.declared.erase.EraseStep.{EraseStep}
 use Rattle.reclaim_ops.specs.declared.erase.EraseStep.TheVariants as steps
 use Rattle.reclaim_ops.specs.BeginLaw.{EraseCallsReadNoKind, lists_or_watches}
-use Rattle.reclaim_ops.specs.Erasures.{call_at, erase_call, fail_call, volume_key}
+use Rattle.reclaim_ops.specs.Erasures.{erase_call_at, erase_call, fail_call, key_of_volume}
 use Rattle.reclaim_ops.specs.Evidence.{EraseKeeps, EraseStepKeeps, MayDeleteErased, MayEraseData, MayRead, MayWriteFailed}
 
 pub answered : (mine : List Entry) (a b : Request) → Some a ≡ Some b → RowAllows seats.Ops mine a → RowAllows seats.Ops mine b
 answered mine a b e may = subst (λ r. RowAllows seats.Ops mine r) (one a b e) may
 
-reads : (v : VolumeData) (mine : List Entry) → MayRead v mine → RowAllows seats.Ops mine (requests.Get (volume_key v))
+reads : (v : VolumeData) (mine : List Entry) → MayRead v mine → RowAllows seats.Ops mine (requests.Get (key_of_volume v))
 reads v mine kept =
-    let row : AsksForEnded mine (volume_key v) = record { volume = v; newest_volume = kept.newest; ended = kept.ended } in
+    let row : AsksForEnded mine (key_of_volume v) = record { volume = v; newest_volume = kept.newest; ended = kept.ended } in
     row
 
 erases : (v : VolumeData) (uid : Uid) (mine : List Entry) → MayEraseData v uid mine → RowAllows seats.Ops mine (requests.Erase (data_id_of v.source))
@@ -41,7 +41,7 @@ after_map : (P Q : List Entry → Type 0) (R : Entry → Type 0) → ((mine : Li
 after_map P Q R f [] h = absurd h
 after_map P Q R f (e ∷ mine) h = elim h [ inl here ↦ inl (here.0, f mine here.1) | inr before ↦ inr (after_map P Q R f mine before) ]
 
-deletes : (v : VolumeData) (uid : Uid) (mine : List Entry) → MayDeleteErased v uid mine → RowAllows seats.Ops mine (requests.Delete (volume_key v) (Some uid))
+deletes : (v : VolumeData) (uid : Uid) (mine : List Entry) → MayDeleteErased v uid mine → RowAllows seats.Ops mine (requests.Delete (key_of_volume v) (Some uid))
 deletes v uid mine kept =
     let id = data_id_of v.source in
     let over : IsEndedOver uid id v = record { same = kept.known; ended = kept.ended.ended; policy = kept.ended.policy; over = refl } in
@@ -56,10 +56,10 @@ fails v mine kept =
     let row : MayFail mine v = record { ended = kept.ended.ended; failed = kept.failed } in
     (refl, told_volume (λ o. IsWrittenAt (Some v.meta.version) v.meta.namespace v.meta.name o.meta × PhaseMay (ops_phase phases.Failed) mine o) v mine kept.told (record { version = refl; placed = refl; named = refl }, row))
 
-step_row : (step : EraseStep) (v : VolumeData) (mine : List Entry) (request : Request) → EraseStepKeeps step v mine → call_at step v ≡ Some request → RowAllows seats.Ops mine request
-step_row steps.ReadsVolume v mine request kept e = answered mine (requests.Get (volume_key v)) request e (reads v mine kept)
+step_row : (step : EraseStep) (v : VolumeData) (mine : List Entry) (request : Request) → EraseStepKeeps step v mine → erase_call_at step v ≡ Some request → RowAllows seats.Ops mine request
+step_row steps.ReadsVolume v mine request kept e = answered mine (requests.Get (key_of_volume v)) request e (reads v mine kept)
 step_row (steps.Erases uid) v mine request kept e = answered mine (requests.Erase (data_id_of v.source)) request e (erases v uid mine kept)
-step_row (steps.Deletes uid) v mine request kept e = answered mine (requests.Delete (volume_key v) (Some uid)) request e (deletes v uid mine kept)
+step_row (steps.Deletes uid) v mine request kept e = answered mine (requests.Delete (key_of_volume v) (Some uid)) request e (deletes v uid mine kept)
 step_row steps.WritesFailed v mine request kept e = answered mine (fail_call v) request e (fails v mine kept)
 step_row steps.Done v mine request kept e = none_some e
 step_row steps.Parked v mine request kept e = none_some e
@@ -68,7 +68,7 @@ pub erase_allowed : (op : EraseOp) (mine : List Entry) (request : Request) → A
 unfolding erase_call
 erase_allowed op mine request own kept e = (own, step_row op.step op.volume mine request kept e)
 
-step_reads : (step : EraseStep) (v : VolumeData) (request : Request) → call_at step v ≡ Some request → lists_or_watches request ≡ false
+step_reads : (step : EraseStep) (v : VolumeData) (request : Request) → erase_call_at step v ≡ Some request → lists_or_watches request ≡ false
 step_reads steps.ReadsVolume v request e = sym (ap lists_or_watches (one _ request e))
 step_reads (steps.Erases uid) v request e = sym (ap lists_or_watches (one _ request e))
 step_reads (steps.Deletes uid) v request e = sym (ap lists_or_watches (one _ request e))

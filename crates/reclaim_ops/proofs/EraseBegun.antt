@@ -22,7 +22,7 @@ use Rattle.reclaim_ops.specs.declared.erase.EraseStep.{EraseStep}
 use Rattle.reclaim_ops.specs.declared.erase.EraseStep.TheVariants as steps
 use Rattle.reclaim_ops.specs.BeginLaw.{BegunErasuresHaveCalls, ParkedErasuresHaveEnded}
 use Rattle.reclaim_ops.specs.Decisions.{volume_begins, volume_for}
-use Rattle.reclaim_ops.specs.Erasures.{call_at, erase_call, erase_parks, volume_key}
+use Rattle.reclaim_ops.specs.Erasures.{erase_call_at, erase_call, erase_parks, key_of_volume}
 use Rattle.reclaim_ops.specs.Evidence.{EraseKeeps}
 
 if_some : (b : Bool) → is_some (if b then Some dues.Reclaim else None) ≡ true → b ≡ true
@@ -41,7 +41,7 @@ to_erase v h =
 becomes : (a b : EraseOp) (mine : List Entry) → Some a ≡ Some b → EraseKeeps a mine → EraseKeeps b mine
 becomes a b mine e kept = subst (λ (k : EraseOp). EraseKeeps k mine) (one a b e) kept
 
-volume_keeps : (v : VolumeData) (mine : List Entry) (op : EraseOp) → IsNewest mine (volume_key v) (Volume v) → volume_for v (reclaim_due v) ≡ Some op → EraseKeeps op mine
+volume_keeps : (v : VolumeData) (mine : List Entry) (op : EraseOp) → IsNewest mine (key_of_volume v) (Volume v) → volume_for v (reclaim_due v) ≡ Some op → EraseKeeps op mine
 volume_keeps v mine op newest_is = by (reclaim_due v) refl
   where
     by : (action : Option Due) → reclaim_due v ≡ action → volume_for v action ≡ Some op → EraseKeeps op mine
@@ -52,7 +52,7 @@ volume_keeps v mine op newest_is = by (reclaim_due v) refl
 pub erase_decisions : (caches : AllKnown) (mine : List Entry) (key : Key) (op : EraseOp) → AllStandFor caches mine → volume_begins (row_at key (all_objects caches)) ≡ Some op → EraseKeeps op mine
 erase_decisions caches mine key op stand = by (row_at key (all_objects caches)) refl
   where
-    own : (v : VolumeData) → row_at key (all_objects caches) ≡ Some (Volume v) → IsNewest mine (volume_key v) (Volume v)
+    own : (v : VolumeData) → row_at key (all_objects caches) ≡ Some (Volume v) → IsNewest mine (key_of_volume v) (Volume v)
     own v at = subst (λ k. IsNewest mine k (Volume v)) (sym (row_at_key key (Volume v) (all_objects caches) at)) (sym (stand.rows key) ∙ at)
 
     by : (row : Option Object) → row_at key (all_objects caches) ≡ row → volume_begins row ≡ Some op → EraseKeeps op mine
@@ -82,7 +82,7 @@ pub parked_erasures_have_ended : ParkedErasuresHaveEnded
 unfolding erase_call
 parked_erasures_have_ended op = by op.step
   where
-    by : (step : EraseStep) → erase_parks step ≡ true → call_at step op.volume ≡ None
+    by : (step : EraseStep) → erase_parks step ≡ true → erase_call_at step op.volume ≡ None
     by steps.Parked e = refl
     by steps.ReadsVolume e = absurd (true≢false (sym e))
     by (steps.Erases uid) e = absurd (true≢false (sym e))

@@ -20,7 +20,7 @@ use Rattle.model_laws.proofs.Lists.{none_some, one}
 use Rattle.reclaim_ops.specs.declared.erase.EraseOp.{EraseOp}
 use Rattle.reclaim_ops.specs.declared.erase.EraseStep.{EraseStep}
 use Rattle.reclaim_ops.specs.declared.erase.EraseStep.TheVariants as steps
-use Rattle.reclaim_ops.specs.Erasures.{after_erase, at_found, at_known, call_at, erase_call, erase_moved, moved_at, step_after}
+use Rattle.reclaim_ops.specs.Erasures.{after_erase, at_found, at_known, erase_call_at, erase_call, erase_moved, moved_at, erase_step_after}
 use Rattle.reclaim_ops.specs.Evidence.{EraseKeeps, EraseStepKeeps, MayDeleteErased, MayEraseData, MayWriteFailed}
 use Rattle.reclaim_ops.proofs.EraseBegun.{to_erase}
 
@@ -84,15 +84,15 @@ module _ (v : VolumeData) (uid : Uid) (mine : List Entry) (e : Entry) (kept : Ma
 
 -- after a write nothing is left
 
-deleted : (uid : Uid) (v : VolumeData) (reply : Reply) (mine : List Entry) → EraseStepKeeps (step_after (steps.Deletes uid) reply) v mine
+deleted : (uid : Uid) (v : VolumeData) (reply : Reply) (mine : List Entry) → EraseStepKeeps (erase_step_after (steps.Deletes uid) reply) v mine
 deleted uid v (Refused r) mine = tt
 deleted uid v _ mine = tt
 
-written : (v : VolumeData) (reply : Reply) (mine : List Entry) → EraseStepKeeps (step_after steps.WritesFailed reply) v mine
+written : (v : VolumeData) (reply : Reply) (mine : List Entry) → EraseStepKeeps (erase_step_after steps.WritesFailed reply) v mine
 written v (Refused r) mine = tt
 written v _ mine = tt
 
-step_goes_on : (op : EraseOp) (step : EraseStep) (mine : List Entry) (e : Entry) → EraseStepKeeps step op.volume mine → call_at step op.volume ≡ Some e.request → e.told ≡ true → EraseKeeps (moved_at op step e.reply) (e ∷ mine)
+step_goes_on : (op : EraseOp) (step : EraseStep) (mine : List Entry) (e : Entry) → EraseStepKeeps step op.volume mine → erase_call_at step op.volume ≡ Some e.request → e.told ≡ true → EraseKeeps (moved_at op step e.reply) (e ∷ mine)
 step_goes_on op steps.ReadsVolume mine e kept call told = reading op mine e told e.reply refl
 step_goes_on op (steps.Erases uid) mine e kept call told = erasing op.volume uid mine e kept (one _ _ call) told e.reply refl
 step_goes_on op (steps.Deletes uid) mine e kept call told = deleted uid op.volume e.reply (e ∷ mine)

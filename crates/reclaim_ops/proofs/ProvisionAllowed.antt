@@ -20,7 +20,7 @@ use Rattle.reclaim_ops.specs.declared.provision.ProvisionStep.{ProvisionStep}
 use Rattle.reclaim_ops.specs.declared.provision.ProvisionStep.TheVariants as steps
 use Rattle.reclaim_ops.specs.BeginLaw.{ProvisionCallsReadNoKind, lists_or_watches}
 use Rattle.reclaim_ops.specs.Evidence.{MayAsk, MayClear, MayCreateOver, ProvisionKeeps, ProvisionStepKeeps}
-use Rattle.reclaim_ops.specs.Provisions.{ask_call, call_at, clear_call, create_call, provision_call, unselected}
+use Rattle.reclaim_ops.specs.Provisions.{ask_call, provision_call_at, clear_call, create_call, provision_call, unselected}
 use Rattle.reclaim_ops.proofs.EraseAllowed.{answered}
 
 asks : (c : ClaimData) (uid : Uid) (x : ClassData) (labels : Option (List Pair)) (mine : List Entry) → MayAsk c uid x labels mine → RowAllows seats.Ops mine (ask_call c uid x labels)
@@ -61,7 +61,7 @@ clears c uid mine kept =
     told_claim (λ o. IsWrittenAt (Some c.meta.version) c.meta.namespace c.meta.name o.meta × MayClearNode mine o (unselected c)) c mine kept.told
     (record { version = refl; placed = refl; named = refl }, row)
 
-step_row : (step : ProvisionStep) (c : ClaimData) (uid : Uid) (x : ClassData) (mine : List Entry) (request : Request) → ProvisionStepKeeps step c uid x mine → call_at step c uid x ≡ Some request → RowAllows seats.Ops mine request
+step_row : (step : ProvisionStep) (c : ClaimData) (uid : Uid) (x : ClassData) (mine : List Entry) (request : Request) → ProvisionStepKeeps step c uid x mine → provision_call_at step c uid x ≡ Some request → RowAllows seats.Ops mine request
 step_row (steps.Provisions labels) c uid x mine request kept e = answered mine (ask_call c uid x labels) request e (asks c uid x labels mine kept)
 step_row (steps.Creates id topology) c uid x mine request kept e = answered mine (create_call c uid x id topology) request e (creates c uid x id topology mine kept)
 step_row steps.ClearsNode c uid x mine request kept e = answered mine (clear_call c) request e (clears c uid mine kept)
@@ -72,7 +72,7 @@ pub provision_allowed : (op : ProvisionOp) (mine : List Entry) (request : Reques
 unfolding provision_call
 provision_allowed op mine request own kept e = (own, step_row op.step op.claim op.uid op.class mine request kept e)
 
-step_reads : (step : ProvisionStep) (c : ClaimData) (uid : Uid) (x : ClassData) (request : Request) → call_at step c uid x ≡ Some request → lists_or_watches request ≡ false
+step_reads : (step : ProvisionStep) (c : ClaimData) (uid : Uid) (x : ClassData) (request : Request) → provision_call_at step c uid x ≡ Some request → lists_or_watches request ≡ false
 step_reads (steps.Provisions labels) c uid x request e = sym (ap lists_or_watches (one _ request e))
 step_reads (steps.Creates id topology) c uid x request e = sym (ap lists_or_watches (one _ request e))
 step_reads steps.ClearsNode c uid x request e = sym (ap lists_or_watches (one _ request e))

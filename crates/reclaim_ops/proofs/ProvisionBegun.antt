@@ -28,7 +28,7 @@ use Rattle.reclaim_ops.specs.declared.provision.ProvisionStep.TheVariants as ste
 use Rattle.reclaim_ops.specs.BeginLaw.{BegunProvisionsHaveCalls, ParkedProvisionsHaveEnded}
 use Rattle.reclaim_ops.specs.Decisions.{at_step, begins_at, by_class, claim_begins, claim_for, delayed_step, first_step, node_step}
 use Rattle.reclaim_ops.specs.Evidence.{IsCurrent, MayDecide, ProvisionKeeps, ProvisionStepKeeps}
-use Rattle.reclaim_ops.specs.Provisions.{call_at, provision_call, provision_parks}
+use Rattle.reclaim_ops.specs.Provisions.{provision_call_at, provision_call, provision_parks}
 use Rattle.reclaim_ops.proofs.Listings.{absent, listed_is_told}
 use Rattle.reclaim_ops.proofs.ProvisionMoves.{wanting_undone}
 
@@ -159,7 +159,7 @@ pub parked_provisions_have_ended : ParkedProvisionsHaveEnded
 unfolding provision_call
 parked_provisions_have_ended op = by op.step
   where
-    by : (step : ProvisionStep) → provision_parks step ≡ true → call_at step op.claim op.uid op.class ≡ None
+    by : (step : ProvisionStep) → provision_parks step ≡ true → provision_call_at step op.claim op.uid op.class ≡ None
     by steps.Parked e = refl
     by (steps.Provisions labels) e = absurd (true≢false (sym e))
     by (steps.Creates id topology) e = absurd (true≢false (sym e))

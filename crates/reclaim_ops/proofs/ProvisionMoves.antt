@@ -23,7 +23,7 @@ use Rattle.reclaim_ops.specs.declared.provision.ProvisionOp.{ProvisionOp}
 use Rattle.reclaim_ops.specs.declared.provision.ProvisionStep.{ProvisionStep}
 use Rattle.reclaim_ops.specs.declared.provision.ProvisionStep.TheVariants as steps
 use Rattle.reclaim_ops.specs.Evidence.{MayAsk, MayClear, MayCreateOver, ProvisionKeeps, ProvisionStepKeeps}
-use Rattle.reclaim_ops.specs.Provisions.{ask_call, call_at, provision_call, provision_moved, step_after}
+use Rattle.reclaim_ops.specs.Provisions.{ask_call, provision_call_at, provision_call, provision_moved, provision_step_after}
 use Rattle.reclaim_ops.proofs.Tellings.{still_newest}
 
 -- a claim that wants a volume is not completed
@@ -67,7 +67,7 @@ module _ (c : ClaimData) (uid : Uid) (x : ClassData) (labels : Option (List Pair
   exhausted true late free is = cleared free is (subst (λ b. AreLabels mine c b labels) late kept.placed)
   exhausted false late free is = tt
 
-  asking : (reply : Reply) → e.reply ≡ reply → ProvisionStepKeeps (step_after (steps.Provisions labels) x reply) c uid x (e ∷ mine)
+  asking : (reply : Reply) → e.reply ≡ reply → ProvisionStepKeeps (provision_step_after (steps.Provisions labels) x reply) c uid x (e ∷ mine)
   asking (Provisioned id topology) is = given id topology is
   asking (Refused (Exhausted free)) is = exhausted x.delayed refl free is
   asking (Refused _) is = tt
@@ -75,16 +75,16 @@ module _ (c : ClaimData) (uid : Uid) (x : ClassData) (labels : Option (List Pair
 
 -- after a write nothing is left
 
-created : (id : DataId) (topology : Option (List ℕ × List ℕ)) (c : ClaimData) (uid : Uid) (x : ClassData) (reply : Reply) (mine : List Entry) → ProvisionStepKeeps (step_after (steps.Creates id topology) x reply) c uid x mine
+created : (id : DataId) (topology : Option (List ℕ × List ℕ)) (c : ClaimData) (uid : Uid) (x : ClassData) (reply : Reply) (mine : List Entry) → ProvisionStepKeeps (provision_step_after (steps.Creates id topology) x reply) c uid x mine
 created id topology c uid x (Refused r) mine = tt
 created id topology c uid x _ mine = tt
 
-taken_back : (c : ClaimData) (uid : Uid) (x : ClassData) (reply : Reply) (mine : List Entry) → ProvisionStepKeeps (step_after steps.ClearsNode x reply) c uid x mine
+taken_back : (c : ClaimData) (uid : Uid) (x : ClassData) (reply : Reply) (mine : List Entry) → ProvisionStepKeeps (provision_step_after steps.ClearsNode x reply) c uid x mine
 taken_back c uid x (Refused r) mine = tt
 taken_back c uid x _ mine = tt
 
-step_goes_on : (step : ProvisionStep) (c : ClaimData) (uid : Uid) (x : ClassData) (mine : List Entry) (e : Entry) → ProvisionStepKeeps step c uid x mine → call_at step c uid x ≡ Some e.request → e.told ≡ true
-    → ProvisionStepKeeps (step_after step x e.reply) c uid x (e ∷ mine)
+step_goes_on : (step : ProvisionStep) (c : ClaimData) (uid : Uid) (x : ClassData) (mine : List Entry) (e : Entry) → ProvisionStepKeeps step c uid x mine → provision_call_at step c uid x ≡ Some e.request → e.told ≡ true
+    → ProvisionStepKeeps (provision_step_after step x e.reply) c uid x (e ∷ mine)
 step_goes_on (steps.Provisions labels) c uid x mine e kept call told = asking c uid x labels mine e kept (one _ _ call) told e.reply refl
 step_goes_on (steps.Creates id topology) c uid x mine e kept call told = created id topology c uid x e.reply (e ∷ mine)
 step_goes_on steps.ClearsNode c uid x mine e kept call told = taken_back c uid x e.reply (e ∷ mine)

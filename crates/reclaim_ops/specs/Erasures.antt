@@ -20,24 +20,24 @@ use Rattle.reclaim_ops.specs.declared.erase.EraseOp.{EraseOp}
 use Rattle.reclaim_ops.specs.declared.erase.EraseStep.{EraseStep}
 use Rattle.reclaim_ops.specs.declared.erase.EraseStep.TheVariants as steps
 
-abbrev pub volume_key : VolumeData → Key
-volume_key v = key_of (Volume v)
+abbrev pub key_of_volume : VolumeData → Key
+key_of_volume v = key_of (Volume v)
 
 -- the write of phase Failed at the volume that was read
 abbrev pub fail_call : VolumeData → Request
-fail_call v = requests.UpdateStatus (volume_key v) (statuses.Volume phases.Failed) (Some v.meta.version)
+fail_call v = requests.UpdateStatus (key_of_volume v) (statuses.Volume phases.Failed) (Some v.meta.version)
 
-abbrev pub call_at : EraseStep → VolumeData → Option Request
-call_at steps.ReadsVolume v = Some (requests.Get (volume_key v))
-call_at (steps.Erases uid) v = Some (requests.Erase (data_id_of v.source))
-call_at (steps.Deletes uid) v = Some (requests.Delete (volume_key v) (Some uid))
-call_at steps.WritesFailed v = Some (fail_call v)
-call_at steps.Done v = None
-call_at steps.Parked v = None
+abbrev pub erase_call_at : EraseStep → VolumeData → Option Request
+erase_call_at steps.ReadsVolume v = Some (requests.Get (key_of_volume v))
+erase_call_at (steps.Erases uid) v = Some (requests.Erase (data_id_of v.source))
+erase_call_at (steps.Deletes uid) v = Some (requests.Delete (key_of_volume v) (Some uid))
+erase_call_at steps.WritesFailed v = Some (fail_call v)
+erase_call_at steps.Done v = None
+erase_call_at steps.Parked v = None
 
 -- the next call, or none where nothing is left to be asked
 unfoldable pub erase_call : EraseOp → Option Request
-erase_call op = call_at op.step op.volume
+erase_call op = erase_call_at op.step op.volume
 
 -- what was read counts from then on, where it is still to be reclaimed. An object has a UID from its creation on. So that test fails in
 -- no history
@@ -57,16 +57,16 @@ after_erase uid (Refused refusal) = steps.Parked
 after_erase uid reply = steps.Done
 
 -- where the step leads else: a machine that has ended stays so, and a refusal parks the key
-abbrev pub step_after : EraseStep → Reply → EraseStep
-step_after steps.Done reply = steps.Done
-step_after steps.Parked reply = steps.Parked
-step_after (steps.Erases uid) reply = after_erase uid reply
-step_after step (Refused refusal) = steps.Parked
-step_after step reply = steps.Done
+abbrev pub erase_step_after : EraseStep → Reply → EraseStep
+erase_step_after steps.Done reply = steps.Done
+erase_step_after steps.Parked reply = steps.Parked
+erase_step_after (steps.Erases uid) reply = after_erase uid reply
+erase_step_after step (Refused refusal) = steps.Parked
+erase_step_after step reply = steps.Done
 
 abbrev pub moved_at : EraseOp → EraseStep → Reply → EraseOp
 moved_at op steps.ReadsVolume (Found (Volume v)) = at_found op v
-moved_at op step reply = record op { step = step_after step reply }
+moved_at op step reply = record op { step = erase_step_after step reply }
 
 -- what the answer to the next call makes of the machine
 unfoldable pub erase_moved : EraseOp → Reply → EraseOp

@@ -29,7 +29,7 @@ use Rattle.reclaim_ops.specs.declared.provision.ProvisionStep.TheVariants as pro
 use Rattle.reclaim_ops.specs.declared.erase.EraseOp.{EraseOp}
 use Rattle.reclaim_ops.specs.declared.erase.EraseStep.{EraseStep}
 use Rattle.reclaim_ops.specs.declared.erase.EraseStep.TheVariants as erase_steps
-use Rattle.reclaim_ops.specs.Erasures.{volume_key}
+use Rattle.reclaim_ops.specs.Erasures.{key_of_volume}
 
 -- provisioning
 
@@ -85,7 +85,7 @@ pub record MayDecide (mine : List Entry) : Type 0 where
 
 -- the volume is the newest told, and is to be reclaimed
 pub record MayRead (v : VolumeData) (mine : List Entry) : Type 0 where
-  pub newest : IsNewest mine (volume_key v) (Volume v)
+  pub newest : IsNewest mine (key_of_volume v) (Volume v)
   pub ended : IsToErase v
 
 -- the volume was told, as it is, by the last Get that found its data, and is to be reclaimed

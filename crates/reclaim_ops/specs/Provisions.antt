@@ -34,30 +34,30 @@ unselected c = record c { meta = record c.meta { annotations = without_key selec
 abbrev pub clear_call : ClaimData → Request
 clear_call c = requests.Update (Claim (unselected c)) (Some c.meta.version)
 
-abbrev pub call_at : ProvisionStep → ClaimData → Uid → ClassData → Option Request
-call_at (steps.Provisions labels) c uid x = Some (ask_call c uid x labels)
-call_at (steps.Creates id topology) c uid x = Some (create_call c uid x id topology)
-call_at steps.ClearsNode c uid x = Some (clear_call c)
-call_at steps.Done c uid x = None
-call_at steps.Parked c uid x = None
+abbrev pub provision_call_at : ProvisionStep → ClaimData → Uid → ClassData → Option Request
+provision_call_at (steps.Provisions labels) c uid x = Some (ask_call c uid x labels)
+provision_call_at (steps.Creates id topology) c uid x = Some (create_call c uid x id topology)
+provision_call_at steps.ClearsNode c uid x = Some (clear_call c)
+provision_call_at steps.Done c uid x = None
+provision_call_at steps.Parked c uid x = None
 
 -- the next call, or none where nothing is left to be asked
 unfoldable pub provision_call : ProvisionOp → Option Request
-provision_call op = call_at op.step op.claim op.uid op.class
+provision_call op = provision_call_at op.step op.claim op.uid op.class
 
 -- where the step leads: a machine that has ended stays so, and a refusal parks the key. But where no pool has the bytes, the node that was
 -- chosen under a delayed class is taken back
-abbrev pub step_after : ProvisionStep → ClassData → Reply → ProvisionStep
-step_after steps.Done x reply = steps.Done
-step_after steps.Parked x reply = steps.Parked
-step_after (steps.Provisions labels) x (Provisioned id topology) = steps.Creates id topology
-step_after (steps.Provisions labels) x (Refused (Exhausted free)) = if x.delayed then steps.ClearsNode else steps.Parked
-step_after step x (Refused refusal) = steps.Parked
-step_after step x reply = steps.Done
+abbrev pub provision_step_after : ProvisionStep → ClassData → Reply → ProvisionStep
+provision_step_after steps.Done x reply = steps.Done
+provision_step_after steps.Parked x reply = steps.Parked
+provision_step_after (steps.Provisions labels) x (Provisioned id topology) = steps.Creates id topology
+provision_step_after (steps.Provisions labels) x (Refused (Exhausted free)) = if x.delayed then steps.ClearsNode else steps.Parked
+provision_step_after step x (Refused refusal) = steps.Parked
+provision_step_after step x reply = steps.Done
 
 -- what the answer to the next call makes of the machine
 unfoldable pub provision_moved : ProvisionOp → Reply → ProvisionOp
-provision_moved op reply = record op { step = step_after op.step op.class reply }
+provision_moved op reply = record op { step = provision_step_after op.step op.class reply }
 
 -- the key is parked
 abbrev pub provision_parks : ProvisionStep → Bool

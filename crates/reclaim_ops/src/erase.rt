@@ -3,7 +3,7 @@
 ghost use Rattle.std.specs.Prelude.{◌≡◌, IfOk, OnErr, OnOk};
 ghost use Rattle.binder_model.specs.Due.{reclaim_due};
 ghost use Rattle.reclaim_ops.specs.Decisions.{volume_for};
-ghost use Rattle.reclaim_ops.specs.Erasures.{after_erase, at_found, erase_call, erase_moved, erase_parks, fail_call, step_after, volume_key};
+ghost use Rattle.reclaim_ops.specs.Erasures.{after_erase, at_found, erase_call, erase_moved, erase_parks, fail_call, erase_step_after, key_of_volume};
 
 use crate::due::is_to_reclaim;
 use call_types::reply::{Refusal, Reply};
@@ -122,7 +122,7 @@ impl EraseOp {
 
 /// Where the step leads, but for a read that found a volume.
 fn step_after(step: EraseStep, reply: &Reply) -> EraseStep
-    ensures { result ≡ step_after step reply.now }
+    ensures { result ≡ erase_step_after step reply.now }
 {
     match (step, reply) {
         (EraseStep::Done, _) => EraseStep::Done,
@@ -157,7 +157,7 @@ fn fail_call(alloc: Global, volume: &Volume) -> Result<Request, OutOfMemory>
 }
 
 fn volume_key(alloc: Global, volume: &Volume) -> Result<Key, OutOfMemory>
-    ensures { IfOk result (λ key. key ≡ volume_key volume.now) }
+    ensures { IfOk result (λ key. key ≡ key_of_volume volume.now) }
 {
     Ok(Key {
         kind: Kind::PersistentVolume,

@@ -2,7 +2,7 @@
 
 ghost use Rattle.std.specs.Prelude.{◌≡◌, IfOk, OnErr, OnOk};
 ghost use Rattle.reclaim_ops.specs.Decisions.{at_step};
-ghost use Rattle.reclaim_ops.specs.Provisions.{ask_call, clear_call, create_call, provision_call, provision_moved, provision_parks, step_after, unselected};
+ghost use Rattle.reclaim_ops.specs.Provisions.{ask_call, clear_call, create_call, provision_call, provision_moved, provision_parks, provision_step_after, unselected};
 
 use crate::volume::{data_name, volume_over};
 use call_types::reply::{Refusal, Reply};
@@ -134,7 +134,7 @@ impl ProvisionOp {
 
     /// Where the step leads.
     fn step_after(&self, alloc: Global, reply: &Reply) -> Result<ProvisionStep, OutOfMemory>
-        ensures { IfOk result (λ step. step ≡ step_after self.now.step self.now.class reply.now) }
+        ensures { IfOk result (λ step. step ≡ provision_step_after self.now.step self.now.class reply.now) }
     {
         match (&self.step, reply) {
             (ProvisionStep::Done, _) => Ok(ProvisionStep::Done),

@@ -1,2 +1,4 @@
+pub mod Answer
 pub mod Audit
+pub mod End
 pub mod Replay

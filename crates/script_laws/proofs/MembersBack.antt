@@ -27,6 +27,7 @@ use Rattle.object_text.specs.MetaReaders.{kept_namespace}
 use Rattle.object_text.specs.PartReaders.{amount_in, amount_from}
 use Rattle.object_text.specs.Reading.{is_object, most_bytes}
 use Rattle.object_text.specs.Listing.{item_of}
+use Rattle.object_text.proofs.WholeSizes.{least_whole}
 use Rattle.object_laws.specs.Given.{IsGiven, IsNamespace, IsUid}
 use Rattle.object_laws.proofs.PartsBack.{uid_back}
 use Rattle.object_laws.proofs.Canonical.{object_good}
@@ -90,7 +91,7 @@ item_back : (o : Object) → IsGiven o → length (object_line o) ≤ most_bytes
 unfolding item_of object_line
 item_back o h short =
     let good = object_good o h in
-    rw (no_float_good good, le-ltb most_bytes (length (compact_text (object_data o))) short, object_back o h) refl
+    rw (least_whole (object_data o) (no_float_good good), le-ltb most_bytes (length (compact_text (object_data o))) short, object_back o h) refl
 
 not_null : (d : Data) → is_object d ≡ true → unless_null (Some d) ≡ Some d
 not_null null h = absurd (cc)

@@ -1,9 +1,8 @@
 -- The stage before the first line, and how a replay goes through the lines and ends.
-use Rattle.std.proofs.Common.{◌≡◌, ℕ, ◌≤◌, ◌+◌, ◌-◌, zero, suc, List, [], ◌∷◌, ◌++◌, length, drop, map, Option, Some, None, inl, inr, ◌⊎◌, refl, sym, ◌∙◌, ap, subst, arith, append_assoc, append-nil}
+use Rattle.std.proofs.Common.{◌≡◌, ℕ, ◌≤◌, ◌+◌, ◌-◌, zero, suc, List, [], ◌∷◌, ◌++◌, length, drop, map, Option, Some, None, refl, sym, ◌∙◌, ap, subst, arith, append_assoc, append-nil}
 use Rattle.std.specs.Prelude.{slice_get}
 use Rattle.std.proofs.lemmas.List.{drop_all}
 use Rattle.call_types.specs.declared.entry.Entry.{Entry}
-use Rattle.call_types.specs.declared.setup.Setup.{Setup}
 use Rattle.binder_model.specs.World.{world}
 use Rattle.model_laws.proofs.Lists.{none_some, one}
 use Rattle.binder_model.specs.Due.{IsFirstDue, IsSettled}
@@ -15,30 +14,22 @@ use Rattle.worker_threads.proofs.NewFacts.{new_roles_for, new_seats_for}
 use Rattle.worker_threads.specs.Rounds.{EndsWith, all_pass, made_of}
 use Rattle.script_text.specs.declared.script.Line.{Line}
 use Rattle.script_text.specs.declared.script.Script.{Script}
-use Rattle.script_runs.specs.declared.player.Player.{Player}
+use Rattle.actor_turns.specs.declared.player.Player.{Player}
 use Rattle.script_runs.specs.declared.stage.Stage.{Stage}
 use Rattle.script_lines.specs.declared.actors.Actor.{Actor}
 use Rattle.script_lines.specs.declared.actors.WorkerKind.TheVariants as workers
 use Rattle.script_runs.specs.Budget.{first_budget}
 use Rattle.script_runs.specs.Parts.{drain_seat, drain_seats, first_actor_seat, role_of}
-use Rattle.script_runs.specs.Replays.{EndsAs, IsDrain, IsMove, IsReplay, MoreMoves, NoMoves, Progress, begun}
-use Rattle.script_runs.specs.Steps.Living.{Lives}
+use Rattle.script_runs.specs.Replays.{EndsAs, IsDrain, IsMove, IsReplay, MoreMoves, NoMoves, Progress, first_progress}
+use Rattle.actor_turns.specs.Steps.Living.{Lives}
 use Rattle.worker_core.specs.declared.role.Role.{Role}
-use Rattle.script_runs.specs.Steps.Playing.{EachPlayer, IsNewPlayer, Plays}
+use Rattle.actor_turns.specs.Steps.Playing.{EachPlayer, IsNewPlayer, Plays}
+use Rattle.script_runs.specs.Steps.Settled.{IsNoted}
 use Rattle.script_runs.specs.Steps.Standing.{AreNewPlayers, EachWithRole, Ended, HasAdded, HasMoved, IsBudget, SoFar, Stands, actors_for, agents_for, end_of, part_from, parts_from, parts_in, seat_past, with_made, workers_of}
-use Rattle.script_runs.proofs.Lived.{new_lives}
-use Rattle.script_runs.proofs.Since.{new_since}
+use Rattle.actor_turns.proofs.Lived.{new_lives}
+use Rattle.actor_turns.proofs.Turning.{new_plays}
 
 -- ---- the beginning
-
-new_plays : (role : Role) (x : Player) → IsNewPlayer role x → Plays x [] (λ seat. [])
-new_plays role x is = record {
-  kind = ap (λ (r : Role). r.kind) is.new.is ∙ is.kind;
-  first = let s = is.seat in omega (arith, s);
-  reached = let s = is.seat in omega (arith, s);
-  since = new_since x.actor is.stands;
-  unborn = λ seat after below. (refl, refl);
-}
 
 pub none_yet : (seats : List ℕ) → HaveNoEntries seats []
 none_yet [] = tt
@@ -134,8 +125,8 @@ actors_added lines nodes second third fourth fifth sixth end none ones two three
     (added_then lines (workers_of workers.Binder) of_ops first_actor_seat second end none ones items binders with_ops)
 
 pub begins : (script : Script) (option : Option ℕ) (s : Stage) (first : ℕ) → s.world.past ≡ [] → s.world.setup ≡ script.setup → HasAdded script.lines (actors_for script.node_names) first_actor_seat first [] s.players.items
-    → AreNew first script.node_names s.drainers → first ≡ drain_seat script → ((past : List Entry) → HaveNoEntries (seats_of s.drainers) past → AreStanding s.drainers past) → s.drained ≡ 0 → s.budget ≡ first_budget option → Stands script option (begun option) s
-begins script option s first past setup added are seat stand drained budget =
+    → AreNew first script.node_names s.drainers → first ≡ drain_seat script → ((past : List Entry) → HaveNoEntries (seats_of s.drainers) past → AreStanding s.drainers past) → s.drained ≡ 0 → s.budget ≡ first_budget option → s.settled ≡ None → Stands script option (first_progress option) s
+begins script option s first past setup added are seat stand drained budget unsettled =
     let lines = script.lines in
     let actors = actors_for script.node_names in
     let items = s.players.items in
@@ -147,6 +138,7 @@ begins script option s first past setup added are seat stand drained budget =
       plays = λ place x at named. let some = some_actor lines actors first_actor_seat items new place x at in subst (λ h. Plays x h (λ seat. [])) (sym past) (new_plays some.0 x some.1);
       lives = λ place actor x there at named. subst (λ h. Lives (role_of actor) x h (λ seat. [])) (sym past) (new_lives (role_of actor) x (each_new lines actors first_actor_seat items new place actor x there at));
       made = λ place x at. (some_actor lines actors first_actor_seat items new place x at).1.made;
+      held = λ place x at. (some_actor lines actors first_actor_seat items new place x at).1.held;
       drainers = subst (AreStanding s.drainers) (sym past) (stand [] (none_yet (seats_of s.drainers)));
       seats = new_seats script first s.drainers are seat;
       roles = new_roles_for first script.node_names s.drainers are;
@@ -154,6 +146,7 @@ begins script option s first past setup added are seat stand drained budget =
       budget = budget;
       few = omega (arith, drained);
       most = subst (IsBudget option) (sym budget) (first_most option);
+      settled = subst (IsNoted s.world.setup s.world.past) (sym unsettled) tt;
     }
 
 pub new_made : (lines : List Line) (actors : List Actor) (first next : ℕ) (players : List Player) → HasAdded lines actors first next [] players → EachPlayer (λ x. x.made ≤ 0) players
@@ -163,8 +156,8 @@ new_made lines actors first next players added place x at =
 
 -- ---- the lines
 
-pub so_far_first : (script : Script) (option : Option ℕ) (s : Stage) → Stands script option (begun option) s → SoFar script option 0 s
-so_far_first script option s stands = record { progress = begun option; stands = stands; moves = λ end rest. rest }
+pub so_far_first : (script : Script) (option : Option ℕ) (s : Stage) → Stands script option (first_progress option) s → SoFar script option 0 s
+so_far_first script option s stands = record { progress = first_progress option; stands = stands; moves = λ end rest. rest }
 
 pub so_far_on : (script : Script) (option : Option ℕ) (place : ℕ) (line : Line) (old new : Stage) → slice_get script.lines place ≡ Some line → SoFar script option place old → HasMoved script option (IsMove script option line) old new → SoFar script option (place + 1) new
 so_far_on script option place line old new at so moved =

@@ -1,5 +1,5 @@
 -- What a drain comes to.
-use Rattle.std.proofs.Common.{◌≡◌, ◌≤◌, ◌⊎◌, ◌∙◌, ℕ, ◌+◌, ◌-◌, List, Option, inl, inr, sym, ap, subst, arith}
+use Rattle.std.proofs.Common.{◌≡◌, ◌⊎◌, ◌∙◌, ℕ, ◌+◌, ◌-◌, List, Option, inl, inr, sym, ap, subst, arith}
 use Rattle.call_types.specs.declared.entry.Entry.{Entry}
 use Rattle.binder_model.specs.Due.{IsSettled}
 use Rattle.binder_model.specs.World.{world}

@@ -10,16 +10,18 @@ use Rattle.script_lines.specs.Actors.{actor_word}
 use Rattle.script_text.specs.declared.script.Line.TheVariants as kinds_of_line
 use Rattle.script_text.specs.declared.script.Script.{Script}
 use Rattle.attention_law.specs.Diligence.{entries}
-use Rattle.script_runs.specs.declared.part.Part.{Part}
+use Rattle.actor_turns.specs.declared.part.Part.{Part}
 use Rattle.script_runs.specs.Limits.{IsKnown, IsReadable}
-use Rattle.script_runs.specs.Parts.{is_named, lives_of, part_of, role_of}
-use Rattle.script_runs.specs.declared.player.Player.{Player}
+use Rattle.actor_turns.specs.Parts.{lives_of}
+use Rattle.script_runs.specs.Parts.{is_named, part_of, role_of}
+use Rattle.actor_turns.specs.declared.player.Player.{Player}
 use Rattle.script_runs.specs.declared.stage.Stage.{Stage}
-use Rattle.script_runs.specs.Diligent.{AreDiligent, IsDiligentLife, IsDiligentReplay}
+use Rattle.actor_turns.specs.Diligent.{IsDiligentLife}
+use Rattle.script_runs.specs.Diligent.{AreDiligent, IsDiligentReplay}
 use Rattle.script_runs.specs.Replays.{NoMoves, Progress}
 use Rattle.script_runs.specs.Steps.Standing.{Ended, SoFar, SomeStands, Stands, parts_in, place_of}
 use Rattle.script_runs.proofs.Casting.{actor_at, known_at, named_at, part_of_actor}
-use Rattle.script_runs.proofs.Lived.{each_life}
+use Rattle.actor_turns.proofs.Lived.{each_life}
 use Rattle.script_runs.proofs.Needs.{its_name, its_part}
 
 -- a part at a place is one of a player
@@ -30,7 +32,7 @@ player_of (x ∷ xs) (suc place) part at = player_of xs place part at
 
 module _ (script : Script) (option : Option ℕ) (end : Progress) (s : Stage) (readable : IsReadable script) (stands : Stands script option end s) where
   diligent_actor : (actor : Actor) → IsKnown script.node_names actor → is_named (actor_word actor) script.lines ≡ true → (seat : ℕ) → (part_of script actor).first ≤ seat → seat < (part_of script actor).first + lives_of (part_of script actor)
-      → IsDiligentLife (role_of actor) (part_of script actor) seat (end.made (part_of script actor).name) end.past
+      → IsDiligentLife [] (role_of actor) (part_of script actor) seat (end.made (part_of script actor).name) end.past
   diligent_actor actor known named seat low high =
       let found = player_of s.players.items place (part_of script actor) (ap (λ ps. slice_get ps place) stands.parts ∙ part_of_actor script actor readable.order known) in
       of_player found.0 found.1
@@ -38,7 +40,7 @@ module _ (script : Script) (option : Option ℕ) (end : Progress) (s : Stage) (r
       place : ℕ
       place = place_of script.node_names actor
 
-      of_player : (x : Player) → slice_get s.players.items place ≡ Some x → IsDiligentLife (role_of actor) (part_of script actor) seat (end.made (part_of script actor).name) end.past
+      of_player : (x : Player) → slice_get s.players.items place ≡ Some x → IsDiligentLife [] (role_of actor) (part_of script actor) seat (end.made (part_of script actor).name) end.past
       of_player x at =
           let some : SomeStands script option s = record { progress = end; stands = stands } in
           let part : part_of script actor ≡ x.part = its_part script option actor s readable known some x at in
@@ -46,9 +48,10 @@ module _ (script : Script) (option : Option ℕ) (end : Progress) (s : Stage) (r
           let lives = stands.lives place actor x (actor_at script.node_names actor known) at its in
           let life = each_life (role_of actor) x s.world.past (λ seat_. entries (end.idle seat_)) end.idle (stands.plays place x at its) lives seat
           (subst (λ (p : Part). p.first ≤ seat) part low) (subst (λ (p : Part). seat < p.first + lives_of p) part high) in
-          subst (λ h. IsDiligentLife (role_of actor) (part_of script actor) seat (end.made (part_of script actor).name) h) stands.past
-          (subst (λ (p : Part). IsDiligentLife (role_of actor) p seat (end.made p.name) s.world.past) (sym part)
-          (subst (λ made. IsDiligentLife (role_of actor) x.part seat made s.world.past) (stands.made place x at) life))
+          subst (λ h. IsDiligentLife [] (role_of actor) (part_of script actor) seat (end.made (part_of script actor).name) h) stands.past
+          (subst (λ (p : Part). IsDiligentLife [] (role_of actor) p seat (end.made p.name) s.world.past) (sym part)
+          (subst (λ made. IsDiligentLife [] (role_of actor) x.part seat made s.world.past) (stands.made place x at)
+          (subst (λ held. IsDiligentLife held (role_of actor) x.part seat x.made s.world.past) (stands.held place x at) life)))
 
   pub are_diligent : AreDiligent script end
   are_diligent place actor calls at seat low high =

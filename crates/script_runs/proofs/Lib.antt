@@ -1,16 +1,11 @@
-mod Computed
+pub mod Computed
 pub mod Readable
-mod Beginning
+pub mod Beginning
 pub mod Casting
-mod Calling
 pub mod Draining
-mod Ending
-mod Lived
-mod Lives
-mod Moving
-mod Needs
-mod Orders
-pub mod Since
-mod Staging
-mod Stepping
-mod Turning
+pub mod Ending
+pub mod Moving
+pub mod Needs
+pub mod Orders
+pub mod Staging
+pub mod Staying

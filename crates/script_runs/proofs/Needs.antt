@@ -1,22 +1,24 @@
 -- What a turn needs of its player, and what it leaves of the counts of calls.
-use Rattle.std.proofs.Common.{◌≡◌, ◌≢◌, ◌⊎◌, ℕ, ◌<◌, ◌≤◌, ◌+◌, ◌^◌, List, length, get_or, set, true, Option, Some, inl, inr, refl, sym, ◌∙◌, ap, subst, arith}
+use Rattle.std.proofs.Common.{◌≡◌, ◌≢◌, ◌⊎◌, ℕ, ◌<◌, ◌≤◌, ◌+◌, ◌^◌, List, [], length, get_or, set, true, Option, Some, inl, inr, refl, sym, ◌∙◌, ap, subst, arith}
 use Rattle.std.specs.Prelude.{slice_get}
 use Rattle.std.proofs.lemmas.List.{length-map}
 use Rattle.std.proofs.lemmas.Option.{slice_get_read, slice_get_within}
 use Rattle.attention_law.specs.Diligence.{entries}
 use Rattle.call_types.specs.declared.entry.Entry.{Entry}
 use Rattle.model_laws.proofs.Lists.{one}
+use Rattle.seat_calls.specs.Answered.{all_pass}
 use Rattle.script_lines.specs.declared.actors.Actor.{Actor}
 use Rattle.script_lines.specs.Actors.{actor_word}
 use Rattle.script_text.specs.declared.script.Script.{Script}
-use Rattle.script_runs.specs.declared.part.Part.{Part}
+use Rattle.actor_turns.specs.declared.part.Part.{Part}
 use Rattle.script_runs.specs.Limits.{IsKnown, IsReadable}
-use Rattle.script_runs.specs.Parts.{is_named, lives_by, lives_of, part_of, role_of}
-use Rattle.script_runs.specs.declared.player.Player.{Player}
+use Rattle.actor_turns.specs.Parts.{lives_by, lives_of}
+use Rattle.script_runs.specs.Parts.{is_named, part_of, role_of}
+use Rattle.actor_turns.specs.declared.player.Player.{Player}
 use Rattle.script_runs.specs.declared.stage.Stage.{Stage}
-use Rattle.script_runs.specs.Replays.{IsTurn}
-use Rattle.script_runs.specs.Steps.Living.{HasLivedOn}
-use Rattle.script_runs.specs.Steps.Playing.{EachPlayer, HasMadeAll, HasMadeFewer, HasTurned, IsLife, Plays, SomePlays}
+use Rattle.script_runs.specs.Replays.{IsTurnLine}
+use Rattle.actor_turns.specs.Steps.Living.{HasLivedOn}
+use Rattle.actor_turns.specs.Steps.Playing.{EachPlayer, HasMadeAll, HasMadeFewer, HasTurned, IsLife, Plays, SomePlays}
 use Rattle.script_runs.specs.Steps.Standing.{HasMoved, MadeAtMost, SomeStands, actors_for, all_parts, parts_in, place_of, seat_of_drains}
 use Rattle.script_runs.proofs.Casting.{actor_at, drains_after, few_restarts, in_order, part_of_actor, small_drains}
 use Rattle.script_runs.proofs.Orders.{life_between, part_at_place}
@@ -62,19 +64,19 @@ module _ (script : Script) (option : Option ℕ) (actor : Actor) (s : Stage) (re
 
 -- ---- the counts of calls
 
-turned_made : (calls : ℕ) (idle : ℕ → List Entry) (before after : List Entry) (old new : Player) → HasTurned calls idle before after old new → new.made ≤ old.made + calls
+turned_made : (calls : ℕ) (idle : ℕ → List Entry) (before after : List Entry) (old new : Player) → HasTurned all_pass calls idle before after old new → new.made ≤ old.made + calls
 turned_made calls idle before after old new t = by t.made
   where
-    by : HasMadeAll calls idle before after old new ⊎ HasMadeFewer calls idle before after old new → new.made ≤ old.made + calls
+    by : HasMadeAll all_pass calls idle before after old new ⊎ HasMadeFewer all_pass calls idle before after old new → new.made ≤ old.made + calls
     by (inl all) = let m = all.made in omega (arith, m)
     by (inr few) = let m = few.made in let f = few.few in omega (arith, m, f)
 
 -- ---- a turn of an actor
 
 module _ (script : Script) (option : Option ℕ) (actor : Actor) (calls : ℕ) (old new : Stage) (place : ℕ) (x after : Player) (readable : IsReadable script) (known : IsKnown script.node_names actor) (named : is_named (actor_word actor) script.lines ≡ true)
-    (some : SomeStands script option old) (is : place ≡ place_of script.node_names actor) (read : x ≡ get_or old.players.items place x) (players : new.players.items ≡ set old.players.items place after) (part : after.part ≡ x.part)
-    (setup : new.world.setup ≡ old.world.setup) (drainers : new.drainers ≡ old.drainers) (drained : new.drained ≡ old.drained) (budget : new.budget ≡ old.budget)
-    (turns : (idle : ℕ → List Entry) → Plays x old.world.past idle → HasTurned calls idle old.world.past new.world.past x after) (lives : HasLivedOn calls old.world.past new.world.past x after) where
+    (some : SomeStands script option old) (is : place ≡ place_of script.node_names actor) (read : x ≡ get_or old.players.items place x) (players : new.players.items ≡ set old.players.items place after) (part : after.part ≡ x.part) (held : after.held ≡ x.held)
+    (setup : new.world.setup ≡ old.world.setup) (drainers : new.drainers ≡ old.drainers) (drained : new.drained ≡ old.drained) (budget : new.budget ≡ old.budget) (settled : new.settled ≡ old.settled)
+    (turns : (idle : ℕ → List Entry) → Plays x old.world.past idle → HasTurned all_pass calls idle old.world.past new.world.past x after) (lives : HasLivedOn calls old.world.past new.world.past x after) where
   at : slice_get old.players.items (place_of script.node_names actor) ≡ Some x
   at = player_there script option actor old readable known some place x is read
 
@@ -84,20 +86,22 @@ module _ (script : Script) (option : Option ℕ) (actor : Actor) (calls : ℕ) (
     named = its_name script option actor old readable known some x at named;
     players = players;
     part = part;
+    held = held;
     setup = setup;
     drainers = drainers;
     drained = drained;
     budget = budget;
+    settled = settled;
   }
 
-  pub turn_made : HasMoved script option (IsTurn (role_of actor) (part_of script actor) calls) old new
+  pub turn_made : HasMoved script option (IsTurnLine all_pass [] (role_of actor) (part_of script actor) calls) old new
   turn_made =
       turn_moved script option calls old new place x after actor readable.order (drains_after script) (subst (λ n. slice_get (actors_for script.node_names) n ≡ Some actor) (sym is) (actor_at script.node_names actor known))
       (its_part script option actor old readable known some x at) played turns lives
 
 -- no player has then made more than 1,000 calls more
 pub made_after : (script : Script) (option : Option ℕ) (actor : Actor) (calls most : ℕ) (old : Stage) (past : List Entry) (place : ℕ) (x after : Player) → IsReadable script → IsKnown script.node_names actor → is_named (actor_word actor) script.lines ≡ true
-    → SomeStands script option old → place ≡ place_of script.node_names actor → x ≡ get_or old.players.items place x → ((idle : ℕ → List Entry) → Plays x old.world.past idle → HasTurned calls idle old.world.past past x after)
+    → SomeStands script option old → place ≡ place_of script.node_names actor → x ≡ get_or old.players.items place x → ((idle : ℕ → List Entry) → Plays x old.world.past idle → HasTurned all_pass calls idle old.world.past past x after)
     → calls ≤ 1000 → MadeAtMost most old → EachPlayer (λ y. y.made ≤ most + 1000) (set old.players.items place after)
 made_after script option actor calls most old past place x after readable known named some is read turns few made =
     let within = place_within script option actor old readable known some in

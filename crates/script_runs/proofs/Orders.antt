@@ -3,10 +3,10 @@ use Rattle.std.proofs.Common.{◌≡◌, ◌≢◌, ℕ, ◌<◌, ◌≤◌, ◌
 use Rattle.std.specs.Prelude.{bytes_eq, slice_get}
 use Rattle.std.proofs.lemmas.Slice.Eq.{bytes_eq-Decides}
 use Rattle.model_laws.proofs.Lists.{none_some, one}
-use Rattle.script_runs.specs.declared.part.Part.{Part}
-use Rattle.script_runs.specs.declared.player.Player.{Player}
-use Rattle.script_runs.specs.Steps.Playing.{IsLife}
-use Rattle.script_runs.specs.Parts.{lives_of}
+use Rattle.actor_turns.specs.declared.part.Part.{Part}
+use Rattle.actor_turns.specs.declared.player.Player.{Player}
+use Rattle.actor_turns.specs.Steps.Playing.{IsLife}
+use Rattle.actor_turns.specs.Parts.{lives_of}
 use Rattle.script_runs.specs.Steps.Standing.{parts_in}
 
 -- ---- the seats

@@ -16,25 +16,29 @@ use Rattle.worker_threads.specs.Drainers.{AreStanding, StandsWhole, roles_of, se
 use Rattle.worker_threads.specs.Longer.{IsOneOf}
 use Rattle.worker_threads.specs.Rounds.{Drains, all_pass}
 use Rattle.script_text.specs.declared.script.Script.{Script}
-use Rattle.script_runs.specs.declared.part.Part.{Part}
-use Rattle.script_runs.specs.declared.player.Player.{Player}
+use Rattle.actor_turns.specs.declared.part.Part.{Part}
+use Rattle.actor_turns.specs.declared.player.Player.{Player}
 use Rattle.script_runs.specs.declared.stage.Stage.{Stage}
 use Rattle.attention_law.specs.Diligence.{Call, entries}
 use Rattle.attention_law.specs.Resting.{WasToldStale}
-use Rattle.script_runs.specs.Calls.{AreCalls, AreNeededLives, AreOfLife, MayEnd, seat_at}
+use Rattle.actor_turns.specs.Calls.{AreCalls, AreNeededLives, AreOfLife, seat_at}
 use Rattle.script_runs.specs.Budget.{raised}
 use Rattle.script_runs.specs.Limits.{AreInOrder as NamesInOrder}
-use Rattle.script_runs.specs.Parts.{all_actors, all_lives, drain_roles, drain_seat, drain_seats, kind_of, lives_of, part_of, role_of}
+use Rattle.actor_turns.specs.Parts.{lives_of}
+use Rattle.script_runs.specs.Parts.{all_actors, all_lives, drain_roles, drain_seat, drain_seats, seat_kind_of, part_of, role_of}
 use Rattle.script_lines.specs.declared.actors.Actor.{Actor}
 use Rattle.script_lines.specs.declared.actors.Actor.TheVariants.{Worker, Agent}
 use Rattle.worker_core.specs.declared.role.Role.{Role}
-use Rattle.script_runs.specs.Replays.{IsDrain, IsTurn, IsUserCall, Progress, and_idle, and_made}
-use Rattle.script_runs.specs.Steps.Living.{HasLivedOn, LivedAll, LivedFewer, Lives}
-use Rattle.script_runs.specs.Steps.Playing.{HasMadeAll, HasMadeFewer, HasTurned, IsLife, Plays, StandsSince}
+use Rattle.actor_turns.specs.Calls.{and_idle}
+use Rattle.script_runs.specs.Replays.{IsDrain, IsTurnLine, IsUserCall, Progress, and_made}
+use Rattle.actor_turns.specs.Steps.Living.{HasLivedOn, LivedAll, LivedFewer, Lives}
+use Rattle.actor_turns.specs.Steps.Playing.{HasMadeAll, HasMadeFewer, HasTurned, IsLife, Plays, StandsSince}
+use Rattle.script_runs.specs.Steps.Settled.{IsNoted}
 use Rattle.script_runs.specs.Steps.Standing.{HasMoved, IsBudget, Leads, Stands, actors_for, all_parts, parts_in, seat_of_drains}
 use Rattle.script_runs.proofs.Casting.{in_order, names_differ, names_in}
-use Rattle.script_runs.proofs.Lived.{all_needed, lives_on}
-use Rattle.script_runs.proofs.Lives.{seat_within}
+use Rattle.actor_turns.proofs.Lived.{all_needed, lives_on}
+use Rattle.actor_turns.proofs.Lives.{seat_within}
+use Rattle.script_runs.proofs.Staying.{IsGrown, calls_grow, stays_noted}
 use Rattle.script_runs.proofs.Orders.{get_set_other, get_set_same, life_between, one_owner, other_name, part_at_place, parts_set}
 use Rattle.worker_threads.proofs.RoundFacts.{same_or_not}
 
@@ -63,6 +67,7 @@ plays_on x h later idle then_idle named same_own same_idle plays =
       kind = plays.kind;
       first = plays.first;
       reached = plays.reached;
+      ahead = plays.ahead;
       since = subst (λ m. StandsSince x.actor (then_idle x.seat) m) (sym (same_own x.seat at)) (subst (λ m. StandsSince x.actor m (own x.seat h)) (sym (same_idle x.seat at)) plays.since);
       unborn = λ s after below.
           let life : IsLife x.part s = (let a = at.0 in omega (arith, a, after), below) in
@@ -109,9 +114,9 @@ module _ (script : Script) (option : Option ℕ) (user : ℕ) (request : Request
   abbrev entry : Entry
   entry = record { seat = user; kind = seats.User; request = request; reply = reply; told = true }
 
-  pub user_moved : user < 5 → new.world.past ≡ entry ∷ old.world.past → new.world.setup ≡ old.world.setup → new.players ≡ old.players → new.drainers ≡ old.drainers → new.drained ≡ old.drained → new.budget ≡ old.budget
+  pub user_moved : user < 5 → new.world.past ≡ entry ∷ old.world.past → new.world.setup ≡ old.world.setup → new.players ≡ old.players → new.drainers ≡ old.drainers → new.drained ≡ old.drained → new.budget ≡ old.budget → new.settled ≡ old.settled
       → HasMoved script option (IsUserCall user request) old new
-  user_moved low past setup players drainers drained budget p stands = record {
+  user_moved low past setup players drainers drained budget settled p stands = record {
     after = record p { past = entry ∷ p.past };
     move = record { reply = reply; is = refl };
     stands = record {
@@ -125,6 +130,7 @@ module _ (script : Script) (option : Option ℕ) (user : ℕ) (request : Request
           let there = ap (λ (xs : _). slice_get xs.items place) (sym players) ∙ at in
           lives_on (role_of actor) x old.world.past new.world.past p.idle p.idle (life_at x old.world.past (told_at p.idle) named (stands.plays place x there named)) (λ seat life. others seat (above place x there seat life)) (λ seat life. refl) (stands.lives place actor x is there named);
       made = λ place x at. stands.made place x (ap (λ (xs : _). slice_get xs.items place) (sym players) ∙ at);
+      held = λ place x at. stands.held place x (ap (λ (xs : _). slice_get xs.items place) (sym players) ∙ at);
       drainers = subst (λ ds. AreStanding ds new.world.past) (sym drainers) (drainers_on old.drainers old.world.past new.world.past (λ seat own. others seat (drains_above seat (subst (λ ss. IsOneOf ss seat) stands.seats own))) stands.drainers);
       seats = subst (λ ds. seats_of ds ≡ drain_seats script) (sym drainers) stands.seats;
       roles = subst (λ ds. roles_of ds ≡ drain_roles script) (sym drainers) stands.roles;
@@ -132,6 +138,7 @@ module _ (script : Script) (option : Option ℕ) (user : ℕ) (request : Request
       budget = budget ∙ stands.budget;
       few = let a = stands.few in omega (arith, a, drained, budget);
       most = subst (IsBudget option) (sym budget) stands.most;
+      settled = stays_noted old new setup settled (record { newer = entry ∷ []; are = past }) stands.settled;
     };
   }
     where
@@ -173,10 +180,12 @@ pub record HasPlayed (old new : Stage) (place : ℕ) (x after : Player) : Type 0
   pub named : x.part.named ≡ true
   pub players : new.players.items ≡ set old.players.items place after
   pub part : after.part ≡ x.part
+  pub held : after.held ≡ x.held
   pub setup : new.world.setup ≡ old.world.setup
   pub drainers : new.drainers ≡ old.drainers
   pub drained : new.drained ≡ old.drained
   pub budget : new.budget ≡ old.budget
+  pub settled : new.settled ≡ old.settled
 
 module _ (script : Script) (option : Option ℕ) (old new : Stage) (place : ℕ) (x after : Player) (order : NamesInOrder script.node_names) (last : drain_seat script ≡ seat_of_drains script) (played : HasPlayed old new place x after) (p : Progress) (stands : Stands script option p old) where
   part_there : (j : ℕ) (y : Player) → slice_get old.players.items j ≡ Some y → slice_get (all_parts script) j ≡ Some y.part
@@ -196,15 +205,20 @@ module _ (script : Script) (option : Option ℕ) (old new : Stage) (place : ℕ)
   player_at : (j : ℕ) (y : Player) → slice_get new.players.items j ≡ Some y → ((j ≡ place) × (after ≡ y)) ⊎ ((j ≢ place) × (slice_get old.players.items j ≡ Some y))
   player_at j y at = set_cases old.players.items place after j y (slice_get_within old.players.items place x played.there) (ap (λ xs. slice_get xs j) (sym played.players) ∙ at)
 
-  stands_on : (count : ℕ) (idle : ℕ → List Call) → after.made ≡ x.made + count → ((seat : ℕ) → (IsLife x.part seat → ⊥) → own seat new.world.past ≡ own seat old.world.past) → ((seat : ℕ) → (IsLife x.part seat → ⊥) → idle seat ≡ p.idle seat)
+  -- nothing is held back of a player
+  none_held : after.held ≡ []
+  none_held = played.held ∙ stands.held place x played.there
+
+  stands_on : (count : ℕ) (idle : ℕ → List Call) → after.made ≡ x.made + count → IsGrown old.world.past new.world.past → ((seat : ℕ) → (IsLife x.part seat → ⊥) → own seat new.world.past ≡ own seat old.world.past) → ((seat : ℕ) → (IsLife x.part seat → ⊥) → idle seat ≡ p.idle seat)
       → Plays after new.world.past (told_at idle) → ((actor : Actor) → slice_get (actors_for script.node_names) place ≡ Some actor → Lives (role_of actor) after new.world.past idle) → Stands script option (record p { past = new.world.past; made = and_made x.part.name count p.made; idle = idle }) new
-  stands_on count idle more others same_idle plays lives = record {
+  stands_on count idle more grown others same_idle plays lives = record {
     past = refl;
     setup = played.setup ∙ stands.setup;
     parts = ap parts_in played.players ∙ parts_set old.players.items place x after played.there played.part ∙ stands.parts;
     plays = λ j y at named. each_plays j y named (player_at j y at);
     lives = λ j actor y there at named. each_lives j actor y there named (player_at j y at);
     made = λ j y at. each_made j y (player_at j y at);
+    held = λ j y at. each_held j y (player_at j y at);
     drainers = subst (λ ds. AreStanding ds new.world.past) (sym played.drainers) (drainers_on old.drainers old.world.past new.world.past (λ seat own. others seat (not_drains seat (subst (λ ss. IsOneOf ss seat) stands.seats own))) stands.drainers);
     seats = subst (λ ds. seats_of ds ≡ drain_seats script) (sym played.drainers) stands.seats;
     roles = subst (λ ds. roles_of ds ≡ drain_roles script) (sym played.drainers) stands.roles;
@@ -212,6 +226,7 @@ module _ (script : Script) (option : Option ℕ) (old new : Stage) (place : ℕ)
     budget = played.budget ∙ stands.budget;
     few = let a = stands.few in let d = played.drained in let b = played.budget in omega (arith, a, d, b);
     most = subst (IsBudget option) (sym played.budget) stands.most;
+    settled = stays_noted old new played.setup played.settled grown stands.settled;
   }
     where
       each_plays : (j : ℕ) (y : Player) → y.part.named ≡ true → ((j ≡ place) × (after ≡ y)) ⊎ ((j ≢ place) × (slice_get old.players.items j ≡ Some y)) → Plays y new.world.past (told_at idle)
@@ -226,20 +241,26 @@ module _ (script : Script) (option : Option ℕ) (old new : Stage) (place : ℕ)
       each_made j y (inl is) = subst (λ z. z.made ≡ and_made x.part.name count p.made z.part.name) is.1 (more ∙ ap (λ n. n + count) (stands.made place x played.there) ∙ sym (own_made x.part.name count p.made) ∙ ap (λ (q : Part). and_made x.part.name count p.made q.name) (sym played.part))
       each_made j y (inr other) = stands.made j y other.1 ∙ sym (other_made x.part.name y.part.name count p.made (other_name (names_in (all_parts script)) j place y.part.name x.part.name (names_differ script order) (name_at (all_parts script) j y.part (part_there j y other.1)) (name_at (all_parts script) place x.part (part_there place x played.there)) other.0))
 
-  calls_at : (count : ℕ) → AreCalls x.part new.world.past (x.made + 1) count old.world.past → AreCalls x.part new.world.past (p.made x.part.name + 1) count p.past
-  calls_at count calls = subst (λ h. AreCalls x.part new.world.past (p.made x.part.name + 1) count h) stands.past (subst (λ n. AreCalls x.part new.world.past (n + 1) count old.world.past) (stands.made place x played.there) calls)
+      each_held : (j : ℕ) (y : Player) → ((j ≡ place) × (after ≡ y)) ⊎ ((j ≢ place) × (slice_get old.players.items j ≡ Some y)) → y.held ≡ []
+      each_held j y (inl is) = subst (λ (z : Player). z.held ≡ []) is.1 none_held
+      each_held j y (inr other) = stands.held j y other.1
+
+  calls_at : (count : ℕ) → AreCalls all_pass after.held x.part new.world.past (x.made + 1) count old.world.past → AreCalls all_pass [] x.part new.world.past (p.made x.part.name + 1) count p.past
+  calls_at count calls = subst (λ h. AreCalls all_pass [] x.part new.world.past (p.made x.part.name + 1) count h) stands.past (subst (λ n. AreCalls all_pass [] x.part new.world.past (n + 1) count old.world.past) (stands.made place x played.there)
+      (subst (λ held. AreCalls all_pass held x.part new.world.past (x.made + 1) count old.world.past) none_held calls))
 
   module _ (role : Role) (calls : ℕ) (each : (actor : Actor) → slice_get (actors_for script.node_names) place ≡ Some actor → role_of actor ≡ role) where
     -- the counts and the parts as the move has them
-    needed_at : (count : ℕ) → after.made ≡ x.made + count → AreNeededLives role after.part after.made new.world.past p.idle → AreNeededLives role x.part (p.made x.part.name + count) new.world.past p.idle
+    needed_at : (count : ℕ) → after.made ≡ x.made + count → AreNeededLives after.held role after.part after.made new.world.past p.idle → AreNeededLives [] role x.part (p.made x.part.name + count) new.world.past p.idle
     needed_at count more needed =
-        subst (λ n. AreNeededLives role x.part n new.world.past p.idle) (more ∙ ap (λ n. n + count) (stands.made place x played.there))
-        (subst (λ (q : Part). AreNeededLives role q after.made new.world.past p.idle) played.part needed)
+        subst (λ n. AreNeededLives [] role x.part n new.world.past p.idle) (more ∙ ap (λ n. n + count) (stands.made place x played.there))
+        (subst (λ (q : Part). AreNeededLives [] role q after.made new.world.past p.idle) played.part
+        (subst (λ held. AreNeededLives held role after.part after.made new.world.past p.idle) none_held needed))
 
     of_actor : (idle : ℕ → List Call) → Lives role after new.world.past idle → (actor : Actor) → slice_get (actors_for script.node_names) place ≡ Some actor → Lives (role_of actor) after new.world.past idle
     of_actor idle lives actor there = subst (λ r. Lives r after new.world.past idle) (sym (each actor there)) lives
 
-    all_turned : HasMadeAll calls (told_at p.idle) old.world.past new.world.past x after → LivedAll role calls new.world.past p.idle x after → HasTurned calls (told_at p.idle) old.world.past new.world.past x after → Leads script option (IsTurn role x.part calls) p new
+    all_turned : HasMadeAll all_pass calls (told_at p.idle) old.world.past new.world.past x after → LivedAll role calls new.world.past p.idle x after → HasTurned all_pass calls (told_at p.idle) old.world.past new.world.past x after → Leads script option (IsTurnLine all_pass [] role x.part calls) p new
     all_turned all lived t = record {
       after = record p { past = new.world.past; made = and_made x.part.name calls p.made };
       move = inl (record {
@@ -248,10 +269,10 @@ module _ (script : Script) (option : Option ℕ) (old new : Stage) (place : ℕ)
         needed = needed_at calls all.made (all_needed role after new.world.past p.idle lived.lives.began (λ s later below. (((all.plays).unborn s later below).0, lived.lives.unborn s later below)) lived.needed);
         is = refl;
       });
-      stands = stands_on calls p.idle all.made t.others (λ seat other. refl) all.plays (of_actor p.idle lived.lives);
+      stands = stands_on calls p.idle all.made (calls_grow all_pass after.held x.part new.world.past (x.made + 1) calls old.world.past all.calls_are) t.others (λ seat other. refl) all.plays (of_actor p.idle lived.lives);
     }
 
-    fewer_turned : HasMadeFewer calls (told_at p.idle) old.world.past new.world.past x after → LivedFewer role calls new.world.past p.idle x after → role.kind ≡ x.part.kind → HasTurned calls (told_at p.idle) old.world.past new.world.past x after → Leads script option (IsTurn role x.part calls) p new
+    fewer_turned : HasMadeFewer all_pass calls (told_at p.idle) old.world.past new.world.past x after → LivedFewer role calls new.world.past p.idle x after → role.kind ≡ x.part.kind → HasTurned all_pass calls (told_at p.idle) old.world.past new.world.past x after → Leads script option (IsTurnLine all_pass [] role x.part calls) p new
     fewer_turned few lived kind t = record {
       after = record p { past = new.world.past; made = and_made x.part.name few.count p.made; idle = then_idle };
       move = inr (record {
@@ -264,13 +285,14 @@ module _ (script : Script) (option : Option ℕ) (old new : Stage) (place : ℕ)
         life = few.life ∙ ap (λ m. seat_at x.part (m + few.count + 1)) (stands.made place x played.there);
         since = lived.since;
         are =
-            subst (λ n. AreOfLife x.part after.seat n new.world.past (lived.since ++ p.idle after.seat)) (few.made ∙ ap (λ n. n + few.count) (stands.made place x played.there))
-            (subst (λ (q : Part). AreOfLife q after.seat after.made new.world.past (lived.since ++ p.idle after.seat)) played.part lived.are);
+            subst (λ n. AreOfLife [] x.part after.seat n new.world.past (lived.since ++ p.idle after.seat)) (few.made ∙ ap (λ n. n + few.count) (stands.made place x played.there))
+            (subst (λ (q : Part). AreOfLife [] q after.seat after.made new.world.past (lived.since ++ p.idle after.seat)) played.part
+            (subst (λ held. AreOfLife held after.part after.seat after.made new.world.past (lived.since ++ p.idle after.seat)) none_held lived.are));
         ends = few.ends;
         done = λ unstale. lived.done (λ told. unstale (subst (λ k. WasToldStale k (own after.seat new.world.past)) kind told));
         is = refl;
       });
-      stands = stands_on few.count then_idle few.made t.others (λ seat other. not_idle after.seat seat made_so_far p.idle (λ e. other (mine seat e))) plays (of_actor then_idle lived.lives);
+      stands = stands_on few.count then_idle few.made (calls_grow all_pass after.held x.part new.world.past (x.made + 1) few.count old.world.past few.calls_are) t.others (λ seat other. not_idle after.seat seat made_so_far p.idle (λ e. other (mine seat e))) plays (of_actor then_idle lived.lives);
     }
       where
         made_so_far : List Call
@@ -303,25 +325,25 @@ module _ (script : Script) (option : Option ℕ) (old new : Stage) (place : ℕ)
         plays : Plays after new.world.past (told_at then_idle)
         plays = plays_on after new.world.past new.world.past told_then (told_at then_idle) (ap (λ (q : Part). q.named) played.part ∙ played.named) (λ seat life. refl) (λ seat life. same_told seat) few.plays
 
-    turned : HasTurned calls (told_at p.idle) old.world.past new.world.past x after → LivedAll role calls new.world.past p.idle x after ⊎ LivedFewer role calls new.world.past p.idle x after → role.kind ≡ x.part.kind → Leads script option (IsTurn role x.part calls) p new
+    turned : HasTurned all_pass calls (told_at p.idle) old.world.past new.world.past x after → LivedAll role calls new.world.past p.idle x after ⊎ LivedFewer role calls new.world.past p.idle x after → role.kind ≡ x.part.kind → Leads script option (IsTurnLine all_pass [] role x.part calls) p new
     turned t lived kind = by t.made lived
       where
-        by : HasMadeAll calls (told_at p.idle) old.world.past new.world.past x after ⊎ HasMadeFewer calls (told_at p.idle) old.world.past new.world.past x after → LivedAll role calls new.world.past p.idle x after ⊎ LivedFewer role calls new.world.past p.idle x after
-            → Leads script option (IsTurn role x.part calls) p new
+        by : HasMadeAll all_pass calls (told_at p.idle) old.world.past new.world.past x after ⊎ HasMadeFewer all_pass calls (told_at p.idle) old.world.past new.world.past x after → LivedAll role calls new.world.past p.idle x after ⊎ LivedFewer role calls new.world.past p.idle x after
+            → Leads script option (IsTurnLine all_pass [] role x.part calls) p new
         by (inl all) (inl lived_all) = all_turned all lived_all t
         by (inr few) (inr lived_few) = fewer_turned few lived_few kind t
         by (inl all) (inr lived_few) = absurd (let a = all.made in let b = lived_few.few in omega (arith, a, b))
         by (inr few) (inl lived_all) = absurd (let a = few.made in let b = lived_all.made in let c = few.few in omega (arith, a, b, c))
 
 -- the role of an actor is of the kind of its seats
-role_kind : (actor : Actor) → (role_of actor).kind ≡ kind_of actor
+role_kind : (actor : Actor) → (role_of actor).kind ≡ seat_kind_of actor
 role_kind (Worker w) = refl
 role_kind (Agent node) = refl
 
 pub turn_moved : (script : Script) (option : Option ℕ) (calls : ℕ) (old new : Stage) (place : ℕ) (x after : Player) (actor : Actor) → NamesInOrder script.node_names → drain_seat script ≡ seat_of_drains script → slice_get (actors_for script.node_names) place ≡ Some actor → part_of script actor ≡ x.part → HasPlayed old new place x after
-    → ((idle : ℕ → List Entry) → Plays x old.world.past idle → HasTurned calls idle old.world.past new.world.past x after) → HasLivedOn calls old.world.past new.world.past x after → HasMoved script option (IsTurn (role_of actor) (part_of script actor) calls) old new
+    → ((idle : ℕ → List Entry) → Plays x old.world.past idle → HasTurned all_pass calls idle old.world.past new.world.past x after) → HasLivedOn calls old.world.past new.world.past x after → HasMoved script option (IsTurnLine all_pass [] (role_of actor) (part_of script actor) calls) old new
 turn_moved script option calls old new place x after actor order last there is played turns lives p stands =
-    subst (λ q. Leads script option (IsTurn (role_of actor) q calls) p new) (sym is)
+    subst (λ q. Leads script option (IsTurnLine all_pass [] (role_of actor) q calls) p new) (sym is)
     (turned script option old new place x after order last played p stands (role_of actor) calls (λ other at. ap role_of (one other actor (sym at ∙ there)))
     (turns (told_at p.idle) (stands.plays place x played.there played.named)) (lives (role_of actor) p.idle (stands.lives place actor x there played.there played.named))
     (role_kind actor ∙ ap (λ (q : Part). q.kind) is))
@@ -342,6 +364,7 @@ pub record HasDrained (script : Script) (option : Option ℕ) (old new : Stage) 
   pub drained : new.drained ≡ old.drained + made
   pub room : old.drained ≤ new.budget
   pub most : IsBudget option new.budget
+  pub settled : IsNoted new.world.setup new.world.past new.settled
 
 pub drain_moved : (script : Script) (option : Option ℕ) (old new : Stage) (made : ℕ) → drain_seat script ≡ seat_of_drains script → HasDrained script option old new made → HasMoved script option (IsDrain all_pass script option) old new
 drain_moved script option old new made last d p stands = record {
@@ -371,6 +394,7 @@ drain_moved script option old new made last d p stands = record {
         let there = ap (λ (xs : _). slice_get xs.items place) (sym d.players) ∙ at in
         lives_on (role_of actor) x old.world.past new.world.past p.idle p.idle (life_at x old.world.past (told_at p.idle) named (stands.plays place x there named)) (λ s life. d.others s (λ own. below place x there s life (subst (λ ss. IsOneOf ss s) stands.seats own))) (λ s life. refl) (stands.lives place actor x is there named);
     made = λ place x at. stands.made place x (ap (λ (xs : _). slice_get xs.items place) (sym d.players) ∙ at);
+    held = λ place x at. stands.held place x (ap (λ (xs : _). slice_get xs.items place) (sym d.players) ∙ at);
     drainers = d.standing;
     seats = d.seats ∙ stands.seats;
     roles = d.roles ∙ stands.roles;
@@ -378,6 +402,7 @@ drain_moved script option old new made last d p stands = record {
     budget = refl;
     few = let f = d.few in let r = d.room in let e = d.drained in omega (arith, f, r, e);
     most = d.most;
+    settled = d.settled;
   };
 }
   where

@@ -17,12 +17,13 @@ use Rattle.script_lines.specs.declared.actors.WorkerNumber.TheVariants.{One, Two
 use Rattle.script_text.specs.declared.script.Line.{Line}
 use Rattle.script_text.specs.declared.script.Line.TheVariants as lines
 use Rattle.script_text.specs.declared.script.Script.{Script}
-use Rattle.script_runs.specs.declared.loss.Fate.TheVariants.{Told, LostBefore, LostAfter}
-use Rattle.script_runs.specs.declared.loss.Loss.{Loss}
+use Rattle.actor_turns.specs.declared.loss.Fate.TheVariants.{Told, LostBefore, LostAfter}
+use Rattle.actor_turns.specs.declared.loss.Loss.{Loss}
 use Rattle.script_runs.specs.Budget.{at_most, faults_ahead, first_budget, most_budget, raise_for, raised, size_of_all}
-use Rattle.script_runs.specs.Fates.{fate_of}
+use Rattle.actor_turns.specs.Fates.{fate_of}
 use Rattle.script_runs.specs.Limits.{AreWithinLimits, IsReadable}
-use Rattle.script_runs.specs.Parts.{drain_seats, kind_of, lives_of, part_of}
+use Rattle.actor_turns.specs.Parts.{lives_of}
+use Rattle.script_runs.specs.Parts.{drain_seats, seat_kind_of, part_of}
 
 abbrev pub worker : WorkerKind → WorkerNumber → Actor
 worker kind number = Worker (record { kind = kind; number = number })
@@ -117,7 +118,7 @@ pub record PartExamples : Type 0 where
   pub they_protect_claims : (part_of with_protection claims_1).kind ≡ seats.ClaimProtect
   pub volumes_come_after_claims : (part_of with_protection volumes_4).first ≡ 8
   pub not_before_them : (part_of with_protection volumes_4).first ≢ 6
-  pub agents_have_theirs : kind_of (agent_of (codes "n1")) ≡ seats.Agent
+  pub agents_have_theirs : seat_kind_of (agent_of (codes "n1")) ≡ seats.Agent
   pub agents_come_after_workers : (part_of with_agents (agent_of (codes "n1"))).first ≡ 6
   pub an_agent_has_a_life_more_for_each_restart : lives_of (part_of with_agents (agent_of (codes "n1"))) ≡ 2
   pub the_lost_calls_of_an_agent : (part_of with_agents (agent_of (codes "n1"))).losses ≡ record { call = 6; after = true } ∷ []

@@ -1,9 +1,7 @@
 pub mod Budget
 pub mod Examples
-pub mod Fates
 pub mod Limits
 pub mod Parts
-pub mod Calls
 pub mod Diligent
 pub mod Drains
 pub mod Replays

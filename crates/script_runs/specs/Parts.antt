@@ -17,8 +17,9 @@ use Rattle.script_text.specs.declared.script.Script.{Script}
 use Rattle.script_lines.specs.Actors.{actor_word, all_workers}
 use Rattle.script_text.specs.Said.{restarts_of}
 use Rattle.worker_threads.specs.Drainers.{roles_for, seats_for}
-use Rattle.script_runs.specs.declared.loss.Loss.{Loss}
-use Rattle.script_runs.specs.declared.part.Part.{Part}
+use Rattle.actor_turns.specs.declared.loss.Loss.{Loss}
+use Rattle.actor_turns.specs.declared.part.Part.{Part}
+use Rattle.actor_turns.specs.Parts.{lives_by}
 
 -- the kind of the seats of an actor
 
@@ -29,9 +30,9 @@ kind_of_worker workers.Scheduler = seats.Scheduler
 kind_of_worker workers.Claims = seats.ClaimProtect
 kind_of_worker workers.Volumes = seats.VolumeProtect
 
-abbrev pub kind_of : Actor → SeatKind
-kind_of (Worker w) = kind_of_worker w.kind
-kind_of (Agent node) = seats.Agent
+abbrev pub seat_kind_of : Actor → SeatKind
+seat_kind_of (Worker w) = kind_of_worker w.kind
+seat_kind_of (Agent node) = seats.Agent
 
 -- the role of an actor: an agent has its node
 abbrev pub role_of : Actor → Role
@@ -60,11 +61,7 @@ loss_in name line = []
 abbrev pub lost_calls : List ℕ → List Line → List Loss
 lost_calls name lines = flat_map (loss_in name) lines
 
--- how many lives it has: none where no turn names it
-abbrev pub lives_by : Bool → ℕ → ℕ
-lives_by true restarts = 1 + restarts
-lives_by false restarts = 0
-
+-- how many lives it has
 abbrev pub lives_in : List ℕ → List Line → ℕ
 lives_in name lines = lives_by (is_named name lines) (length (restarts_of name lines))
 
@@ -101,11 +98,7 @@ part_at name kind first lines = record {
 
 -- the part of an actor
 abbrev pub part_of : Script → Actor → Part
-part_of script actor = part_at (actor_word actor) (kind_of actor) (first_actor_seat + lives_before (actor_word actor) (all_actors script) script.lines) script.lines
-
--- the lives of a part
-abbrev pub lives_of : Part → ℕ
-lives_of part = lives_by part.named (length part.restarts)
+part_of script actor = part_at (actor_word actor) (seat_kind_of actor) (first_actor_seat + lives_before (actor_word actor) (all_actors script) script.lines) script.lines
 
 -- the drains' actors
 

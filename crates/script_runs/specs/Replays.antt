@@ -1,6 +1,6 @@
 -- Whose calls the history of a replayed script has. The newest entry of a history stands first.
 -- A choice of this project.
-use Rattle.std.specs.Prelude.{ℕ, ◌≡◌, ◌≤◌, ◌<◌, ◌⊎◌, ◌+◌, ◌-◌, ◌==◌, true, List, [], ◌∷◌, ◌++◌, Option, Some, bytes_eq, if◌then◌else◌}
+use Rattle.std.specs.Prelude.{ℕ, ◌≡◌, ◌≤◌, ◌<◌, ◌⊎◌, ◌+◌, ◌-◌, true, List, [], ◌∷◌, ◌++◌, Option, Some, bytes_eq, if◌then◌else◌}
 use Rattle.call_types.specs.declared.entry.Entry.{Entry}
 use Rattle.call_types.specs.declared.request.Request.{Request}
 use Rattle.call_types.specs.declared.request.SeatKind.TheVariants as seats
@@ -20,9 +20,9 @@ use Rattle.worker_threads.specs.Rounds.{Drains, Lets, all_pass}
 use Rattle.script_text.specs.declared.script.Line.{Line}
 use Rattle.script_text.specs.declared.script.Line.TheVariants.{Call, Lose, Restart, Turn, Drain}
 use Rattle.script_text.specs.declared.script.Script.{Script}
-use Rattle.script_runs.specs.declared.part.Part.{Part}
+use Rattle.actor_turns.specs.declared.part.Part.{Part}
 use Rattle.script_runs.specs.Budget.{first_budget, raised}
-use Rattle.script_runs.specs.Calls.{AreCalls, AreNeededLives, AreOfLife, MayEnd, seat_at}
+use Rattle.actor_turns.specs.Calls.{AreCalls, AreNeededLives, AreOfLife, MayEnd, and_idle, seat_at}
 use Rattle.script_runs.specs.Parts.{drain_roles, drain_seats, part_of, role_of}
 
 -- how far a replay has come
@@ -36,8 +36,8 @@ pub record Progress : Type 0 where
   pub drained : ℕ
   pub budget : ℕ
 
-abbrev pub begun : Option ℕ → Progress
-begun option = record { past = []; made = λ name. 0; idle = λ seat. []; drained = 0; budget = first_budget option }
+abbrev pub first_progress : Option ℕ → Progress
+first_progress option = record { past = []; made = λ name. 0; idle = λ seat. []; drained = 0; budget = first_budget option }
 
 -- ---- a user's line
 
@@ -50,34 +50,32 @@ pub record IsUserCall (user : ℕ) (request : Request) (before after : Progress)
 abbrev pub and_made : List ℕ → ℕ → (List ℕ → ℕ) → List ℕ → ℕ
 and_made name count made other = if bytes_eq other name then made other + count else made other
 
-abbrev pub and_idle : {X : Type 0} → ℕ → X → (ℕ → X) → ℕ → X
-and_idle seat mine idle other = if other == seat then mine else idle other
-
 -- as many calls as the line says, each of them needed
-pub record MakesAll (role : Role) (part : Part) (calls : ℕ) (before after : Progress) : Type 0 where
+pub record MakesAll (lets : Lets) (held : List ℕ) (role : Role) (part : Part) (calls : ℕ) (before after : Progress) : Type 0 where
   pub past : List Entry
-  pub made : AreCalls part past (before.made part.name + 1) calls before.past
-  pub needed : AreNeededLives role part (before.made part.name + calls) past before.idle
+  pub made : AreCalls lets held part past (before.made part.name + 1) calls before.past
+  pub needed : AreNeededLives held role part (before.made part.name + calls) past before.idle
   pub is : after ≡ record before { past = past; made = and_made part.name calls before.made }
 
 -- fewer, each of them needed, as the life that would make the next one may end its turn
-pub record MakesFewer (role : Role) (part : Part) (calls : ℕ) (before after : Progress) : Type 0 where
+pub record MakesFewer (lets : Lets) (held : List ℕ) (role : Role) (part : Part) (calls : ℕ) (before after : Progress) : Type 0 where
   pub count : ℕ
   pub few : count < calls
   pub past : List Entry
-  pub made : AreCalls part past (before.made part.name + 1) count before.past
-  pub needed : AreNeededLives role part (before.made part.name + count) past before.idle
+  pub made : AreCalls lets held part past (before.made part.name + 1) count before.past
+  pub needed : AreNeededLives held role part (before.made part.name + count) past before.idle
   pub seat : ℕ
   pub life : seat ≡ seat_at part (before.made part.name + count + 1)
   pub ends : MayEnd part.kind (entries (before.idle seat)) (own seat past)
   -- the calls of the life since it was last given fewer leave nothing to be called for, unless an agent was told StaleEpoch
   pub since : List Calling
-  pub are : AreOfLife part seat (before.made part.name + count) past (since ++ before.idle seat)
+  pub are : AreOfLife held part seat (before.made part.name + count) past (since ++ before.idle seat)
   pub done : (WasToldStale part.kind (own seat past) → ⊥) → IsDone role (before.idle seat) since
   pub is : after ≡ record before { past = past; made = and_made part.name count before.made; idle = and_idle seat (since ++ before.idle seat) before.idle }
 
-abbrev pub IsTurn : Role → Part → ℕ → Progress → Progress → Type 0
-IsTurn role part calls before after = MakesAll role part calls before after ⊎ MakesFewer role part calls before after
+-- where the actor's calls of these numbers were held back
+abbrev pub IsTurnLine : Lets → List ℕ → Role → Part → ℕ → Progress → Progress → Type 0
+IsTurnLine lets held role part calls before after = MakesAll lets held role part calls before after ⊎ MakesFewer lets held role part calls before after
 
 -- ---- a drain
 
@@ -104,7 +102,7 @@ abbrev pub IsMove : Script → Option ℕ → Line → Progress → Progress →
 IsMove script option (Call user request) before after = IsUserCall user request before after
 IsMove script option (Lose actor call lost) before after = after ≡ before
 IsMove script option (Restart actor calls) before after = after ≡ before
-IsMove script option (Turn actor calls) before after = IsTurn (role_of actor) (part_of script actor) calls before after
+IsMove script option (Turn actor calls) before after = IsTurnLine all_pass [] (role_of actor) (part_of script actor) calls before after
 IsMove script option Drain before after = IsDrain all_pass script option before after
 
 -- the lines in order, up to the progress `end`
@@ -123,7 +121,7 @@ EndsAs setup end (Spent made key due) = (made ≡ end.drained) × (made ≡ end.
 pub record IsReplay (script : Script) (option : Option ℕ) (past : List Entry) (ending : Drained) : Type 0 where
   pub lines_done : Progress
   pub end : Progress
-  pub moves : AreMoves script option lines_done script.lines (begun option)
+  pub moves : AreMoves script option lines_done script.lines (first_progress option)
   pub last : IsDrain all_pass script option lines_done end
   pub history : past ≡ end.past
   pub ends : EndsAs script.setup end ending

@@ -1,3 +1,2 @@
-pub mod Living
-pub mod Playing
+pub mod Settled
 pub mod Standing

@@ -3,10 +3,11 @@
 ghost use Rattle.std.specs.Prelude.{◌≡◌, ◌<◌, ◌+◌, ◌^◌, IfOk, bytes_eq, length};
 ghost use Rattle.script_lines.specs.Actors.{actor_word};
 ghost use Rattle.script_text.specs.Said.{restarts_of};
-ghost use Rattle.script_runs.specs.Parts.{is_named, kind_of, kind_of_worker, lives_of, lost_calls, part_at};
+ghost use Rattle.actor_turns.specs.Parts.{lives_of};
+ghost use Rattle.script_runs.specs.Parts.{is_named, seat_kind_of, kind_of_worker, lost_calls, part_at};
 
-use crate::loss::Loss;
-use crate::part::Part;
+use actor_turns::loss::Loss;
+use actor_turns::part::Part;
 use call_types::request::SeatKind;
 use kube_types::copies::OutOfMemory;
 use kube_types::items::Items;
@@ -84,7 +85,7 @@ fn kind_of_worker(kind: WorkerKind) -> SeatKind
 
 /// The kind of the seats of an actor.
 fn kind_of(actor: &Actor) -> SeatKind
-    ensures { result ≡ kind_of actor.now }
+    ensures { result ≡ seat_kind_of actor.now }
 {
     match actor {
         Actor::Worker(worker) => kind_of_worker(worker.kind),
@@ -99,7 +100,7 @@ pub fn part_from(
     first: u64,
     lines: &[Line],
 ) -> Result<Part, OutOfMemory>
-    ensures { IfOk result (λ part. part ≡ part_at (actor_word actor.now) (kind_of actor.now) first lines.now) }
+    ensures { IfOk result (λ part. part ≡ part_at (actor_word actor.now) (seat_kind_of actor.now) first lines.now) }
 {
     let name = actor.name(alloc)?;
     let named = is_named(alloc, &name, lines)?;

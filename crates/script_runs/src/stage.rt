@@ -1,25 +1,32 @@
 //! A world and all who call it, moved by one line of a script at a time.
 
-ghost use Rattle.std.specs.Prelude.{◌≡◌, ◌≤◌, ◌<◌, ◌+◌, ◌-◌, ◌*◌, ◌^◌, [], ◌∷◌, true, IfOk, OnOk, Some, length, slice_get};
+ghost use Rattle.std.specs.Prelude.{ℕ, ◌≡◌, ◌≤◌, ◌<◌, ◌+◌, ◌-◌, ◌*◌, ◌^◌, [], ◌∷◌, true, IfOk, OnOk, Some, length, slice_get};
 ghost use Rattle.script_text.specs.declared.script.Line.{Line};
 ghost use Rattle.script_lines.specs.declared.actors.WorkerNumber.TheVariants.{One, Two, Three, Four};
 ghost use Rattle.script_lines.specs.Actors.{actor_word};
 ghost use Rattle.size_calls.specs.Calls.{AreByActors};
 ghost use Rattle.worker_core.specs.Roles.{IsBuiltKind};
 ghost use Rattle.worker_core.specs.Stands.{IsNew, StandsFor};
-ghost use Rattle.worker_threads.specs.Rounds.{EndsWith, all_pass, made_of};
+ghost use Rattle.binder_model.specs.Told.{own};
+ghost use Rattle.worker_threads.specs.Drainers.{AreStanding, roles_of, seats_of};
+ghost use Rattle.worker_threads.specs.Longer.{IsOneOf};
+ghost use Rattle.worker_threads.specs.Rounds.{Drains, EndsWith, all_pass, made_of};
 ghost use Rattle.script_runs.specs.Budget.{first_budget};
 ghost use Rattle.script_runs.specs.Limits.{IsKnown, IsReadable};
-ghost use Rattle.script_runs.specs.Parts.{is_named, kind_of, part_of, role_of};
-ghost use Rattle.script_runs.specs.Replays.{IsDrain, IsMove, IsTurn, IsUserCall, Progress, begun};
-ghost use Rattle.script_runs.specs.Steps.Playing.{IsNewPlayer};
+ghost use Rattle.script_runs.specs.Parts.{is_named, seat_kind_of, part_of, role_of};
+ghost use Rattle.script_runs.specs.Replays.{IsDrain, IsMove, IsTurnLine, IsUserCall, Progress, first_progress};
+ghost use Rattle.actor_turns.specs.Steps.Playing.{IsNewPlayer};
+ghost use Rattle.script_runs.specs.Steps.Settled.{IsNoted};
 ghost use Rattle.script_runs.specs.Steps.Standing.{Ended, HasAdded, HasMoved, MadeAtMost, SomeStands, Stands, actors_for, agents_for, part_from, place_of, place_of_kind, place_of_node, place_of_number, with_made, workers_of};
 
 use crate::budget::raised;
 use crate::parts::{part_from, seat_after};
-use crate::player::{Player, turn};
+use crate::settled::{SettledAt, settled_at, stays_settled};
+use actor_turns::player::{Player, turn};
 use call_types::request::{Request, SeatKind};
+use fault_io::gate::NoGate;
 use kube_types::copies::{OutOfMemory, Plain};
+use kube_types::items::Items;
 use kube_types::text::{Names, Text};
 use script_lines::actors::{Actor, Worker, WorkerKind, WorkerNumber};
 use script_text::script::{Line, Script};
@@ -39,13 +46,15 @@ const FIRST_ACTOR_SEAT: u64 = 5;
 /// How many workers there are.
 const WORKERS: usize = 20;
 
-/// A world, the actors that turns name, and those of the drains; how many calls all drains have made, and may make.
-pub(crate) struct Stage {
+/// A world, the actors that turns name, and those of the drains; how many calls all drains have made, and may make; where the
+/// last drain ended settled, if it did.
+pub struct Stage {
     pub world: KeptWorld,
     pub players: Vec<Player>,
     pub drainers: Drainers,
     pub drained: u64,
     pub budget: u64,
+    pub settled: Option<SettledAt>,
 }
 
 impl Drop for Stage {
@@ -56,6 +65,7 @@ impl Drop for Stage {
             drainers,
             drained: _,
             budget: _,
+            settled: _,
         } = self;
         drop(world);
         drop(players);
@@ -105,7 +115,7 @@ fn place_of_node(node: &Text, nodes: &Names) -> usize
 }
 
 /// The place of an actor among all: the workers, and then the agents of these nodes.
-fn place_of(actor: &Actor, nodes: &Names) -> usize
+pub fn place_of(actor: &Actor, nodes: &Names) -> usize
     requires { length nodes.now ≤ 8 }
     ensures { result ≡ place_of nodes.now actor.now }
 {
@@ -117,7 +127,7 @@ fn place_of(actor: &Actor, nodes: &Names) -> usize
 
 impl Stage {
     /// Makes a user's call.
-    fn call(
+    pub fn call(
         &mut self,
         script: &Script,
         option: Option<u64>,
@@ -135,7 +145,7 @@ impl Stage {
     }
 
     /// Makes an actor's turn.
-    fn turn(
+    pub fn turn(
         &mut self,
         script: &Script,
         option: Option<u64>,
@@ -150,17 +160,17 @@ impl Stage {
         requires few { calls ≤ 1000 }
         requires most { most ≤ 4096000 }
         requires made { MadeAtMost most self.old }
-        ensures moved { OnOk result (HasMoved script.now option (IsTurn (role_of actor.now) (part_of script.now actor.now) calls) self.old self.new) }
+        ensures moved { OnOk result (HasMoved script.now option (IsTurnLine all_pass [] (role_of actor.now) (part_of script.now actor.now) calls) self.old self.new) }
         ensures actors { OnOk result (AreByActors self.old.world.past → AreByActors self.new.world.past) }
         ensures made { OnOk result (MadeAtMost (most + 1000) self.new) }
     {
         let place = place_of(actor, &script.node_names);
-        turn(&mut self.world, &mut self.players[place], calls)?;
+        turn(&mut self.world, &mut self.players[place], &NoGate, calls)?;
         Ok(())
     }
 
-    /// Raises the budget, and drains.
-    fn drain(&mut self, script: &Script, option: Option<u64>) -> Result<Drained, OutOfMemory>
+    /// Raises the budget, and drains. Where nothing changed since the last drain ended settled, nothing is looked for.
+    pub fn drain(&mut self, script: &Script, option: Option<u64>) -> Result<Drained, OutOfMemory>
         requires stands { SomeStands script.now option self.old }
         ensures moved { OnOk result (HasMoved script.now option (IsDrain all_pass script.now option) self.old self.new) }
         ensures actors { OnOk result (AreByActors self.old.world.past → AreByActors self.new.world.past) }
@@ -171,13 +181,14 @@ impl Stage {
         let budget = raised(option, self.world.world(), self.budget);
         let left = budget - self.drained;
         self.budget = budget;
-        let drained = drain(&mut self.world, &mut self.drainers, left)?;
+        let drained = drain_on(&mut self.world, &mut self.drainers, self.settled, left)?;
+        self.settled = settled_at(self.world.world(), &drained);
         self.drained += made_in(&drained);
         Ok(drained)
     }
 
     /// Does what the line at this place says.
-    pub(crate) fn play(
+    pub fn play(
         &mut self,
         script: &Script,
         option: Option<u64>,
@@ -211,7 +222,7 @@ impl Stage {
     }
 
     /// Drains, and says how all drains ended.
-    pub(crate) fn end(
+    pub fn end(
         &mut self,
         alloc: Global,
         script: &Script,
@@ -226,7 +237,7 @@ impl Stage {
     }
 
     /// The world alone.
-    pub(crate) fn into_world(self) -> KeptWorld
+    pub fn into_world(self) -> KeptWorld
         ensures { result ≡ self.world }
     {
         let Stage {
@@ -235,11 +246,37 @@ impl Stage {
             drainers,
             drained: _,
             budget: _,
+            settled: _,
         } = self;
         drop(players);
         drop(drainers);
         world
     }
+}
+
+/// Drains, where something may be due.
+fn drain_on(
+    world: &mut KeptWorld,
+    drainers: &mut Drainers,
+    noted: Option<SettledAt>,
+    budget: u64,
+) -> Result<Drained, OutOfMemory>
+    requires stands { AreStanding drainers.old world.old.past }
+    requires noted { IsNoted world.old.setup world.old.past noted }
+    ensures ends { IfOk result (λ d. EndsWith world.new.setup world.new.past budget d) }
+    ensures rounds { IfOk result (λ d. Drains all_pass world.old.setup drainers.new world.new.past (budget - made_of d) drainers.old world.old.past budget) }
+    ensures stands { OnOk result (AreStanding drainers.new world.new.past) }
+    ensures others { (seat : ℕ) → (IsOneOf (seats_of drainers.old) seat → ⊥) → own seat world.new.past ≡ own seat world.old.past }
+    ensures few { IfOk result (λ d. made_of d ≤ budget) }
+    ensures actors { AreByActors world.old.past → AreByActors world.new.past }
+    ensures setup { world.new.setup ≡ world.old.setup }
+    ensures seats { seats_of drainers.new ≡ seats_of drainers.old }
+    ensures roles { OnOk result (roles_of drainers.new ≡ roles_of drainers.old) }
+{
+    if stays_settled(world.world(), noted) {
+        return Ok(Drained::Settled { made: 0 });
+    }
+    drain(world, drainers, budget)
 }
 
 /// How all drains ended: as the last of them, with the calls of all.
@@ -272,7 +309,7 @@ fn made_in(drained: &Drained) -> u64
 
 /// A new actor of the kind, which serves the node where it is an agent.
 fn new_actor(alloc: Global, kind: SeatKind, actor: &Actor) -> Result<WorkingActor, OutOfMemory>
-    requires kind { kind ≡ kind_of actor.now }
+    requires kind { kind ≡ seat_kind_of actor.now }
     requires built { IsBuiltKind kind }
     ensures is { IfOk result (λ a. IsNew (role_of actor.now) a) }
     ensures stands { IfOk result (λ a. StandsFor a []) }
@@ -298,6 +335,8 @@ fn player(alloc: Global, actor: &Actor, first: u64, lines: &[Line]) -> Result<Pl
         part,
         seat: first,
         made: 0,
+        held: Items::new(alloc),
+        began: 0,
         actor: working,
     })
 }
@@ -415,13 +454,9 @@ fn first_budget(option: Option<u64>) -> u64
 }
 
 /// A world of the script's setup, and new actors.
-pub(crate) fn begin(
-    alloc: Global,
-    script: &Script,
-    option: Option<u64>,
-) -> Result<Stage, OutOfMemory>
+pub fn begin(alloc: Global, script: &Script, option: Option<u64>) -> Result<Stage, OutOfMemory>
     requires readable { IsReadable script.now }
-    ensures stands { IfOk result (λ s. Stands script.now option (begun option) s) }
+    ensures stands { IfOk result (λ s. Stands script.now option (first_progress option) s) }
     ensures actors { IfOk result (λ s. AreByActors s.world.past) }
     ensures made { IfOk result (λ s. MadeAtMost 0 s) }
 {
@@ -434,5 +469,6 @@ pub(crate) fn begin(
         drainers,
         drained: 0,
         budget: first_budget(option),
+        settled: None,
     })
 }

@@ -255,10 +255,14 @@ fn take_line(
     take_filled(alloc, lines, known, progress, number, line)
 }
 
+/// Takes the room for all lines at once, and is refused where that is.
 fn lines_of(alloc: Global, text: &[u8]) -> Result<Vec<&[u8]>, AllocError>
     ensures { IfOk result (λ lines. map (λ line. line.now) lines.items ≡ lines_of text.now) }
 {
-    text.split(|byte| *byte == 10).collect(alloc)
+    let ends = text.iter().filter(|byte| **byte == 10).count();
+    let mut lines = Vec::with_capacity(alloc, ends.saturating_add(1))?;
+    lines.extend(text.split(|byte| *byte == 10))?;
+    Ok(lines)
 }
 
 fn said_in(alloc: Global, lines: &[&[u8]]) -> Result<Progress, ScriptError>

@@ -9,13 +9,16 @@ ghost use Rattle.binder_model.specs.Told.{own};
 ghost use Rattle.worker_core.specs.Stands.{AreOwn};
 ghost use Rattle.seat_calls.specs.Answered.{IsAnswered, IsLatest};
 
+use call_types::ask::Ask;
 use call_types::reply::Reply;
 use kube_types::copies::OutOfMemory;
-use shared_world::ask::Ask;
 
 /// What answers calls of its seats, one at a time. Of a shared world it has the entries of its own seats alone; of a world
 /// of one thread it has all.
 pub trait Answers {
+    /// What it was lent, where it holds references: what they show, or their names.
+    type Lent;
+
     /// The entries that it has, the newest first.
     ghost past: { Self → List Entry };
 
@@ -32,8 +35,8 @@ pub trait Answers {
     /// The setup with which its world began.
     ghost setup: { Self → Setup };
 
-    /// The name of the reference that it holds, where it holds one; it keeps it.
-    ghost lent: { Self → ℕ };
+    /// What it was lent. It keeps it.
+    ghost lent: { Self → Self.Lent };
 
     /// Makes one whole call at one of its seats, where no later one has an entry. It must be licensed after the seat's own
     /// entries. Where it is held back there is no reply, and the entries stay; so they do for want of memory.

@@ -1,13 +1,15 @@
 //! A kept world answers all seats, and holds nothing back.
 
 use crate::answers::Answers;
+use call_types::ask::Ask;
 use call_types::reply::Reply;
 use kube_types::copies::OutOfMemory;
-use shared_world::ask::Ask;
 use world_core::kept::KeptWorld;
 
 impl Answers for KeptWorld {
     ghost use Rattle.std.specs.Prelude.{true};
+
+    type Lent = ();
 
     ghost past = { λ k. k.past };
 
@@ -19,7 +21,7 @@ impl Answers for KeptWorld {
 
     ghost setup = { λ k. k.setup };
 
-    ghost lent = { λ k. 0 };
+    ghost lent = { λ k. tt };
 
     fn call(&mut self, seat: u64, ask: &Ask, told: bool) -> Result<Option<Reply>, OutOfMemory> {
         let reply = KeptWorld::call(self, seat, ask.kind, &ask.request, told)?;

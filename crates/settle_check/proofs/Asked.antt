@@ -15,7 +15,7 @@ use Rattle.reclaim_ops.specs.declared.provision.ProvisionStep.{ProvisionStep}
 use Rattle.reclaim_ops.specs.declared.provision.ProvisionStep.TheVariants as steps
 use Rattle.reclaim_ops.specs.Decisions.{claim_begins, claim_for}
 use Rattle.reclaim_ops.specs.DueLaw.{due_at, due_of}
-use Rattle.reclaim_ops.specs.Provisions.{call_at, provision_call}
+use Rattle.reclaim_ops.specs.Provisions.{provision_call_at, provision_call}
 use Rattle.reclaim_ops.proofs.Dues.{begins_what_is_due}
 use Rattle.settle_check.specs.Steps.Asking.{call_due}
 
@@ -28,7 +28,7 @@ module _ (setup : Setup) (w : World) where
   unfolding provision_call
   first_call op = by op.step
     where
-      by : (step : ProvisionStep) → call_due setup w op.class.delayed (call_at step op.claim op.uid op.class) ≡ due_at setup w op step
+      by : (step : ProvisionStep) → call_due setup w op.class.delayed (provision_call_at step op.claim op.uid op.class) ≡ due_at setup w op step
       by (steps.Provisions labels) = refl
       by (steps.Creates id topology) = refl
       by steps.ClearsNode = refl

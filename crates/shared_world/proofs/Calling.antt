@@ -15,7 +15,7 @@ use Rattle.seat_lock.specs.History.{AddsNoOthers, StartsWith, calls_of}
 use Rattle.seat_lock.specs.Passes.{AreFirstPasses, Recalls, number_of, value_given, view_of}
 use Rattle.world_core.specs.Kept.{History}
 use Rattle.shared_world.specs.declared.shared.SharedWorld.{SharedWorld}
-use Rattle.shared_world.specs.declared.ask.Ask.{Ask}
+use Rattle.call_types.specs.declared.ask.Ask.{Ask}
 use Rattle.shared_world.specs.Lines.{Kept, entries, entry_of, kept_of, lines}
 use Rattle.shared_world.specs.Passes.{AddsNoSeats, AreFirst, Begins, HasCalled, IsIn, mine_of, past_given, seen_by}
 use Rattle.shared_world.proofs.Lining.{back, both_entries, own_entries, own_lines}

@@ -6,7 +6,7 @@ use Rattle.call_types.specs.declared.reply.Reply.{Reply}
 use Rattle.binder_model.specs.Told.{own}
 use Rattle.seat_lock.specs.declared.keeps.Entry.{Entry as Line}
 use Rattle.seat_lock.specs.History.{calls_of}
-use Rattle.shared_world.specs.declared.ask.Ask.{Ask}
+use Rattle.call_types.specs.declared.ask.Ask.{Ask}
 use Rattle.shared_world.specs.Lines.{entries, entry_of, lines}
 
 pub back : (past : List Entry) → entries (lines past) ≡ past

@@ -11,7 +11,7 @@ use Rattle.seat_lock.specs.declared.keeps.Keeps.{Ghosts}
 use Rattle.seat_lock.specs.declared.pass.Pass.{Pass}
 use Rattle.seat_lock.specs.History.{first_forks}
 use Rattle.seat_lock.specs.Passes.{IsPassOf, forks_of, made_of, met_count, number_of, value_given, view_of}
-use Rattle.shared_world.specs.declared.ask.Ask.{Ask}
+use Rattle.call_types.specs.declared.ask.Ask.{Ask}
 use Rattle.shared_world.specs.declared.shared.SharedWorld.{SharedWorld}
 use Rattle.shared_world.specs.Lines.{Kept, entries}
 

@@ -6,6 +6,5 @@
 //! meet. Not said: what the lock does not say: that a call returns, who comes first, fairness, progress.
 #![tactic(auto)]
 
-pub mod ask;
 pub mod behind;
 pub mod shared;

@@ -7,8 +7,8 @@ ghost use Rattle.seat_lock.specs.Passes.{AreSame, BeginsWithBoth, FoundMade, Has
 ghost use Rattle.shared_world.specs.Lines.{kept_of};
 ghost use Rattle.shared_world.specs.Passes.{AddsNoSeats, AreFirst, Begins, HasCalled, IsIn, IsOf, mine_of, past_given, setup_of};
 
-use crate::ask::Ask;
 use crate::behind::WorldBehind;
+use call_types::ask::Ask;
 use call_types::reply::Reply;
 use kube_types::copies::OutOfMemory;
 use seat_lock::{NotMade, Pass, SeatLock, StillShared};

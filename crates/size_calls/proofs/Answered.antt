@@ -33,7 +33,7 @@ use Rattle.binder_model.specs.Told.{IsClaimWith, IsVolumeWith, ToldObject, own}
 use Rattle.binder_model.specs.World.{World, Effect, OnStore, OnDevices, SetsMoment, IsHistory, effect, reply_to, world}
 use Rattle.claim_sync.specs.declared.action.ClaimStep.{ClaimStep}
 use Rattle.claim_sync.specs.declared.action.ClaimStep.TheVariants as steps
-use Rattle.volume_sync.specs.VolumeDecision.{free_action, has_uid}
+use Rattle.volume_sync.specs.VolumeDecision.{free_action, refers_by_uid}
 use Rattle.model_laws.specs.Calls.{IsSecondDelete}
 use Rattle.model_laws.specs.Stood.{Stood}
 use Rattle.model_laws.proofs.Evidence.{told_map}
@@ -263,7 +263,7 @@ TellsCarrying (Binds v c) reply = ((w : VolumeData) → reply ≡ replies.Done (
 TellsCarrying machine reply = ⊤
 
 unbound_suits : (w : VolumeData) (next : Machine) → unbound_to w ≡ Some next → MachineSuits next
-unbound_suits w next = by (has_uid w)
+unbound_suits w next = by (refers_by_uid w)
   where
     by : (b : Bool) → (if b then None else machine_for w (free_action w)) ≡ Some next → MachineSuits next
     by true e = none_some e

@@ -24,7 +24,7 @@ use Rattle.volume_match.specs.Volumes.{as_volume}
 use Rattle.volume_sync.specs.VolumeDecision.{volume_decision}
 use Rattle.volume_sync.specs.declared.action.VolumeAction.{VolumeAction}
 use Rattle.volume_sync.specs.declared.action.VolumeAction.TheVariants as actions
-use Rattle.claim_sync.specs.ClaimDecision.{IsChoice, claim_decision, completed_step, is_blocked, may_assign, named_step, named_volume, unless_lost}
+use Rattle.claim_sync.specs.ClaimDecision.{IsVolumeFor, claim_decision, completed_step, is_blocked, may_assign, named_step, named_volume, unless_lost}
 use Rattle.claim_sync.specs.declared.action.ClaimStep.{ClaimStep}
 use Rattle.claim_sync.specs.declared.action.ClaimStep.TheVariants as steps
 use Rattle.model_laws.proofs.Lists.{none_some, one}
@@ -126,17 +126,17 @@ module _ (rows : List Object) (c : ClaimData) (v : VolumeData) (place : ℕ) (th
   chosen_named : row_at (volume_key c.volume_name) rows ≡ Some (Volume v) → (named_volume rows c ≡ Some v) × (c.volume_name ≡ v.meta.name)
   chosen_named at = (ap as_volume at, sym (ap (λ (k : Key). k.name) (row_at_key (volume_key c.volume_name) (Volume v) rows at)))
 
-  best_suits : IsChoice true rows c (Some place) → SuitsOrHas v c
+  best_suits : IsVolumeFor true rows c (Some place) → SuitsOrHas v c
   best_suits best =
       let k = best.candidate in
       let one : best.volume ≡ v = some_volume best.volume v (sym k.there ∙ there) in
       inl (inl (subst (λ u. Fits u c) one (fits_is best.volume c (eligible_fits best.volume c k.eligible))))
 
-  binding_suits : IsChoice (is_empty c.volume_name) rows c (Some place) → claim_decision rows c NotAsked ≡ steps.Bind → SuitsOrHas v c
+  binding_suits : IsVolumeFor (is_empty c.volume_name) rows c (Some place) → claim_decision rows c NotAsked ≡ steps.Bind → SuitsOrHas v c
   unfolding claim_decision is_bind
   binding_suits choice e = by (is_completed c) (is_deleting c.meta) (is_empty c.volume_name) (has_match rows c) refl choice e
     where
-      by : (done deleting none match : Bool) → is_completed c ≡ done → IsChoice none rows c (Some place)
+      by : (done deleting none match : Bool) → is_completed c ≡ done → IsVolumeFor none rows c (Some place)
           → (if done then (if none then unless_lost c steps.Lost else completed_step c NotAsked (named_volume rows c)) else if deleting then steps.Nothing else if none then (if match then steps.Bind else if may_assign rows c then steps.AssignClass else steps.Nothing) else named_step c (named_volume rows c)) ≡ steps.Bind
           → SuitsOrHas v c
       by true deleting true match d choice e = absurd (lost_binds_none (is_lost c.phase) e)

@@ -7,7 +7,7 @@ use Rattle.call_types.specs.declared.request.SeatKind.{SeatKind}
 use Rattle.call_types.specs.declared.request.SeatKind.TheVariants as seats
 use Rattle.binder_model.specs.BindWrites.{next_write, taken_for, write_reference}
 use Rattle.claim_sync.specs.ClaimDecision.{claim_decision}
-use Rattle.informer_cache.specs.Cache.{StandsFor}
+use Rattle.informer_cache.specs.Cache.{CacheStandsFor}
 use Rattle.informer_cache.specs.All.{AllStandFor, cache_of}
 use Rattle.worker_core.specs.Stands as stands
 use Rattle.model_laws.specs.Worked.{no_setup}
@@ -26,7 +26,7 @@ caches_stand seat behind = record { kinds = kind_is; each = each; rows = λ key.
     kind_is kinds.PersistentVolumeClaim = refl
     kind_is kinds.Pod = refl
 
-    each : (kind : Kind) → StandsFor (cache_of kind (new_actor seat behind).caches) []
+    each : (kind : Kind) → CacheStandsFor (cache_of kind (new_actor seat behind).caches) []
     each kinds.StorageClass = record { known = λ key is. refl; rows = λ key is. refl; from = refl }
     each kinds.Node = record { known = λ key is. refl; rows = λ key is. refl; from = refl }
     each kinds.PersistentVolume = record { known = λ key is. refl; rows = λ key is. refl; from = refl }

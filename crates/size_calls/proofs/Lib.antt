@@ -6,3 +6,4 @@ pub mod Turns
 pub mod Making
 pub mod Examples
 pub mod OpsExamples
+pub mod Added

@@ -31,7 +31,7 @@ use Rattle.pod_scheduler.specs.declared.schedule.ScheduleStep.{ScheduleStep}
 use Rattle.pod_scheduler.specs.declared.schedule.ScheduleStep.TheVariants as steps
 use Rattle.pod_scheduler.specs.declared.tries.Tried.{Tried}
 use Rattle.pod_scheduler.specs.Decisions.{BeginsIf, BeginsOn, are_known, begun_with, binding, last_refused, present, writes_for}
-use Rattle.pod_scheduler.specs.Schedules.{call_at, schedule_call, schedule_moved}
+use Rattle.pod_scheduler.specs.Schedules.{schedule_call_at, schedule_call, schedule_moved}
 use Rattle.pod_scheduler.proofs.Allowed.{write_of_is}
 use Rattle.pod_scheduler.proofs.Present.{each_present, prepare_is}
 use Rattle.size_law.specs.Fitting.{GivesSo, GivesTo, IsGiven}
@@ -122,7 +122,7 @@ gives_at mine [] place request all e = none_some e
 gives_at mine (w ∷ writes) zero request all e = subst (GivesSo mine) (one w request e) all.0
 gives_at mine (w ∷ writes) (suc place) request all e = gives_at mine writes place request all.1 e
 
-step_gives : (mine : List Entry) (writes : List Request) (step : ScheduleStep) (request : Request) → AllGive mine writes → call_at writes step ≡ Some request → GivesSo mine request
+step_gives : (mine : List Entry) (writes : List Request) (step : ScheduleStep) (request : Request) → AllGive mine writes → schedule_call_at writes step ≡ Some request → GivesSo mine request
 step_gives mine writes (steps.Writes place) request all e = gives_at mine writes place request all (write_of_is (slice_get writes place) request e).is
 step_gives mine writes steps.Done request all e = none_some e
 step_gives mine writes steps.Parked request all e = none_some e

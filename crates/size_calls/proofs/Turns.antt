@@ -29,7 +29,7 @@ use Rattle.worker_core.specs.declared.turn.Given.TheVariants as givens
 use Rattle.worker_core.specs.declared.turn.Next.TheVariants as nexts
 use Rattle.worker_core.specs.Memories.{Memory, memory_of}
 use Rattle.worker_core.specs.Stands.{AnyIsUnderWay, AreOwn, Begun, IsUnderWay, StandsFor, WentOn}
-use Rattle.worker_core.specs.States.{State, asked, call_in, call_under, given_call, read_of_kind, read_request, start_call, start_of}
+use Rattle.worker_core.specs.States.{ActorState, asked, call_in, call_under, given_call, read_of_kind, read_request, start_call, start_of}
 use Rattle.worker_core.specs.Steps.Evidence.{TaskKeeps, task_kind}
 use Rattle.worker_core.specs.Tasks.{IsDecision, IsFirstOf, task_call, task_moved, under_after, with_call, with_task}
 use Rattle.worker_core.specs.Turns.{AfterKeys, IsTurn, TurnBy, passing, unlisted}
@@ -169,7 +169,7 @@ start_gives seats.Binder node m mine r e = none_some e
 start_gives seats.Scheduler node m mine r e = none_some e
 start_gives _ node m mine r e = tt
 
-pub asked_gives : (s : State) (mine : List Entry) (r : Request) → StandsFor s mine → asked s ≡ Some r → GivesFitting s.role.kind mine r
+pub asked_gives : (s : ActorState) (mine : List Entry) (r : Request) → StandsFor s mine → asked s ≡ Some r → GivesFitting s.role.kind mine r
 asked_gives s mine r stands = by s.given
   where
     by : (g : Option Given) → given_call s g ≡ Some r → GivesFitting s.role.kind mine r
@@ -181,7 +181,7 @@ asked_gives s mine r stands = by s.given
 -- a turn
 
 -- what a turn gives is what is asked then, by an actor of the same role
-pub record Asks (s given : State) (r : Request) : Type 0 where
+pub record Asks (s given : ActorState) (r : Request) : Type 0 where
   pub role : given.role ≡ s.role
   pub asked : asked given ≡ Some r
 
@@ -191,7 +191,7 @@ called r e = none_some (sym (ap call_in e))
 call_back : (r q : Request) → nexts.Call r ≡ nexts.Call q → Some q ≡ Some r
 call_back r q e = sym (ap call_in e)
 
-pub turn_asks : (s given : State) (r : Request) → IsTurn s given (nexts.Call r) → Asks s given r
+pub turn_asks : (s given : ActorState) (r : Request) → IsTurn s given (nexts.Call r) → Asks s given r
 turn_asks s given r = by s.memory.stale s.under (start_call s.role s.memory) (unlisted s) (passing s) refl refl
   where
     keys : (w : Work) (under : Option Under) → AfterKeys s given (nexts.Call r) w under → Asks s given r

@@ -10,7 +10,7 @@ use Rattle.binder_model.specs.Promises.{IsRunOf}
 use Rattle.binder_model.specs.Told.{own}
 use Rattle.worker_core.specs.declared.turn.Next.TheVariants.{Call}
 use Rattle.worker_core.specs.Stands.{StandsFor}
-use Rattle.worker_core.specs.States.{State, asked}
+use Rattle.worker_core.specs.States.{ActorState, asked}
 use Rattle.worker_core.specs.Turns.{IsTurn}
 use Rattle.size_law.specs.Fitting.{GivesFitting, AreFitting}
 use Rattle.size_law.specs.Enough.{GetEnoughThroughout}
@@ -18,12 +18,12 @@ use Rattle.size_law.specs.Enough.{GetEnoughThroughout}
 -- each call that a turn of an actor gives, where the actor then stands for these entries
 abbrev pub CallsGiveFitting : Type 0
 CallsGiveFitting =
-    (s given : State) (mine : List Entry) (request : Request)
+    (s given : ActorState) (mine : List Entry) (request : Request)
     → StandsFor given mine → IsTurn s given (Call request) → GivesFitting s.role.kind mine request
 
 -- an actor of this kind that stands for these entries has given the call
 pub record IsAsked (kind : SeatKind) (mine : List Entry) (request : Request) : Type 0 where
-  pub actor : State
+  pub actor : ActorState
   pub of_kind : actor.role.kind ≡ kind
   pub stands : StandsFor actor mine
   pub asks : asked actor ≡ Some request

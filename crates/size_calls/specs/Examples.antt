@@ -22,7 +22,7 @@ use Rattle.informer_cache.specs.Cache.{Known}
 use Rattle.sync_queue.specs.Work.{no_work}
 use Rattle.worker_core.specs.declared.turn.Given.TheVariants as givens
 use Rattle.worker_core.specs.Memories.{no_memory}
-use Rattle.worker_core.specs.States.{State}
+use Rattle.worker_core.specs.States.{ActorState}
 use Rattle.size_law.specs.Examples.{a, c, completed, entry, naming_a, reserved_a}
 use Rattle.size_calls.specs.Calls.{IsAsked, IsByActor, AreByActors}
 
@@ -31,7 +31,7 @@ use Rattle.size_calls.specs.Calls.{IsAsked, IsByActor, AreByActors}
 abbrev pub knows_nothing : Kind → Known
 knows_nothing kind = record { rows = record { kind = kind; marks = []; objects = [] }; lists = record { whole = None; spaces = [] }; from = None }
 
-abbrev pub new_actor : SeatKind → ℕ → State
+abbrev pub new_actor : SeatKind → ℕ → ActorState
 new_actor kind behind = record {
   role = record { kind = kind; node = [] };
   caches = record { classes = knows_nothing kinds.StorageClass; nodes = knows_nothing kinds.Node; volumes = knows_nothing kinds.PersistentVolume; claims = knows_nothing kinds.PersistentVolumeClaim; pods = knows_nothing kinds.Pod };
@@ -42,10 +42,10 @@ new_actor kind behind = record {
   given = Some (givens.Read kinds.PersistentVolume);
 }
 
-abbrev pub new_binder : State
+abbrev pub new_binder : ActorState
 new_binder = new_actor seats.Binder 3
 
-abbrev pub new_scheduler : State
+abbrev pub new_scheduler : ActorState
 new_scheduler = new_actor seats.Scheduler 5
 
 abbrev pub list_volumes : Request

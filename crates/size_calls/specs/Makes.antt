@@ -18,7 +18,7 @@ use Rattle.binder_model.specs.Run.{IsLicensed}
 use Rattle.binder_model.specs.Told.{IsNewest, own}
 use Rattle.worker_core.specs.declared.turn.Next.TheVariants.{Call}
 use Rattle.worker_core.specs.Stands.{StandsFor}
-use Rattle.worker_core.specs.States.{State}
+use Rattle.worker_core.specs.States.{ActorState}
 use Rattle.worker_core.specs.Turns.{IsTurn}
 use Rattle.size_law.specs.Fitting.{Fits}
 
@@ -60,7 +60,7 @@ LicensedMakeFitting = (mine : List Entry) (request : Request) → Licensed seats
 -- each call that a turn of ops gives, where the actor then stands for these entries
 abbrev pub CallsMakeFitting : Type 0
 CallsMakeFitting =
-    (s given : State) (mine : List Entry) (request : Request)
+    (s given : ActorState) (mine : List Entry) (request : Request)
     → s.role.kind ≡ seats.Ops → StandsFor given mine → IsTurn s given (Call request) → MakesFitting mine request
 
 -- each entry of ops, after its own seat's earlier ones

@@ -4,7 +4,7 @@ use Rattle.std.specs.List.{list_any}
 use Rattle.kube_types.specs.declared.key.Key.{Key}
 use Rattle.sync_queue.specs.declared.lanes.Stage.{Stage}
 use Rattle.kube_types.specs.Keys.{same_key}
-use Rattle.sync_queue.specs.Work.{Taken, AreOnce, without, is_of, mark, mark_of}
+use Rattle.sync_queue.specs.Work.{Taken, AreOnce, without_waiting, is_of, mark, mark_of}
 use Rattle.sync_queue.specs.Steps.Lanes.{IsLane, IsSet, marks, is_again}
 use Rattle.kube_types.proofs.SameKeys.{same_key_itself, same_key_equivalence}
 use Rattle.sync_queue.proofs.KeyFacts.{key_is}
@@ -29,19 +29,19 @@ any-append p (x ∷ xs) ys = ap (λ b. p x || b) (any-append p xs ys) ∙ or_ass
 any-push : {X : Type 0} (p : X → Bool) (xs : List X) (x : X) → list_any p (xs ++ x ∷ []) ≡ (list_any p xs || p x)
 any-push p xs x = any-append p xs (x ∷ []) ∙ ap (λ b. list_any p xs || b) (or_none (p x))
 
-pub without-absent : {X : Type 0} (p : X → Bool) (xs : List X) → list_any p xs ≡ false → without p xs ≡ xs
+pub without-absent : {X : Type 0} (p : X → Bool) (xs : List X) → list_any p xs ≡ false → without_waiting p xs ≡ xs
 without-absent p [] h = refl
 without-absent p (x ∷ xs) h =
     let f = or_false (p x) (list_any p xs) h in
-    ap (λ b. cond b xs (x ∷ without p xs)) f.0 ∙ ap (λ ys. x ∷ ys) (without-absent p xs f.1)
+    ap (λ b. cond b xs (x ∷ without_waiting p xs)) f.0 ∙ ap (λ ys. x ∷ ys) (without-absent p xs f.1)
 
-any-less : {X : Type 0} (p t : X → Bool) (xs : List X) → list_any p xs ≡ false → list_any p (without t xs) ≡ false
+any-less : {X : Type 0} (p t : X → Bool) (xs : List X) → list_any p xs ≡ false → list_any p (without_waiting t xs) ≡ false
 any-less p t [] h = refl
 any-less p t (x ∷ xs) h = by (t x) (or_false (p x) (list_any p xs) h) (any-less p t xs)
   where
-    by : (b : Bool) → (p x ≡ false) × (list_any p xs ≡ false) → (list_any p xs ≡ false → list_any p (without t xs) ≡ false) → list_any p (cond b xs (x ∷ without t xs)) ≡ false
+    by : (b : Bool) → (p x ≡ false) × (list_any p xs ≡ false) → (list_any p xs ≡ false → list_any p (without_waiting t xs) ≡ false) → list_any p (cond b xs (x ∷ without_waiting t xs)) ≡ false
     by true f rest = f.1
-    by false f rest = ap (λ b. b || list_any p (without t xs)) f.0 ∙ rest f.1
+    by false f rest = ap (λ b. b || list_any p (without_waiting t xs)) f.0 ∙ rest f.1
 
 once-push : (ks : List Key) (k : Key) → AreOnce ks → list_any (same_key k) ks ≡ false → AreOnce (ks ++ k ∷ [])
 once-push [] k h a = (refl, tt)
@@ -49,15 +49,15 @@ once-push (j ∷ js) k h a =
     let f = or_false (same_key k j) (list_any (same_key k) js) a in
     (any-push (same_key j) js k ∙ ap (λ b. b || same_key j k) h.0 ∙ (same_key_equivalence.symm j k ∙ f.0), once-push js k h.1 f.1)
 
-once-without : (k : Key) (ks : List Key) → AreOnce ks → AreOnce (without (same_key k) ks)
+once-without : (k : Key) (ks : List Key) → AreOnce ks → AreOnce (without_waiting (same_key k) ks)
 once-without k [] h = tt
 once-without k (j ∷ js) h = by (same_key k j) (once-without k js h.1)
   where
-    by : (b : Bool) → AreOnce (without (same_key k) js) → AreOnce (cond b js (j ∷ without (same_key k) js))
+    by : (b : Bool) → AreOnce (without_waiting (same_key k) js) → AreOnce (cond b js (j ∷ without_waiting (same_key k) js))
     by true rest = h.1
     by false rest = (any-less (same_key j) (same_key k) js h.0, rest)
 
-any-without : (k q : Key) (ks : List Key) → AreOnce ks → list_any (same_key q) (without (same_key k) ks) ≡ cond (same_key k q) false (list_any (same_key q) ks)
+any-without : (k q : Key) (ks : List Key) → AreOnce ks → list_any (same_key q) (without_waiting (same_key k) ks) ≡ cond (same_key k q) false (list_any (same_key q) ks)
 any-without k q [] h = by (same_key k q)
   where
     by : (b : Bool) → false ≡ cond b false false
@@ -65,10 +65,10 @@ any-without k q [] h = by (same_key k q)
     by false = refl
 any-without k q (j ∷ js) h = by (same_key k j) (same_key k q) refl refl (any-without k q js h.1)
   where
-    by : (b c : Bool) → same_key k j ≡ b → same_key k q ≡ c → list_any (same_key q) (without (same_key k) js) ≡ cond (same_key k q) false (list_any (same_key q) js) → list_any (same_key q) (cond b js (j ∷ without (same_key k) js)) ≡ cond c false (same_key q j || list_any (same_key q) js)
+    by : (b c : Bool) → same_key k j ≡ b → same_key k q ≡ c → list_any (same_key q) (without_waiting (same_key k) js) ≡ cond (same_key k q) false (list_any (same_key q) js) → list_any (same_key q) (cond b js (j ∷ without_waiting (same_key k) js)) ≡ cond c false (same_key q j || list_any (same_key q) js)
     by true true e f rest = subst (λ (x : Key). list_any (same_key x) js ≡ false) (sym (key_is k j e) ∙ key_is k q f) h.0
     by true false e f rest = sym (ap (λ b. b || list_any (same_key q) js) (subst (λ (x : Key). same_key q x ≡ false) (key_is k j e) (same_key_equivalence.symm q k ∙ f)))
-    by false true e f rest = ap (λ b. b || list_any (same_key q) (without (same_key k) js)) (subst (λ (x : Key). same_key x j ≡ false) (key_is k q f) e) ∙ (rest ∙ ap (λ b. cond b false (list_any (same_key q) js)) f)
+    by false true e f rest = ap (λ b. b || list_any (same_key q) (without_waiting (same_key k) js)) (subst (λ (x : Key). same_key x j ≡ false) (key_is k q f) e) ∙ (rest ∙ ap (λ b. cond b false (list_any (same_key q) js)) f)
     by false false e f rest = ap (λ b. same_key q j || b) (rest ∙ ap (λ b. cond b false (list_any (same_key q) js)) f)
 
 pub once-append : (xs ys : List Key) → AreOnce xs → AreOnce ys → ((q : Key) → list_any (same_key q) xs ≡ true → list_any (same_key q) ys ≡ false) → AreOnce (xs ++ ys)
@@ -84,11 +84,11 @@ pub keys-marks : (stage : Key → Option Stage) (ks : List Key) → map (λ (t :
 keys-marks stage [] = refl
 keys-marks stage (j ∷ js) = ap (λ ys. j ∷ ys) (keys-marks stage js)
 
-pub marks-without : (stage : Key → Option Stage) (k : Key) (ks : List Key) → marks stage (without (same_key k) ks) ≡ without (is_of k) (marks stage ks)
+pub marks-without : (stage : Key → Option Stage) (k : Key) (ks : List Key) → marks stage (without_waiting (same_key k) ks) ≡ without_waiting (is_of k) (marks stage ks)
 marks-without stage k [] = refl
 marks-without stage k (j ∷ js) = by (same_key k j) (marks-without stage k js)
   where
-    by : (b : Bool) → marks stage (without (same_key k) js) ≡ without (is_of k) (marks stage js) → marks stage (cond b js (j ∷ without (same_key k) js)) ≡ cond b (marks stage js) ((record { key = j; again = is_again (stage j) }) ∷ without (is_of k) (marks stage js))
+    by : (b : Bool) → marks stage (without_waiting (same_key k) js) ≡ without_waiting (is_of k) (marks stage js) → marks stage (cond b js (j ∷ without_waiting (same_key k) js)) ≡ cond b (marks stage js) ((record { key = j; again = is_again (stage j) }) ∷ without_waiting (is_of k) (marks stage js))
     by true rest = refl
     by false rest = ap (λ ys. (record { key = j; again = is_again (stage j) }) ∷ ys) rest
 
@@ -129,7 +129,7 @@ module _ (stage after : Key → Option Stage) (k : Key) (s : Option Stage) (set 
       by q false e = ap (λ b. test (stage q) || b) (same_key_equivalence.symm q k ∙ e) ∙ (or_none (test (stage q)) ∙ sym (ap test (after_other q e)))
 
   -- the list from which k goes
-  pub lane-drop : (test : Option Stage → Bool) (ks : List Key) → test s ≡ false → IsLane test stage ks → IsLane test after (without (same_key k) ks)
+  pub lane-drop : (test : Option Stage → Bool) (ks : List Key) → test s ≡ false → IsLane test stage ks → IsLane test after (without_waiting (same_key k) ks)
   lane-drop test ks off l = record { says = λ q. any-without k q ks l.once ∙ (ap (λ b. cond (same_key k q) false b) (l.says q) ∙ by q (same_key k q) refl); once = once-without k ks l.once }
     where
       by : (q : Key) (b : Bool) → same_key k q ≡ b → cond b false (test (stage q)) ≡ test (after q)
@@ -138,7 +138,7 @@ module _ (stage after : Key → Option Stage) (k : Key) (s : Option Stage) (set 
 
   -- the same, where k is the first
   pub lane-pop : (test : Option Stage → Bool) (ks : List Key) → test s ≡ false → IsLane test stage (k ∷ ks) → IsLane test after ks
-  lane-pop test ks off l = subst (IsLane test after) (ap (λ b. cond b ks (k ∷ without (same_key k) ks)) (same_key_itself k)) (lane-drop test (k ∷ ks) off l)
+  lane-pop test ks off l = subst (IsLane test after) (ap (λ b. cond b ks (k ∷ without_waiting (same_key k) ks)) (same_key_itself k)) (lane-drop test (k ∷ ks) off l)
 
   pub marks-other : (ks : List Key) → list_any (same_key k) ks ≡ false → marks after ks ≡ marks stage ks
   marks-other [] h = refl
@@ -149,9 +149,9 @@ module _ (stage after : Key → Option Stage) (k : Key) (s : Option Stage) (set 
       λ i. (record { key = j; again = is_again (same i) }) ∷ rest i
 
   -- k leaves the taken keys
-  pub marks-drop : (ks : List Key) → AreOnce ks → marks after (without (same_key k) ks) ≡ without (is_of k) (marks stage ks)
+  pub marks-drop : (ks : List Key) → AreOnce ks → marks after (without_waiting (same_key k) ks) ≡ without_waiting (is_of k) (marks stage ks)
   marks-drop ks once =
-      marks-other (without (same_key k) ks) (any-without k k ks once ∙ ap (λ b. cond b false (list_any (same_key k) ks)) (same_key_itself k)) ∙ marks-without stage k ks
+      marks-other (without_waiting (same_key k) ks) (any-without k k ks once ∙ ap (λ b. cond b false (list_any (same_key k) ks)) (same_key_itself k)) ∙ marks-without stage k ks
 
   -- k comes to the taken keys
   pub marks-come : (ks : List Key) → is_again s ≡ false → list_any (same_key k) ks ≡ false → marks after (ks ++ k ∷ []) ≡ marks stage ks ++ (record { key = k; again = false }) ∷ []

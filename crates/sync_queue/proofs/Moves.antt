@@ -6,7 +6,7 @@ use Rattle.sync_queue.specs.declared.lanes.Stage.{Stage}
 use Rattle.sync_queue.specs.declared.lanes.Stage.TheVariants.{Waiting, Again, Parked}
 use Rattle.sync_queue.specs.declared.lanes.Stage.TheVariants.{Taken as Begun}
 use Rattle.kube_types.specs.Keys.{same_key}
-use Rattle.sync_queue.specs.Work.{Work, AreOnce, StandsOnce, without, queued, set_aside, marked, unparked, released, begun}
+use Rattle.sync_queue.specs.Work.{Work, AreOnce, StandsOnce, without_waiting, queued, put_aside, marked, unparked, released, begun}
 use Rattle.sync_queue.specs.Steps.Lanes.{woken_first, AreLanes, IsSet, work_of, is_taken, is_waiting, is_parked}
 use Rattle.kube_types.proofs.SameKeys.{same_key_itself}
 use Rattle.sync_queue.proofs.LaneFacts.{lane-kept, lane-push, lane-drop, lane-pop, marks-other, marks-drop, marks-come, marks-mark, once-append, any-append, keys-marks}
@@ -63,23 +63,23 @@ module _ (stage after : Key → Option Stage) (k : Key) (ws ts ps : List Key) (s
         work = ap (λ ms. record { waiting = ws; taken = ms; parked = ps }) (marks-mark stage after k (Some Again) set ts refl);
       }
 
-  pub unpark-moved : IsSet stage k (Some Waiting) after → is_parked (stage k) ≡ true → (ws' ps' : List Key) → ws' ≡ ws ++ k ∷ [] → ps' ≡ without (same_key k) ps → Moved after ws' ts ps' (queued k (unparked k (work_of stage ws ts ps)))
+  pub unpark-moved : IsSet stage k (Some Waiting) after → is_parked (stage k) ≡ true → (ws' ps' : List Key) → ws' ≡ ws ++ k ∷ [] → ps' ≡ without_waiting (same_key k) ps → Moved after ws' ts ps' (queued k (unparked k (work_of stage ws ts ps)))
   unpark-moved set at ws' ps' e f =
       let other = parked_alone (stage k) at in
-      let move : Moved after (ws ++ k ∷ []) ts (without (same_key k) ps) (queued k (unparked k (work_of stage ws ts ps))) = record {
+      let move : Moved after (ws ++ k ∷ []) ts (without_waiting (same_key k) ps) (queued k (unparked k (work_of stage ws ts ps))) = record {
         lanes = record {
           waiting = lane-push stage after k (Some Waiting) set is_waiting ws other.0 refl sound.waiting;
           taken = lane-kept stage after k (Some Waiting) set is_taken ts other.1 sound.taken;
           parked = lane-drop stage after k (Some Waiting) set is_parked ps refl sound.parked;
         };
-        work = ap (λ ms. record { waiting = ws ++ k ∷ []; taken = ms; parked = without (same_key k) ps }) (marks-other stage after k (Some Waiting) set ts (sound.taken.says k ∙ other.1));
+        work = ap (λ ms. record { waiting = ws ++ k ∷ []; taken = ms; parked = without_waiting (same_key k) ps }) (marks-other stage after k (Some Waiting) set ts (sound.taken.says k ∙ other.1));
       } in
       subst (λ vs. Moved after vs ts ps' (queued k (unparked k (work_of stage ws ts ps)))) (sym e) (subst (λ vs. Moved after (ws ++ k ∷ []) ts vs (queued k (unparked k (work_of stage ws ts ps)))) (sym f) move)
 
-  pub requeue-moved : IsSet stage k (Some Waiting) after → is_taken (stage k) ≡ true → (ws' ts' : List Key) → ws' ≡ ws ++ k ∷ [] → ts' ≡ without (same_key k) ts → Moved after ws' ts' ps (queued k (released k (work_of stage ws ts ps)))
+  pub requeue-moved : IsSet stage k (Some Waiting) after → is_taken (stage k) ≡ true → (ws' ts' : List Key) → ws' ≡ ws ++ k ∷ [] → ts' ≡ without_waiting (same_key k) ts → Moved after ws' ts' ps (queued k (released k (work_of stage ws ts ps)))
   requeue-moved set at ws' ts' e f =
       let other = taken_alone (stage k) at in
-      let move : Moved after (ws ++ k ∷ []) (without (same_key k) ts) ps (queued k (released k (work_of stage ws ts ps))) = record {
+      let move : Moved after (ws ++ k ∷ []) (without_waiting (same_key k) ts) ps (queued k (released k (work_of stage ws ts ps))) = record {
         lanes = record {
           waiting = lane-push stage after k (Some Waiting) set is_waiting ws other.0 refl sound.waiting;
           taken = lane-drop stage after k (Some Waiting) set is_taken ts refl sound.taken;
@@ -89,10 +89,10 @@ module _ (stage after : Key → Option Stage) (k : Key) (ws ts ps : List Key) (s
       } in
       subst (λ vs. Moved after vs ts' ps (queued k (released k (work_of stage ws ts ps)))) (sym e) (subst (λ vs. Moved after (ws ++ k ∷ []) vs ps (queued k (released k (work_of stage ws ts ps)))) (sym f) move)
 
-  pub park-moved : IsSet stage k (Some Parked) after → is_taken (stage k) ≡ true → (ts' ps' : List Key) → ts' ≡ without (same_key k) ts → ps' ≡ ps ++ k ∷ [] → Moved after ws ts' ps' (set_aside k (released k (work_of stage ws ts ps)))
+  pub park-moved : IsSet stage k (Some Parked) after → is_taken (stage k) ≡ true → (ts' ps' : List Key) → ts' ≡ without_waiting (same_key k) ts → ps' ≡ ps ++ k ∷ [] → Moved after ws ts' ps' (put_aside k (released k (work_of stage ws ts ps)))
   park-moved set at ts' ps' e f =
       let other = taken_alone (stage k) at in
-      let move : Moved after ws (without (same_key k) ts) (ps ++ k ∷ []) (set_aside k (released k (work_of stage ws ts ps))) = record {
+      let move : Moved after ws (without_waiting (same_key k) ts) (ps ++ k ∷ []) (put_aside k (released k (work_of stage ws ts ps))) = record {
         lanes = record {
           waiting = lane-kept stage after k (Some Parked) set is_waiting ws other.0 sound.waiting;
           taken = lane-drop stage after k (Some Parked) set is_taken ts refl sound.taken;
@@ -100,12 +100,12 @@ module _ (stage after : Key → Option Stage) (k : Key) (ws ts ps : List Key) (s
         };
         work = ap (λ ms. record { waiting = ws; taken = ms; parked = ps ++ k ∷ [] }) (marks-drop stage after k (Some Parked) set ts sound.taken.once);
       } in
-      subst (λ vs. Moved after ws vs ps' (set_aside k (released k (work_of stage ws ts ps)))) (sym e) (subst (λ vs. Moved after ws (without (same_key k) ts) vs (set_aside k (released k (work_of stage ws ts ps)))) (sym f) move)
+      subst (λ vs. Moved after ws vs ps' (put_aside k (released k (work_of stage ws ts ps)))) (sym e) (subst (λ vs. Moved after ws (without_waiting (same_key k) ts) vs (put_aside k (released k (work_of stage ws ts ps)))) (sym f) move)
 
-  pub release-moved : IsSet stage k None after → is_taken (stage k) ≡ true → (ts' : List Key) → ts' ≡ without (same_key k) ts → Moved after ws ts' ps (released k (work_of stage ws ts ps))
+  pub release-moved : IsSet stage k None after → is_taken (stage k) ≡ true → (ts' : List Key) → ts' ≡ without_waiting (same_key k) ts → Moved after ws ts' ps (released k (work_of stage ws ts ps))
   release-moved set at ts' e =
       let other = taken_alone (stage k) at in
-      let move : Moved after ws (without (same_key k) ts) ps (released k (work_of stage ws ts ps)) = record {
+      let move : Moved after ws (without_waiting (same_key k) ts) ps (released k (work_of stage ws ts ps)) = record {
         lanes = record {
           waiting = lane-kept stage after k None set is_waiting ws other.0 sound.waiting;
           taken = lane-drop stage after k None set is_taken ts refl sound.taken;

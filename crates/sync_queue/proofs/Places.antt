@@ -4,7 +4,7 @@ use Rattle.std.specs.List.{position_or_len, list_any}
 use Rattle.std.specs.Prelude.{remove, slice_index_or}
 use Rattle.std.specs.Map.{keys_of}
 use Rattle.indexmap.proofs.MapLemmas.{Found-position}
-use Rattle.sync_queue.specs.Work.{without}
+use Rattle.sync_queue.specs.Work.{without_waiting}
 
 module _ {K X : Type 0} (t : K → Bool) where
   -- the entry at the place passes the test
@@ -32,10 +32,10 @@ or_false true b h = absurd (true≢false h)
 or_false false b h = (refl, h)
 
 module _ {X : Type 0} (p : X → Bool) where
-  -- the item at the first place that passes is the one that `without` leaves out
-  pub remove-first : (xs : List X) (i : ℕ) → list_any p (take i xs) ≡ false → i < length xs → ((d : X) → p (slice_index_or xs i d) ≡ true) → remove xs i ≡ without p xs
+  -- the item at the first place that passes is the one that `without_waiting` leaves out
+  pub remove-first : (xs : List X) (i : ℕ) → list_any p (take i xs) ≡ false → i < length xs → ((d : X) → p (slice_index_or xs i d) ≡ true) → remove xs i ≡ without_waiting p xs
   remove-first [] i before within at = absurd (omega arith)
-  remove-first (x ∷ xs) zero before within at = sym (ap (λ b. cond b xs (x ∷ without p xs)) (at x))
+  remove-first (x ∷ xs) zero before within at = sym (ap (λ b. cond b xs (x ∷ without_waiting p xs)) (at x))
   remove-first (x ∷ xs) (suc i) before within at =
       let h = or_false (p x) (list_any p (take i xs)) before in
-      ap (λ ys. x ∷ ys) (remove-first xs i h.1 (omega arith) at) ∙ sym (ap (λ b. cond b xs (x ∷ without p xs)) h.0)
+      ap (λ ys. x ∷ ys) (remove-first xs i h.1 (omega arith) at) ∙ sym (ap (λ b. cond b xs (x ∷ without_waiting p xs)) h.0)

@@ -21,9 +21,9 @@ abbrev pub no_work : Work
 no_work = record { waiting = []; taken = []; parked = [] }
 
 -- the list without the first item that passes the test (of a key that stands once: without the key)
-abbrev pub without : {X : Type 0} → (X → Bool) → List X → List X
-without test [] = []
-without test (x ∷ xs) = if test x then xs else x ∷ without test xs
+abbrev pub without_waiting : {X : Type 0} → (X → Bool) → List X → List X
+without_waiting test [] = []
+without_waiting test (x ∷ xs) = if test x then xs else x ∷ without_waiting test xs
 
 -- the taken key is this one
 abbrev pub is_of : Key → Taken → Bool
@@ -43,8 +43,8 @@ abbrev pub queued : Key → Work → Work
 queued k w = record { waiting = w.waiting ++ k ∷ []; taken = w.taken; parked = w.parked }
 
 -- the key is parked, behind all others
-abbrev pub set_aside : Key → Work → Work
-set_aside k w = record { waiting = w.waiting; taken = w.taken; parked = w.parked ++ k ∷ [] }
+abbrev pub put_aside : Key → Work → Work
+put_aside k w = record { waiting = w.waiting; taken = w.taken; parked = w.parked ++ k ∷ [] }
 
 -- the key is taken, and will come again
 abbrev pub marked : Key → Work → Work
@@ -52,7 +52,7 @@ marked k w = record { waiting = w.waiting; taken = map (mark k) w.taken; parked 
 
 -- the key is not parked any more
 abbrev pub unparked : Key → Work → Work
-unparked k w = record { waiting = w.waiting; taken = w.taken; parked = without (same_key k) w.parked }
+unparked k w = record { waiting = w.waiting; taken = w.taken; parked = without_waiting (same_key k) w.parked }
 
 -- client-go util/workqueue, Add: what is dirty already stays, what is in processing comes again, the rest goes last
 abbrev pub added : Key → Work → Work
@@ -77,7 +77,7 @@ begun w = begin_oldest w.waiting w
 
 -- client-go util/workqueue, Done: the key is not in processing any more
 abbrev pub released : Key → Work → Work
-released k w = record { waiting = w.waiting; taken = without (is_of k) w.taken; parked = w.parked }
+released k w = record { waiting = w.waiting; taken = without_waiting (is_of k) w.taken; parked = w.parked }
 
 -- by whether the key is dirty
 abbrev pub done_by : Option Bool → Key → Work → Work
@@ -92,7 +92,7 @@ finished k w = done_by (mark_of k w.taken) k w
 -- by whether the key is dirty
 abbrev pub retry_by : Option Bool → Key → Work → Work
 retry_by None k w = w
-retry_by (Some false) k w = set_aside k (released k w)
+retry_by (Some false) k w = put_aside k (released k w)
 retry_by (Some true) k w = queued k (released k w)
 
 -- a choice of this project, where client-go has AddRateLimited: a key that was not added again is parked

@@ -7,7 +7,7 @@ ghost use Rattle.std.specs.VecDeque.{deque_len, deque_capacity};
 ghost use Rattle.indexmap.specs.IndexMap.{get, ContainsKey};
 ghost use Rattle.kube_types.specs.Keys.{same_key};
 ghost use Rattle.sync_queue.specs.Steps.Lanes.{woken_first, IsSet, IsSound, HasRoomForOne, is_taken, is_parked, stage_in, work_in};
-ghost use Rattle.sync_queue.specs.Work.{without, no_work, queued, set_aside, marked, unparked, released, oldest_of, begun};
+ghost use Rattle.sync_queue.specs.Work.{without_waiting, no_work, queued, put_aside, marked, unparked, released, oldest_of, begun};
 
 use crate::slot::Slot;
 use indexmap::IndexMap;
@@ -136,7 +136,7 @@ impl Lanes {
         requires sound { IsSound self.old }
         requires taken { is_taken (stage_in self.old key.now) ≡ true }
         ensures sound { IsSound self.new }
-        ensures work { work_in self.new ≡ set_aside key.now (released key.now (work_in self.old)) }
+        ensures work { work_in self.new ≡ put_aside key.now (released key.now (work_in self.old)) }
     {
         let own = take_out(&mut self.taken, key);
         set_stage(&mut self.stages, key, Stage::Parked);
@@ -260,7 +260,7 @@ fn place_in(list: &VecDeque<Key>, key: &Key) -> usize
 pub(crate) fn take_out(list: &mut VecDeque<Key>, key: &Key) -> Key
     requires { IsTrue (list_any (same_key key.now) list.old.items) }
     ensures key { result ≡ key.now }
-    ensures items { list.new.items ≡ without (same_key key.now) list.old.items }
+    ensures items { list.new.items ≡ without_waiting (same_key key.now) list.old.items }
     ensures len { deque_len list.new + 1 ≡ deque_len list.old }
     ensures capacity { deque_capacity list.new ≡ deque_capacity list.old }
 {

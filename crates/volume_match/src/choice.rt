@@ -14,6 +14,26 @@ use kube_types::objects::{Claim, Node, Object, Volume};
 use kube_types::parts::{Kind, Modes};
 use std::cmp::Ordering;
 
+/// Places among the volumes.
+pub trait Places {
+    ghost use Rattle.std.specs.Prelude.{◌≡◌, List, ℕ};
+    ghost use Rattle.binder_model.specs.Matching.{is_excluded};
+
+    ghost places: { Self → List ℕ };
+
+    /// Whether this place is one of them.
+    fn hold(&self, place: usize) -> bool
+        ensures { result ≡ is_excluded (places self.now) place };
+}
+
+impl<'a> Places for &'a [usize] {
+    ghost places = { λ p. p.now };
+
+    fn hold(&self, place: usize) -> bool {
+        is_excluded(self, place)
+    }
+}
+
 /// The place, among the volumes of the look-up, of the best eligible volume: those for the claim
 /// first, then those with fewer access modes, then the smaller ones, then by name. Places in
 /// `excluded` are passed over; with `only_own` only volumes that are for the claim are taken.
@@ -26,6 +46,19 @@ pub fn best<L: Lookup>(
 ) -> Option<usize>
     ensures { IsBest (L.rows lookup.now) claim.now (option_copied node.entry) only_own excluded.now result }
 {
+    best_outside(lookup, claim, node, only_own, &excluded)
+}
+
+/// The same, where the places that are passed over are not a list.
+pub fn best_outside<L: Lookup, P: Places>(
+    lookup: &L,
+    claim: &Claim,
+    node: Option<&Node>,
+    only_own: bool,
+    excluded: &P,
+) -> Option<usize>
+    ensures { IsBest (L.rows lookup.now) claim.now (option_copied node.entry) only_own (P.places excluded.now) result }
+{
     let mut best = None;
     for place in 0..lookup.count(Kind::PersistentVolume) {
         best = better(lookup, claim, node, only_own, excluded, best, place);
@@ -34,17 +67,17 @@ pub fn best<L: Lookup>(
 }
 
 /// The best of the volumes up to this place and with it, where `before` is the best of those before.
-fn better<L: Lookup>(
+fn better<L: Lookup, P: Places>(
     lookup: &L,
     claim: &Claim,
     node: Option<&Node>,
     only_own: bool,
-    excluded: &[usize],
+    excluded: &P,
     before: Option<usize>,
     place: usize,
 ) -> Option<usize>
-    requires { IsBestBelow (L.rows lookup.now) claim.now (option_copied node) only_own excluded.now place before }
-    ensures { IsBestBelow (L.rows lookup.now) claim.now (option_copied node.entry) only_own excluded.now (place + 1) result }
+    requires { IsBestBelow (L.rows lookup.now) claim.now (option_copied node) only_own (P.places excluded.now) place before }
+    ensures { IsBestBelow (L.rows lookup.now) claim.now (option_copied node.entry) only_own (P.places excluded.now) (place + 1) result }
 {
     match volume_at(lookup, place) {
         None => before,
@@ -71,19 +104,17 @@ fn volume_at<L: Lookup>(lookup: &L, place: usize) -> Option<&Volume>
 }
 
 /// Whether the volume at this place may be taken.
-fn is_open(
+fn is_open<P: Places>(
     volume: &Volume,
     claim: &Claim,
     node: Option<&Node>,
     only_own: bool,
-    excluded: &[usize],
+    excluded: &P,
     place: usize,
 ) -> bool
-    ensures { result ≡ is_open claim.now (option_copied node.entry) only_own excluded.now place volume.now }
+    ensures { result ≡ is_open claim.now (option_copied node.entry) only_own (P.places excluded.now) place volume.now }
 {
-    !is_excluded(excluded, place)
-        && (!only_own || is_for(volume, claim))
-        && satisfies(volume, claim, node)
+    !excluded.hold(place) && (!only_own || is_for(volume, claim)) && satisfies(volume, claim, node)
 }
 
 fn is_excluded(excluded: &[usize], place: usize) -> bool
@@ -119,11 +150,15 @@ fn is_preferred<L: Lookup>(
 fn compare(claim: &Claim, left: &Volume, right: &Volume) -> Ordering
     ensures { result ≡ match_cmp claim.now left.now right.now }
 {
-    for_last(left, claim)
+    let order = for_last(left, claim)
         .cmp(&for_last(right, claim))
         .then(mode_count(left.modes).cmp(&mode_count(right.modes)))
-        .then(left.amount.bytes.cmp(&right.amount.bytes))
-        .then(left.meta.name.as_str().cmp(right.meta.name.as_str()))
+        .then(left.amount.bytes.cmp(&right.amount.bytes));
+    match order {
+        Ordering::Less => Ordering::Less,
+        Ordering::Equal => left.meta.name.as_str().cmp(right.meta.name.as_str()),
+        Ordering::Greater => Ordering::Greater,
+    }
 }
 
 fn for_last(volume: &Volume, claim: &Claim) -> u8

@@ -16,12 +16,15 @@ use label_rules::{admits, selects};
 pub fn satisfies(volume: &Volume, claim: &Claim, node: Option<&Node>) -> bool
     ensures { result ≡ eligible volume.now claim.now (option_copied node.entry) }
 {
+    // What costs least is asked first: most volumes are too small, or serve another claim.
+    if claim.amount.bytes > volume.amount.bytes || !may_serve(volume, claim) {
+        return false;
+    }
     !is_deleting(&volume.meta)
         && is_protected_volume(volume)
         && fits(volume, claim)
         && is_selected(&claim.selector, &volume.meta.labels)
         && is_admitted_on(volume, node)
-        && may_serve(volume, claim)
 }
 
 /// Whether the volume has the size, the class, the volume mode and the access modes of the claim.

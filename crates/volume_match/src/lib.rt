@@ -9,6 +9,6 @@ mod choice;
 mod eligible;
 mod named;
 
-pub use choice::best;
+pub use choice::{Places, best, best_outside};
 pub use eligible::{covers, fits, satisfies};
 pub use named::{place_named, row_named, waits_for_pod};

@@ -12,7 +12,7 @@ use Rattle.case_table.specs.Cases.{action_of}
 use Rattle.volume_sync.specs.declared.action.VolumeAction.{VolumeAction}
 use Rattle.volume_sync.specs.declared.action.VolumeAction.TheVariants as actions
 use Rattle.volume_sync.specs.VolumeTable.{action_number, action_numbered, volume_rows}
-use Rattle.volume_sync.specs.VolumeDecision.{free_action, has_uid, referred_action, seen_claim, volume_decision}
+use Rattle.volume_sync.specs.VolumeDecision.{free_action, refers_by_uid, referred_action, seen_claim, volume_decision}
 use Rattle.volume_sync.specs.Steps.Conditions.{conditions_on, is_settled, names, names_none, volume_conditions}
 use Rattle.volume_sync.proofs.Rows.{chosen, rows_say}
 
@@ -25,14 +25,14 @@ numbered_back actions.Release = refl
 numbered_back actions.Unbind = refl
 numbered_back actions.QueueClaim = refl
 
-chosen_is : (v : VolumeData) (asked : Bool) (claim : Option ClaimData) → chosen (has_uid v) (is_available v.phase) (is_ended v.phase) (is_some claim) asked (names_none claim) (names claim v) (is_settled v) (is_reclaimed v) ≡ (if not (has_uid v) then free_action v else if is_ended v.phase then actions.Nothing else referred_action v asked claim)
+chosen_is : (v : VolumeData) (asked : Bool) (claim : Option ClaimData) → chosen (refers_by_uid v) (is_available v.phase) (is_ended v.phase) (is_some claim) asked (names_none claim) (names claim v) (is_settled v) (is_reclaimed v) ≡ (if not (refers_by_uid v) then free_action v else if is_ended v.phase then actions.Nothing else referred_action v asked claim)
 chosen_is v asked None = refl
 chosen_is v asked (Some c) = refl
 
 pub picks : (rows : List Object) (v : VolumeData) (live : Live) → action_of volume_rows (volume_conditions rows v live) ≡ action_number (volume_decision rows v live)
 unfolding conditions_on volume_decision
 picks rows v live =
-    rows_say (has_uid v) (is_available v.phase) (is_ended v.phase) (is_some (seen_claim rows v live)) (is_asked live) (names_none (seen_claim rows v live)) (names (seen_claim rows v live) v) (is_settled v) (is_reclaimed v)
+    rows_say (refers_by_uid v) (is_available v.phase) (is_ended v.phase) (is_some (seen_claim rows v live)) (is_asked live) (names_none (seen_claim rows v live)) (names (seen_claim rows v live) v) (is_settled v) (is_reclaimed v)
     ∙ ap action_number (chosen_is v (is_asked live) (seen_claim rows v live))
 
 -- what the code reads off the table is the decision

@@ -18,8 +18,8 @@ use Rattle.volume_sync.specs.declared.action.VolumeAction.{VolumeAction}
 use Rattle.volume_sync.specs.declared.action.VolumeAction.TheVariants.{Nothing, ReadClaim, Available, Bound, Release, Unbind, QueueClaim}
 
 -- the reference names a claim with its UID
-abbrev pub has_uid : VolumeData → Bool
-has_uid v = is_some (ref_uid v.claim_ref)
+abbrev pub refers_by_uid : VolumeData → Bool
+refers_by_uid v = is_some (ref_uid v.claim_ref)
 
 -- the claim of the UID, as it was read by itself
 abbrev pub live_claim : Uid → Live → Option ClaimData
@@ -67,6 +67,6 @@ referred_action v asked (Some c) = claimed_action v c
 -- the decision
 unfoldable pub volume_decision : List Object → VolumeData → Live → VolumeAction
 volume_decision rows v live =
-    if not (has_uid v) then free_action v
+    if not (refers_by_uid v) then free_action v
     else if is_ended v.phase then Nothing
     else referred_action v (is_asked live) (seen_claim rows v live)

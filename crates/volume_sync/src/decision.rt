@@ -4,7 +4,7 @@ ghost use Rattle.std.specs.Prelude.{◌≡◌, is_some};
 ghost use Rattle.std.specs.Option.{option_copied};
 ghost use Rattle.kube_types.specs.Bindings.{is_available};
 ghost use Rattle.binder_model.specs.BinderDue.{is_reclaimed};
-ghost use Rattle.volume_sync.specs.VolumeDecision.{has_uid, volume_decision};
+ghost use Rattle.volume_sync.specs.VolumeDecision.{refers_by_uid, volume_decision};
 ghost use Rattle.volume_sync.specs.Steps.Conditions.{is_settled, names, names_none, conditions_on};
 
 use crate::action::VolumeAction;
@@ -52,7 +52,7 @@ fn is_seen(claim: Option<&Claim>) -> bool
 }
 
 fn has_uid(volume: &Volume) -> bool
-    ensures { result ≡ has_uid volume.now }
+    ensures { result ≡ refers_by_uid volume.now }
 {
     match &volume.claim_ref {
         None => false,

@@ -25,7 +25,7 @@ use Rattle.worker_core.specs.Memories.{memory_after, memory_of}
 use Rattle.binder_machines.specs.KindLaw.{reads_kind}
 use Rattle.worker_core.specs.Roles.{IsBuiltKind}
 use Rattle.worker_core.specs.Stands.{AnyIsUnderWay, AreLicensed, AreOwn, GivenStands, IsUnderWay, PassStands, StandsFor, StartsSo, WentOn}
-use Rattle.worker_core.specs.States.{State, asked, call_under, given_call, read_request}
+use Rattle.worker_core.specs.States.{ActorState, asked, call_under, given_call, read_request}
 use Rattle.worker_core.specs.Tasks.{under_after}
 use Rattle.worker_core.specs.Turns.{passing}
 use Rattle.worker_core.proofs.ByKind.{start_reads_none}
@@ -48,14 +48,14 @@ call_reads_none role u mine e way call kind = task_reads_none u.task e.request k
 
 -- the memory
 
-told_memory : (s : State) (mine : List Entry) (e : Entry) (request : Request) (reply : Reply) → s.memory ≡ memory_of s.role mine → IsTold e request reply → memory_after s.role request reply s.memory ≡ memory_of s.role (e ∷ mine)
+told_memory : (s : ActorState) (mine : List Entry) (e : Entry) (request : Request) (reply : Reply) → s.memory ≡ memory_of s.role mine → IsTold e request reply → memory_after s.role request reply s.memory ≡ memory_of s.role (e ∷ mine)
 told_memory s mine e request reply is told =
     ap (memory_after s.role request reply) is
     ∙ ap (λ r. memory_after s.role request r (memory_of s.role mine)) (sym told.answered)
     ∙ ap (λ r. memory_after s.role r e.reply (memory_of s.role mine)) (sym told.asked)
     ∙ ap (λ b. if b then memory_after s.role e.request e.reply (memory_of s.role mine) else memory_of s.role mine) (sym told.told)
 
-untold_memory : (s : State) (mine : List Entry) (e : Entry) → s.memory ≡ memory_of s.role mine → e.told ≡ false → s.memory ≡ memory_of s.role (e ∷ mine)
+untold_memory : (s : ActorState) (mine : List Entry) (e : Entry) → s.memory ≡ memory_of s.role mine → e.told ≡ false → s.memory ≡ memory_of s.role (e ∷ mine)
 untold_memory s mine e is lost = is ∙ ap (λ b. if b then memory_after s.role e.request e.reply (memory_of s.role mine) else memory_of s.role mine) (sym lost)
 
 -- the whole
@@ -69,7 +69,7 @@ list_unlisted Unlisted e = refl
 list_unlisted (ListedAt version None) e = absurd (true≢false (sym (ap is_list e)))
 list_unlisted (ListedAt version (Some upto)) e = absurd (true≢false (sym (ap is_list e)))
 
-module _ (s : State) (mine : List Entry) (e : Entry) (request : Request) (built : IsBuiltKind s.role.kind) (stands : StandsFor s mine) (ask : asked s ≡ Some request) (asks_it : e.request ≡ request) (kind : e.kind ≡ s.role.kind) (own : AreOwn (e ∷ mine)) where
+module _ (s : ActorState) (mine : List Entry) (e : Entry) (request : Request) (built : IsBuiltKind s.role.kind) (stands : StandsFor s mine) (ask : asked s ≡ Some request) (asks_it : e.request ≡ request) (kind : e.kind ≡ s.role.kind) (own : AreOwn (e ∷ mine)) where
   all_licensed : AreLicensed s.role.kind (e ∷ mine)
   all_licensed = (stands.licensed, kind, subst (λ r. Licensed s.role.kind mine r) (sym asks_it) (licensed s mine request built stands ask))
 
@@ -157,7 +157,7 @@ module _ (s : State) (mine : List Entry) (e : Entry) (request : Request) (built 
       by (Some givens.Start) f eg = rest f
       by (Some (givens.Read k)) f eg = rest f.1
 
-pub lost_before : (s : State) (mine : List Entry) → StandsFor s mine → StandsFor (lost_to s) mine
+pub lost_before : (s : ActorState) (mine : List Entry) → StandsFor s mine → StandsFor (lost_to s) mine
 lost_before s mine stands = by s.given
   where
     rest : StandsFor (record s { given = None }) mine
@@ -173,7 +173,7 @@ lost_before s mine stands = by s.given
     by (Some givens.Start) = rest
     by None = rest
 
-pub woken_stands : (s : State) (mine : List Entry) → StandsFor s mine → StandsFor (woken s) mine
+pub woken_stands : (s : ActorState) (mine : List Entry) → StandsFor s mine → StandsFor (woken s) mine
 woken_stands s mine stands = record { caches = stands.caches; under_way = stands.under_way; pass = λ quiet place kind lt. absurd (omega (arith, lt)); memory = stands.memory; licensed = stands.licensed; own = stands.own; start = stands.start; given = stands.given }
 
 -- answers of functions
@@ -204,7 +204,7 @@ pub take_caches : (outcome : Outcome) (given : Reply) (request : Request) (befor
 take_caches outcome given request before after was learn mine e reply is told stands =
     learn mine e (record { told = told.told; asked = told.asked; answered = told.answered ∙ one reply given (ap reply_in (sym is ∙ was)) }) stands
 
-module _ (old new : State) (request : Request) (outcome : Outcome) (built : IsBuiltKind old.role.kind) (ask : asked old ≡ Some request) (state : new ≡ absorbed old new.caches request outcome) where
+module _ (old new : ActorState) (request : Request) (outcome : Outcome) (built : IsBuiltKind old.role.kind) (ask : asked old ≡ Some request) (state : new ≡ absorbed old new.caches request outcome) where
   pub told_by : ((mine : List Entry) (e : Entry) (reply : Reply) → outcome ≡ outcomes.Told reply → IsTold e request reply → AllStandFor old.caches mine → AllStandFor new.caches (e ∷ mine))
       → (mine : List Entry) (e : Entry) (reply : Reply) → outcome ≡ outcomes.Told reply → IsTold e request reply → e.kind ≡ old.role.kind → AreOwn (e ∷ mine) → StandsFor old mine → StandsFor new (e ∷ mine)
   told_by caches mine e reply is told kind own stands =

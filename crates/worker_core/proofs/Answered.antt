@@ -15,14 +15,14 @@ use Rattle.worker_core.specs.declared.turn.Next.{Next}
 use Rattle.worker_core.specs.declared.turn.Next.TheVariants as nexts
 use Rattle.worker_core.specs.Roles.{IsBuiltKind, kinds_of}
 use Rattle.worker_core.specs.Stands.{HasNoNews, IsLicensedAnswer, MayBeIdle, StandsFor}
-use Rattle.worker_core.specs.States.{State, asked, call_in, call_under, start_call}
+use Rattle.worker_core.specs.States.{ActorState, asked, call_in, call_under, start_call}
 use Rattle.worker_core.specs.Turns.{AfterKeys, IsTurn, TurnBy, passing, unlisted}
 use Rattle.worker_core.proofs.ByKind.{placed}
 use Rattle.worker_core.proofs.Licensed.{licensed}
 use Rattle.worker_core.proofs.Turning.{turn_stands}
 
 -- the call that a turn gives is the one that is then asked
-pub gives_asked : (s new : State) (answer : Next) → IsTurn s new answer → call_in answer ≡ asked new
+pub gives_asked : (s new : ActorState) (answer : Next) → IsTurn s new answer → call_in answer ≡ asked new
 gives_asked s new answer = by s.memory.stale s.under (start_call s.role s.memory) (unlisted s) (passing s) refl refl
   where
     keys : (w : Work) (under : Option Under) → AfterKeys s new answer w under → call_in answer ≡ asked new
@@ -39,10 +39,10 @@ gives_asked s new answer = by s.memory.stale s.under (start_call s.role s.memory
     by false None None None None is at t = keys t.work t.under t.then_
 
 -- what an actor is stays
-pub turn_role : (s new : State) (answer : Next) → IsTurn s new answer → new.role ≡ s.role
+pub turn_role : (s new : ActorState) (answer : Next) → IsTurn s new answer → new.role ≡ s.role
 turn_role s new answer = by s.memory.stale s.under (start_call s.role s.memory) (unlisted s) (passing s)
   where
-    role_of : State → Role
+    role_of : ActorState → Role
     role_of x = x.role
 
     keys : (w : Work) (under : Option Under) → AfterKeys s new answer w under → new.role ≡ s.role
@@ -58,7 +58,7 @@ turn_role s new answer = by s.memory.stale s.under (start_call s.role s.memory) 
     by false None None None (Some kind) t = ap role_of t.state
     by false None None None None t = keys t.work t.under t.then_
 
-pub answer_licensed : (s new : State) (answer : Next) (mine : List Entry) → IsBuiltKind s.role.kind → AreRows (all_objects s.caches) → StandsFor s mine → IsTurn s new answer → IsLicensedAnswer s.role.kind mine answer
+pub answer_licensed : (s new : ActorState) (answer : Next) (mine : List Entry) → IsBuiltKind s.role.kind → AreRows (all_objects s.caches) → StandsFor s mine → IsTurn s new answer → IsLicensedAnswer s.role.kind mine answer
 answer_licensed s new answer mine built order stands turn = by answer refl
   where
     same : new.role.kind ≡ s.role.kind
@@ -74,7 +74,7 @@ passed [] place e = omega arith
 passed (x ∷ xs) zero e = none_some (sym e)
 passed (x ∷ xs) (suc place) e = let h = passed xs place e in omega (arith, h)
 
-pub idle_quiet : (s new : State) (answer : Next) (mine : List Entry) → StandsFor s mine → IsTurn s new answer → answer ≡ nexts.Idle → MayBeIdle s.role s.memory mine
+pub idle_quiet : (s new : ActorState) (answer : Next) (mine : List Entry) → StandsFor s mine → IsTurn s new answer → answer ≡ nexts.Idle → MayBeIdle s.role s.memory mine
 idle_quiet s new answer mine stands turn idle = by s.memory.stale s.under (start_call s.role s.memory) (unlisted s) (passing s) refl refl turn
   where
     each : s.pass.event ≡ false → length (kinds_of s.role.kind) ≤ s.pass.behind → (k : Kind) → follows s.role.kind k ≡ true → HasNoNews k mine

@@ -7,7 +7,7 @@ use Rattle.worker_core.specs.declared.turn.Given.{Given}
 use Rattle.worker_core.specs.declared.turn.Pass.{Pass}
 use Rattle.worker_core.specs.declared.task.Under.{Under}
 use Rattle.worker_core.specs.Stands.{AnyIsUnderWay, AreOwn, GivenStands, IsNew, StandsFor, StartsSo}
-use Rattle.worker_core.specs.States.{State}
+use Rattle.worker_core.specs.States.{ActorState}
 
 nobody : AreOwn []
 nobody = record { setup = record { pools = []; faults = []; imports = [] }; past = []; seat = 0; imports = tt; short = omega arith; history = tt; own = refl }
@@ -21,7 +21,7 @@ starts_empty seats.ClaimProtect node = tt
 starts_empty seats.VolumeProtect node = tt
 starts_empty seats.Agent node = tt
 
-pub begins : (role : Role) (s : State) → IsNew role s → StandsFor s []
+pub begins : (role : Role) (s : ActorState) → IsNew role s → StandsFor s []
 begins role s new = record {
   caches = new.caches;
   under_way = subst (λ (u : Option Under). AnyIsUnderWay s.role u []) (sym new.under) tt;

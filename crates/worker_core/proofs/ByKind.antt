@@ -23,7 +23,7 @@ use Rattle.worker_core.specs.Memories.{Memory, agent_remembers, memory_after, me
 use Rattle.worker_core.specs.Roles.{IsBuiltKind, kinds_of}
 use Rattle.worker_core.specs.Rules.{TriesAreTold}
 use Rattle.worker_core.specs.Stands.{StandsFor}
-use Rattle.worker_core.specs.States.{State, agent_start, read_request, start_of}
+use Rattle.worker_core.specs.States.{ActorState, agent_start, read_request, start_of}
 
 -- a user is no actor
 pub no_user : (kind : SeatKind) → IsBuiltKind kind → kind ≢ seats.User
@@ -113,7 +113,7 @@ fresh role (e ∷ mine) other = by e.told (fresh role mine other)
     by true rest = keeps_fresh role.kind role.node e.request e.reply (memory_of role mine) other ∙ rest
     by false rest = rest
 
-pub built_fresh : (s : State) (mine : List Entry) → IsBuiltKind s.role.kind → s.role.kind ≢ seats.Agent → StandsFor s mine → s.memory.stale ≡ false
+pub built_fresh : (s : ActorState) (mine : List Entry) → IsBuiltKind s.role.kind → s.role.kind ≢ seats.Agent → StandsFor s mine → s.memory.stale ≡ false
 built_fresh s mine built other stands = ap (λ (m : Memory). m.stale) stands.memory ∙ fresh s.role mine other
 
 -- the nodes that a scheduler remembers are those that its entries tell

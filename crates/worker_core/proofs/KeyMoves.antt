@@ -9,7 +9,7 @@ use Rattle.kube_types.specs.declared.parts.Kind.{Kind}
 use Rattle.informer_cache.specs.Cache.{objects_of}
 use Rattle.informer_cache.specs.All.{AllKnown, cache_of}
 use Rattle.model_laws.proofs.Lists.{one, none_some}
-use Rattle.sync_queue.specs.Work.{Work, added, begun, done_by, finished, is_of, mark_of, oldest_of, put_off, retry_by, without}
+use Rattle.sync_queue.specs.Work.{Work, added, begun, done_by, finished, is_of, mark_of, oldest_of, put_off, retry_by, without_waiting}
 use Rattle.sync_queue.proofs.LaneFacts.{any-append}
 use Rattle.worker_core.specs.declared.task.First.{First}
 use Rattle.worker_core.specs.declared.task.First.TheVariants as firsts
@@ -29,14 +29,14 @@ only true e = refl
 only false e = e
 
 -- what is left out was there
-left_was : (key : Key) (p : Key → Bool) (xs : List Key) → list_any (same_key key) (without p xs) ≡ true → list_any (same_key key) xs ≡ true
+left_was : (key : Key) (p : Key → Bool) (xs : List Key) → list_any (same_key key) (without_waiting p xs) ≡ true → list_any (same_key key) xs ≡ true
 left_was key p [] e = e
 left_was key p (x ∷ xs) e = by (p x) e (left_was key p xs) (same_key key x) refl
   where
-    by : (b : Bool) → list_any (same_key key) (if b then xs else x ∷ without p xs) ≡ true → (list_any (same_key key) (without p xs) ≡ true → list_any (same_key key) xs ≡ true) → (c : Bool) → same_key key x ≡ c → (same_key key x || list_any (same_key key) xs) ≡ true
+    by : (b : Bool) → list_any (same_key key) (if b then xs else x ∷ without_waiting p xs) ≡ true → (list_any (same_key key) (without_waiting p xs) ≡ true → list_any (same_key key) xs ≡ true) → (c : Bool) → same_key key x ≡ c → (same_key key x || list_any (same_key key) xs) ≡ true
     by b h more true is = ap (λ c. c || list_any (same_key key) xs) is
     by true h more false is = ap (λ c. c || list_any (same_key key) xs) is ∙ h
-    by false h more false is = ap (λ c. c || list_any (same_key key) xs) is ∙ more (sym (ap (λ c. c || list_any (same_key key) (without p xs)) is) ∙ h)
+    by false h more false is = ap (λ c. c || list_any (same_key key) xs) is ∙ more (sym (ap (λ c. c || list_any (same_key key) (without_waiting p xs)) is) ∙ h)
 
 -- a key is added
 
@@ -55,7 +55,7 @@ added_parks k key w = by (list_any (is_of k) w.taken) (list_any (same_key k) w.w
     by true s et es e = rw et at e
     by false true et es e = rw (et, es) at e
     by false false et es e =
-        let f : list_any (same_key key) (without (same_key k) w.parked) ≡ true = rw (et, es) at e in
+        let f : list_any (same_key key) (without_waiting (same_key k) w.parked) ≡ true = rw (et, es) at e in
         left_was key (same_key k) w.parked f
 
 pub all_waits : (ks : List Key) (key : Key) (w : Work) → waits key w ≡ true → waits key (all_added ks w) ≡ true

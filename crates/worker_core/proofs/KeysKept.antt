@@ -23,7 +23,7 @@ use Rattle.worker_core.specs.Absorbs.{absorbed, all_added, ended_work, given_tol
 use Rattle.worker_core.specs.Memories.{Memory}
 use Rattle.worker_core.specs.Roles.{kinds_of}
 use Rattle.worker_core.specs.Rules.{AnswersKeepKeys, KeepsKeys, KeepsWaiting, Parks, TurnsKeepKeys, WakesKeepKeys, WakesKeys}
-use Rattle.worker_core.specs.States.{State, is_parked, start_call, waits}
+use Rattle.worker_core.specs.States.{ActorState, is_parked, start_call, waits}
 use Rattle.worker_core.specs.Tasks.{GivesCall, GivesNone, task_parks, under_after}
 use Rattle.worker_core.specs.Turns.{AfterKeys, Decides, Nothing, Begins, Drops, IsTurn, TurnBy, passing, unlisted}
 use Rattle.worker_core.proofs.KeyMoves.{all_parks, all_waits, begun_parks, begun_waits, cached_parks, cached_waits, dropped_parks, dropped_waits, finished_parks, finished_waits, put_off_parks, put_off_waits}
@@ -52,7 +52,7 @@ module _ (role : Role) (memory : Memory) (rows : List Object) (after : Work) (un
 
 -- turns
 
-module _ (s new : State) (answer : Next) where
+module _ (s new : ActorState) (answer : Next) where
   -- the keys stay as they were
   same_keys : new.work ≡ s.work → KeepsKeys s new answer
   same_keys same = record {
@@ -70,7 +70,7 @@ module _ (s new : State) (answer : Next) where
     parks = λ key e. decides_parks s.role s.memory (all_objects s.caches) w under key s.work d (subst (λ (x : Work). is_parked key x ≡ true) same e);
   }
 
-  abbrev work_of : State → Work
+  abbrev work_of : ActorState → Work
   work_of x = x.work
 
   pub turn_keys : IsTurn s new answer → KeepsKeys s new answer
@@ -94,29 +94,29 @@ turns_keep_keys s new answer turn = turn_keys s new answer turn
 
 -- answers
 
-module _ (s : State) (outcome : Outcome) where
-  abbrev Kept : State → Type 0
+module _ (s : ActorState) (outcome : Outcome) where
+  abbrev Kept : ActorState → Type 0
   Kept new = KeepsWaiting s new outcome
 
-  same_waiting : (new : State) → new.work ≡ s.work → Kept new
+  same_waiting : (new : ActorState) → new.work ≡ s.work → Kept new
   same_waiting new same = record {
     stays = λ key e. ap (waits key) same ∙ e;
     parks = λ key e f. absurd (true≢false (sym e ∙ ap (is_parked key) same ∙ f));
   }
 
-  added_waiting : (new : State) (ks : List Key) → new.work ≡ all_added ks s.work → Kept new
+  added_waiting : (new : ActorState) (ks : List Key) → new.work ≡ all_added ks s.work → Kept new
   added_waiting new ks same = record {
     stays = λ key e. ap (waits key) same ∙ all_waits ks key s.work e;
     parks = λ key e f. absurd (true≢false (sym (all_parks ks key s.work (sym (ap (is_parked key) same) ∙ e)) ∙ f));
   }
 
-  finished_waiting : (new : State) (k : Key) → new.work ≡ finished k s.work → Kept new
+  finished_waiting : (new : ActorState) (k : Key) → new.work ≡ finished k s.work → Kept new
   finished_waiting new k same = record {
     stays = λ key e. ap (waits key) same ∙ finished_waits k key s.work e;
     parks = λ key e f. absurd (true≢false (sym (finished_parks k key s.work (sym (ap (is_parked key) same) ∙ e)) ∙ f));
   }
 
-  put_off_waiting : (new : State) (u : Under) → s.under ≡ Some u → s.given ≡ Some givens.Task → Parks outcome u → new.work ≡ put_off u.key s.work → Kept new
+  put_off_waiting : (new : ActorState) (u : Under) → s.under ≡ Some u → s.given ≡ Some givens.Task → Parks outcome u → new.work ≡ put_off u.key s.work → Kept new
   put_off_waiting new u there given why same = record {
     stays = λ key e. ap (waits key) same ∙ put_off_waits u.key key s.work e;
     parks = λ key e f. elim (put_off_parks u.key key s.work (sym (ap (is_parked key) same) ∙ e)) [
@@ -125,12 +125,12 @@ module _ (s : State) (outcome : Outcome) where
     ];
   }
 
-module _ (s : State) (caches : AllKnown) (request : Request) (reply : Reply) where
+module _ (s : ActorState) (caches : AllKnown) (request : Request) (reply : Reply) where
   task_keeps : (u : Option Under) → s.under ≡ u → s.given ≡ Some givens.Task → KeepsWaiting s (task_told (learned s caches request reply) reply u) (outcomes.Told reply)
   task_keeps None there given = same_waiting s (outcomes.Told reply) _ refl
   task_keeps (Some u) there given = goes (is_some (under_after u reply)) refl
     where
-      new : State
+      new : ActorState
       new = task_told (learned s caches request reply) reply (Some u)
 
       ends : (b : Bool) → task_parks u.task reply ≡ b → new.work ≡ ended_work b u.key s.work → KeepsWaiting s new (outcomes.Told reply)
@@ -147,7 +147,7 @@ module _ (s : State) (caches : AllKnown) (request : Request) (reply : Reply) whe
   told_keeps (Some givens.Start) is = same_waiting s (outcomes.Told reply) _ refl
   told_keeps (Some (givens.Read kind)) is = added_waiting s (outcomes.Told reply) _ (keys_in reply) refl
 
-lost_keeps : (s : State) (g : Option Given) → s.given ≡ g → KeepsWaiting s (lost_given s g) outcomes.Lost
+lost_keeps : (s : ActorState) (g : Option Given) → s.given ≡ g → KeepsWaiting s (lost_given s g) outcomes.Lost
 lost_keeps s None is = same_waiting s outcomes.Lost _ refl
 lost_keeps s (Some givens.Start) is = same_waiting s outcomes.Lost _ refl
 lost_keeps s (Some (givens.Read kind)) is = same_waiting s outcomes.Lost _ refl
@@ -169,8 +169,8 @@ wakes_keep_keys s = record {
 
 -- of the calls
 
-pub absorbed_keys : (s new : State) (request : Request) (outcome : Outcome) → new ≡ absorbed s new.caches request outcome → KeepsWaiting s new outcome
-absorbed_keys s new request outcome is = subst (λ (x : State). KeepsWaiting s x outcome) (sym is) (answers_keep_keys s new.caches request outcome)
+pub absorbed_keys : (s new : ActorState) (request : Request) (outcome : Outcome) → new ≡ absorbed s new.caches request outcome → KeepsWaiting s new outcome
+absorbed_keys s new request outcome is = subst (λ (x : ActorState). KeepsWaiting s x outcome) (sym is) (answers_keep_keys s new.caches request outcome)
 
-pub woken_keys : (s new : State) → new ≡ woken s → WakesKeys s new
-woken_keys s new is = subst (λ (x : State). WakesKeys s x) (sym is) (wakes_keep_keys s)
+pub woken_keys : (s new : ActorState) → new ≡ woken s → WakesKeys s new
+woken_keys s new is = subst (λ (x : ActorState). WakesKeys s x) (sym is) (wakes_keep_keys s)

@@ -16,7 +16,7 @@ use Rattle.worker_core.specs.declared.turn.Given.{Given}
 use Rattle.worker_core.specs.declared.turn.Given.TheVariants as givens
 use Rattle.worker_core.specs.Roles.{IsBuiltKind}
 use Rattle.worker_core.specs.Stands.{AnyIsUnderWay, GivenStands, StandsFor}
-use Rattle.worker_core.specs.States.{State, asked, call_under, given_call, read_of_kind, read_request}
+use Rattle.worker_core.specs.States.{ActorState, asked, call_under, given_call, read_of_kind, read_request}
 use Rattle.worker_core.proofs.ByKind.{EpochStands, epoch_stands, licensed_by, read_row, start_allowed}
 use Rattle.worker_core.proofs.Machines.{keeps_under, task_allowed}
 use Rattle.worker_core.proofs.Owning.{Stood, all_of_kind, stood}
@@ -43,7 +43,7 @@ under_allowed role (Some u) mine r stood way e =
     subst (λ kind. RowAllows kind mine r) k.of_kind (task_allowed u.task mine r (subst (λ kind. AreOfKind kind mine) (sym k.of_kind) own) k.keeps (k.call ∙ e))
 
 -- the call that was given is allowed
-pub given_allowed : (s : State) (mine : List Entry) (r : Request) → IsBuiltKind s.role.kind → StandsFor s mine → asked s ≡ Some r → RowAllows s.role.kind mine r
+pub given_allowed : (s : ActorState) (mine : List Entry) (r : Request) → IsBuiltKind s.role.kind → StandsFor s mine → asked s ≡ Some r → RowAllows s.role.kind mine r
 given_allowed s mine r built stands = by s.given stands.given
   where
     by : (g : Option Given) → GivenStands s.role s.memory g s.under → given_call s g ≡ Some r → RowAllows s.role.kind mine r
@@ -52,5 +52,5 @@ given_allowed s mine r built stands = by s.given stands.given
     by (Some givens.Start) f e = start_allowed s.role.kind s.role.node s.memory mine r built (subst (λ m. EpochStands s.role.kind s.role.node m mine) (sym stands.memory) (epoch_stands s.role mine)) e
     by (Some (givens.Read kind)) f e = subst (λ q. RowAllows s.role.kind mine q) (one _ r e) (read_allowed s.role.kind s.caches mine kind stands.caches f.0)
 
-pub licensed : (s : State) (mine : List Entry) (r : Request) → IsBuiltKind s.role.kind → StandsFor s mine → asked s ≡ Some r → Licensed s.role.kind mine r
+pub licensed : (s : ActorState) (mine : List Entry) (r : Request) → IsBuiltKind s.role.kind → StandsFor s mine → asked s ≡ Some r → Licensed s.role.kind mine r
 licensed s mine r built stands e = licensed_by s.role.kind mine r (all_of_kind s.role.kind mine stands.licensed) (given_allowed s mine r built stands e)

@@ -38,7 +38,7 @@ use Rattle.protect_sync.specs.declared.claims.ClaimGuardOp.{ClaimGuardOp}
 use Rattle.protect_sync.specs.declared.volumes.VolumeGuardOp.{VolumeGuardOp}
 use Rattle.protect_sync.specs.BeginLaw.{ReadsNoKind}
 use Rattle.protect_sync.specs.ClaimGuards.{claim_moved}
-use Rattle.protect_sync.specs.Decisions.{claim_begins, volume_begins}
+use Rattle.protect_sync.specs.Decisions.{claim_guard_begins, volume_guard_begins}
 use Rattle.protect_sync.specs.VolumeGuards.{volume_moved}
 use Rattle.protect_sync.proofs.Allowed.{claim_allowed, claim_calls_read_no_kind, volume_allowed, volume_calls_read_no_kind}
 use Rattle.protect_sync.proofs.Begun.{claim_decisions, volume_decisions}
@@ -46,7 +46,7 @@ use Rattle.protect_sync.proofs.Moves.{claim_goes_on, volume_goes_on}
 use Rattle.reclaim_ops.specs.declared.erase.EraseOp.{EraseOp}
 use Rattle.reclaim_ops.specs.declared.provision.ProvisionOp.{ProvisionOp}
 use Rattle.reclaim_ops.specs.BeginLaw.{lists_or_watches}
-use Rattle.reclaim_ops.specs.Decisions.{claim_begins as provision_begins, volume_begins as erase_begins}
+use Rattle.reclaim_ops.specs.Decisions.{claim_begins, volume_begins}
 use Rattle.reclaim_ops.specs.Erasures.{erase_moved}
 use Rattle.reclaim_ops.specs.Evidence.{MayDecide as OpsMayDecide}
 use Rattle.reclaim_ops.specs.Provisions.{provision_moved}
@@ -67,7 +67,7 @@ use Rattle.worker_core.specs.Roles.{kinds_of}
 use Rattle.binder_machines.specs.KindLaw.{reads_kind}
 use Rattle.worker_core.specs.Stands.{AreLicensed, AreOwn, Begun, IsUnderWay, StartsSo, WentOn}
 use Rattle.worker_core.specs.Steps.Evidence.{TaskKeeps, task_kind}
-use Rattle.worker_core.specs.Tasks.{IsAgentFirst, IsDecision, IsFirstOf, IsPodFirst, agent_first, claim_first, erase_first, ops_first, task_call, task_moved, under_after, volume_first, with_call, with_task}
+use Rattle.worker_core.specs.Tasks.{IsAgentFirst, IsDecision, IsFirstOf, IsPodFirst, agent_first, claim_guard_first, erase_first, ops_first, task_call, task_moved, under_after, volume_guard_first, with_call, with_task}
 use Rattle.worker_core.specs.Turns.{first_unlisted}
 use Rattle.worker_core.proofs.AgentLaws.{may_decide}
 use Rattle.worker_core.proofs.ByKind.{EpochStands, epoch_stands}
@@ -154,15 +154,15 @@ record BeginsTask (kind : SeatKind) (t : Task) (mine : List Entry) : Type 0 wher
   of_kind : task_kind t ≡ kind
   keeps : TaskKeeps t mine
 
-claim_begun : (c : AllKnown) (mine : List Entry) (key : Key) (t : Task) → AllStandFor c mine → (x : Option ClaimGuardOp) → claim_begins (all_objects c) (row_at key (all_objects c)) ≡ x
-    → firsts.Begins t ≡ claim_first x → BeginsTask seats.ClaimProtect t mine
+claim_begun : (c : AllKnown) (mine : List Entry) (key : Key) (t : Task) → AllStandFor c mine → (x : Option ClaimGuardOp) → claim_guard_begins (all_objects c) (row_at key (all_objects c)) ≡ x
+    → firsts.Begins t ≡ claim_guard_first x → BeginsTask seats.ClaimProtect t mine
 claim_begun c mine key t stand None is first = none_some (sym (ap task_in first))
 claim_begun c mine key t stand (Some op) is first =
     let same : tasks.ClaimProtect op ≡ t = one (tasks.ClaimProtect op) t (sym (ap task_in first)) in
     subst (λ x. BeginsTask seats.ClaimProtect x mine) same (record { of_kind = refl; keeps = claim_decisions c mine key op stand is })
 
-volume_begun : (c : AllKnown) (mine : List Entry) (key : Key) (t : Task) → AllStandFor c mine → (x : Option VolumeGuardOp) → volume_begins (row_at key (all_objects c)) ≡ x
-    → firsts.Begins t ≡ volume_first x → BeginsTask seats.VolumeProtect t mine
+volume_begun : (c : AllKnown) (mine : List Entry) (key : Key) (t : Task) → AllStandFor c mine → (x : Option VolumeGuardOp) → volume_guard_begins (row_at key (all_objects c)) ≡ x
+    → firsts.Begins t ≡ volume_guard_first x → BeginsTask seats.VolumeProtect t mine
 volume_begun c mine key t stand None is first = none_some (sym (ap task_in first))
 volume_begun c mine key t stand (Some op) is first =
     let same : tasks.VolumeProtect op ≡ t = one (tasks.VolumeProtect op) t (sym (ap task_in first)) in
@@ -183,15 +183,15 @@ agent_begun node (Some epoch) (Some mounts) c mine key t stand may first = by (a
 
 -- a machine that ops begins
 
-erase_begun : (c : AllKnown) (mine : List Entry) (key : Key) (t : Task) → AllStandFor c mine → (x : Option EraseOp) → erase_begins (row_at key (all_objects c)) ≡ x
+erase_begun : (c : AllKnown) (mine : List Entry) (key : Key) (t : Task) → AllStandFor c mine → (x : Option EraseOp) → volume_begins (row_at key (all_objects c)) ≡ x
     → firsts.Begins t ≡ erase_first x → BeginsTask seats.Ops t mine
 erase_begun c mine key t stand None is first = none_some (sym (ap task_in first))
 erase_begun c mine key t stand (Some op) is first =
     let same : tasks.Erase op ≡ t = one (tasks.Erase op) t (sym (ap task_in first)) in
     subst (λ x. BeginsTask seats.Ops x mine) same (record { of_kind = refl; keeps = erase_decisions c mine key op stand is })
 
-ops_begun : (c : AllKnown) (mine : List Entry) (key : Key) (t : Task) → AllStandFor c mine → OpsMayDecide mine → (x : Option ProvisionOp) → provision_begins (all_objects c) (row_at key (all_objects c)) ≡ x
-    → firsts.Begins t ≡ ops_first x (erase_begins (row_at key (all_objects c))) → BeginsTask seats.Ops t mine
+ops_begun : (c : AllKnown) (mine : List Entry) (key : Key) (t : Task) → AllStandFor c mine → OpsMayDecide mine → (x : Option ProvisionOp) → claim_begins (all_objects c) (row_at key (all_objects c)) ≡ x
+    → firsts.Begins t ≡ ops_first x (volume_begins (row_at key (all_objects c))) → BeginsTask seats.Ops t mine
 ops_begun c mine key t stand may None is first = erase_begun c mine key t stand _ refl first
 ops_begun c mine key t stand may (Some op) is first =
     let same : tasks.Provision op ≡ t = one (tasks.Provision op) t (sym (ap task_in first)) in
@@ -222,11 +222,11 @@ begun seats.Scheduler node m c mine key t stand order listed licensed own start 
 
 -- a key that queues another is a volume's, and the other a claim's
 
-claims_queue_none : {G : Type 0} (other : Key) (x : Option ClaimGuardOp) → firsts.Queues other ≡ claim_first x → G
+claims_queue_none : {G : Type 0} (other : Key) (x : Option ClaimGuardOp) → firsts.Queues other ≡ claim_guard_first x → G
 claims_queue_none other None first = none_some (sym (ap queued_in first))
 claims_queue_none other (Some op) first = none_some (sym (ap queued_in first))
 
-volumes_queue_none : {G : Type 0} (other : Key) (x : Option VolumeGuardOp) → firsts.Queues other ≡ volume_first x → G
+volumes_queue_none : {G : Type 0} (other : Key) (x : Option VolumeGuardOp) → firsts.Queues other ≡ volume_guard_first x → G
 volumes_queue_none other None first = none_some (sym (ap queued_in first))
 volumes_queue_none other (Some op) first = none_some (sym (ap queued_in first))
 
@@ -251,11 +251,11 @@ queued_by : (kind : SeatKind) (node : List ℕ) (m : Memory) (rows : List Object
 queued_by seats.Binder node m rows key other first =
     let q = volumes_queue_claims rows key other first in
     (ap kind_index q.0, ap kind_index q.1)
-queued_by seats.ClaimProtect node m rows key other first = claims_queue_none other (claim_begins rows (row_at key rows)) first
-queued_by seats.VolumeProtect node m rows key other first = volumes_queue_none other (volume_begins (row_at key rows)) first
+queued_by seats.ClaimProtect node m rows key other first = claims_queue_none other (claim_guard_begins rows (row_at key rows)) first
+queued_by seats.VolumeProtect node m rows key other first = volumes_queue_none other (volume_guard_begins (row_at key rows)) first
 queued_by seats.Agent node m rows key other first = agents_queue_none node m.epoch m.mounts (row_at key rows) other first
 queued_by seats.User node m rows key other first = absurd first
-queued_by seats.Ops node m rows key other first = ops_queue_none other (provision_begins rows (row_at key rows)) (erase_begins (row_at key rows)) first
+queued_by seats.Ops node m rows key other first = ops_queue_none other (claim_begins rows (row_at key rows)) (volume_begins (row_at key rows)) first
 queued_by seats.Scheduler node m rows key other first = absurd first
 
 pub queued_kinds : (role : Role) (memory : Memory) (rows : List Object) (key other : Key) → IsDecision role memory rows key (firsts.Queues other) → (kind_index key.kind ≡ 2) × (kind_index other.kind ≡ 3)

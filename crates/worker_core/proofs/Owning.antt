@@ -7,7 +7,7 @@ use Rattle.binder_model.specs.Licence.{AreOfKind}
 use Rattle.binder_model.specs.Told.{own}
 use Rattle.binder_model.specs.World.{IsHistory}
 use Rattle.worker_core.specs.Stands.{AreLicensed, AreOwn, StandsFor, StartsSo}
-use Rattle.worker_core.specs.States.{State}
+use Rattle.worker_core.specs.States.{ActorState}
 use Rattle.worker_core.specs.declared.role.Role.{Role}
 use Rattle.call_types.specs.declared.request.SeatKind.{SeatKind}
 use Rattle.call_types.specs.declared.request.SeatKind.TheVariants as seats
@@ -74,5 +74,5 @@ starts_before seats.VolumeProtect node e mine s = tt
 pub stood_before : (role : Role) (e : Entry) (mine : List Entry) → Stood role (e ∷ mine) → Stood role mine
 stood_before role e mine s = record { licensed = s.licensed.0; own = own_past e mine s.own; start = starts_before role.kind role.node e mine s.start }
 
-pub stood : (s : State) (mine : List Entry) → StandsFor s mine → Stood s.role mine
+pub stood : (s : ActorState) (mine : List Entry) → StandsFor s mine → Stood s.role mine
 stood s mine stands = record { licensed = stands.licensed; own = stands.own; start = stands.start }

@@ -23,14 +23,14 @@ use Rattle.worker_core.specs.declared.turn.Pass.{Pass}
 use Rattle.worker_core.specs.Absorbs.{absorbed, given_told, is_none_of, is_passing, learned, lost_given, lost_under, pass_after, task_told, woken}
 use Rattle.worker_core.specs.Roles.{kind_at, kinds_of}
 use Rattle.worker_core.specs.Rules.{BroughtEvent, EventsAreBrought, PassesBegin, PassesGoOn, WatchesFollowThePass, WokenIsBusy}
-use Rattle.worker_core.specs.States.{State, call_in, read_of_kind, read_request, start_call}
+use Rattle.worker_core.specs.States.{ActorState, call_in, read_of_kind, read_request, start_call}
 use Rattle.worker_core.specs.Turns.{AfterKeys, IsTurn, TurnBy, first_unlisted, is_listed, passing, unlisted}
 use Rattle.worker_core.proofs.Quiet.{itself}
 
-abbrev pass_of : State → Pass
+abbrev pass_of : ActorState → Pass
 pass_of s = s.pass
 
-abbrev BeginsOne : State → State → Type 0
+abbrev BeginsOne : ActorState → ActorState → Type 0
 BeginsOne s new = (s.pass.event ≡ true) × (passing s ≡ None) × (new.pass ≡ record { behind = 0; event = false })
 
 pub passes_begin : PassesBegin
@@ -68,7 +68,7 @@ pass_brought pass passes (requests.Watch k from) (replies.Events events) e f = f
 pass_brought pass passes (requests.Watch k from) _ e f = tt
 pass_brought pass passes _ reply e f = absurd (true≢false (sym e ∙ f))
 
-told_brought : (s : State) (caches : AllKnown) (request : Request) (reply : Reply) (g : Option Given) → (given_told (learned s caches request reply) request reply g).pass.event ≡ true → s.pass.event ≡ false → BroughtEvent request (outcomes.Told reply)
+told_brought : (s : ActorState) (caches : AllKnown) (request : Request) (reply : Reply) (g : Option Given) → (given_told (learned s caches request reply) request reply g).pass.event ≡ true → s.pass.event ≡ false → BroughtEvent request (outcomes.Told reply)
 told_brought s caches request reply None e f = absurd (true≢false (sym e ∙ f))
 told_brought s caches request reply (Some givens.Start) e f = absurd (true≢false (sym e ∙ f))
 told_brought s caches request reply (Some (givens.Read kind)) e f = pass_brought s.pass (is_passing (passing s) kind) request reply e f
@@ -78,7 +78,7 @@ told_brought s caches request reply (Some givens.Task) e f = by s.under e
     by None h = absurd (true≢false (sym h ∙ f))
     by (Some u) h = absurd (true≢false (sym h ∙ f))
 
-lost_pass : (s : State) (g : Option Given) → (lost_given s g).pass ≡ s.pass
+lost_pass : (s : ActorState) (g : Option Given) → (lost_given s g).pass ≡ s.pass
 lost_pass s None = refl
 lost_pass s (Some givens.Start) = refl
 lost_pass s (Some (givens.Read kind)) = refl
@@ -101,7 +101,7 @@ passes_go_on s caches kind from (outcomes.Told (replies.Events events)) given ne
     passes : is_passing (passing s) kind ≡ true
     passes = ap (λ o. is_passing o kind) next ∙ itself kind
 
-    behind_of : State → ℕ
+    behind_of : ActorState → ℕ
     behind_of x = x.pass.behind
 
     after : (absorbed s caches (requests.Watch kind from) (outcomes.Told (replies.Events events))).pass.behind ≡ (if is_passing (passing s) kind && not (length events.events == most_events) then s.pass.behind + 1 else s.pass.behind)
@@ -135,7 +135,7 @@ abbrev kind_in : Option Given → Option Kind
 kind_in (Some (givens.Read kind)) = Some kind
 kind_in g = None
 
-abbrev given_of : State → Option Given
+abbrev given_of : ActorState → Option Given
 given_of s = s.given
 
 pub watches_follow : WatchesFollowThePass
@@ -166,7 +166,7 @@ watches_follow s new answer kind from turn given call = by s.memory.stale s.unde
 
 -- after a wake
 
-idle_passes : (s new : State) (answer : Next) → IsTurn s new answer → s.memory.stale ≡ false → is_some (passing s) ≡ true → answer ≢ nexts.Idle
+idle_passes : (s new : ActorState) (answer : Next) → IsTurn s new answer → s.memory.stale ≡ false → is_some (passing s) ≡ true → answer ≢ nexts.Idle
 idle_passes s new answer turn fresh passes idle = by s.memory.stale s.under (start_call s.role s.memory) (unlisted s) (passing s) refl refl turn
   where
     no_call : (r : Request) → answer ≡ nexts.Call r → ⊥
@@ -180,5 +180,5 @@ idle_passes s new answer turn fresh passes idle = by s.memory.stale s.under (sta
     by false None None None (Some kind) es ep t = no_call _ t.call
     by false None None None None es ep t = true≢false (sym passes ∙ ap is_some ep)
 
-pub woken_busy : (s : State) → is_some (kind_at s.role 0) ≡ true → WokenIsBusy (woken s)
+pub woken_busy : (s : ActorState) → is_some (kind_at s.role 0) ≡ true → WokenIsBusy (woken s)
 woken_busy s some new answer turn fresh = idle_passes (woken s) new answer turn fresh some

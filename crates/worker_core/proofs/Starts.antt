@@ -20,7 +20,7 @@ use Rattle.model_laws.proofs.Lists.{one, none_some}
 use Rattle.node_agent.specs.declared.agent.AgentOp.{AgentOp}
 use Rattle.node_agent.specs.declared.step.AgentStep.{AgentStep}
 use Rattle.node_agent.specs.declared.step.AgentStep.TheVariants as steps
-use Rattle.node_agent.specs.Agents.{agent_call, call_at}
+use Rattle.node_agent.specs.Agents.{agent_call, agent_call_at}
 use Rattle.node_agent.specs.HistoryLaw.{is_take_of}
 use Rattle.worker_core.specs.declared.role.Role.{Role}
 use Rattle.worker_core.specs.declared.task.First.{First}
@@ -32,7 +32,7 @@ use Rattle.worker_core.specs.declared.turn.Given.{Given}
 use Rattle.worker_core.specs.declared.turn.Given.TheVariants as givens
 use Rattle.worker_core.specs.Memories.{Memory, memory_of}
 use Rattle.worker_core.specs.Stands.{AnyIsUnderWay, Begun, GivenStands, IsUnderWay, StandsFor, StartsSo, WentOn}
-use Rattle.worker_core.specs.States.{State, agent_start, asked, call_under, given_call, read_request, start_of}
+use Rattle.worker_core.specs.States.{ActorState, agent_start, asked, call_under, given_call, read_request, start_of}
 use Rattle.worker_core.specs.Steps.Evidence.{task_kind}
 use Rattle.worker_core.specs.Tasks.{IsAgentFirst, IsFirstOf, task_call}
 use Rattle.worker_core.proofs.ByKind.{EpochStands, epoch_stands}
@@ -41,7 +41,7 @@ use Rattle.worker_core.proofs.Owning.{stood}
 
 -- no call of a machine takes a node
 
-step_takes_none : (node : List ℕ) (op : AgentOp) (step : AgentStep) (r : Request) → call_at op step ≡ Some r → is_take_of node r ≡ false
+step_takes_none : (node : List ℕ) (op : AgentOp) (step : AgentStep) (r : Request) → agent_call_at op step ≡ Some r → is_take_of node r ≡ false
 step_takes_none node op (steps.ReadsClaim name) r e = ap (is_take_of node) (sym (one _ r e))
 step_takes_none node op (steps.ReadsVolume name c) r e = ap (is_take_of node) (sym (one _ r e))
 step_takes_none node op steps.MountsPod r e = ap (is_take_of node) (sym (one _ r e))
@@ -103,7 +103,7 @@ under_took role u mine is (WentOn before e past split way told asked moves) =
 
 -- the next entry of an agent
 
-module _ (s : State) (mine : List Entry) (e : Entry) (stands : StandsFor s mine) (ask : asked s ≡ Some e.request) where
+module _ (s : ActorState) (mine : List Entry) (e : Entry) (stands : StandsFor s mine) (ask : asked s ≡ Some e.request) where
   agent_on : s.role.kind ≡ seats.Agent → is_take_of s.role.node e.request ≡ is_none (last_epoch s.role.node mine)
   agent_on is = by s.given stands.given ask
     where

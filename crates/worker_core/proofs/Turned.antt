@@ -9,10 +9,10 @@ use Rattle.worker_core.specs.declared.turn.Given.TheVariants as givens
 use Rattle.worker_core.specs.declared.turn.Next.{Next}
 use Rattle.worker_core.specs.declared.turn.Next.TheVariants as nexts
 use Rattle.worker_core.specs.Roles.{kind_at}
-use Rattle.worker_core.specs.States.{State}
+use Rattle.worker_core.specs.States.{ActorState}
 use Rattle.worker_core.specs.Turns.{Decides, DecidesKeys, GivesRead}
 
-module _ (s : State) (work : Work) (under : Option Under) (d : Decides s.role s.memory (all_objects s.caches) work under s.work) where
+module _ (s : ActorState) (work : Work) (under : Option Under) (d : Decides s.role s.memory (all_objects s.caches) work under s.work) where
   pub idle_after : under ≡ None → s.pass.event ≡ false → DecidesKeys s (record s { work = work; given = None }) nexts.Idle
   idle_after none quiet = record {
     work = work;
@@ -29,7 +29,7 @@ module _ (s : State) (work : Work) (under : Option Under) (d : Decides s.role s.
     then_ = record { call = ap (λ r. nexts.Call r) is; state = refl };
   }
 
-  pub pass_begins : (new : State) (answer : Next) (kind : Kind) → under ≡ None → s.pass.event ≡ true → kind_at s.role 0 ≡ Some kind
+  pub pass_begins : (new : ActorState) (answer : Next) (kind : Kind) → under ≡ None → s.pass.event ≡ true → kind_at s.role 0 ≡ Some kind
       → GivesRead (record s { work = work; pass = record { behind = 0; event = false } }) new answer kind → DecidesKeys s new answer
   pass_begins new answer kind none brought first read = record {
     work = work;

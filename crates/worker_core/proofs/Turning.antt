@@ -19,7 +19,7 @@ use Rattle.worker_core.specs.declared.turn.Next.{Next}
 use Rattle.worker_core.specs.Memories.{Memory, memory_of}
 use Rattle.worker_core.specs.Roles.{kind_at, kinds_of}
 use Rattle.worker_core.specs.Stands.{AnyIsUnderWay, Begun, GivenStands, StandsFor}
-use Rattle.worker_core.specs.States.{State, start_call}
+use Rattle.worker_core.specs.States.{ActorState, start_call}
 use Rattle.worker_core.specs.Tasks.{GivesCall}
 use Rattle.worker_core.specs.Turns.{AfterKeys, Decides, Nothing, Begins, Drops, IsTurn, TurnBy, first_unlisted, is_listed, passing, unlisted}
 
@@ -60,10 +60,10 @@ decided_way role memory c mine stand order listed is after under w (Begins u old
 decided_way role memory c mine stand order listed is after under w (Drops key first old none rest) = decided_way role memory c mine stand order listed is after under _ rest
 
 -- another call is given
-given_stands : (s : State) (mine : List Entry) (given : Option Given) → StandsFor s mine → GivenStands s.role s.memory given s.under → StandsFor (record s { given = given }) mine
+given_stands : (s : ActorState) (mine : List Entry) (given : Option Given) → StandsFor s mine → GivenStands s.role s.memory given s.under → StandsFor (record s { given = given }) mine
 given_stands s mine given stands fits = record { caches = stands.caches; under_way = stands.under_way; pass = stands.pass; memory = stands.memory; licensed = stands.licensed; own = stands.own; start = stands.start; given = fits }
 
-pub turn_stands : (s new : State) (answer : Next) (mine : List Entry) → AreRows (all_objects s.caches) → StandsFor s mine → IsTurn s new answer → StandsFor new mine
+pub turn_stands : (s new : ActorState) (answer : Next) (mine : List Entry) → AreRows (all_objects s.caches) → StandsFor s mine → IsTurn s new answer → StandsFor new mine
 turn_stands s new answer mine order stands = by s.memory.stale s.under (start_call s.role s.memory) (unlisted s) (passing s) refl refl refl refl
   where
     follows_at : (place : ℕ) (kind : Kind) → kind_at s.role place ≡ Some kind → follows s.role.kind kind ≡ true

@@ -28,7 +28,7 @@ use Rattle.model_laws.proofs.Watched.{AreBetween, logs}
 use Rattle.worker_core.specs.Rules.{IsWatchAnswer, WatchesAreAnswered}
 use Rattle.worker_core.specs.Roles.{IsBuiltKind}
 use Rattle.worker_core.specs.Stands.{StandsFor}
-use Rattle.worker_core.specs.States.{State, asked}
+use Rattle.worker_core.specs.States.{ActorState, asked}
 use Rattle.worker_core.proofs.ByKind.{watch_row}
 use Rattle.worker_core.proofs.Licensed.{given_allowed}
 use Rattle.worker_core.proofs.Owning.{newest_own}
@@ -155,7 +155,7 @@ from_below setup (e ∷ past) seat kind from history h =
     let low = from_after setup e past seat kind from history.1 (λ v g. from_below setup past seat kind v history.0 g) h in
     omega (arith, up, low)
 
-watch_from_is : (s : State) (mine : List Entry) (kind : Kind) (from : ℕ) → IsBuiltKind s.role.kind → StandsFor s mine → asked s ≡ Some (requests.Watch kind from) → IsFrom from (following_of mine kind)
+watch_from_is : (s : ActorState) (mine : List Entry) (kind : Kind) (from : ℕ) → IsBuiltKind s.role.kind → StandsFor s mine → asked s ≡ Some (requests.Watch kind from) → IsFrom from (following_of mine kind)
 watch_from_is s mine kind from built stands ask = watch_row s.role.kind mine kind from built (given_allowed s mine (requests.Watch kind from) built stands ask)
 
 pub watches_are_answered : WatchesAreAnswered

@@ -21,7 +21,7 @@ use Rattle.worker_core.specs.declared.turn.Outcome.TheVariants as outcomes
 use Rattle.worker_core.specs.declared.turn.Pass.{Pass}
 use Rattle.worker_core.specs.Memories.{memory_after}
 use Rattle.worker_core.specs.Roles.{kinds_of}
-use Rattle.worker_core.specs.States.{State}
+use Rattle.worker_core.specs.States.{ActorState}
 use Rattle.worker_core.specs.Tasks.{task_parks, under_after}
 use Rattle.worker_core.specs.Turns.{passing}
 
@@ -66,44 +66,44 @@ pass_after pass passes request reply = pass
 -- an answer that was told; the caches are what they have learned
 
 -- an answer that changes nothing but the caches and the memory
-abbrev pub learned : State → AllKnown → Request → Reply → State
+abbrev pub learned : ActorState → AllKnown → Request → Reply → ActorState
 learned s caches request reply = record s { caches = caches; memory = memory_after s.role request reply s.memory; given = None }
 
 -- the task goes on while it has a next call
-abbrev pub task_told : State → Reply → Option Under → State
+abbrev pub task_told : ActorState → Reply → Option Under → ActorState
 task_told s reply None = s
 task_told s reply (Some u) = record s { work = work_after u reply s.work; under = under_after u reply }
 
 -- the keys of a list or of events are queued, and the pass goes on
-abbrev pub read_told : State → Kind → Request → Reply → State
+abbrev pub read_told : ActorState → Kind → Request → Reply → ActorState
 read_told s kind request reply = record s {
   work = all_added (keys_in reply) s.work;
   pass = pass_after s.pass (is_passing (passing s) kind) request reply;
 }
 
-abbrev pub given_told : State → Request → Reply → Option Given → State
+abbrev pub given_told : ActorState → Request → Reply → Option Given → ActorState
 given_told s request reply (Some givens.Task) = task_told s reply s.under
 given_told s request reply (Some (givens.Read kind)) = read_told s kind request reply
 given_told s request reply given = s
 
-abbrev pub told_to : State → AllKnown → Request → Reply → State
+abbrev pub told_to : ActorState → AllKnown → Request → Reply → ActorState
 told_to s caches request reply = given_told (learned s caches request reply) request reply s.given
 
 -- a call that was lost: its task is dropped and the key parked, and any other call is made again
 
-abbrev pub lost_under : State → Option Under → State
+abbrev pub lost_under : ActorState → Option Under → ActorState
 lost_under s None = record s { given = None }
 lost_under s (Some u) = record s { work = put_off u.key s.work; under = None; given = None }
 
-abbrev pub lost_given : State → Option Given → State
+abbrev pub lost_given : ActorState → Option Given → ActorState
 lost_given s (Some givens.Task) = lost_under s s.under
 lost_given s given = record s { given = None }
 
-abbrev pub lost_to : State → State
+abbrev pub lost_to : ActorState → ActorState
 lost_to s = lost_given s s.given
 
 -- what came of the call that was given
-abbrev pub absorbed : State → AllKnown → Request → Outcome → State
+abbrev pub absorbed : ActorState → AllKnown → Request → Outcome → ActorState
 absorbed s caches request (outcomes.Told reply) = told_to s caches request reply
 absorbed s caches request outcomes.Lost = lost_to s
 
@@ -116,7 +116,7 @@ abbrev pub kinds_added : AllKnown → List Kind → Work → Work
 kinds_added c [] w = w
 kinds_added c (kind ∷ kinds) w = kinds_added c kinds (kind_added c kind w)
 
-abbrev pub woken : State → State
+abbrev pub woken : ActorState → ActorState
 woken s = record s {
   work = kinds_added s.caches (kinds_of s.role.kind) s.work;
   pass = record { behind = 0; event = false };

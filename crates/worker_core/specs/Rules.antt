@@ -27,38 +27,38 @@ use Rattle.worker_core.specs.Absorbs.{absorbed, woken}
 use Rattle.worker_core.specs.Memories.{memory_of}
 use Rattle.worker_core.specs.Roles.{IsBuiltKind}
 use Rattle.worker_core.specs.Stands.{AreOwn, StandsFor}
-use Rattle.worker_core.specs.States.{State, asked, is_parked, waits}
+use Rattle.worker_core.specs.States.{ActorState, asked, is_parked, waits}
 use Rattle.worker_core.specs.Tasks.{GivesCall, GivesNone, task_parks}
 use Rattle.worker_core.specs.Turns.{IsTurn, passing}
 
 -- the keys
 
 -- the decision on the key gave the call that is answered
-pub record WasCalled (s : State) (answer : Next) (key : Key) : Type 0 where
+pub record WasCalled (s : ActorState) (answer : Next) (key : Key) : Type 0 where
   pub under : Under
   pub own : under.key ≡ key
   pub decided : GivesCall s.role s.memory (all_objects s.caches) under
   pub call : answer ≡ nexts.Call under.call
 
 -- the decision on the key gives no call
-pub record WasDropped (s : State) (key : Key) : Type 0 where
+pub record WasDropped (s : ActorState) (key : Key) : Type 0 where
   pub first : First
   pub none : GivesNone s.role s.memory (all_objects s.caches) key first
 
 -- in a turn a key stops waiting only where its decision on the caches gave a call or gives none, and no key is parked
-pub record KeepsKeys (s new : State) (answer : Next) : Type 0 where
+pub record KeepsKeys (s new : ActorState) (answer : Next) : Type 0 where
   pub stops : (key : Key) → waits key s.work ≡ true → waits key new.work ≡ false → WasCalled s answer key ⊎ WasDropped s key
   pub parks : (key : Key) → is_parked key new.work ≡ true → is_parked key s.work ≡ true
 
 abbrev pub TurnsKeepKeys : Type 0
-TurnsKeepKeys = (s new : State) (answer : Next) → IsTurn s new answer → KeepsKeys s new answer
+TurnsKeepKeys = (s new : ActorState) (answer : Next) → IsTurn s new answer → KeepsKeys s new answer
 
 -- the call of the key's task was refused, as the task takes no answer that it was, or was lost
 abbrev pub Parks : Outcome → Under → Type 0
 Parks (outcomes.Told reply) u = task_parks u.task reply ≡ true
 Parks outcomes.Lost u = ⊤
 
-pub record WasParked (s : State) (outcome : Outcome) (key : Key) : Type 0 where
+pub record WasParked (s : ActorState) (outcome : Outcome) (key : Key) : Type 0 where
   pub under : Under
   pub there : s.under ≡ Some under
   pub own : under.key ≡ key
@@ -67,20 +67,20 @@ pub record WasParked (s : State) (outcome : Outcome) (key : Key) : Type 0 where
 
 -- an answer, or a loss, lets no key stop waiting, and a key is parked only where its call was refused or lost, or where its
 -- task parks it
-pub record KeepsWaiting (s new : State) (outcome : Outcome) : Type 0 where
+pub record KeepsWaiting (s new : ActorState) (outcome : Outcome) : Type 0 where
   pub stays : (key : Key) → waits key s.work ≡ true → waits key new.work ≡ true
   pub parks : (key : Key) → is_parked key new.work ≡ true → is_parked key s.work ≡ false → WasParked s outcome key
 
 abbrev pub AnswersKeepKeys : Type 0
-AnswersKeepKeys = (s : State) (caches : AllKnown) (request : Request) (outcome : Outcome) → KeepsWaiting s (absorbed s caches request outcome) outcome
+AnswersKeepKeys = (s : ActorState) (caches : AllKnown) (request : Request) (outcome : Outcome) → KeepsWaiting s (absorbed s caches request outcome) outcome
 
 -- a wake lets no key stop waiting, and parks none
-pub record WakesKeys (s new : State) : Type 0 where
+pub record WakesKeys (s new : ActorState) : Type 0 where
   pub stays : (key : Key) → waits key s.work ≡ true → waits key new.work ≡ true
   pub parks : (key : Key) → is_parked key new.work ≡ true → is_parked key s.work ≡ true
 
 abbrev pub WakesKeepKeys : Type 0
-WakesKeepKeys = (s : State) → WakesKeys s (woken s)
+WakesKeepKeys = (s : ActorState) → WakesKeys s (woken s)
 
 -- the memory
 
@@ -92,7 +92,7 @@ TriesAreTold = (role : Role) (mine : List Entry) → role.kind ≡ seats.Schedul
 
 -- a turn begins a pass only where none is under way, nothing else is to be done and the last one brought an event
 abbrev pub PassesBegin : Type 0
-PassesBegin = (s new : State) (answer : Next) → IsTurn s new answer → new.pass ≢ s.pass → (s.pass.event ≡ true) × (passing s ≡ None) × (new.pass ≡ record { behind = 0; event = false })
+PassesBegin = (s new : ActorState) (answer : Next) → IsTurn s new answer → new.pass ≢ s.pass → (s.pass.event ≡ true) × (passing s ≡ None) × (new.pass ≡ record { behind = 0; event = false })
 
 -- the answer to a watch brought events, or the watch was refused, as one from a version that is gone is
 abbrev pub BroughtEvent : Request → Outcome → Type 0
@@ -102,7 +102,7 @@ BroughtEvent request outcome = ⊥
 
 -- a pass has an event only where an answer to a watch brought one
 abbrev pub EventsAreBrought : Type 0
-EventsAreBrought = (s : State) (caches : AllKnown) (request : Request) (outcome : Outcome) → (absorbed s caches request outcome).pass.event ≡ true → s.pass.event ≡ false → BroughtEvent request outcome
+EventsAreBrought = (s : ActorState) (caches : AllKnown) (request : Request) (outcome : Outcome) → (absorbed s caches request outcome).pass.event ≡ true → s.pass.event ≡ false → BroughtEvent request outcome
 
 -- a watch that has to be made again: it gave as many events as a watch gives at most, was refused or was lost
 abbrev pub IsAskedAgain : Outcome → Type 0
@@ -116,18 +116,18 @@ IsWatchAnswer (replies.Refused (Gone oldest)) = ⊤
 IsWatchAnswer reply = ⊥
 
 abbrev pub WatchesAreAnswered : Type 0
-WatchesAreAnswered = (s : State) (mine : List Entry) (kind : Kind) (from : ℕ) (e : Entry) (reply : Reply) → IsBuiltKind s.role.kind → StandsFor s mine → asked s ≡ Some (requests.Watch kind from)
+WatchesAreAnswered = (s : ActorState) (mine : List Entry) (kind : Kind) (from : ℕ) (e : Entry) (reply : Reply) → IsBuiltKind s.role.kind → StandsFor s mine → asked s ≡ Some (requests.Watch kind from)
     → IsTold e (requests.Watch kind from) reply → AreOwn (e ∷ mine) → IsWatchAnswer reply
 
 -- once its kind was watched a pass goes on to the next kind, unless the watch has to be made again
 abbrev pub PassesGoOn : Type 0
-PassesGoOn = (s : State) (caches : AllKnown) (kind : Kind) (from : ℕ) (outcome : Outcome) → s.given ≡ Some (givens.Read kind) → passing s ≡ Some kind
+PassesGoOn = (s : ActorState) (caches : AllKnown) (kind : Kind) (from : ℕ) (outcome : Outcome) → s.given ≡ Some (givens.Read kind) → passing s ≡ Some kind
     → ((absorbed s caches (requests.Watch kind from) outcome).pass.behind ≡ s.pass.behind + 1) ⊎ IsAskedAgain outcome
 
 -- a turn gives no watch but that of the pass's kind: a kind that is behind the pass is not watched again in it
 abbrev pub WatchesFollowThePass : Type 0
-WatchesFollowThePass = (s new : State) (answer : Next) (kind : Kind) (from : ℕ) → IsTurn s new answer → new.given ≡ Some (givens.Read kind) → answer ≡ nexts.Call (requests.Watch kind from) → passing new ≡ Some kind
+WatchesFollowThePass = (s new : ActorState) (answer : Next) (kind : Kind) (from : ℕ) → IsTurn s new answer → new.given ≡ Some (givens.Read kind) → answer ≡ nexts.Call (requests.Watch kind from) → passing new ≡ Some kind
 
 -- after a wake the next turn is no idle one, but that of an agent that was told StaleEpoch
-abbrev pub WokenIsBusy : State → Type 0
-WokenIsBusy s = (new : State) (answer : Next) → IsTurn s new answer → s.memory.stale ≡ false → answer ≢ nexts.Idle
+abbrev pub WokenIsBusy : ActorState → Type 0
+WokenIsBusy s = (new : ActorState) (answer : Next) → IsTurn s new answer → s.memory.stale ≡ false → answer ≢ nexts.Idle

@@ -30,7 +30,7 @@ use Rattle.worker_core.specs.declared.turn.Next.TheVariants as nexts
 use Rattle.worker_core.specs.declared.turn.Pass.{Pass}
 use Rattle.worker_core.specs.Memories.{Memory, memory_of, no_memory}
 use Rattle.worker_core.specs.Roles.{kind_at, kinds_of}
-use Rattle.worker_core.specs.States.{State, start_call}
+use Rattle.worker_core.specs.States.{ActorState, start_call}
 use Rattle.worker_core.specs.Tasks.{GivesCall, under_after}
 use Rattle.worker_core.specs.Turns.{first_unlisted}
 
@@ -88,7 +88,7 @@ GivenStands role memory (Some (givens.Read kind)) under = (follows role.kind kin
 GivenStands role memory (Some givens.Start) under = under ≡ None
 GivenStands role memory given under = ⊤
 
-pub record StandsFor (s : State) (mine : List Entry) : Type 0 where
+pub record StandsFor (s : ActorState) (mine : List Entry) : Type 0 where
   -- of each key the caches show the newest told, and they ask what the reads of the entries allow
   pub caches : AllStandFor s.caches mine
   pub under_way : AnyIsUnderWay s.role s.under mine
@@ -100,7 +100,7 @@ pub record StandsFor (s : State) (mine : List Entry) : Type 0 where
   pub given : GivenStands s.role s.memory s.given s.under
 
 -- an actor that was told nothing: nothing is queued, and its first pass is still to begin
-pub record IsNew (role : Role) (s : State) : Type 0 where
+pub record IsNew (role : Role) (s : ActorState) : Type 0 where
   pub is : s.role ≡ role
   pub caches : AllStandFor s.caches []
   pub work : s.work ≡ no_work

@@ -23,7 +23,7 @@ use Rattle.worker_core.specs.declared.turn.Next.TheVariants as nexts
 use Rattle.worker_core.specs.declared.turn.Pass.{Pass}
 use Rattle.worker_core.specs.Memories.{Memory}
 
-pub record State : Type 0 where
+pub record ActorState : Type 0 where
   pub role : Role
   pub caches : AllKnown
   pub work : Work
@@ -59,14 +59,14 @@ start_call role m = start_of role.kind role.node m
 abbrev pub call_under : Under → Request
 call_under u = u.call
 
-abbrev pub given_call : State → Option Given → Option Request
+abbrev pub given_call : ActorState → Option Given → Option Request
 given_call s None = None
 given_call s (Some givens.Task) = option_map call_under s.under
 given_call s (Some givens.Start) = start_call s.role s.memory
 given_call s (Some (givens.Read kind)) = Some (read_of_kind s.caches kind)
 
 -- the call that was given and is not answered yet
-abbrev pub asked : State → Option Request
+abbrev pub asked : ActorState → Option Request
 asked s = given_call s s.given
 
 -- the call of an answer

@@ -20,12 +20,12 @@ use Rattle.pod_scheduler.specs.Decisions.{BeginsOn}
 use Rattle.pod_scheduler.specs.Schedules.{schedule_call, schedule_moved, schedule_parks}
 use Rattle.protect_sync.specs.declared.claims.ClaimGuardOp.{ClaimGuardOp}
 use Rattle.protect_sync.specs.declared.volumes.VolumeGuardOp.{VolumeGuardOp}
-use Rattle.protect_sync.specs.ClaimGuards.{claim_call, claim_moved, claim_parks}
-use Rattle.protect_sync.specs.Decisions.{claim_begins, volume_begins}
-use Rattle.protect_sync.specs.VolumeGuards.{volume_call, volume_moved, volume_parks}
+use Rattle.protect_sync.specs.ClaimGuards.{claim_guard_call, claim_moved, claim_parks}
+use Rattle.protect_sync.specs.Decisions.{claim_guard_begins, volume_guard_begins}
+use Rattle.protect_sync.specs.VolumeGuards.{volume_guard_call, volume_moved, volume_parks}
 use Rattle.reclaim_ops.specs.declared.erase.EraseOp.{EraseOp}
 use Rattle.reclaim_ops.specs.declared.provision.ProvisionOp.{ProvisionOp}
-use Rattle.reclaim_ops.specs.Decisions.{claim_begins as provision_begins, volume_begins as erase_begins}
+use Rattle.reclaim_ops.specs.Decisions.{claim_begins, volume_begins}
 use Rattle.reclaim_ops.specs.Erasures.{erase_call, erase_moved, erase_parks}
 use Rattle.reclaim_ops.specs.Provisions.{provision_call, provision_moved, provision_parks}
 use Rattle.worker_core.specs.declared.role.Role.{Role}
@@ -39,8 +39,8 @@ use Rattle.worker_core.specs.Memories.{Memory}
 -- the next call, or none where nothing is left to be asked
 abbrev pub task_call : Task → Option Request
 task_call (tasks.Binder machine) = binder.call_of machine
-task_call (tasks.ClaimProtect op) = claim_call op
-task_call (tasks.VolumeProtect op) = volume_call op
+task_call (tasks.ClaimProtect op) = claim_guard_call op
+task_call (tasks.VolumeProtect op) = volume_guard_call op
 task_call (tasks.Agent op) = agent_call op
 task_call (tasks.Provision op) = provision_call op
 task_call (tasks.Erase op) = erase_call op
@@ -77,13 +77,13 @@ IsBinderFirst rows key (firsts.Begins task) = ⊥
 
 -- the other actors begin a machine or drop the key, and queue no other
 
-abbrev pub claim_first : Option ClaimGuardOp → First
-claim_first None = firsts.Drops
-claim_first (Some op) = firsts.Begins (tasks.ClaimProtect op)
+abbrev pub claim_guard_first : Option ClaimGuardOp → First
+claim_guard_first None = firsts.Drops
+claim_guard_first (Some op) = firsts.Begins (tasks.ClaimProtect op)
 
-abbrev pub volume_first : Option VolumeGuardOp → First
-volume_first None = firsts.Drops
-volume_first (Some op) = firsts.Begins (tasks.VolumeProtect op)
+abbrev pub volume_guard_first : Option VolumeGuardOp → First
+volume_guard_first None = firsts.Drops
+volume_guard_first (Some op) = firsts.Begins (tasks.VolumeProtect op)
 
 abbrev pub agent_first : Option AgentOp → First
 agent_first None = firsts.Drops
@@ -111,10 +111,10 @@ IsPodFirst rows refused row first = ⊥
 
 abbrev pub IsFirstOf : SeatKind → List ℕ → Memory → List Object → Key → First → Type 0
 IsFirstOf seats.Binder node m rows key first = IsBinderFirst rows key first
-IsFirstOf seats.Ops node m rows key first = first ≡ ops_first (provision_begins rows (row_at key rows)) (erase_begins (row_at key rows))
+IsFirstOf seats.Ops node m rows key first = first ≡ ops_first (claim_begins rows (row_at key rows)) (volume_begins (row_at key rows))
 IsFirstOf seats.Scheduler node m rows key first = IsPodFirst rows m.tries.refused (row_at key rows) first
-IsFirstOf seats.ClaimProtect node m rows key first = first ≡ claim_first (claim_begins rows (row_at key rows))
-IsFirstOf seats.VolumeProtect node m rows key first = first ≡ volume_first (volume_begins (row_at key rows))
+IsFirstOf seats.ClaimProtect node m rows key first = first ≡ claim_guard_first (claim_guard_begins rows (row_at key rows))
+IsFirstOf seats.VolumeProtect node m rows key first = first ≡ volume_guard_first (volume_guard_begins (row_at key rows))
 IsFirstOf seats.Agent node m rows key first = IsAgentFirst node m.epoch m.mounts (row_at key rows) first
 IsFirstOf seats.User node m rows key first = ⊥
 

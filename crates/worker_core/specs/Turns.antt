@@ -17,7 +17,7 @@ use Rattle.worker_core.specs.declared.turn.Next.{Next}
 use Rattle.worker_core.specs.declared.turn.Next.TheVariants as nexts
 use Rattle.worker_core.specs.Memories.{Memory}
 use Rattle.worker_core.specs.Roles.{kind_at, kinds_of}
-use Rattle.worker_core.specs.States.{State, read_of_kind, start_call}
+use Rattle.worker_core.specs.States.{ActorState, read_of_kind, start_call}
 use Rattle.worker_core.specs.Tasks.{GivesCall, GivesNone}
 
 -- the oldest key is decided, on the rows of the caches and on what the actor remembers
@@ -43,38 +43,38 @@ abbrev pub first_unlisted : AllKnown → List Kind → Option Kind
 first_unlisted c [] = None
 first_unlisted c (kind ∷ kinds) = if is_listed c kind then first_unlisted c kinds else Some kind
 
-abbrev pub unlisted : State → Option Kind
+abbrev pub unlisted : ActorState → Option Kind
 unlisted s = first_unlisted s.caches (kinds_of s.role.kind)
 
 -- the kind that the pass under way watches next, or none where no pass is under way
-abbrev pub passing : State → Option Kind
+abbrev pub passing : ActorState → Option Kind
 passing s = kind_at s.role s.pass.behind
 
 -- the turns
 
-pub record GivesUnder (old new : State) (answer : Next) (u : Under) : Type 0 where
+pub record GivesUnder (old new : ActorState) (answer : Next) (u : Under) : Type 0 where
   pub call : answer ≡ nexts.Call u.call
   pub state : new ≡ record old { given = Some givens.Task }
 
-pub record GivesStart (old new : State) (answer : Next) (request : Request) : Type 0 where
+pub record GivesStart (old new : ActorState) (answer : Next) (request : Request) : Type 0 where
   pub call : answer ≡ nexts.Call request
   pub state : new ≡ record old { given = Some givens.Start }
 
-pub record GivesRead (old new : State) (answer : Next) (kind : Kind) : Type 0 where
+pub record GivesRead (old new : ActorState) (answer : Next) (kind : Kind) : Type 0 where
   pub call : answer ≡ nexts.Call (read_of_kind old.caches kind)
   pub state : new ≡ record old { given = Some (givens.Read kind) }
 
 -- an agent whose epoch is stale asks nothing
-pub record IsSilent (old new : State) (answer : Next) : Type 0 where
+pub record IsSilent (old new : ActorState) (answer : Next) : Type 0 where
   pub idle : answer ≡ nexts.Idle
   pub state : new ≡ record old { given = None }
 
-pub record BeginsUnder (old new : State) (answer : Next) (w : Work) (u : Under) : Type 0 where
+pub record BeginsUnder (old new : ActorState) (answer : Next) (w : Work) (u : Under) : Type 0 where
   pub call : answer ≡ nexts.Call u.call
   pub state : new ≡ record old { work = w; under = Some u; given = Some givens.Task }
 
 -- the last pass brought an event: a new one begins with the first kind
-pub record BeginsPass (old new : State) (answer : Next) (w : Work) : Type 0 where
+pub record BeginsPass (old new : ActorState) (answer : Next) (w : Work) : Type 0 where
   pub brought : old.pass.event ≡ true
   pub kind : Kind
   pub first : kind_at old.role 0 ≡ Some kind
@@ -82,23 +82,23 @@ pub record BeginsPass (old new : State) (answer : Next) (w : Work) : Type 0 wher
   pub state : new ≡ record old { work = w; pass = record { behind = 0; event = false }; given = Some (givens.Read kind) }
 
 -- the last pass brought none
-pub record IsIdle (old new : State) (answer : Next) (w : Work) : Type 0 where
+pub record IsIdle (old new : ActorState) (answer : Next) (w : Work) : Type 0 where
   pub quiet : old.pass.event ≡ false
   pub idle : answer ≡ nexts.Idle
   pub state : new ≡ record old { work = w; given = None }
 
-abbrev pub AfterKeys : State → State → Next → Work → Option Under → Type 0
+abbrev pub AfterKeys : ActorState → ActorState → Next → Work → Option Under → Type 0
 AfterKeys old new answer w (Some u) = BeginsUnder old new answer w u
 AfterKeys old new answer w None = BeginsPass old new answer w ⊎ IsIdle old new answer w
 
-pub record DecidesKeys (old new : State) (answer : Next) : Type 0 where
+pub record DecidesKeys (old new : ActorState) (answer : Next) : Type 0 where
   pub work : Work
   pub under : Option Under
   pub decides : Decides old.role old.memory (all_objects old.caches) work under old.work
   pub then_ : AfterKeys old new answer work under
 
 -- what applies first
-abbrev pub TurnBy : State → State → Next → Bool → Option Under → Option Request → Option Kind → Option Kind → Type 0
+abbrev pub TurnBy : ActorState → ActorState → Next → Bool → Option Under → Option Request → Option Kind → Option Kind → Type 0
 TurnBy old new answer true under start lacking passing = IsSilent old new answer
 TurnBy old new answer false (Some u) start lacking passing = GivesUnder old new answer u
 TurnBy old new answer false None (Some request) lacking passing = GivesStart old new answer request
@@ -106,5 +106,5 @@ TurnBy old new answer false None None (Some kind) passing = GivesRead old new an
 TurnBy old new answer false None None None (Some kind) = GivesRead old new answer kind
 TurnBy old new answer false None None None None = DecidesKeys old new answer
 
-abbrev pub IsTurn : State → State → Next → Type 0
+abbrev pub IsTurn : ActorState → ActorState → Next → Type 0
 IsTurn old new answer = TurnBy old new answer old.memory.stale old.under (start_call old.role old.memory) (unlisted old) (passing old)

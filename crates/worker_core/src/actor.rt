@@ -70,9 +70,9 @@ impl Drop for Actor {
 
 impl Model for Actor {
     ghost use Rattle.worker_core.specs.Roles.{IsBuiltKind};
-    ghost use Rattle.worker_core.specs.States.{State};
+    ghost use Rattle.worker_core.specs.States.{ActorState};
 
-    ghost Value = { State };
+    ghost Value = { ActorState };
 
     ghost view = { λ a. record { role = a.role; caches = a.caches; work = a.queue; pass = a.pass; memory = a.memory; under = a.under; given = a.given } };
 

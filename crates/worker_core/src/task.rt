@@ -3,10 +3,10 @@
 ghost use Rattle.std.specs.Prelude.{◌≡◌, IfOk, Some};
 ghost use Rattle.kube_types.specs.Keys.{row_at};
 ghost use Rattle.node_agent.specs.Agents.{agent_begins};
-ghost use Rattle.protect_sync.specs.Decisions.{claim_begins, volume_begins};
-ghost use Rattle.reclaim_ops.specs.Decisions.{claim_begins as provision_begins, volume_begins as erase_begins};
+ghost use Rattle.protect_sync.specs.Decisions.{claim_guard_begins, volume_guard_begins};
+ghost use Rattle.reclaim_ops.specs.Decisions.{claim_begins, volume_begins};
 ghost use Rattle.worker_core.specs.declared.task.Task.TheVariants as tasks;
-ghost use Rattle.worker_core.specs.Tasks.{IsBinderFirst, IsPodFirst, agent_first, claim_first, ops_first, task_call, task_moved, task_parks, under_after, volume_first, with_call, with_task};
+ghost use Rattle.worker_core.specs.Tasks.{IsBinderFirst, IsPodFirst, agent_first, claim_guard_first, ops_first, task_call, task_moved, task_parks, under_after, volume_guard_first, with_call, with_task};
 
 use binder_machines::decide as binder;
 use binder_machines::machine::Machine;
@@ -230,7 +230,7 @@ pub(crate) fn first_of_claims<L: Lookup>(
     lookup: &L,
     key: &Key,
 ) -> Result<First, OutOfMemory>
-    ensures { IfOk result (λ first. first ≡ claim_first (claim_begins (L.rows lookup.now) (row_at key.now (L.rows lookup.now)))) }
+    ensures { IfOk result (λ first. first ≡ claim_guard_first (claim_guard_begins (L.rows lookup.now) (row_at key.now (L.rows lookup.now)))) }
 {
     match decide_claim(alloc, lookup, key)? {
         None => Ok(First::Drops),
@@ -244,7 +244,7 @@ pub(crate) fn first_of_volumes<L: Lookup>(
     lookup: &L,
     key: &Key,
 ) -> Result<First, OutOfMemory>
-    ensures { IfOk result (λ first. first ≡ volume_first (volume_begins (row_at key.now (L.rows lookup.now)))) }
+    ensures { IfOk result (λ first. first ≡ volume_guard_first (volume_guard_begins (row_at key.now (L.rows lookup.now)))) }
 {
     match decide_volume(alloc, lookup, key)? {
         None => Ok(First::Drops),
@@ -275,7 +275,7 @@ pub(crate) fn first_of_ops<L: Lookup>(
     lookup: &L,
     key: &Key,
 ) -> Result<First, OutOfMemory>
-    ensures { IfOk result (λ first. first ≡ ops_first (provision_begins (L.rows lookup.now) (row_at key.now (L.rows lookup.now))) (erase_begins (row_at key.now (L.rows lookup.now)))) }
+    ensures { IfOk result (λ first. first ≡ ops_first (claim_begins (L.rows lookup.now) (row_at key.now (L.rows lookup.now))) (volume_begins (row_at key.now (L.rows lookup.now)))) }
 {
     if let Some(op) = ops::decide_claim(alloc, lookup, key)? {
         return Ok(First::Begins(Task::Provision(op)));

@@ -13,7 +13,7 @@ use Rattle.worker_core.specs.declared.role.Role.{Role}
 use Rattle.worker_core.specs.Absorbs.{woken}
 use Rattle.worker_core.specs.Roles.{IsBuiltKind}
 use Rattle.worker_core.specs.Stands.{MayBeIdle}
-use Rattle.worker_core.specs.States.{State}
+use Rattle.worker_core.specs.States.{ActorState}
 use Rattle.worker_threads.specs.declared.drainers.Drainer.{Drainer}
 use Rattle.worker_threads.specs.Drainers.{AreRoles, AreSeats, agent_of, of_kind, roles_of, seats_of}
 use Rattle.worker_threads.specs.Longer.{GrowsWithin, HasGrown, IsLonger, IsOneOf, users_of}
@@ -114,11 +114,11 @@ get_set_other (x ∷ xs) (suc i) zero d other = refl
 get_set_other (x ∷ xs) (suc i) (suc j) d other = get_set_other xs i j d (λ e. other (ap suc e))
 
 -- Q holds of each of the first n drainers and its seat's entries
-abbrev pub EachBelow : ℕ → (State → List Entry → Type 0) → List Drainer → List Entry → Type 0
+abbrev pub EachBelow : ℕ → (ActorState → List Entry → Type 0) → List Drainer → List Entry → Type 0
 EachBelow n Q ds past = (place : ℕ) (d : Drainer) → place < n → slice_get ds place ≡ Some d → Q d.actor (own d.seat past)
 
 -- the actor may be idle
-abbrev pub IsIdleAt : State → List Entry → Type 0
+abbrev pub IsIdleAt : ActorState → List Entry → Type 0
 IsIdleAt s mine = MayBeIdle s.role s.memory mine
 
 seat_at : (ds : List Drainer) (i : ℕ) (d : Drainer) → slice_get ds i ≡ Some d → slice_get (seats_of ds) i ≡ Some d.seat
@@ -140,7 +140,7 @@ not_seat ds i j d x seats at there other (inl same) = other (seats.differ j i d.
 not_seat ds i j d x seats at there other (inr none) = elim none [ ]
 
 -- a drainer's calls leave what holds of the others and their entries
-pub each_set : (Q : State → List Entry → Type 0) (n m : ℕ) (ds : List Drainer) (i : ℕ) (d ran : Drainer) (h past : List Entry)
+pub each_set : (Q : ActorState → List Entry → Type 0) (n m : ℕ) (ds : List Drainer) (i : ℕ) (d ran : Drainer) (h past : List Entry)
     → AreSeats (seats_of ds) → slice_get ds i ≡ Some d → HasGrown (d.seat ∷ []) h past → ((place : ℕ) → place < m → place ≢ i → place < n)
     → EachBelow n Q ds h → Q ran.actor (own ran.seat past) → EachBelow m Q (set ds i ran) past
 each_set Q n m ds i d ran h past seats at grown within each here place x lt found = by (same_or_not place i)
@@ -160,38 +160,38 @@ and_assoc : (a b c : Bool) → ((a && b) && c) ≡ (a && (b && c))
 and_assoc true b c = refl
 and_assoc false b c = refl
 
-from_here : (past : List Entry) (left : ℕ) (ds : List Drainer) (i : ℕ) (d ran : Drainer) (h middle : List Entry) (b rest : ℕ) (idle : Bool) (after : List Drainer) (whole : Bool)
-    → slice_get ds i ≡ Some d → ran.seat ≡ d.seat → Runs all_pass d.seat ran.actor middle rest idle (woken d.actor) h b
-    → IsRound all_pass past left (drop (i + 1) (set ds i ran)) middle rest after whole → IsRound all_pass past left (drop i ds) h b (ran ∷ after) (idle && whole)
-from_here past left ds i d ran h middle b rest idle after whole at seat runs more =
+from_here : (lets : Lets) (past : List Entry) (left : ℕ) (ds : List Drainer) (i : ℕ) (d ran : Drainer) (h middle : List Entry) (b rest : ℕ) (idle : Bool) (after : List Drainer) (whole : Bool)
+    → slice_get ds i ≡ Some d → ran.seat ≡ d.seat → Runs lets d.seat ran.actor middle rest idle (woken d.actor) h b
+    → IsRound lets past left (drop (i + 1) (set ds i ran)) middle rest after whole → IsRound lets past left (drop i ds) h b (ran ∷ after) (idle && whole)
+from_here lets past left ds i d ran h middle b rest idle after whole at seat runs more =
     let lt : i < length ds = slice_get_within ds i d at in
     let one : i < i + 1 = omega arith in
     let rest_same : drop (i + 1) (set ds i ran) ≡ drop (i + 1) ds = drop-set-lt (i + 1) ds i ran one in
     let here : drop i ds ≡ d ∷ drop (i + 1) ds = drop-cons ds i d lt ∙ ap (λ (x : Drainer). x ∷ drop (suc i) ds) (get_or_from_slice_get ds i d d at) ∙ ap (λ (n : ℕ). d ∷ drop n ds) (sym (add-one i)) in
-    subst (λ (xs : List Drainer). IsRound all_pass past left xs h b (ran ∷ after) (idle && whole)) (sym here)
-    (Turns d ran middle rest idle seat runs (subst (λ (xs : List Drainer). IsRound all_pass past left xs middle rest after whole) rest_same more))
+    subst (λ (xs : List Drainer). IsRound lets past left xs h b (ran ∷ after) (idle && whole)) (sym here)
+    (Turns d ran middle rest idle seat runs (subst (λ (xs : List Drainer). IsRound lets past left xs middle rest after whole) rest_same more))
 
-pub turn_more : (initial : List Drainer) (first : List Entry) (budget : ℕ) (ds : List Drainer) (i : ℕ) (d ran : Drainer) (h middle : List Entry) (b rest : ℕ) (so_far idle : Bool)
-    → ((past : List Entry) (left : ℕ) (after : List Drainer) (whole : Bool) → IsRound all_pass past left (drop i ds) h b after whole → IsRound all_pass past left initial first budget (take i ds ++ after) (so_far && whole))
-    → slice_get ds i ≡ Some d → ran.seat ≡ d.seat → Runs all_pass d.seat ran.actor middle rest idle (woken d.actor) h b
-    → (past : List Entry) (left : ℕ) (after : List Drainer) (whole : Bool) → IsRound all_pass past left (drop (i + 1) (set ds i ran)) middle rest after whole
-    → IsRound all_pass past left initial first budget (take (i + 1) (set ds i ran) ++ after) ((so_far && idle) && whole)
-turn_more initial first budget ds i d ran h middle b rest so_far idle goes at seat runs past left after whole more =
+pub turn_more : (lets : Lets) (initial : List Drainer) (first : List Entry) (budget : ℕ) (ds : List Drainer) (i : ℕ) (d ran : Drainer) (h middle : List Entry) (b rest : ℕ) (so_far idle : Bool)
+    → ((past : List Entry) (left : ℕ) (after : List Drainer) (whole : Bool) → IsRound lets past left (drop i ds) h b after whole → IsRound lets past left initial first budget (take i ds ++ after) (so_far && whole))
+    → slice_get ds i ≡ Some d → ran.seat ≡ d.seat → Runs lets d.seat ran.actor middle rest idle (woken d.actor) h b
+    → (past : List Entry) (left : ℕ) (after : List Drainer) (whole : Bool) → IsRound lets past left (drop (i + 1) (set ds i ran)) middle rest after whole
+    → IsRound lets past left initial first budget (take (i + 1) (set ds i ran) ++ after) ((so_far && idle) && whole)
+turn_more lets initial first budget ds i d ran h middle b rest so_far idle goes at seat runs past left after whole more =
     let lt : i < length ds = slice_get_within ds i d at in
     let lists : take i ds ++ (ran ∷ after) ≡ take (i + 1) (set ds i ran) ++ after = sym (ap (λ (xs : List Drainer). xs ++ after) (take_more_set ds i ran lt) ∙ append_assoc (take i ds) (ran ∷ []) after) in
-    let made = goes past left (ran ∷ after) (idle && whole) (from_here past left ds i d ran h middle b rest idle after whole at seat runs more) in
-    subst (λ (xs : List Drainer). IsRound all_pass past left initial first budget xs ((so_far && idle) && whole)) lists
-    (subst (λ (w : Bool). IsRound all_pass past left initial first budget (take i ds ++ (ran ∷ after)) w) (sym (and_assoc so_far idle whole)) made)
+    let made = goes past left (ran ∷ after) (idle && whole) (from_here lets past left ds i d ran h middle b rest idle after whole at seat runs more) in
+    subst (λ (xs : List Drainer). IsRound lets past left initial first budget xs ((so_far && idle) && whole)) lists
+    (subst (λ (w : Bool). IsRound lets past left initial first budget (take i ds ++ (ran ∷ after)) w) (sym (and_assoc so_far idle whole)) made)
 
 -- all turns
-pub turns_end : (initial : List Drainer) (first : List Entry) (budget : ℕ) (ds : List Drainer) (n : ℕ) (h : List Entry) (b : ℕ) (so_far : Bool) → n ≡ length ds
-    → ((past : List Entry) (left : ℕ) (after : List Drainer) (whole : Bool) → IsRound all_pass past left (drop n ds) h b after whole → IsRound all_pass past left initial first budget (take n ds ++ after) (so_far && whole))
-    → IsRound all_pass h b initial first budget ds so_far
-turns_end initial first budget ds n h b so_far all goes =
+pub turns_end : (lets : Lets) (initial : List Drainer) (first : List Entry) (budget : ℕ) (ds : List Drainer) (n : ℕ) (h : List Entry) (b : ℕ) (so_far : Bool) → n ≡ length ds
+    → ((past : List Entry) (left : ℕ) (after : List Drainer) (whole : Bool) → IsRound lets past left (drop n ds) h b after whole → IsRound lets past left initial first budget (take n ds ++ after) (so_far && whole))
+    → IsRound lets h b initial first budget ds so_far
+turns_end lets initial first budget ds n h b so_far all goes =
     let none : drop n ds ≡ [] = ap (λ (k : ℕ). drop k ds) all ∙ drop_all ds in
     let lists : take n ds ++ [] ≡ ds = append_nil (take n ds) ∙ ap (λ (k : ℕ). take k ds) all ∙ take_all ds in
-    let made = goes h b [] true (subst (λ (xs : List Drainer). IsRound all_pass h b xs h b [] true) (sym none) (Ends refl refl)) in
-    subst (λ (xs : List Drainer). IsRound all_pass h b initial first budget xs so_far) lists (subst (λ (w : Bool). IsRound all_pass h b initial first budget (take n ds ++ []) w) (and_true so_far) made)
+    let made = goes h b [] true (subst (λ (xs : List Drainer). IsRound lets h b xs h b [] true) (sym none) (Ends refl refl)) in
+    subst (λ (xs : List Drainer). IsRound lets h b initial first budget xs so_far) lists (subst (λ (w : Bool). IsRound lets h b initial first budget (take n ds ++ []) w) (and_true so_far) made)
   where
     and_true : (a : Bool) → (a && true) ≡ a
     and_true true = refl

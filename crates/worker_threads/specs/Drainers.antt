@@ -7,7 +7,7 @@ use Rattle.call_types.specs.declared.request.SeatKind.TheVariants as seats
 use Rattle.binder_model.specs.Told.{own}
 use Rattle.worker_core.specs.declared.role.Role.{Role}
 use Rattle.worker_core.specs.Stands.{IsNew, MayBeIdle, StandsFor}
-use Rattle.worker_core.specs.States.{State}
+use Rattle.worker_core.specs.States.{ActorState}
 use Rattle.attention_law.specs.Queues.{QueueStands}
 use Rattle.worker_threads.specs.declared.drainers.Drainer.{Drainer}
 
@@ -53,7 +53,7 @@ seats_for first nodes = (first + 2) ∷ (first + 1) ∷ first ∷ (first + 3) �
 -- ---- what they stand for
 
 -- the actor stands for the entries, each key stands once in its queue, and what is taken there is what it has under way
-pub record StandsWhole (s : State) (mine : List Entry) : Type 0 where
+pub record StandsWhole (s : ActorState) (mine : List Entry) : Type 0 where
   pub told : StandsFor s mine
   pub queue : QueueStands s
 

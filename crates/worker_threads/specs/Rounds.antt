@@ -15,41 +15,43 @@ use Rattle.world_core.specs.declared.drained.Drained.TheVariants.{Settled, Spent
 use Rattle.binder_model.specs.Due.{IsFirstDue, IsSettled}
 use Rattle.binder_model.specs.Told.{own}
 use Rattle.informer_cache.specs.All.{all_objects}
+pub use Rattle.seat_calls.specs.Answered.{Lets, all_pass}
 use Rattle.worker_core.specs.declared.turn.Next.TheVariants.{Call, Idle}
 use Rattle.worker_core.specs.declared.turn.Outcome.TheVariants.{Lost, Told}
 use Rattle.worker_core.specs.Absorbs.{absorbed, woken}
-use Rattle.worker_core.specs.States.{State}
+use Rattle.worker_core.specs.States.{ActorState}
 use Rattle.worker_core.specs.Turns.{IsTurn}
 use Rattle.worker_threads.specs.declared.drainers.Drainer.{Drainer}
 use Rattle.worker_threads.specs.Drainers.{StandsWhole}
+use Rattle.worker_threads.specs.Longer.{IsOneOf}
 
 -- the entry of an actor's call, whose answer was told
-abbrev pub told_entry : ℕ → State → Request → Reply → Entry
+abbrev pub told_entry : ℕ → ActorState → Request → Reply → Entry
 told_entry seat s request reply = record { seat = seat; kind = s.role.kind; request = request; reply = reply; told = true }
 
--- which requests reach the world, after these entries
-abbrev pub Lets : Type 0
-Lets = List Entry → Request → Bool
+-- each of these seats is answered
+abbrev pub ServesSeats : (ℕ → Type 0) → List ℕ → Type 0
+ServesSeats Serves seats = (seat : ℕ) → IsOneOf seats seat → Serves seat
 
--- none is held back
-abbrev pub all_pass : Lets
-all_pass h request = true
+-- no seat is answered in an order
+abbrev pub OrdersNone : (ℕ → Type 0) → Type 0
+OrdersNone Orders = (seat : ℕ) → Orders seat → ⊥
 
 -- before each turn the caches have their rows in order, and the actor stands whole for the entries of its seat: so what it
 -- decides rests on what the seat was told, and on nothing else
-pub record IsReady (seat : ℕ) (s : State) (h : List Entry) : Type 0 where
+pub record IsReady (seat : ℕ) (s : ActorState) (h : List Entry) : Type 0 where
   pub rows : AreRows (all_objects s.caches)
   pub stands : StandsWhole s (own seat h)
 
 -- the actor is run at its seat until it is idle or the budget is spent: from a state, some entries and a budget to the
 -- state `after` and the entries `past`, with so many calls left, and idle or not. A call that is held back counts, leaves no
 -- entry, and is lost to the actor
-pub data Runs (lets : Lets) (seat : ℕ) (after : State) (past : List Entry) (left : ℕ) (idle : Bool) : State → List Entry → ℕ → Type 0 where
-  IsSpent : {s : State} {h : List Entry} {b : ℕ} → b ≡ 0 → after ≡ s → past ≡ h → left ≡ b → idle ≡ false → Runs lets seat after past left idle s h b
-  IsIdle : {s : State} {h : List Entry} {b : ℕ} → 0 < b → IsReady seat s h → IsTurn s after Idle → past ≡ h → left ≡ b → idle ≡ true → Runs lets seat after past left idle s h b
-  Asks : {s : State} {h : List Entry} {b : ℕ} (given next : State) (request : Request) (reply : Reply) → 0 < b → IsReady seat s h → IsTurn s given (Call request) → lets h request ≡ true
+pub data Runs (lets : Lets) (seat : ℕ) (after : ActorState) (past : List Entry) (left : ℕ) (idle : Bool) : ActorState → List Entry → ℕ → Type 0 where
+  IsSpent : {s : ActorState} {h : List Entry} {b : ℕ} → b ≡ 0 → after ≡ s → past ≡ h → left ≡ b → idle ≡ false → Runs lets seat after past left idle s h b
+  IsIdle : {s : ActorState} {h : List Entry} {b : ℕ} → 0 < b → IsReady seat s h → IsTurn s after Idle → past ≡ h → left ≡ b → idle ≡ true → Runs lets seat after past left idle s h b
+  Asks : {s : ActorState} {h : List Entry} {b : ℕ} (given next : ActorState) (request : Request) (reply : Reply) → 0 < b → IsReady seat s h → IsTurn s given (Call request) → lets h request ≡ true
       → next ≡ absorbed given next.caches request (Told reply) → Runs lets seat after past left idle next (told_entry seat given request reply ∷ h) (b - 1) → Runs lets seat after past left idle s h b
-  IsHeld : {s : State} {h : List Entry} {b : ℕ} (given next : State) (request : Request) → 0 < b → IsReady seat s h → IsTurn s given (Call request) → lets h request ≡ false
+  IsHeld : {s : ActorState} {h : List Entry} {b : ℕ} (given next : ActorState) (request : Request) → 0 < b → IsReady seat s h → IsTurn s given (Call request) → lets h request ≡ false
       → next ≡ absorbed given next.caches request Lost → Runs lets seat after past left idle next h (b - 1) → Runs lets seat after past left idle s h b
 
 -- each actor in its turn is woken and run, with what the others have left of the budget. The round is whole where each was

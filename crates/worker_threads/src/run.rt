@@ -1,24 +1,23 @@
-//! One actor that is run on a world.
+//! One actor that is run on what answers its calls.
 
-ghost use Rattle.std.specs.Prelude.{◌≡◌, ◌<◌, ◌-◌, true, [], ◌∷◌, IfOk, OnOk, OnErr, length};
-ghost use Rattle.binder_model.specs.Imports.{ImportsPass};
+ghost use Rattle.std.specs.Prelude.{◌≡◌, ◌<◌, ◌-◌, ℕ, true, [], ◌∷◌, IfOk, OnOk, OnErr};
 ghost use Rattle.binder_model.specs.Licence.{Licensed};
-ghost use Rattle.binder_model.specs.Promises.{most_entries};
 ghost use Rattle.binder_model.specs.Told.{own};
-ghost use Rattle.binder_model.specs.World.{IsHistory};
 ghost use Rattle.worker_core.specs.Roles.{IsBuiltKind};
-ghost use Rattle.worker_core.specs.Stands.{MayBeIdle};
+ghost use Rattle.worker_core.specs.Stands.{AreOwn, MayBeIdle};
 ghost use Rattle.size_calls.specs.Calls.{AreByActors};
+ghost use Rattle.worker_threads.specs.Calling.{CameTo};
 ghost use Rattle.worker_threads.specs.Drainers.{StandsWhole};
 ghost use Rattle.worker_threads.specs.Longer.{HasGrown, users_of};
-ghost use Rattle.worker_threads.specs.Rounds.{Runs, all_pass};
+ghost use Rattle.worker_threads.specs.Rounds.{OrdersNone, Runs};
 
-use call_types::reply::Reply;
-use call_types::request::{Request, SeatKind};
+use call_types::ask::Ask;
+use call_types::request::SeatKind;
 use kube_types::copies::OutOfMemory;
+use seat_calls::answers::Answers;
+use seat_calls::asking::ask_of;
 use worker_core::actor::Actor;
-use worker_core::turn::{Next, Outcome};
-use world_core::kept::KeptWorld;
+use worker_core::turn::Outcome;
 
 /// How far an actor was run: how many calls of the budget are left, and whether the actor was idle.
 #[derive(Clone, Copy, Debug)]
@@ -28,8 +27,8 @@ pub(crate) struct Ran {
 }
 
 /// Runs the actor at its seat until it is idle or the budget is spent.
-pub(crate) fn run(
-    world: &mut KeptWorld,
+pub(crate) fn run<W: Answers>(
+    desk: &mut W,
     seat: u64,
     kind: SeatKind,
     actor: &mut Actor,
@@ -37,25 +36,30 @@ pub(crate) fn run(
 ) -> Result<Ran, OutOfMemory>
     requires kind { kind ≡ actor.old.role.kind }
     requires built { IsBuiltKind kind }
-    requires stands { StandsWhole actor.old (own seat world.old.past) }
-    ensures runs { IfOk result (λ ran. Runs all_pass seat actor.new world.new.past ran.left ran.idle actor.old world.old.past budget) }
-    ensures stands { OnOk result (StandsWhole actor.new (own seat world.new.past)) }
-    ensures idle { IfOk result (λ ran. ran.idle ≡ true → MayBeIdle actor.new.role actor.new.memory (own seat world.new.past)) }
+    requires serves { W.serves desk.old seat }
+    requires free { OrdersNone (W.orders desk.old) }
+    requires stands { StandsWhole actor.old (own seat (W.past desk.old)) }
+    ensures runs { IfOk result (λ ran. Runs (W.lets desk.old) seat actor.new (W.past desk.new) ran.left ran.idle actor.old (W.past desk.old) budget) }
+    ensures stands { OnOk result (StandsWhole actor.new (own seat (W.past desk.new))) }
+    ensures idle { IfOk result (λ ran. ran.idle ≡ true → MayBeIdle actor.new.role actor.new.memory (own seat (W.past desk.new))) }
     ensures role { OnOk result (actor.new.role ≡ actor.old.role) }
-    ensures grown { HasGrown (seat ∷ []) world.old.past world.new.past }
-    ensures users { users_of world.new.past ≡ users_of world.old.past }
-    ensures actors { AreByActors world.old.past → AreByActors world.new.past }
-    ensures setup { world.new.setup ≡ world.old.setup }
+    ensures grown { HasGrown (seat ∷ []) (W.past desk.old) (W.past desk.new) }
+    ensures users { users_of (W.past desk.new) ≡ users_of (W.past desk.old) }
+    ensures actors { AreByActors (W.past desk.old) → AreByActors (W.past desk.new) }
+    ensures serves { OnOk result ((other : ℕ) → W.serves desk.old other → W.serves desk.new other) }
+    ensures orders { OnOk result (OrdersNone (W.orders desk.new)) }
+    ensures lets { W.lets desk.new ≡ W.lets desk.old }
+    ensures setup { W.setup desk.new ≡ W.setup desk.old }
+    ensures lent { W.lent desk.new ≡ W.lent desk.old }
 {
-    have_history(world);
     let mut left = budget;
     while left > 0 {
         let next = actor.next()?;
-        match &next {
-            Next::Idle => return Ok(Ran { left, idle: true }),
-            Next::Call(request) => {
-                let reply = ask(world, seat, kind, request)?;
-                actor.absorb(request, Outcome::Told(reply))?;
+        match ask_of(next, kind) {
+            None => return Ok(Ran { left, idle: true }),
+            Some(ask) => {
+                let outcome = call(desk, seat, &ask)?;
+                actor.absorb(&ask.request, outcome)?;
                 left -= 1;
             }
         }
@@ -63,31 +67,22 @@ pub(crate) fn run(
     Ok(Ran { left, idle: false })
 }
 
-/// Makes one call, and is told the answer.
-fn ask(
-    world: &mut KeptWorld,
-    seat: u64,
-    kind: SeatKind,
-    request: &Request,
-) -> Result<Reply, OutOfMemory>
-    requires { Licensed kind (own seat world.old.past) request.now }
-    ensures entry { IfOk result (λ reply. world.new.past ≡ record { seat = seat; kind = kind; request = request.now; reply = reply; told = true } ∷ world.old.past) }
-    ensures history { OnOk result (IsHistory world.new.setup world.new.past) }
-    ensures short { OnOk result (length world.new.past < most_entries) }
-    ensures imports { OnOk result (ImportsPass world.new.setup.imports) }
-    ensures setup { world.new.setup ≡ world.old.setup }
-    ensures err { OnErr result (world.new.past ≡ world.old.past) }
+/// Makes one call, and is told the answer. A call that was held back is lost.
+fn call<W: Answers>(desk: &mut W, seat: u64, ask: &Ask) -> Result<Outcome, OutOfMemory>
+    requires serves { W.serves desk.old seat }
+    requires free { OrdersNone (W.orders desk.old) }
+    requires licensed { Licensed ask.now.kind (own seat (W.past desk.old)) ask.now.request }
+    ensures came { IfOk result (λ outcome. CameTo (W.lets desk.old) seat ask.now.kind ask.now.request outcome (W.past desk.old) (W.past desk.new)) }
+    ensures own { OnOk result (AreOwn (own seat (W.past desk.new))) }
+    ensures serves { OnOk result ((other : ℕ) → W.serves desk.old other → W.serves desk.new other) }
+    ensures orders { OnOk result (OrdersNone (W.orders desk.new)) }
+    ensures lets { W.lets desk.new ≡ W.lets desk.old }
+    ensures setup { W.setup desk.new ≡ W.setup desk.old }
+    ensures lent { W.lent desk.new ≡ W.lent desk.old }
+    ensures err { OnErr result (W.past desk.new ≡ W.past desk.old) }
 {
-    let reply = world.call(seat, kind, request, true)?;
-    have_history(world);
-    Ok(reply)
-}
-
-/// The world's history is one. It does nothing: its contract is what callers know of the world.
-fn have_history(world: &KeptWorld)
-    ensures history { IsHistory world.now.setup world.now.past }
-    ensures short { length world.now.past < most_entries }
-    ensures imports { ImportsPass world.now.setup.imports }
-{
-    let _ = world.world().history();
+    match desk.call(seat, ask, true)? {
+        Some(reply) => Ok(Outcome::Told(reply)),
+        None => Ok(Outcome::Lost),
+    }
 }

@@ -9,7 +9,7 @@ use Rattle.kube_types.specs.declared.objects.Object.TheVariants.{Node}
 use Rattle.kube_types.specs.Bindings.{is_empty}
 use Rattle.kube_types.specs.Keys.{rows_of}
 use Rattle.delayed_binding.specs.declared.choice.Choice.{Choice}
-use Rattle.delayed_binding.specs.Choices.{HasNoNode, IsFirstNode, IsPreparing, Serves, is_past}
+use Rattle.delayed_binding.specs.Choices.{HasNoNode, IsFirstNode, IsPreparing, ServesClaims, is_past}
 
 -- a node that stands in no namespace
 abbrev pub as_node : Option Object → Option NodeData
@@ -46,12 +46,12 @@ pub record IsPreparedThere (rows : List Object) (claims : List ClaimData) (node 
 
 abbrev pub IsPreparedIf : List Object → List ClaimData → Option NodeData → Option Choice → Type 0
 IsPreparedIf rows claims node (Some choice) = IsPreparedThere rows claims node choice
-IsPreparedIf rows claims node None = (n : NodeData) → node ≡ Some n → Serves rows claims n → ⊥
+IsPreparedIf rows claims node None = (n : NodeData) → node ≡ Some n → ServesClaims rows claims n → ⊥
 
 -- a node of the turn that serves the claims
 pub record ServesInTurn (rows : List Object) (claims : List ClaimData) (last : Option (List ℕ)) (past : Bool) (n : NodeData) : Type 0 where
   pub turn : is_past last n ≡ past
-  pub serves : Serves rows claims n
+  pub serves : ServesClaims rows claims n
 
 -- the first node of the turn that serves the claims, with what is prepared there
 pub record IsFoundInTurn (rows : List Object) (claims : List ClaimData) (last : Option (List ℕ)) (past : Bool) (choice : Choice) : Type 0 where

@@ -35,7 +35,7 @@ pub record Held : Type 0 where
   pub provisions : List Key
 
 abbrev pub held_by : Shares → Held
-held_by s = record { taken = s.taken.items; binds = s.binds.items; provisions = s.provisions.items }
+held_by s = record { taken = s.taken; binds = s.binds.items; provisions = s.provisions.items }
 
 -- once these claims have their shares
 pub record IsSharedOut (rows : List Object) (node : NodeData) (claims : List ClaimData) (held : Held) : Type 0 where
@@ -54,7 +54,9 @@ HaveNoShares rows node claims = (shares : List Share) → AreShares rows node (s
 pub record TakesBest (rows : List Object) (node : NodeData) (c : ClaimData) (before after : Held) : Type 0 where
   pub place : ℕ
   pub best : IsBest rows c (Some node) false before.taken (Some place)
-  pub after_is : after ≡ record { taken = before.taken ++ place ∷ []; binds = before.binds ++ pair_of c (volume_at rows place); provisions = before.provisions }
+  pub taken_are : AreSame after.taken (place ∷ before.taken)
+  pub binds_are : after.binds ≡ before.binds ++ pair_of c (volume_at rows place)
+  pub provisions_are : after.provisions ≡ before.provisions
 
 pub record IsLeft (rows : List Object) (node : NodeData) (c : ClaimData) (before after : Held) : Type 0 where
   pub none : IsBest rows c (Some node) false before.taken None

@@ -8,7 +8,7 @@ use Rattle.worker_core.specs.declared.task.First.TheVariants as firsts
 use Rattle.worker_core.specs.declared.task.Task.TheVariants as tasks
 use Rattle.worker_core.specs.declared.turn.Next.{Next}
 use Rattle.worker_core.specs.Memories.{Memory}
-use Rattle.worker_core.specs.States.{State, start_call}
+use Rattle.worker_core.specs.States.{ActorState, start_call}
 use Rattle.worker_core.specs.Turns.{IsTurn, TurnBy, passing, unlisted}
 use Rattle.machine_examples.specs.Actor.NodeAgents.{AgentDecisionExamples, AgentMoveExamples, AgentSilenceExamples, AgentStartExamples, agent_of}
 use Rattle.model_examples.specs.Samples.{node_1}
@@ -65,7 +65,7 @@ moves = record {
 }
 
 -- a turn by what the agent remembers
-turn_with : (s new : State) (given : Next) (memory : Memory) → s.role ≡ agent_of node_1 → s.memory ≡ memory → s.under ≡ None → IsTurn s new given
+turn_with : (s new : ActorState) (given : Next) (memory : Memory) → s.role ≡ agent_of node_1 → s.memory ≡ memory → s.under ≡ None → IsTurn s new given
     → TurnBy s new given memory.stale None (start_call (agent_of node_1) memory) (unlisted s) (passing s)
 turn_with s new given memory role is none turn =
     subst (λ r. TurnBy s new given memory.stale None (start_call r memory) (unlisted s) (passing s)) role

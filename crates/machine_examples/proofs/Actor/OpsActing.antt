@@ -19,7 +19,7 @@ use Rattle.worker_core.specs.declared.turn.Next.{Next}
 use Rattle.worker_core.specs.declared.turn.Next.TheVariants as nexts
 use Rattle.worker_core.specs.Memories.{Memory, no_memory}
 use Rattle.worker_core.specs.Roles.{kinds_of}
-use Rattle.worker_core.specs.States.{State, read_of_kind, start_call}
+use Rattle.worker_core.specs.States.{ActorState, read_of_kind, start_call}
 use Rattle.worker_core.specs.Turns.{GivesRead, IsTurn, TurnBy, first_unlisted, passing, unlisted}
 use Rattle.machine_examples.specs.Actor.OpsActors.{OpsDecisionExamples, OpsListExamples, OpsMoveExamples, knows, role_of}
 
@@ -100,7 +100,7 @@ moves = record {
 }
 
 -- a turn of ops that has these caches and nothing under way
-turn_with : (s new : State) (given : Next) (caches : AllKnown) → s.role ≡ role_of seats.Ops → s.memory ≡ no_memory → s.under ≡ None → s.caches ≡ caches → IsTurn s new given
+turn_with : (s new : ActorState) (given : Next) (caches : AllKnown) → s.role ≡ role_of seats.Ops → s.memory ≡ no_memory → s.under ≡ None → s.caches ≡ caches → IsTurn s new given
     → TurnBy s new given false None None (first_unlisted caches (kinds_of seats.Ops)) (passing s)
 turn_with s new given caches role is none known turn =
     subst (λ c. TurnBy s new given false None None (first_unlisted c (kinds_of seats.Ops)) (passing s)) known

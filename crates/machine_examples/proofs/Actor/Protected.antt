@@ -3,8 +3,8 @@ use Rattle.std.proofs.Common.{refl, sym, ap, true≢false}
 use Rattle.std.specs.Prelude.{Bool, true, false}
 use Rattle.protect_sync.specs.declared.claims.ClaimGuardStep.{ClaimGuardStep}
 use Rattle.protect_sync.specs.declared.claims.ClaimGuardStep.TheVariants as claims
-use Rattle.protect_sync.specs.ClaimGuards.{claim_call, claim_moved}
-use Rattle.protect_sync.specs.VolumeGuards.{volume_call, volume_moved}
+use Rattle.protect_sync.specs.ClaimGuards.{claim_guard_call, claim_moved}
+use Rattle.protect_sync.specs.VolumeGuards.{volume_guard_call, volume_moved}
 use Rattle.worker_core.specs.declared.task.First.{First}
 use Rattle.worker_core.specs.declared.task.First.TheVariants as firsts
 use Rattle.worker_core.specs.declared.task.Task.TheVariants as tasks
@@ -42,7 +42,7 @@ decisions = record {
 }
 
 pub moves : ProtectionMoveExamples
-unfolding claim_call claim_moved volume_call volume_moved
+unfolding claim_guard_call claim_moved volume_guard_call volume_moved
 moves = record {
   no_pod_drops_it = refl;
   pod_that_uses_it_ends_it = refl;

@@ -21,7 +21,7 @@ use Rattle.volume_match.proofs.Scans.{absent, closed, kept, open_candidate, pass
 use Rattle.model_laws.proofs.Lists.{none_some, one}
 use Rattle.delayed_binding.specs.declared.choice.Choice.{Choice}
 use Rattle.delayed_binding.specs.declared.choice.Choice.TheVariants.{Assign, Prepare, Wait, NoNode}
-use Rattle.delayed_binding.specs.Choices.{AreAdmitted, IsChoice, IsChoiceAt, IsCompleted, IsPreparedOn, IsSearching, IsServedElsewhere, IsUnderWay, LacksClaim, Serves, ServesAll, Stage, binds_of, is_past, others_in, provisions_of, set_aside, stage_of}
+use Rattle.delayed_binding.specs.Choices.{AreAdmitted, IsChoice, IsChoiceAt, IsCompleted, IsPreparedOn, IsSearching, IsServedElsewhere, IsUnderWay, LacksClaim, ServesClaims, ServesAll, Stage, binds_of, is_past, others_in, provisions_of, set_aside, stage_of}
 use Rattle.delayed_binding.specs.Steps.Scans.{IsFirstInTurn, ServesInTurn, as_node}
 use Rattle.delayed_binding.proofs.Bests.{AreSetAside, aside_more, one_best, set_aside_is}
 use Rattle.delayed_binding.proofs.Rounds.{first_turn, found_first, no_turn, none_found, second_turn}
@@ -177,7 +177,7 @@ module _ (rows : List Object) (order : AreRows rows) (claims : List ClaimData) (
       by true fixed h = record { fixed = fixed; shared = some_are rows n (others_in rows claims) (set_aside rows) shares h }
       by false fixed h = none_some h
 
-  not_serving : serves rows claims n ≡ false → Serves rows claims n → ⊥
+  not_serving : serves rows claims n ≡ false → ServesClaims rows claims n → ⊥
   not_serving h s = by (list_all (fixed_admit rows n) claims) refl h
     where
       none_of : (o : Option (List Share)) → is_some o ≡ false → o ≡ None

@@ -1,11 +1,11 @@
 -- What the machines of protection ask and make of answers, computed.
 use Rattle.std.proofs.Common.{refl}
-use Rattle.protect_sync.specs.ClaimGuards.{claim_call, claim_moved}
-use Rattle.protect_sync.specs.VolumeGuards.{volume_call, volume_moved}
+use Rattle.protect_sync.specs.ClaimGuards.{claim_guard_call, claim_moved}
+use Rattle.protect_sync.specs.VolumeGuards.{volume_guard_call, volume_moved}
 use Rattle.machine_examples.specs.Guard.Moves.{ClaimCallExamples, ClaimMoveExamples, ParkingExamples, VolumeExamples}
 
 pub claim_call_examples : ClaimCallExamples
-unfolding claim_call
+unfolding claim_guard_call
 claim_call_examples = record {
   adds_it_at_the_version = refl;
   lists_the_pods_of_the_namespace = refl;
@@ -31,7 +31,7 @@ claim_move_examples = record {
 }
 
 pub volume_examples : VolumeExamples
-unfolding volume_call volume_moved
+unfolding volume_guard_call volume_moved
 volume_examples = record {
   adds_it_at_the_version = refl;
   drops_its_own_alone = refl;

@@ -33,10 +33,10 @@ use Rattle.worker_core.specs.declared.task.Task.{Task}
 use Rattle.worker_core.specs.declared.task.Task.TheVariants as tasks
 use Rattle.worker_core.specs.Memories.{memory_of}
 use Rattle.worker_core.specs.Stands.{AreLicensed}
-use Rattle.worker_core.specs.States.{State}
+use Rattle.worker_core.specs.States.{ActorState}
 use Rattle.worker_core.specs.Tasks.{IsDecision}
 use Rattle.worker_core.proofs.Begins.{begins}
-use Rattle.attention_law.specs.Diligence.{BeginsCall, Call, IsAskedFor, IsDiligent, IsDue, IsQuiet, Shows, WasAskedSince, entries}
+use Rattle.attention_law.specs.Diligence.{BeginsCall, Call, IsAskedFor, IsDiligent, IsKeyDue, IsQuiet, Shows, WasAskedSince, entries}
 use Rattle.attention_law.specs.Played.{Begins, IsPlayed}
 use Rattle.attention_law.specs.Showing.{IsDueInOrder}
 use Rattle.attention_law.proofs.Dues.{asked_no_watch}
@@ -104,7 +104,7 @@ module _ (v : VolumeData) (m : Machine) (request : Request) (asks : call_of m �
   showing : Shows mine (rows v)
   showing = record { order = (tt, tt); shown = shown }
 
-  due_by : IsDue binder key_a mine
+  due_by : IsKeyDue binder key_a mine
   due_by = record {
     rows = rows v;
     shows = showing;
@@ -118,7 +118,7 @@ frees_asks : (v : VolumeData) → v.meta.namespace ≡ [] → call_of (Frees v) 
 unfolding call_of
 frees_asks v none = ap (λ n. if is_empty n then Some (write_phase v volumes.Available) else None) none
 
-pending_due : (mine : List Entry) → ((key : Key) → row_at key (rows pending_a) ≡ object_of (newest mine key)) → IsDue binder key_a mine
+pending_due : (mine : List Entry) → ((key : Key) → row_at key (rows pending_a) ≡ object_of (newest mine key)) → IsKeyDue binder key_a mine
 unfolding volume_decision
 pending_due mine shown = due_by pending_a (Frees pending_a) (write_phase pending_a volumes.Available) (frees_asks pending_a refl) mine shown refl (λ rs shows. refl)
 
@@ -131,12 +131,12 @@ reads_unseen : (rs : List Object) → row_at key_c rs ≡ None → volume_first 
 unfolding volume_decision claim_with
 reads_unseen rs none = rw none refl
 
-taken_due : (mine : List Entry) → ((key : Key) → row_at key (rows taken_a) ≡ object_of (newest mine key)) → IsDue binder key_a mine
+taken_due : (mine : List Entry) → ((key : Key) → row_at key (rows taken_a) ≡ object_of (newest mine key)) → IsKeyDue binder key_a mine
 taken_due mine shown = due_by taken_a (ReadsClaim taken_a) (requests.Get key_c) reads_asks mine shown refl (λ rs shows. reads_unseen rs (shows.shown key_c ∙ sym (shown key_c)))
 
 -- a key whose decision drops it is not due
 
-not_due : (key : Key) (mine : List Entry) (rs : List Object) → Shows mine rs → IsFirst rs (row_at key rs) binder_firsts.Drops → IsDue binder key mine → ⊥
+not_due : (key : Key) (mine : List Entry) (rs : List Object) → Shows mine rs → IsFirst rs (row_at key rs) binder_firsts.Drops → IsKeyDue binder key mine → ⊥
 not_due key mine rs shows drops due = none_some (ap task_in (due.only rs shows firsts.Drops drops).begins)
   where
     task_in : First → Option Task
@@ -144,7 +144,7 @@ not_due key mine rs shows drops due = none_some (ap task_in (due.only rs shows f
     task_in first = None
 
 -- where nothing was told nothing is due
-none_due : (key : Key) → IsDue binder key [] → ⊥
+none_due : (key : Key) → IsKeyDue binder key [] → ⊥
 none_due key = not_due key [] [] (record { order = tt; shown = λ k. refl }) refl
 
 -- where an available volume was told nothing is due
@@ -152,7 +152,7 @@ available_drops : IsFirst (rows a) (Some (Volume a)) binder_firsts.Drops
 unfolding volume_decision
 available_drops = refl
 
-available_none : (mine : List Entry) → ((key : Key) → row_at key (rows a) ≡ object_of (newest mine key)) → (key : Key) → IsDue binder key mine → ⊥
+available_none : (mine : List Entry) → ((key : Key) → row_at key (rows a) ≡ object_of (newest mine key)) → (key : Key) → IsKeyDue binder key mine → ⊥
 available_none mine shown key = not_due key mine (rows a) (record { order = (tt, tt); shown = shown }) (subst (λ r. IsFirst (rows a) r binder_firsts.Drops) (sym (row_at-put (Volume a) [] key)) (by (same_key (key_of (Volume a)) key)))
   where
     by : (b : Bool) → IsFirst (rows a) (if b then Some (Volume a) else None) binder_firsts.Drops
@@ -176,12 +176,12 @@ due_examples = record {
 
 -- no key is due, at no point
 abbrev pub NeverDue : Role → List Call → Type 0
-NeverDue role [] = (key : Key) → IsDue role key [] → ⊥
-NeverDue role (c ∷ calls) = ((key : Key) → IsDue role key (entries (c ∷ calls)) → ⊥) × NeverDue role calls
+NeverDue role [] = (key : Key) → IsKeyDue role key [] → ⊥
+NeverDue role (c ∷ calls) = ((key : Key) → IsKeyDue role key (entries (c ∷ calls)) → ⊥) × NeverDue role calls
 
-never_before : (role : Role) (calls later now : List Call) → NeverDue role calls → calls ≡ later ++ now → (key : Key) → IsDue role key (entries now) → ⊥
-never_before role [] [] now never e key due = never key (subst (λ c. IsDue role key (entries c)) (sym e) due)
-never_before role (c ∷ calls) [] now never e key due = never.0 key (subst (λ x. IsDue role key (entries x)) (sym e) due)
+never_before : (role : Role) (calls later now : List Call) → NeverDue role calls → calls ≡ later ++ now → (key : Key) → IsKeyDue role key (entries now) → ⊥
+never_before role [] [] now never e key due = never key (subst (λ c. IsKeyDue role key (entries c)) (sym e) due)
+never_before role (c ∷ calls) [] now never e key due = never.0 key (subst (λ x. IsKeyDue role key (entries x)) (sym e) due)
 never_before role [] (d ∷ later) now never e key due = none_some (ap head e)
   where
     head : List Call → Option Call
@@ -213,7 +213,7 @@ none_asked v = none
     none (inr (inl asked)) = watches_none _ asked
     none (inr (inr h)) = h
 
-left : (v : VolumeData) → ((mine : List Entry) → ((key : Key) → row_at key (rows v) ≡ object_of (newest mine key)) → IsDue binder key_a mine) → IsDiligent binder (watched v) → ⊥
+left : (v : VolumeData) → ((mine : List Entry) → ((key : Key) → row_at key (rows v) ≡ object_of (newest mine key)) → IsKeyDue binder key_a mine) → IsDiligent binder (watched v) → ⊥
 left v due diligent = none_asked v (diligent kinds.PersistentVolume (entry watch) (entry watch) (call (tells_volume v) ∷ []) (call watch ∷ call watch ∷ []) [] refl watch_examples.four key_a (due _ (shown_one v), (due _ (shown_one v), due _ (shown_one v))))
 
 pub pending_left : IsDiligent binder (watched pending_a) → ⊥
@@ -232,7 +232,7 @@ asked_read = record {
   call = refl;
 }
   where
-    due : IsDue binder key_a (entries (call watch ∷ call watch ∷ call (tells_volume taken_a) ∷ []))
+    due : IsKeyDue binder key_a (entries (call watch ∷ call watch ∷ call (tells_volume taken_a) ∷ []))
     due = taken_due _ (shown_one taken_a)
 
 -- the rows of one volume stand in order
@@ -267,13 +267,13 @@ life_examples = record {
   the_claim_was_read = inr (inl asked_read);
 }
   where
-    told : (mine : List Entry) → ((key : Key) → newest mine key ≡ newest (seat_of seats.Binder (tells_volume a ∷ [])) key) → (key : Key) → IsDue binder key mine → ⊥
+    told : (mine : List Entry) → ((key : Key) → newest mine key ≡ newest (seat_of seats.Binder (tells_volume a ∷ [])) key) → (key : Key) → IsKeyDue binder key mine → ⊥
     told mine same = available_none mine (λ key. shown_one a key ∙ sym (ap object_of (same key)))
 
     nothing : NeverDue binder (watched a)
     nothing = (told _ (λ key. refl), (told _ (λ key. refl), (told _ (λ key. refl), (told _ (λ key. refl), (told _ (λ key. refl), none_due)))))
 
-licensed : (s : State) (c : Call) → IsPlayed binder s (c ∷ []) → AreLicensed seats.Binder (entries (c ∷ []))
+licensed : (s : ActorState) (c : Call) → IsPlayed binder s (c ∷ []) → AreLicensed seats.Binder (entries (c ∷ []))
 licensed s c played = subst (λ (r : Role). AreLicensed r.kind (entries (c ∷ []))) (same_role binder s (c ∷ []) played) (stands_now binder s (c ∷ []) played).licensed
 
 pub played_examples : PlayedExamples

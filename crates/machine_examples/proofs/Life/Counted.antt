@@ -5,7 +5,7 @@ use Rattle.kube_types.specs.declared.parts.Kind.{Kind}
 use Rattle.call_types.specs.declared.entry.Entry.{Entry}
 use Rattle.model_laws.proofs.Lists.{one}
 use Rattle.worker_core.specs.declared.role.Role.{Role}
-use Rattle.attention_law.specs.Diligence.{AreFourWatches, Call, IsAskedFor, IsDiligent, IsDue, IsDueThroughout, WasAskedSince, entries, watches, watches_kind}
+use Rattle.attention_law.specs.Diligence.{AreFourWatches, Call, IsAskedFor, IsDiligent, IsKeyDue, IsDueThroughout, WasAskedSince, entries, watches, watches_kind}
 use Rattle.attention_law.proofs.Following.{due_now}
 
 -- four watches are four of the calls
@@ -40,7 +40,7 @@ tail_in [] = []
 tail_in (c ∷ calls) = calls
 
 -- before the last call the read came, and before the read each kind was watched three times at most
-module _ (role : Role) (last read : Entry) (before : List Call) (few : (kind : Kind) → watches kind (Some read ∷ before) ≤ 3) (asks : (key : Key) → IsDue role key (entries before) → IsAskedFor role key (entries before) read.request) where
+module _ (role : Role) (last read : Entry) (before : List Call) (few : (kind : Kind) → watches kind (Some read ∷ before) ≤ 3) (asks : (key : Key) → IsKeyDue role key (entries before) → IsAskedFor role key (entries before) read.request) where
   module _ (key : Key) (first : Entry) (earlier : List Call) where
     abbrev start : List Call
     start = Some first ∷ earlier
@@ -49,7 +49,7 @@ module _ (role : Role) (last read : Entry) (before : List Call) (few : (kind : K
     asked_by_read e between split due =
         let rest : before ≡ between ++ start = ap tail_in split in
         let same : read ≡ e = one read e (one (Some read) (Some e) (ap head_in split)) in
-        let here : IsDue role key (entries before) = subst (λ calls. IsDue role key (entries calls)) (sym rest) (due_now role key start between due) in
+        let here : IsKeyDue role key (entries before) = subst (λ calls. IsKeyDue role key (entries calls)) (sym rest) (due_now role key start between due) in
         subst (λ (x : Entry). IsAskedFor role key (entries (between ++ start)) x.request) same (subst (λ calls. IsAskedFor role key (entries calls) read.request) rest (asks key here))
 
     asked_since : (kind : Kind) (fourth : Entry) (between : List Call) → Some read ∷ before ≡ between ++ start → AreFourWatches kind first fourth between → IsDueThroughout role key start between → WasAskedSince role key start between

@@ -29,11 +29,11 @@ use Rattle.worker_core.specs.declared.task.Under.{Under}
 use Rattle.worker_core.specs.declared.turn.Outcome.{Outcome}
 use Rattle.worker_core.specs.Memories.{Memory, memory_of}
 use Rattle.worker_core.specs.Stands.{StartsSo}
-use Rattle.worker_core.specs.States.{State}
+use Rattle.worker_core.specs.States.{ActorState}
 use Rattle.worker_core.specs.Tasks.{GivesCall, IsAgentFirst, IsDecision, agent_first}
 use Rattle.worker_core.proofs.Begins.{begins}
 use Rattle.worker_core.proofs.KeyMoves.{is_key}
-use Rattle.attention_law.specs.Diligence.{AreFourWatches, Call, IsAskedFor, IsDiligent, IsDue, IsQuiet, Shows, WasAskedSince, entries, watches}
+use Rattle.attention_law.specs.Diligence.{AreFourWatches, Call, IsAskedFor, IsDiligent, IsKeyDue, IsQuiet, Shows, WasAskedSince, entries, watches}
 use Rattle.attention_law.specs.Played.{Begins, Gives, IsPlayed, LostAfter, LostBefore, Told, Wakes}
 use Rattle.attention_law.specs.Showing.{IsDiligentInOrder, IsDueInOrder}
 use Rattle.attention_law.proofs.Dues.{asked_no_watch}
@@ -87,7 +87,7 @@ module _ (q : PodData) (rows : List MountRow) (mine : List Entry) (took : (memor
       gives = gives;
     }
 
-    pod_due : IsDue agent key_p mine
+    pod_due : IsKeyDue agent key_p mine
     pod_due = rows_in_order agent key_p mine tt pod_in_order
 
     pod_asked : IsAskedFor agent key_p mine call
@@ -97,10 +97,10 @@ module _ (q : PodData) (rows : List MountRow) (mine : List Entry) (took : (memor
   row_of_key : (key : Key) (b : Bool) → same_key (key_of (Pod q)) key ≡ b → row_at key (Pod q ∷ []) ≡ (if b then Some (Pod q) else None)
   row_of_key key b e = row_at-put (Pod q) [] key ∙ ap (λ x. if x then Some (Pod q) else None) e
 
-  other_drops : (key : Key) → same_key (key_of (Pod q)) key ≡ false → IsDue agent key mine → ⊥
+  other_drops : (key : Key) → same_key (key_of (Pod q)) key ≡ false → IsKeyDue agent key mine → ⊥
   other_drops key other = not_due agent key mine (Pod q ∷ []) showing (decided key None firsts.Drops (row_of_key key false other) refl)
 
-  due_is_its_key : (key : Key) → IsDue agent key mine → key_of (Pod q) ≡ key
+  due_is_its_key : (key : Key) → IsKeyDue agent key mine → key_of (Pod q) ≡ key
   due_is_its_key key due = by (same_key (key_of (Pod q)) key) refl
     where
       by : (b : Bool) → same_key (key_of (Pod q)) key ≡ b → key_of (Pod q) ≡ key
@@ -108,10 +108,10 @@ module _ (q : PodData) (rows : List MountRow) (mine : List Entry) (took : (memor
       by false e = absurd (other_drops key e due)
 
   -- where nothing begins on the pod, nothing is due
-  none_due : agent_begins node_1 1 rows (Some (Pod q)) ≡ None → (key : Key) → IsDue agent key mine → ⊥
+  none_due : agent_begins node_1 1 rows (Some (Pod q)) ≡ None → (key : Key) → IsKeyDue agent key mine → ⊥
   none_due none key = by (same_key (key_of (Pod q)) key) refl
     where
-      by : (b : Bool) → same_key (key_of (Pod q)) key ≡ b → IsDue agent key mine → ⊥
+      by : (b : Bool) → same_key (key_of (Pod q)) key ≡ b → IsKeyDue agent key mine → ⊥
       by true e = not_due agent key mine (Pod q ∷ []) showing (decided key (Some (Pod q)) firsts.Drops (row_of_key key true e) (ap agent_first (sym none)))
       by false e = other_drops key e
 
@@ -127,7 +127,7 @@ module _ (mine : List Entry) (took : (memory_of agent mine).epoch ≡ Some 1) (t
   unfolding agent_call reads_claim
   p_in_order = pod_in_order p [] mine took told shown reads_claim (requests.Get key_c) refl refl
 
-  p_due : IsDue agent key_p mine
+  p_due : IsKeyDue agent key_p mine
   unfolding agent_call reads_claim
   p_due = pod_due p [] mine took told shown reads_claim (requests.Get key_c) refl refl
 
@@ -163,7 +163,7 @@ few_before kinds.PersistentVolume = omega arith
 few_before kinds.PersistentVolumeClaim = omega arith
 
 -- a key that is due before the read is that of the pod, and the read is a call for it
-reads_its_claim : (key : Key) → IsDue agent key (entries before_read) → IsAskedFor agent key (entries before_read) (requests.Get key_c)
+reads_its_claim : (key : Key) → IsKeyDue agent key (entries before_read) → IsAskedFor agent key (entries before_read) (requests.Get key_c)
 reads_its_claim key due = subst (λ k. IsAskedFor agent k (entries before_read) (requests.Get key_c)) (due_is_its_key p [] (entries before_read) refl refl (shown_pod p) key due) (p_asked (entries before_read) refl refl (shown_pod p))
 
 reading_is_diligent : IsDiligent agent (agent_calls pod_called_for)
@@ -204,13 +204,13 @@ life_examples = record {
   nor_in_order = left_in_order;
 }
   where
-    mounted_none : (mine : List Entry) → (memory_of agent mine).epoch ≡ Some 1 → (memory_of agent mine).mounts ≡ Some (row_of uid_p ∷ []) → ((key : Key) → row_at key (Pod p ∷ []) ≡ object_of (newest mine key)) → (key : Key) → IsDue agent key mine → ⊥
+    mounted_none : (mine : List Entry) → (memory_of agent mine).epoch ≡ Some 1 → (memory_of agent mine).mounts ≡ Some (row_of uid_p ∷ []) → ((key : Key) → row_at key (Pod p ∷ []) ≡ object_of (newest mine key)) → (key : Key) → IsKeyDue agent key mine → ⊥
     mounted_none mine took told shown = none_due p (row_of uid_p ∷ []) mine took told shown refl
 
     now : (key : Key) → row_at key (Pod p ∷ []) ≡ object_of (newest (seat_of seats.Agent (tells_pod p ∷ [])) key)
     now = shown_pod p
 
-    no_pod : (key : Key) → IsDue agent key (seat_of seats.Agent (mounted node_1 1 (row_of uid_p ∷ []) ∷ takes node_1 1 ∷ [])) → ⊥
+    no_pod : (key : Key) → IsKeyDue agent key (seat_of seats.Agent (mounted node_1 1 (row_of uid_p ∷ []) ∷ takes node_1 1 ∷ [])) → ⊥
     no_pod key = not_due agent key _ [] (record { order = tt; shown = λ k. refl }) refl
 
     nothing : NeverDue agent (agent_calls (pod_left (row_of uid_p ∷ [])))
@@ -222,12 +222,12 @@ module _ (role : Role) where
   abbrev stale_in : Memory → Bool
   stale_in m = m.stale
 
-  fresh_then : (s new : State) (calls : List Call) (request : Request) (outcome : Outcome) → IsPlayed role s calls → Gives s new request outcome (entries calls) → (memory_of role (entries calls)).stale ≡ false
+  fresh_then : (s new : ActorState) (calls : List Call) (request : Request) (outcome : Outcome) → IsPlayed role s calls → Gives s new request outcome (entries calls) → (memory_of role (entries calls)).stale ≡ false
   fresh_then s new calls request outcome played gives =
       let own : memory_of s.role (entries calls) ≡ memory_of role (entries calls) = ap (λ r. memory_of r (entries calls)) (same_role role s calls played) in
       ap stale_in (sym ((stands_now role s calls played).memory ∙ own)) ∙ calls_fresh s gives.turned request gives.turns.turn
 
-  fresh_before : (s : State) (calls : List Call) → IsPlayed role s calls → (c : Call) (before : List Call) → calls ≡ c ∷ before → (memory_of role (entries before)).stale ≡ false
+  fresh_before : (s : ActorState) (calls : List Call) → IsPlayed role s calls → (c : Call) (before : List Call) → calls ≡ c ∷ before → (memory_of role (entries before)).stale ≡ false
   fresh_before s calls (Begins none new stands) c before e = none_some (ap head_in (sym none ∙ e))
   fresh_before s calls (Told old b x request reply played is told gives stands) c before e = subst (λ y. (memory_of role (entries y)).stale ≡ false) (ap tail_in (sym is ∙ e)) (fresh_then old s b request _ played gives)
   fresh_before s calls (LostBefore old b request played is gives stands) c before e = subst (λ y. (memory_of role (entries y)).stale ≡ false) (ap tail_in (sym is ∙ e)) (fresh_then old s b request _ played gives)
@@ -242,5 +242,5 @@ played_examples = record {
   not_where_a_pod_is_left = λ s played. left (played_is_diligent agent s (agent_calls (pod_left [])) tt played);
 }
   where
-    takes_first : (s : State) (calls : List Call) → IsPlayed agent s calls → StartsSo seats.Agent node_1 (entries calls)
+    takes_first : (s : ActorState) (calls : List Call) → IsPlayed agent s calls → StartsSo seats.Agent node_1 (entries calls)
     takes_first s calls played = subst (λ (r : Role). StartsSo r.kind r.node (entries calls)) (same_role agent s calls played) (stands_now agent s calls played).start

@@ -20,8 +20,8 @@ use Rattle.model_examples.specs.ProtectionRows.{bare_a, bare_c, leaving_a, leavi
 use Rattle.model_examples.specs.Samples.{c, key_a, key_c, leaving_bound_a, p, seat_of, tells_claim, tells_pod, tells_volume}
 use Rattle.protect_sync.specs.declared.claims.ClaimGuardStep.TheVariants as claims
 use Rattle.protect_sync.specs.declared.volumes.VolumeGuardStep.TheVariants as volumes
-use Rattle.protect_sync.specs.ClaimGuards.{claim_call, guarded_claim, write_over}
-use Rattle.protect_sync.specs.VolumeGuards.{guarded_volume, unguarded_volume, volume_call, write_over as write_volume_over}
+use Rattle.protect_sync.specs.ClaimGuards.{claim_guard_call, guarded_claim, claim_write_over}
+use Rattle.protect_sync.specs.VolumeGuards.{guarded_volume, unguarded_volume, volume_guard_call, volume_write_over}
 use Rattle.worker_core.specs.declared.role.Role.{Role}
 use Rattle.worker_core.specs.declared.task.First.{First}
 use Rattle.worker_core.specs.declared.task.First.TheVariants as firsts
@@ -29,7 +29,7 @@ use Rattle.worker_core.specs.declared.task.Task.{Task}
 use Rattle.worker_core.specs.declared.task.Task.TheVariants as tasks
 use Rattle.worker_core.specs.Memories.{memory_of}
 use Rattle.worker_core.specs.Tasks.{GivesCall, IsDecision}
-use Rattle.attention_law.specs.Diligence.{AreFourWatches, IsAskedFor, IsDiligent, IsDue, IsQuiet, Shows, WasAskedSince}
+use Rattle.attention_law.specs.Diligence.{AreFourWatches, IsAskedFor, IsDiligent, IsKeyDue, IsQuiet, Shows, WasAskedSince}
 use Rattle.attention_law.proofs.Dues.{asked_no_watch}
 use Rattle.attention_law.proofs.Following.{played_is_diligent}
 use Rattle.attention_law.proofs.Ordered.{rows_in_order}
@@ -68,7 +68,7 @@ abbrev pub is_binder : SeatKind → Bool
 is_binder seats.Binder = true
 is_binder kind = false
 
-claim_due : (mine : List Entry) (rows : List Object) (task : Task) (call : Request) → Shows mine rows → GivesCall claim_guard (memory_of claim_guard mine) rows (record { key = key_c; task = task; call = call }) → IsDue claim_guard key_c mine
+claim_due : (mine : List Entry) (rows : List Object) (task : Task) (call : Request) → Shows mine rows → GivesCall claim_guard (memory_of claim_guard mine) rows (record { key = key_c; task = task; call = call }) → IsKeyDue claim_guard key_c mine
 claim_due mine rows task call shows gives = rows_in_order claim_guard key_c mine tt (record {
   rows = rows;
   shows = shows;
@@ -78,7 +78,7 @@ claim_due mine rows task call shows gives = rows_in_order claim_guard key_c mine
   gives = gives;
 })
 
-volume_due : (mine : List Entry) (rows : List Object) (task : Task) (call : Request) → Shows mine rows → GivesCall volume_guard (memory_of volume_guard mine) rows (record { key = key_a; task = task; call = call }) → IsDue volume_guard key_a mine
+volume_due : (mine : List Entry) (rows : List Object) (task : Task) (call : Request) → Shows mine rows → GivesCall volume_guard (memory_of volume_guard mine) rows (record { key = key_a; task = task; call = call }) → IsKeyDue volume_guard key_a mine
 volume_due mine rows task call shows gives = rows_in_order volume_guard key_a mine tt (record {
   rows = rows;
   shows = shows;
@@ -89,27 +89,27 @@ volume_due mine rows task call shows gives = rows_in_order volume_guard key_a mi
 })
 
 -- and not where it is dropped
-pub not_due : (role : Role) (key : Key) (mine : List Entry) (rows : List Object) → Shows mine rows → IsDecision role (memory_of role mine) rows key firsts.Drops → IsDue role key mine → ⊥
+pub not_due : (role : Role) (key : Key) (mine : List Entry) (rows : List Object) → Shows mine rows → IsDecision role (memory_of role mine) rows key firsts.Drops → IsKeyDue role key mine → ⊥
 not_due role key mine rows shows drops due = none_some (ap task_in (due.only rows shows firsts.Drops drops).begins)
   where
     task_in : First → Option Task
     task_in (firsts.Begins task) = Some task
     task_in first = None
 
-bare_volume_due : (mine : List Entry) → ((key : Key) → row_at key (Volume bare_a ∷ []) ≡ object_of (newest mine key)) → IsDue volume_guard key_a mine
-unfolding volume_call
-bare_volume_due mine shown = volume_due mine (Volume bare_a ∷ []) (tasks.VolumeProtect (record { volume = bare_a; step = volumes.Adds })) (write_volume_over bare_a (guarded_volume bare_a)) (record { order = (tt, tt); shown = shown }) (record { decided = refl; call = refl })
+bare_volume_due : (mine : List Entry) → ((key : Key) → row_at key (Volume bare_a ∷ []) ≡ object_of (newest mine key)) → IsKeyDue volume_guard key_a mine
+unfolding volume_guard_call
+bare_volume_due mine shown = volume_due mine (Volume bare_a ∷ []) (tasks.VolumeProtect (record { volume = bare_a; step = volumes.Adds })) (volume_write_over bare_a (guarded_volume bare_a)) (record { order = (tt, tt); shown = shown }) (record { decided = refl; call = refl })
 
 pub due_examples : ProtectionDueExamples
-unfolding claim_call volume_call
+unfolding claim_guard_call volume_guard_call
 due_examples = record {
-  bare_claim = claim_due _ (Claim bare_c ∷ []) (tasks.ClaimProtect (record { claim = bare_c; step = claims.Adds })) (write_over bare_c (guarded_claim bare_c)) (record { order = (tt, tt); shown = shown_claim bare_c }) (record { decided = refl; call = refl });
+  bare_claim = claim_due _ (Claim bare_c ∷ []) (tasks.ClaimProtect (record { claim = bare_c; step = claims.Adds })) (claim_write_over bare_c (guarded_claim bare_c)) (record { order = (tt, tt); shown = shown_claim bare_c }) (record { decided = refl; call = refl });
   leaving_claim = claim_due _ (Claim leaving_c ∷ []) (tasks.ClaimProtect (record { claim = leaving_c; step = claims.ListsPods })) pods_of_default (record { order = (tt, tt); shown = shown_claim leaving_c }) (record { decided = refl; call = refl });
   leaving_claim_beside_a_pod_of_another = claim_due _ (Claim leaving_c ∷ Pod other_p ∷ []) (tasks.ClaimProtect (record { claim = leaving_c; step = claims.ListsPods })) pods_of_default (record { order = ((refl, tt), (tt, tt)); shown = shown_both leaving_c other_p }) (record { decided = refl; call = refl });
   not_a_leaving_claim_in_use = not_due claim_guard key_c _ (Claim leaving_c ∷ Pod p ∷ []) (record { order = ((refl, tt), (tt, tt)); shown = shown_both leaving_c p }) refl;
   not_a_guarded_claim = not_due claim_guard key_c _ (Claim c ∷ []) (record { order = (tt, tt); shown = shown_claim c }) refl;
   bare_volume = bare_volume_due _ (shown_one bare_a);
-  leaving_volume = volume_due _ (Volume leaving_a ∷ []) (tasks.VolumeProtect (record { volume = leaving_a; step = volumes.Drops })) (write_volume_over leaving_a (unguarded_volume leaving_a)) (record { order = (tt, tt); shown = shown_one leaving_a }) (record { decided = refl; call = refl });
+  leaving_volume = volume_due _ (Volume leaving_a ∷ []) (tasks.VolumeProtect (record { volume = leaving_a; step = volumes.Drops })) (volume_write_over leaving_a (unguarded_volume leaving_a)) (record { order = (tt, tt); shown = shown_one leaving_a }) (record { decided = refl; call = refl });
   not_a_leaving_bound_volume = not_due volume_guard key_a _ (Volume leaving_bound_a ∷ []) (record { order = (tt, tt); shown = shown_one leaving_bound_a }) refl;
 }
 

@@ -22,7 +22,7 @@ use Rattle.reclaim_ops.specs.declared.erase.EraseOp.{EraseOp}
 use Rattle.reclaim_ops.specs.declared.erase.EraseStep.TheVariants as erase_steps
 use Rattle.reclaim_ops.specs.declared.provision.ProvisionOp.{ProvisionOp}
 use Rattle.reclaim_ops.specs.declared.provision.ProvisionStep.TheVariants as provision_steps
-use Rattle.reclaim_ops.specs.Decisions.{claim_begins as provision_begins, volume_begins as erase_begins}
+use Rattle.reclaim_ops.specs.Decisions.{claim_begins, volume_begins}
 use Rattle.reclaim_ops.specs.Erasures.{erase_call}
 use Rattle.reclaim_ops.specs.Provisions.{ask_call, clear_call, provision_call}
 use Rattle.worker_core.specs.declared.role.Role.{Role}
@@ -32,11 +32,11 @@ use Rattle.worker_core.specs.declared.task.Task.TheVariants as tasks
 use Rattle.worker_core.specs.declared.task.Under.{Under}
 use Rattle.worker_core.specs.Memories.{memory_of}
 use Rattle.worker_core.specs.Stands.{AreLicensed}
-use Rattle.worker_core.specs.States.{State}
+use Rattle.worker_core.specs.States.{ActorState}
 use Rattle.worker_core.specs.Tasks.{GivesCall, ops_first}
 use Rattle.worker_core.proofs.Begins.{begins}
 use Rattle.worker_core.proofs.KeyMoves.{is_key}
-use Rattle.attention_law.specs.Diligence.{AreFourWatches, Call, IsAskedFor, IsDiligent, IsDue, IsDueThroughout, IsQuiet, WasAskedSince, entries, watches}
+use Rattle.attention_law.specs.Diligence.{AreFourWatches, Call, IsAskedFor, IsDiligent, IsKeyDue, IsDueThroughout, IsQuiet, WasAskedSince, entries, watches}
 use Rattle.attention_law.specs.Played.{Begins, IsPlayed}
 use Rattle.attention_law.specs.Showing.{IsDiligentInOrder, IsDueInOrder, IsDueInOrderThroughout}
 use Rattle.attention_law.proofs.Dues.{asked_no_watch}
@@ -89,7 +89,7 @@ module _ (key : Key) (mine : List Entry) (rows : List Object) (task : Task) (cal
     gives = gives;
   }
 
-  is_due : IsDue ops key mine
+  is_due : IsKeyDue ops key mine
   is_due = rows_in_order ops key mine tt in_order
 
   asked_for : IsAskedFor ops key mine call
@@ -103,11 +103,11 @@ asks_for_data = record { claim = c; uid = uid_c; class = fast; step = provision_
 clears_its_node : ProvisionOp
 clears_its_node = record { claim = chosen_c; uid = uid_c; class = late; step = provision_steps.ClearsNode }
 
-claim_due : (mine : List Entry) → ((k : Key) → row_at k (with_class fast c) ≡ object_of (newest mine k)) → IsDue ops key_c mine
+claim_due : (mine : List Entry) → ((k : Key) → row_at k (with_class fast c) ≡ object_of (newest mine k)) → IsKeyDue ops key_c mine
 unfolding provision_call asks_for_data
 claim_due mine shown = is_due key_c mine (with_class fast c) (tasks.Provision asks_for_data) (ask_call c uid_c fast None) ((refl, tt), (tt, tt)) shown (record { decided = refl; call = refl })
 
-node_due : (mine : List Entry) → ((k : Key) → row_at k (with_class late chosen_c) ≡ object_of (newest mine k)) → IsDue ops key_c mine
+node_due : (mine : List Entry) → ((k : Key) → row_at k (with_class late chosen_c) ≡ object_of (newest mine k)) → IsKeyDue ops key_c mine
 unfolding provision_call clears_its_node
 node_due mine shown = is_due key_c mine (with_class late chosen_c) (tasks.Provision clears_its_node) (clear_call chosen_c) ((refl, tt), (tt, tt)) shown (record { decided = refl; call = refl })
 
@@ -130,7 +130,7 @@ module _ (mine : List Entry) (shown : ShowsEnded mine) where
   ended_in_order : IsDueInOrder ops key_a mine
   ended_in_order = in_order key_a mine (Volume ended_a ∷ []) (tasks.Erase reads_volume) (requests.Get key_a) (tt, tt) shown gives_read
 
-  ended_due : IsDue ops key_a mine
+  ended_due : IsKeyDue ops key_a mine
   ended_due = is_due key_a mine (Volume ended_a ∷ []) (tasks.Erase reads_volume) (requests.Get key_a) (tt, tt) shown gives_read
 
   ended_asked : IsAskedFor ops key_a mine (requests.Get key_a)
@@ -139,20 +139,20 @@ module _ (mine : List Entry) (shown : ShowsEnded mine) where
 -- one told volume: where the decision on its row drops it, or the key is another, the key is not due
 
 abbrev IsDropped : List Object → Option Object → Type 0
-IsDropped rows row = firsts.Drops ≡ ops_first (provision_begins rows row) (erase_begins row)
+IsDropped rows row = firsts.Drops ≡ ops_first (claim_begins rows row) (volume_begins row)
 
 module _ (v : VolumeData) (mine : List Entry) (shown : (k : Key) → row_at k (Volume v ∷ []) ≡ object_of (newest mine k)) where
-  dropped_by : (key : Key) (b : Bool) → same_key (key_of (Volume v)) key ≡ b → IsDropped (Volume v ∷ []) (if b then Some (Volume v) else None) → IsDue ops key mine → ⊥
+  dropped_by : (key : Key) (b : Bool) → same_key (key_of (Volume v)) key ≡ b → IsDropped (Volume v ∷ []) (if b then Some (Volume v) else None) → IsKeyDue ops key mine → ⊥
   dropped_by key b at drops = not_due ops key mine (Volume v ∷ []) (record { order = (tt, tt); shown = shown }) (subst (λ row. IsDropped (Volume v ∷ []) row) (sym (row_at-put (Volume v) [] key ∙ ap (λ x. if x then Some (Volume v) else None) at)) drops)
 
-  volume_none : IsDropped (Volume v ∷ []) (Some (Volume v)) → (key : Key) → IsDue ops key mine → ⊥
+  volume_none : IsDropped (Volume v ∷ []) (Some (Volume v)) → (key : Key) → IsKeyDue ops key mine → ⊥
   volume_none drops key = by (same_key (key_of (Volume v)) key) refl
     where
-      by : (b : Bool) → same_key (key_of (Volume v)) key ≡ b → IsDue ops key mine → ⊥
+      by : (b : Bool) → same_key (key_of (Volume v)) key ≡ b → IsKeyDue ops key mine → ⊥
       by true at = dropped_by key true at drops
       by false at = dropped_by key false at refl
 
-  due_is_its_key : (key : Key) → IsDue ops key mine → key_of (Volume v) ≡ key
+  due_is_its_key : (key : Key) → IsKeyDue ops key mine → key_of (Volume v) ≡ key
   due_is_its_key key due = by (same_key (key_of (Volume v)) key) refl
     where
       by : (b : Bool) → same_key (key_of (Volume v)) key ≡ b → key_of (Volume v) ≡ key
@@ -188,7 +188,7 @@ few_before kinds.PersistentVolumeClaim = omega arith
 few_before kinds.Pod = omega arith
 
 -- a key that is due before the read is that of the volume, and the read is a call for it
-reads_it : (key : Key) → IsDue ops key (entries before_read) → IsAskedFor ops key (entries before_read) (requests.Get key_a)
+reads_it : (key : Key) → IsKeyDue ops key (entries before_read) → IsAskedFor ops key (entries before_read) (requests.Get key_a)
 reads_it key due = subst (λ k. IsAskedFor ops k (entries before_read) (requests.Get key_a)) (due_is_its_key ended_a (entries before_read) (shown_one ended_a) key due) (ended_asked (entries before_read) (shown_one ended_a))
 
 -- the lives in which nothing is read
@@ -240,10 +240,10 @@ life_examples = record {
   not_where_a_claim_is_left = claim_is_left;
 }
   where
-    kept : (mine : List Entry) → ((k : Key) → row_at k (Volume released_a ∷ []) ≡ object_of (newest mine k)) → (key : Key) → IsDue ops key mine → ⊥
+    kept : (mine : List Entry) → ((k : Key) → row_at k (Volume released_a ∷ []) ≡ object_of (newest mine k)) → (key : Key) → IsKeyDue ops key mine → ⊥
     kept mine shown = volume_none released_a mine shown refl
 
-    none_told : (key : Key) → IsDue ops key [] → ⊥
+    none_told : (key : Key) → IsKeyDue ops key [] → ⊥
     none_told key = not_due ops key [] [] (record { order = tt; shown = λ k. refl }) refl
 
     now : (k : Key) → row_at k (Volume released_a ∷ []) ≡ object_of (newest (seat_of seats.Ops (tells_volume released_a ∷ [])) k)
@@ -254,7 +254,7 @@ life_examples = record {
 
 -- how a life is played
 
-licensed : (s : State) (calls : List Call) → IsPlayed ops s calls → AreLicensed seats.Ops (entries calls)
+licensed : (s : ActorState) (calls : List Call) → IsPlayed ops s calls → AreLicensed seats.Ops (entries calls)
 licensed s calls played = subst (λ (r : Role). AreLicensed r.kind (entries calls)) (same_role ops s calls played) (stands_now ops s calls played).licensed
 
 pub played_examples : OpsPlayedExamples

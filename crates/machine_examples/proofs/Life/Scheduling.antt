@@ -39,10 +39,10 @@ use Rattle.worker_core.specs.declared.task.Task.TheVariants as tasks
 use Rattle.worker_core.specs.declared.task.Under.{Under}
 use Rattle.worker_core.specs.Memories.{memory_of}
 use Rattle.worker_core.specs.Stands.{AreLicensed}
-use Rattle.worker_core.specs.States.{State}
+use Rattle.worker_core.specs.States.{ActorState}
 use Rattle.worker_core.specs.Tasks.{GivesCall, IsPodFirst, task_call}
 use Rattle.worker_core.proofs.Begins.{begins}
-use Rattle.attention_law.specs.Diligence.{AreFourWatches, Call, IsAskedFor, IsDiligent, IsDue, IsQuiet, Shows, WasAskedSince, entries, watches}
+use Rattle.attention_law.specs.Diligence.{AreFourWatches, Call, IsAskedFor, IsDiligent, IsKeyDue, IsQuiet, Shows, WasAskedSince, entries, watches}
 use Rattle.attention_law.specs.Played.{Begins, IsPlayed}
 use Rattle.attention_law.specs.Showing.{IsDueInOrder}
 use Rattle.attention_law.proofs.Alike.{rows_alike}
@@ -115,7 +115,7 @@ module _ (mine : List Entry) (shown : ShowsRows (rows c pod) mine) (none : (memo
     gives = gives;
   }
 
-  pod_due : IsDue scheduler key_p mine
+  pod_due : IsKeyDue scheduler key_p mine
   pod_due = rows_in_order scheduler key_p mine tt due_in_order
 
   asked_for : IsAskedFor scheduler key_p mine selection
@@ -123,14 +123,14 @@ module _ (mine : List Entry) (shown : ShowsRows (rows c pod) mine) (none : (memo
 
 -- a key under which no pod stands is not due
 
-drops_other : (os : List Object) (mine : List Entry) (key : Key) (o : Object) → Shows mine os → row_at key os ≡ Some o → IsPodFirst os (memory_of scheduler mine).tries.refused (Some o) firsts.Drops → IsDue scheduler key mine → ⊥
+drops_other : (os : List Object) (mine : List Entry) (key : Key) (o : Object) → Shows mine os → row_at key os ≡ Some o → IsPodFirst os (memory_of scheduler mine).tries.refused (Some o) firsts.Drops → IsKeyDue scheduler key mine → ⊥
 drops_other os mine key o shows at drops = not_due scheduler key mine os shows (subst (λ row. IsPodFirst os (memory_of scheduler mine).tries.refused row firsts.Drops) (sym at) drops)
 
-drops_none : (os : List Object) (mine : List Entry) (key : Key) → Shows mine os → row_at key os ≡ None → IsDue scheduler key mine → ⊥
+drops_none : (os : List Object) (mine : List Entry) (key : Key) → Shows mine os → row_at key os ≡ None → IsKeyDue scheduler key mine → ⊥
 drops_none os mine key shows at = not_due scheduler key mine os shows (subst (λ row. IsPodFirst os (memory_of scheduler mine).tries.refused row firsts.Drops) (sym at) refl)
 
 -- so the key that is due is the pod's
-due_is_pod : (mine : List Entry) → ShowsRows (rows c pod) mine → (key : Key) → IsDue scheduler key mine → key_p ≡ key
+due_is_pod : (mine : List Entry) → ShowsRows (rows c pod) mine → (key : Key) → IsKeyDue scheduler key mine → key_p ≡ key
 due_is_pod mine shown key due = by (row_at key (rows c pod)) refl
   where
     shows : Shows mine (rows c pod)
@@ -155,7 +155,7 @@ due_is_pod mine shown key due = by (row_at key (rows c pod)) refl
     by (Some (Claim x)) at = absurd (drops_other (rows c pod) mine key (Claim x) shows at refl due)
 
 -- where a pod with a node alone was told nothing is due
-none_due : (mine : List Entry) → ShowsRows (Pod scheduled ∷ []) mine → (key : Key) → IsDue scheduler key mine → ⊥
+none_due : (mine : List Entry) → ShowsRows (Pod scheduled ∷ []) mine → (key : Key) → IsKeyDue scheduler key mine → ⊥
 none_due mine shown key due = by (row_at key (Pod scheduled ∷ [])) refl
   where
     shows : Shows mine (Pod scheduled ∷ [])
@@ -269,7 +269,7 @@ few_before kinds.Node = omega arith
 few_before kinds.PersistentVolumeClaim = omega arith
 few_before kinds.Pod = omega arith
 
-selects_it : (key : Key) → IsDue scheduler key (entries before_selection) → IsAskedFor scheduler key (entries before_selection) selection
+selects_it : (key : Key) → IsKeyDue scheduler key (entries before_selection) → IsAskedFor scheduler key (entries before_selection) selection
 selects_it key due = subst (λ k. IsAskedFor scheduler k (entries before_selection) selection) (due_is_pod (entries before_selection) (shown_all c pod) key due) (asked_for (entries before_selection) (shown_all c pod) refl)
 
 -- the life in which the pod is left
@@ -310,7 +310,7 @@ life_examples = record {
       (due_in_order _ (shown_all c pod) refl, (due_in_order _ (shown_all c pod) refl, due_in_order _ (shown_all c pod) refl)));
 }
   where
-    none_told : (key : Key) → IsDue scheduler key [] → ⊥
+    none_told : (key : Key) → IsKeyDue scheduler key [] → ⊥
     none_told key = not_due scheduler key [] [] (record { order = tt; shown = λ k. refl }) refl
 
     now : ShowsRows (Pod scheduled ∷ []) (seat_of seats.Scheduler (tells_pod scheduled ∷ []))
@@ -321,7 +321,7 @@ life_examples = record {
 
 -- how a life is played
 
-licensed : (s : State) (calls : List Call) → IsPlayed scheduler s calls → AreLicensed seats.Scheduler (entries calls)
+licensed : (s : ActorState) (calls : List Call) → IsPlayed scheduler s calls → AreLicensed seats.Scheduler (entries calls)
 licensed s calls played = subst (λ (r : Role). AreLicensed r.kind (entries calls)) (same_role scheduler s calls played) (stands_now scheduler s calls played).licensed
 
 pub played_examples : SchedulePlayedExamples

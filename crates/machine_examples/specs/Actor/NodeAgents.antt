@@ -26,7 +26,7 @@ use Rattle.worker_core.specs.declared.task.Under.{Under}
 use Rattle.worker_core.specs.declared.turn.Next.{Next}
 use Rattle.worker_core.specs.declared.turn.Next.TheVariants as nexts
 use Rattle.worker_core.specs.Memories.{Memory, memory_of, no_memory}
-use Rattle.worker_core.specs.States.{State, start_call}
+use Rattle.worker_core.specs.States.{ActorState, start_call}
 use Rattle.worker_core.specs.Tasks.{IsDecision, task_parks, under_after}
 use Rattle.worker_core.specs.Turns.{IsTurn}
 
@@ -107,7 +107,7 @@ pub record AgentMoveExamples : Type 0 where
 
 -- after these exchanges each turn gives this answer
 abbrev pub Answers : List Exchange → Next → Type 0
-Answers xs answer = (s new : State) (given : Next) → s.role ≡ agent_of node_1 → s.memory ≡ after xs → s.under ≡ None → IsTurn s new given → given ≡ answer
+Answers xs answer = (s new : ActorState) (given : Next) → s.role ≡ agent_of node_1 → s.memory ≡ after xs → s.under ≡ None → IsTurn s new given → given ≡ answer
 
 abbrev pub told_stale : Exchange
 told_stale = heard (requests.Mounts node_1 1) stale

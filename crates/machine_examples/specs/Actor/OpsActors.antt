@@ -37,7 +37,7 @@ use Rattle.worker_core.specs.declared.turn.Next.{Next}
 use Rattle.worker_core.specs.declared.turn.Next.TheVariants as nexts
 use Rattle.worker_core.specs.Memories.{no_memory}
 use Rattle.worker_core.specs.Roles.{kinds_of}
-use Rattle.worker_core.specs.States.{State}
+use Rattle.worker_core.specs.States.{ActorState}
 use Rattle.worker_core.specs.Tasks.{IsDecision, task_parks, under_after}
 use Rattle.worker_core.specs.Turns.{IsTurn, first_unlisted}
 
@@ -146,7 +146,7 @@ knows nodes = record {
 
 -- with these caches and nothing under way each turn gives this answer
 abbrev pub Answers : AllKnown → Next → Type 0
-Answers caches answer = (s new : State) (given : Next) → s.role ≡ role_of seats.Ops → s.memory ≡ no_memory → s.under ≡ None → s.caches ≡ caches → IsTurn s new given → given ≡ answer
+Answers caches answer = (s new : ActorState) (given : Next) → s.role ≡ role_of seats.Ops → s.memory ≡ no_memory → s.under ≡ None → s.caches ≡ caches → IsTurn s new given → given ≡ answer
 
 pub record OpsListExamples : Type 0 where
   pub nodes_are_still_to_be_listed : first_unlisted (knows None) (kinds_of seats.Ops) ≡ Some kinds.Node

@@ -15,8 +15,8 @@ use Rattle.protect_sync.specs.declared.claims.ClaimGuardStep.TheVariants as clai
 use Rattle.protect_sync.specs.declared.volumes.VolumeGuardOp.{VolumeGuardOp}
 use Rattle.protect_sync.specs.declared.volumes.VolumeGuardStep.{VolumeGuardStep}
 use Rattle.protect_sync.specs.declared.volumes.VolumeGuardStep.TheVariants as volumes
-use Rattle.protect_sync.specs.ClaimGuards.{claim_call, claim_moved, claim_parks}
-use Rattle.protect_sync.specs.VolumeGuards.{volume_call, volume_moved, volume_parks}
+use Rattle.protect_sync.specs.ClaimGuards.{claim_guard_call, claim_moved, claim_parks}
+use Rattle.protect_sync.specs.VolumeGuards.{volume_guard_call, volume_moved, volume_parks}
 use Rattle.model_examples.specs.Samples.{p, waiting_p, with_uid}
 use Rattle.model_examples.specs.ProtectionRows.{bare_a, bare_c, foreign_p, guarded_a, guarded_c, leaving_a, leaving_c, loose_a, loose_c, other_p, put_claim, put_volume}
 
@@ -33,12 +33,12 @@ abbrev pub stale : Reply
 stale = Refused (Conflict 9)
 
 pub record ClaimCallExamples : Type 0 where
-  pub adds_it_at_the_version : claim_call (at_claim claims.Adds bare_c) ≡ Some (put_claim guarded_c 2)
-  pub lists_the_pods_of_the_namespace : claim_call (at_claim claims.ListsPods leaving_c) ≡ Some (ListOf kinds.Pod (Some (codes "default")))
-  pub drops_its_own_alone : claim_call (at_claim claims.Drops leaving_c) ≡ Some (put_claim loose_c 6)
-  pub claim_without_a_uid_is_left : claim_call (at_claim claims.ListsPods (with_uid None leaving_c)) ≡ None
-  pub nothing_is_left_when_done : claim_call (at_claim claims.Done leaving_c) ≡ None
-  pub nothing_is_left_when_parked : claim_call (at_claim claims.Parked leaving_c) ≡ None
+  pub adds_it_at_the_version : claim_guard_call (at_claim claims.Adds bare_c) ≡ Some (put_claim guarded_c 2)
+  pub lists_the_pods_of_the_namespace : claim_guard_call (at_claim claims.ListsPods leaving_c) ≡ Some (ListOf kinds.Pod (Some (codes "default")))
+  pub drops_its_own_alone : claim_guard_call (at_claim claims.Drops leaving_c) ≡ Some (put_claim loose_c 6)
+  pub claim_without_a_uid_is_left : claim_guard_call (at_claim claims.ListsPods (with_uid None leaving_c)) ≡ None
+  pub nothing_is_left_when_done : claim_guard_call (at_claim claims.Done leaving_c) ≡ None
+  pub nothing_is_left_when_parked : claim_guard_call (at_claim claims.Parked leaving_c) ≡ None
 
 pub record ClaimMoveExamples : Type 0 where
   pub no_pod_drops_it : claim_moved (at_claim claims.ListsPods leaving_c) (Listed [] 9) ≡ at_claim claims.Drops leaving_c
@@ -53,9 +53,9 @@ pub record ClaimMoveExamples : Type 0 where
   pub what_has_ended_stays : claim_moved (at_claim claims.Parked leaving_c) (Listed [] 9) ≡ at_claim claims.Parked leaving_c
 
 pub record VolumeExamples : Type 0 where
-  pub adds_it_at_the_version : volume_call (at_volume volumes.Adds bare_a) ≡ Some (put_volume guarded_a 3)
-  pub drops_its_own_alone : volume_call (at_volume volumes.Drops leaving_a) ≡ Some (put_volume loose_a 3)
-  pub nothing_is_left_when_done : volume_call (at_volume volumes.Done leaving_a) ≡ None
+  pub adds_it_at_the_version : volume_guard_call (at_volume volumes.Adds bare_a) ≡ Some (put_volume guarded_a 3)
+  pub drops_its_own_alone : volume_guard_call (at_volume volumes.Drops leaving_a) ≡ Some (put_volume loose_a 3)
+  pub nothing_is_left_when_done : volume_guard_call (at_volume volumes.Done leaving_a) ≡ None
   pub what_was_dropped_is_done : volume_moved (at_volume volumes.Drops leaving_a) (Done (Volume loose_a)) ≡ at_volume volumes.Done leaving_a
   pub stale_write_is_parked : volume_moved (at_volume volumes.Drops leaving_a) stale ≡ at_volume volumes.Parked leaving_a
   pub what_has_ended_stays : volume_moved (at_volume volumes.Parked leaving_a) (Done (Volume loose_a)) ≡ at_volume volumes.Parked leaving_a

@@ -12,8 +12,8 @@ use Rattle.model_examples.specs.AgentRows.{elsewhere_pod, mounted, row_of}
 use Rattle.model_examples.specs.Samples.{Exchange, ending_p, entry_of, finds_none, heard, key_c, key_p, node_1, p, seat_of, takes, tells_pod, uid_p, waiting_p}
 use Rattle.worker_core.specs.declared.role.Role.{Role}
 use Rattle.worker_core.specs.Stands.{IsNew}
-use Rattle.worker_core.specs.States.{State}
-use Rattle.attention_law.specs.Diligence.{Call, IsDiligent, IsDue}
+use Rattle.worker_core.specs.States.{ActorState}
+use Rattle.attention_law.specs.Diligence.{Call, IsDiligent, IsKeyDue}
 use Rattle.attention_law.specs.Played.{IsPlayed}
 use Rattle.attention_law.specs.Showing.{IsDiligentInOrder}
 
@@ -21,7 +21,7 @@ abbrev pub agent : Role
 agent = record { kind = seats.Agent; node = node_1 }
 
 abbrev pub PodDue : Key → List Exchange → Type 0
-PodDue key xs = IsDue agent key (seat_of seats.Agent xs)
+PodDue key xs = IsKeyDue agent key (seat_of seats.Agent xs)
 
 -- the node was taken, and these mounts of it were told
 abbrev pub started : List MountRow → List Exchange
@@ -67,7 +67,7 @@ abbrev pub is_stale : Exchange
 is_stale = heard (requests.Mounts node_1 1) (replies.Refused (refusals.StaleEpoch 2))
 
 pub record AgentPlayedExamples : Type 0 where
-  pub a_new_life : (s : State) → IsNew agent s → IsPlayed agent s []
-  pub not_with_a_list_before_its_node : (s : State) → IsPlayed agent s (agent_calls (tells_pod p ∷ [])) → ⊥
-  pub not_with_a_call_after_a_stale_epoch : (s : State) → IsPlayed agent s (agent_calls (mounted node_1 1 [] ∷ is_stale ∷ takes node_1 1 ∷ [])) → ⊥
-  pub not_where_a_pod_is_left : (s : State) → IsPlayed agent s (agent_calls (pod_left [])) → ⊥
+  pub a_new_life : (s : ActorState) → IsNew agent s → IsPlayed agent s []
+  pub not_with_a_list_before_its_node : (s : ActorState) → IsPlayed agent s (agent_calls (tells_pod p ∷ [])) → ⊥
+  pub not_with_a_call_after_a_stale_epoch : (s : ActorState) → IsPlayed agent s (agent_calls (mounted node_1 1 [] ∷ is_stale ∷ takes node_1 1 ∷ [])) → ⊥
+  pub not_where_a_pod_is_left : (s : ActorState) → IsPlayed agent s (agent_calls (pod_left [])) → ⊥

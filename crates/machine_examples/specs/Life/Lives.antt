@@ -17,9 +17,9 @@ use Rattle.call_types.specs.declared.reply.Refusal.TheVariants as refusals
 use Rattle.call_types.specs.declared.reply.Reply.TheVariants as replies
 use Rattle.model_examples.specs.Samples.{Exchange, a, entry_of, finds_none, heard, in_phase, key_a, key_c, seat_of, taken_a, tells_volume, unheard}
 use Rattle.worker_core.specs.declared.role.Role.{Role}
-use Rattle.worker_core.specs.States.{State}
+use Rattle.worker_core.specs.States.{ActorState}
 use Rattle.worker_core.specs.Stands.{IsNew}
-use Rattle.attention_law.specs.Diligence.{AreFourWatches, Call, IsDiligent, IsDue, WasAskedSince}
+use Rattle.attention_law.specs.Diligence.{AreFourWatches, Call, IsDiligent, IsKeyDue, WasAskedSince}
 use Rattle.attention_law.specs.Played.{IsPlayed}
 use Rattle.attention_law.specs.Showing.{IsDiligentInOrder}
 
@@ -70,7 +70,7 @@ abbrev pub pending_a : VolumeData
 pending_a = in_phase volumes.Pending a
 
 abbrev pub Due : Key → List Exchange → Type 0
-Due key xs = IsDue binder key (seat_of seats.Binder xs)
+Due key xs = IsKeyDue binder key (seat_of seats.Binder xs)
 
 pub record DueExamples : Type 0 where
   pub pending_volume : Due key_a (tells_volume pending_a ∷ [])
@@ -96,7 +96,7 @@ pub record LifeExamples : Type 0 where
 -- how a life is played
 
 pub record PlayedExamples : Type 0 where
-  pub a_new_life : (s : State) → IsNew binder s → IsPlayed binder s []
-  pub not_with_a_watch_before_a_list : (s : State) → IsPlayed binder s (call watch ∷ []) → ⊥
-  pub not_with_a_write_of_what_was_not_told : (s : State) → IsPlayed binder s (call (frees a) ∷ []) → ⊥
-  pub not_where_a_due_key_is_left : (s : State) → IsPlayed binder s (watched pending_a) → ⊥
+  pub a_new_life : (s : ActorState) → IsNew binder s → IsPlayed binder s []
+  pub not_with_a_watch_before_a_list : (s : ActorState) → IsPlayed binder s (call watch ∷ []) → ⊥
+  pub not_with_a_write_of_what_was_not_told : (s : ActorState) → IsPlayed binder s (call (frees a) ∷ []) → ⊥
+  pub not_where_a_due_key_is_left : (s : ActorState) → IsPlayed binder s (watched pending_a) → ⊥

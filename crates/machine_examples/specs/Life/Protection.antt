@@ -8,8 +8,8 @@ use Rattle.call_types.specs.declared.request.SeatKind.TheVariants as seats
 use Rattle.model_examples.specs.ProtectionRows.{bare_a, bare_c, leaving_a, leaving_c, other_p}
 use Rattle.model_examples.specs.Samples.{Exchange, c, entry_of, key_a, key_c, leaving_bound_a, p, seat_of, tells_claim, tells_pod, tells_volume}
 use Rattle.worker_core.specs.declared.role.Role.{Role}
-use Rattle.worker_core.specs.States.{State}
-use Rattle.attention_law.specs.Diligence.{Call, IsDiligent, IsDue}
+use Rattle.worker_core.specs.States.{ActorState}
+use Rattle.attention_law.specs.Diligence.{Call, IsDiligent, IsKeyDue}
 use Rattle.attention_law.specs.Played.{IsPlayed}
 use Rattle.machine_examples.specs.Life.Lives.{watch}
 
@@ -20,10 +20,10 @@ abbrev pub volume_guard : Role
 volume_guard = record { kind = seats.VolumeProtect; node = [] }
 
 abbrev pub ClaimDue : Key → List Exchange → Type 0
-ClaimDue key xs = IsDue claim_guard key (seat_of seats.ClaimProtect xs)
+ClaimDue key xs = IsKeyDue claim_guard key (seat_of seats.ClaimProtect xs)
 
 abbrev pub VolumeDue : Key → List Exchange → Type 0
-VolumeDue key xs = IsDue volume_guard key (seat_of seats.VolumeProtect xs)
+VolumeDue key xs = IsKeyDue volume_guard key (seat_of seats.VolumeProtect xs)
 
 pub record ProtectionDueExamples : Type 0 where
   pub bare_claim : ClaimDue key_c (tells_claim bare_c ∷ [])
@@ -49,4 +49,4 @@ guard_watched v = guard_call watch ∷ guard_call watch ∷ guard_call watch ∷
 
 pub record ProtectionLifeExamples : Type 0 where
   pub not_where_a_bare_volume_is_left : IsDiligent volume_guard (guard_watched bare_a) → ⊥
-  pub no_actor_leaves_it : (s : State) → IsPlayed volume_guard s (guard_watched bare_a) → ⊥
+  pub no_actor_leaves_it : (s : ActorState) → IsPlayed volume_guard s (guard_watched bare_a) → ⊥

@@ -11,9 +11,9 @@ use Rattle.call_types.specs.declared.reply.Reply.TheVariants as replies
 use Rattle.model_examples.specs.OpsRows.{deleting_c}
 use Rattle.model_examples.specs.Samples.{Exchange, a, c, chosen_c, deleting_a, ended_a, entry_of, fast, finds_none, heard, id_a, key_a, key_c, late, released_a, seat_of, still_bound_a, tells_claim, tells_class, tells_volume}
 use Rattle.worker_core.specs.declared.role.Role.{Role}
-use Rattle.worker_core.specs.States.{State}
+use Rattle.worker_core.specs.States.{ActorState}
 use Rattle.worker_core.specs.Stands.{IsNew}
-use Rattle.attention_law.specs.Diligence.{Call, IsDiligent, IsDue}
+use Rattle.attention_law.specs.Diligence.{Call, IsDiligent, IsKeyDue}
 use Rattle.attention_law.specs.Played.{IsPlayed}
 use Rattle.attention_law.specs.Showing.{IsDiligentInOrder}
 
@@ -21,7 +21,7 @@ abbrev pub ops : Role
 ops = record { kind = seats.Ops; node = [] }
 
 abbrev pub OpsDue : Key → List Exchange → Type 0
-OpsDue key xs = IsDue ops key (seat_of seats.Ops xs)
+OpsDue key xs = IsKeyDue ops key (seat_of seats.Ops xs)
 
 pub record OpsDueExamples : Type 0 where
   pub claim_that_nothing_serves : OpsDue key_c (tells_claim c ∷ tells_class fast ∷ [])
@@ -72,7 +72,7 @@ abbrev pub erases_unread : List Exchange
 erases_unread = heard (requests.Erase id_a) (replies.Erased true) ∷ tells_volume ended_a ∷ []
 
 pub record OpsPlayedExamples : Type 0 where
-  pub a_new_life : (s : State) → IsNew ops s → IsPlayed ops s []
-  pub not_with_an_erase_of_what_was_not_read : (s : State) → IsPlayed ops s (ops_calls erases_unread) → ⊥
-  pub not_where_an_ended_volume_is_left : (s : State) → IsPlayed ops s (ops_calls (volume_left ended_a)) → ⊥
-  pub not_where_a_claim_is_left : (s : State) → IsPlayed ops s (ops_calls claim_left) → ⊥
+  pub a_new_life : (s : ActorState) → IsNew ops s → IsPlayed ops s []
+  pub not_with_an_erase_of_what_was_not_read : (s : ActorState) → IsPlayed ops s (ops_calls erases_unread) → ⊥
+  pub not_where_an_ended_volume_is_left : (s : ActorState) → IsPlayed ops s (ops_calls (volume_left ended_a)) → ⊥
+  pub not_where_a_claim_is_left : (s : ActorState) → IsPlayed ops s (ops_calls claim_left) → ⊥

@@ -16,8 +16,8 @@ use Rattle.machine_examples.specs.Schedule.Beginnings.{scheduled}
 use Rattle.machine_examples.specs.Schedule.Refusals.{at_version, selects}
 use Rattle.worker_core.specs.declared.role.Role.{Role}
 use Rattle.worker_core.specs.Stands.{IsNew}
-use Rattle.worker_core.specs.States.{State}
-use Rattle.attention_law.specs.Diligence.{Call, IsAskedFor, IsDiligent, IsDue}
+use Rattle.worker_core.specs.States.{ActorState}
+use Rattle.attention_law.specs.Diligence.{Call, IsAskedFor, IsDiligent, IsKeyDue}
 use Rattle.attention_law.specs.Played.{IsPlayed}
 use Rattle.attention_law.specs.Showing.{IsDiligentInOrder}
 use Rattle.machine_examples.specs.Life.Agents.{watch_of_pods}
@@ -26,7 +26,7 @@ abbrev pub scheduler : Role
 scheduler = record { kind = seats.Scheduler; node = [] }
 
 abbrev pub ScheduleDue : Key → List Exchange → Type 0
-ScheduleDue key xs = IsDue scheduler key (seat_of seats.Scheduler xs)
+ScheduleDue key xs = IsKeyDue scheduler key (seat_of seats.Scheduler xs)
 
 -- a class that waits for the first pod, one node, a claim and a pod were told
 abbrev pub tells_all : ClaimData → PodData → List Exchange
@@ -82,6 +82,6 @@ pub record ScheduleLifeExamples : Type 0 where
 -- how a life is played
 
 pub record SchedulePlayedExamples : Type 0 where
-  pub a_new_life : (s : State) → IsNew scheduler s → IsPlayed scheduler s []
-  pub not_with_a_node_for_a_claim_that_was_not_told : (s : State) → IsPlayed scheduler s (schedule_calls (selects (codes "n1") 10 ∷ [])) → ⊥
-  pub not_where_a_pod_is_left : (s : State) → IsPlayed scheduler s (schedule_calls (unscheduled (tells_all c pod))) → ⊥
+  pub a_new_life : (s : ActorState) → IsNew scheduler s → IsPlayed scheduler s []
+  pub not_with_a_node_for_a_claim_that_was_not_told : (s : ActorState) → IsPlayed scheduler s (schedule_calls (selects (codes "n1") 10 ∷ [])) → ⊥
+  pub not_where_a_pod_is_left : (s : ActorState) → IsPlayed scheduler s (schedule_calls (unscheduled (tells_all c pod))) → ⊥

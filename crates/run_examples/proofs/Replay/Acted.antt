@@ -42,7 +42,7 @@ use Rattle.script_text.specs.declared.script.Line.{Line}
 use Rattle.script_text.specs.declared.script.Line.TheVariants as lines
 use Rattle.script_text.specs.declared.script.Script.{Script}
 use Rattle.script_runs.specs.Parts.{drain_roles, drain_seat, drain_seats}
-use Rattle.script_runs.specs.Replays.{AreMoves, IsDrain, IsMove, IsReplay, IsUserCall, MoreMoves, NoMoves, Progress, begun}
+use Rattle.script_runs.specs.Replays.{AreMoves, IsDrain, IsMove, IsReplay, IsUserCall, MoreMoves, NoMoves, Progress, first_progress}
 use Rattle.worker_core.specs.declared.role.Role.{Role}
 use Rattle.run_examples.specs.Replay.Drains.{ActorExamples, RoundExamples, lists_made, made, made_a, made_script, node_script, only_watched, watches_made}
 use Rattle.run_examples.proofs.Replay.Firsts.{FirstCall, SecondCall, ends_so, first_call, no_lines, second_call}
@@ -93,8 +93,8 @@ one_line script option done now ls user request are (MoreMoves line rest next is
 -- ---- drains after it
 
 module _ (n : ℕ) (past : List Entry) (ending : Drained) (r : IsReplay made_script (Some n) past ending) (long : 1 < length past) where
-  asked : UserAsked r.lines_done (begun (Some n)) 1 (requests.Create (Volume (volume (codes "a") 5)))
-  asked = one_line made_script (Some n) r.lines_done (begun (Some n)) made_script.lines 1 (requests.Create (Volume (volume (codes "a") 5))) refl r.moves
+  asked : UserAsked r.lines_done (first_progress (Some n)) 1 (requests.Create (Volume (volume (codes "a") 5)))
+  asked = one_line made_script (Some n) r.lines_done (first_progress (Some n)) made_script.lines 1 (requests.Create (Volume (volume (codes "a") 5))) refl r.moves
 
   abbrev user_entry : Entry
   user_entry = record { seat = 1; kind = seats.User; request = requests.Create (Volume (volume (codes "a") 5)); reply = asked.reply; told = true }
@@ -174,8 +174,8 @@ round_cases = record {
   wrong_kinds = λ r. let e : 5 ≡ 7 = first_seat 1 (lists_made 5 seats.VolumeProtect ∷ made) (Spent 1 key dues.Available) r two 0 (lists_made 5 seats.VolumeProtect) refl refl in absurd (omega (arith, e));
   nor_at_the_seat_of_the_scheduler = λ r. absurd (true≢false (sym (ap is_scheduler (first_kind 1 (lists_made 7 seats.VolumeProtect ∷ made) (Spent 1 key dues.Available) r two 0 (lists_made 7 seats.VolumeProtect) refl refl))));
   but_the_scheduler_lists_them = record {
-    lines_done = record (begun (Some 1)) { past = made };
-    end = record (begun (Some 1)) { past = lists_made 7 seats.Scheduler ∷ made; drained = 1 };
+    lines_done = record (first_progress (Some 1)) { past = made };
+    end = record (first_progress (Some 1)) { past = lists_made 7 seats.Scheduler ∷ made; drained = 1 };
     moves = MoreMoves (lines.Call 1 (requests.Create (Volume (volume (codes "a") 5)))) [] _ refl (record { reply = replies.Done (Volume made_a); is = refl }) (NoMoves refl refl);
     last = one_call_drain made_script made (lists_made 7 seats.Scheduler).reply (refl, (refl, (refl, (refl, (refl, tt))))) (key, dues.Available) (key, dues.Available) (due_first made rows_made) (due_first (lists_made 7 seats.Scheduler ∷ made) rows_listed);
     history = refl;

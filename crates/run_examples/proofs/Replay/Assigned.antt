@@ -26,7 +26,7 @@ use Rattle.model_examples.specs.Samples.{key_p, n1, node_1, uid_p}
 use Rattle.model_examples.proofs.Tellings.{IsIn, differ, found_in, one}
 use Rattle.settle_check.proofs.Settled.{not_settled}
 use Rattle.world_core.specs.declared.drained.Drained.TheVariants.{Spent}
-use Rattle.script_runs.specs.Replays.{IsReplay, NoMoves, Progress, begun}
+use Rattle.script_runs.specs.Replays.{IsReplay, NoMoves, Progress, first_progress}
 use Rattle.run_examples.specs.Replay.Drains.{AssignExamples, assigned_p, lone_p, pod_assigned, pod_script}
 use Rattle.run_examples.proofs.Replay.Drained.{spent_drain}
 use Rattle.run_examples.proofs.Replay.Firsts.{ends_so, first_call, no_lines}
@@ -102,7 +102,7 @@ unsettled settled = not_settled setup first (key_p, dues.Assign) assign_due sett
 -- the scheduler lists the volumes before it gives the pod a node
 lists_before : IsReplay pod_script (Some 1) pod_assigned (Spent 1 key_p dues.Mount) → ⊥
 lists_before r =
-    let none : r.lines_done ≡ begun (Some 1) = no_lines pod_script (Some 1) r.lines_done (begun (Some 1)) [] refl r.moves in
+    let none : r.lines_done ≡ first_progress (Some 1) = no_lines pod_script (Some 1) r.lines_done (first_progress (Some 1)) [] refl r.moves in
     let empty : r.lines_done.past ≡ [] = ap (λ (p : Progress). p.past) none in
     let call = first_call pod_script (Some 1) r.lines_done r.end r.last (λ same. let both : pod_assigned ≡ [] = r.history ∙ same ∙ empty in absurd (cc)) (ap (own 7) empty) in
     let long : length r.lines_done.past ≡ 0 = ap length empty in
@@ -113,7 +113,7 @@ lists_before r =
 pub assign_cases : AssignExamples
 assign_cases = record {
   due_until_it_has_a_node =
-      record { lines_done = begun (Some 0); end = begun (Some 0); moves = NoMoves refl refl; last = spent_drain pod_script (key_p, dues.Assign) assign_due; history = refl; ends = (refl, refl, assign_due) };
+      record { lines_done = first_progress (Some 0); end = first_progress (Some 0); moves = NoMoves refl refl; last = spent_drain pod_script (key_p, dues.Assign) assign_due; history = refl; ends = (refl, refl, assign_due) };
   then_it_is_to_be_mounted = (refl, refl, mount_due);
   not_before_anything_was_listed = lists_before;
   not_assigned_twice = λ r. no_assign_due (subst (λ h. IsFirstDue setup (world setup h) (Some (key_p, dues.Assign))) (sym r.history) r.ends.2);

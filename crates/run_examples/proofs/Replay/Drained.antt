@@ -32,7 +32,7 @@ use Rattle.worker_threads.specs.Rounds.{IsSpent, NothingDue, all_pass}
 use Rattle.script_text.specs.declared.script.Script.{Script}
 use Rattle.script_runs.specs.Drains.{DrainComesTo}
 use Rattle.script_runs.specs.Parts.{drain_seat}
-use Rattle.script_runs.specs.Replays.{IsDrain, NoMoves, Progress, begun}
+use Rattle.script_runs.specs.Replays.{IsDrain, NoMoves, Progress, first_progress}
 use Rattle.script_runs.proofs.Draining.{drains_come_to}
 use Rattle.run_examples.specs.Replay.Calls.{reads}
 use Rattle.run_examples.specs.Replay.Drains.{DrainExamples, Drains, SpentExamples, begins_with, node_script, volume_script}
@@ -95,29 +95,29 @@ module _ (script : Script) (five : drain_seat script ≡ 5) (e : Entry) (d : Dra
 
   its_seat : e.seat ≡ 7
   its_seat =
-      let first = first_call script (Some 1) (begun (Some 1)) (record (begun (Some 1)) { past = e ∷ []; drained = 1 }) d (λ (none : e ∷ [] ≡ []). absurd (cc)) refl in
+      let first = first_call script (Some 1) (first_progress (Some 1)) (record (first_progress (Some 1)) { past = e ∷ []; drained = 1 }) d (λ (none : e ∷ [] ≡ []). absurd (cc)) refl in
       ap (λ (x : Entry). x.seat) (sym (its_call first.later first.entry first.are)) ∙ first.of_seat ∙ ap (λ n. n + 2) five
 
   its_kind : e.kind ≡ seats.Scheduler
   its_kind =
-      let first = first_call script (Some 1) (begun (Some 1)) (record (begun (Some 1)) { past = e ∷ []; drained = 1 }) d (λ (none : e ∷ [] ≡ []). absurd (cc)) refl in
+      let first = first_call script (Some 1) (first_progress (Some 1)) (record (first_progress (Some 1)) { past = e ∷ []; drained = 1 }) d (λ (none : e ∷ [] ≡ []). absurd (cc)) refl in
       ap (λ (x : Entry). x.kind) (sym (its_call first.later first.entry first.are)) ∙ first.of_kind
 
   its_answer : e.told ≡ true
   its_answer =
-      let first = first_call script (Some 1) (begun (Some 1)) (record (begun (Some 1)) { past = e ∷ []; drained = 1 }) d (λ (none : e ∷ [] ≡ []). absurd (cc)) refl in
+      let first = first_call script (Some 1) (first_progress (Some 1)) (record (first_progress (Some 1)) { past = e ∷ []; drained = 1 }) d (λ (none : e ∷ [] ≡ []). absurd (cc)) refl in
       ap (λ (x : Entry). x.told) (sym (its_call first.later first.entry first.are)) ∙ first.was_told
 
   its_request : e.request ≡ requests.List kinds.PersistentVolume None
   its_request =
-      let first = first_call script (Some 1) (begun (Some 1)) (record (begun (Some 1)) { past = e ∷ []; drained = 1 }) d (λ (none : e ∷ [] ≡ []). absurd (cc)) refl in
+      let first = first_call script (Some 1) (first_progress (Some 1)) (record (first_progress (Some 1)) { past = e ∷ []; drained = 1 }) d (λ (none : e ∷ [] ≡ []). absurd (cc)) refl in
       ap (λ (x : Entry). x.request) (sym (its_call first.later first.entry first.are)) ∙ first.asks
 
 not_at : (script : Script) (seat : ℕ) (told : Bool) → drain_seat script ≡ 5 → seat ≢ 7 → Drains script 1 1 (reads seat told ∷ []) → ⊥
 not_at script seat told five other d = other (its_seat script five (reads seat told) d)
 
-what_came : (script : Script) (budget made : ℕ) (past : List Entry) → Drains script budget made past → DrainComesTo script (begun (Some budget)) (record (begun (Some budget)) { past = past; drained = made })
-what_came script budget made past d = drains_come_to all_pass script (Some budget) (begun (Some budget)) (record (begun (Some budget)) { past = past; drained = made }) d
+what_came : (script : Script) (budget made : ℕ) (past : List Entry) → Drains script budget made past → DrainComesTo script (first_progress (Some budget)) (record (first_progress (Some budget)) { past = past; drained = made })
+what_came script budget made past d = drains_come_to all_pass script (Some budget) (first_progress (Some budget)) (record (first_progress (Some budget)) { past = past; drained = made }) d
 
 -- tests that tell requests apart
 
@@ -140,7 +140,7 @@ short d = by (what_came volume_script 1 0 [] d).ends
 too_many : Drains volume_script 0 1 (begins_with 7 ∷ []) → ⊥
 too_many d =
     let few = (what_came volume_script 0 1 (begins_with 7 ∷ []) d).few in
-    let none : (begun (Some 0)).budget ≡ 0 = refl in
+    let none : (first_progress (Some 0)).budget ≡ 0 = refl in
     absurd (omega (arith, few, none))
 
 no_need : Drains empty_script 1 0 []
@@ -182,7 +182,7 @@ drain_cases = record {
 -- ---- how it ends
 
 -- with no budget no call is made
-pub spent_drain : (script : Script) (first : Key × Due) → IsFirstDue script.setup (world script.setup []) (Some first) → IsDrain all_pass script (Some 0) (begun (Some 0)) (begun (Some 0))
+pub spent_drain : (script : Script) (first : Key × Due) → IsFirstDue script.setup (world script.setup []) (Some first) → IsDrain all_pass script (Some 0) (first_progress (Some 0)) (first_progress (Some 0))
 spent_drain script first due = record {
   past = [];
   made = 0;
@@ -204,7 +204,7 @@ spent_drain script first due = record {
 
 pub spent_cases : SpentExamples
 spent_cases = record {
-  the_first_that_is_due = record { lines_done = begun (Some 0); end = begun (Some 0); moves = NoMoves refl refl; last = spent_drain volume_script (key_a, dues.Available) first_due; history = refl; ends = (refl, refl, first_due) };
+  the_first_that_is_due = record { lines_done = first_progress (Some 0); end = first_progress (Some 0); moves = NoMoves refl refl; last = spent_drain volume_script (key_a, dues.Available) first_due; history = refl; ends = (refl, refl, first_due) };
   not_another_action = λ r. not_bound (subst (λ h. IsFirstDue volume_script.setup (world volume_script.setup h) (Some (key_a, dues.Bound))) (sym r.history) r.ends.2);
   not_settled = λ r. unsettled (subst (λ h. IsSettled volume_script.setup (world volume_script.setup h)) (sym r.history) r.ends.1);
 }

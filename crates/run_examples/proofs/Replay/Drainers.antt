@@ -8,7 +8,7 @@ use Rattle.call_types.specs.declared.entry.Entry.{Entry}
 use Rattle.call_types.specs.declared.request.SeatKind.{SeatKind}
 use Rattle.call_types.specs.declared.request.SeatKind.TheVariants as seats
 use Rattle.binder_model.specs.Told.{newest}
-use Rattle.informer_cache.specs.Cache.{Known, StandsFor as CacheStands, known_of, kind_known}
+use Rattle.informer_cache.specs.Cache.{Known, CacheStandsFor, known_of, kind_known}
 use Rattle.informer_cache.specs.All.{AllKnown, AllStandFor, all_objects, cache_of}
 use Rattle.sync_queue.specs.Work.{no_work}
 use Rattle.worker_core.specs.declared.role.Role.{Role}
@@ -16,7 +16,7 @@ use Rattle.worker_core.specs.Absorbs.{woken}
 use Rattle.worker_core.specs.Memories.{no_memory}
 use Rattle.worker_core.specs.Roles.{kinds_of}
 use Rattle.worker_core.specs.Stands.{IsNew, StandsFor}
-use Rattle.worker_core.specs.States.{State}
+use Rattle.worker_core.specs.States.{ActorState}
 use Rattle.worker_core.proofs.Begins.{begins}
 use Rattle.attention_law.proofs.Kept.{new_queues, wakes_queues}
 use Rattle.worker_threads.specs.declared.drainers.Drainer.{Drainer}
@@ -29,7 +29,7 @@ use Rattle.run_examples.specs.Replay.Runs.{begun_as, knows_nothing, no_caches}
 
 -- ---- caches that know nothing
 
-nothing_told : (kind : Kind) → CacheStands (knows_nothing kind) []
+nothing_told : (kind : Kind) → CacheStandsFor (knows_nothing kind) []
 nothing_told kind = record { known = λ key own. refl; rows = λ key own. refl; from = refl }
 
 no_caches_stand : AllStandFor no_caches []
@@ -42,7 +42,7 @@ no_caches_stand = record { kinds = kind_is; each = each; rows = λ key. refl }
     kind_is kinds.PersistentVolumeClaim = refl
     kind_is kinds.Pod = refl
 
-    each : (kind : Kind) → CacheStands (cache_of kind no_caches) []
+    each : (kind : Kind) → CacheStandsFor (cache_of kind no_caches) []
     each kinds.StorageClass = nothing_told kinds.StorageClass
     each kinds.Node = nothing_told kinds.Node
     each kinds.PersistentVolume = nothing_told kinds.PersistentVolume
@@ -58,7 +58,7 @@ begun_stands : (role : Role) → StandsFor (begun_as role) []
 begun_stands role = begins role (begun_as role) (begun_new role)
 
 -- a wake leaves it standing
-woken_stands : (s : State) (mine : List Entry) → StandsFor s mine → StandsFor (woken s) mine
+woken_stands : (s : ActorState) (mine : List Entry) → StandsFor s mine → StandsFor (woken s) mine
 woken_stands s mine stands = record {
   caches = stands.caches;
   under_way = stands.under_way;

@@ -25,7 +25,7 @@ use Rattle.worker_core.specs.declared.turn.Outcome.TheVariants.{Told}
 use Rattle.worker_core.specs.Absorbs.{absorbed, woken}
 use Rattle.worker_core.specs.Roles.{IsBuiltKind, kinds_of}
 use Rattle.worker_core.specs.Stands.{AnyIsUnderWay, Begun, IsUnderWay, StandsFor, WentOn}
-use Rattle.worker_core.specs.States.{State, call_in, read_of_kind, read_request, start_call}
+use Rattle.worker_core.specs.States.{ActorState, call_in, read_of_kind, read_request, start_call}
 use Rattle.worker_core.specs.Turns.{IsTurn, TurnBy, first_unlisted, is_listed, passing, unlisted}
 use Rattle.worker_core.proofs.ByKind.{built_fresh}
 use Rattle.worker_threads.specs.declared.drainers.Drainer.{Drainer}
@@ -123,12 +123,12 @@ no_way role kind u (x ∷ mine) is first never (WentOn before e past split way t
     rest_of (y ∷ ys) = ys
 
 -- the answer lists the first kind that is lacking
-pub record ListsNext (s : State) (answer : Next) : Type 0 where
+pub record ListsNext (s : ActorState) (answer : Next) : Type 0 where
   pub kind : Kind
   pub lacks : unlisted s ≡ Some kind
   pub call : answer ≡ nexts.Call (requests.List kind None)
 
-lists_next : (s given : State) (answer : Next) (mine : List Entry) (kind : Kind) → s.role ≡ of_kind seats.Scheduler → StandsFor s mine → IsFirstKind kind → NeverListed kind mine → IsTurn s given answer → ListsNext s answer
+lists_next : (s given : ActorState) (answer : Next) (mine : List Entry) (kind : Kind) → s.role ≡ of_kind seats.Scheduler → StandsFor s mine → IsFirstKind kind → NeverListed kind mine → IsTurn s given answer → ListsNext s answer
 lists_next s given answer mine kind is stands first never turn = by s.memory.stale s.under (start_call s.role s.memory) (unlisted s) (passing s) refl refl refl refl turn
   where
     kind_is : s.role.kind ≡ seats.Scheduler
@@ -148,8 +148,8 @@ lists_next s given answer mine kind is stands first never turn = by s.memory.sta
 -- ---- how its run begins
 
 -- it lists a kind that is lacking, and goes on
-pub record RunBegins (seat : ℕ) (after : State) (past : List Entry) (left : ℕ) (idle : Bool) (s : State) (h : List Entry) (b : ℕ) (never : Kind) : Type 0 where
-  pub next : State
+pub record RunBegins (seat : ℕ) (after : ActorState) (past : List Entry) (left : ℕ) (idle : Bool) (s : ActorState) (h : List Entry) (b : ℕ) (never : Kind) : Type 0 where
+  pub next : ActorState
   pub without : is_listed s.caches never ≡ false
   pub entry : Entry
   pub kind : Kind
@@ -161,7 +161,7 @@ pub record RunBegins (seat : ℕ) (after : State) (past : List Entry) (left : �
   pub role : next.role ≡ s.role
   pub goes : Runs all_pass seat after past left idle next (entry ∷ h) (b - 1)
 
-run_begins : (seat : ℕ) (after : State) (past : List Entry) (left : ℕ) (idle : Bool) (s : State) (h : List Entry) (b : ℕ) (kind : Kind) → s.role ≡ of_kind seats.Scheduler → IsFirstKind kind → NeverListed kind (own seat h) → 0 < b
+run_begins : (seat : ℕ) (after : ActorState) (past : List Entry) (left : ℕ) (idle : Bool) (s : ActorState) (h : List Entry) (b : ℕ) (kind : Kind) → s.role ≡ of_kind seats.Scheduler → IsFirstKind kind → NeverListed kind (own seat h) → 0 < b
     → Runs all_pass seat after past left idle s h b → RunBegins seat after past left idle s h b kind
 run_begins seat after past left idle s h b kind is first never some (IsSpent none state entries rest busy) = absurd (omega (arith, none, some))
 run_begins seat after past left idle s h b kind is first never some (IsIdle more ready turn entries rest calm) =
@@ -199,7 +199,7 @@ claims_unlisted e asks = by e.told e.request e.reply asks
 
 -- the run of its first actor, and what came after it
 pub record DrainBegins (d : Drainer) (h past : List Entry) (b : ℕ) : Type 0 where
-  pub after : State
+  pub after : ActorState
   pub middle : List Entry
   pub left : ℕ
   pub idle : Bool

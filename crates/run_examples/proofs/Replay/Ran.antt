@@ -5,6 +5,7 @@ use Rattle.worker_threads.specs.Rounds.{IsHeld, IsSpent}
 use Rattle.worker_threads.proofs.RunFacts.{run_longer}
 use Rattle.run_examples.specs.Replay.Runs.{HeldExamples, QueueExamples, giving_scheduler, list_volumes}
 use Rattle.run_examples.proofs.Replay.Scheduled.{gives_list, ready_where}
+use Rattle.seat_calls.specs.Answered.{all_pass}
 
 pub queue_cases : QueueExamples
 queue_cases = record {

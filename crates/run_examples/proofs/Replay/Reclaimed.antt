@@ -27,7 +27,7 @@ use Rattle.model_examples.specs.Samples.{ended_a, key_a}
 use Rattle.model_examples.proofs.Tellings.{IsIn, differ, found_in, one}
 use Rattle.settle_check.proofs.Settled.{not_settled}
 use Rattle.world_core.specs.declared.drained.Drained.TheVariants.{Spent}
-use Rattle.script_runs.specs.Replays.{IsReplay, Progress, begun}
+use Rattle.script_runs.specs.Replays.{IsReplay, Progress, first_progress}
 use Rattle.run_examples.specs.Replay.Drains.{ReclaimExamples, data_erased, ended_script, ops_asks, volume_deleted}
 use Rattle.run_examples.proofs.Replay.Firsts.{ends_so, first_call, no_lines}
 
@@ -101,7 +101,7 @@ unsettled w rows settled = not_settled setup w (key_a, dues.Reclaim) (reclaim_du
 -- ops makes no first call
 begins_otherwise : IsReplay ended_script (Some 2) data_erased (Spent 2 key_a dues.Reclaim) → ⊥
 begins_otherwise r =
-    let none : r.lines_done ≡ begun (Some 2) = no_lines ended_script (Some 2) r.lines_done (begun (Some 2)) [] refl r.moves in
+    let none : r.lines_done ≡ first_progress (Some 2) = no_lines ended_script (Some 2) r.lines_done (first_progress (Some 2)) [] refl r.moves in
     let empty : r.lines_done.past ≡ [] = ap (λ (p : Progress). p.past) none in
     let first = first_call ended_script (Some 2) r.lines_done r.end r.last (λ same. let both : data_erased ≡ [] = r.history ∙ same ∙ empty in absurd (cc)) (ap (own 7) empty) in
     let long : length r.lines_done.past ≡ 0 = ap length empty in

@@ -18,12 +18,12 @@ use Rattle.worker_threads.specs.Rounds.{NothingDue, all_pass}
 use Rattle.script_text.specs.declared.script.Line.{Line}
 use Rattle.script_text.specs.declared.script.Line.TheVariants as lines
 use Rattle.script_text.specs.declared.script.Script.{Script}
-use Rattle.script_runs.specs.declared.part.Part.{Part}
+use Rattle.actor_turns.specs.declared.part.Part.{Part}
 use Rattle.script_runs.specs.Budget.{raised}
 use Rattle.script_runs.specs.Examples.{binder_1}
 use Rattle.script_runs.specs.Parts.{part_of, role_of}
-use Rattle.script_runs.specs.Calls.{AreNeededLives, IsNeededLife, MayEnd, MoreCalls, NoCalls}
-use Rattle.script_runs.specs.Replays.{AreMoves, IsDrain, IsMove, IsReplay, IsTurn, IsUserCall, MoreMoves, NoMoves, Progress, and_made, begun}
+use Rattle.actor_turns.specs.Calls.{AreNeededLives, IsNeededLife, MayEnd, MoreCalls, NoCalls}
+use Rattle.script_runs.specs.Replays.{AreMoves, IsDrain, IsMove, IsReplay, IsTurnLine, IsUserCall, MoreMoves, NoMoves, Progress, and_made, first_progress}
 use Rattle.run_examples.specs.Replay.Calls.{reads, some_key, told_calls}
 use Rattle.run_examples.specs.Replay.Replays.{EmptyExamples, TurnExamples, UserExamples, empty_script, turn_script, user_reads, user_script}
 use Rattle.script_runs.proofs.Draining.{calls_leave_entries, drains_come_to}
@@ -34,11 +34,11 @@ use Rattle.run_examples.proofs.Replay.Counted.{LeavesOne, end_cases, none_left, 
 
 -- ---- a replay whose last drain has nothing to do
 
-abbrev pub settled_replay : (script : Script) (past : List Entry) (made : List ℕ → ℕ) → AreMoves script None (record (begun None) { past = past; made = made }) script.lines (begun None) → 2048 ≡ raised None script.setup past 0 → IsSettled script.setup (world script.setup past)
+abbrev pub settled_replay : (script : Script) (past : List Entry) (made : List ℕ → ℕ) → AreMoves script None (record (first_progress None) { past = past; made = made }) script.lines (first_progress None) → 2048 ≡ raised None script.setup past 0 → IsSettled script.setup (world script.setup past)
     → HaveNoEntries (seats_of (drainers_of script)) past → IsReplay script None past (Settled 0)
 settled_replay script past made moves budget settled none = record {
-  lines_done = record (begun None) { past = past; made = made };
-  end = record (begun None) { past = past; made = made; budget = 2048 };
+  lines_done = record (first_progress None) { past = past; made = made };
+  end = record (first_progress None) { past = past; made = made; budget = 2048 };
   moves = moves;
   last = record {
     past = past;
@@ -73,12 +73,12 @@ none_added (x ∷ xs) ys is = absurd (cc)
 
 -- what the last drain comes to where no line came before it
 
-past_after : (before end : Progress) → before ≡ begun None → IsDrain all_pass empty_script None before end → end.past ≡ []
+past_after : (before end : Progress) → before ≡ first_progress None → IsDrain all_pass empty_script None before end → end.past ≡ []
 past_after before end is d =
     let first : before.past ≡ [] = ap (λ (p : Progress). p.past) is in
     (drains_come_to all_pass empty_script None before end d).none (settled_at before.past first) ∙ first
 
-drained_after : (before end : Progress) → before ≡ begun None → IsDrain all_pass empty_script None before end → end.drained ≡ 0
+drained_after : (before end : Progress) → before ≡ first_progress None → IsDrain all_pass empty_script None before end → end.drained ≡ 0
 drained_after before end is d =
     let l = calls_leave_entries empty_script None before end d in
     let none : [] ≡ l.added ++ before.past = sym (past_after before end is d) ∙ l.are in
@@ -88,11 +88,11 @@ drained_after before end is d =
     let first : before.drained ≡ 0 = ap (λ (p : Progress). p.drained) is in
     omega (arith, long, count, low, first)
 
-budget_after : (before end : Progress) → before ≡ begun None → IsDrain all_pass empty_script None before end → end.budget ≡ 2048
+budget_after : (before end : Progress) → before ≡ first_progress None → IsDrain all_pass empty_script None before end → end.budget ≡ 2048
 budget_after before end is d = ap (λ (p : Progress). p.budget) d.is ∙ d.raises ∙ ap (λ (p : Progress). raised None empty_script.setup p.past p.budget) is
 
-at_the_end : (done : Progress) → AreMoves empty_script None done [] (begun None) → done ≡ begun None
-at_the_end done moves = no_lines empty_script None done (begun None) [] refl moves
+at_the_end : (done : Progress) → AreMoves empty_script None done [] (first_progress None) → done ≡ first_progress None
+at_the_end done moves = no_lines empty_script None done (first_progress None) [] refl moves
 
 makes_no_call : IsReplay empty_script None (reads 5 true ∷ []) (Settled 0) → ⊥
 makes_no_call r =
@@ -126,7 +126,7 @@ pub record BeginsWith (seat : ℕ) (past : List Entry) : Type 0 where
   pub of_seat : entry.seat ≡ seat
   pub was_told : entry.told ≡ true
 
-begins_with : (script : Script) (seat : ℕ) (past : List Entry) (ending : Drained) → ((done : Progress) → AreMoves script None done script.lines (begun None) → LeavesOne seat done.past) → IsReplay script None past ending → BeginsWith seat past
+begins_with : (script : Script) (seat : ℕ) (past : List Entry) (ending : Drained) → ((done : Progress) → AreMoves script None done script.lines (first_progress None) → LeavesOne seat done.past) → IsReplay script None past ending → BeginsWith seat past
 begins_with script seat past ending leaves r =
     let one = leaves r.lines_done r.moves in
     let drain = calls_leave_entries script None r.lines_done r.end r.last in
@@ -157,21 +157,21 @@ its_answer seat x b = ap (λ (e : Entry). e.told) (alone x b.entry b.later b.are
 
 -- ---- one line
 
-one_move : (script : Script) (seat : ℕ) (line : Line) (done now : Progress) (ls : List Line) → ls ≡ line ∷ [] → now ≡ begun None → ((next : Progress) → IsMove script None line (begun None) next → LeavesOne seat next.past) → AreMoves script None done ls now → LeavesOne seat done.past
+one_move : (script : Script) (seat : ℕ) (line : Line) (done now : Progress) (ls : List Line) → ls ≡ line ∷ [] → now ≡ first_progress None → ((next : Progress) → IsMove script None line (first_progress None) next → LeavesOne seat next.past) → AreMoves script None done ls now → LeavesOne seat done.past
 one_move script seat line done now ls are start leaves (NoMoves none is) = absurd (cc)
 one_move script seat line done now ls are start leaves (MoreMoves first rest next is move more) =
     let same : first ≡ line = cc in
     let last : rest ≡ [] = cc in
-    let begins : IsMove script None line (begun None) next = subst (λ p. IsMove script None line p next) start (subst (λ l. IsMove script None l now next) same move) in
+    let begins : IsMove script None line (first_progress None) next = subst (λ p. IsMove script None line p next) start (subst (λ l. IsMove script None l now next) same move) in
     subst (λ (p : Progress). LeavesOne seat p.past) (sym (no_lines script None done next rest last more)) (leaves next begins)
 
 -- ---- a user's line
 
-user_moved : (next : Progress) → IsUserCall 1 (Get some_key) (begun None) next → LeavesOne 1 next.past
+user_moved : (next : Progress) → IsUserCall 1 (Get some_key) (first_progress None) next → LeavesOne 1 next.past
 user_moved next move = record { entry = _; are = ap (λ (p : Progress). p.past) move.is; of_seat = refl; was_told = refl }
 
 user_begins : (past : List Entry) (ending : Drained) → IsReplay user_script None past ending → BeginsWith 1 past
-user_begins past ending r = begins_with user_script 1 past ending (λ done moves. one_move user_script 1 (lines.Call 1 (Get some_key)) done (begun None) user_script.lines refl refl user_moved moves) r
+user_begins past ending r = begins_with user_script 1 past ending (λ done moves. one_move user_script 1 (lines.Call 1 (Get some_key)) done (first_progress None) user_script.lines refl refl user_moved moves) r
 
 nothing_due_after : IsSettled user_script.setup (world user_script.setup (user_reads 1 ∷ []))
 unfolding world_after effect on_devices device_answer after outcome get
@@ -193,7 +193,7 @@ user_cases = record {
 abbrev binder_part : Part
 binder_part = part_of turn_script binder_1
 
-turn_moved : (next : Progress) → IsTurn (role_of binder_1) binder_part 1 (begun None) next → LeavesOne 5 next.past
+turn_moved : (next : Progress) → IsTurnLine all_pass [] (role_of binder_1) binder_part 1 (first_progress None) next → LeavesOne 5 next.past
 turn_moved next (inl all) = subst (LeavesOne 5) (sym (ap (λ (p : Progress). p.past) all.is)) (one_call binder_part all.past 1 1 [] refl refl refl refl all.made)
 turn_moved next (inr fewer) =
     let few = fewer.few in
@@ -201,7 +201,7 @@ turn_moved next (inr fewer) =
     absurd (end_cases.not_at_once (subst (λ h. MayEnd seats.Binder [] (own fewer.seat h)) none fewer.ends))
 
 turn_begins : (past : List Entry) (ending : Drained) → IsReplay turn_script None past ending → BeginsWith 5 past
-turn_begins past ending r = begins_with turn_script 5 past ending (λ done moves. one_move turn_script 5 (lines.Turn binder_1 1) done (begun None) turn_script.lines refl refl turn_moved moves) r
+turn_begins past ending r = begins_with turn_script 5 past ending (λ done moves. one_move turn_script 5 (lines.Turn binder_1 1) done (first_progress None) turn_script.lines refl refl turn_moved moves) r
 
 pub nothing_due_in_turn : IsSettled turn_script.setup (world turn_script.setup (reads 5 true ∷ []))
 unfolding world_after effect on_devices device_answer after outcome get
@@ -211,8 +211,8 @@ pub budget_after_turn : 2048 ≡ raised None turn_script.setup (reads 5 true ∷
 unfolding world_after effect on_devices device_answer after outcome get
 budget_after_turn = refl
 
-pub one_needed : AreNeededLives (role_of binder_1) binder_part 1 (reads 5 true ∷ []) (begun None).idle
-one_needed seat low high = subst (λ s. IsNeededLife (role_of binder_1) binder_part s 1 (reads 5 true ∷ []) []) (only_life seat low high) (record {
+pub one_needed : AreNeededLives [] (role_of binder_1) binder_part 1 (reads 5 true ∷ []) (first_progress None).idle
+one_needed seat low high = subst (λ s. IsNeededLife [] (role_of binder_1) binder_part s 1 (reads 5 true ∷ []) []) (only_life seat low high) (record {
   since = told_calls (reads 5 true ∷ []);
   are = record { of_seat = refl; left = refl };
   needed = (tt, λ watch through. true≢false (sym watch));
@@ -223,7 +223,7 @@ abbrev pub turn_replay : IsReplay turn_script None (reads 5 true ∷ []) (Settle
 turn_replay =
     settled_replay turn_script (reads 5 true ∷ []) (and_made binder_part.name 1 (λ name. 0))
     (MoreMoves (lines.Turn binder_1 1) [] _ refl
-    (inl (record { past = reads 5 true ∷ []; made = MoreCalls 0 (reads 5 true ∷ []) refl (record { request = Get some_key; reply = Refused NotFound; is = refl }) (NoCalls refl refl); needed = one_needed; is = refl }))
+    (inl (record { past = reads 5 true ∷ []; made = MoreCalls 0 (reads 5 true ∷ []) refl (record { request = Get some_key; reply = Refused NotFound; passes = refl; is = refl }) (NoCalls refl refl); needed = one_needed; is = refl }))
     (NoMoves refl refl)) budget_after_turn nothing_due_in_turn (refl, (refl, (refl, (refl, (refl, tt)))))
 
 pub turn_cases : TurnExamples

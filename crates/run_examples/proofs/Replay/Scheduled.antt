@@ -12,14 +12,14 @@ use Rattle.binder_model.specs.World.{world}
 use Rattle.worker_core.specs.declared.turn.Next.TheVariants as nexts
 use Rattle.worker_core.specs.declared.turn.Outcome.TheVariants as outcomes
 use Rattle.worker_core.specs.Absorbs.{absorbed, woken}
-use Rattle.worker_core.specs.States.{State}
+use Rattle.worker_core.specs.States.{ActorState}
 use Rattle.worker_core.specs.Turns.{IsTurn}
 use Rattle.worker_threads.specs.declared.drainers.Drainer.{Drainer}
 use Rattle.worker_threads.specs.Drainers.{HaveNoEntries, StandsWhole, of_kind, seats_of}
 use Rattle.worker_threads.specs.Rounds.{Asks, Drains, Ends, Goes, IsReady, IsRound, IsSpent, Runs, Turns, all_pass}
 use Rattle.script_text.specs.declared.script.Script.{Script}
 use Rattle.script_runs.specs.Parts.{drain_seat}
-use Rattle.script_runs.specs.Replays.{IsDrain, Progress, begun}
+use Rattle.script_runs.specs.Replays.{IsDrain, Progress, first_progress}
 use Rattle.run_examples.specs.Replay.Runs.{giving_scheduler, list_volumes, no_caches, woken_scheduler}
 use Rattle.run_examples.proofs.Replay.Drainers.{agents_at, at_seat, drainers_of, drainers_roles, drainers_seats, drainers_stand, woken_whole}
 
@@ -37,7 +37,7 @@ spent_round past [] = Ends refl refl
 spent_round past (d ∷ ds) = Turns d (woke d) past 0 false refl (IsSpent refl refl refl refl refl) (spent_round past ds)
 
 -- the scheduler after the answer
-abbrev after_it : Reply → State
+abbrev after_it : Reply → ActorState
 after_it reply = absorbed giving_scheduler no_caches list_volumes (outcomes.Told reply)
 
 abbrev pub call_at : ℕ → Reply → Entry
@@ -67,7 +67,7 @@ module _ (script : Script) (h : List Entry) (reply : Reply) (none : HaveNoEntrie
   round : IsRound all_pass (call_at (drain_seat script + 2) reply ∷ h) 0 (drainers_of script) h 1 (ran ∷ map woke others) false
   round = Turns (at_seat (of_kind seats.Scheduler) (drain_seat script + 2)) ran (call_at (drain_seat script + 2) reply ∷ h) 0 false refl runs (spent_round (call_at (drain_seat script + 2) reply ∷ h) others)
 
-  pub one_call_drain : IsDrain all_pass script (Some 1) (record (begun (Some 1)) { past = h }) (record (begun (Some 1)) { past = call_at (drain_seat script + 2) reply ∷ h; drained = 1 })
+  pub one_call_drain : IsDrain all_pass script (Some 1) (record (first_progress (Some 1)) { past = h }) (record (first_progress (Some 1)) { past = call_at (drain_seat script + 2) reply ∷ h; drained = 1 })
   one_call_drain = record {
     past = call_at (drain_seat script + 2) reply ∷ h;
     made = 1;

@@ -19,36 +19,37 @@ use Rattle.worker_core.specs.declared.role.Role.{Role}
 use Rattle.worker_core.specs.declared.task.Task.TheVariants as tasks
 use Rattle.worker_core.specs.declared.task.Under.{Under}
 use Rattle.worker_core.specs.Stands.{HasNoNews}
-use Rattle.attention_law.specs.Diligence.{Call, IsDue}
+use Rattle.attention_law.specs.Diligence.{Call, IsKeyDue}
 use Rattle.attention_law.specs.Resting.{AreNeeded, Brings, IsDone, IsSilentOnceStale, WasCalledSince, WasToldStale}
 use Rattle.attention_law.proofs.Dues.{asked_no_read, never_due}
 use Rattle.attention_law.proofs.Showings.{one_showing}
-use Rattle.script_runs.specs.declared.loss.Fate.TheVariants.{Told}
-use Rattle.script_runs.specs.declared.loss.Loss.{Loss}
-use Rattle.script_runs.specs.declared.part.Part.{Part}
-use Rattle.script_runs.specs.Fates.{fate_of}
+use Rattle.actor_turns.specs.declared.loss.Fate.TheVariants.{Told}
+use Rattle.actor_turns.specs.declared.loss.Loss.{Loss}
+use Rattle.actor_turns.specs.declared.part.Part.{Part}
+use Rattle.actor_turns.specs.Fates.{fate_of}
 use Rattle.script_runs.specs.Examples.{binder_1}
 use Rattle.script_runs.specs.Parts.{role_of}
-use Rattle.script_runs.specs.Calls.{AreCalls, AreNeededLives, AreOfLife, IsCallWith, IsNeededLife, MoreCalls, NoCalls, seat_at}
-use Rattle.script_runs.specs.Replays.{IsTurn, Progress, begun}
+use Rattle.actor_turns.specs.Calls.{AreCalls, AreNeededLives, AreOfLife, IsCallWith, IsNeededLife, MoreCalls, NoCalls, seat_at}
+use Rattle.script_runs.specs.Replays.{IsTurnLine, Progress, first_progress}
 use Rattle.run_examples.specs.Replay.Calls.{told_calls, watches}
 use Rattle.run_examples.specs.Replay.Replays.{plain_part}
 use Rattle.run_examples.specs.Replay.Turns.{LeftExamples, NeededExamples, StaleExamples, agent_n, agent_part, is_stale, lists, lost_node, made_all, made_fewer, only_watches, pending_a, six, takes}
 use Rattle.run_examples.proofs.Replay.Brought.{brought_at, no_binder_is_stale, only_life, silent_binder, watch_brings_none}
 use Rattle.run_examples.proofs.Replay.Lived.{same_calls}
+use Rattle.seat_calls.specs.Answered.{all_pass}
 
 -- ---- of an actor that loses no call
 
-told_count : (p : Part) (new : List Entry) (n count : ℕ) (past : List Entry) → p.losses ≡ [] → AreCalls p new n count past → length new ≡ length past + count
+told_count : (p : Part) (new : List Entry) (n count : ℕ) (past : List Entry) → p.losses ≡ [] → AreCalls all_pass [] p new n count past → length new ≡ length past + count
 told_count p new n count past none (NoCalls is are) = let long = ap length are in omega (arith, is, long)
 told_count p new n count past none (MoreCalls rest middle is call more) =
-    let told : IsCallWith Told (seat_at p n) p.kind past middle = subst (λ (losses : List Loss). IsCallWith (fate_of losses n) (seat_at p n) p.kind past middle) none call in
+    let told : IsCallWith all_pass Told (seat_at p n) p.kind past middle = subst (λ (losses : List Loss). IsCallWith all_pass (fate_of losses n) (seat_at p n) p.kind past middle) none call in
     let here = ap length told.is in
     let later = told_count p new (n + 1) rest middle none more in
     omega (arith, is, here, later)
 
 -- its calls are those of its entries
-told_life : (p : Part) (seat made : ℕ) (past expected : List Entry) (since before : List Call) → AreOfLife p seat made past (since ++ before) → before ≡ [] → AreOfLife p seat made past (told_calls expected) → since ≡ told_calls expected
+told_life : (p : Part) (seat made : ℕ) (past expected : List Entry) (since before : List Call) → AreOfLife [] p seat made past (since ++ before) → before ≡ [] → AreOfLife [] p seat made past (told_calls expected) → since ≡ told_calls expected
 told_life p seat made past expected since before are none life =
     sym (append-nil since) ∙ ap (λ c. since ++ c) (sym none) ∙ same_calls (since ++ before) (told_calls expected) (are.of_seat ∙ sym life.of_seat) (are.left ∙ sym life.left)
 
@@ -60,33 +61,33 @@ list_brings_none kind key brings = true≢false (sym brings.has)
 abbrev binder : Role
 binder = role_of binder_1
 
-its_six : AreOfLife plain_part 5 6 six (told_calls six)
+its_six : AreOfLife [] plain_part 5 6 six (told_calls six)
 its_six = record { of_seat = refl; left = refl }
 
 needed_six : AreNeeded seats.Binder (told_calls six)
 needed_six = ((((((tt, λ watch through. true≢false (sym watch)), λ watch through. true≢false (sym watch)), λ watch through. true≢false (sym watch)), λ watch through. true≢false (sym through.whole)), λ watch through. true≢false (sym through.whole)), λ watch through. true≢false (sym through.whole))
 
-needed_lives : AreNeededLives (role_of binder_1) plain_part 6 six (begun None).idle
+needed_lives : AreNeededLives [] (role_of binder_1) plain_part 6 six (first_progress None).idle
 needed_lives seat low high =
-    subst (λ s. IsNeededLife (role_of binder_1) plain_part s 6 six []) (only_life seat low high) (record { since = told_calls six; are = its_six; needed = needed_six; silent = silent_binder (told_calls six) })
+    subst (λ s. IsNeededLife [] (role_of binder_1) plain_part s 6 six []) (only_life seat low high) (record { since = told_calls six; are = its_six; needed = needed_six; silent = silent_binder (told_calls six) })
 
-six_calls : AreCalls plain_part six 1 6 []
+six_calls : AreCalls all_pass [] plain_part six 1 6 []
 six_calls =
-    MoreCalls {n = 1} {past = []} 5 (lists kinds.PersistentVolume [] ∷ []) refl (record { request = _; reply = _; is = refl })
-    (MoreCalls {n = 2} {past = lists kinds.PersistentVolume [] ∷ []} 4 (lists kinds.PersistentVolumeClaim [] ∷ lists kinds.PersistentVolume [] ∷ []) refl (record { request = _; reply = _; is = refl })
-    (MoreCalls {n = 3} {past = lists kinds.PersistentVolumeClaim [] ∷ lists kinds.PersistentVolume [] ∷ []} 3 (lists kinds.StorageClass [] ∷ lists kinds.PersistentVolumeClaim [] ∷ lists kinds.PersistentVolume [] ∷ []) refl (record { request = _; reply = _; is = refl })
-    (MoreCalls {n = 4} {past = lists kinds.StorageClass [] ∷ lists kinds.PersistentVolumeClaim [] ∷ lists kinds.PersistentVolume [] ∷ []} 2 (watches kinds.PersistentVolume ∷ lists kinds.StorageClass [] ∷ lists kinds.PersistentVolumeClaim [] ∷ lists kinds.PersistentVolume [] ∷ []) refl (record { request = _; reply = _; is = refl })
-    (MoreCalls {n = 5} {past = watches kinds.PersistentVolume ∷ lists kinds.StorageClass [] ∷ lists kinds.PersistentVolumeClaim [] ∷ lists kinds.PersistentVolume [] ∷ []} 1 (watches kinds.PersistentVolumeClaim ∷ watches kinds.PersistentVolume ∷ lists kinds.StorageClass [] ∷ lists kinds.PersistentVolumeClaim [] ∷ lists kinds.PersistentVolume [] ∷ []) refl (record { request = _; reply = _; is = refl })
-    (MoreCalls {n = 6} {past = watches kinds.PersistentVolumeClaim ∷ watches kinds.PersistentVolume ∷ lists kinds.StorageClass [] ∷ lists kinds.PersistentVolumeClaim [] ∷ lists kinds.PersistentVolume [] ∷ []} 0 six refl (record { request = _; reply = _; is = refl })
+    MoreCalls {n = 1} {past = []} 5 (lists kinds.PersistentVolume [] ∷ []) refl (record { request = _; reply = _; passes = refl; is = refl })
+    (MoreCalls {n = 2} {past = lists kinds.PersistentVolume [] ∷ []} 4 (lists kinds.PersistentVolumeClaim [] ∷ lists kinds.PersistentVolume [] ∷ []) refl (record { request = _; reply = _; passes = refl; is = refl })
+    (MoreCalls {n = 3} {past = lists kinds.PersistentVolumeClaim [] ∷ lists kinds.PersistentVolume [] ∷ []} 3 (lists kinds.StorageClass [] ∷ lists kinds.PersistentVolumeClaim [] ∷ lists kinds.PersistentVolume [] ∷ []) refl (record { request = _; reply = _; passes = refl; is = refl })
+    (MoreCalls {n = 4} {past = lists kinds.StorageClass [] ∷ lists kinds.PersistentVolumeClaim [] ∷ lists kinds.PersistentVolume [] ∷ []} 2 (watches kinds.PersistentVolume ∷ lists kinds.StorageClass [] ∷ lists kinds.PersistentVolumeClaim [] ∷ lists kinds.PersistentVolume [] ∷ []) refl (record { request = _; reply = _; passes = refl; is = refl })
+    (MoreCalls {n = 5} {past = watches kinds.PersistentVolume ∷ lists kinds.StorageClass [] ∷ lists kinds.PersistentVolumeClaim [] ∷ lists kinds.PersistentVolume [] ∷ []} 1 (watches kinds.PersistentVolumeClaim ∷ watches kinds.PersistentVolume ∷ lists kinds.StorageClass [] ∷ lists kinds.PersistentVolumeClaim [] ∷ lists kinds.PersistentVolume [] ∷ []) refl (record { request = _; reply = _; passes = refl; is = refl })
+    (MoreCalls {n = 6} {past = watches kinds.PersistentVolumeClaim ∷ watches kinds.PersistentVolume ∷ lists kinds.StorageClass [] ∷ lists kinds.PersistentVolumeClaim [] ∷ lists kinds.PersistentVolume [] ∷ []} 0 six refl (record { request = _; reply = _; passes = refl; is = refl })
     (NoCalls refl refl))))))
 
-one_more : (after : Progress) → after.past ≡ watches kinds.PersistentVolume ∷ six → IsTurn (role_of binder_1) plain_part 7 (begun None) after → ⊥
+one_more : (after : Progress) → after.past ≡ watches kinds.PersistentVolume ∷ six → IsTurnLine all_pass [] (role_of binder_1) plain_part 7 (first_progress None) after → ⊥
 one_more after at (inl all) =
     let past : all.past ≡ watches kinds.PersistentVolume ∷ six = sym (ap (λ (p : Progress). p.past) all.is) ∙ at in
     let low : 5 ≤ 5 = omega arith in
     let high : 5 < 5 + 1 = omega arith in
-    let life : IsNeededLife (role_of binder_1) plain_part 5 7 all.past [] = all.needed 5 low high in
-    let since = told_life plain_part 5 7 all.past (watches kinds.PersistentVolume ∷ six) life.since [] life.are refl (subst (λ h. AreOfLife plain_part 5 7 h (told_calls (watches kinds.PersistentVolume ∷ six))) (sym past) (record { of_seat = refl; left = refl })) in
+    let life : IsNeededLife [] (role_of binder_1) plain_part 5 7 all.past [] = all.needed 5 low high in
+    let since = told_life plain_part 5 7 all.past (watches kinds.PersistentVolume ∷ six) life.since [] life.are refl (subst (λ h. AreOfLife [] plain_part 5 7 h (told_calls (watches kinds.PersistentVolume ∷ six))) (sym past) (record { of_seat = refl; left = refl })) in
     (subst (AreNeeded seats.Binder) since life.needed).1 refl (record { whole = refl; quiet = refl })
 one_more after at (inr fewer) =
     let past : length fewer.past ≡ 7 = ap length (sym (ap (λ (p : Progress). p.past) fewer.is) ∙ at) in
@@ -109,7 +110,7 @@ listed_row : (version : ℕ) (row : Option Object) → object_of (Some (listing 
 listed_row version None = refl
 listed_row version (Some o) = refl
 
-pending_due : (mine : List Entry) → ((key : Key) → row_at key rows ≡ object_of (newest mine key)) → IsDue binder key_a mine
+pending_due : (mine : List Entry) → ((key : Key) → row_at key rows ≡ object_of (newest mine key)) → IsKeyDue binder key_a mine
 unfolding volume_decision call_of
 pending_due mine shown = one_showing binder key_a mine rows under tt (record { order = (tt, tt); shown = shown }) tt refl (record { decided = refl; call = refl })
   where
@@ -145,22 +146,22 @@ shown_three kinds.Pod namespace name = refl
 
 -- it is so at each point from the list on, whatever watches without events come later
 
-due_one : IsDue binder key_a (list_a ∷ [])
+due_one : IsKeyDue binder key_a (list_a ∷ [])
 due_one = pending_due _ (λ key. shown_one key.kind key.namespace key.name)
 
-due_two : IsDue binder key_a (lists kinds.PersistentVolumeClaim [] ∷ list_a ∷ [])
+due_two : IsKeyDue binder key_a (lists kinds.PersistentVolumeClaim [] ∷ list_a ∷ [])
 due_two = pending_due _ (λ key. shown_two key.kind key.namespace key.name)
 
-due_three : IsDue binder key_a (lists kinds.StorageClass [] ∷ lists kinds.PersistentVolumeClaim [] ∷ list_a ∷ [])
+due_three : IsKeyDue binder key_a (lists kinds.StorageClass [] ∷ lists kinds.PersistentVolumeClaim [] ∷ list_a ∷ [])
 due_three = pending_due _ (λ key. shown_three key.kind key.namespace key.name)
 
-due_four : IsDue binder key_a (watches kinds.PersistentVolume ∷ lists kinds.StorageClass [] ∷ lists kinds.PersistentVolumeClaim [] ∷ list_a ∷ [])
+due_four : IsKeyDue binder key_a (watches kinds.PersistentVolume ∷ lists kinds.StorageClass [] ∷ lists kinds.PersistentVolumeClaim [] ∷ list_a ∷ [])
 due_four = pending_due _ (λ key. shown_three key.kind key.namespace key.name)
 
-due_five : IsDue binder key_a (watches kinds.PersistentVolumeClaim ∷ watches kinds.PersistentVolume ∷ lists kinds.StorageClass [] ∷ lists kinds.PersistentVolumeClaim [] ∷ list_a ∷ [])
+due_five : IsKeyDue binder key_a (watches kinds.PersistentVolumeClaim ∷ watches kinds.PersistentVolume ∷ lists kinds.StorageClass [] ∷ lists kinds.PersistentVolumeClaim [] ∷ list_a ∷ [])
 due_five = pending_due _ (λ key. shown_three key.kind key.namespace key.name)
 
-due_six : IsDue binder key_a only_watches
+due_six : IsKeyDue binder key_a only_watches
 due_six = pending_due _ (λ key. shown_three key.kind key.namespace key.name)
 
 abbrev newer : List Call
@@ -184,7 +185,7 @@ left_a since is done = none_called (Some list_a ∷ []) (done.brought key_a list
 lost_earlier : IsDone binder [] (newer ++ (Some list_a ∷ None ∷ [])) → ⊥
 lost_earlier done = none_called (Some list_a ∷ None ∷ []) (done.brought key_a list_a newer (None ∷ []) refl brings_a (due_six, (due_five, (due_four, (due_three, (due_two, due_one))))))
 
-left_told : (after : Progress) → after.past ≡ only_watches → IsTurn (role_of binder_1) plain_part 50 (begun None) after → ⊥
+left_told : (after : Progress) → after.past ≡ only_watches → IsTurnLine all_pass [] (role_of binder_1) plain_part 50 (first_progress None) after → ⊥
 left_told after at (inl all) =
     let past : length all.past ≡ 6 = ap length (sym (ap (λ (p : Progress). p.past) all.is) ∙ at) in
     let count : length all.past ≡ 0 + 50 = told_count plain_part all.past 1 50 [] refl all.made in
@@ -195,16 +196,16 @@ left_told after at (inr fewer) =
     let count : length fewer.past ≡ 0 + fewer.count = told_count plain_part fewer.past 1 fewer.count [] refl fewer.made in
     let made : 0 + fewer.count ≡ 6 = omega (arith, long, count) in
     let seat : fewer.seat ≡ 5 = fewer.life in
-    let its : AreOfLife plain_part fewer.seat (0 + fewer.count) fewer.past (told_calls only_watches) =
-    subst (λ h. AreOfLife plain_part fewer.seat (0 + fewer.count) h (told_calls only_watches)) (sym past)
-    (subst (λ n. AreOfLife plain_part fewer.seat n only_watches (told_calls only_watches)) (sym made)
-    (subst (λ s. AreOfLife plain_part s 6 only_watches (told_calls only_watches)) (sym seat) (record { of_seat = refl; left = refl }))) in
+    let its : AreOfLife [] plain_part fewer.seat (0 + fewer.count) fewer.past (told_calls only_watches) =
+    subst (λ h. AreOfLife [] plain_part fewer.seat (0 + fewer.count) h (told_calls only_watches)) (sym past)
+    (subst (λ n. AreOfLife [] plain_part fewer.seat n only_watches (told_calls only_watches)) (sym made)
+    (subst (λ s. AreOfLife [] plain_part s 6 only_watches (told_calls only_watches)) (sym seat) (record { of_seat = refl; left = refl }))) in
     left_a fewer.since (told_life plain_part fewer.seat (0 + fewer.count) fewer.past only_watches fewer.since [] fewer.are refl its) (fewer.done (no_binder_is_stale (own fewer.seat fewer.past)))
 
 -- ---- lives that are done
 
 -- nothing is due where nothing was told
-nothing_due : (key : Key) → IsDue binder key [] → ⊥
+nothing_due : (key : Key) → IsKeyDue binder key [] → ⊥
 nothing_due key due = never_due binder key tt due
 
 abbrev lossy : List Call
@@ -244,7 +245,7 @@ done_lossy = record {
   due = λ key due. absurd (nothing_due key due.1.1.1.1.1.1.1);
 }
 
-six_end : IsTurn (role_of binder_1) plain_part 9 (begun None) (made_fewer plain_part 6 six)
+six_end : IsTurnLine all_pass [] (role_of binder_1) plain_part 9 (first_progress None) (made_fewer plain_part 6 six)
 six_end = inr (record {
   count = 6;
   few = omega arith;
@@ -277,29 +278,29 @@ left_cases = record {
 
 -- ---- an agent
 
-one_told : AreCalls agent_part (is_stale ∷ lost_node.past) 2 1 lost_node.past
-one_told = MoreCalls {n = 2} {past = lost_node.past} 0 (is_stale ∷ lost_node.past) refl (record { request = _; reply = _; is = refl }) (NoCalls refl refl)
+one_told : AreCalls all_pass [] agent_part (is_stale ∷ lost_node.past) 2 1 lost_node.past
+one_told = MoreCalls {n = 2} {past = lost_node.past} 0 (is_stale ∷ lost_node.past) refl (record { request = _; reply = _; passes = refl; is = refl }) (NoCalls refl refl)
 
 -- what the agent was told before is nothing of its epoch
 not_told : (seat epoch : ℕ) → WasToldStale seats.Agent (takes seat epoch ∷ []) → ⊥
 not_told seat epoch told = elim told.1 [ inl tells ↦ true≢false (sym tells.1) | inr none ↦ none ]
 
-told_life_needed : AreNeededLives (role_of agent_n) agent_part 2 (is_stale ∷ lost_node.past) lost_node.idle
+told_life_needed : AreNeededLives [] (role_of agent_n) agent_part 2 (is_stale ∷ lost_node.past) lost_node.idle
 told_life_needed seat low high =
-    subst (λ s. IsNeededLife (role_of agent_n) agent_part s 2 (is_stale ∷ lost_node.past) []) (only_life seat low high) (record {
+    subst (λ s. IsNeededLife [] (role_of agent_n) agent_part s 2 (is_stale ∷ lost_node.past) []) (only_life seat low high) (record {
       since = told_calls (is_stale ∷ takes 5 1 ∷ []);
       are = record { of_seat = refl; left = refl };
       needed = ((tt, λ watch through. true≢false (sym watch)), λ watch through. true≢false (sym watch));
       silent = ((tt, λ told. told.1), not_told 5 1);
     })
 
-taken_back : (after : Progress) → after.past ≡ takes 5 3 ∷ is_stale ∷ lost_node.past → IsTurn (role_of agent_n) agent_part 2 lost_node after → ⊥
+taken_back : (after : Progress) → after.past ≡ takes 5 3 ∷ is_stale ∷ lost_node.past → IsTurnLine all_pass [] (role_of agent_n) agent_part 2 lost_node after → ⊥
 taken_back after at (inl all) =
     let past : all.past ≡ takes 5 3 ∷ is_stale ∷ lost_node.past = sym (ap (λ (p : Progress). p.past) all.is) ∙ at in
     let low : 5 ≤ 5 = omega arith in
     let high : 5 < 5 + 1 = omega arith in
-    let life : IsNeededLife (role_of agent_n) agent_part 5 3 all.past [] = all.needed 5 low high in
-    let since = told_life agent_part 5 3 all.past (takes 5 3 ∷ is_stale ∷ takes 5 1 ∷ []) life.since [] life.are refl (subst (λ h. AreOfLife agent_part 5 3 h (told_calls (takes 5 3 ∷ is_stale ∷ takes 5 1 ∷ []))) (sym past) (record { of_seat = refl; left = refl })) in
+    let life : IsNeededLife [] (role_of agent_n) agent_part 5 3 all.past [] = all.needed 5 low high in
+    let since = told_life agent_part 5 3 all.past (takes 5 3 ∷ is_stale ∷ takes 5 1 ∷ []) life.since [] life.are refl (subst (λ h. AreOfLife [] agent_part 5 3 h (told_calls (takes 5 3 ∷ is_stale ∷ takes 5 1 ∷ []))) (sym past) (record { of_seat = refl; left = refl })) in
     let silent : IsSilentOnceStale seats.Agent (told_calls (takes 5 3 ∷ is_stale ∷ takes 5 1 ∷ [])) = subst (IsSilentOnceStale seats.Agent) (append-nil life.since ∙ since) life.silent in
     silent.1 (refl, inl (refl, refl))
 taken_back after at (inr fewer) =

@@ -9,10 +9,11 @@ use Rattle.call_types.specs.declared.reply.Refusal.TheVariants.{NotFound, StaleE
 use Rattle.call_types.specs.declared.reply.Reply.TheVariants as replies
 use Rattle.call_types.specs.declared.request.Request.TheVariants as requests
 use Rattle.call_types.specs.declared.request.SeatKind.TheVariants as seats
-use Rattle.script_runs.specs.declared.part.Part.{Part}
+use Rattle.actor_turns.specs.declared.part.Part.{Part}
 use Rattle.script_runs.specs.Examples.{binder_1, two_binders}
 use Rattle.script_runs.specs.Parts.{part_of}
-use Rattle.script_runs.specs.Calls.{AreCalls, IsCall, MayEnd, seat_at}
+use Rattle.actor_turns.specs.Calls.{AreCalls, IsCall, MayEnd, seat_at}
+use Rattle.seat_calls.specs.Answered.{Lets, all_pass}
 
 -- it loses its second call after the effect and its fourth before it, and is restarted after its first and third
 abbrev pub part : Part
@@ -33,26 +34,36 @@ pub record SeatExamples : Type 0 where
   pub and_no_other_after_it : seat_at part 100 ≡ 7
   pub not_before_its_time : seat_at part 3 ≢ 7
 
+-- a list
+abbrev pub lists : Kind → Entry
+lists kind = record { seat = 5; kind = seats.Binder; request = requests.List kind None; reply = replies.Listed [] 3; told = true }
+
+-- what lets no list through
+abbrev pub holds_lists : Lets
+holds_lists past (requests.List kind namespace) = false
+holds_lists past request = true
+
 pub record CallExamples : Type 0 where
-  pub told : IsCall part 1 [] (reads 5 true ∷ [])
-  pub not_of_the_next_life : IsCall part 1 [] (reads 6 true ∷ []) → ⊥
-  pub not_lost : IsCall part 1 [] (reads 5 false ∷ []) → ⊥
-  pub lost_after_its_effect : IsCall part 2 [] (reads 6 false ∷ [])
-  pub not_told : IsCall part 2 [] (reads 6 true ∷ []) → ⊥
-  pub lost_before_its_effect : IsCall part 4 (reads 6 true ∷ []) (reads 6 true ∷ [])
-  pub without_an_entry : IsCall part 4 [] (reads 7 false ∷ []) → ⊥
-  pub four_calls : AreCalls part (reads 6 true ∷ reads 6 false ∷ reads 5 true ∷ []) 1 4 []
-  pub no_call_without_its_entry : AreCalls part [] 1 1 [] → ⊥
+  pub told : IsCall all_pass [] part 1 [] (reads 5 true ∷ [])
+  pub not_of_the_next_life : IsCall all_pass [] part 1 [] (reads 6 true ∷ []) → ⊥
+  pub not_lost : IsCall all_pass [] part 1 [] (reads 5 false ∷ []) → ⊥
+  pub lost_after_its_effect : IsCall all_pass [] part 2 [] (reads 6 false ∷ [])
+  pub not_told : IsCall all_pass [] part 2 [] (reads 6 true ∷ []) → ⊥
+  pub lost_before_its_effect : IsCall all_pass [] part 4 (reads 6 true ∷ []) (reads 6 true ∷ [])
+  pub without_an_entry : IsCall all_pass [] part 4 [] (reads 7 false ∷ []) → ⊥
+  pub four_calls : AreCalls all_pass [] part (reads 6 true ∷ reads 6 false ∷ reads 5 true ∷ []) 1 4 []
+  pub no_call_without_its_entry : AreCalls all_pass [] part [] 1 1 [] → ⊥
+  pub held_back : IsCall holds_lists (1 ∷ []) part 1 [] []
+  pub which_leaves_no_entry : IsCall holds_lists (1 ∷ []) part 1 [] (lists kinds.PersistentVolume ∷ []) → ⊥
+  pub not_what_passes : IsCall all_pass (1 ∷ []) part 1 [] [] → ⊥
+  pub nor_let_through_what_does_not : IsCall holds_lists [] part 1 [] (lists kinds.PersistentVolume ∷ []) → ⊥
+  pub not_another_call : IsCall holds_lists (3 ∷ []) part 1 [] [] → ⊥
 
 -- ---- how a turn may end
 
 -- a watch without events
 abbrev pub watches : Kind → Entry
 watches kind = record { seat = 5; kind = seats.Binder; request = requests.Watch kind 3; reply = replies.Events (record { events = []; upto = 3 }); told = true }
-
--- a list
-abbrev pub lists : Kind → Entry
-lists kind = record { seat = 5; kind = seats.Binder; request = requests.List kind None; reply = replies.Listed [] 3; told = true }
 
 -- calls that left these entries
 abbrev pub told_calls : List Entry → List Call

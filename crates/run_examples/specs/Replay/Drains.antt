@@ -27,7 +27,7 @@ use Rattle.model_examples.specs.Samples.{deleting_a, ended_a, key_a, key_p, n1, 
 use Rattle.script_runs.specs.declared.stage.Stage.{Stage}
 use Rattle.script_runs.specs.Examples.{script_of}
 use Rattle.script_runs.specs.Parts.{drain_roles, drain_seat, drain_seats}
-use Rattle.script_runs.specs.Replays.{EndsAs, IsDrain, IsReplay, Progress, begun}
+use Rattle.script_runs.specs.Replays.{EndsAs, IsDrain, IsReplay, Progress, first_progress}
 use Rattle.script_runs.specs.Steps.Standing.{Stands}
 use Rattle.run_examples.specs.Replay.Calls.{reads}
 use Rattle.run_examples.specs.Replay.Replays.{empty_script}
@@ -42,7 +42,7 @@ node_script = record volume_script { node_names = codes "n1" ∷ [] }
 
 -- with a budget of so many calls a first drain makes so many, which are these entries
 abbrev pub Drains : Script → ℕ → ℕ → List Entry → Type 0
-Drains script budget made past = IsDrain all_pass script (Some budget) (begun (Some budget)) (record (begun (Some budget)) { past = past; drained = made })
+Drains script budget made past = IsDrain all_pass script (Some budget) (first_progress (Some budget)) (record (first_progress (Some budget)) { past = past; drained = made })
 
 -- the list with which the scheduler of a drain begins, at this seat
 abbrev pub begins_with : ℕ → Entry
@@ -131,7 +131,7 @@ volume_deleted = ops_asks (requests.Delete key_a ended_a.meta.uid) (replies.Done
 
 -- all drains have made so many calls, as many as they may, and these are the entries
 abbrev pub drained : ℕ → List Entry → Progress
-drained calls past = record (begun (Some calls)) { past = past; drained = calls }
+drained calls past = record (first_progress (Some calls)) { past = past; drained = calls }
 
 pub record ReclaimExamples : Type 0 where
   pub due_until_it_is_deleted : EndsAs ended_script.setup (drained 2 data_erased) (Spent 2 key_a dues.Reclaim)

@@ -10,11 +10,13 @@ use Rattle.call_types.specs.declared.request.SeatKind.TheVariants as seats
 use Rattle.world_core.specs.declared.drained.Drained.TheVariants.{Settled, Spent}
 use Rattle.script_text.specs.declared.script.Line.TheVariants as lines
 use Rattle.script_text.specs.declared.script.Script.{Script}
-use Rattle.script_runs.specs.declared.part.Part.{Part}
+use Rattle.actor_turns.specs.declared.part.Part.{Part}
 use Rattle.script_runs.specs.Examples.{binder_1, script_of}
 use Rattle.script_runs.specs.Parts.{part_of, role_of}
-use Rattle.script_runs.specs.Replays.{IsReplay, IsTurn, Progress, and_idle, and_made, begun}
+use Rattle.actor_turns.specs.Calls.{and_idle}
+use Rattle.script_runs.specs.Replays.{IsReplay, IsTurnLine, Progress, and_made, first_progress}
 use Rattle.run_examples.specs.Replay.Calls.{reads, some_key, told_calls, whole_pass}
+use Rattle.seat_calls.specs.Answered.{all_pass}
 
 abbrev pub empty_script : Script
 empty_script = script_of [] []
@@ -56,9 +58,9 @@ plain_part = part_of turn_script binder_1
 
 -- after a turn in which it watched each kind
 abbrev pub after_a_pass : Progress
-after_a_pass = record (begun None) { past = whole_pass; made = and_made plain_part.name 3 (begun None).made; idle = and_idle 5 (told_calls whole_pass) (begun None).idle }
+after_a_pass = record (first_progress None) { past = whole_pass; made = and_made plain_part.name 3 (first_progress None).made; idle = and_idle 5 (told_calls whole_pass) (first_progress None).idle }
 
 pub record FewerExamples : Type 0 where
-  pub fewer_after_a_whole_pass : IsTurn (role_of binder_1) plain_part 9 (begun None) after_a_pass
-  pub not_where_three_were_asked : IsTurn (role_of binder_1) plain_part 3 (begun None) after_a_pass → ⊥
-  pub the_next_begins_with_a_call : IsTurn (role_of binder_1) plain_part 9 after_a_pass after_a_pass → ⊥
+  pub fewer_after_a_whole_pass : IsTurnLine all_pass [] (role_of binder_1) plain_part 9 (first_progress None) after_a_pass
+  pub not_where_three_were_asked : IsTurnLine all_pass [] (role_of binder_1) plain_part 3 (first_progress None) after_a_pass → ⊥
+  pub the_next_begins_with_a_call : IsTurnLine all_pass [] (role_of binder_1) plain_part 9 after_a_pass after_a_pass → ⊥

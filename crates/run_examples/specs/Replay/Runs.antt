@@ -17,7 +17,7 @@ use Rattle.worker_core.specs.declared.turn.Outcome.TheVariants.{Lost}
 use Rattle.worker_core.specs.Absorbs.{absorbed, woken}
 use Rattle.worker_core.specs.Memories.{no_memory}
 use Rattle.worker_core.specs.Roles.{kinds_of}
-use Rattle.worker_core.specs.States.{State}
+use Rattle.worker_core.specs.States.{ActorState}
 use Rattle.attention_law.specs.Queues.{QueueStands}
 use Rattle.worker_threads.specs.Drainers.{of_kind}
 use Rattle.worker_threads.specs.Rounds.{Lets, Runs, all_pass}
@@ -36,7 +36,7 @@ no_caches = record {
   pods = knows_nothing kinds.Pod;
 }
 
-abbrev pub begun_as : Role → State
+abbrev pub begun_as : Role → ActorState
 begun_as role = record { role = role; caches = no_caches; work = no_work; pass = record { behind = length (kinds_of role.kind); event = true }; memory = no_memory; under = None; given = None }
 
 -- ---- queues
@@ -48,7 +48,7 @@ abbrev pub volume_b : Key
 volume_b = record volume_a { name = codes "b" }
 
 -- a binder with this queue, and nothing under way
-abbrev pub with_queue : Work → State
+abbrev pub with_queue : Work → ActorState
 with_queue work = record (begun_as (of_kind seats.Binder)) { work = work }
 
 pub record QueueExamples : Type 0 where
@@ -65,19 +65,19 @@ abbrev pub none_pass : Lets
 none_pass h request = false
 
 -- a scheduler that was woken, and as it has given its first call
-abbrev pub woken_scheduler : State
+abbrev pub woken_scheduler : ActorState
 woken_scheduler = woken (begun_as (of_kind seats.Scheduler))
 
 abbrev pub list_volumes : Request
 list_volumes = requests.List kinds.PersistentVolume None
 
-abbrev pub giving_scheduler : State
+abbrev pub giving_scheduler : ActorState
 giving_scheduler = record woken_scheduler { given = Some (givens.Read kinds.PersistentVolume) }
 
 -- a budget of one call is spent, and there is no entry
-abbrev pub LeavesNone : Lets → State → Type 0
+abbrev pub LeavesNone : Lets → ActorState → Type 0
 LeavesNone lets after = Runs lets 7 after [] 0 false woken_scheduler [] 1
 
 pub record HeldExamples : Type 0 where
   pub a_held_call_counts_and_leaves_no_entry : LeavesNone none_pass (absorbed giving_scheduler no_caches list_volumes Lost)
-  pub none_is_held_where_all_pass : (after : State) → LeavesNone all_pass after → ⊥
+  pub none_is_held_where_all_pass : (after : ActorState) → LeavesNone all_pass after → ⊥

@@ -19,12 +19,14 @@ use Rattle.model_examples.specs.Samples.{a, in_phase}
 use Rattle.script_lines.specs.declared.actors.Actor.{Actor}
 use Rattle.script_lines.specs.declared.actors.Actor.TheVariants.{Agent}
 use Rattle.script_text.specs.declared.script.Line.TheVariants as lines
-use Rattle.script_runs.specs.declared.part.Part.{Part}
+use Rattle.actor_turns.specs.declared.part.Part.{Part}
 use Rattle.script_runs.specs.Examples.{binder_1, script_of}
 use Rattle.script_runs.specs.Parts.{part_of, role_of}
-use Rattle.script_runs.specs.Replays.{IsTurn, Progress, and_idle, and_made, begun}
+use Rattle.actor_turns.specs.Calls.{and_idle}
+use Rattle.script_runs.specs.Replays.{IsTurnLine, Progress, and_made, first_progress}
 use Rattle.run_examples.specs.Replay.Calls.{told_calls, watches}
 use Rattle.run_examples.specs.Replay.Replays.{plain_part}
+use Rattle.seat_calls.specs.Answered.{all_pass}
 
 -- ---- a turn goes on only where its life is not idle
 
@@ -40,8 +42,8 @@ abbrev pub made_all : Part → ℕ → List Entry → Progress → Progress
 made_all part calls past before = record before { past = past; made = and_made part.name calls before.made }
 
 pub record NeededExamples : Type 0 where
-  pub as_many_as_it_needs : IsTurn (role_of binder_1) plain_part 6 (begun None) (made_all plain_part 6 six (begun None))
-  pub not_one_more : (after : Progress) → after.past ≡ watches kinds.PersistentVolume ∷ six → IsTurn (role_of binder_1) plain_part 7 (begun None) after → ⊥
+  pub as_many_as_it_needs : IsTurnLine all_pass [] (role_of binder_1) plain_part 6 (first_progress None) (made_all plain_part 6 six (first_progress None))
+  pub not_one_more : (after : Progress) → after.past ≡ watches kinds.PersistentVolume ∷ six → IsTurnLine all_pass [] (role_of binder_1) plain_part 7 (first_progress None) after → ⊥
 
 -- ---- a turn that ends leaves no key that it was told, and that was due since, without a call
 
@@ -55,11 +57,11 @@ only_watches = watches kinds.StorageClass ∷ watches kinds.PersistentVolumeClai
 
 -- after a turn that gave it fewer, and these were its calls
 abbrev pub made_fewer : Part → ℕ → List Entry → Progress
-made_fewer part calls past = record (begun None) { past = past; made = and_made part.name calls (begun None).made; idle = and_idle 5 (told_calls past) (begun None).idle }
+made_fewer part calls past = record (first_progress None) { past = past; made = and_made part.name calls (first_progress None).made; idle = and_idle 5 (told_calls past) (first_progress None).idle }
 
 pub record LeftExamples : Type 0 where
-  pub where_nothing_is_due : IsTurn (role_of binder_1) plain_part 9 (begun None) (made_fewer plain_part 6 six)
-  pub not_where_a_told_key_is_left : (after : Progress) → after.past ≡ only_watches → IsTurn (role_of binder_1) plain_part 50 (begun None) after → ⊥
+  pub where_nothing_is_due : IsTurnLine all_pass [] (role_of binder_1) plain_part 9 (first_progress None) (made_fewer plain_part 6 six)
+  pub not_where_a_told_key_is_left : (after : Progress) → after.past ≡ only_watches → IsTurnLine all_pass [] (role_of binder_1) plain_part 50 (first_progress None) after → ⊥
   -- the call that was lost may have been that of the key
   pub a_lost_call_counts_for_it : IsDone (role_of binder_1) [] (Some (watches kinds.StorageClass) ∷ Some (watches kinds.PersistentVolumeClaim) ∷ Some (watches kinds.PersistentVolume) ∷ None ∷ Some (lists kinds.StorageClass []) ∷ Some (lists kinds.PersistentVolumeClaim []) ∷ Some (lists kinds.PersistentVolume (Volume pending_a ∷ [])) ∷ [])
   pub not_one_lost_before_it_was_told : IsDone (role_of binder_1) [] (Some (watches kinds.StorageClass) ∷ Some (watches kinds.PersistentVolumeClaim) ∷ Some (watches kinds.PersistentVolume) ∷ Some (lists kinds.StorageClass []) ∷ Some (lists kinds.PersistentVolumeClaim []) ∷ Some (lists kinds.PersistentVolume (Volume pending_a ∷ [])) ∷ None ∷ []) → ⊥
@@ -83,8 +85,8 @@ is_stale = asks 5 (requests.Mounts (codes "n") 1) (replies.Refused (StaleEpoch 2
 
 -- another took the node since its first call
 abbrev pub lost_node : Progress
-lost_node = record (begun None) { past = takes 9 2 ∷ takes 5 1 ∷ []; made = and_made agent_part.name 1 (begun None).made }
+lost_node = record (first_progress None) { past = takes 9 2 ∷ takes 5 1 ∷ []; made = and_made agent_part.name 1 (first_progress None).made }
 
 pub record StaleExamples : Type 0 where
-  pub it_is_told_so : IsTurn (role_of agent_n) agent_part 1 lost_node (made_all agent_part 1 (is_stale ∷ lost_node.past) lost_node)
-  pub it_takes_no_node_back : (after : Progress) → after.past ≡ takes 5 3 ∷ is_stale ∷ lost_node.past → IsTurn (role_of agent_n) agent_part 2 lost_node after → ⊥
+  pub it_is_told_so : IsTurnLine all_pass [] (role_of agent_n) agent_part 1 lost_node (made_all agent_part 1 (is_stale ∷ lost_node.past) lost_node)
+  pub it_takes_no_node_back : (after : Progress) → after.past ≡ takes 5 3 ∷ is_stale ∷ lost_node.past → IsTurnLine all_pass [] (role_of agent_n) agent_part 2 lost_node after → ⊥

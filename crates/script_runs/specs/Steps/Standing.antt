@@ -14,16 +14,18 @@ use Rattle.script_lines.specs.declared.actors.Actor.{Actor}
 use Rattle.script_lines.specs.declared.actors.Actor.TheVariants.{Worker, Agent}
 use Rattle.script_text.specs.declared.script.Line.{Line}
 use Rattle.script_text.specs.declared.script.Script.{Script}
-use Rattle.script_runs.specs.declared.part.Part.{Part}
-use Rattle.script_runs.specs.declared.player.Player.{Player}
+use Rattle.actor_turns.specs.declared.part.Part.{Part}
+use Rattle.actor_turns.specs.declared.player.Player.{Player}
 use Rattle.script_runs.specs.declared.stage.Stage.{Stage}
 use Rattle.script_runs.specs.Budget.{most_budget}
-use Rattle.script_runs.specs.Parts.{drain_roles, drain_seats, first_actor_seat, kind_of, lives_of, part_at, role_of}
+use Rattle.actor_turns.specs.Parts.{lives_of}
+use Rattle.script_runs.specs.Parts.{drain_roles, drain_seats, first_actor_seat, seat_kind_of, part_at, role_of}
 use Rattle.script_lines.specs.Actors.{actor_word, four}
 use Rattle.worker_core.specs.declared.role.Role.{Role}
-use Rattle.script_runs.specs.Replays.{AreMoves, EndsAs, IsDrain, Progress, begun}
-use Rattle.script_runs.specs.Steps.Living.{Lives}
-use Rattle.script_runs.specs.Steps.Playing.{EachPlayer, IsNewPlayer, Plays}
+use Rattle.script_runs.specs.Replays.{AreMoves, EndsAs, IsDrain, Progress, first_progress}
+use Rattle.actor_turns.specs.Steps.Living.{Lives}
+use Rattle.actor_turns.specs.Steps.Playing.{EachPlayer, IsNewPlayer, Plays}
+use Rattle.script_runs.specs.Steps.Settled.{IsNoted}
 
 -- all actors, in the order of their seats: four workers of each kind, and then the agents of these nodes
 
@@ -63,7 +65,7 @@ place_of nodes (Agent node) = 20 + place_of_node node nodes
 -- the parts of actors by the lines alone: each begins where the one before it ends
 
 abbrev pub part_from : List Line → Actor → ℕ → Part
-part_from lines actor first = part_at (actor_word actor) (kind_of actor) first lines
+part_from lines actor first = part_at (actor_word actor) (seat_kind_of actor) first lines
 
 abbrev pub end_of : Part → ℕ
 end_of part = part.first + lives_of part
@@ -114,6 +116,7 @@ pub record Stands (script : Script) (option : Option ℕ) (p : Progress) (s : St
   pub plays : EachPlayer (λ x. x.part.named ≡ true → Plays x s.world.past (λ seat. entries (p.idle seat))) s.players.items
   pub lives : EachWithRole (λ role x. x.part.named ≡ true → Lives role x s.world.past p.idle) (actors_for script.node_names) s.players.items
   pub made : EachPlayer (λ x. x.made ≡ p.made x.part.name) s.players.items
+  pub held : EachPlayer (λ x. x.held ≡ []) s.players.items
   pub drainers : AreStanding s.drainers s.world.past
   pub seats : seats_of s.drainers ≡ drain_seats script
   pub roles : roles_of s.drainers ≡ drain_roles script
@@ -121,6 +124,7 @@ pub record Stands (script : Script) (option : Option ℕ) (p : Progress) (s : St
   pub budget : s.budget ≡ p.budget
   pub few : s.drained ≤ s.budget
   pub most : IsBudget option s.budget
+  pub settled : IsNoted s.world.setup s.world.past s.settled
 
 pub record SomeStands (script : Script) (option : Option ℕ) (s : Stage) : Type 0 where
   pub progress : Progress
@@ -155,4 +159,4 @@ with_made made (Spent before key due) = Spent made key due
 pub record SoFar (script : Script) (option : Option ℕ) (place : ℕ) (s : Stage) : Type 0 where
   pub progress : Progress
   pub stands : Stands script option progress s
-  pub moves : (end : Progress) → AreMoves script option end (drop place script.lines) progress → AreMoves script option end script.lines (begun option)
+  pub moves : (end : Progress) → AreMoves script option end (drop place script.lines) progress → AreMoves script option end script.lines (first_progress option)

@@ -4,7 +4,7 @@ use Rattle.std.proofs.lemmas.List.Elements.{All-nil, All-cons, All-head}
 use Rattle.call_types.specs.declared.entry.Entry.{Entry}
 use Rattle.call_types.specs.declared.setup.Setup.{Setup}
 use Rattle.history_text.specs.Output.{history_text, with_lines}
-use Rattle.history_laws.specs.Given.{IsEntry, IsHistory, IsNumber, IsPool, IsSetup}
+use Rattle.history_laws.specs.Given.{IsEntry, IsTextHistory, IsNumber, IsPool, IsSetup}
 use Rattle.history_laws.specs.Texts.{IsTextOf, lines_before_end}
 use Rattle.printable_law.specs.Laws.{HasOneHistory, IsAskedGiven, IsGivenRun}
 use Rattle.printable_law.proofs.Texts.{has_one}
@@ -16,10 +16,10 @@ bare_given = record { pools = All-nil IsPool; faults = All-nil IsNumber; rising 
 call_given : IsEntry (finds_nothing 1 looks)
 call_given = record { seat = omega arith; request = tt; reply = tt }
 
-nothing_given : IsHistory bare []
+nothing_given : IsTextHistory bare []
 nothing_given = record { setup = bare_given; entries = All-nil IsEntry }
 
-call_of : (e : Entry) → IsHistory bare (e ∷ []) → IsEntry e
+call_of : (e : Entry) → IsTextHistory bare (e ∷ []) → IsEntry e
 call_of e h = All-head IsEntry e [] h.entries
 
 falling : IsSetup (record bare { faults = 2 ∷ 1 ∷ [] }) → ⊥

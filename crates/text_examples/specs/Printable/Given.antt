@@ -11,7 +11,7 @@ use Rattle.call_types.specs.declared.request.SeatKind.TheVariants.{User}
 use Rattle.call_types.specs.declared.reply.Reply.TheVariants.{Refused}
 use Rattle.call_types.specs.declared.reply.Refusal.TheVariants.{NotFound}
 use Rattle.history_text.specs.Output.{history_text, with_lines}
-use Rattle.history_laws.specs.Given.{IsHistory, IsSetup}
+use Rattle.history_laws.specs.Given.{IsTextHistory, IsSetup}
 use Rattle.history_laws.specs.Texts.{IsTextOf, lines_before_end}
 use Rattle.printable_law.specs.Laws.{HasOneHistory, IsAskedGiven, IsGivenRun}
 
@@ -30,10 +30,10 @@ abbrev pub watches_far : Request
 watches_far = requests.Watch kinds.Pod (2 ^ 64)
 
 pub record GivenExamples : Type 0 where
-  pub nothing : IsHistory bare []
-  pub a_call : IsHistory bare (finds_nothing 1 looks ∷ [])
-  pub no_such_seat : IsHistory bare (finds_nothing (2 ^ 64) looks ∷ []) → ⊥
-  pub no_such_version : IsHistory bare (finds_nothing 1 watches_far ∷ []) → ⊥
+  pub nothing : IsTextHistory bare []
+  pub a_call : IsTextHistory bare (finds_nothing 1 looks ∷ [])
+  pub no_such_seat : IsTextHistory bare (finds_nothing (2 ^ 64) looks ∷ []) → ⊥
+  pub no_such_version : IsTextHistory bare (finds_nothing 1 watches_far ∷ []) → ⊥
   pub no_falling_faults : IsSetup (record bare { faults = 2 ∷ 1 ∷ [] }) → ⊥
   pub asked : IsAskedGiven (finds_nothing 1 looks)
   pub not_asked : IsAskedGiven (finds_nothing 1 watches_far) → ⊥

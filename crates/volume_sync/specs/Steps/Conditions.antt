@@ -7,7 +7,7 @@ use Rattle.kube_types.specs.declared.lookup.Live.{Live}
 use Rattle.kube_types.specs.Lookups.{is_asked}
 use Rattle.kube_types.specs.Bindings.{is_available, is_bound, is_empty, is_protected_volume, is_ended}
 use Rattle.binder_model.specs.BinderDue.{is_reclaimed}
-use Rattle.volume_sync.specs.VolumeDecision.{has_uid, seen_claim}
+use Rattle.volume_sync.specs.VolumeDecision.{refers_by_uid, seen_claim}
 
 -- phase Bound is there already, or may not be written
 abbrev pub is_settled : VolumeData → Bool
@@ -24,7 +24,7 @@ names (Some c) v = bytes_eq c.volume_name v.meta.name
 -- the conditions with this claim; those on a claim that is not seen are false
 unfoldable pub conditions_on : VolumeData → Bool → Option ClaimData → List Bool
 conditions_on v asked claim =
-    has_uid v ∷ is_available v.phase ∷ is_ended v.phase ∷ is_some claim ∷ asked ∷ names_none claim ∷ names claim v ∷ is_settled v ∷ is_reclaimed v ∷ []
+    refers_by_uid v ∷ is_available v.phase ∷ is_ended v.phase ∷ is_some claim ∷ asked ∷ names_none claim ∷ names claim v ∷ is_settled v ∷ is_reclaimed v ∷ []
 
 abbrev pub volume_conditions : List Object → VolumeData → Live → List Bool
 volume_conditions rows v live = conditions_on v (is_asked live) (seen_claim rows v live)

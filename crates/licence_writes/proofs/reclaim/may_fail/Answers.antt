@@ -8,4 +8,5 @@ pub returns : goal.returns
 returns g c =
     let mine = g.R.Record.told c.args.seat.now in
     let page = reverse c.called-page.result.now in
-    volume_key_paged _ c.args.given page page mine c.called-page.ensures.part c.called-page.ensures.all c.called-page.ensures.all (λ m o. MayFail m o) (fail_grows page mine c.called-page.ensures.part) _ c.args.key.now c.volume_status.ensures
+    let small = reverse c.called-mine.result.now in
+    volume_key_paged _ c.args.given page small mine c.called-page.ensures.part c.called-page.ensures.all c.called-mine.ensures.all (λ m o. MayFail m o) (fail_grows small mine c.called-mine.ensures.part) _ c.args.key.now c.volume_status.ensures

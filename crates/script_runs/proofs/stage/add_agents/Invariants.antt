@@ -1,6 +1,6 @@
 use Rattle.std.proofs.Common.{◌≤◌, ◌+◌, ◌*◌, ℕ, List, drop, map}
 use Rattle.script_lines.specs.declared.actors.Actor.TheVariants.{Agent}
-use Rattle.script_runs.specs.declared.player.Player.{Player}
+use Rattle.actor_turns.specs.declared.player.Player.{Player}
 use Rattle.script_runs.specs.Steps.Standing.{HasAdded}
 use Rattle.script_runs.proofs.stage.add_agents.Given as goal
 

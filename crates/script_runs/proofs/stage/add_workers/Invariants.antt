@@ -1,7 +1,7 @@
 use Rattle.std.proofs.Common.{◌≤◌, ◌+◌, ◌*◌, ℕ, List, drop, map}
 use Rattle.script_lines.specs.declared.actors.Actor.TheVariants.{Worker}
 use Rattle.script_lines.specs.declared.actors.WorkerNumber.{WorkerNumber}
-use Rattle.script_runs.specs.declared.player.Player.{Player}
+use Rattle.actor_turns.specs.declared.player.Player.{Player}
 use Rattle.script_runs.specs.Steps.Standing.{HasAdded}
 use Rattle.script_runs.proofs.stage.add_workers.Given as goal
 

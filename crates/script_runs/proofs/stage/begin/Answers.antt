@@ -6,7 +6,7 @@ use Rattle.script_runs.proofs.stage.begin.Goals as goal
 pub returns-clause-stands : goal.returns-clause-stands
 returns-clause-stands c =
     begins c.args.script.now c.args.option _ c.in_ok-players.first c.in_ok-world.ensures.past c.in_ok-world.ensures.setup c.in_ok-players.ensures.added
-    c.in_ok-drainers.ensures.are (c.in_ok-players.ensures.added.seat ∙ sym (drains_after c.args.script.now)) c.in_ok-drainers.ensures.stand refl c.first_budget.ensures
+    c.in_ok-drainers.ensures.are (c.in_ok-players.ensures.added.seat ∙ sym (drains_after c.args.script.now)) c.in_ok-drainers.ensures.stand refl c.first_budget.ensures refl
 
 pub returns-clause-made : goal.returns-clause-made
 returns-clause-made c = new_made c.args.script.now.lines _ _ c.in_ok-players.first c.in_ok-players.players.items c.in_ok-players.ensures.added

@@ -1,15 +1,15 @@
 use Rattle.std.proofs.Common.{◌≡◌, ◌∙◌, ◌≤◌, ap, length, refl, subst, sym}
 use Rattle.worker_core.specs.Roles.{IsBuiltKind}
-use Rattle.script_runs.specs.declared.part.Part.{Part}
+use Rattle.actor_turns.specs.declared.part.Part.{Part}
 use Rattle.script_lines.specs.declared.actors.Actor.{Actor}
 use Rattle.script_lines.specs.declared.actors.Actor.TheVariants.{Agent, Worker}
 use Rattle.script_lines.specs.Actors.{actor_word}
-use Rattle.script_runs.specs.Parts.{kind_of}
+use Rattle.script_runs.specs.Parts.{seat_kind_of}
 use Rattle.script_runs.specs.Parts.{role_of}
 use Rattle.script_runs.proofs.Casting.{actor_built, few_restarts}
 use Rattle.script_runs.proofs.stage.player.Goals as goal
 
-role_kind : (actor : Actor) → (role_of actor).kind ≡ kind_of actor
+role_kind : (actor : Actor) → (role_of actor).kind ≡ seat_kind_of actor
 role_kind (Worker w) = refl
 role_kind (Agent node) = refl
 
@@ -20,6 +20,7 @@ pub returns-clause-new : goal.returns-clause-new
 returns-clause-new c = record {
   seat = sym (ap (λ (x : Part). x.first) c.in_ok-part.ensures);
   made = refl;
+  held = c.new.ensures;
   kind = role_kind c.args.actor.now ∙ sym (ap (λ (x : Part). x.kind) c.in_ok-part.ensures);
   built = subst IsBuiltKind (sym (role_kind c.args.actor.now)) (actor_built c.args.actor.now);
   new = c.in_ok-working.ensures.is;

@@ -1,4 +1,4 @@
-use Rattle.std.proofs.Common.{◌∙◌, ◌-◌, subst, arith, List, Option, Some, None, ℕ}
+use Rattle.std.proofs.Common.{◌∙◌, ◌-◌, refl, subst, arith, List, Option, Some, None, ℕ}
 use Rattle.call_types.specs.declared.setup.Setup.{Setup}
 use Rattle.world_core.specs.Kept.{History}
 use Rattle.world_core.specs.declared.drained.Drained.{Drained}
@@ -41,8 +41,8 @@ returns-in_err-rounded-in-None-clause-others c = λ seat other.
 pub returns-in_err-rounded-in-None-clause-err : goal.returns-in_err-rounded-in-None-clause-err
 returns-in_err-rounded-in-None-clause-err c =
     on_err _ c.from_residual-in_err-rounded-in-None.result
-    (grown_then (seats_of c.args.drainers.now) c.args.world.now.past c.rounds.world.past c.round.new.world.past c.rounds.invariant.grown
-    (subst (λ (seats : List ℕ). HasGrown seats c.rounds.world.past c.round.new.world.past) c.rounds.invariant.seats c.in_err-rounded-in-None.ensures.err))
+    (grown_then (seats_of c.args.drainers.now) c.args.world.now.past c.rounds.world.past c.round.new.desk.past c.rounds.invariant.grown
+    (subst (λ (seats : List ℕ). HasGrown seats c.rounds.world.past c.round.new.desk.past) c.rounds.invariant.seats c.in_err-rounded-in-None.ensures.err))
 
 pub returns-in_err-rounded-in-None-clause-users : goal.returns-in_err-rounded-in-None-clause-users
 returns-in_err-rounded-in-None-clause-users c = c.round.ensures.users ∙ c.rounds.invariant.users
@@ -58,13 +58,13 @@ rounds-preserved c =
     let ends = subst (λ (s : Setup). EndsHere s c.rounds.world.past budget c.rounds.left None) i.setup there in
     record {
       few = omega (arith, i.few);
-      drains = λ after past left more. i.drains after past left (Goes ends.1.0 ends.1.1 ends.0 c.round.new.drainers c.round.new.world.past (c.rounds.left - made) c.in_ok-rounded-in-None.rounded.whole r.round more);
+      drains = λ after past left more. i.drains after past left (Goes ends.1.0 ends.1.1 ends.0 c.round.new.drainers c.round.new.desk.past (c.rounds.left - made) c.in_ok-rounded-in-None.rounded.whole r.round more);
       stands = r.stands;
       seats = r.seats ∙ i.seats;
       roles = r.roles ∙ i.roles;
       setup = r.setup ∙ i.setup;
-      grown = grown_then (seats_of c.args.drainers.now) c.args.world.now.past c.rounds.world.past c.round.new.world.past i.grown
-          (record { made = made; longer = subst (λ (seats : List ℕ). IsLonger seats made c.rounds.world.past c.round.new.world.past) i.seats r.entries });
+      grown = grown_then (seats_of c.args.drainers.now) c.args.world.now.past c.rounds.world.past c.round.new.desk.past i.grown
+          (record { made = made; longer = subst (λ (seats : List ℕ). IsLonger seats made c.rounds.world.past c.round.new.desk.past) i.seats (r.entries refl) });
       users = c.round.ensures.users ∙ i.users;
       actors = λ before. c.round.ensures.actors (i.actors before);
     }

@@ -1,9 +1,11 @@
-use Rattle.std.proofs.Common.{◌≡◌, ◌∙◌, ◌+◌, ◌≤◌, ◌&&◌, ◌++◌, sym, subst, refl, arith, length, take, List, [], ◌∷◌, Some, ℕ, Bool}
+use Rattle.std.proofs.Common.{◌≡◌, ◌∙◌, ◌+◌, ◌≤◌, ◌&&◌, ◌++◌, sym, subst, refl, inl, arith, length, take, List, [], ◌∷◌, Some, ℕ, Bool}
 use Rattle.std.specs.Prelude.{slice_get, slice_set}
 use Rattle.std.proofs.lemmas.Option.{slice_get_within}
+use Rattle.worker_core.specs.Absorbs.{woken}
+use Rattle.seat_calls.specs.Answered.{Lets}
 use Rattle.worker_threads.specs.Drainers.{AreRoles, AreSeats, StandsWhole, roles_of, seats_of}
-use Rattle.worker_threads.specs.Longer.{HasGrown}
-use Rattle.worker_threads.specs.Rounds.{IsRound, all_pass}
+use Rattle.worker_threads.specs.Longer.{HasGrown, IsOneOf}
+use Rattle.worker_threads.specs.Rounds.{IsRound, Runs}
 use Rattle.worker_threads.proofs.Entries.{grown_then, grown_wider, not_grown}
 use Rattle.worker_threads.proofs.RunFacts.{run_left}
 use Rattle.worker_threads.proofs.RoundFacts.{IsIdleAt, and_else, and_then, at_place, both, each_set, fewer_left, first_steady, length_set, one_of_seats, roles_set, same_length, seats_set, turn_more, turns_end}
@@ -11,7 +13,7 @@ use Rattle.worker_threads.proofs.round.turns.Goals as goal
 use Rattle.worker_threads.proofs.round.turns.Goals.{then-whole, else-whole}
 
 pub loop-place-init : goal.loop-place-init
-loop-place-init c = record {
+loop-place-init g c = record {
   few = omega arith;
   some = λ more any. absurd (omega arith);
   round = λ past left after whole r. r;
@@ -19,52 +21,66 @@ loop-place-init c = record {
   idle = λ still place d lt at. absurd (omega arith);
   seats = refl;
   roles = refl;
+  serves = λ seat there. there;
+  free = c.requires.free;
+  lets = refl;
   setup = refl;
-  grown = not_grown (seats_of c.args.drainers.now.items) c.args.world.now.past c.args.world.now.past refl;
+  lent = refl;
+  grown = not_grown (seats_of c.args.drainers.now.items) (g.W.Answers.past c.args.desk.now) (g.W.Answers.past c.args.desk.now) refl;
   users = refl;
   actors = λ before. before;
 }
 
-pub turn-requires : goal.turn-requires
-turn-requires c =
+pub turn-requires-clause-serves : goal.turn-requires-clause-serves
+turn-requires-clause-serves g c =
+    let i = c.loop-place.invariant in
+    let items = c.loop-place.drainers.items in
+    let d = c.index_mut.result.now in
+    let at : slice_get items c.loop-place.place ≡ Some d = at_place c.args.drainers.now.items items c.loop-place.place d i.seats (omega (arith, c.loop-place-test.true, c.len-place-end.ensures)) c.index_mut.ensures.value in
+    i.serves d.seat (c.requires.serves d.seat (subst (λ (seats : List ℕ). IsOneOf seats d.seat) i.seats (one_of_seats items c.loop-place.place d at d.seat (inl refl))))
+
+pub turn-requires-clause-stands : goal.turn-requires-clause-stands
+turn-requires-clause-stands g c =
     let items = c.loop-place.drainers.items in
     let d = c.index_mut.result.now in
     let at : slice_get items c.loop-place.place ≡ Some d = at_place c.args.drainers.now.items items c.loop-place.place d c.loop-place.invariant.seats (omega (arith, c.loop-place-test.true, c.len-place-end.ensures)) c.index_mut.ensures.value in
     c.loop-place.invariant.stands c.loop-place.place d (slice_get_within items c.loop-place.place d at) at
 
 pub returns-in_err-ran-clause-grown : goal.returns-in_err-ran-clause-grown
-returns-in_err-ran-clause-grown c =
+returns-in_err-ran-clause-grown g c =
     let items = c.loop-place.drainers.items in
     let d = c.index_mut.result.now in
     let at : slice_get items c.loop-place.place ≡ Some d = at_place c.args.drainers.now.items items c.loop-place.place d c.loop-place.invariant.seats (omega (arith, c.loop-place-test.true, c.len-place-end.ensures)) c.index_mut.ensures.value in
     let i = c.loop-place.invariant in
-    let wide = grown_wider (d.seat ∷ []) (seats_of items) (one_of_seats items c.loop-place.place d at) c.loop-place.world.past c.turn.new.world.past c.turn.ensures.grown in
-    grown_then (seats_of c.args.drainers.now.items) c.args.world.now.past c.loop-place.world.past c.turn.new.world.past i.grown
-    (subst (λ (seats : List ℕ). HasGrown seats c.loop-place.world.past c.turn.new.world.past) i.seats wide)
+    let wide = grown_wider (d.seat ∷ []) (seats_of items) (one_of_seats items c.loop-place.place d at) (g.W.Answers.past c.loop-place.desk) (g.W.Answers.past c.turn.new.desk) c.turn.ensures.grown in
+    grown_then (seats_of c.args.drainers.now.items) (g.W.Answers.past c.args.desk.now) (g.W.Answers.past c.loop-place.desk) (g.W.Answers.past c.turn.new.desk) i.grown
+    (subst (λ (seats : List ℕ). HasGrown seats (g.W.Answers.past c.loop-place.desk) (g.W.Answers.past c.turn.new.desk)) i.seats wide)
 
 pub returns-in_err-ran-clause-users : goal.returns-in_err-ran-clause-users
-returns-in_err-ran-clause-users c = c.turn.ensures.users ∙ c.loop-place.invariant.users
+returns-in_err-ran-clause-users g c = c.turn.ensures.users ∙ c.loop-place.invariant.users
 
 pub returns-in_err-ran-clause-seats : goal.returns-in_err-ran-clause-seats
-returns-in_err-ran-clause-seats c =
+returns-in_err-ran-clause-seats g c =
     let items = c.loop-place.drainers.items in
     let d = c.index_mut.result.now in
     let at : slice_get items c.loop-place.place ≡ Some d = at_place c.args.drainers.now.items items c.loop-place.place d c.loop-place.invariant.seats (omega (arith, c.loop-place-test.true, c.len-place-end.ensures)) c.index_mut.ensures.value in
     seats_set items c.loop-place.place d c.turn.new.drainer at c.turn.ensures.seat ∙ c.loop-place.invariant.seats
 
 pub loop-place-preserved : goal.loop-place-preserved
-loop-place-preserved c =
+loop-place-preserved g c =
     let items = c.loop-place.drainers.items in
     let place = c.loop-place.place in
     let d = c.index_mut.result.now in
     let ran = c.turn.new.drainer in
-    let h = c.loop-place.world.past in
-    let new = c.turn.new.world.past in
+    let h = (g.W.Answers.past c.loop-place.desk) in
+    let new = (g.W.Answers.past c.turn.new.desk) in
     let left = c.loop-place.left in
     let rest = c.in_ok-ran.ran.left in
     let idle = c.in_ok-ran.ran.idle in
     let i = c.loop-place.invariant in
     let r = c.in_ok-ran.ensures in
+    let lets = g.W.Answers.lets c.args.desk.now in
+    let runs = subst (λ (l : Lets). Runs l d.seat ran.actor new rest idle (woken d.actor) h left) i.lets r.runs in
     let at : slice_get items place ≡ Some d = at_place c.args.drainers.now.items items c.loop-place.place d c.loop-place.invariant.seats (omega (arith, c.loop-place-test.true, c.len-place-end.ensures)) c.index_mut.ensures.value in
     let low : rest ≤ left = run_left _ _ _ _ _ _ _ _ _ r.runs in
     let whole : c.if-whole.whole ≡ (c.loop-place.whole && idle) =
@@ -75,35 +91,39 @@ loop-place-preserved c =
     record {
       few = omega (arith, i.few, low);
       some = λ more any. fewer_left place rest left c.args.budget low i.few i.some (λ first. r.some (first_steady items (roles_of c.args.drainers.now.items) place d i.roles c.requires.stands.roles first at)) any;
-      round = λ past last after all more. subst (λ (w : Bool). IsRound all_pass past last c.args.drainers.now.items c.args.world.now.past c.args.budget (take (place + 1) (slice_set items place ran) ++ after) (w && all)) (sym whole)
-          (turn_more c.args.drainers.now.items c.args.world.now.past c.args.budget items place d ran h new left rest c.loop-place.whole idle i.round at r.seat r.runs past last after all more);
+      round = λ past last after all more. subst (λ (w : Bool). IsRound lets past last c.args.drainers.now.items (g.W.Answers.past c.args.desk.now) c.args.budget (take (place + 1) (slice_set items place ran) ++ after) (w && all)) (sym whole)
+          (turn_more lets c.args.drainers.now.items (g.W.Answers.past c.args.desk.now) c.args.budget items place d ran h new left rest c.loop-place.whole idle i.round at r.seat runs past last after all more);
       stands = each_set StandsWhole (length items) (length (slice_set items place ran)) items place d ran h new seats_ok at grown (λ p lt other. omega (arith, lt, length_set items place ran)) i.stands r.stands;
       idle = λ still.
           let halves = both c.loop-place.whole idle (sym whole ∙ still) in
           each_set IsIdleAt place (place + 1) items place d ran h new seats_ok at grown (λ p lt other. omega arith) (i.idle halves.0) (r.idle halves.1);
       seats = seats_set items place d ran at r.seat ∙ i.seats;
       roles = roles_set items place d ran at r.role ∙ i.roles;
-      setup = r.setup ∙ i.setup;
-      grown = grown_then (seats_of c.args.drainers.now.items) c.args.world.now.past h new i.grown (subst (λ (seats : List ℕ). HasGrown seats h new) i.seats wide);
+      serves = λ seat there. r.serves seat (i.serves seat there);
+      free = r.orders;
+      lets = c.turn.ensures.lets ∙ i.lets;
+      setup = c.turn.ensures.setup ∙ i.setup;
+      lent = c.turn.ensures.lent ∙ i.lent;
+      grown = grown_then (seats_of c.args.drainers.now.items) (g.W.Answers.past c.args.desk.now) h new i.grown (subst (λ (seats : List ℕ). HasGrown seats h new) i.seats wide);
       users = c.turn.ensures.users ∙ i.users;
       actors = λ before. c.turn.ensures.actors (i.actors before);
     }
 
 pub returns-clause-round : goal.returns-clause-round
-returns-clause-round c =
+returns-clause-round g c =
     let items = c.loop-place.drainers.items in
     let same = same_length items c.args.drainers.now.items c.loop-place.invariant.seats in
     let all : c.loop-place.place ≡ length items = omega (arith, same, c.loop-place-test.false, c.len-place-end.ensures, c.loop-place.auto.place-end) in
-    turns_end c.args.drainers.now.items c.args.world.now.past c.args.budget items c.loop-place.place c.loop-place.world.past c.loop-place.left c.loop-place.whole all c.loop-place.invariant.round
+    turns_end (g.W.Answers.lets c.args.desk.now) c.args.drainers.now.items (g.W.Answers.past c.args.desk.now) c.args.budget items c.loop-place.place (g.W.Answers.past c.loop-place.desk) c.loop-place.left c.loop-place.whole all c.loop-place.invariant.round
 
 pub returns-clause-stands : goal.returns-clause-stands
-returns-clause-stands c = record {
+returns-clause-stands g c = record {
   each = λ place d at. c.loop-place.invariant.stands place d (slice_get_within c.loop-place.drainers.items place d at) at;
   roles = subst AreRoles (sym c.loop-place.invariant.roles) c.requires.stands.roles;
 }
 
 pub returns-clause-idle : goal.returns-clause-idle
-returns-clause-idle c = λ still place d at.
+returns-clause-idle g c = λ still place d at.
     let items = c.loop-place.drainers.items in
     let same = same_length items c.args.drainers.now.items c.loop-place.invariant.seats in
     let within = slice_get_within items place d at in

@@ -4,21 +4,26 @@ use Rattle.call_types.specs.declared.entry.Entry.{Entry}
 use Rattle.worker_threads.specs.declared.drainers.Drainer.{Drainer}
 use Rattle.worker_threads.specs.Drainers.{StandsWhole, roles_of, seats_of}
 use Rattle.worker_threads.specs.Longer.{HasGrown, users_of}
-use Rattle.worker_threads.specs.Rounds.{IsRound, all_pass}
+use Rattle.worker_threads.specs.Rounds.{IsRound, OrdersNone}
 use Rattle.worker_threads.proofs.RoundFacts.{EachBelow, IsIdleAt}
 use Rattle.worker_threads.proofs.round.turns.Given as goal
 
 abbrev pub invariant-loop-place : goal.invariant-loop-place
-invariant-loop-place l = record {
+invariant-loop-place g l = record {
   few : l.left ≤ l.budget;
   some : 0 < l.place → 0 < l.budget → l.left < l.budget;
-  round : (past : List Entry) (left : ℕ) (after : List Drainer) (whole : Bool) → IsRound all_pass past left (drop l.place l.drainers.items) l.world.past l.left after whole → IsRound all_pass past left l.initial.drainers.items l.initial.world.past l.budget (take l.place l.drainers.items ++ after) (l.whole && whole);
-  stands : EachBelow (length l.drainers.items) StandsWhole l.drainers.items l.world.past;
-  idle : l.whole ≡ true → EachBelow l.place IsIdleAt l.drainers.items l.world.past;
+  round : (past : List Entry) (left : ℕ) (after : List Drainer) (whole : Bool) → IsRound (g.W.Answers.lets l.initial.desk) past left (drop l.place l.drainers.items) (g.W.Answers.past l.desk) l.left after whole
+      → IsRound (g.W.Answers.lets l.initial.desk) past left l.initial.drainers.items (g.W.Answers.past l.initial.desk) l.budget (take l.place l.drainers.items ++ after) (l.whole && whole);
+  stands : EachBelow (length l.drainers.items) StandsWhole l.drainers.items (g.W.Answers.past l.desk);
+  idle : l.whole ≡ true → EachBelow l.place IsIdleAt l.drainers.items (g.W.Answers.past l.desk);
+  serves : (seat : ℕ) → g.W.Answers.serves l.initial.desk seat → g.W.Answers.serves l.desk seat;
+  free : OrdersNone (g.W.Answers.orders l.desk);
+  lets : g.W.Answers.lets l.desk ≡ g.W.Answers.lets l.initial.desk;
+  setup : g.W.Answers.setup l.desk ≡ g.W.Answers.setup l.initial.desk;
+  lent : g.W.Answers.lent l.desk ≡ g.W.Answers.lent l.initial.desk;
   seats : seats_of l.drainers.items ≡ seats_of l.initial.drainers.items;
   roles : roles_of l.drainers.items ≡ roles_of l.initial.drainers.items;
-  setup : l.world.setup ≡ l.initial.world.setup;
-  grown : HasGrown (seats_of l.initial.drainers.items) l.initial.world.past l.world.past;
-  users : users_of l.world.past ≡ users_of l.initial.world.past;
-  actors : AreByActors l.initial.world.past → AreByActors l.world.past;
+  grown : HasGrown (seats_of l.initial.drainers.items) (g.W.Answers.past l.initial.desk) (g.W.Answers.past l.desk);
+  users : users_of (g.W.Answers.past l.desk) ≡ users_of (g.W.Answers.past l.initial.desk);
+  actors : AreByActors (g.W.Answers.past l.initial.desk) → AreByActors (g.W.Answers.past l.desk);
 }

@@ -2,26 +2,29 @@ use Rattle.std.proofs.Common.{◌≡◌, ◌≤◌, ℕ, List, [], ◌∷◌, Bo
 use Rattle.size_calls.specs.Calls.{AreByActors}
 use Rattle.call_types.specs.declared.entry.Entry.{Entry}
 use Rattle.binder_model.specs.Told.{own}
-use Rattle.binder_model.specs.World.{IsHistory}
-use Rattle.worker_core.specs.States.{State}
+use Rattle.worker_core.specs.States.{ActorState}
 use Rattle.worker_threads.specs.Drainers.{StandsWhole}
 use Rattle.worker_threads.specs.Longer.{HasGrown, users_of}
-use Rattle.worker_threads.specs.Rounds.{Runs, all_pass}
+use Rattle.worker_threads.specs.Rounds.{OrdersNone, Runs}
 use Rattle.worker_threads.proofs.run.run.Given as goal
 
 abbrev pub invariant-loop-left : goal.invariant-loop-left
-invariant-loop-left l = record {
+invariant-loop-left g l = record {
   few : l.left ≤ l.budget;
   kind : l.kind ≡ l.actor.role.kind;
   role : l.actor.role ≡ l.initial.actor.role;
-  runs : (after : State) (past : List Entry) (left : ℕ) (idle : Bool) → Runs all_pass l.seat after past left idle l.actor l.world.past l.left → Runs all_pass l.seat after past left idle l.initial.actor l.initial.world.past l.budget;
-  stands : StandsWhole l.actor (own l.seat l.world.past);
-  history : IsHistory l.world.setup l.world.past;
-  setup : l.world.setup ≡ l.initial.world.setup;
-  grown : HasGrown (l.seat ∷ []) l.initial.world.past l.world.past;
-  users : users_of l.world.past ≡ users_of l.initial.world.past;
-  actors : AreByActors l.initial.world.past → AreByActors l.world.past;
+  runs : (after : ActorState) (past : List Entry) (left : ℕ) (idle : Bool) → Runs (g.W.Answers.lets l.initial.desk) l.seat after past left idle l.actor (g.W.Answers.past l.desk) l.left
+      → Runs (g.W.Answers.lets l.initial.desk) l.seat after past left idle l.initial.actor (g.W.Answers.past l.initial.desk) l.budget;
+  stands : StandsWhole l.actor (own l.seat (g.W.Answers.past l.desk));
+  serves : (other : ℕ) → g.W.Answers.serves l.initial.desk other → g.W.Answers.serves l.desk other;
+  free : OrdersNone (g.W.Answers.orders l.desk);
+  lets : g.W.Answers.lets l.desk ≡ g.W.Answers.lets l.initial.desk;
+  setup : g.W.Answers.setup l.desk ≡ g.W.Answers.setup l.initial.desk;
+  lent : g.W.Answers.lent l.desk ≡ g.W.Answers.lent l.initial.desk;
+  grown : HasGrown (l.seat ∷ []) (g.W.Answers.past l.initial.desk) (g.W.Answers.past l.desk);
+  users : users_of (g.W.Answers.past l.desk) ≡ users_of (g.W.Answers.past l.initial.desk);
+  actors : AreByActors (g.W.Answers.past l.initial.desk) → AreByActors (g.W.Answers.past l.desk);
 }
 
 abbrev pub decreases-loop-left : goal.decreases-loop-left
-decreases-loop-left l = l.left
+decreases-loop-left g l = l.left

@@ -1,0 +1,7 @@
+pub mod Calling
+pub mod Held
+pub mod Lived
+pub mod Lives
+pub mod Since
+pub mod Stepping
+pub mod Turning

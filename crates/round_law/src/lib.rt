@@ -1,0 +1,14 @@
+//! A round: each actor is woken in its turn and run until it is idle.
+//!
+//! Promises: where an actor of the round acts on the world with which the round begins, a whole round has an entry that
+//! lasts (`rounds_last`), whatever the others do before it: an entry of theirs lasts, or the world is alike when its
+//! turn comes. The key on which it acts waits once it is woken, or it has not seen it yet. It is said over any choice
+//! of which requests reach the world. Not said: which actor acts on what is due.
+#![tactic(auto)]
+
+ghost use Rattle.round_law.specs.Rounds.{RoundsLast};
+
+/// A whole round with an actor that acts has an entry that lasts.
+pub fn rounds_last()
+    ensures { RoundsLast }
+{}

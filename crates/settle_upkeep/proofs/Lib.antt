@@ -1,0 +1,4 @@
+pub mod Erasing
+pub mod Guards
+pub mod Pods
+pub mod Provisions

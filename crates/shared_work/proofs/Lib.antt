@@ -1,0 +1,4 @@
+pub mod Asking
+pub mod Computed
+pub mod Dealing
+pub mod Using

@@ -1,0 +1,7 @@
+pub mod Seats
+pub mod Lines
+pub mod Users
+pub mod Crew
+pub mod Kinds
+pub mod Examples
+pub mod Steps

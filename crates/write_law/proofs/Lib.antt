@@ -1,0 +1,5 @@
+pub mod Claims
+pub mod Fitting
+pub mod Making
+pub mod Valid
+pub mod Volumes
