@@ -4,7 +4,9 @@ repeats.py SHAPE TIMES writes one. The shapes: claim protection lists the pods o
 the same, and lets the claim go at an old version, which is refused; the binder completes a claim at an old version, which is
 refused, and reads its volume; the binder reads the volume of a completed claim; it reads a claim that is gone, and releases
 its volume at an old version; a node agent reads the claim of a pod. In those named "changed" a user labels an object between
-two calls, so that versions differ.
+two calls, so that versions differ. One shape more is no part of bench/audit, since an audit of it still grows with the square
+of the calls: "old watches", in which the binder watches the volumes from the version of its list, again and again, after it
+was told a later one.
 The answers are written from the rules of the store, and not by the program: an audit says Yes to each history.
 """
 import json
@@ -220,6 +222,13 @@ def claim_reads(history, times, changed):
         history.get(AGENT, read)
 
 
+def old_watches(history, times, changed):
+    history.items(BINDER, "PersistentVolume", [])
+    told = history.create(volume())
+    for _ in range(times):
+        history.watch(BINDER, "PersistentVolume", 0, [("ADDED", told)])
+
+
 CALLS = {
     "pod lists": pod_lists,
     "unused claims": unused_claims,
@@ -229,13 +238,14 @@ CALLS = {
     "claim reads": claim_reads,
 }
 SHAPES = [name + more for name in CALLS for more in ("", ", changed")]
+SLOW = {"old watches": old_watches}
 
 
 def repeated(shape, times):
     """The text of the history of this shape."""
     history = History()
     name, _, changed = shape.partition(", ")
-    CALLS[name](history, times, changed != "")
+    {**CALLS, **SLOW}[name](history, times, changed != "")
     return history.text()
 
 

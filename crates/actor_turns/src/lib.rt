@@ -5,7 +5,7 @@
 //! says (`specs/Calls`): told, lost before its effect or after it, or held back by what answers it. Each life is diligent,
 //! and the actor stands for its entries. No kind is watched in vain, and an agent that was told StaleEpoch asks nothing more
 //! in that life; a turn that gives fewer calls leaves no key that the life was told of, and that was due since, without a
-//! call. `loss::fate_of` says what becomes of a call. Not said: that memory is there for a call, nor what a gate does.
+//! call. `loss::fate_of` says what becomes of a call. Not said: that memory is there for a call, nor what a listener does.
 #![tactic(auto)]
 
 mod call;

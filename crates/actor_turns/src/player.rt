@@ -13,7 +13,7 @@ ghost use Rattle.actor_turns.specs.Steps.Playing.{HasStepped, HasTurned, IsSmall
 use crate::call::make;
 use crate::loss::fate_of;
 use crate::part::Part;
-use fault_io::gate::Gate;
+use fault_io::gate::Listener;
 use kube_types::copies::OutOfMemory;
 use kube_types::items::Items;
 use seat_calls::answers::Answers;
@@ -100,11 +100,11 @@ fn count(player: &mut Player, held: bool) -> Result<(), OutOfMemory>
     Ok(())
 }
 
-/// Makes the next call; false where the life that would make it is idle. The gate is told before it and after it.
-fn step<W: Answers, G: Gate>(
+/// Makes the next call; false where the life that would make it is idle. The listener is told before it and after it.
+fn step<W: Answers, L: Listener>(
     desk: &mut W,
     player: &mut Player,
-    gate: &G,
+    listener: &L,
 ) -> Result<bool, OutOfMemory>
     requires named { player.old.part.named ≡ true }
     requires small { IsSmall player.old }
@@ -131,9 +131,9 @@ fn step<W: Answers, G: Gate>(
         Some(ask) => {
             let nth = player.made.saturating_sub(player.began) + 1;
             let fate = fate_of(player.part.losses.as_slice(), player.made + 1);
-            gate.before(player.seat, nth);
+            listener.comes(player.seat, nth);
             let held = make(desk, player.seat, &mut player.actor, &ask, fate)?;
-            gate.after(player.seat, nth);
+            listener.went(player.seat, nth);
             count(player, held)?;
             Ok(true)
         }
@@ -142,11 +142,11 @@ fn step<W: Answers, G: Gate>(
 
 /// Makes so many calls, or fewer where the life that would make the next one is idle; it is then woken. What answers the
 /// calls answers the seats of the actor's lives, and no others in their order alone; it may hold calls back, and these
-/// count. The gate is told before each call and after it.
-pub fn turn<W: Answers, G: Gate>(
+/// count. The listener is told before each call and after it.
+pub fn turn<W: Answers, L: Listener>(
     desk: &mut W,
     player: &mut Player,
-    gate: &G,
+    listener: &L,
     calls: u64,
 ) -> Result<(), OutOfMemory>
     requires named { player.old.part.named ≡ true }
@@ -168,7 +168,7 @@ pub fn turn<W: Answers, G: Gate>(
 {
     let mut made = 0;
     while made < calls {
-        if !step(desk, player, gate)? {
+        if !step(desk, player, listener)? {
             player.actor.wake()?;
             return Ok(());
         }

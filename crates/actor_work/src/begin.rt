@@ -23,6 +23,7 @@ pub fn begin(alloc: Global, part: Part, node: &Text) -> Result<Player, OutOfMemo
     ensures part { IfOk result (λ x. x.part ≡ part) }
     ensures made { IfOk result (λ x. x.made ≡ 0) }
     ensures held { IfOk result (λ x. x.held ≡ []) }
+    ensures role { IfOk result (λ x. x.actor.role ≡ record { kind = part.kind; node = node.now }) }
     ensures plays { IfOk result (λ x. SomePlays x []) }
     ensures lives { IfOk result (λ x. SomeLives (record { kind = part.kind; node = node.now }) x []) }
 {

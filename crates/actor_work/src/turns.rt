@@ -11,7 +11,7 @@ ghost use Rattle.actor_turns.specs.Steps.Playing.{OrdersLives, ServesLives, Some
 ghost use Rattle.actor_work.specs.Working.{AreWorkedLives, HasWorked, SomeLives};
 
 use actor_turns::player::{Player, turn};
-use fault_io::gate::Gate;
+use fault_io::gate::Listener;
 use kube_types::copies::OutOfMemory;
 use seat_calls::answers::Answers;
 
@@ -24,10 +24,10 @@ fn is_stuck(woken: bool, before: u64, made: u64) -> bool
 }
 
 /// Makes so many calls, or fewer where the life that would make the next one gives none though it was woken.
-pub(crate) fn turns<W: Answers, G: Gate>(
+pub(crate) fn turns<W: Answers, L: Listener>(
     desk: &mut W,
     player: &mut Player,
-    gate: &G,
+    listener: &L,
     calls: u64,
 ) -> Result<(), OutOfMemory>
     requires passes { W.lets desk.old ≡ all_pass }
@@ -54,7 +54,7 @@ pub(crate) fn turns<W: Answers, G: Gate>(
     let mut woken = false;
     while player.made < end {
         let before = player.made;
-        turn(desk, player, gate, end - before)?;
+        turn(desk, player, listener, end - before)?;
         if is_stuck(woken, before, player.made) {
             return Ok(());
         }

@@ -14,7 +14,7 @@ ghost use Rattle.actor_work.specs.Working.{AreWorkedLives, HasWorked, SomeLives}
 
 use crate::turns::turns;
 use actor_turns::player::Player;
-use fault_io::gate::Gate;
+use fault_io::gate::Listener;
 use kube_types::copies::OutOfMemory;
 use shared_lives::lives::Lives;
 use shared_world::shared::{SharedWorld, WorldPass};
@@ -34,15 +34,25 @@ impl Drop for Worked {
     }
 }
 
+impl Worked {
+    /// The passes and the actor.
+    pub fn into_parts(self) -> (Vec<WorldPass>, Player)
+        ensures { (result.0 ≡ self.lives) × (result.1 ≡ self.player) }
+    {
+        let Worked { lives, player } = self;
+        (lives, player)
+    }
+}
+
 /// Makes so many calls, by the passes of the actor's lives, of a shared world of which so many passes were made; or fewer
-/// where the life that would make the next one was told StaleEpoch. The gate is told before each call and after it.
-pub fn work<R: Wait, G: Gate>(
+/// where the life that would make the next one was told StaleEpoch. The listener is told before each call and after it.
+pub fn work<R: Wait, L: Listener>(
     rt: &R,
     shared: &SharedWorld,
     made: u64,
     lives: Vec<WorldPass>,
     player: Player,
-    gate: &G,
+    listener: &L,
     calls: u64,
 ) -> Result<Worked, OutOfMemory>
     requires lives { AreLives shared.now made player.part.first lives.items }
@@ -65,7 +75,7 @@ pub fn work<R: Wait, G: Gate>(
 {
     let mut player = player;
     let mut desk = Lives::of(rt, shared, made, player.part.first, lives);
-    turns(&mut desk, &mut player, gate, calls)?;
+    turns(&mut desk, &mut player, listener, calls)?;
     Ok(Worked {
         lives: desk.into_passes(),
         player,

@@ -39,7 +39,7 @@ due_from setup w (Claim c) action due =
     due ∙ (λ i. or_due (guard i) (or_due (bind i) (provision i)))
 due_from setup w (Pod p) action due = pod_due_from setup w p (is_scheduled p) action due
 
-one_plain : (old new : World) → AreAlike old new → plain_world old ≡ plain_world new
+pub one_plain : (old new : World) → AreAlike old new → plain_world old ≡ plain_world new
 one_plain old new alike =
     let rows = alike.rows in
     let stored = alike.stored in

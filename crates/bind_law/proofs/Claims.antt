@@ -16,7 +16,7 @@ use Rattle.kube_types.specs.declared.objects.Claim.{Claim as ClaimData}
 use Rattle.kube_types.specs.declared.objects.Volume.{Volume as VolumeData}
 use Rattle.kube_types.specs.declared.objects.Object.{Object}
 use Rattle.kube_types.specs.declared.objects.Object.TheVariants.{Class, Node, Volume, Claim, Pod}
-use Rattle.kube_types.specs.Bindings.{carries, class_of_claim, is_available, is_completed, is_deleting, is_empty, is_ended, is_for, is_lost, is_protected_volume, lacks_class}
+use Rattle.kube_types.specs.Bindings.{carries, is_available, is_completed, is_deleting, is_empty, is_ended, is_for, is_lost, is_protected_volume, lacks_class}
 use Rattle.kube_types.specs.Keys.{is_of_kind, key_of, kind_index, row_at, rows_of}
 use Rattle.kube_types.proofs.KeyOrder.{row_at_key}
 use Rattle.call_types.specs.declared.entry.Entry.{Entry}
@@ -31,14 +31,14 @@ use Rattle.kube_types.specs.declared.names.Field.{Field}
 use Rattle.kube_types.specs.declared.names.Field.TheVariants as fields
 use Rattle.binder_model.specs.Fields.{class_fault, create_fault, faulty, has_twice, is_subdomain, kind_fault}
 use Rattle.binder_model.specs.Imports.{ImportsPass}
-use Rattle.binder_model.specs.Matching.{IsBestAt, binder_takes, eligible, fits, has_match, is_delayed, is_selected, only_own_passes, waits_for_pod}
-use Rattle.binder_model.specs.ObjectKeys.{class_key, volume_key}
+use Rattle.binder_model.specs.Matching.{IsBestAt, eligible, fits, has_match, is_selected, waits_for_pod}
+use Rattle.binder_model.specs.ObjectKeys.{volume_key}
 use Rattle.binder_model.specs.Reading.{follows}
 use Rattle.binder_model.specs.World.{world}
 use Rattle.informer_cache.specs.All.{all_objects}
 use Rattle.model_laws.proofs.Histories.{rows_stand_in_order}
 use Rattle.model_laws.proofs.Lists.{IsIn, none_some, one, some_filter}
-use Rattle.model_laws.proofs.Readings.{found_stands, member_stands}
+use Rattle.model_laws.proofs.Readings.{member_stands}
 use Rattle.volume_match.specs.Volumes.{as_volume}
 use Rattle.claim_sync.specs.declared.action.ClaimStep.{ClaimStep}
 use Rattle.claim_sync.specs.declared.action.ClaimStep.TheVariants as claim_steps
@@ -56,31 +56,31 @@ use Rattle.worker_core.specs.declared.task.Task.TheVariants as tasks
 use Rattle.worker_core.specs.declared.task.Under.{Under}
 use Rattle.worker_core.specs.States.{ActorState}
 use Rattle.worker_core.specs.Tasks.{IsBinderFirst, IsDecision, IsFirstOf, under_after}
-use Rattle.worker_threads.specs.Rounds.{Lets}
 use Rattle.write_law.specs.Valid.{IsValid}
 use Rattle.write_law.specs.Writes.{IsStored}
 use Rattle.write_law.proofs.Claims.{class_lasts, lost_lasts}
 use Rattle.write_law.proofs.Fitting.{no_namespace}
 use Rattle.alike_law.specs.Alike.{AreAlike}
 use Rattle.alike_law.proofs.Binding.{claim_due_plain}
-use Rattle.alike_law.proofs.Rows.{any_same, plain_claim}
-use Rattle.slot_law.specs.Slots.{IsDecisionPoint, Now, Then, WillLast, own_entry}
+use Rattle.alike_law.proofs.Rows.{plain_claim}
+use Rattle.slot_law.specs.Slots.{IsDecisionPoint, own_entry}
+use Rattle.slot_law.specs.Would.{AtOnce, Later, WouldLast}
 use Rattle.bind_law.specs.Claims.{ClaimsAct}
-use Rattle.due_law.specs.Acts.{PassesWhileAlike}
-use Rattle.due_law.proofs.Claims.{none_among, or_true}
+use Rattle.due_law.proofs.Claims.{or_true}
 use Rattle.due_law.proofs.Deciding.{DecisionLasts, acts_each, claim_alike, stored}
 use Rattle.due_law.proofs.Known.{rows_known}
+use Rattle.bind_law.proofs.Matches.{AgreeForBinder, goes_over, match_same, some_among}
 use Rattle.bind_law.proofs.NextWrites.{IsOpenTo, carries_for, next_lasts, next_some}
 use Rattle.due_law.proofs.Reclaims.{HasUid, has_uid}
 use Rattle.due_law.proofs.Volumes.{get_said, get_stays, got}
 
 -- the machine has a call, and will make one that lasts
-record MachineLasts (setup : Setup) (lets : Lets) (seat : ℕ) (role : Role) (key : Key) (h : List Entry) (f : BinderFirst) : Type 0 where
+record MachineLasts (setup : Setup) (seat : ℕ) (role : Role) (start : List Entry) (key : Key) (h : List Entry) (f : BinderFirst) : Type 0 where
   machine : Machine
   is : f ≡ binder_firsts.Begins machine
   call : Request
   asks : call_of machine ≡ Some call
-  will : WillLast setup lets seat role.kind h (record { key = key; task = tasks.Binder machine; call = call })
+  will : WouldLast setup seat role.kind start h (record { key = key; task = tasks.Binder machine; call = call })
 
 abbrev begins_one : BinderFirst → Bool
 begins_one (binder_firsts.Begins machine) = true
@@ -91,20 +91,20 @@ machine_in m (binder_firsts.Begins machine) = machine
 machine_in m first = m
 
 -- a decision of the binder is one of a machine
-by_machine : (setup : Setup) (lets : Lets) (seat : ℕ) (role : Role) (key : Key) (h : List Entry) (rows : List Object) → ((f : BinderFirst) → IsFirst rows (row_at key rows) f → MachineLasts setup lets seat role key h f)
-    → (first : First) → IsBinderFirst rows key first → DecisionLasts setup lets seat role key h first
-by_machine setup lets seat role key h rows each firsts.Drops i = let m = each binder_firsts.Drops i in absurd (true≢false (sym (ap begins_one m.is)))
-by_machine setup lets seat role key h rows each (firsts.Queues other) i = let m = each (binder_firsts.Queues other) i in absurd (true≢false (sym (ap begins_one m.is)))
-by_machine setup lets seat role key h rows each (firsts.Begins (tasks.Binder machine)) i =
+by_machine : (setup : Setup) (seat : ℕ) (role : Role) (start : List Entry) (key : Key) (h : List Entry) (rows : List Object) → ((f : BinderFirst) → IsFirst rows (row_at key rows) f → MachineLasts setup seat role start key h f)
+    → (first : First) → IsBinderFirst rows key first → DecisionLasts setup seat role start key h first
+by_machine setup seat role start key h rows each firsts.Drops i = let m = each binder_firsts.Drops i in absurd (true≢false (sym (ap begins_one m.is)))
+by_machine setup seat role start key h rows each (firsts.Queues other) i = let m = each (binder_firsts.Queues other) i in absurd (true≢false (sym (ap begins_one m.is)))
+by_machine setup seat role start key h rows each (firsts.Begins (tasks.Binder machine)) i =
     let m = each (binder_firsts.Begins machine) i in
     let same : machine ≡ m.machine = ap (machine_in machine) m.is in
     record { task = tasks.Binder m.machine; call = m.call; is = ap (λ x. firsts.Begins (tasks.Binder x)) same; asks = m.asks; will = m.will }
-by_machine setup lets seat role key h rows each (firsts.Begins (tasks.ClaimProtect op)) i = absurd i
-by_machine setup lets seat role key h rows each (firsts.Begins (tasks.VolumeProtect op)) i = absurd i
-by_machine setup lets seat role key h rows each (firsts.Begins (tasks.Agent op)) i = absurd i
-by_machine setup lets seat role key h rows each (firsts.Begins (tasks.Provision op)) i = absurd i
-by_machine setup lets seat role key h rows each (firsts.Begins (tasks.Erase op)) i = absurd i
-by_machine setup lets seat role key h rows each (firsts.Begins (tasks.Schedule op)) i = absurd i
+by_machine setup seat role start key h rows each (firsts.Begins (tasks.ClaimProtect op)) i = absurd i
+by_machine setup seat role start key h rows each (firsts.Begins (tasks.VolumeProtect op)) i = absurd i
+by_machine setup seat role start key h rows each (firsts.Begins (tasks.Agent op)) i = absurd i
+by_machine setup seat role start key h rows each (firsts.Begins (tasks.Provision op)) i = absurd i
+by_machine setup seat role start key h rows each (firsts.Begins (tasks.Erase op)) i = absurd i
+by_machine setup seat role start key h rows each (firsts.Begins (tasks.Schedule op)) i = absurd i
 
 lost_open : (c : ClaimData) (due : Due) → lost_due c ≡ Some due → is_lost c.phase ≡ false
 lost_open c due e = by (is_lost c.phase) refl e
@@ -140,28 +140,13 @@ at_place_in [] place o e = none_some e
 at_place_in (x ∷ xs) zero o e = inl (one x o e)
 at_place_in (x ∷ xs) (suc place) o e = inr (at_place_in xs place o e)
 
--- only volumes are taken, and only classes are default ones
-takes_volume : (rows : List Object) (c : ClaimData) (o : Object) → binder_takes rows c o ≡ true → (key_of o).kind ≡ kinds.PersistentVolume
-takes_volume rows c (Volume v) e = refl
-takes_volume rows c (Class x) e = absurd (true≢false (sym e))
-takes_volume rows c (Node x) e = absurd (true≢false (sym e))
-takes_volume rows c (Claim x) e = absurd (true≢false (sym e))
-takes_volume rows c (Pod x) e = absurd (true≢false (sym e))
-
+-- only classes are default ones
 default_class_row : (o : Object) → is_default_row o ≡ true → (key_of o).kind ≡ kinds.StorageClass
 default_class_row (Class x) e = refl
 default_class_row (Volume v) e = absurd (true≢false (sym e))
 default_class_row (Node x) e = absurd (true≢false (sym e))
 default_class_row (Claim x) e = absurd (true≢false (sym e))
 default_class_row (Pod x) e = absurd (true≢false (sym e))
-
--- what passes a test among rows passes it among others, where each that would stands there
-some_among : (p : Object → Bool) (xs rows : List Object) → ((o : Object) → IsIn o xs → p o ≡ true → IsIn o rows) → list_any p xs ≡ true → list_any p rows ≡ true
-some_among p xs rows there some = by (list_any p rows) refl
-  where
-    by : (b : Bool) → list_any p rows ≡ b → list_any p rows ≡ true
-    by true e = e
-    by false e = absurd (true≢false (sym some ∙ none_among p xs rows there e))
 
 -- under a volume's key stands a volume or nothing
 data VolumeOr (x : Option Object) : Type 0 where
@@ -229,7 +214,7 @@ fitting v c e = by (is_deleting v.meta) (is_protected_volume v) (fits v c) (is_s
     by false true false selected own ended available free eg eo ee ea ef h = absurd (true≢false (sym h))
     by false true true false own ended available free eg eo ee ea ef h = absurd (true≢false (sym h))
 
-module _ (setup : Setup) (lets : Lets) (seat : ℕ) (role : Role) (start : List Entry) (key : Key) (c : ClaimData) (action : Due) (pass : ImportsPass setup.imports) (passes : PassesWhileAlike setup lets start) (kind : role.kind ≡ seats.Binder)
+module _ (setup : Setup) (seat : ℕ) (role : Role) (start : List Entry) (key : Key) (c : ClaimData) (action : Due) (pass : ImportsPass setup.imports) (kind : role.kind ≡ seats.Binder)
     (there : row_at key (world setup start).store.rows ≡ Some (Claim c)) (due : claim_due (world setup start).store.rows c ≡ Some action) where
   controller : is_user role.kind ≡ false
   controller = ap is_user kind
@@ -242,7 +227,7 @@ module _ (setup : Setup) (lets : Lets) (seat : ℕ) (role : Role) (start : List 
     cached = all_objects s.caches
 
     abbrev LastsFor : BinderFirst → Type 0
-    LastsFor f = MachineLasts setup lets seat role key h f
+    LastsFor f = MachineLasts setup seat role start key h f
 
     s_kind : s.role.kind ≡ seats.Binder
     s_kind = ap (λ (r : Role). r.kind) p.role_is ∙ kind
@@ -272,7 +257,7 @@ module _ (setup : Setup) (lets : Lets) (seat : ℕ) (role : Role) (start : List 
 
     loses : is_lost d.phase ≡ false → LastsFor (binder_firsts.Begins (machines.Loses d))
     unfolding call_of
-    loses open_ = record { machine = machines.Loses d; is = refl; call = write_lost d; asks = refl; will = Now (passes h _ p.alike) (lost_lasts setup (world setup h) role.kind d d.got_modes d.got controller on_store open_) }
+    loses open_ = record { machine = machines.Loses d; is = refl; call = write_lost d; asks = refl; will = AtOnce p.alike (lost_lasts setup (world setup h) role.kind d d.got_modes d.got controller on_store open_) }
 
     abbrev reading : Under
     reading = record { key = key; task = tasks.Binder (machines.ReadsVolume d); call = Get (volume_key d.volume_name) }
@@ -292,8 +277,8 @@ module _ (setup : Setup) (lets : Lets) (seat : ℕ) (role : Role) (start : List 
       is = refl;
       call = Get (volume_key d.volume_name);
       asks = rw known_some refl;
-      will = Then (passes h _ p.alike) losing (ap (under_after reading) (get_said setup (world setup h) role.kind (volume_key d.volume_name)) ∙ read_so (row_at (volume_key d.volume_name) rows) completed named step)
-          (Now (passes _ _ (subst (AreAlike (world setup start)) (sym same_world) p.alike)) (lost_lasts setup _ role.kind d d.got_modes d.got controller (subst (λ w. IsStored w (Claim d)) (sym same_world) on_store) open_));
+      will = Later p.alike losing (ap (under_after reading) (get_said setup (world setup h) role.kind (volume_key d.volume_name)) ∙ read_so (row_at (volume_key d.volume_name) rows) completed named step)
+          (AtOnce (subst (AreAlike (world setup start)) (sym same_world) p.alike) (lost_lasts setup _ role.kind d d.got_modes d.got controller (subst (λ w. IsStored w (Claim d)) (sym same_world) on_store) open_));
     }
       where
         same_world : world setup (own_entry setup seat role.kind h (Get (volume_key d.volume_name)) ∷ h) ≡ world setup h
@@ -308,7 +293,7 @@ module _ (setup : Setup) (lets : Lets) (seat : ℕ) (role : Role) (start : List 
           is = refl;
           call = r.request;
           asks = rw (known_some, ap is_empty (no_namespace v sv.valid), open_to, named) r.is;
-          will = Now (passes h _ p.alike) (next_lasts setup (world setup h) role.kind controller v d sv on_store known.uid known.is open_ r.request r.is);
+          will = AtOnce p.alike (next_lasts setup (world setup h) role.kind controller v d sv on_store known.uid known.is open_ r.request r.is);
         }
 
     assigns : (x : ClassData) → row_at (key_of (Class x)) cached ≡ Some (Class x) → lacks_class d ≡ true → is_completed d ≡ false → LastsFor (binder_firsts.Begins (machines.AssignsClass d x))
@@ -321,7 +306,7 @@ module _ (setup : Setup) (lets : Lets) (seat : ℕ) (role : Role) (start : List 
           is = refl;
           call = write_class d x;
           asks = rw (known_some, class_unplaced x sx.valid) refl;
-          will = Now (passes h _ p.alike) (class_lasts setup (world setup h) role.kind d x.meta.name controller on_store lacks open_);
+          will = AtOnce p.alike (class_lasts setup (world setup h) role.kind d x.meta.name controller on_store lacks open_);
         }
 
     -- the decision
@@ -414,26 +399,18 @@ module _ (setup : Setup) (lets : Lets) (seat : ℕ) (role : Role) (start : List 
 
     -- open, and it names none
 
-    takes_same : (o : Object) → binder_takes cached d o ≡ binder_takes rows d o
-    takes_same (Volume v) = ap (λ x. eligible v d None && only_own_passes (is_delayed x) v d) (p.sees (class_key (class_of_claim d)) (follows_it (class_key (class_of_claim d)) refl))
-    takes_same (Class x) = refl
-    takes_same (Node x) = refl
-    takes_same (Claim x) = refl
-    takes_same (Pod x) = refl
+    agree : AgreeForBinder cached rows
+    agree k f = p.sees k (follows_it k f)
 
     -- what stands in the store is cached, and the other way round, of a kind that is followed
     to_cache : (o : Object) → follows seats.Binder (key_of o).kind ≡ true → IsIn o rows → IsIn o cached
-    to_cache o f i = found_stands (key_of o) o cached (p.sees (key_of o) (follows_it (key_of o) f) ∙ member_stands o rows (rows_stand_in_order setup h) i)
+    to_cache o f i = goes_over rows cached (rows_stand_in_order setup h) (λ k g. sym (agree k g)) o f i
 
     of_cache : (o : Object) → follows seats.Binder (key_of o).kind ≡ true → IsIn o cached → IsIn o rows
-    of_cache o f i = found_stands (key_of o) o rows (sym (p.sees (key_of o) (follows_it (key_of o) f)) ∙ member_stands o cached p.ready.rows i)
+    of_cache o f i = goes_over cached rows p.ready.rows agree o f i
 
     match_seen : has_match cached d ≡ has_match rows d
-    match_seen = any_same (binder_takes cached d) (binder_takes rows d) takes_same cached ∙ by (has_match rows d) refl
-      where
-        by : (b : Bool) → has_match rows d ≡ b → list_any (binder_takes rows d) cached ≡ has_match rows d
-        by true e = some_among (binder_takes rows d) rows cached (λ o i t. to_cache o (ap (λ k. follows seats.Binder k) (takes_volume rows d o t)) i) e ∙ sym e
-        by false e = none_among (binder_takes rows d) cached rows (λ o i t. of_cache o (ap (λ k. follows seats.Binder k) (takes_volume rows d o t)) i) e ∙ sym e
+    match_seen = match_same cached rows d p.ready.rows (rows_stand_in_order setup h) agree
 
     default_seen : list_any is_default_row rows ≡ true → list_any is_default_row cached ≡ true
     default_seen e = some_among is_default_row rows cached (λ o i t. to_cache o (ap (λ k. follows seats.Binder k) (default_class_row o t)) i) e
@@ -477,11 +454,11 @@ module _ (setup : Setup) (lets : Lets) (seat : ℕ) (role : Role) (start : List 
         by false true false ec ee e i = unnamed_so f ec ee e i
         by false false false ec ee e i = named_rest f ec ee e i
 
-    decides : (first : First) → IsDecision s.role s.memory (all_objects s.caches) key first → DecisionLasts setup lets seat role key h first
-    decides first x = by_machine setup lets seat role key h cached each first (subst (λ k. IsFirstOf k s.role.node s.memory cached key first) s_kind x)
+    decides : (first : First) → IsDecision s.role s.memory (all_objects s.caches) key first → DecisionLasts setup seat role start key h first
+    decides first x = by_machine setup seat role start key h cached each first (subst (λ k. IsFirstOf k s.role.node s.memory cached key first) s_kind x)
 
-  at_point : (s : ActorState) (h : List Entry) → IsDecisionPoint setup seat role start s h → (first : First) → IsDecision s.role s.memory (all_objects s.caches) key first → DecisionLasts setup lets seat role key h first
+  at_point : (s : ActorState) (h : List Entry) → IsDecisionPoint setup seat role start s h → (first : First) → IsDecision s.role s.memory (all_objects s.caches) key first → DecisionLasts setup seat role start key h first
   at_point s h p first x = let at = claim_alike (world setup start) (world setup h) key c p.alike there in decides s h p at.claim at.is at.same first x
 
 pub claims_act : ClaimsAct
-claims_act setup lets seat role start key c action pass passes kind there due = acts_each setup lets seat role start key (at_point setup lets seat role start key c action pass passes kind there due)
+claims_act setup seat role start key c action pass kind there due = acts_each setup seat role start key (at_point setup seat role start key c action pass kind there due)

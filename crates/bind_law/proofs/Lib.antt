@@ -1,2 +1,4 @@
+pub mod Best
 pub mod Claims
+pub mod Matches
 pub mod NextWrites

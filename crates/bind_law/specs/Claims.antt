@@ -13,12 +13,10 @@ use Rattle.binder_model.specs.BinderDue.{claim_due}
 use Rattle.binder_model.specs.Imports.{ImportsPass}
 use Rattle.binder_model.specs.World.{world}
 use Rattle.worker_core.specs.declared.role.Role.{Role}
-use Rattle.worker_threads.specs.Rounds.{Lets}
-use Rattle.slot_law.specs.Slots.{ActsOn}
-use Rattle.due_law.specs.Acts.{PassesWhileAlike}
+use Rattle.slot_law.specs.Would.{WouldActOn}
 
 -- a claim that is to be bound, to get its class, or to be written Lost
 abbrev pub ClaimsAct : Type 0
 ClaimsAct =
-    (setup : Setup) (lets : Lets) (seat : ℕ) (role : Role) (start : List Entry) (key : Key) (c : ClaimData) (action : Due) → ImportsPass setup.imports → PassesWhileAlike setup lets start → role.kind ≡ seats.Binder
-    → row_at key (world setup start).store.rows ≡ Some (Claim c) → claim_due (world setup start).store.rows c ≡ Some action → ActsOn setup lets seat role start key
+    (setup : Setup) (seat : ℕ) (role : Role) (start : List Entry) (key : Key) (c : ClaimData) (action : Due) → ImportsPass setup.imports → role.kind ≡ seats.Binder
+    → row_at key (world setup start).store.rows ≡ Some (Claim c) → claim_due (world setup start).store.rows c ≡ Some action → WouldActOn setup seat role start key

@@ -1,5 +1,5 @@
 -- How the program ends.
-use Rattle.std.proofs.Common.{◌≡◌, ◌≢◌, ◌≤◌, ◌<◌, ◌∙◌, ℕ, List, String, Some, None, Ok, Err, IfSome, length, refl, sym, ap, subst, true, false, true≢false, arith, inl, inr}
+use Rattle.std.proofs.Common.{◌≡◌, ◌≢◌, ◌≤◌, ◌∙◌, ℕ, List, String, Some, None, Ok, Err, IfSome, length, refl, sym, ap, subst, true≢false, arith, inl, inr}
 use Rattle.std.specs.Prelude.{IsErr, is_err}
 use Rattle.std.specs.declared.result.Result.{Result}
 use Rattle.std.specs.declared.option.Option.{Option}
@@ -15,14 +15,14 @@ use Rattle.history_read.specs.Grammar.{history_of}
 use Rattle.binder_console.specs.declared.status.Status.{Status}
 use Rattle.binder_console.specs.declared.status.Status.TheVariants.{Done, Usage, Refused, Unsettled, ReadFault, WriteFault, Memory, AuditNo}
 use Rattle.binder_console.specs.declared.commands.Task.{Task}
-use Rattle.binder_console.specs.declared.commands.Task.TheVariants.{Replay, Check, Audit, Gen}
+use Rattle.binder_console.specs.declared.commands.Task.TheVariants.{Replay, Run, Check, Audit, Gen}
 use Rattle.binder_console.specs.declared.answers.Answer.{Answer}
 use Rattle.binder_console.specs.declared.answers.Answer.TheVariants as answers
 use Rattle.binder_console.specs.Commands.{task_of}
-use Rattle.binder_console.specs.Ends.{Ends, EndsAnswered, EndsBy, EndsCut, EndsMisused, EndsRefused, EndsUnread, Outside}
+use Rattle.binder_console.specs.Ends.{EndsAnswered, EndsBy, EndsCut, Outside}
 use Rattle.binder_console.specs.Exactly.{AreExact, IsNoInput, IsToBeRefused}
 use Rattle.binder_console.specs.Inputs.{IsInput, IsInputOf, IsReadThrough, IsTooLong, IsTooMuchOf, ReadsNothing, most_input}
-use Rattle.binder_console.specs.Outcomes.{Answers, IsAnswer, IsDueText, OfInput, OfRefusal, OfTask, OfUsage, Refuses, TooLong, Written, Whole, Front, answer_status, answer_text, too_long_text, usage_text}
+use Rattle.binder_console.specs.Outcomes.{Answers, IsAnswer, IsDueText, OfInput, OfRefusal, OfTask, OfUsage, TooLong, Written, Whole, Front, answer_status, answer_text, too_long_text, usage_text}
 
 -- ---- an input that was read, or is too long, is no failed read
 
@@ -98,6 +98,7 @@ no_error r x e err = true≢false (sym err ∙ ap is_err e)
 
 is_an_input : (task : Task) (status : Status) (bytes input text : List ℕ) → IsInput task (Some bytes) input → Answers task status input text → IsNoInput task bytes → ⊥
 is_an_input (Replay budget) status bytes input text read done err = no_error (script_of bytes) done.script (subst (λ (b : List ℕ). script_of b ≡ Ok done.script) (sym read.whole) done.read) err
+is_an_input (Run workers calls budget) status bytes input text read done err = no_error (script_of bytes) done.script (subst (λ (b : List ℕ). script_of b ≡ Ok done.script) (sym read.whole) done.read) err
 is_an_input Check status bytes input text read done err = no_error (list_of bytes) done.1.objects (subst (λ (b : List ℕ). list_of b ≡ Ok done.1.objects) (sym read.whole) done.1.read) err
 is_an_input Audit status bytes input text read done err = no_error (history_of bytes) done.history (subst (λ (b : List ℕ). history_of b ≡ Ok done.history) (sym read.whole) done.read) err
 is_an_input (Gen seed budget) status bytes input text read done err = err

@@ -2,4 +2,5 @@ pub mod Audited
 pub mod Ends
 pub mod Generated
 pub mod Promised
+pub mod Ranges
 pub mod Refusals

@@ -18,11 +18,13 @@ use Rattle.script_laws.specs.Scripts.{IsScript}
 use Rattle.script_laws.proofs.TextsGive.{ScriptGiven, script_gives}
 use Rattle.script_runs.specs.Diligent.{IsDiligentReplay}
 use Rattle.script_runs.specs.Replays.{IsReplay}
+use Rattle.script_threads.specs.Runs.{IsRun}
 use Rattle.script_gen.specs.Generated.{generated}
 use Rattle.printable_law.specs.Laws.{HasOneHistory}
 use Rattle.printable_replays.proofs.Replays.{replay_texts_have_one}
+use Rattle.printable_replays.proofs.Threads.{thread_texts_have_one}
 use Rattle.binder_console.specs.declared.commands.Task.{Task}
-use Rattle.binder_console.specs.declared.commands.Task.TheVariants.{Replay, Gen}
+use Rattle.binder_console.specs.declared.commands.Task.TheVariants.{Replay, Run as RunTask, Gen}
 use Rattle.binder_console.specs.Outcomes.{Answers, IsAnswer, answer_ended}
 use Rattle.binder_console.specs.Replays.{IsPromised, last_summary, replay_text, status_of, summary_text}
 
@@ -92,5 +94,46 @@ gen_answers seed script budget setup past ending input text is played printed =
       ending = ending;
       promised = promised (generated seed) budget past ending p;
       printed = printed ∙ ap (λ (s : Setup). summary_text s past ending) (played.from ∙ ap (λ (s : Script). s.setup) is);
+      ends = refl;
+    })
+
+-- ---- on threads
+
+-- the facts of a run on threads that its call gives
+pub record IsRanOnThreads (script : Script) (workers calls : ℕ) (budget : Option ℕ) (setup : Setup) (past : List Entry) (ending : Drained) : Type 0 where
+  pub calls_are : IsRun script workers calls budget past ending
+  pub actors : AreByActors past
+  pub from : setup ≡ script.setup
+  pub of : IsRunOf setup past
+  pub run : Run setup past
+  pub safe : Safe setup past
+
+run_from_script : (script : Script) (workers calls : ℕ) (budget : Option ℕ) (setup : Setup) (past : List Entry) (ending : Drained)
+    → IsRanOnThreads script workers calls budget setup past ending → IsRanOnThreads script workers calls budget script.setup past ending
+run_from_script script workers calls budget setup past ending p = subst (λ (s : Setup). IsRanOnThreads script workers calls budget s past ending) p.from p
+
+run_has_one : (script : Script) (workers calls : ℕ) (budget : Option ℕ) (past : List Entry) (ending : Drained) (text : List ℕ)
+    → IsScript script → IsRanOnThreads script workers calls budget script.setup past ending → length past < most_entries → text ≡ replay_text script.setup past ending
+    → HasOneHistory text script.setup (reverse past)
+unfolding replay_text
+run_has_one script workers calls budget past ending text is p short printed =
+    let finals : List (List ℕ) = final_lines (world script.setup past).store.rows (last_summary (world script.setup past) ending) in
+    subst (λ (t : List ℕ). HasOneHistory t script.setup (reverse past)) (sym printed)
+    (thread_texts_have_one script workers calls budget past ending finals (record { script_given = is; calls_are = p.calls_are; run = p.run; short = short }))
+
+pub run_answers : (script : Script) (workers calls : ℕ) (budget : Option ℕ) (setup : Setup) (past : List Entry) (ending : Drained) (input text : List ℕ)
+    → script_of input ≡ Ok script → IsRanOnThreads script workers calls budget setup past ending → length past < most_entries → text ≡ replay_text setup past ending
+    → IsAnswer (RunTask workers calls budget) input (answer_ended ending text)
+run_answers script workers calls budget setup past ending input text read ran short printed =
+    let p : IsRanOnThreads script workers calls budget script.setup past ending = run_from_script script workers calls budget setup past ending ran in
+    let same : text ≡ replay_text script.setup past ending = printed ∙ ap (λ (s : Setup). replay_text s past ending) ran.from in
+    by_ending (RunTask workers calls budget) input text ending (record {
+      script = script;
+      past = past;
+      ending = ending;
+      read = read;
+      promised = record { calls_are = p.calls_are; run = p.run; safe = p.safe; enough = actors_give_enough script.setup past p.of p.actors };
+      printed = same;
+      alone = run_has_one script workers calls budget past ending text (read_is_script input script read) p short same;
       ends = refl;
     })

@@ -7,7 +7,7 @@ use Rattle.history_read.specs.Grammar.{history_of}
 use Rattle.binder_console.specs.declared.status.Status.{Status}
 use Rattle.binder_console.specs.declared.status.Status.TheVariants.{Done, Usage, Refused, Unsettled, ReadFault, WriteFault, Memory, AuditNo}
 use Rattle.binder_console.specs.declared.commands.Task.{Task}
-use Rattle.binder_console.specs.declared.commands.Task.TheVariants.{Replay, Check, Audit, Gen}
+use Rattle.binder_console.specs.declared.commands.Task.TheVariants.{Replay, Run, Check, Audit, Gen}
 use Rattle.binder_console.specs.Commands.{task_of}
 use Rattle.binder_console.specs.Ends.{Ends, Outside}
 use Rattle.binder_console.specs.Inputs.{IsReadThrough, IsTooMuch}
@@ -15,6 +15,7 @@ use Rattle.binder_console.specs.Inputs.{IsReadThrough, IsTooMuch}
 -- the task is not done of such an input
 abbrev pub IsNoInput : Task → List ℕ → Type 0
 IsNoInput (Replay budget) input = IsErr (script_of input)
+IsNoInput (Run workers calls budget) input = IsErr (script_of input)
 IsNoInput Check input = IsErr (list_of input)
 IsNoInput Audit input = IsErr (history_of input)
 IsNoInput (Gen seed budget) input = ⊥

@@ -1,11 +1,8 @@
 -- How the program ends, and what it writes. The words, lines and limits are a choice of this project.
-use Rattle.std.specs.Prelude.{ℕ, ◌≡◌, ◌⊎◌, ⊤, List, [], ◌∷◌, ◌++◌, codes, IsErr, Option, Some, None, String}
+use Rattle.std.specs.Prelude.{ℕ, ◌≡◌, List, [], ◌∷◌, ◌++◌, codes, Option, Some, None, String}
 use Rattle.std.specs.declared.alloc.Global.{Global}
 use Rattle.fault_io.specs.Faults.{Rose}
 use Rattle.fault_io.specs.Writing.{Appends, WritesFront}
-use Rattle.object_text.specs.Listing.{list_of}
-use Rattle.script_text.specs.Grammar.{script_of}
-use Rattle.history_read.specs.Grammar.{history_of}
 use Rattle.audit_check.specs.declared.verdict.Verdict.{Verdict}
 use Rattle.audit_check.specs.declared.verdict.Verdict.TheVariants.{Yes, No}
 use Rattle.world_core.specs.declared.drained.Drained.{Drained}
@@ -15,12 +12,12 @@ use Rattle.binder_console.specs.declared.status.Status.TheVariants.{Done, Usage,
 use Rattle.binder_console.specs.declared.answers.Answer.{Answer}
 use Rattle.binder_console.specs.declared.answers.Answer.TheVariants as answers
 use Rattle.binder_console.specs.declared.commands.Task.{Task}
-use Rattle.binder_console.specs.declared.commands.Task.TheVariants.{Replay, Check, Audit, Gen}
+use Rattle.binder_console.specs.declared.commands.Task.TheVariants.{Replay, Run, Check, Audit, Gen}
 use Rattle.binder_console.specs.Audits.{Audits, RefusesHistory}
 use Rattle.binder_console.specs.Checks.{ChecksList, RefusesList}
 use Rattle.binder_console.specs.Commands.{task_of}
-use Rattle.binder_console.specs.Inputs.{IsInput, IsTooLong, IsTooMuch}
-use Rattle.binder_console.specs.Replays.{Generates, Replays}
+use Rattle.binder_console.specs.Inputs.{IsInput, IsTooLong}
+use Rattle.binder_console.specs.Replays.{Generates, Replays, RunsOnThreads}
 use Rattle.binder_console.specs.Scripts.{RefusesScript}
 
 -- the exit status
@@ -48,6 +45,7 @@ too_long_text = line (codes "input: TooLong")
 -- the task is done of the input with this status, and this is what is written
 abbrev pub Answers : Task → Status → List ℕ → List ℕ → Type 0
 Answers (Replay budget) status input text = Replays budget status input text
+Answers (Run workers calls budget) status input text = RunsOnThreads workers calls budget status input text
 Answers Check status input text = (status ≡ Done) × ChecksList input text
 Answers Audit status input text = Audits status input text
 Answers (Gen seed budget) status input text = Generates seed budget status text
@@ -55,6 +53,7 @@ Answers (Gen seed budget) status input text = Generates seed budget status text
 -- the task is not done of the input, and this is what is written
 abbrev pub Refuses : Task → List ℕ → List ℕ → Type 0
 Refuses (Replay budget) input text = RefusesScript input text
+Refuses (Run workers calls budget) input text = RefusesScript input text
 Refuses Check input text = RefusesList input text
 Refuses Audit input text = RefusesHistory input text
 Refuses (Gen seed budget) input text = ⊥

@@ -1,4 +1,4 @@
--- What a replay promises, and what it writes. The newest entry of a history stands first.
+-- What a replay or a run on threads promises, and what it writes. The newest entry of a history stands first.
 -- The format is a choice of this project.
 use Rattle.std.specs.Prelude.{ℕ, ◌≡◌, List, [], Option, length, reverse, Ok}
 use Rattle.call_types.specs.declared.entry.Entry.{Entry}
@@ -18,6 +18,7 @@ use Rattle.script_text.specs.declared.script.Script.{Script}
 use Rattle.script_text.specs.Grammar.{script_of}
 use Rattle.script_runs.specs.Diligent.{AreDiligent}
 use Rattle.script_runs.specs.Replays.{IsReplay}
+use Rattle.script_threads.specs.Runs.{IsRun}
 use Rattle.printable_law.specs.Laws.{HasOneHistory}
 use Rattle.script_gen.specs.Generated.{generated}
 use Rattle.size_law.specs.Enough.{GetEnoughThroughout}
@@ -81,4 +82,26 @@ pub record Generates (seed : ℕ) (budget : Option ℕ) (status : Status) (text 
   pub ending : Drained
   pub promised : IsPromised (generated seed) budget past ending
   pub printed : text ≡ summary_text (generated seed).setup past ending
+  pub ends : status ≡ status_of ending
+
+-- What is promised of the history of a script that was run on threads: no less than of a replay.
+pub record IsPromisedOfThreads (script : Script) (workers calls : ℕ) (budget : Option ℕ) (past : List Entry) (ending : Drained) : Type 0 where
+  -- each user's entries are its lines; so many workers of each kind, and an agent of each node, made so many calls each, and
+  -- were diligent in each of their lives; no other seat has an entry. Then comes a drain, which ended so
+  pub calls_are : IsRun script workers calls budget past ending
+  pub run : Run script.setup past
+  pub safe : Safe script.setup past
+  pub enough : GetEnoughThroughout script.setup past
+
+-- The input is a script, and the text is that of one history from the script's setup, of which all is promised. The status
+-- says how the drain ended.
+pub record RunsOnThreads (workers calls : ℕ) (budget : Option ℕ) (status : Status) (input text : List ℕ) : Type 0 where
+  pub script : Script
+  pub past : List Entry
+  pub ending : Drained
+  pub read : script_of input ≡ Ok script
+  pub promised : IsPromisedOfThreads script workers calls budget past ending
+  pub printed : text ≡ replay_text script.setup past ending
+  -- no other setup and entries that a text can give have this text
+  pub alone : HasOneHistory text script.setup (reverse past)
   pub ends : status ≡ status_of ending

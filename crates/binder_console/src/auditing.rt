@@ -13,8 +13,8 @@ use audit_check::verdict::Verdict;
 use history_read::errors::{BadLine, HistoryError};
 use history_read::reading::read_history;
 use history_read::refusals::refusal_line;
+use piece_print::pieces::PieceText;
 use plain_data::copies::OutOfMemory;
-use plain_data::text::Bytes;
 use std::alloc::Global;
 
 /// What is printed of a verdict on so many entries.
@@ -32,7 +32,7 @@ fn verdict_line(alloc: Global, verdict: Verdict, count: u64) -> Result<String, O
 }
 
 /// A text to be written, told apart by the verdict.
-fn answer_judged(verdict: Verdict, text: Bytes) -> Answer
+fn answer_judged(verdict: Verdict, text: PieceText) -> Answer
     ensures { result ≡ answer_judged verdict text }
 {
     match verdict {
@@ -54,7 +54,7 @@ pub fn audited(alloc: Global, input: &[u8]) -> Result<Answer, HistoryError>
 }
 
 /// The line of a refusal.
-pub fn print_history_refusal(alloc: Global, bad: BadLine) -> Result<Bytes, OutOfMemory>
+pub fn print_history_refusal(alloc: Global, bad: BadLine) -> Result<PieceText, OutOfMemory>
     ensures { IfOk result (λ text. text ≡ history_refusal_text bad) }
 {
     let line = refusal_line(alloc, bad)?;

@@ -10,21 +10,21 @@ use history_text::lines::{Lines, push_objects};
 use kube_types::objects::Object;
 use object_text::errors::{ListError, Member, ObjectError};
 use object_text::listing::read_list;
+use piece_print::pieces::PieceText;
 use plain_data::copies::OutOfMemory;
-use plain_data::text::Bytes;
 use std::alloc::Global;
 
-fn print_objects(alloc: Global, objects: &[Object]) -> Result<Bytes, OutOfMemory>
+fn print_objects(alloc: Global, objects: &[Object]) -> Result<PieceText, OutOfMemory>
     ensures { IfOk result (λ text. text ≡ check_text objects.now) }
 {
     let mut lines = Lines::new(alloc);
     push_objects(&mut lines, objects)?;
-    Ok(lines.into_bytes())
+    Ok(PieceText::of(alloc, lines.into_bytes()))
 }
 
 /// The canonical line of each object, or the first refusal.
 #[tactic(auto, using(crate::proofs::Refusals::refused_is))]
-pub fn checked(alloc: Global, input: &[u8]) -> Result<Bytes, CheckError>
+pub fn checked(alloc: Global, input: &[u8]) -> Result<PieceText, CheckError>
     ensures ok { IfOk result (λ text. ChecksList input.now text) }
     ensures refused { IfRefused result (λ e. list_of input.now ≡ Err e) }
 {
@@ -80,7 +80,7 @@ fn refusal_line(alloc: Global, error: ListError) -> Result<String, OutOfMemory>
 }
 
 /// The line of a refusal.
-pub fn print_refusal(alloc: Global, error: ListError) -> Result<Bytes, OutOfMemory>
+pub fn print_refusal(alloc: Global, error: ListError) -> Result<PieceText, OutOfMemory>
     ensures { IfOk result (λ text. text ≡ refusal_text error) }
 {
     let line = refusal_line(alloc, error)?;

@@ -1,7 +1,7 @@
 //! What the words ask for.
 
-ghost use Rattle.std.specs.Prelude.{◌≡◌};
-ghost use Rattle.binder_console.specs.Commands.{Asks, task_by, task_of};
+ghost use Rattle.std.specs.Prelude.{◌≡◌, IfOk};
+ghost use Rattle.binder_console.specs.Commands.{Asks, IsInRange, task_by, task_of};
 
 use command_words::reading::read_words;
 use command_words::words::{Command, Words, WordsError};
@@ -11,40 +11,55 @@ use std::alloc::Global;
 #[derive(Clone, Copy, Debug, PartialEq, Eq)]
 pub enum Task {
     /// To replay a script. All drains together make at most so many calls; without a number each drain raises it.
-    Replay { budget: Option<u64> },
+    Replay {
+        budget: Option<u64>,
+    },
+    /// To run a script on threads, with so many workers of each kind and so many calls of each worker and agent, and then to
+    /// drain.
+    Run {
+        workers: u64,
+        calls: u64,
+        budget: Option<u64>,
+    },
     /// To print the objects of a manifest or of a list of manifests.
     Check,
     /// To judge a history.
     Audit,
     /// To replay the script that the seed gives, and to print its summary alone. No input is read.
-    Gen { seed: u64, budget: Option<u64> },
+    Gen {
+        seed: u64,
+        budget: Option<u64>,
+    },
 }
 
-/// The task of a command with its options, if it is built.
-fn task_by(said: Words) -> Option<Task>
+/// The task of a command with its options.
+fn task_by(said: Words) -> Task
     ensures { result ≡ task_by said }
 {
     match said.command {
-        Command::Replay => Some(Task::Replay {
+        Command::Replay => Task::Replay {
             budget: said.options.budget,
-        }),
-        Command::Check => Some(Task::Check),
-        Command::Audit => Some(Task::Audit),
-        Command::Gen => Some(Task::Gen {
+        },
+        Command::Run => Task::Run {
+            workers: said.options.workers,
+            calls: said.options.calls,
+            budget: said.options.budget,
+        },
+        Command::Check => Task::Check,
+        Command::Audit => Task::Audit,
+        Command::Gen => Task::Gen {
             seed: said.options.seed,
             budget: said.options.budget,
-        }),
-        Command::Run => None,
+        },
     }
 }
 
 /// What the words after the program's name ask for.
+#[tactic(auto, using(crate::proofs::Ranges::task_in_range))]
 pub fn read_task(alloc: Global, words: &[String]) -> Result<Task, WordsError>
-    ensures { Asks result (task_of words.now) }
+    ensures asks { Asks result (task_of words.now) }
+    ensures range { IfOk result IsInRange }
 {
     let said = read_words(alloc, words)?;
-    match task_by(said) {
-        Some(task) => Ok(task),
-        None => Err(WordsError::Usage),
-    }
+    Ok(task_by(said))
 }

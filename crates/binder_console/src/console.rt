@@ -14,6 +14,8 @@ use crate::status::Status;
 use command_words::words::WordsError;
 use fault_io::ends::{ReadError, Sink, Source, write_all};
 use fault_io::gate::Gate;
+use piece_print::pieces::PieceText;
+use piece_print::sinks::write_text;
 use std::alloc::Global;
 use std::sync::Wait;
 use std::thread::Threads;
@@ -34,16 +36,27 @@ fn end_with<K: Sink>(sink: &mut K, text: &[u8], status: Status) -> Status
     }
 }
 
+/// Writes the text. The status is this one, but for a fault.
+fn end_pieces<K: Sink>(sink: &mut K, text: &PieceText, status: Status) -> Status
+    ensures written { Written (K.written sink.old) (K.written sink.new) (K.faults sink.old) (K.faults sink.new) text.now status result }
+    ensures later { K.faults sink.old ≤ K.faults sink.new }
+{
+    match write_text(sink, text) {
+        Ok(_) => status,
+        Err(_) => Status::WriteFault,
+    }
+}
+
 /// Writes what came of an input. The status is the answer's, but for a fault.
 fn end_answer<K: Sink>(sink: &mut K, answer: Answer) -> Status
     ensures written { Written (K.written sink.old) (K.written sink.new) (K.faults sink.old) (K.faults sink.new) (answer_text answer) (answer_status answer) result }
     ensures later { K.faults sink.old ≤ K.faults sink.new }
 {
     match answer {
-        Answer::Output(text) => end_with(sink, text.as_slice(), Status::Done),
-        Answer::Unsettled(text) => end_with(sink, text.as_slice(), Status::Unsettled),
-        Answer::No(text) => end_with(sink, text.as_slice(), Status::AuditNo),
-        Answer::Refusal(text) => end_with(sink, text.as_slice(), Status::Refused),
+        Answer::Output(text) => end_pieces(sink, &text, Status::Done),
+        Answer::Unsettled(text) => end_pieces(sink, &text, Status::Unsettled),
+        Answer::No(text) => end_pieces(sink, &text, Status::AuditNo),
+        Answer::Refusal(text) => end_pieces(sink, &text, Status::Refused),
     }
 }
 
@@ -51,6 +64,9 @@ fn end_answer<K: Sink>(sink: &mut K, answer: Answer) -> Status
 ///
 /// - `replay` reads a script, of at most 1 MiB and within the limits of scripts, and does its lines in order and then a
 ///   drain. `--budget` says how many calls all drains together may make. An option that a command does not use has no effect.
+/// - `run` reads such a script too. Its users, `--workers` workers of each of five kinds, and an agent of each node work on one
+///   world at the same time, each on a thread of its own where one can be made. Each user does its lines in order, each worker
+///   and agent makes `--calls` calls. Then comes a drain on one thread. Turns and drains of the script are passed over.
 /// - `check` prints the canonical line of each manifest.
 /// - `audit` reads a history, of at most 256 MiB and up to its line `end`, and judges it: `yes N entries`, or with status 7
 ///   `no: entry N RULE`, the first entry that breaks it and the rule.
@@ -68,6 +84,11 @@ fn end_answer<K: Sink>(sink: &mut K, answer: Answer) -> Status
 /// numbers `gen` prints (`Generates`). What `replay` writes is the text of this history alone, and of no other that a text
 /// can give (`alone`).
 ///
+/// Under `run` the same is promised of the one history that all threads leave, whatever their schedule (`RunsOnThreads`): it has
+/// each user's lines in order, each once, and of each worker and agent the calls that it was to make, or fewer where an
+/// agent was told that its epoch is stale; then the drain's. Not said: that a thread gets on, who comes first, and that two
+/// work side by side.
+///
 /// Of an audit, with status 0 or 7 (`Audits`): the input is the text of one history, and of no other. With 0 it is a run: each
 /// reply is the world's, each controller asked only what it had been told allowed, and it is safe as above at every point;
 /// of sizes, diligence and a script nothing is said. With 7 the entry named is the first that breaks it.
@@ -76,14 +97,14 @@ fn end_answer<K: Sink>(sink: &mut K, answer: Answer) -> Status
 /// is written; 5 a write failed, a front of what was due is written; 6 memory was wanting, nothing is written; 7 the audited
 /// history is no run. Statuses 1 and 2 come exactly where the words and the input ask for them (`ends_are_exact`).
 ///
-/// The gate is not asked yet, and no thread is started.
+/// Threads are started under `run` alone. The gate is told there before and after each call of a worker or an agent.
 pub fn pvbind<R: Threads + Wait + Sync, S: Source, K: Sink, G: Gate>(
-    _rt: &R,
+    rt: &R,
     alloc: Global,
     words: &[String],
     source: &mut S,
     sink: &mut K,
-    _gate: &G,
+    gate: &G,
 ) -> Status
     // What the status says of the words, of what the source and the sink told before, and of what they tell now.
     ensures ends { let before : Outside = record { left = S.left source.old; read_faults = S.faults source.old; written = K.written sink.old; write_faults = K.faults sink.old } in
@@ -103,7 +124,7 @@ pub fn pvbind<R: Threads + Wait + Sync, S: Source, K: Sink, G: Gate>(
         Err(ReadError::OutOfMemory) => return Status::Memory,
         Err(ReadError::TooLong) => return end_with(sink, TOO_LONG.as_bytes(), Status::Refused),
     };
-    match answer_of(alloc, task, input.as_slice()) {
+    match answer_of(rt, alloc, task, input.as_slice(), gate) {
         Ok(answer) => end_answer(sink, answer),
         Err(_) => Status::Memory,
     }

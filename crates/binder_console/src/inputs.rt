@@ -21,7 +21,13 @@ fn most_input(task: Task) -> Option<usize>
     ensures { result ≡ most_input task }
 {
     match task {
-        Task::Replay { budget: _ } | Task::Check => Some(MOST_TEXT),
+        Task::Replay { budget: _ }
+        | Task::Run {
+            workers: _,
+            calls: _,
+            budget: _,
+        }
+        | Task::Check => Some(MOST_TEXT),
         Task::Audit => Some(MOST_HISTORY),
         Task::Gen { seed: _, budget: _ } => None,
     }

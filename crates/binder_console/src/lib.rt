@@ -1,4 +1,4 @@
-//! The program: it reads its words and its input, replays or checks, and prints.
+//! The program: it reads its words and its input, replays, runs on threads or checks, and prints.
 //!
 //! `console::pvbind` is the one call that `main` makes, and its clauses are the product's promises: which
 //! bytes are written with each status (`specs/Ends`), and what holds of the history that they tell
@@ -17,4 +17,5 @@ mod generating;
 mod inputs;
 mod printing;
 mod replaying;
+mod running;
 pub mod status;

@@ -7,23 +7,24 @@ ghost use Rattle.binder_model.specs.World.{world as world_of};
 ghost use Rattle.binder_console.specs.Replays.{ending_of, last_summary, replay_text, summary_text};
 
 use history_text::counts::summary_of;
-use history_text::lines::{Lines, push_final, push_history};
+use history_text::histories::print_all;
+use history_text::lines::Lines;
 use history_text::summaries::push_summary;
 use history_text::summary::{Ending, Summary};
 use kube_types::copies::Plain;
+use piece_print::pieces::PieceText;
 use plain_data::copies::OutOfMemory;
-use plain_data::text::Bytes;
 use std::alloc::Global;
 use world_core::drained::Drained;
 use world_core::world::World;
 
 /// A line alone.
-pub fn print_line(alloc: Global, line: &str) -> Result<Bytes, OutOfMemory>
+pub fn print_line(alloc: Global, line: &str) -> Result<PieceText, OutOfMemory>
     ensures { IfOk result (λ text. text ≡ with_line [] line.now) }
 {
     let mut lines = Lines::new(alloc);
     lines.push(line.as_bytes())?;
-    Ok(lines.into_bytes())
+    Ok(PieceText::of(alloc, lines.into_bytes()))
 }
 
 fn ending_of(alloc: Global, ending: &Drained) -> Result<Ending, OutOfMemory>
@@ -58,24 +59,35 @@ fn summary(alloc: Global, world: &World, ending: &Drained) -> Result<Summary, Ou
 
 /// The numbers of a world, and how its drains ended: seven lines.
 #[tactic(auto, unfolding(crate::specs::Replays::summary_text))]
-pub fn print_summary(alloc: Global, world: &World, ending: &Drained) -> Result<Bytes, OutOfMemory>
+pub fn print_summary(
+    alloc: Global,
+    world: &World,
+    ending: &Drained,
+) -> Result<PieceText, OutOfMemory>
     ensures { IfOk result (λ text. text ≡ summary_text world.now.setup world.now.past ending.now) }
 {
     let summary = summary(alloc, world, ending)?;
     let mut lines = Lines::new(alloc);
     push_summary(&mut lines, alloc, &summary)?;
-    Ok(lines.into_bytes())
+    Ok(PieceText::of(alloc, lines.into_bytes()))
 }
 
 /// The history of a world, its objects and its numbers.
 #[tactic(auto, unfolding(crate::specs::Replays::replay_text))]
-pub fn print_replay(alloc: Global, world: &World, ending: &Drained) -> Result<Bytes, OutOfMemory>
+pub fn print_replay(
+    alloc: Global,
+    world: &World,
+    ending: &Drained,
+) -> Result<PieceText, OutOfMemory>
     ensures text { IfOk result (λ text. text ≡ replay_text world.now.setup world.now.past ending.now) }
     ensures short { IfOk result (λ text. length world.now.past < most_entries) }
 {
     let summary = summary(alloc, world, ending)?;
-    let mut lines = Lines::new(alloc);
-    push_history(&mut lines, alloc, world.setup(), world.history())?;
-    push_final(&mut lines, alloc, world.store().objects(), &summary)?;
-    Ok(lines.into_bytes())
+    print_all(
+        alloc,
+        world.setup(),
+        world.history(),
+        world.store().objects(),
+        &summary,
+    )
 }

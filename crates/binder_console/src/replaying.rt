@@ -9,8 +9,8 @@ ghost use Rattle.binder_console.specs.Scripts.{IfNotReplayed, script_refusal_tex
 use crate::answers::Answer;
 use crate::commands::Task;
 use crate::printing::{print_line, print_replay};
+use piece_print::pieces::PieceText;
 use plain_data::copies::OutOfMemory;
-use plain_data::text::Bytes;
 use script_runs::replay::replay;
 use script_text::errors::{BadLine, ScriptError};
 use script_text::reading::read_script;
@@ -21,7 +21,7 @@ use world_core::drained::Drained;
 
 /// The script of an input, which keeps the limits of scripts.
 #[tactic(auto, using(script_runs::proofs::Readable::read_is_readable))]
-fn read_readable(alloc: Global, input: &[u8]) -> Result<Script, ScriptError>
+pub fn read_readable(alloc: Global, input: &[u8]) -> Result<Script, ScriptError>
     ensures ok { IfOk result (λ script. script_of input.now ≡ Ok script) }
     ensures readable { IfOk result IsReadable }
     ensures refused { IfNotReplayed result (λ bad. script_of input.now ≡ Err bad) }
@@ -31,7 +31,7 @@ fn read_readable(alloc: Global, input: &[u8]) -> Result<Script, ScriptError>
 }
 
 /// A text to be written, told apart by how the last drain ended.
-pub fn answer_ended(ending: &Drained, text: Bytes) -> Answer
+pub fn answer_ended(ending: &Drained, text: PieceText) -> Answer
     ensures { result ≡ answer_ended ending.now text }
 {
     match ending {
@@ -57,7 +57,7 @@ pub fn replayed(alloc: Global, input: &[u8], budget: Option<u64>) -> Result<Answ
 }
 
 /// The line of a refusal.
-pub fn print_script_refusal(alloc: Global, bad: BadLine) -> Result<Bytes, OutOfMemory>
+pub fn print_script_refusal(alloc: Global, bad: BadLine) -> Result<PieceText, OutOfMemory>
     ensures { IfOk result (λ text. text ≡ script_refusal_text bad) }
 {
     let line = refusal_line(alloc, bad)?;

@@ -1,7 +1,7 @@
 -- The grammar of the command line, and what words of it say: one command word, and options `--name N` or
 -- `--name=N` in any place. The forms are those of getopt_long and of the crate `clap`; the commands, the names of
 -- the options, their ranges and defaults are a choice of this project.
-use Rattle.std.specs.Prelude.{⊤, ℕ, Bool, true, not, ◌&&◌, ◌||◌, List, [], ◌∷◌, Option, Some, None, length, nat_le, ◌≡◌, codes, bytes_eq, if◌then◌else◌, find, option_map, option_and_then, unwrap_or}
+use Rattle.std.specs.Prelude.{⊤, ℕ, ◌≤◌, Bool, true, not, ◌&&◌, ◌||◌, List, [], ◌∷◌, Option, Some, None, length, nat_le, ◌≡◌, codes, bytes_eq, if◌then◌else◌, find, option_map, option_and_then, unwrap_or}
 use Rattle.std.specs.List.{list_all, list_any}
 use Rattle.std.specs.Char.{is_ascii_digit}
 use Rattle.std.specs.Str.Parse.{digits_value}
@@ -102,6 +102,10 @@ options_by given =
     (number_in 0 1000 (given (codes "calls"))))
     (number_in 0 999999999 (given (codes "seed"))))
     (number_in 1 4 (given (codes "workers")))
+
+-- the numbers of the options that have a range of their own
+abbrev pub AreInRange : Options → Type 0
+AreInRange options = (1 ≤ options.workers) × (options.workers ≤ 4) × (options.calls ≤ 1000)
 
 abbrev pub words_by : (Text → Option Text) → Option Words
 words_by given = option_and_then (λ command. option_map (λ options. record { command = command; options = options })

@@ -36,14 +36,14 @@ use Rattle.worker_core.specs.declared.task.First.{First}
 use Rattle.worker_core.specs.declared.task.Task.TheVariants as tasks
 use Rattle.worker_core.specs.States.{ActorState}
 use Rattle.worker_core.specs.Tasks.{IsDecision, IsFirstOf, claim_guard_first, under_after}
-use Rattle.worker_threads.specs.Rounds.{Lets}
 use Rattle.write_law.specs.Writes.{IsStored}
 use Rattle.write_law.proofs.Claims.{claim_guard_lasts, claim_unguard_lasts}
 use Rattle.alike_law.specs.Alike.{AreAlike}
 use Rattle.alike_law.proofs.Binding.{claim_guard_plain}
 use Rattle.alike_law.proofs.Rows.{plain_claim}
-use Rattle.slot_law.specs.Slots.{IsDecisionPoint, Now, Then, WillLast, own_entry}
-use Rattle.due_law.specs.Acts.{ClaimGuardsAct, PassesWhileAlike}
+use Rattle.slot_law.specs.Slots.{IsDecisionPoint, own_entry}
+use Rattle.slot_law.specs.Would.{AtOnce, Later, WouldLast}
+use Rattle.due_law.specs.Acts.{ClaimGuardsAct}
 use Rattle.due_law.proofs.Deciding.{BeginsLasting, acts_by, claim_alike, stored}
 use Rattle.due_law.proofs.Guards.{GuardOrUnguard, IsGuard, IsUnguard, one_of}
 use Rattle.due_law.proofs.Known.{rows_known}
@@ -109,7 +109,7 @@ guard_any true true false other e = absurd (true≢false (sym (ap is_there e)))
 guard_any true true true other e = absurd (true≢false (sym (ap is_there e)))
 guard_any true false used other e = absurd (true≢false (sym (ap is_there e)))
 
-module _ (setup : Setup) (lets : Lets) (seat : ℕ) (role : Role) (start : List Entry) (key : Key) (c : ClaimData) (action : Due) (pass : ImportsPass setup.imports) (passes : PassesWhileAlike setup lets start) (kind : role.kind ≡ seats.ClaimProtect)
+module _ (setup : Setup) (seat : ℕ) (role : Role) (start : List Entry) (key : Key) (c : ClaimData) (action : Due) (pass : ImportsPass setup.imports) (kind : role.kind ≡ seats.ClaimProtect)
     (there : row_at key (world setup start).store.rows ≡ Some (Claim c)) (due : claim_guard_due (world setup start).store.rows c ≡ Some action) where
   controller : is_user role.kind ≡ false
   controller = ap is_user kind
@@ -141,7 +141,7 @@ module _ (setup : Setup) (lets : Lets) (seat : ℕ) (role : Role) (start : List 
     decided : (first : First) → IsDecision s.role s.memory (all_objects s.caches) key first → first ≡ claim_guard_first (claim_guard_for d (claim_guard_due (all_objects s.caches) d))
     decided first x = (subst (λ k. IsFirstOf k s.role.node s.memory (all_objects s.caches) key first) s_kind x) ∙ ap (λ y. claim_guard_first (claim_guard_begins (all_objects s.caches) y)) seen
 
-    begins_by : GuardOrUnguard (claim_guard_due (world setup h).store.rows d) → BeginsLasting setup lets seat role key s h
+    begins_by : GuardOrUnguard (claim_guard_due (world setup h).store.rows d) → BeginsLasting setup seat role start key s h
     unfolding claim_guard_call claim_moved
     begins_by (IsGuard e) =
         let due_seen : claim_guard_due (all_objects s.caches) d ≡ Some dues.Guard = guard_any (is_deleting d.meta) (is_protected_claim d) _ (list_any (uses d) (all_objects s.caches)) e in
@@ -150,7 +150,7 @@ module _ (setup : Setup) (lets : Lets) (seat : ℕ) (role : Role) (start : List 
           call = _;
           only = λ first x. decided first x ∙ ap (λ y. claim_guard_first (claim_guard_for d y)) due_seen;
           asks = refl;
-          will = Now (passes h _ p.alike) (claim_guard_lasts setup (world setup h) role.kind d controller on_store e);
+          will = AtOnce p.alike (claim_guard_lasts setup (world setup h) role.kind d controller on_store e);
         }
     begins_by (IsUnguard e) =
         let parts = unguard_unused (is_deleting d.meta) (is_protected_claim d) (list_any (uses d) (world setup h).store.rows) e in
@@ -160,7 +160,7 @@ module _ (setup : Setup) (lets : Lets) (seat : ℕ) (role : Role) (start : List 
           call = requests.List kinds.Pod (Some d.meta.namespace);
           only = λ first x. decided first x ∙ ap (λ y. claim_guard_first (claim_guard_for d y)) due_seen;
           asks = rw known refl;
-          will = Then (passes h _ p.alike) (record { key = key; task = tasks.ClaimProtect (record { claim = d; step = steps.Drops }); call = claim_write_over d (unguarded_claim d) }) (after_list parts.2) (then_ e);
+          will = Later p.alike (record { key = key; task = tasks.ClaimProtect (record { claim = d; step = steps.Drops }); call = claim_write_over d (unguarded_claim d) }) (after_list parts.2) (then_ e);
         }
       where
         after_list : list_any (uses d) (world setup h).store.rows ≡ false
@@ -178,14 +178,14 @@ module _ (setup : Setup) (lets : Lets) (seat : ℕ) (role : Role) (start : List 
         still = subst (AreAlike (world setup start)) (sym same_world) p.alike
 
         then_ : claim_guard_due (world setup h).store.rows d ≡ Some dues.Unguard
-            → WillLast setup lets seat role.kind (own_entry setup seat role.kind h (requests.List kinds.Pod (Some d.meta.namespace)) ∷ h) (record { key = key; task = tasks.ClaimProtect (record { claim = d; step = steps.Drops }); call = claim_write_over d (unguarded_claim d) })
-        then_ e = Now (passes _ _ still) (claim_unguard_lasts setup _ role.kind d controller (subst (λ w. IsStored w (Claim d)) (sym same_world) on_store) (ap (λ (w : World). claim_guard_due w.store.rows d) same_world ∙ e))
+            → WouldLast setup seat role.kind start (own_entry setup seat role.kind h (requests.List kinds.Pod (Some d.meta.namespace)) ∷ h) (record { key = key; task = tasks.ClaimProtect (record { claim = d; step = steps.Drops }); call = claim_write_over d (unguarded_claim d) })
+        then_ e = AtOnce still (claim_unguard_lasts setup _ role.kind d controller (subst (λ w. IsStored w (Claim d)) (sym same_world) on_store) (ap (λ (w : World). claim_guard_due w.store.rows d) same_world ∙ e))
 
-    begins : BeginsLasting setup lets seat role key s h
+    begins : BeginsLasting setup seat role start key s h
     begins = begins_by (one_of (is_deleting d.meta) (is_protected_claim d) (list_any (uses d) (world setup h).store.rows) action due_here)
 
-  at_point : (s : ActorState) (h : List Entry) → IsDecisionPoint setup seat role start s h → BeginsLasting setup lets seat role key s h
+  at_point : (s : ActorState) (h : List Entry) → IsDecisionPoint setup seat role start s h → BeginsLasting setup seat role start key s h
   at_point s h p = let at = claim_alike (world setup start) (world setup h) key c p.alike there in begins s h p at.claim at.is at.same
 
 pub claim_guards_act : ClaimGuardsAct
-claim_guards_act setup lets seat role start key c action pass passes kind there due = acts_by setup lets seat role start key (at_point setup lets seat role start key c action pass passes kind there due)
+claim_guards_act setup seat role start key c action pass kind there due = acts_by setup seat role start key (at_point setup seat role start key c action pass kind there due)

@@ -22,36 +22,36 @@ use Rattle.worker_core.specs.declared.task.Task.{Task}
 use Rattle.worker_core.specs.declared.task.Under.{Under}
 use Rattle.worker_core.specs.States.{ActorState}
 use Rattle.worker_core.specs.Tasks.{GivesCall, GivesNone, IsDecision, task_call}
-use Rattle.worker_threads.specs.Rounds.{Lets}
 use Rattle.write_law.specs.Lasting.{content_of}
 use Rattle.write_law.specs.Writes.{IsStored}
 use Rattle.write_law.proofs.Valid.{rows_are_valid}
 use Rattle.alike_law.specs.Alike.{AreAlike}
 use Rattle.alike_law.proofs.Rows.{plain_claim, plain_volume, row_plain}
-use Rattle.slot_law.specs.Slots.{ActsOn, IsDecisionPoint, WillLast}
+use Rattle.slot_law.specs.Slots.{IsDecisionPoint}
+use Rattle.slot_law.specs.Would.{WouldActOn, WouldLast}
 
 -- the decision on the key begins this task, with this call, and what is then under way will make a call that lasts
-pub record BeginsLasting (setup : Setup) (lets : Lets) (seat : ℕ) (role : Role) (key : Key) (s : ActorState) (h : List Entry) : Type 0 where
+pub record BeginsLasting (setup : Setup) (seat : ℕ) (role : Role) (start : List Entry) (key : Key) (s : ActorState) (h : List Entry) : Type 0 where
   pub task : Task
   pub call : Request
   pub only : (first : First) → IsDecision s.role s.memory (all_objects s.caches) key first → first ≡ firsts.Begins task
   pub asks : task_call task ≡ Some call
-  pub will : WillLast setup lets seat role.kind h (record { key = key; task = task; call = call })
+  pub will : WouldLast setup seat role.kind start h (record { key = key; task = task; call = call })
 
 abbrev task_in : Task → First → Task
 task_in t (firsts.Begins task) = task
 task_in t first = t
 
-pub acts_by : (setup : Setup) (lets : Lets) (seat : ℕ) (role : Role) (start : List Entry) (key : Key) → ((s : ActorState) (h : List Entry) → IsDecisionPoint setup seat role start s h → BeginsLasting setup lets seat role key s h) → ActsOn setup lets seat role start key
-acts_by setup lets seat role start key begins = record { lasts = lasts; acts = acts }
+pub acts_by : (setup : Setup) (seat : ℕ) (role : Role) (start : List Entry) (key : Key) → ((s : ActorState) (h : List Entry) → IsDecisionPoint setup seat role start s h → BeginsLasting setup seat role start key s h) → WouldActOn setup seat role start key
+acts_by setup seat role start key begins = record { lasts = lasts; acts = acts }
   where
-    lasts : (s : ActorState) (h : List Entry) (u : Under) → IsDecisionPoint setup seat role start s h → u.key ≡ key → GivesCall s.role s.memory (all_objects s.caches) u → WillLast setup lets seat role.kind h u
+    lasts : (s : ActorState) (h : List Entry) (u : Under) → IsDecisionPoint setup seat role start s h → u.key ≡ key → GivesCall s.role s.memory (all_objects s.caches) u → WouldLast setup seat role.kind start h u
     lasts s h u p own gives =
         let b = begins s h p in
         let decided : IsDecision s.role s.memory (all_objects s.caches) key (firsts.Begins u.task) = subst (λ k. IsDecision s.role s.memory (all_objects s.caches) k (firsts.Begins u.task)) own gives.decided in
         let task : u.task ≡ b.task = ap (task_in u.task) (b.only (firsts.Begins u.task) decided) in
         let call : u.call ≡ b.call = one u.call b.call (sym gives.call ∙ (ap task_call task ∙ b.asks)) in
-        subst (WillLast setup lets seat role.kind h) (λ i. record { key = (sym own) i; task = (sym task) i; call = (sym call) i }) b.will
+        subst (WouldLast setup seat role.kind start h) (λ i. record { key = (sym own) i; task = (sym task) i; call = (sym call) i }) b.will
 
     acts : (s : ActorState) (h : List Entry) (first : First) → IsDecisionPoint setup seat role start s h → GivesNone s.role s.memory (all_objects s.caches) key first → ⊥
     acts s h first p none = let b = begins s h p in none_some (sym (none.none b.task (b.only first none.decided)) ∙ b.asks)
@@ -116,23 +116,23 @@ stored setup h key o pass there = record {
 }
 
 -- one decision on the key begins a task that will make a call that lasts; others may begin others
-pub record DecisionLasts (setup : Setup) (lets : Lets) (seat : ℕ) (role : Role) (key : Key) (h : List Entry) (first : First) : Type 0 where
+pub record DecisionLasts (setup : Setup) (seat : ℕ) (role : Role) (start : List Entry) (key : Key) (h : List Entry) (first : First) : Type 0 where
   pub task : Task
   pub call : Request
   pub is : first ≡ firsts.Begins task
   pub asks : task_call task ≡ Some call
-  pub will : WillLast setup lets seat role.kind h (record { key = key; task = task; call = call })
+  pub will : WouldLast setup seat role.kind start h (record { key = key; task = task; call = call })
 
-pub acts_each : (setup : Setup) (lets : Lets) (seat : ℕ) (role : Role) (start : List Entry) (key : Key)
-    → ((s : ActorState) (h : List Entry) → IsDecisionPoint setup seat role start s h → (first : First) → IsDecision s.role s.memory (all_objects s.caches) key first → DecisionLasts setup lets seat role key h first) → ActsOn setup lets seat role start key
-acts_each setup lets seat role start key each = record { lasts = lasts; acts = acts }
+pub acts_each : (setup : Setup) (seat : ℕ) (role : Role) (start : List Entry) (key : Key)
+    → ((s : ActorState) (h : List Entry) → IsDecisionPoint setup seat role start s h → (first : First) → IsDecision s.role s.memory (all_objects s.caches) key first → DecisionLasts setup seat role start key h first) → WouldActOn setup seat role start key
+acts_each setup seat role start key each = record { lasts = lasts; acts = acts }
   where
-    lasts : (s : ActorState) (h : List Entry) (u : Under) → IsDecisionPoint setup seat role start s h → u.key ≡ key → GivesCall s.role s.memory (all_objects s.caches) u → WillLast setup lets seat role.kind h u
+    lasts : (s : ActorState) (h : List Entry) (u : Under) → IsDecisionPoint setup seat role start s h → u.key ≡ key → GivesCall s.role s.memory (all_objects s.caches) u → WouldLast setup seat role.kind start h u
     lasts s h u p own gives =
         let b = each s h p (firsts.Begins u.task) (subst (λ k. IsDecision s.role s.memory (all_objects s.caches) k (firsts.Begins u.task)) own gives.decided) in
         let task : u.task ≡ b.task = ap (task_in u.task) b.is in
         let call : u.call ≡ b.call = one u.call b.call (sym gives.call ∙ (ap task_call task ∙ b.asks)) in
-        subst (WillLast setup lets seat role.kind h) (λ i. record { key = (sym own) i; task = (sym task) i; call = (sym call) i }) b.will
+        subst (WouldLast setup seat role.kind start h) (λ i. record { key = (sym own) i; task = (sym task) i; call = (sym call) i }) b.will
 
     acts : (s : ActorState) (h : List Entry) (first : First) → IsDecisionPoint setup seat role start s h → GivesNone s.role s.memory (all_objects s.caches) key first → ⊥
     acts s h first p none = let b = each s h p first none.decided in none_some (sym (none.none b.task b.is) ∙ b.asks)

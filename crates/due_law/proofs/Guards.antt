@@ -25,10 +25,10 @@ use Rattle.worker_core.specs.declared.task.First.{First}
 use Rattle.worker_core.specs.declared.task.Task.TheVariants as tasks
 use Rattle.worker_core.specs.States.{ActorState}
 use Rattle.worker_core.specs.Tasks.{IsDecision, IsFirstOf, volume_guard_first}
-use Rattle.worker_threads.specs.Rounds.{Lets}
 use Rattle.write_law.proofs.Volumes.{volume_guard_lasts, volume_unguard_lasts}
-use Rattle.slot_law.specs.Slots.{IsDecisionPoint, Now}
-use Rattle.due_law.specs.Acts.{PassesWhileAlike, VolumeGuardsAct}
+use Rattle.slot_law.specs.Slots.{IsDecisionPoint}
+use Rattle.slot_law.specs.Would.{AtOnce}
+use Rattle.due_law.specs.Acts.{VolumeGuardsAct}
 use Rattle.due_law.proofs.Deciding.{BeginsLasting, IsVolumeAt, acts_by, stored, volume_alike}
 
 abbrev is_action : Due → Option Due → Bool
@@ -52,12 +52,12 @@ one_of true false c action e = absurd (true≢false (sym (ap is_due e)))
 one_of false false c action e = IsGuard refl
 one_of false true c action e = absurd (true≢false (sym (ap is_due e)))
 
-module _ (setup : Setup) (lets : Lets) (seat : ℕ) (role : Role) (start : List Entry) (key : Key) (v : VolumeData) (pass : ImportsPass setup.imports) (passes : PassesWhileAlike setup lets start) (kind : role.kind ≡ seats.VolumeProtect)
+module _ (setup : Setup) (seat : ℕ) (role : Role) (start : List Entry) (key : Key) (v : VolumeData) (pass : ImportsPass setup.imports) (kind : role.kind ≡ seats.VolumeProtect)
     (there : row_at key (world setup start).store.rows ≡ Some (Volume v)) where
   controller : is_user role.kind ≡ false
   controller = ap is_user kind
 
-  at_point : (s : ActorState) (h : List Entry) → IsDecisionPoint setup seat role start s h → GuardOrUnguard (volume_guard_due v) → BeginsLasting setup lets seat role key s h
+  at_point : (s : ActorState) (h : List Entry) → IsDecisionPoint setup seat role start s h → GuardOrUnguard (volume_guard_due v) → BeginsLasting setup seat role start key s h
   unfolding volume_guard_call
   at_point s h p due = by (volume_alike (world setup start) (world setup h) key v p.alike there)
     where
@@ -67,7 +67,7 @@ module _ (setup : Setup) (lets : Lets) (seat : ℕ) (role : Role) (start : List 
       followed : follows s.role.kind key.kind ≡ true
       followed = ap (λ k. follows k key.kind) s_kind ∙ ap (λ (k : Key). follows seats.VolumeProtect k.kind) (sym (row_at_key key (Volume v) (world setup start).store.rows there))
 
-      by : IsVolumeAt (row_at key (world setup h).store.rows) v → BeginsLasting setup lets seat role key s h
+      by : IsVolumeAt (row_at key (world setup h).store.rows) v → BeginsLasting setup seat role start key s h
       by at = act due
         where
           due_same : volume_guard_due at.volume ≡ volume_guard_due v
@@ -79,7 +79,7 @@ module _ (setup : Setup) (lets : Lets) (seat : ℕ) (role : Role) (start : List 
           decided : (first : First) → IsDecision s.role s.memory (all_objects s.caches) key first → first ≡ volume_guard_first (volume_guard_for at.volume (volume_guard_due at.volume))
           decided first d = (subst (λ k. IsFirstOf k s.role.node s.memory (all_objects s.caches) key first) s_kind d) ∙ ap (λ x. volume_guard_first (volume_guard_begins x)) seen
 
-          act : GuardOrUnguard (volume_guard_due v) → BeginsLasting setup lets seat role key s h
+          act : GuardOrUnguard (volume_guard_due v) → BeginsLasting setup seat role start key s h
           act (IsGuard e) =
               let due_is : volume_guard_due at.volume ≡ Some dues.Guard = due_same ∙ e in
               record {
@@ -87,7 +87,7 @@ module _ (setup : Setup) (lets : Lets) (seat : ℕ) (role : Role) (start : List 
                 call = _;
                 only = λ first d. decided first d ∙ ap (λ x. volume_guard_first (volume_guard_for at.volume x)) due_is;
                 asks = refl;
-                will = Now (passes h _ p.alike) (volume_guard_lasts setup (world setup h) role.kind at.volume controller (stored setup h key (Volume at.volume) pass at.is) due_is);
+                will = AtOnce p.alike (volume_guard_lasts setup (world setup h) role.kind at.volume controller (stored setup h key (Volume at.volume) pass at.is) due_is);
               }
           act (IsUnguard e) =
               let due_is : volume_guard_due at.volume ≡ Some dues.Unguard = due_same ∙ e in
@@ -96,9 +96,9 @@ module _ (setup : Setup) (lets : Lets) (seat : ℕ) (role : Role) (start : List 
                 call = _;
                 only = λ first d. decided first d ∙ ap (λ x. volume_guard_first (volume_guard_for at.volume x)) due_is;
                 asks = refl;
-                will = Now (passes h _ p.alike) (volume_unguard_lasts setup (world setup h) role.kind at.volume controller (stored setup h key (Volume at.volume) pass at.is) due_is);
+                will = AtOnce p.alike (volume_unguard_lasts setup (world setup h) role.kind at.volume controller (stored setup h key (Volume at.volume) pass at.is) due_is);
               }
 
 pub volume_guards_act : VolumeGuardsAct
-volume_guards_act setup lets seat role start key v action pass passes kind there due =
-    acts_by setup lets seat role start key (λ s h p. at_point setup lets seat role start key v pass passes kind there s h p (one_of (is_deleting v.meta) (is_protected_volume v) (is_bound v.phase) action due))
+volume_guards_act setup seat role start key v action pass kind there due =
+    acts_by setup seat role start key (λ s h p. at_point setup seat role start key v pass kind there s h p (one_of (is_deleting v.meta) (is_protected_volume v) (is_bound v.phase) action due))

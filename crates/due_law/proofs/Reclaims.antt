@@ -44,7 +44,6 @@ use Rattle.worker_core.specs.declared.task.Task.TheVariants as tasks
 use Rattle.worker_core.specs.declared.task.Under.{Under}
 use Rattle.worker_core.specs.States.{ActorState}
 use Rattle.worker_core.specs.Tasks.{IsDecision, IsFirstOf, erase_first, ops_first, under_after, with_task}
-use Rattle.worker_threads.specs.Rounds.{Lets}
 use Rattle.write_law.specs.Lasting.{IsBackFault, Lasts}
 use Rattle.write_law.specs.Writes.{IsStored}
 use Rattle.write_law.proofs.Fitting.{no_namespace}
@@ -52,8 +51,9 @@ use Rattle.write_law.proofs.Volumes.{delete_lasts}
 use Rattle.alike_law.specs.Alike.{AreAlike}
 use Rattle.alike_law.proofs.Calls.{LastsOrAlike, calls_last_or_leave_alike, then_alike}
 use Rattle.alike_law.proofs.Rows.{plain_volume}
-use Rattle.slot_law.specs.Slots.{IsDecisionPoint, Now, Then, WillLast, own_entry}
-use Rattle.due_law.specs.Acts.{PassesWhileAlike, ReclaimsAct}
+use Rattle.slot_law.specs.Slots.{IsDecisionPoint, own_entry}
+use Rattle.slot_law.specs.Would.{AtOnce, Later, WouldLast}
+use Rattle.due_law.specs.Acts.{ReclaimsAct}
 use Rattle.due_law.proofs.Deciding.{BeginsLasting, acts_by, stored, volume_alike}
 use Rattle.due_law.proofs.Known.{rows_known}
 use Rattle.due_law.proofs.Volumes.{get_said, get_stays, got}
@@ -126,7 +126,7 @@ found_volume key u uid due known = by (reclaim_due u) u.meta.uid due known
         ≡ Some (record { key = key; task = tasks.Erase (record { volume = u; step = steps.Erases uid }); call = requests.Erase (data_id_of u.source) })
     by x y ex ey = rw (ex, ey) refl
 
-module _ (setup : Setup) (lets : Lets) (seat : ℕ) (role : Role) (start : List Entry) (key : Key) (v : VolumeData) (action : Due) (pass : ImportsPass setup.imports) (passes : PassesWhileAlike setup lets start) (kind : role.kind ≡ seats.Ops)
+module _ (setup : Setup) (seat : ℕ) (role : Role) (start : List Entry) (key : Key) (v : VolumeData) (action : Due) (pass : ImportsPass setup.imports) (kind : role.kind ≡ seats.Ops)
     (there : row_at key (world setup start).store.rows ≡ Some (Volume v)) (due : reclaim_due v ≡ Some action) where
   controller : is_user role.kind ≡ false
   controller = ap is_user kind
@@ -188,28 +188,28 @@ module _ (setup : Setup) (lets : Lets) (seat : ℕ) (role : Role) (start : List 
     erased_there : IsStored (world setup h_erased) (Volume u)
     erased_there = record { there = ap (λ x. row_at (key_of (Volume u)) x.rows) (erase_keeps setup (world setup h_read) role.kind (data_id_of u.source) controller) ∙ (ap (λ (w : World). row_at (key_of (Volume u)) w.store.rows) read_world ∙ on_store.there); valid = on_store.valid }
 
-    erases : EraseSays (reply_to (effect setup (world setup h_read) role.kind (requests.Erase (data_id_of u.source)))) → LastsOrAlike (world setup h_read) (effect setup (world setup h_read) role.kind (requests.Erase (data_id_of u.source))) → WillLast setup lets seat role.kind h_read erasing
+    erases : EraseSays (reply_to (effect setup (world setup h_read) role.kind (requests.Erase (data_id_of u.source)))) → LastsOrAlike (world setup h_read) (effect setup (world setup h_read) role.kind (requests.Erase (data_id_of u.source))) → WouldLast setup seat role.kind start h_read erasing
     unfolding erase_call erase_moved
-    erases (Fails call e) w = Now (passes h_read _ read_alike) (inr (inr (subst IsBackFault (sym e) tt)))
-    erases (Goes removed e) (inl lasts) = Now (passes h_read _ read_alike) lasts
+    erases (Fails call e) w = AtOnce read_alike (inr (inr (subst IsBackFault (sym e) tt)))
+    erases (Goes removed e) (inl lasts) = AtOnce read_alike lasts
     erases (Goes removed e) (inr alike) =
-        Then (passes h_read _ read_alike) deleting (ap (under_after erasing) e)
-        (Now (passes h_erased _ (then_alike _ _ _ read_alike alike))
+        Later read_alike deleting (ap (under_after erasing) e)
+        (AtOnce (then_alike _ _ _ read_alike alike)
         (subst (λ k. Lasts setup (world setup h_erased) role.kind (requests.Delete k (Some known.uid))) (sym own_key)
         (delete_lasts setup (world setup h_erased) role.kind u (Some known.uid) controller erased_there due_is.1 (subst (λ x. is_other_uid (Some known.uid) x ≡ false) (sym known.is) (same_uid (Some known.uid))))))
 
-    begins : BeginsLasting setup lets seat role key s h
+    begins : BeginsLasting setup seat role start key s h
     unfolding erase_call
     begins = record {
       task = tasks.Erase (record { volume = u; step = steps.ReadsVolume });
       call = requests.Get (key_of_volume u);
       only = decided;
       asks = refl;
-      will = Then (passes h _ p.alike) erasing found (erases (erase_says setup (world setup h_read) role.kind (data_id_of u.source) controller) (calls_last_or_leave_alike setup (world setup h_read) role.kind (requests.Erase (data_id_of u.source)) (rows_stand_in_order setup h_read)));
+      will = Later p.alike erasing found (erases (erase_says setup (world setup h_read) role.kind (data_id_of u.source) controller) (calls_last_or_leave_alike setup (world setup h_read) role.kind (requests.Erase (data_id_of u.source)) (rows_stand_in_order setup h_read)));
     }
 
-  at_point : (s : ActorState) (h : List Entry) → IsDecisionPoint setup seat role start s h → BeginsLasting setup lets seat role key s h
+  at_point : (s : ActorState) (h : List Entry) → IsDecisionPoint setup seat role start s h → BeginsLasting setup seat role start key s h
   at_point s h p = let at = volume_alike (world setup start) (world setup h) key v p.alike there in begins s h p at.volume at.is at.same
 
 pub reclaims_act : ReclaimsAct
-reclaims_act setup lets seat role start key v action pass passes kind there due = acts_by setup lets seat role start key (at_point setup lets seat role start key v action pass passes kind there due)
+reclaims_act setup seat role start key v action pass kind there due = acts_by setup seat role start key (at_point setup seat role start key v action pass kind there due)

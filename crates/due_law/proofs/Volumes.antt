@@ -48,15 +48,15 @@ use Rattle.worker_core.specs.declared.task.First.TheVariants as firsts
 use Rattle.worker_core.specs.declared.task.Task.TheVariants as tasks
 use Rattle.worker_core.specs.States.{ActorState}
 use Rattle.worker_core.specs.Tasks.{IsBinderFirst, IsDecision, IsFirstOf, under_after}
-use Rattle.worker_threads.specs.Rounds.{Lets}
 use Rattle.write_law.specs.Writes.{IsStored}
 use Rattle.write_law.proofs.Fitting.{no_namespace}
 use Rattle.write_law.proofs.Volumes.{phase_lasts, unbind_lasts}
 use Rattle.alike_law.specs.Alike.{AreAlike}
 use Rattle.alike_law.proofs.Binding.{volume_due_plain}
 use Rattle.alike_law.proofs.Rows.{plain_volume}
-use Rattle.slot_law.specs.Slots.{IsDecisionPoint, Now, Then, WillLast, own_entry}
-use Rattle.due_law.specs.Acts.{PassesWhileAlike, VolumesAct}
+use Rattle.slot_law.specs.Slots.{IsDecisionPoint, own_entry}
+use Rattle.slot_law.specs.Would.{AtOnce, Later, WouldLast}
+use Rattle.due_law.specs.Acts.{VolumesAct}
 use Rattle.due_law.proofs.Deciding.{BeginsLasting, acts_by, stored, volume_alike}
 use Rattle.due_law.proofs.Known.{rows_known}
 
@@ -175,7 +175,7 @@ only_one rows key v machine there begins first d = by first d
     by (firsts.Begins (tasks.Erase op)) i = absurd i
     by (firsts.Begins (tasks.Schedule op)) i = absurd i
 
-module _ (setup : Setup) (lets : Lets) (seat : ℕ) (role : Role) (start : List Entry) (key : Key) (v : VolumeData) (action : Due) (pass : ImportsPass setup.imports) (passes : PassesWhileAlike setup lets start) (kind : role.kind ≡ seats.Binder)
+module _ (setup : Setup) (seat : ℕ) (role : Role) (start : List Entry) (key : Key) (v : VolumeData) (action : Due) (pass : ImportsPass setup.imports) (kind : role.kind ≡ seats.Binder)
     (there : row_at key (world setup start).store.rows ≡ Some (Volume v)) (due : volume_due (world setup start).store.rows v ≡ Some action) where
   controller : is_user role.kind ≡ false
   controller = ap is_user kind
@@ -208,42 +208,42 @@ module _ (setup : Setup) (lets : Lets) (seat : ℕ) (role : Role) (start : List 
     only : (machine : Machine) → volume_first u (volume_decision (all_objects s.caches) u NotAsked) ≡ binder_firsts.Begins machine → (first : First) → IsDecision s.role s.memory (all_objects s.caches) key first → first ≡ firsts.Begins (tasks.Binder machine)
     only machine begins first d = only_one (all_objects s.caches) key u machine seen begins first (subst (λ k. IsFirstOf k s.role.node s.memory (all_objects s.caches) key first) s_kind d)
 
-    begins_by : VolumeCase (world setup h).store.rows u (volume_decision (all_objects s.caches) u NotAsked) → BeginsLasting setup lets seat role key s h
+    begins_by : VolumeCase (world setup h).store.rows u (volume_decision (all_objects s.caches) u NotAsked) → BeginsLasting setup seat role start key s h
     unfolding call_of moved volume_read claim_with
     begins_by (Frees e open_) = record {
       task = tasks.Binder (machines.Frees u);
       call = write_phase u volumes.Available;
       only = only (machines.Frees u) (ap (volume_first u) e);
       asks = rw unplaced refl;
-      will = Now (passes h _ p.alike) (phase_lasts setup (world setup h) role.kind u volumes.Available controller on_store (phase_differs is_available u.phase volumes.Available open_ refl));
+      will = AtOnce p.alike (phase_lasts setup (world setup h) role.kind u volumes.Available controller on_store (phase_differs is_available u.phase volumes.Available open_ refl));
     }
     begins_by (Bounds e open_) = record {
       task = tasks.Binder (machines.MarksBound u);
       call = write_phase u volumes.Bound;
       only = only (machines.MarksBound u) (ap (volume_first u) e);
       asks = rw unplaced refl;
-      will = Now (passes h _ p.alike) (phase_lasts setup (world setup h) role.kind u volumes.Bound controller on_store (phase_differs is_bound u.phase volumes.Bound open_ refl));
+      will = AtOnce p.alike (phase_lasts setup (world setup h) role.kind u volumes.Bound controller on_store (phase_differs is_bound u.phase volumes.Bound open_ refl));
     }
     begins_by (Releases e open_) = record {
       task = tasks.Binder (machines.Releases u);
       call = write_phase u volumes.Released;
       only = only (machines.Releases u) (ap (volume_first u) e);
       asks = rw unplaced refl;
-      will = Now (passes h _ p.alike) (phase_lasts setup (world setup h) role.kind u volumes.Released controller on_store (phase_differs is_ended u.phase volumes.Released open_ refl));
+      will = AtOnce p.alike (phase_lasts setup (world setup h) role.kind u volumes.Released controller on_store (phase_differs is_ended u.phase volumes.Released open_ refl));
     }
     begins_by (Unbinds uid e refers) = record {
       task = tasks.Binder (machines.Unbinds u);
       call = _;
       only = only (machines.Unbinds u) (ap (volume_first u) e);
       asks = refl;
-      will = Now (passes h _ p.alike) (unbind_lasts setup (world setup h) role.kind u uid controller on_store refers);
+      will = AtOnce p.alike (unbind_lasts setup (world setup h) role.kind u uid controller on_store refers);
     }
     begins_by (Reads r uid e open_ refers uid_is none) = record {
       task = tasks.Binder (machines.ReadsClaim u);
       call = Get (claim_key r.namespace r.name);
       only = only (machines.ReadsClaim u) (ap (volume_first u) e);
       asks = rw (unplaced, known, refers) refl;
-      will = Then (passes h _ p.alike) (record { key = key; task = tasks.Binder (machines.Releases u); call = write_phase u volumes.Released }) after_read then_;
+      will = Later p.alike (record { key = key; task = tasks.Binder (machines.Releases u); call = write_phase u volumes.Released }) after_read then_;
     }
       where
         own_ref : ref_uid u.claim_ref ≡ Some uid
@@ -264,14 +264,14 @@ module _ (setup : Setup) (lets : Lets) (seat : ℕ) (role : Role) (start : List 
         still : AreAlike (world setup start) (world setup (own_entry setup seat role.kind h (Get (claim_key r.namespace r.name)) ∷ h))
         still = subst (AreAlike (world setup start)) (sym same_world) p.alike
 
-        then_ : WillLast setup lets seat role.kind (own_entry setup seat role.kind h (Get (claim_key r.namespace r.name)) ∷ h) (record { key = key; task = tasks.Binder (machines.Releases u); call = write_phase u volumes.Released })
-        then_ = Now (passes _ _ still) (phase_lasts setup _ role.kind u volumes.Released controller (subst (λ w. IsStored w (Volume u)) (sym same_world) on_store) (phase_differs is_ended u.phase volumes.Released open_ refl))
+        then_ : WouldLast setup seat role.kind start (own_entry setup seat role.kind h (Get (claim_key r.namespace r.name)) ∷ h) (record { key = key; task = tasks.Binder (machines.Releases u); call = write_phase u volumes.Released })
+        then_ = AtOnce still (phase_lasts setup _ role.kind u volumes.Released controller (subst (λ w. IsStored w (Volume u)) (sym same_world) on_store) (phase_differs is_ended u.phase volumes.Released open_ refl))
 
-    begins : BeginsLasting setup lets seat role key s h
+    begins : BeginsLasting setup seat role start key s h
     begins = begins_by (case_of (all_objects s.caches) (world setup h).store.rows u action (λ r. p.sees (claim_key r.namespace r.name) (follows_it (claim_key r.namespace r.name) refl)) due_here)
 
-  at_point : (s : ActorState) (h : List Entry) → IsDecisionPoint setup seat role start s h → BeginsLasting setup lets seat role key s h
+  at_point : (s : ActorState) (h : List Entry) → IsDecisionPoint setup seat role start s h → BeginsLasting setup seat role start key s h
   at_point s h p = let at = volume_alike (world setup start) (world setup h) key v p.alike there in begins s h p at.volume at.is at.same
 
 pub volumes_act : VolumesAct
-volumes_act setup lets seat role start key v action pass passes kind there due = acts_by setup lets seat role start key (at_point setup lets seat role start key v action pass passes kind there due)
+volumes_act setup seat role start key v action pass kind there due = acts_by setup seat role start key (at_point setup seat role start key v action pass kind there due)

@@ -1,6 +1,6 @@
 -- What is due begins a call that lasts: an actor acts on the key of an object for which something of its own is due.
 -- A choice of this project.
-use Rattle.std.specs.Prelude.{ℕ, ◌≡◌, true, List, Some}
+use Rattle.std.specs.Prelude.{ℕ, ◌≡◌, List, Some}
 use Rattle.kube_types.specs.declared.key.Key.{Key}
 use Rattle.kube_types.specs.declared.names.Due.{Due}
 use Rattle.kube_types.specs.declared.objects.Claim.{Claim as ClaimData}
@@ -8,7 +8,6 @@ use Rattle.kube_types.specs.declared.objects.Volume.{Volume as VolumeData}
 use Rattle.kube_types.specs.declared.objects.Object.TheVariants.{Claim, Volume}
 use Rattle.kube_types.specs.Keys.{row_at}
 use Rattle.call_types.specs.declared.entry.Entry.{Entry}
-use Rattle.call_types.specs.declared.request.Request.{Request}
 use Rattle.call_types.specs.declared.request.SeatKind.TheVariants as seats
 use Rattle.call_types.specs.declared.setup.Setup.{Setup}
 use Rattle.binder_model.specs.BinderDue.{volume_due}
@@ -16,34 +15,28 @@ use Rattle.binder_model.specs.Due.{claim_guard_due, reclaim_due, volume_guard_du
 use Rattle.binder_model.specs.Imports.{ImportsPass}
 use Rattle.binder_model.specs.World.{world}
 use Rattle.worker_core.specs.declared.role.Role.{Role}
-use Rattle.worker_threads.specs.Rounds.{Lets}
-use Rattle.alike_law.specs.Alike.{AreAlike}
-use Rattle.slot_law.specs.Slots.{ActsOn}
-
--- as long as the world is like that of the start, each request reaches it
-abbrev pub PassesWhileAlike : Setup → Lets → List Entry → Type 0
-PassesWhileAlike setup lets start = (h : List Entry) (request : Request) → AreAlike (world setup start) (world setup h) → lets h request ≡ true
+use Rattle.slot_law.specs.Would.{WouldActOn}
 
 -- volume protection
 abbrev pub VolumeGuardsAct : Type 0
 VolumeGuardsAct =
-    (setup : Setup) (lets : Lets) (seat : ℕ) (role : Role) (start : List Entry) (key : Key) (v : VolumeData) (action : Due) → ImportsPass setup.imports → PassesWhileAlike setup lets start → role.kind ≡ seats.VolumeProtect
-    → row_at key (world setup start).store.rows ≡ Some (Volume v) → volume_guard_due v ≡ Some action → ActsOn setup lets seat role start key
+    (setup : Setup) (seat : ℕ) (role : Role) (start : List Entry) (key : Key) (v : VolumeData) (action : Due) → ImportsPass setup.imports → role.kind ≡ seats.VolumeProtect
+    → row_at key (world setup start).store.rows ≡ Some (Volume v) → volume_guard_due v ≡ Some action → WouldActOn setup seat role start key
 
 -- claim protection
 abbrev pub ClaimGuardsAct : Type 0
 ClaimGuardsAct =
-    (setup : Setup) (lets : Lets) (seat : ℕ) (role : Role) (start : List Entry) (key : Key) (c : ClaimData) (action : Due) → ImportsPass setup.imports → PassesWhileAlike setup lets start → role.kind ≡ seats.ClaimProtect
-    → row_at key (world setup start).store.rows ≡ Some (Claim c) → claim_guard_due (world setup start).store.rows c ≡ Some action → ActsOn setup lets seat role start key
+    (setup : Setup) (seat : ℕ) (role : Role) (start : List Entry) (key : Key) (c : ClaimData) (action : Due) → ImportsPass setup.imports → role.kind ≡ seats.ClaimProtect
+    → row_at key (world setup start).store.rows ≡ Some (Claim c) → claim_guard_due (world setup start).store.rows c ≡ Some action → WouldActOn setup seat role start key
 
 -- the provisioner and reclaimer, on a volume that has ended
 abbrev pub ReclaimsAct : Type 0
 ReclaimsAct =
-    (setup : Setup) (lets : Lets) (seat : ℕ) (role : Role) (start : List Entry) (key : Key) (v : VolumeData) (action : Due) → ImportsPass setup.imports → PassesWhileAlike setup lets start → role.kind ≡ seats.Ops
-    → row_at key (world setup start).store.rows ≡ Some (Volume v) → reclaim_due v ≡ Some action → ActsOn setup lets seat role start key
+    (setup : Setup) (seat : ℕ) (role : Role) (start : List Entry) (key : Key) (v : VolumeData) (action : Due) → ImportsPass setup.imports → role.kind ≡ seats.Ops
+    → row_at key (world setup start).store.rows ≡ Some (Volume v) → reclaim_due v ≡ Some action → WouldActOn setup seat role start key
 
 -- the binder, on a volume's own account
 abbrev pub VolumesAct : Type 0
 VolumesAct =
-    (setup : Setup) (lets : Lets) (seat : ℕ) (role : Role) (start : List Entry) (key : Key) (v : VolumeData) (action : Due) → ImportsPass setup.imports → PassesWhileAlike setup lets start → role.kind ≡ seats.Binder
-    → row_at key (world setup start).store.rows ≡ Some (Volume v) → volume_due (world setup start).store.rows v ≡ Some action → ActsOn setup lets seat role start key
+    (setup : Setup) (seat : ℕ) (role : Role) (start : List Entry) (key : Key) (v : VolumeData) (action : Due) → ImportsPass setup.imports → role.kind ≡ seats.Binder
+    → row_at key (world setup start).store.rows ≡ Some (Volume v) → volume_due (world setup start).store.rows v ≡ Some action → WouldActOn setup seat role start key

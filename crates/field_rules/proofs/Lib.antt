@@ -1,2 +1,3 @@
 pub mod Equalities
 pub mod Names
+pub mod Repeats

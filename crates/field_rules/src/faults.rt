@@ -5,7 +5,7 @@ ghost use Rattle.std.specs.List.{list_all, slice_split};
 ghost use Rattle.std.specs.Result.{result_err};
 ghost use Rattle.kube_types.specs.declared.names.Field.{Field};
 ghost use Rattle.kube_types.specs.declared.objects.Object.TheVariants as objects;
-ghost use Rattle.kube_types.specs.Bindings.{has_name, is_deleting};
+ghost use Rattle.kube_types.specs.Bindings.{is_deleting};
 ghost use Rattle.binder_model.specs.Fields.{adds_finalizer, is_lower_or_digit, is_name_byte, is_label, is_subdomain, is_namespace, has_no_mode, has_twice, is_nameless, keeps_class, volume_fault, claim_fault, class_fault, pod_fault, kind_fault, create_fault, changed_field, update_fault};
 ghost use Rattle.field_rules.specs.Faults.{after_byte, byte_fits, ends_well, fault_or, reads_as_label};
 
@@ -13,6 +13,7 @@ use crate::same::{
     are_same_names, are_same_pairs, are_same_terms, is_same_amount, is_same_class, is_same_flag,
     is_same_modes, is_same_policy, is_same_selector, is_same_source, is_same_text,
 };
+use crate::twice::has_twice;
 use finalizer_rules::adds_while_deleting;
 use kube_types::bindings::{is_completed, lacks_class};
 use kube_types::key::meta_of;
@@ -20,6 +21,7 @@ use kube_types::names::Field;
 use kube_types::objects::{Claim, Class, Meta, Object, Pod, Ref, Volume};
 use kube_types::parts::Modes;
 use kube_types::text::{Names, Text};
+use std::alloc::Global;
 
 /// Answers the field where the test holds.
 macro_rules! refuse {
@@ -145,26 +147,6 @@ fn has_no_mode(modes: Modes) -> bool
     !(modes.rwo || modes.rox || modes.rwx || modes.rwop)
 }
 
-/// Whether the name is one of these.
-fn has_name(name: &str, names: &[Text]) -> bool
-    ensures { result ≡ has_name name.now names.now }
-{
-    names.iter().any(|n| n.is(name))
-}
-
-/// Whether a name stands twice in the list.
-fn has_twice(names: &Names) -> bool
-    ensures { result ≡ has_twice names.now }
-{
-    let names = names.as_slice();
-    for (i, name) in names.iter().enumerate() {
-        if has_name(name.as_str(), &names[i + 1..]) {
-            return true;
-        }
-    }
-    false
-}
-
 fn is_nameless(reference: &Option<Ref>) -> bool
     ensures { result ≡ is_nameless reference.now }
 {
@@ -175,7 +157,7 @@ fn is_nameless(reference: &Option<Ref>) -> bool
 }
 
 #[tactic(auto, unfolding(binder_model::specs::Fields::volume_fault, binder_model::specs::Fields::faulty))]
-fn check_volume(volume: &Volume) -> Result<(), Field>
+fn check_volume(memory: Option<Global>, volume: &Volume) -> Result<(), Field>
     ensures { result_err result ≡ volume_fault volume.now }
 {
     refuse!(
@@ -183,83 +165,91 @@ fn check_volume(volume: &Volume) -> Result<(), Field>
         volume.amount.bytes == 0 => Field::Capacity,
         has_no_mode(volume.modes) => Field::AccessModes,
         is_nameless(&volume.claim_ref) => Field::ClaimRef,
-        has_twice(&volume.meta.finalizers) => Field::Finalizers
+        has_twice(memory, &volume.meta.finalizers) => Field::Finalizers
     );
     Ok(())
 }
 
 #[tactic(auto, unfolding(binder_model::specs::Fields::claim_fault, binder_model::specs::Fields::faulty))]
-fn check_claim(claim: &Claim) -> Result<(), Field>
+fn check_claim(memory: Option<Global>, claim: &Claim) -> Result<(), Field>
     ensures { result_err result ≡ claim_fault claim.now }
 {
     refuse!(
         !is_namespace(&claim.meta.namespace) => Field::Namespace,
         claim.amount.bytes == 0 => Field::Request,
         has_no_mode(claim.modes) => Field::AccessModes,
-        has_twice(&claim.meta.finalizers) => Field::Finalizers
+        has_twice(memory, &claim.meta.finalizers) => Field::Finalizers
     );
     Ok(())
 }
 
 #[tactic(auto, unfolding(binder_model::specs::Fields::class_fault, binder_model::specs::Fields::faulty))]
-fn check_class(class: &Class) -> Result<(), Field>
+fn check_class(memory: Option<Global>, class: &Class) -> Result<(), Field>
     ensures { result_err result ≡ class_fault class.now }
 {
     refuse!(
         !class.meta.namespace.as_str().is_empty() => Field::Namespace,
         class.provisioner.as_str().is_empty() => Field::Provisioner,
-        has_twice(&class.meta.finalizers) => Field::Finalizers
+        has_twice(memory, &class.meta.finalizers) => Field::Finalizers
     );
     Ok(())
 }
 
 #[tactic(auto, unfolding(binder_model::specs::Fields::pod_fault, binder_model::specs::Fields::faulty))]
-fn check_pod(lacks_node: bool, pod: &Pod) -> Result<(), Field>
+fn check_pod(memory: Option<Global>, lacks_node: bool, pod: &Pod) -> Result<(), Field>
     ensures { result_err result ≡ pod_fault lacks_node pod.now }
 {
     refuse!(
         !is_namespace(&pod.meta.namespace) => Field::Namespace,
         lacks_node => Field::NodeName,
-        pod.claims.contains("") || has_twice(&pod.claims) => Field::Claims,
+        pod.claims.contains("") || has_twice(memory, &pod.claims) => Field::Claims,
         !pod.meta.finalizers.as_slice().is_empty() => Field::Finalizers
     );
     Ok(())
 }
 
 #[tactic(auto, unfolding(binder_model::specs::Fields::kind_fault, binder_model::specs::Fields::faulty))]
-fn check_kind(lacks_node: bool, object: &Object) -> Result<(), Field>
+fn check_kind(memory: Option<Global>, lacks_node: bool, object: &Object) -> Result<(), Field>
     ensures { result_err result ≡ kind_fault lacks_node object.now }
 {
     match object {
-        Object::Class(class) => check_class(class),
+        Object::Class(class) => check_class(memory, class),
         Object::Node(node) => {
             refuse!(
                 !node.meta.namespace.as_str().is_empty() => Field::Namespace,
-                has_twice(&node.meta.finalizers) => Field::Finalizers
+                has_twice(memory, &node.meta.finalizers) => Field::Finalizers
             );
             Ok(())
         }
-        Object::Volume(volume) => check_volume(volume),
-        Object::Claim(claim) => check_claim(claim),
-        Object::Pod(pod) => check_pod(lacks_node, pod),
+        Object::Volume(volume) => check_volume(memory, volume),
+        Object::Claim(claim) => check_claim(memory, claim),
+        Object::Pod(pod) => check_pod(memory, lacks_node, pod),
     }
+}
+
+/// Answers the first invalid field of a new object.
+#[tactic(auto, unfolding(binder_model::specs::Fields::create_fault, binder_model::specs::Fields::faulty))]
+fn check_object(memory: Option<Global>, lacks_node: bool, object: &Object) -> Result<(), Field>
+    ensures { result_err result ≡ create_fault lacks_node object.now }
+{
+    refuse!(!is_subdomain(&meta_of(object).name) => Field::Name);
+    check_kind(memory, lacks_node, object)
 }
 
 /// Answers the first invalid field of a new object. `lacks_node` says that a pod names a node that is
 /// not there.
-#[tactic(auto, unfolding(binder_model::specs::Fields::create_fault, binder_model::specs::Fields::faulty))]
-pub fn check_new(lacks_node: bool, object: &Object) -> Result<(), Field>
+pub fn check_new(alloc: Global, lacks_node: bool, object: &Object) -> Result<(), Field>
     ensures { result_err result ≡ create_fault lacks_node object.now }
 {
-    refuse!(!is_subdomain(&meta_of(object).name) => Field::Name);
-    check_kind(lacks_node, object)
+    check_object(Some(alloc), lacks_node, object)
 }
 
-/// Answers the first invalid field of a new object. Whether a pod's node is there is not tested.
+/// Answers the first invalid field of a new object, without memory. Whether a pod's node is there is
+/// not tested.
 pub fn check_create(object: &Object) -> Result<(), Field>
     ensures { result_err result ≡ create_fault false object.now }
 {
-    check_new(false, object)
+    check_object(None, false, object)
 }
 
 /// Whether the class stays, or the old claim lacks one and may still get one.
@@ -345,19 +335,33 @@ fn keep_fixed(old: &Object, new: &Object) -> Result<(), Field>
 }
 
 /// Whether finalizers are added to an object that is to be deleted, or one stands twice.
-fn has_wrong_finalizers(old: &Meta, finalizers: &Names) -> bool
+fn has_wrong_finalizers(memory: Option<Global>, old: &Meta, finalizers: &Names) -> bool
     ensures { result ≡ ((is_deleting old.now && adds_finalizer old.now.finalizers finalizers.now) || has_twice finalizers.now) }
 {
-    adds_while_deleting(old, finalizers) || has_twice(finalizers)
+    adds_while_deleting(old, finalizers) || has_twice(memory, finalizers)
 }
 
 /// Answers the first invalid field of an object that takes the place of the old one.
 #[tactic(auto, unfolding(binder_model::specs::Fields::update_fault, binder_model::specs::Fields::faulty))]
-pub fn check_update(old: &Object, new: &Object) -> Result<(), Field>
+fn check_change(memory: Option<Global>, old: &Object, new: &Object) -> Result<(), Field>
     ensures { result_err result ≡ update_fault old.now new.now }
 {
     keep_fixed(old, new)?;
     let finalizers = &meta_of(new).finalizers;
-    refuse!(has_wrong_finalizers(meta_of(old), finalizers) => Field::Finalizers);
-    check_create(new)
+    refuse!(has_wrong_finalizers(memory, meta_of(old), finalizers) => Field::Finalizers);
+    check_object(memory, false, new)
+}
+
+/// Answers the first invalid field of an object that takes the place of the old one.
+pub fn check_changed(alloc: Global, old: &Object, new: &Object) -> Result<(), Field>
+    ensures { result_err result ≡ update_fault old.now new.now }
+{
+    check_change(Some(alloc), old, new)
+}
+
+/// Answers the first invalid field of an object that takes the place of the old one, without memory.
+pub fn check_update(old: &Object, new: &Object) -> Result<(), Field>
+    ensures { result_err result ≡ update_fault old.now new.now }
+{
+    check_change(None, old, new)
 }

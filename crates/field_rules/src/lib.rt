@@ -2,7 +2,8 @@
 //! what admission adds.
 //!
 //! Promises: `check_create`, `check_update`, `guard` and `check_import` answer the first fault of the
-//! definition's order, and Ok exactly where there is none; `admit` gives what admission makes of an object.
+//! definition's order, and Ok exactly where there is none; `check_new` and `check_changed` do so with memory, in
+//! less time where an object has many finalizers; `admit` gives what admission makes of an object.
 //! Not said: whether a pod's node is there, which only the store can know.
 #![tactic(auto)]
 
@@ -10,10 +11,11 @@ mod admission;
 mod faults;
 mod imports;
 mod same;
+mod twice;
 mod user_writes;
 
 pub use crate::admission::{add_finalizer, admit};
-pub use crate::faults::{check_create, check_new, check_update};
+pub use crate::faults::{check_changed, check_create, check_new, check_update};
 pub use crate::imports::{
     check_import, has_same_key, is_ended_for, reference_uid, refers_to_another,
 };

@@ -2,3 +2,4 @@ pub mod LineLists
 pub mod Closings
 pub mod EntryFloats
 pub mod LineLaws
+pub mod Puts

@@ -1,21 +1,21 @@
 //! The lines of entries.
 
 ghost use Rattle.std.specs.Prelude.{◌≡◌, Some, OnOk, IfOk, codes};
-ghost use Rattle.json_text.specs.Writing.{written, with_some, with_value};
+ghost use Rattle.json_text.specs.Writing.{with_some, with_value};
+ghost use Rattle.piece_print.specs.Writing.{whole};
 ghost use Rattle.history_text.specs.Requests.{request_data};
 ghost use Rattle.history_text.specs.Replies.{reply_data};
 ghost use Rattle.history_text.specs.Entries.{seat_word, entry_data, entry_line};
 
 use crate::asks::write_request;
-use crate::memo::Memo;
 use crate::replies::write_reply;
 use call_types::entry::Entry;
 use call_types::reply::Reply;
 use call_types::request::{Request, SeatKind};
-use json_text::writing::JsonText;
 use kube_types::copies::OutOfMemory;
 use kube_types::text::Bytes;
 use object_print::members::MemberSink;
+use piece_print::writing::JsonPieces;
 use std::alloc::Global;
 
 /// The word for the kind of a seat.
@@ -33,39 +33,31 @@ pub fn seat_word(kind: SeatKind) -> &'static str
     }
 }
 
-#[tactic(auto, unfolding(json_text::specs::Members::with_option))]
-fn put_ask(out: &mut JsonText, request: &Request) -> Result<(), OutOfMemory>
-    ensures ok { OnOk result (written out.new ≡ with_some (codes "ask") (Some (request_data request.now)) (written out.old)) }
+#[tactic(auto, using(piece_print::proofs::Behind::value_behind), unfolding(json_text::specs::Members::with_option))]
+fn put_ask(out: &mut JsonPieces<'_>, request: &Request) -> Result<(), OutOfMemory>
+    ensures ok { OnOk result (whole out.new ≡ with_some (codes "ask") (Some (request_data request.now)) (whole out.old)) }
 {
     out.key("ask")?;
-    write_request(out, request)
+    write_request(&mut out.tail, request)
 }
 
 #[tactic(auto, unfolding(json_text::specs::Members::with_option))]
-fn put_reply<'a>(
-    out: &mut JsonText,
-    memo: &mut Memo<'a>,
-    reply: &'a Reply,
-) -> Result<(), OutOfMemory>
-    ensures ok { OnOk result (written out.new ≡ with_some (codes "reply") (Some (reply_data reply.now)) (written out.old)) }
+fn put_reply<'a>(out: &mut JsonPieces<'a>, reply: &'a Reply) -> Result<(), OutOfMemory>
+    ensures ok { OnOk result (whole out.new ≡ with_some (codes "reply") (Some (reply_data reply.now)) (whole out.old)) }
 {
     out.key("reply")?;
-    write_reply(out, memo, reply)
+    write_reply(out, reply)
 }
 
 /// Puts an entry at the end.
 #[tactic(auto, using(crate::proofs::Closings::closes_entry))]
-pub fn write_entry<'a>(
-    out: &mut JsonText,
-    memo: &mut Memo<'a>,
-    entry: &'a Entry,
-) -> Result<(), OutOfMemory>
-    ensures ok { OnOk result (written out.new ≡ with_value (entry_data entry.now) (written out.old)) }
+pub fn write_entry<'a>(out: &mut JsonPieces<'a>, entry: &'a Entry) -> Result<(), OutOfMemory>
+    ensures ok { OnOk result (whole out.new ≡ with_value (entry_data entry.now) (whole out.old)) }
 {
     out.begin_object()?;
     put_ask(out, &entry.request)?;
     out.put_text("kind", seat_word(entry.kind))?;
-    put_reply(out, memo, &entry.reply)?;
+    put_reply(out, &entry.reply)?;
     out.put("seat", &entry.seat)?;
     out.put("told", &entry.told)?;
     out.end_object()
@@ -76,8 +68,7 @@ pub fn write_entry<'a>(
 pub fn print_entry(alloc: Global, entry: &Entry) -> Result<Bytes, OutOfMemory>
     ensures { IfOk result (λ b. b ≡ entry_line entry.now) }
 {
-    let mut memo = Memo::new(alloc, 0)?;
-    let mut out = JsonText::new(alloc);
-    write_entry(&mut out, &mut memo, entry)?;
-    Ok(out.into_bytes())
+    let mut out = JsonPieces::plain(alloc);
+    write_entry(&mut out, entry)?;
+    out.into_bytes()
 }

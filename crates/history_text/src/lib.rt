@@ -1,16 +1,16 @@
 //! The text of a history and of a run's final state.
 //!
-//! Promises: `lines::print_history` and `print_objects_and_summary` write setup, entries, final objects and
-//! summary exactly as their canonical lines. Not said: that the entries are a history, and that an object
-//! which many entries tell is printed once and copied, which is for speed alone.
+//! Promises: `histories::print_all` and `print_history`, and `lines::print_objects_and_summary`, write setup, entries,
+//! final objects and summary exactly as their canonical lines. Not said: that the entries are a history, and that the
+//! text of an object which many entries tell stands once in memory (`piece_print`).
 #![tactic(auto)]
 
 pub mod asks;
 pub mod counts;
 pub mod entries;
+pub mod histories;
 pub mod laws;
 pub mod lines;
-pub mod memo;
 pub mod replies;
 pub mod setups;
 pub mod summaries;

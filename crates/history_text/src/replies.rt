@@ -1,13 +1,13 @@
-//! Replies as JSON, each object by the memo.
+//! Replies as JSON, the text of each object once.
 
 ghost use Rattle.std.specs.Prelude.{◌≡◌, Some, OnOk, codes};
 ghost use Rattle.json_text.specs.Members.{items_data, array_data, object_of, within, with_options, with_member_text};
 ghost use Rattle.json_text.specs.Writing.{written, with_some, with_value, items_after};
 ghost use Rattle.object_print.specs.Objects.{object_data};
+ghost use Rattle.piece_print.specs.Writing.{whole};
 ghost use Rattle.history_text.specs.Replies.{change_word, event_data, mount_data, topology_pairs, refused, refused_number, refused_text, refusal_pairs, listed_pairs, events_pairs, provisioned_pairs, reply_data};
 
 use crate::asks::put_data_id;
-use crate::memo::Memo;
 use call_types::reply::{Change, Event, Events, MountRow, Refusal, Reply};
 use json_text::member_texts::MemberTexts;
 use json_text::writing::JsonText;
@@ -15,6 +15,7 @@ use kube_types::copies::OutOfMemory;
 use kube_types::objects::{DataId, Object, Version};
 use kube_types::text::Text;
 use object_print::members::{AsJson, MemberSink};
+use piece_print::writing::JsonPieces;
 
 /// The word for a change.
 pub fn change_word(change: Change) -> &'static str
@@ -29,29 +30,27 @@ pub fn change_word(change: Change) -> &'static str
 
 #[tactic(auto, unfolding(json_text::specs::Members::with_option))]
 fn put_object<'a>(
-    out: &mut JsonText,
-    memo: &mut Memo<'a>,
+    out: &mut JsonPieces<'a>,
     key: &str,
     object: &'a Object,
 ) -> Result<(), OutOfMemory>
-    ensures ok { OnOk result (written out.new ≡ with_some key.now (Some (object_data object.now)) (written out.old)) }
+    ensures ok { OnOk result (whole out.new ≡ with_some key.now (Some (object_data object.now)) (whole out.old)) }
 {
     out.key(key)?;
-    memo.write(out, object)
+    out.object(object)
 }
 
 /// An object as the only member.
 #[tactic(auto, using(json_text::proofs::Closing::closes_within))]
 fn write_told<'a>(
-    out: &mut JsonText,
-    memo: &mut Memo<'a>,
+    out: &mut JsonPieces<'a>,
     key: &str,
     object: &'a Object,
 ) -> Result<(), OutOfMemory>
-    ensures ok { OnOk result (written out.new ≡ with_value (within key.now (object_data object.now)) (written out.old)) }
+    ensures ok { OnOk result (whole out.new ≡ with_value (within key.now (object_data object.now)) (whole out.old)) }
 {
     out.begin_object()?;
-    put_object(out, memo, key, object)?;
+    put_object(out, key, object)?;
     out.end_object()
 }
 
@@ -65,100 +64,75 @@ fn write_only<T: AsJson>(out: &mut JsonText, key: &str, value: &T) -> Result<(),
     out.end_object()
 }
 
-fn write_objects<'a>(
-    out: &mut JsonText,
-    memo: &mut Memo<'a>,
-    objects: &'a [Object],
-) -> Result<(), OutOfMemory>
-    ensures ok { OnOk result (written out.new ≡ items_after (items_data object_data objects.now) (written out.old)) }
+fn write_objects<'a>(out: &mut JsonPieces<'a>, objects: &'a [Object]) -> Result<(), OutOfMemory>
+    ensures ok { OnOk result (whole out.new ≡ items_after (items_data object_data objects.now) (whole out.old)) }
 {
     for object in objects {
-        memo.write(out, object)?;
+        out.object(object)?;
     }
     Ok(())
 }
 
 #[tactic(auto, using(crate::proofs::Closings::closes_objects))]
-fn put_objects<'a>(
-    out: &mut JsonText,
-    memo: &mut Memo<'a>,
-    objects: &'a [Object],
-) -> Result<(), OutOfMemory>
-    ensures ok { OnOk result (written out.new ≡ with_some (codes "items") (Some (array_data object_data objects.now)) (written out.old)) }
+fn put_objects<'a>(out: &mut JsonPieces<'a>, objects: &'a [Object]) -> Result<(), OutOfMemory>
+    ensures ok { OnOk result (whole out.new ≡ with_some (codes "items") (Some (array_data object_data objects.now)) (whole out.old)) }
 {
     out.key("items")?;
     out.begin_array()?;
-    write_objects(out, memo, objects)?;
+    write_objects(out, objects)?;
     out.end_array()
 }
 
 #[tactic(auto, using(crate::proofs::Closings::closes_listed))]
 fn write_listed<'a>(
-    out: &mut JsonText,
-    memo: &mut Memo<'a>,
+    out: &mut JsonPieces<'a>,
     objects: &'a [Object],
     version: Version,
 ) -> Result<(), OutOfMemory>
-    ensures ok { OnOk result (written out.new ≡ with_value (object_of (listed_pairs objects.now version)) (written out.old)) }
+    ensures ok { OnOk result (whole out.new ≡ with_value (object_of (listed_pairs objects.now version)) (whole out.old)) }
 {
     out.begin_object()?;
-    put_objects(out, memo, objects)?;
+    put_objects(out, objects)?;
     out.put("listed", &version)?;
     out.end_object()
 }
 
 #[tactic(auto, using(crate::proofs::Closings::closes_event))]
-fn write_event<'a>(
-    out: &mut JsonText,
-    memo: &mut Memo<'a>,
-    event: &'a Event,
-) -> Result<(), OutOfMemory>
-    ensures ok { OnOk result (written out.new ≡ with_value (event_data event.now) (written out.old)) }
+fn write_event<'a>(out: &mut JsonPieces<'a>, event: &'a Event) -> Result<(), OutOfMemory>
+    ensures ok { OnOk result (whole out.new ≡ with_value (event_data event.now) (whole out.old)) }
 {
     out.begin_object()?;
     out.put_text("change", change_word(event.change))?;
-    put_object(out, memo, "object", &event.object)?;
+    put_object(out, "object", &event.object)?;
     out.put("version", &event.version)?;
     out.end_object()
 }
 
-fn write_event_items<'a>(
-    out: &mut JsonText,
-    memo: &mut Memo<'a>,
-    events: &'a [Event],
-) -> Result<(), OutOfMemory>
-    ensures ok { OnOk result (written out.new ≡ items_after (items_data event_data events.now) (written out.old)) }
+fn write_event_items<'a>(out: &mut JsonPieces<'a>, events: &'a [Event]) -> Result<(), OutOfMemory>
+    ensures ok { OnOk result (whole out.new ≡ items_after (items_data event_data events.now) (whole out.old)) }
 {
     for event in events {
-        write_event(out, memo, event)?;
+        write_event(out, event)?;
     }
     Ok(())
 }
 
 #[tactic(auto, using(crate::proofs::Closings::closes_event_items))]
-fn put_events<'a>(
-    out: &mut JsonText,
-    memo: &mut Memo<'a>,
-    events: &'a [Event],
-) -> Result<(), OutOfMemory>
-    ensures ok { OnOk result (written out.new ≡ with_some (codes "events") (Some (array_data event_data events.now)) (written out.old)) }
+fn put_events<'a>(out: &mut JsonPieces<'a>, events: &'a [Event]) -> Result<(), OutOfMemory>
+    ensures ok { OnOk result (whole out.new ≡ with_some (codes "events") (Some (array_data event_data events.now)) (whole out.old)) }
 {
     out.key("events")?;
     out.begin_array()?;
-    write_event_items(out, memo, events)?;
+    write_event_items(out, events)?;
     out.end_array()
 }
 
 #[tactic(auto, using(crate::proofs::Closings::closes_events))]
-fn write_events<'a>(
-    out: &mut JsonText,
-    memo: &mut Memo<'a>,
-    events: &'a Events,
-) -> Result<(), OutOfMemory>
-    ensures ok { OnOk result (written out.new ≡ with_value (object_of (events_pairs events.now)) (written out.old)) }
+fn write_events<'a>(out: &mut JsonPieces<'a>, events: &'a Events) -> Result<(), OutOfMemory>
+    ensures ok { OnOk result (whole out.new ≡ with_value (object_of (events_pairs events.now)) (whole out.old)) }
 {
     out.begin_object()?;
-    put_events(out, memo, events.events.as_slice())?;
+    put_events(out, events.events.as_slice())?;
     out.put("upto", &events.upto)?;
     out.end_object()
 }
@@ -291,26 +265,52 @@ fn write_refusal(out: &mut JsonText, refusal: &Refusal) -> Result<(), OutOfMemor
     members.write(out)
 }
 
+// ---- replies that tell no object, behind the rest of the text
+
+fn put_only<T: AsJson>(out: &mut JsonPieces<'_>, key: &str, value: &T) -> Result<(), OutOfMemory>
+    ensures ok { OnOk result (whole out.new ≡ with_value (within key.now (T.json value.now)) (whole out.old)) }
+{
+    write_only(&mut out.tail, key, value)
+}
+
+fn put_mounted(out: &mut JsonPieces<'_>, rows: &[MountRow]) -> Result<(), OutOfMemory>
+    ensures ok { OnOk result (whole out.new ≡ with_value (within (codes "mounted") (array_data mount_data rows.now)) (whole out.old)) }
+{
+    write_mounted(&mut out.tail, rows)
+}
+
+fn put_provisioned(
+    out: &mut JsonPieces<'_>,
+    id: &DataId,
+    topology: &Option<(Text, Text)>,
+) -> Result<(), OutOfMemory>
+    ensures ok { OnOk result (whole out.new ≡ with_value (object_of (provisioned_pairs id.now topology.now)) (whole out.old)) }
+{
+    write_provisioned(&mut out.tail, id, topology)
+}
+
+fn put_refused_reply(out: &mut JsonPieces<'_>, refusal: &Refusal) -> Result<(), OutOfMemory>
+    ensures ok { OnOk result (whole out.new ≡ with_value (object_of (refusal_pairs refusal.now)) (whole out.old)) }
+{
+    write_refusal(&mut out.tail, refusal)
+}
+
 /// Puts a reply at the end.
 #[tactic(auto, unfolding(crate::specs::Replies::reply_data))]
-pub fn write_reply<'a>(
-    out: &mut JsonText,
-    memo: &mut Memo<'a>,
-    reply: &'a Reply,
-) -> Result<(), OutOfMemory>
-    ensures ok { OnOk result (written out.new ≡ with_value (reply_data reply.now) (written out.old)) }
+pub fn write_reply<'a>(out: &mut JsonPieces<'a>, reply: &'a Reply) -> Result<(), OutOfMemory>
+    ensures ok { OnOk result (whole out.new ≡ with_value (reply_data reply.now) (whole out.old)) }
 {
     match reply {
-        Reply::Done(object) => write_told(out, memo, "done", object),
-        Reply::Left(object) => write_told(out, memo, "left", object),
-        Reply::Found(object) => write_told(out, memo, "found", object),
-        Reply::Listed { items, version } => write_listed(out, memo, items.as_slice(), *version),
-        Reply::Events(events) => write_events(out, memo, events),
-        Reply::Provisioned { id, topology } => write_provisioned(out, id, topology),
-        Reply::Erased { removed } => write_only(out, "erased", removed),
-        Reply::Epoch(epoch) => write_only(out, "epoch", epoch),
-        Reply::Mounted(rows) => write_mounted(out, rows.as_slice()),
-        Reply::Timed => write_only(out, "timed", &true),
-        Reply::Refused(refusal) => write_refusal(out, refusal),
+        Reply::Done(object) => write_told(out, "done", object),
+        Reply::Left(object) => write_told(out, "left", object),
+        Reply::Found(object) => write_told(out, "found", object),
+        Reply::Listed { items, version } => write_listed(out, items.as_slice(), *version),
+        Reply::Events(events) => write_events(out, events),
+        Reply::Provisioned { id, topology } => put_provisioned(out, id, topology),
+        Reply::Erased { removed } => put_only(out, "erased", removed),
+        Reply::Epoch(epoch) => put_only(out, "epoch", epoch),
+        Reply::Mounted(rows) => put_mounted(out, rows.as_slice()),
+        Reply::Timed => put_only(out, "timed", &true),
+        Reply::Refused(refusal) => put_refused_reply(out, refusal),
     }
 }

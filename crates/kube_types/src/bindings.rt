@@ -1,7 +1,7 @@
 //! The words of bindings: classes, completed, for, carries, protected.
 
 ghost use Rattle.std.specs.Prelude.{◌≡◌, IfOk};
-ghost use Rattle.kube_types.specs.Bindings.{carries, class_of_claim, class_of_volume, is_completed, is_deleting, is_empty, is_ended, is_for, is_lost, is_protected_claim, is_protected_volume, is_scheduled, is_uid, lacks_class, names_claim};
+ghost use Rattle.kube_types.specs.Bindings.{carries, class_of_claim, class_of_volume, is_completed, is_deleting, is_empty, is_ended, is_for, is_lost, is_protected_claim, is_protected_volume, is_scheduled, is_uid, lacks_class, names_claim, uid_fits};
 
 use crate::objects::{Claim, Meta, Pod, Ref, Volume};
 use crate::parts::{ClaimPhase, VolumePhase};
@@ -122,19 +122,24 @@ pub fn names_claim(reference: &Ref, claim: &Claim) -> bool
         && reference.name.is(claim.meta.name.as_str())
 }
 
+/// Whether the reference has the claim's id, or none.
+fn may_have_uid(reference: &Ref, claim: &Claim) -> bool
+    ensures { result ≡ uid_fits reference.now.uid claim.now }
+{
+    match reference.uid {
+        None => true,
+        Some(uid) => is_uid(claim.meta.uid, uid),
+    }
+}
+
 /// Whether the volume's reference names the claim, with its id or with none.
 pub fn is_for(volume: &Volume, claim: &Claim) -> bool
     ensures { result ≡ is_for volume.now claim.now }
 {
     match &volume.claim_ref {
         None => false,
-        Some(reference) => {
-            names_claim(reference, claim)
-                && match reference.uid {
-                    None => true,
-                    Some(uid) => is_uid(claim.meta.uid, uid),
-                }
-        }
+        // Ids are compared first, which costs least.
+        Some(reference) => may_have_uid(reference, claim) && names_claim(reference, claim),
     }
 }
 

@@ -1,9 +1,9 @@
 //! Objects in the order of their keys.
 
-ghost use Rattle.std.specs.Prelude.{◌≡◌, ◌≤◌, ◌+◌, ℕ, [], IfOk, IfErr, IfNone, OnOk, OnErr, length, take, drop, slice_get};
+ghost use Rattle.std.specs.Prelude.{◌≡◌, ◌≤◌, ◌+◌, [], IfOk, IfErr, IfNone, OnOk, OnErr, length, slice_get};
 ghost use Rattle.std.specs.Option.{option_copied};
 ghost use Rattle.std.specs.List.Sorted.{IsSearchInRange};
-ghost use Rattle.kube_types.specs.Keys.{AreRows, IsRowAt, IsRowGap, key_of, row_at, put_row, without_row, rows_of, IsKindStart};
+ghost use Rattle.kube_types.specs.Keys.{AreRows, IsRowAt, IsRowGap, key_of, kind_index, row_at, put_row, without_row, rows_of, IsKindStart};
 
 use crate::key::{Key, key_of, kind_index, kind_of, same_kind};
 use crate::lookup::Lookup;
@@ -91,7 +91,7 @@ impl Ranked<KindsFrom> for Object {
 }
 
 /// Where the objects of the kinds from this place in the order of kinds on begin.
-fn kind_start(rows: &[Object], index: u8) -> usize
+pub fn kind_start(rows: &[Object], index: u8) -> usize
     requires { AreRows rows.now }
     ensures bound { result ≤ length rows.now }
     ensures start { IsKindStart index rows.now result }
@@ -102,16 +102,27 @@ fn kind_start(rows: &[Object], index: u8) -> usize
     }
 }
 
-/// Where the objects of a kind begin, and how many they are.
-fn kind_span(rows: &[Object], kind: Kind) -> (usize, usize)
+/// The objects of a kind, where they begin at `start` and those of later kinds at `end`.
+pub fn between_starts<'a>(rows: &'a [Object], kind: Kind, start: usize, end: usize) -> &'a [Object]
+    requires start_within { start ≤ length rows.now }
+    requires end_within { end ≤ length rows.now }
+    requires start { IsKindStart (kind_index kind) rows.now start }
+    requires end { IsKindStart (kind_index kind + 1) rows.now end }
+    ensures { result.now ≡ rows_of kind rows.now }
+{
+    let count = end - start;
+    &rows[start..start + count]
+}
+
+/// The objects of a kind, which stand together.
+pub fn of_kind<'a>(rows: &'a [Object], kind: Kind) -> &'a [Object]
     requires { AreRows rows.now }
-    ensures bound { result.0 + result.1 ≤ length rows.now }
-    ensures span { rows_of kind rows.now ≡ take result.1 (drop result.0 rows.now) }
+    ensures { result.now ≡ rows_of kind rows.now }
 {
     let index = kind_index(kind);
     let start = kind_start(rows, index);
     let end = kind_start(rows, index + 1);
-    (start, end - start)
+    between_starts(rows, kind, start, end)
 }
 
 /// How many objects are of a kind.
@@ -119,7 +130,7 @@ pub fn count_of_kind(rows: &[Object], kind: Kind) -> usize
     requires { AreRows rows.now }
     ensures { result ≡ length (rows_of kind rows.now) }
 {
-    kind_span(rows, kind).1
+    of_kind(rows, kind).len()
 }
 
 /// The object at a place among those of its kind, from 0.

@@ -1,3 +1,4 @@
 mod Setups
 mod Seats
 pub mod Replays
+pub mod Threads

@@ -23,21 +23,22 @@ use Rattle.actor_turns.specs.declared.loss.Fate.{Fate}
 use Rattle.actor_turns.specs.declared.loss.Fate.TheVariants.{Told, LostBefore, LostAfter}
 use Rattle.actor_turns.specs.declared.part.Part.{Part}
 use Rattle.actor_turns.specs.Fates.{fate_of}
-use Rattle.script_runs.specs.Parts.{kind_of_worker, seat_kind_of, drain_seats, part_of, role_of}
+use Rattle.script_runs.specs.Parts.{kind_of_worker, seat_kind_of, drain_seat, part_of, role_of}
 use Rattle.actor_turns.specs.Calls.{seat_at, IsOneMore, IsCallWith, AreCalls, NoCalls, MoreCalls}
 use Rattle.worker_threads.specs.Rounds.{all_pass}
-use Rattle.script_runs.proofs.Draining.{calls_leave_entries, drains_come_to}
-use Rattle.script_runs.specs.Replays.{Progress, first_progress, IsTurnLine, IsDrain, IsMove, AreMoves, NoMoves, MoreMoves, IsReplay}
+use Rattle.script_runs.proofs.Draining.{drains_at_come_to}
+use Rattle.worker_threads.specs.Drainers.{seats_for}
+use Rattle.script_runs.specs.Replays.{Progress, first_progress, IsTurnLine, IsDrainAt, IsMove, AreMoves, NoMoves, MoreMoves, IsReplay}
 use Rattle.printable_law.specs.Laws.{IsAskedGiven, IsGivenRun}
 use Rattle.printable_law.proofs.Runs.{runs_give, run_texts_have_one}
 use Rattle.printable_replays.specs.Laws.{IsReplayedRun, ReplaysGive, ReplayTextsHaveOne}
 use Rattle.printable_replays.proofs.Setups.{count_most, script_setups_give, users_ask}
-use Rattle.printable_replays.proofs.Seats.{life_seat, drains_seat}
+use Rattle.printable_replays.proofs.Seats.{life_seat, drain_high, drainer_seat}
 
-abbrev HasSeat : Entry → Type 0
+abbrev pub HasSeat : Entry → Type 0
 HasSeat e = IsNumber e.seat
 
-abbrev AsksGiven : Entry → Type 0
+abbrev pub AsksGiven : Entry → Type 0
 AsksGiven e = IsRequest e.request
 
 -- the seats are numbers, and the users ask what a text can give
@@ -45,17 +46,17 @@ pub record AreFine (past : List Entry) : Type 0 where
   pub seats : All HasSeat past
   pub users : All AsksGiven (users_of past)
 
-nothing_fine : AreFine []
+pub nothing_fine : AreFine []
 nothing_fine = record { seats = All-nil HasSeat; users = All-nil AsksGiven }
 
-fine_asked : (e : Entry) (past : List Entry) → HasSeat e → AsksGiven e → AreFine past → AreFine (e ∷ past)
+pub fine_asked : (e : Entry) (past : List Entry) → HasSeat e → AsksGiven e → AreFine past → AreFine (e ∷ past)
 fine_asked e past seat asks h = record { seats = All-cons HasSeat e past seat h.seats; users = by (is_user e.kind) }
   where
     by : (b : Bool) → All AsksGiven (cond b (e ∷ users_of past) (users_of past))
     by true = All-cons AsksGiven e (users_of past) asks h.users
     by false = h.users
 
-fine_told : (e : Entry) (past : List Entry) → HasSeat e → is_user e.kind ≡ false → AreFine past → AreFine (e ∷ past)
+pub fine_told : (e : Entry) (past : List Entry) → HasSeat e → is_user e.kind ≡ false → AreFine past → AreFine (e ∷ past)
 fine_told e past seat other h = record { seats = All-cons HasSeat e past seat h.seats; users = by (is_user e.kind) other }
   where
     by : (b : Bool) → b ≡ false → All AsksGiven (cond b (e ∷ users_of past) (users_of past))
@@ -72,7 +73,7 @@ call_fine Told seat kind past new is other call h = more_fine seat kind true pas
 call_fine LostAfter seat kind past new is other call h = more_fine seat kind false past new is other call h
 call_fine LostBefore seat kind past new is other call h = subst AreFine (sym call) h
 
-calls_fine : (part : Part) (new : List Entry) → ((n : ℕ) → IsNumber (seat_at part n)) → is_user part.kind ≡ false → (n count : ℕ) (past : List Entry) → AreCalls all_pass [] part new n count past → AreFine past → AreFine new
+pub calls_fine : (part : Part) (new : List Entry) → ((n : ℕ) → IsNumber (seat_at part n)) → is_user part.kind ≡ false → (n count : ℕ) (past : List Entry) → AreCalls all_pass [] part new n count past → AreFine past → AreFine new
 calls_fine part new is other n count past (NoCalls none same) h = subst AreFine (sym same) h
 calls_fine part new is other n count past (MoreCalls rest middle some call more) h =
     calls_fine part new is other _ rest middle more (call_fine (fate_of part.losses n) (seat_at part n) part.kind past middle (is n) other call h)
@@ -88,7 +89,7 @@ no_worker_is_user workers.Scheduler = refl
 no_worker_is_user workers.Claims = refl
 no_worker_is_user workers.Volumes = refl
 
-no_actor_is_user : (actor : Actor) → is_user (seat_kind_of actor) ≡ false
+pub no_actor_is_user : (actor : Actor) → is_user (seat_kind_of actor) ≡ false
 no_actor_is_user (Worker w) = no_worker_is_user w.kind
 no_actor_is_user (Agent node) = refl
 
@@ -98,12 +99,15 @@ told_seats : (some : List ℕ) (es past : List Entry) → ((seat : ℕ) → IsOn
 told_seats some [] past is told h = h
 told_seats some (e ∷ es) past is told h = All-cons HasSeat e _ (is e.seat told.0) (told_seats some es past is told.2 h)
 
-drain_fine : (script : Script) (option : Option ℕ) (before after : Progress) → IsScript script → IsDrain all_pass script option before after → AreFine before.past → AreFine after.past
-drain_fine script option before after is d h =
-    let entries = calls_leave_entries script option before after d in
+-- a drain whose first seat is this one
+pub drain_fine : (script : Script) (first : ℕ) (option : Option ℕ) (before after : Progress)
+    → IsScript script → first ≤ 16863257 → IsDrainAt all_pass script first option before after → AreFine before.past → AreFine after.past
+drain_fine script first option before after is high d h =
+    let comes = drains_at_come_to all_pass script first option before after d in
+    let entries = comes.entries.longer in
     record {
-      seats = subst (All HasSeat) (sym entries.are) (told_seats (drain_seats script) entries.added before.past (drains_seat script is) entries.of_seats h.seats);
-      users = subst (All AsksGiven) (sym (drains_come_to all_pass script option before after d).users) h.users;
+      seats = subst (All HasSeat) (sym entries.are) (told_seats (seats_for first script.node_names) entries.added before.past (drainer_seat script is first high) entries.of_seats h.seats);
+      users = subst (All AsksGiven) (sym comes.users) h.users;
     }
 
 -- ---- a line
@@ -118,7 +122,7 @@ line_fine script option agents earlier (Call user request) before after is given
 line_fine script option agents earlier (Lose actor call lost) before after is given move h = subst (λ (p : Progress). AreFine p.past) (sym move) h
 line_fine script option agents earlier (Restart actor calls) before after is given move h = subst (λ (p : Progress). AreFine p.past) (sym move) h
 line_fine script option agents earlier (Turn actor calls) before after is given move h = turn_fine actor (part_of script actor) calls before after (life_seat script is actor) (no_actor_is_user actor) move h
-line_fine script option agents earlier Drain before after is given move h = drain_fine script option before after is move h
+line_fine script option agents earlier Drain before after is given move h = drain_fine script (drain_seat script) option before after is (drain_high script is) move h
 
 -- ---- the lines
 
@@ -133,7 +137,7 @@ moves_fine script option end agents is earlier lines now given (MoreMoves line r
 replay_fine : (script : Script) (budget : Option ℕ) (past : List Entry) (ending : Drained) → IsScript script → IsReplay script budget past ending → AreFine past
 replay_fine script budget past ending is replay =
     subst AreFine (sym replay.history)
-    (drain_fine script budget replay.lines_done replay.end is replay.last
+    (drain_fine script (drain_seat script) budget replay.lines_done replay.end is (drain_high script is) replay.last
     (moves_fine script budget replay.lines_done (agents_of script.setup.imports script.lines) is [] script.lines (first_progress budget) is.lines replay.moves nothing_fine))
 
 -- ---- the history
@@ -145,7 +149,7 @@ first_asks e past h = by (is_user e.kind) refl h
     by true is all = (λ u. All-head AsksGiven e (users_of past) all, All-tail AsksGiven e (users_of past) all)
     by false is all = (λ u. absurd (true≢false (sym u ∙ is)), all)
 
-asked : (past : List Entry) → All HasSeat past → All AsksGiven (users_of past) → All IsAskedGiven past
+pub asked : (past : List Entry) → All HasSeat past → All AsksGiven (users_of past) → All IsAskedGiven past
 asked [] seats users = All-nil IsAskedGiven
 asked (e ∷ past) seats users =
     let asks = first_asks e past users in

@@ -16,7 +16,7 @@ use Rattle.script_text.specs.declared.script.Line.{Line}
 use Rattle.script_text.specs.declared.script.Script.{Script}
 use Rattle.script_text.specs.Said.{created_node, imported_node, and_node, imported_after, agents_after, agents_of, nodes_of, restarts_of}
 use Rattle.script_laws.specs.Scripts.{IsScript}
-use Rattle.script_runs.specs.Parts.{is_named, lives_in, all_actors, lives_before, all_lives, drain_seat, drain_seats, part_of}
+use Rattle.script_runs.specs.Parts.{is_named, lives_in, all_actors, lives_before, all_lives, drain_seat, part_of}
 use Rattle.actor_turns.specs.Calls.{restarts_before, seat_at}
 use Rattle.worker_threads.specs.Drainers.{seats_for, seats_from}
 use Rattle.worker_threads.specs.Longer.{IsOneOf}
@@ -74,7 +74,7 @@ all_few (actor ∷ actors) lines few =
     let rest = all_few actors lines few in
     omega (arith, here, rest)
 
-before_restarts : (n : ℕ) (restarts : List ℕ) → restarts_before n restarts ≤ length restarts
+pub before_restarts : (n : ℕ) (restarts : List ℕ) → restarts_before n restarts ≤ length restarts
 before_restarts n [] = omega arith
 before_restarts n (after ∷ restarts) = by (nat_lt after n) (before_restarts n restarts)
   where
@@ -85,10 +85,10 @@ before_restarts n (after ∷ restarts) = by (nat_lt after n) (before_restarts n 
 -- ---- of a script
 
 module _ (script : Script) (is : IsScript script) where
-  lines_few : length script.lines ≤ 4096
+  pub lines_few : length script.lines ≤ 4096
   lines_few = let few = is.few_lines in omega (arith, few)
 
-  nodes_few : length script.node_names ≤ 4096
+  pub nodes_few : length script.node_names ≤ 4096
   nodes_few =
       let few = is.few_lines in
       let imported = imported_few [] script.setup.imports in
@@ -114,7 +114,7 @@ module _ (script : Script) (is : IsScript script) where
       let lives = before_restarts n (restarts_of (actor_word actor) script.lines) in
       omega (arith, few, lines, before, restarts, lives)
 
-  drain_high : drain_seat script ≤ 16863257
+  pub drain_high : drain_seat script ≤ 16863257
   drain_high =
       let few = actors_few in
       let lives = all_few (all_actors script) script.lines lines_few in
@@ -125,14 +125,14 @@ module _ (script : Script) (is : IsScript script) where
   seats_below from (node ∷ nodes) seat (inl e) = omega (arith, e)
   seats_below from (node ∷ nodes) seat (inr later) = let rest = seats_below (from + 1) nodes seat later in omega (arith, rest)
 
-  -- a drain's seat
-  pub drains_seat : (seat : ℕ) → IsOneOf (drain_seats script) seat → IsNumber seat
-  drains_seat seat h = by (drain_seat script) drain_high nodes_few h
+  -- the seat of a drain whose first seat is this one
+  pub drainer_seat : (first : ℕ) → first ≤ 16863257 → (seat : ℕ) → IsOneOf (seats_for first script.node_names) seat → IsNumber seat
+  drainer_seat first high seat h = by nodes_few h
     where
-      by : (d : ℕ) → d ≤ 16863257 → length script.node_names ≤ 4096 → IsOneOf (seats_for d script.node_names) seat → IsNumber seat
-      by d high few (inl e) = omega (arith, high, e)
-      by d high few (inr (inl e)) = omega (arith, high, e)
-      by d high few (inr (inr (inl e))) = omega (arith, high, e)
-      by d high few (inr (inr (inr (inl e)))) = omega (arith, high, e)
-      by d high few (inr (inr (inr (inr (inl e))))) = omega (arith, high, e)
-      by d high few (inr (inr (inr (inr (inr later))))) = let below = seats_below (d + 5) script.node_names seat later in omega (arith, high, few, below)
+      by : length script.node_names ≤ 4096 → IsOneOf (seats_for first script.node_names) seat → IsNumber seat
+      by few (inl e) = omega (arith, high, e)
+      by few (inr (inl e)) = omega (arith, high, e)
+      by few (inr (inr (inl e))) = omega (arith, high, e)
+      by few (inr (inr (inr (inl e)))) = omega (arith, high, e)
+      by few (inr (inr (inr (inr (inl e))))) = omega (arith, high, e)
+      by few (inr (inr (inr (inr (inr later))))) = let below = seats_below (first + 5) script.node_names seat later in omega (arith, high, few, below)

@@ -10,6 +10,7 @@ use Rattle.history_text.specs.Output.{history_text, with_lines}
 use Rattle.script_text.specs.declared.script.Script.{Script}
 use Rattle.script_laws.specs.Scripts.{IsScript}
 use Rattle.script_runs.specs.Replays.{IsReplay}
+use Rattle.script_threads.specs.Runs.{IsRun}
 use Rattle.printable_law.specs.Laws.{HasOneHistory}
 
 -- the setup of a script that a text can give, a text can give
@@ -32,3 +33,22 @@ abbrev pub ReplayTextsHaveOne : Type 0
 ReplayTextsHaveOne =
     (script : Script) (budget : Option ℕ) (past : List Entry) (ending : Drained) (lines : List (List ℕ))
     → IsReplayedRun script budget past ending → HasOneHistory (with_lines (history_text script.setup (reverse past)) lines) script.setup (reverse past)
+
+-- what a run on threads brings about
+pub record IsMadeByThreads (script : Script) (workers calls : ℕ) (budget : Option ℕ) (past : List Entry) (ending : Drained) : Type 0 where
+  pub script_given : IsScript script
+  pub calls_are : IsRun script workers calls budget past ending
+  pub run : Run script.setup past
+  pub short : length past < most_entries
+
+-- is such a history too
+abbrev pub ThreadsGive : Type 0
+ThreadsGive =
+    (script : Script) (workers calls : ℕ) (budget : Option ℕ) (past : List Entry) (ending : Drained)
+    → IsMadeByThreads script workers calls budget past ending → IsTextHistory script.setup (reverse past)
+
+-- and what is printed of it has it alone
+abbrev pub ThreadTextsHaveOne : Type 0
+ThreadTextsHaveOne =
+    (script : Script) (workers calls : ℕ) (budget : Option ℕ) (past : List Entry) (ending : Drained) (lines : List (List ℕ))
+    → IsMadeByThreads script workers calls budget past ending → HasOneHistory (with_lines (history_text script.setup (reverse past)) lines) script.setup (reverse past)

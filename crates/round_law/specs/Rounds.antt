@@ -1,6 +1,6 @@
 -- A round: each actor has a slot, one after the other. What acts on the world of the start acts in its slot, or an entry before it lasts.
 -- A choice of this project.
-use Rattle.std.specs.Prelude.{ℕ, ◌≡◌, ◌≢◌, ◌<◌, Bool, true, false, List, Option, Some, slice_get}
+use Rattle.std.specs.Prelude.{ℕ, ◌≡◌, true, false, List, Some, slice_get}
 use Rattle.kube_types.specs.declared.key.Key.{Key}
 use Rattle.kube_types.specs.declared.objects.Object.{Object}
 use Rattle.kube_types.specs.Keys.{row_at}
@@ -8,30 +8,23 @@ use Rattle.call_types.specs.declared.entry.Entry.{Entry}
 use Rattle.call_types.specs.declared.setup.Setup.{Setup}
 use Rattle.binder_model.specs.Reading.{follows}
 use Rattle.binder_model.specs.World.{IsHistory, world}
-use Rattle.worker_core.specs.Absorbs.{woken}
 use Rattle.worker_core.specs.Roles.{IsBuiltKind}
-use Rattle.worker_core.specs.States.{waits}
 use Rattle.worker_threads.specs.declared.drainers.Drainer.{Drainer}
 use Rattle.worker_threads.specs.Rounds.{IsRound, Lets}
 use Rattle.write_law.specs.Lasting.{HasLasting}
 use Rattle.slot_law.specs.Slots.{ActsOn}
-use Rattle.slot_law.specs.Unseen.{IsUnseen, NeverTells}
 
--- the key waits once the actor is woken; or its object stands, the actor has not seen it, and its own calls tell it none
-pub data IsToDecide (setup : Setup) (d : Drainer) (start : List Entry) (key : Key) : Type 0 where
-  Waits : waits key (woken d.actor).work ≡ true → IsToDecide setup d start key
-  IsNew : (o : Object) → row_at key (world setup start).store.rows ≡ Some o → follows d.actor.role.kind key.kind ≡ true → IsUnseen d.seat start key → NeverTells setup d.seat d.actor.role start key → IsToDecide setup d start key
-
--- an actor of the round acts on the key, which it has to decide; and it is not silent at the end of the round, as an agent is
--- whose node was taken by another. Those before it have other seats
+-- an actor of the round acts on an object that stands, and follows its kind; and it is not silent at the end of the round, as an
+-- agent is whose node was taken by another
 pub record HasActor (setup : Setup) (lets : Lets) (ds after : List Drainer) (start : List Entry) : Type 0 where
   pub place : ℕ
   pub drainer : Drainer
   pub there : slice_get ds place ≡ Some drainer
-  pub apart : (i : ℕ) (other : Drainer) → i < place → slice_get ds i ≡ Some other → other.seat ≢ drainer.seat
   pub built : IsBuiltKind drainer.actor.role.kind
   pub key : Key
-  pub decides : IsToDecide setup drainer start key
+  pub object : Object
+  pub stands : row_at key (world setup start).store.rows ≡ Some object
+  pub followed : follows drainer.actor.role.kind key.kind ≡ true
   pub acts : ActsOn setup lets drainer.seat drainer.actor.role start key
   pub awake : (then_ : Drainer) → slice_get after place ≡ Some then_ → then_.actor.memory.stale ≡ false
 

@@ -1,9 +1,9 @@
 //! A round: each actor is woken in its turn and run until it is idle.
 //!
-//! Promises: where an actor of the round acts on the world with which the round begins, a whole round has an entry that
-//! lasts (`rounds_last`), whatever the others do before it: an entry of theirs lasts, or the world is alike when its
-//! turn comes. The key on which it acts waits once it is woken, or it has not seen it yet. It is said over any choice
-//! of which requests reach the world. Not said: which actor acts on what is due.
+//! Promises: where an actor of the round acts on an object with which the round begins, and follows its kind, a whole
+//! round has an entry that lasts (`rounds_last`), whatever the others do before it: an entry of theirs lasts, or the
+//! world is alike when its turn comes. What it has cached or under way does not matter. It is said over any choice of
+//! which requests reach the world. Not said: which actor acts on what is due.
 #![tactic(auto)]
 
 ghost use Rattle.round_law.specs.Rounds.{RoundsLast};

@@ -165,7 +165,7 @@ words_of : (nodes : List (List ℕ)) → map actor_word (agents_for nodes) ≡ m
 words_of [] = refl
 words_of (node ∷ nodes) = ap (λ names. agent_word node ∷ names) (words_of nodes)
 
-words_differ : (nodes : List (List ℕ)) → NamesInOrder nodes → all_differ (map actor_word (actors_for nodes)) ≡ true
+pub words_differ : (nodes : List (List ℕ)) → NamesInOrder nodes → all_differ (map actor_word (actors_for nodes)) ≡ true
 unfolding actors_for
 words_differ nodes order =
     ap (λ names. all_differ (map actor_word all_of_kinds ++ names)) (words_of nodes)
@@ -291,7 +291,7 @@ few_past lines (actor ∷ actors) first few =
     let rest = few_past lines actors (end_of (part_from lines actor first)) few in
     omega (arith, here, rest)
 
-how_many : (nodes : List (List ℕ)) → length (actors_for nodes) ≡ 20 + length nodes
+pub how_many : (nodes : List (List ℕ)) → length (actors_for nodes) ≡ 20 + length nodes
 unfolding actors_for
 how_many nodes = length-append all_of_kinds (agents_for nodes) ∙ ap (λ n. 20 + n) (length-map nodes (λ (node : List ℕ). Agent node))
 

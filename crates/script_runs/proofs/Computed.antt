@@ -74,8 +74,9 @@ limits = record {
     order = ((refl, tt), (tt, tt));
     known = (tt, (tt, (tt, (tt, (tt, (tt, (tt, (tt, (tt, tt)))))))));
   };
-  the_last_user_and_the_most_calls = (omega arith, (omega arith, tt));
-  no_fifth_user = λ h. let fifth = h.1.0 in absurd (omega (arith, fifth));
+  the_last_user_and_the_most_calls = ((omega arith, omega arith), (omega arith, tt));
+  no_fifth_user = λ h. let fifth = h.1.0.1 in absurd (omega (arith, fifth));
+  no_user_before_the_first = λ h. let none = h.0.0 in absurd (omega (arith, none));
   no_longer_turn = λ h. let turn = h.lines.0 in absurd (omega (arith, turn));
   no_ninth_node = λ h. let nodes = h.nodes in absurd (omega (arith, nodes));
   agents_of_its_nodes = record {

@@ -3,17 +3,17 @@ use Rattle.std.proofs.Common.{◌≡◌, ◌⊎◌, ◌∙◌, ℕ, ◌+◌, ◌
 use Rattle.call_types.specs.declared.entry.Entry.{Entry}
 use Rattle.binder_model.specs.Due.{IsSettled}
 use Rattle.binder_model.specs.World.{world}
-use Rattle.worker_threads.specs.Drainers.{seats_of}
+use Rattle.worker_threads.specs.Drainers.{seats_for, seats_of}
 use Rattle.worker_threads.specs.Longer.{GrowsWithin, IsLonger, users_of}
 use Rattle.worker_threads.specs.Rounds.{Lets, all_pass}
 use Rattle.worker_threads.proofs.DrainFacts.{drains_end, drains_grow, drains_longer, drains_none, drains_users}
 use Rattle.worker_threads.proofs.RoundFacts.{roles_built}
 use Rattle.script_text.specs.declared.script.Script.{Script}
-use Rattle.script_runs.specs.Drains.{CallsLeaveEntries, DrainComesTo, DrainsComeTo}
-use Rattle.script_runs.specs.Parts.{drain_seats}
-use Rattle.script_runs.specs.Replays.{IsDrain, Progress}
+use Rattle.script_runs.specs.Drains.{CallsLeaveEntries, DrainAtComesTo, DrainsAtComeTo, DrainsComeTo}
+use Rattle.script_runs.specs.Parts.{drain_seat}
+use Rattle.script_runs.specs.Replays.{IsDrainAt, Progress}
 
-module _ (lets : Lets) (script : Script) (option : Option ℕ) (before after : Progress) (d : IsDrain lets script option before after) where
+module _ (lets : Lets) (script : Script) (first : ℕ) (option : Option ℕ) (before after : Progress) (d : IsDrainAt lets script first option before after) where
   past_is : after.past ≡ d.past
   past_is = ap (λ (p : Progress). p.past) d.is
 
@@ -28,10 +28,10 @@ module _ (lets : Lets) (script : Script) (option : Option ℕ) (before after : P
   made_is = let few = d.few in let is = drained_is in omega (arith, few, is)
 
   -- as the drain's seats have the entries, so the history's next point has them
-  pub at_seats : (P : List ℕ → ℕ → List Entry → Type 0) → P (seats_of d.drainers) ((d.budget - before.drained) - (d.budget - (before.drained + d.made))) d.past → P (drain_seats script) (after.drained - before.drained) after.past
-  at_seats P h = subst (P (drain_seats script) (after.drained - before.drained)) (sym past_is) (subst (λ n. P (drain_seats script) n d.past) made_is (subst (λ ss. P ss ((d.budget - before.drained) - (d.budget - (before.drained + d.made))) d.past) d.seats h))
+  pub at_seats : (P : List ℕ → ℕ → List Entry → Type 0) → P (seats_of d.drainers) ((d.budget - before.drained) - (d.budget - (before.drained + d.made))) d.past → P (seats_for first script.node_names) (after.drained - before.drained) after.past
+  at_seats P h = subst (P (seats_for first script.node_names) (after.drained - before.drained)) (sym past_is) (subst (λ n. P (seats_for first script.node_names) n d.past) made_is (subst (λ ss. P ss ((d.budget - before.drained) - (d.budget - (before.drained + d.made))) d.past) d.seats h))
 
-  comes : DrainComesTo script before after
+  comes : DrainAtComesTo script first before after
   comes = record {
     entries = at_seats (λ ss n h. GrowsWithin ss n before.past h) (drains_grow lets _ _ _ _ _ _ _ d.rounds);
     users = ap users_of past_is ∙ drains_users lets _ _ _ _ _ _ _ d.rounds (roles_built _ d.stand.roles);
@@ -45,8 +45,11 @@ module _ (lets : Lets) (script : Script) (option : Option ℕ) (before after : P
       by (inl settled) = inl (subst (λ h. IsSettled script.setup (world script.setup h)) (sym past_is) settled)
       by (inr spent) = inr (let few = d.few in let is = drained_is in let b = budget_is in omega (arith, spent, few, is, b))
 
+pub drains_at_come_to : DrainsAtComeTo
+drains_at_come_to = comes
+
 pub drains_come_to : DrainsComeTo
-drains_come_to = comes
+drains_come_to lets script option before after d = comes lets script (drain_seat script) option before after d
 
 pub calls_leave_entries : CallsLeaveEntries
-calls_leave_entries script option before after d = at_seats all_pass script option before after d (λ ss n h. IsLonger ss n before.past h) (drains_longer _ _ _ _ _ _ _ d.rounds)
+calls_leave_entries script option before after d = at_seats all_pass script (drain_seat script) option before after d (λ ss n h. IsLonger ss n before.past h) (drains_longer _ _ _ _ _ _ _ d.rounds)

@@ -43,8 +43,15 @@ count_most most n is = by (nat_le 1 n) (nat_le n most) refl is
     by true false e h = absurd (true≢false (sym h))
     by false c e h = absurd (true≢false (sym h))
 
+count_least : (most n : ℕ) → IsCount most n → 1 ≤ n
+count_least most n is = by (nat_le 1 n) refl is
+  where
+    by : (b : Bool) → nat_le 1 n ≡ b → (b && nat_le n most) ≡ true → 1 ≤ n
+    by true e h = leb-true 1 n e
+    by false e h = absurd (true≢false (sym h))
+
 line_within : (agents : List Pair) (before : List Line) (line : Line) → IsLineAfter agents before line → IsWithinLimits line
-line_within agents before (Call user request) is = let most = count_most 4 user is.0 in omega (arith, most)
+line_within agents before (Call user request) is = let least = count_least 4 user is.0 in let most = count_most 4 user is.0 in (omega (arith, least), omega (arith, most))
 line_within agents before (Lose actor call after) is = tt
 line_within agents before (Restart actor after) is = tt
 line_within agents before (Turn actor calls) is = count_most most_turn calls is.1

@@ -94,7 +94,7 @@ seats_low low [] seat own = absurd own
 seats_low low (node ∷ nodes) seat (inl is) = omega (arith, is)
 seats_low low (node ∷ nodes) seat (inr later) = let rest = seats_low (low + 1) nodes seat later in omega (arith, rest)
 
-after_first : (first : ℕ) (nodes : List (List ℕ)) (seat : ℕ) → IsOneOf (seats_for first nodes) seat → first ≤ seat
+pub after_first : (first : ℕ) (nodes : List (List ℕ)) (seat : ℕ) → IsOneOf (seats_for first nodes) seat → first ≤ seat
 after_first first nodes seat (inl is) = omega (arith, is)
 after_first first nodes seat (inr (inl is)) = omega (arith, is)
 after_first first nodes seat (inr (inr (inl is))) = omega (arith, is)

@@ -183,6 +183,7 @@ pub record LimitExamples : Type 0 where
   pub within : IsReadable two_binders
   pub the_last_user_and_the_most_calls : AreWithinLimits (user_line 4 ∷ lines.Turn binder_1 1000 ∷ [])
   pub no_fifth_user : AreWithinLimits (lines.Drain ∷ user_line 5 ∷ []) → ⊥
+  pub no_user_before_the_first : AreWithinLimits (user_line 0 ∷ []) → ⊥
   pub no_longer_turn : IsReadable (script_of [] (lines.Turn binder_1 1001 ∷ [])) → ⊥
   pub no_ninth_node : IsReadable (script_of ([] ∷ [] ∷ [] ∷ [] ∷ [] ∷ [] ∷ [] ∷ [] ∷ [] ∷ []) []) → ⊥
   pub agents_of_its_nodes : IsReadable with_agents

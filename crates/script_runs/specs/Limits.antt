@@ -15,7 +15,7 @@ use Rattle.script_text.specs.Grammar.{read_numbered_of, script_of}
 
 -- what the reader of scripts gives for every line: users 1 to 4, and turns of at most 1,000 calls
 abbrev pub IsWithinLimits : Line → Type 0
-IsWithinLimits (Call user request) = user < 5
+IsWithinLimits (Call user request) = (0 < user) × (user < 5)
 IsWithinLimits (Turn actor calls) = calls ≤ 1000
 IsWithinLimits line = ⊤
 

@@ -85,20 +85,20 @@ lives_before name (actor ∷ actors) lines = if bytes_eq (actor_word actor) name
 abbrev pub first_actor_seat : ℕ
 first_actor_seat = 5
 
--- the part of the actor of a name and kind, whose first life has this seat
-abbrev pub part_at : List ℕ → SeatKind → ℕ → List Line → Part
-part_at name kind first lines = record {
+-- the part of the actor of a name and kind, which takes part or not, and whose first life has this seat
+abbrev pub part_at : Bool → List ℕ → SeatKind → ℕ → List Line → Part
+part_at takes name kind first lines = record {
   name = name;
   kind = kind;
-  named = is_named name lines;
+  named = takes;
   first = first;
   losses = lost_calls name lines;
   restarts = restarts_of name lines;
 }
 
--- the part of an actor
+-- the part of an actor, which takes part where a turn line names it
 abbrev pub part_of : Script → Actor → Part
-part_of script actor = part_at (actor_word actor) (seat_kind_of actor) (first_actor_seat + lives_before (actor_word actor) (all_actors script) script.lines) script.lines
+part_of script actor = part_at (is_named (actor_word actor) script.lines) (actor_word actor) (seat_kind_of actor) (first_actor_seat + lives_before (actor_word actor) (all_actors script) script.lines) script.lines
 
 -- the drains' actors
 

@@ -15,7 +15,7 @@ use Rattle.world_core.specs.declared.drained.Drained.{Drained}
 use Rattle.world_core.specs.declared.drained.Drained.TheVariants.{Settled, Spent}
 use Rattle.binder_model.specs.Due.{IsFirstDue, IsSettled}
 use Rattle.worker_threads.specs.declared.drainers.Drainer.{Drainer}
-use Rattle.worker_threads.specs.Drainers.{AreStanding, roles_of, seats_of}
+use Rattle.worker_threads.specs.Drainers.{AreStanding, roles_of, seats_for, seats_of}
 use Rattle.worker_threads.specs.Rounds.{Drains, Lets, all_pass}
 use Rattle.script_text.specs.declared.script.Line.{Line}
 use Rattle.script_text.specs.declared.script.Line.TheVariants.{Call, Lose, Restart, Turn, Drain}
@@ -23,7 +23,7 @@ use Rattle.script_text.specs.declared.script.Script.{Script}
 use Rattle.actor_turns.specs.declared.part.Part.{Part}
 use Rattle.script_runs.specs.Budget.{first_budget, raised}
 use Rattle.actor_turns.specs.Calls.{AreCalls, AreNeededLives, AreOfLife, MayEnd, and_idle, seat_at}
-use Rattle.script_runs.specs.Parts.{drain_roles, drain_seats, part_of, role_of}
+use Rattle.script_runs.specs.Parts.{drain_roles, drain_seat, part_of, role_of}
 
 -- how far a replay has come
 pub record Progress : Type 0 where
@@ -80,21 +80,25 @@ IsTurnLine lets held role part calls before after = MakesAll lets held role part
 -- ---- a drain
 
 -- the budget is raised; then come rounds of the drain's actors while something is due and calls are left, and nothing else. Their
--- seats and roles are those of new ones (`AreNew`), and never change; at first each stands for the entries of its seat. What it
--- has made are calls: one that is held back leaves no entry. `DrainComesTo` says what follows
-pub record IsDrain (lets : Lets) (script : Script) (option : Option ℕ) (before after : Progress) : Type 0 where
+-- seats, from the first one on, and their roles are those of new ones (`AreNew`), and never change; at first each stands for the
+-- entries of its seat. What it has made are calls: one that is held back leaves no entry. `DrainAtComesTo` says what follows
+pub record IsDrainAt (lets : Lets) (script : Script) (first : ℕ) (option : Option ℕ) (before after : Progress) : Type 0 where
   pub past : List Entry
   pub made : ℕ
   pub budget : ℕ
   pub drainers : List Drainer
   pub ran : List Drainer
   pub raises : budget ≡ raised option script.setup before.past before.budget
-  pub seats : seats_of drainers ≡ drain_seats script
+  pub seats : seats_of drainers ≡ seats_for first script.node_names
   pub roles : roles_of drainers ≡ drain_roles script
   pub stand : AreStanding drainers before.past
   pub few : before.drained + made ≤ budget
   pub rounds : Drains lets script.setup ran past (budget - (before.drained + made)) drainers before.past (budget - before.drained)
   pub is : after ≡ record before { past = past; drained = before.drained + made; budget = budget }
+
+-- a drain of a replay: its seats come after those of the lives of all actors
+abbrev pub IsDrain : Lets → Script → Option ℕ → Progress → Progress → Type 0
+IsDrain lets script option before after = IsDrainAt lets script (drain_seat script) option before after
 
 -- ---- the lines
 

@@ -93,27 +93,41 @@ fn kind_of(actor: &Actor) -> SeatKind
     }
 }
 
-/// The part of an actor whose first life has this seat.
+/// The part of an actor, which takes part or not, and whose first life has this seat.
+pub fn part_at(
+    alloc: Global,
+    takes: bool,
+    actor: &Actor,
+    first: u64,
+    lines: &[Line],
+) -> Result<Part, OutOfMemory>
+    ensures { IfOk result (λ part. part ≡ part_at takes (actor_word actor.now) (seat_kind_of actor.now) first lines.now) }
+{
+    let name = actor.name(alloc)?;
+    let losses = losses_in(alloc, &name, lines)?;
+    let restarts = restarts_in(alloc, &name, lines)?;
+    Ok(Part {
+        name,
+        kind: kind_of(actor),
+        named: takes,
+        first,
+        losses,
+        restarts,
+    })
+}
+
+/// The part of an actor whose first life has this seat. It takes part where a turn names it.
 pub fn part_from(
     alloc: Global,
     actor: &Actor,
     first: u64,
     lines: &[Line],
 ) -> Result<Part, OutOfMemory>
-    ensures { IfOk result (λ part. part ≡ part_at (actor_word actor.now) (seat_kind_of actor.now) first lines.now) }
+    ensures { IfOk result (λ part. part ≡ part_at (is_named (actor_word actor.now) lines.now) (actor_word actor.now) (seat_kind_of actor.now) first lines.now) }
 {
     let name = actor.name(alloc)?;
     let named = is_named(alloc, &name, lines)?;
-    let losses = losses_in(alloc, &name, lines)?;
-    let restarts = restarts_in(alloc, &name, lines)?;
-    Ok(Part {
-        name,
-        kind: kind_of(actor),
-        named,
-        first,
-        losses,
-        restarts,
-    })
+    part_at(alloc, named, actor, first, lines)
 }
 
 /// The seat after those of the lives of an actor.

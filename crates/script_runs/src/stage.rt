@@ -38,7 +38,7 @@ use world_core::drained::Drained;
 use world_core::kept::KeptWorld;
 
 /// Room for the entries that a script within its limits makes where no greater budget is given.
-const MOST_ENTRIES: usize = 165216;
+pub const MOST_ENTRIES: usize = 165216;
 
 /// The users have the seats before it.
 const FIRST_ACTOR_SEAT: u64 = 5;
@@ -386,7 +386,7 @@ fn add_workers(
 }
 
 /// The numbers of the workers of a kind.
-fn numbers() -> &'static [WorkerNumber]
+pub fn numbers() -> &'static [WorkerNumber]
     ensures { result.now ≡ One ∷ Two ∷ Three ∷ Four ∷ [] }
 {
     &[
@@ -444,7 +444,8 @@ fn players(alloc: Global, script: &Script) -> Result<(Vec<Player>, u64), OutOfMe
     Ok((players, end))
 }
 
-fn first_budget(option: Option<u64>) -> u64
+/// The budget before the first drain.
+pub fn first_budget(option: Option<u64>) -> u64
     ensures { result ≡ first_budget option }
 {
     match option {

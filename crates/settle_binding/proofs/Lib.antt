@@ -1,5 +1,4 @@
 pub mod Alike
-pub mod Best
 pub mod Binding
 pub mod Claims
 pub mod References

@@ -1,12 +1,11 @@
 -- Which writes of the binder and of the scheduler lower what is left to do, and by how much.
 -- A choice of this project.
-use Rattle.std.specs.Prelude.{ℕ, ◌≡◌, ◌⊎◌, Bool, true, false, List, [], Option, Some, None}
+use Rattle.std.specs.Prelude.{ℕ, ◌≡◌, ◌⊎◌, true, false, List, Option, Some, None}
 use Rattle.kube_types.specs.declared.names.Due.TheVariants as dues
 use Rattle.kube_types.specs.declared.parts.VolumePhase.{VolumePhase}
 use Rattle.kube_types.specs.declared.parts.VolumePhase.TheVariants as volumes
 use Rattle.kube_types.specs.declared.objects.Claim.{Claim as ClaimData}
 use Rattle.kube_types.specs.declared.objects.Volume.{Volume as VolumeData}
-use Rattle.kube_types.specs.declared.objects.Object.{Object}
 use Rattle.kube_types.specs.declared.objects.Object.TheVariants.{Volume, Claim}
 use Rattle.kube_types.specs.declared.parts.ClaimPhase.{ClaimPhase}
 use Rattle.kube_types.specs.declared.parts.ClaimPhase.TheVariants as claims
@@ -24,9 +23,8 @@ use Rattle.call_types.specs.declared.setup.Setup.{Setup}
 use Rattle.binder_model.specs.BinderDue.{named_due, volume_due}
 use Rattle.binder_model.specs.BindWrites.{next_write, shows_bound, write_claim_status, write_completion, write_reference, write_available, write_bound, write_unbound}
 use Rattle.binder_model.specs.ObjectKeys.{claim_key, volume_key}
-use Rattle.binder_model.specs.Told.{SomeOf}
 use Rattle.binder_model.specs.Choice.{has_carrier}
-use Rattle.binder_model.specs.Matching.{IsBestAt, eligible, has_match}
+use Rattle.binder_model.specs.Matching.{eligible, has_match}
 use Rattle.binder_model.specs.World.{World}
 use Rattle.settle_measure.specs.Measure.{is_lost, is_seeking}
 use Rattle.settle_measure.specs.Lowers.{Lowers, Stands, StandsClaim}
@@ -58,12 +56,6 @@ MatchPays =
     (setup : Setup) (w : World) (kind : SeatKind) (v : VolumeData) (c : ClaimData) → Stands w v → StandsClaim w c → is_seeking c ≡ true → eligible v c None ≡ true → carries v c ≡ false
     → ((u : VolumeData) → row_at (key_of (Volume u)) w.store.rows ≡ Some (Volume u) → eligible u c None ≡ true → is_for u c ≡ true → is_for v c ≡ true)
     → Lowers setup w kind (write_reference v c) 1
-
--- the best volume of a claim is for the claim where any is
-abbrev pub BestIsOwn : Type 0
-BestIsOwn =
-    (rows : List Object) (c : ClaimData) (only_own : Bool) (place : ℕ) (best : IsBestAt rows c None only_own [] place) (u : VolumeData) → SomeOf (λ o. o ≡ Volume u) rows
-    → eligible u c None ≡ true → is_for u c ≡ true → is_for best.volume c ≡ true
 
 -- the scheduler takes a volume for a claim that no volume carries
 abbrev pub PreparePays : Type 0

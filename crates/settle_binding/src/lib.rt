@@ -9,7 +9,7 @@
 //! made, whatever came before. Not said: that such a write is made, or is done.
 #![tactic(auto)]
 
-ghost use Rattle.settle_binding.specs.Pays.{AvailablePays, BestIsOwn, BoundPays, ClassPays, CompletedPays, CompletionPays, LostPays, MatchPays, NamedPays, NodeGoes, NodeStays, PreparePays, ReleasePays, StatusPays, UnbindPays};
+ghost use Rattle.settle_binding.specs.Pays.{AvailablePays, BoundPays, ClassPays, CompletedPays, CompletionPays, LostPays, MatchPays, NamedPays, NodeGoes, NodeStays, PreparePays, ReleasePays, StatusPays, UnbindPays};
 
 /// Phase Available.
 #[tactic(auto, using(crate::proofs::Stages::available_pays))]
@@ -39,12 +39,6 @@ pub fn bound_pays()
 #[tactic(auto, using(crate::proofs::Binding::match_pays))]
 pub fn match_pays()
     ensures { MatchPays }
-{}
-
-/// The best volume of a claim is for the claim where any is.
-#[tactic(auto, using(crate::proofs::Best::best_is_own))]
-pub fn best_is_own()
-    ensures { BestIsOwn }
 {}
 
 /// The first write of a binding: the scheduler's, which prepares a claim.

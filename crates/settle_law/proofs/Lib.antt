@@ -1,2 +1,6 @@
+pub mod Doers
+pub mod Drained
+pub mod Fresh
+pub mod Leaving
 pub mod Paying
 pub mod Rounds

@@ -11,13 +11,14 @@ use Rattle.worker_threads.specs.Rounds.{Drains, Goes, IsSpent, Lets, NothingDue}
 use Rattle.worker_threads.proofs.DrainFacts.{drains_grow}
 use Rattle.worker_threads.proofs.RoundFacts.{round_part}
 use Rattle.settle_law.specs.Settling.{MayDrain, PayingDrainsSettle, RoundsPay}
+use Rattle.settle_law.proofs.Leaving.{rounds_leave_drainers}
 
 -- a run without its newest entries is one
 run_older : (setup : Setup) (newer past : List Entry) → Run setup (newer ++ past) → Run setup past
 run_older setup [] past run = run
 run_older setup (e ∷ newer) past run = run_older setup newer past run.0
 
-run_of_older : (setup : Setup) (newer h past : List Entry) → past ≡ newer ++ h → IsRunOf setup past → IsRunOf setup h
+pub run_of_older : (setup : Setup) (newer h past : List Entry) → past ≡ newer ++ h → IsRunOf setup past → IsRunOf setup h
 run_of_older setup newer h past are r =
     let short = r.short in
     let same : length past ≡ length (newer ++ h) = ap length are in
@@ -32,7 +33,7 @@ module _ (setup : Setup) (lets : Lets) (cost : List Drainer → List Entry → �
       let g = drains_grow lets setup after past left between middle rest more in
       let here = run_of_older setup g.longer.added middle past g.longer.are run in
       let paid = pays.paid ds between h middle b rest first may here due round in
-      settles between middle rest (pays.kept ds between h middle b rest may here round) (omega (arith, enough, paid)) more
+      settles between middle rest (rounds_leave_drainers setup lets ds between h middle b rest may here round).0 (omega (arith, enough, paid)) more
   settles ds h b may enough (Goes first due some between middle rest false round more) =
       let g = drains_grow lets setup after past left between middle rest more in
       let here = run_of_older setup g.longer.added middle past g.longer.are run in

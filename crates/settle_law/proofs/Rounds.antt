@@ -1,41 +1,96 @@
--- A whole round that begins with something due, for an actor that has cached it, has an entry that lasts.
-use Rattle.std.proofs.Common.{◌≡◌, ◌≢◌, ◌∙◌, ℕ, zero, suc, List, Bool, true, false, true≢false, Some, refl, sym, ap, subst, arith, ◌⊎◌, inl, inr, Option, None}
-use Rattle.std.specs.Prelude.{option_map, slice_get}
+-- A whole round that begins with something due has an entry that lasts.
+use Rattle.std.proofs.Common.{◌≡◌, ◌≢◌, ◌∙◌, ℕ, zero, suc, List, Bool, true, false, true≢false, Option, Some, None, refl, sym, ap, subst}
+use Rattle.std.specs.Prelude.{option_map, slice_get, ⊤}
 use Rattle.kube_types.specs.declared.key.Key.{Key}
 use Rattle.kube_types.specs.declared.objects.Object.{Object}
-use Rattle.kube_types.specs.declared.objects.Object.TheVariants.{Claim, Volume}
-use Rattle.kube_types.specs.Keys.{row_at}
+use Rattle.kube_types.specs.Keys.{key_of, row_at}
 use Rattle.kube_types.proofs.KeyOrder.{row_at_key}
 use Rattle.call_types.specs.declared.entry.Entry.{Entry}
 use Rattle.call_types.specs.declared.request.SeatKind.{SeatKind}
 use Rattle.call_types.specs.declared.request.SeatKind.TheVariants as seats
 use Rattle.call_types.specs.declared.setup.Setup.{Setup}
 use Rattle.binder_model.specs.Reading.{follows}
-use Rattle.binder_model.specs.Told.{newest, object_of, own}
-use Rattle.binder_model.specs.World.{IsHistory, world}
-use Rattle.informer_cache.specs.All.{all_objects}
+use Rattle.binder_model.specs.Promises.{IsRunOf}
+use Rattle.binder_model.specs.World.{world}
+use Rattle.model_laws.proofs.Growing.{runs_are_histories}
 use Rattle.model_laws.proofs.Lists.{none_some, one}
 use Rattle.worker_core.specs.declared.role.Role.{Role}
 use Rattle.worker_core.specs.Absorbs.{woken}
 use Rattle.worker_core.specs.Roles.{IsBuiltKind}
 use Rattle.worker_threads.specs.declared.drainers.Drainer.{Drainer}
-use Rattle.worker_threads.specs.Drainers.{StandsWhole, of_kind, roles_for, roles_of}
+use Rattle.worker_threads.specs.Drainers.{agent_of, of_kind, roles_for, roles_of}
 use Rattle.worker_threads.specs.Rounds.{Ends, IsRound, Lets, Runs, Turns}
 use Rattle.worker_threads.proofs.RoundFacts.{both}
 use Rattle.write_law.specs.Lasting.{HasLasting}
 use Rattle.alike_law.proofs.Rows.{get_mapped}
-use Rattle.slot_law.specs.Slots.{ActsOn}
-use Rattle.slot_law.specs.Unseen.{NeverTells}
-use Rattle.slot_law.proofs.Slots.{cached_keys_wait, others_stay_awake}
+use Rattle.slot_law.specs.Would.{CallsPass, WouldActOn}
+use Rattle.slot_law.proofs.Slots.{others_stay_awake}
+use Rattle.slot_law.proofs.Would.{would_act_where_calls_pass}
 use Rattle.bind_law.proofs.Claims.{claims_act}
 use Rattle.due_law.proofs.Claims.{claim_guards_act}
 use Rattle.due_law.proofs.Guards.{volume_guards_act}
 use Rattle.due_law.proofs.Reclaims.{reclaims_act}
 use Rattle.due_law.proofs.Volumes.{volumes_act}
-use Rattle.round_law.specs.Rounds.{IsNew, IsToDecide, Waits}
+use Rattle.provision_law.proofs.Provisions.{provisioner_acts}
+use Rattle.schedule_law.proofs.Acts.{pods_act}
+use Rattle.epoch_law.specs.Silent.{OnlyOvertakenAreSilent}
+use Rattle.epoch_law.proofs.Silent.{current_are_awake}
+use Rattle.agent_law.specs.Rounds.{HasAwake}
+use Rattle.agent_law.proofs.Mounting.{agents_act}
+use Rattle.agent_law.proofs.Rounds.{agent_rounds_last}
 use Rattle.round_law.proofs.Rounds.{rounds_last}
-use Rattle.settle_law.specs.Rounds.{DueRoundsLast, ForBinder, ForBinderOfClaims, ForClaimProtection, ForReclaimer, ForVolumeProtection, HasCached, IsFreeAt}
+use Rattle.settle_law.specs.Rounds.{DueRoundsLast, ForAgent, ForBinder, ForBinderOfClaims, ForClaimProtection, ForProvisioner, ForReclaimer, ForScheduler, ForVolumeProtection, HasCurrent, UnsettledRoundsLast, doer_of}
 use Rattle.settle_law.specs.Settling.{MayDrain}
+use Rattle.settle_law.proofs.Doers.{due_is_for}
+
+-- a drainer of a role
+pub record HasRole (ds : List Drainer) (role : Role) : Type 0 where
+  pub place : ℕ
+  pub drainer : Drainer
+  pub there : slice_get ds place ≡ Some drainer
+  pub role_is : drainer.actor.role ≡ role
+
+pub role_at : (ds : List Drainer) (place : ℕ) (role : Role) → slice_get (roles_of ds) place ≡ Some role → HasRole ds role
+role_at ds place role at = by (slice_get ds place) refl
+  where
+    mapped : slice_get (roles_of ds) place ≡ option_map (λ (d : Drainer). d.actor.role) (slice_get ds place)
+    mapped = get_mapped (λ (d : Drainer). d.actor.role) ds place
+
+    by : (x : Option Drainer) → slice_get ds place ≡ x → HasRole ds role
+    by None e = none_some (sym (ap (option_map (λ (d : Drainer). d.actor.role)) e) ∙ (sym mapped ∙ at))
+    by (Some d) e = record { place = place; drainer = d; there = e; role_is = one d.actor.role role (sym (ap (option_map (λ (d : Drainer). d.actor.role)) e) ∙ (sym mapped ∙ at)) }
+
+-- the kinds that serve no node
+abbrev IsController : SeatKind → Type 0
+IsController seats.User = ⊥
+IsController seats.Agent = ⊥
+IsController kind = ⊤
+
+-- each of them is among the drainers
+controller_at : (ds : List Drainer) (nodes : List (List ℕ)) → roles_of ds ≡ roles_for nodes → (kind : SeatKind) → IsController kind → HasRole ds (of_kind kind)
+controller_at ds nodes are seats.Scheduler is = role_at ds 0 (of_kind seats.Scheduler) (ap (λ roles. slice_get roles 0) are)
+controller_at ds nodes are seats.Ops is = role_at ds 1 (of_kind seats.Ops) (ap (λ roles. slice_get roles 1) are)
+controller_at ds nodes are seats.Binder is = role_at ds 2 (of_kind seats.Binder) (ap (λ roles. slice_get roles 2) are)
+controller_at ds nodes are seats.ClaimProtect is = role_at ds 3 (of_kind seats.ClaimProtect) (ap (λ roles. slice_get roles 3) are)
+controller_at ds nodes are seats.VolumeProtect is = role_at ds 4 (of_kind seats.VolumeProtect) (ap (λ roles. slice_get roles 4) are)
+controller_at ds nodes are seats.User is = absurd is
+controller_at ds nodes are seats.Agent is = absurd is
+
+abbrev pub is_agent : SeatKind → Bool
+is_agent seats.Agent = true
+is_agent kind = false
+
+not_agent : (kind : SeatKind) → is_agent kind ≡ false → kind ≢ seats.Agent
+not_agent kind e is = true≢false (sym (ap is_agent is) ∙ e)
+
+controllers_built : (kind : SeatKind) → IsController kind → IsBuiltKind kind × (kind ≢ seats.Agent)
+controllers_built seats.Scheduler is = (tt, not_agent seats.Scheduler refl)
+controllers_built seats.Ops is = (tt, not_agent seats.Ops refl)
+controllers_built seats.Binder is = (tt, not_agent seats.Binder refl)
+controllers_built seats.ClaimProtect is = (tt, not_agent seats.ClaimProtect refl)
+controllers_built seats.VolumeProtect is = (tt, not_agent seats.VolumeProtect refl)
+controllers_built seats.User is = absurd is
+controllers_built seats.Agent is = absurd is
 
 -- no actor but an agent is silent at the end of a whole round
 module _ (lets : Lets) (past : List Entry) (left : ℕ) where
@@ -50,68 +105,68 @@ module _ (lets : Lets) (past : List Entry) (left : ℕ) where
   awake_in _ h b _ _ (Turns {ds = ds} {after = after} {whole = whole} first ran middle rest idle seat run more) is_whole (suc place) d x there ran_there other =
       awake_in ds middle rest after whole more (both idle whole is_whole).1 place d x there ran_there other
 
--- the role at a place
-role_at : (ds : List Drainer) (nodes : List (List ℕ)) (place : ℕ) (d : Drainer) (kind : SeatKind) → roles_of ds ≡ roles_for nodes → slice_get (roles_for nodes) place ≡ Some (of_kind kind) → slice_get ds place ≡ Some d → d.actor.role.kind ≡ kind
-role_at ds nodes place d kind are at there =
-    let mine : slice_get (roles_of ds) place ≡ Some d.actor.role = get_mapped (λ (x : Drainer). x.actor.role) ds place ∙ ap (option_map (λ (x : Drainer). x.actor.role)) there in
-    ap (λ (r : Role). r.kind) (one d.actor.role (of_kind kind) (sym mine ∙ (ap (λ rs. slice_get rs place) are ∙ at)))
+-- the kind of what stands under a key
+followed_by : (kind : SeatKind) (key : Key) (o : Object) (rows : List Object) → row_at key rows ≡ Some o → follows kind (key_of o).kind ≡ true → follows kind key.kind ≡ true
+followed_by kind key o rows there is = ap (λ (k : Key). follows kind k.kind) (sym (row_at_key key o rows there)) ∙ is
 
-module _ (setup : Setup) (lets : Lets) (ds after : List Drainer) (h past : List Entry) (b left : ℕ) (may : MayDrain setup h ds) (history : IsHistory setup past) (round : IsRound lets past left ds h b after true) where
-  lasts_by : (key : Key) (o : Object) (place : ℕ) (kind : SeatKind) → IsBuiltKind kind → (kind ≢ seats.Agent) → slice_get (roles_for may.stand.roles.nodes) place ≡ Some (of_kind kind) → row_at key (world setup h).store.rows ≡ Some o
-      → IsFreeAt setup h ds place key → follows kind key.kind ≡ true → ((seat : ℕ) (role : Role) → role.kind ≡ kind → ActsOn setup lets seat role h key) → HasLasting setup h past
-  lasts_by key o place kind built other at stands_ free followed acts =
-      rounds_last setup lets ds after h past b left history round (record {
-        place = place;
-        drainer = free.drainer;
-        there = free.there;
-        apart = λ i x lt at_i same. let is = may.seats.differ i place free.drainer.seat (get_mapped (λ (y : Drainer). y.seat) ds i ∙ (ap (option_map (λ (y : Drainer). y.seat)) at_i ∙ ap Some same)) (get_mapped (λ (y : Drainer). y.seat) ds place ∙ ap (option_map (λ (y : Drainer). y.seat)) free.there) in omega (arith, lt, is);
-        built = subst IsBuiltKind (sym is_kind) built;
+module _ (setup : Setup) (lets : Lets) (ds after : List Drainer) (h past : List Entry) (b left : ℕ) (may : MayDrain setup h ds) (run : IsRunOf setup past) (round : IsRound lets past left ds h b after true) (key : Key) (o : Object) (stands : row_at key (world setup h).store.rows ≡ Some o) where
+  -- a controller acts
+  controller_lasts : (kind : SeatKind) → IsController kind → follows kind (key_of o).kind ≡ true → ((seat : ℕ) → CallsPass setup lets seat (of_kind kind) h key) → ((seat : ℕ) → WouldActOn setup seat (of_kind kind) h key) → HasLasting setup h past
+  controller_lasts kind is followed passes would =
+      rounds_last setup lets ds after h past b left (runs_are_histories setup past run.run) round (record {
+        place = at.place;
+        drainer = at.drainer;
+        there = at.there;
+        built = subst IsBuiltKind (sym kind_is) kinds.0;
         key = key;
-        decides = by_knowing free.knows;
-        acts = acts free.drainer.seat free.drainer.actor.role is_kind;
-        awake = λ x there. awake_in lets past left ds h b after true round refl place free.drainer x free.there there (subst (λ k. k ≢ seats.Agent) (sym is_kind) other);
+        object = o;
+        stands = stands;
+        followed = ap (λ k. follows k key.kind) kind_is ∙ followed_by kind key o (world setup h).store.rows stands followed;
+        acts = would_act_where_calls_pass setup lets at.drainer.seat at.drainer.actor.role h key (subst (λ r. CallsPass setup lets at.drainer.seat r h key) (sym at.role_is) (passes at.drainer.seat))
+            (subst (λ r. WouldActOn setup at.drainer.seat r h key) (sym at.role_is) (would at.drainer.seat));
+        awake = λ x there. awake_in lets past left ds h b after true round refl at.place at.drainer x at.there there (subst (λ k. k ≢ seats.Agent) (sym kind_is) kinds.1);
       })
     where
-      is_kind : free.drainer.actor.role.kind ≡ kind
-      is_kind = role_at ds may.stand.roles.nodes place free.drainer kind may.stand.roles.are at free.there
+      at : HasRole ds (of_kind kind)
+      at = controller_at ds may.stand.roles.nodes may.stand.roles.are kind is
 
-      follows_it : follows free.drainer.actor.role.kind key.kind ≡ true
-      follows_it = ap (λ k. follows k key.kind) is_kind ∙ followed
+      kind_is : at.drainer.actor.role.kind ≡ kind
+      kind_is = ap (λ (r : Role). r.kind) at.role_is
 
-      stands_whole : StandsWhole free.drainer.actor (own free.drainer.seat h)
-      stands_whole = may.stand.each place free.drainer free.there
+      kinds : IsBuiltKind kind × (kind ≢ seats.Agent)
+      kinds = controllers_built kind is
 
-      waits_by : (x : Object) → row_at key (all_objects free.drainer.actor.caches) ≡ Some x → IsToDecide setup free.drainer h key
-      waits_by x cached = Waits (cached_keys_wait free.drainer.actor (own free.drainer.seat h) key x stands_whole free.idle follows_it cached)
-
-      by_knowing : HasCached free.drainer key ⊎ NeverTells setup free.drainer.seat free.drainer.actor.role h key → IsToDecide setup free.drainer h key
-      by_knowing (inl has) = waits_by has.object has.cached
-      by_knowing (inr never) = by (object_of (newest (own free.drainer.seat h) key)) refl
-        where
-          by : (x : Option Object) → object_of (newest (own free.drainer.seat h) key) ≡ x → IsToDecide setup free.drainer h key
-          by (Some x) e = waits_by x (stands_whole.told.caches.rows key ∙ e)
-          by None e = IsNew o stands_ follows_it e never
-
-abbrev is_agent : SeatKind → Bool
-is_agent seats.Agent = true
-is_agent kind = false
-
-not_agent : (kind : SeatKind) → is_agent kind ≡ false → kind ≢ seats.Agent
-not_agent kind e is = true≢false (sym (ap is_agent is) ∙ e)
+-- an agent whose epoch is its node's is no stale one
+awake_of : (setup : Setup) (ds : List Drainer) (h : List Entry) (node : List ℕ) → OnlyOvertakenAreSilent setup ds h → HasCurrent setup ds h node → HasAwake setup ds h node
+awake_of setup ds h node only a = record { place = a.place; drainer = a.drainer; there = a.there; role = a.role; awake = current_are_awake setup ds h a.place a.drainer node only a.there a.role a.current }
 
 pub due_rounds_last : DueRoundsLast
-due_rounds_last setup lets ds after h past b left key _ _ may passes history round there (ForReclaimer v action due) free =
-    lasts_by setup lets ds after h past b left may history round key _ 1 seats.Ops tt (not_agent seats.Ops refl) refl there free (ap (λ (k : Key). follows seats.Ops k.kind) (sym (row_at_key key (Volume v) (world setup h).store.rows there)))
-    (λ seat role is. reclaims_act setup lets seat role h key v action may.run.imports passes is there due)
-due_rounds_last setup lets ds after h past b left key _ _ may passes history round there (ForBinder v action due) free =
-    lasts_by setup lets ds after h past b left may history round key _ 2 seats.Binder tt (not_agent seats.Binder refl) refl there free (ap (λ (k : Key). follows seats.Binder k.kind) (sym (row_at_key key (Volume v) (world setup h).store.rows there)))
-    (λ seat role is. volumes_act setup lets seat role h key v action may.run.imports passes is there due)
-due_rounds_last setup lets ds after h past b left key _ _ may passes history round there (ForBinderOfClaims c action due) free =
-    lasts_by setup lets ds after h past b left may history round key _ 2 seats.Binder tt (not_agent seats.Binder refl) refl there free (ap (λ (k : Key). follows seats.Binder k.kind) (sym (row_at_key key (Claim c) (world setup h).store.rows there)))
-    (λ seat role is. claims_act setup lets seat role h key c action may.run.imports passes is there due)
-due_rounds_last setup lets ds after h past b left key _ _ may passes history round there (ForClaimProtection c action due) free =
-    lasts_by setup lets ds after h past b left may history round key _ 3 seats.ClaimProtect tt (not_agent seats.ClaimProtect refl) refl there free (ap (λ (k : Key). follows seats.ClaimProtect k.kind) (sym (row_at_key key (Claim c) (world setup h).store.rows there)))
-    (λ seat role is. claim_guards_act setup lets seat role h key c action may.run.imports passes is there due)
-due_rounds_last setup lets ds after h past b left key _ _ may passes history round there (ForVolumeProtection v action due) free =
-    lasts_by setup lets ds after h past b left may history round key _ 4 seats.VolumeProtect tt (not_agent seats.VolumeProtect refl) refl there free (ap (λ (k : Key). follows seats.VolumeProtect k.kind) (sym (row_at_key key (Volume v) (world setup h).store.rows there)))
-    (λ seat role is. volume_guards_act setup lets seat role h key v action may.run.imports passes is there due)
+due_rounds_last setup lets ds after h past b left key _ _ may only run round there (ForReclaimer v action due) passes doer =
+    controller_lasts setup lets ds after h past b left may run round key _ there seats.Ops tt refl passes (λ seat. reclaims_act setup seat (of_kind seats.Ops) h key v action may.run.imports refl there due)
+due_rounds_last setup lets ds after h past b left key _ _ may only run round there (ForProvisioner c action due) passes doer =
+    controller_lasts setup lets ds after h past b left may run round key _ there seats.Ops tt refl passes (λ seat. provisioner_acts action setup seat (of_kind seats.Ops) h key c may.run.imports refl there due)
+due_rounds_last setup lets ds after h past b left key _ _ may only run round there (ForBinder v action due) passes doer =
+    controller_lasts setup lets ds after h past b left may run round key _ there seats.Binder tt refl passes (λ seat. volumes_act setup seat (of_kind seats.Binder) h key v action may.run.imports refl there due)
+due_rounds_last setup lets ds after h past b left key _ _ may only run round there (ForBinderOfClaims c action due) passes doer =
+    controller_lasts setup lets ds after h past b left may run round key _ there seats.Binder tt refl passes (λ seat. claims_act setup seat (of_kind seats.Binder) h key c action may.run.imports refl there due)
+due_rounds_last setup lets ds after h past b left key _ _ may only run round there (ForClaimProtection c action due) passes doer =
+    controller_lasts setup lets ds after h past b left may run round key _ there seats.ClaimProtect tt refl passes (λ seat. claim_guards_act setup seat (of_kind seats.ClaimProtect) h key c action may.run.imports refl there due)
+due_rounds_last setup lets ds after h past b left key _ _ may only run round there (ForVolumeProtection v action due) passes doer =
+    controller_lasts setup lets ds after h past b left may run round key _ there seats.VolumeProtect tt refl passes (λ seat. volume_guards_act setup seat (of_kind seats.VolumeProtect) h key v action may.run.imports refl there due)
+due_rounds_last setup lets ds after h past b left key _ _ may only run round there (ForScheduler p action open_ due) passes doer =
+    controller_lasts setup lets ds after h past b left may run round key _ there seats.Scheduler tt refl passes (λ seat. pods_act setup seat (of_kind seats.Scheduler) h key p action may.run.imports refl there open_ due)
+due_rounds_last setup lets ds after h past b left key _ _ may only run round there (ForAgent p action scheduled due) passes doer =
+    agent_rounds_last setup lets ds after h past b left run may.stand.roles round (record {
+      node = p.node;
+      agent = awake_of setup ds h p.node only (doer p.node refl);
+      key = key;
+      object = _;
+      stands = there;
+      followed = followed_by seats.Agent key _ _ there refl;
+      acts = λ seat. agents_act setup seat (agent_of p.node) h key p action may.run.imports refl there scheduled due;
+      passes = passes;
+    })
+
+pub unsettled_rounds_last : UnsettledRoundsLast
+unsettled_rounds_last setup lets ds after h past b left may only run round x passes =
+    due_rounds_last setup lets ds after h past b left x.key x.object (doer_of x.object x.action) may only run round x.stands (due_is_for setup (world setup h) x.action x.object x.due) passes x.doer

@@ -1,2 +1,4 @@
+pub mod Drained
+pub mod Fresh
 pub mod Rounds
 pub mod Settling

@@ -1,49 +1,99 @@
--- Every round that begins with something due has an entry that lasts: as far as it is known which actor acts on what is due.
+-- Every round that begins with something due has an entry that lasts: by the actor that does it, or by another.
 -- A choice of this project.
-use Rattle.std.specs.Prelude.{ℕ, ◌≡◌, ◌⊎◌, true, List, Some, None, slice_get}
+use Rattle.std.specs.Prelude.{ℕ, ◌≡◌, true, false, List, Some, slice_get, if◌then◌else◌}
 use Rattle.kube_types.specs.declared.key.Key.{Key}
 use Rattle.kube_types.specs.declared.names.Due.{Due}
+use Rattle.kube_types.specs.declared.names.Due.TheVariants as dues
 use Rattle.kube_types.specs.declared.objects.Claim.{Claim as ClaimData}
+use Rattle.kube_types.specs.declared.objects.Pod.{Pod as PodData}
 use Rattle.kube_types.specs.declared.objects.Volume.{Volume as VolumeData}
 use Rattle.kube_types.specs.declared.objects.Object.{Object}
-use Rattle.kube_types.specs.declared.objects.Object.TheVariants.{Claim, Volume}
+use Rattle.kube_types.specs.declared.objects.Object.TheVariants.{Claim, Pod, Volume}
+use Rattle.kube_types.specs.Bindings.{is_scheduled}
 use Rattle.kube_types.specs.Keys.{row_at}
 use Rattle.call_types.specs.declared.entry.Entry.{Entry}
+use Rattle.call_types.specs.declared.request.SeatKind.{SeatKind}
+use Rattle.call_types.specs.declared.request.SeatKind.TheVariants as seats
 use Rattle.call_types.specs.declared.setup.Setup.{Setup}
 use Rattle.binder_model.specs.BinderDue.{claim_due, volume_due}
-use Rattle.binder_model.specs.Due.{claim_guard_due, reclaim_due, volume_guard_due}
-use Rattle.binder_model.specs.World.{IsHistory, world}
-use Rattle.informer_cache.specs.All.{all_objects}
+use Rattle.binder_model.specs.Due.{IsDue, agent_due, claim_guard_due, provision_due, reclaim_due, volume_guard_due}
+use Rattle.binder_model.specs.Promises.{IsRunOf}
+use Rattle.binder_model.specs.World.{World, world}
+use Rattle.worker_core.specs.declared.role.Role.{Role}
 use Rattle.worker_threads.specs.declared.drainers.Drainer.{Drainer}
+use Rattle.worker_threads.specs.Drainers.{agent_of, of_kind}
 use Rattle.worker_threads.specs.Rounds.{IsRound, Lets}
 use Rattle.write_law.specs.Lasting.{HasLasting}
-use Rattle.slot_law.specs.Unseen.{NeverTells}
-use Rattle.due_law.specs.Acts.{PassesWhileAlike}
+use Rattle.slot_law.specs.Would.{CallsPass}
+use Rattle.epoch_law.specs.Epochs.{IsCurrent}
+use Rattle.epoch_law.specs.Silent.{OnlyOvertakenAreSilent}
 use Rattle.settle_law.specs.Settling.{MayDrain}
 
--- something is due for the object, and the actor at this place of a round has to do it: the reclaimer, the binder, claim
--- protection, volume protection
-pub data DueAt (rows : List Object) : Object → ℕ → Type 0 where
-  ForReclaimer : (v : VolumeData) (action : Due) → reclaim_due v ≡ Some action → DueAt rows (Volume v) 1
-  ForBinder : (v : VolumeData) (action : Due) → volume_due rows v ≡ Some action → DueAt rows (Volume v) 2
-  ForBinderOfClaims : (c : ClaimData) (action : Due) → claim_due rows c ≡ Some action → DueAt rows (Claim c) 2
-  ForClaimProtection : (c : ClaimData) (action : Due) → claim_guard_due rows c ≡ Some action → DueAt rows (Claim c) 3
-  ForVolumeProtection : (v : VolumeData) (action : Due) → volume_guard_due v ≡ Some action → DueAt rows (Volume v) 4
+-- ---- who does what is due
 
--- an object of the key is in the caches of the actor
-pub record HasCached (d : Drainer) (key : Key) : Type 0 where
-  pub object : Object
-  pub cached : row_at key (all_objects d.actor.caches) ≡ Some object
+abbrev pub for_volume : Due → SeatKind
+for_volume dues.Reclaim = seats.Ops
+for_volume dues.Guard = seats.VolumeProtect
+for_volume dues.Unguard = seats.VolumeProtect
+for_volume action = seats.Binder
 
--- the actor at the place has nothing under way. It has an object of the key in its caches; or none of its own calls tells of the
--- key while it has not seen it, so that a list or a watch does
-pub record IsFreeAt (setup : Setup) (h : List Entry) (ds : List Drainer) (place : ℕ) (key : Key) : Type 0 where
+abbrev pub for_claim : Due → SeatKind
+for_claim dues.Provision = seats.Ops
+for_claim dues.ClearNode = seats.Ops
+for_claim dues.Guard = seats.ClaimProtect
+for_claim dues.Unguard = seats.ClaimProtect
+for_claim action = seats.Binder
+
+-- the role of the actor that does this for the object: a pod is the scheduler's until a node runs it, and then that node's agent's.
+-- Nothing is due for a class or a node
+abbrev pub doer_of : Object → Due → Role
+doer_of (Volume v) action = of_kind (for_volume action)
+doer_of (Claim c) action = of_kind (for_claim action)
+doer_of (Pod p) action = if is_scheduled p then agent_of p.node else of_kind seats.Scheduler
+doer_of o action = of_kind seats.Scheduler
+
+-- something is due for the object, and an actor of this role has to do it. It need not be the first that is due for the object
+pub data DueFor (setup : Setup) (w : World) : Object → Role → Type 0 where
+  ForReclaimer : (v : VolumeData) (action : Due) → reclaim_due v ≡ Some action → DueFor setup w (Volume v) (of_kind seats.Ops)
+  ForProvisioner : (c : ClaimData) (action : Due) → provision_due setup w c ≡ Some action → DueFor setup w (Claim c) (of_kind seats.Ops)
+  ForBinder : (v : VolumeData) (action : Due) → volume_due w.store.rows v ≡ Some action → DueFor setup w (Volume v) (of_kind seats.Binder)
+  ForBinderOfClaims : (c : ClaimData) (action : Due) → claim_due w.store.rows c ≡ Some action → DueFor setup w (Claim c) (of_kind seats.Binder)
+  ForClaimProtection : (c : ClaimData) (action : Due) → claim_guard_due w.store.rows c ≡ Some action → DueFor setup w (Claim c) (of_kind seats.ClaimProtect)
+  ForVolumeProtection : (v : VolumeData) (action : Due) → volume_guard_due v ≡ Some action → DueFor setup w (Volume v) (of_kind seats.VolumeProtect)
+  ForScheduler : (p : PodData) (action : Due) → is_scheduled p ≡ false → IsDue setup w (Pod p) (Some action) → DueFor setup w (Pod p) (of_kind seats.Scheduler)
+  ForAgent : (p : PodData) (action : Due) → is_scheduled p ≡ true → agent_due w p ≡ Some action → DueFor setup w (Pod p) (agent_of p.node)
+
+-- among these is an agent of the node that is no stale one: it took no epoch of the node, or the one that the node has
+pub record HasCurrent (setup : Setup) (ds : List Drainer) (h : List Entry) (node : List ℕ) : Type 0 where
+  pub place : ℕ
   pub drainer : Drainer
   pub there : slice_get ds place ≡ Some drainer
-  pub idle : drainer.actor.under ≡ None
-  pub knows : HasCached drainer key ⊎ NeverTells setup drainer.seat drainer.actor.role h key
+  pub role : drainer.actor.role ≡ agent_of node
+  pub current : IsCurrent setup h node drainer.seat
 
+-- an actor of this role is among these, and is no stale agent. Each controller is: only of a node there may be none
+abbrev pub HasDoer : Setup → List Drainer → List Entry → Role → Type 0
+HasDoer setup ds h role = (node : List ℕ) → role ≡ agent_of node → HasCurrent setup ds h node
+
+-- something is due, for an actor that is no stale agent
+pub record HasDue (setup : Setup) (ds : List Drainer) (h : List Entry) : Type 0 where
+  pub key : Key
+  pub object : Object
+  pub action : Due
+  pub stands : row_at key (world setup h).store.rows ≡ Some object
+  pub due : IsDue setup (world setup h) object (Some action)
+  pub doer : HasDoer setup ds h (doer_of object action)
+
+-- ---- the sentences
+
+-- whatever an actor has to do, where its calls for the object pass: in a whole round an entry lasts
 abbrev pub DueRoundsLast : Type 0
 DueRoundsLast =
-    (setup : Setup) (lets : Lets) (ds after : List Drainer) (h past : List Entry) (b left : ℕ) (key : Key) (o : Object) (place : ℕ) → MayDrain setup h ds → PassesWhileAlike setup lets h → IsHistory setup past
-    → IsRound lets past left ds h b after true → row_at key (world setup h).store.rows ≡ Some o → DueAt (world setup h).store.rows o place → IsFreeAt setup h ds place key → HasLasting setup h past
+    (setup : Setup) (lets : Lets) (ds after : List Drainer) (h past : List Entry) (b left : ℕ) (key : Key) (o : Object) (role : Role) → MayDrain setup h ds → OnlyOvertakenAreSilent setup ds h → IsRunOf setup past → IsRound lets past left ds h b after true
+    → row_at key (world setup h).store.rows ≡ Some o → DueFor setup (world setup h) o role → ((seat : ℕ) → CallsPass setup lets seat role h key) → HasDoer setup ds h role → HasLasting setup h past
+
+-- so for all that is due
+abbrev pub UnsettledRoundsLast : Type 0
+UnsettledRoundsLast =
+    (setup : Setup) (lets : Lets) (ds after : List Drainer) (h past : List Entry) (b left : ℕ) → MayDrain setup h ds → OnlyOvertakenAreSilent setup ds h → IsRunOf setup past → IsRound lets past left ds h b after true → (x : HasDue setup ds h)
+    → ((seat : ℕ) → CallsPass setup lets seat (doer_of x.object x.action) h x.key) → HasLasting setup h past

@@ -1,6 +1,6 @@
 -- When a drain ends settled, over any choice of which requests reach the world.
 -- A choice of this project.
-use Rattle.std.specs.Prelude.{ℕ, ◌≤◌, ◌<◌, ◌+◌, Bool, true, List, Some}
+use Rattle.std.specs.Prelude.{ℕ, ◌≤◌, ◌<◌, ◌+◌, Bool, true, false, List, Some, None, slice_get, ◌≡◌}
 use Rattle.kube_types.specs.declared.key.Key.{Key}
 use Rattle.kube_types.specs.declared.names.Due.{Due}
 use Rattle.call_types.specs.declared.entry.Entry.{Entry}
@@ -18,10 +18,17 @@ pub record MayDrain (setup : Setup) (past : List Entry) (ds : List Drainer) : Ty
   pub seats : AreSeats (seats_of ds)
   pub stand : AreStanding ds past
 
+-- none of these has anything under way, unless it is an agent that is silent, since its node was taken by another
+abbrev pub AreAtRest : List Drainer → Type 0
+AreAtRest ds = (place : ℕ) (d : Drainer) → slice_get ds place ≡ Some d → d.actor.memory.stale ≡ false → d.actor.under ≡ None
+
+-- a whole round leaves its drainers so that the next may begin with them
+abbrev pub RoundsLeaveDrainers : Type 0
+RoundsLeaveDrainers = (setup : Setup) (lets : Lets) (ds after : List Drainer) (h past : List Entry) (b left : ℕ) → MayDrain setup h ds → IsRunOf setup past → IsRound lets past left ds h b after true → MayDrain setup past after × AreAtRest after
+
 -- what the calls of a drain may still cost, by its drainers and its entries: no round makes more calls than that, and a whole
 -- round that begins with something due pays for the calls that it makes
 pub record RoundsPay (setup : Setup) (lets : Lets) (cost : List Drainer → List Entry → ℕ) : Type 0 where
-  pub kept : (ds after : List Drainer) (h past : List Entry) (b left : ℕ) → MayDrain setup h ds → IsRunOf setup past → IsRound lets past left ds h b after true → MayDrain setup past after
   pub most : (ds after : List Drainer) (h past : List Entry) (b left : ℕ) (whole : Bool) → MayDrain setup h ds → IsRunOf setup past → IsRound lets past left ds h b after whole → b ≤ left + cost ds h
   pub paid : (ds after : List Drainer) (h past : List Entry) (b left : ℕ) (first : Key × Due) → MayDrain setup h ds → IsRunOf setup past → IsFirstDue setup (world setup h) (Some first) → IsRound lets past left ds h b after true
       → b + cost after past ≤ left + cost ds h

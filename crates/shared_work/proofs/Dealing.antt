@@ -52,34 +52,34 @@ module _ {k : Ghosts Kept Ask Reply Setup} (made : ℕ) where
 
 module _ {k : Ghosts Kept Ask Reply Setup} (shared : SharedWorld) (made : ℕ) where
   -- they are new, and their numbers follow one another
-  abbrev AreNew : ℕ → List (Pass Kept Ask Reply Setup k) → Type 0
-  AreNew first [] = Unit {0}
-  AreNew first (p ∷ passes) = IsFirst shared made first p × AreNew (first + 1) passes
+  abbrev AreFrom : ℕ → List (Pass Kept Ask Reply Setup k) → Type 0
+  AreFrom first [] = Unit {0}
+  AreFrom first (p ∷ passes) = IsFirst shared made first p × AreFrom (first + 1) passes
 
-  pub new_from : (first : ℕ) (passes : List (Pass Kept Ask Reply Setup k)) → ((i : ℕ) (d : Pass Kept Ask Reply Setup k) → i < length passes → IsFirst shared made (first + i) (slice_index_or passes i d)) → AreNew first passes
+  pub new_from : (first : ℕ) (passes : List (Pass Kept Ask Reply Setup k)) → ((i : ℕ) (d : Pass Kept Ask Reply Setup k) → i < length passes → IsFirst shared made (first + i) (slice_index_or passes i d)) → AreFrom first passes
   new_from first [] each = tt
   new_from first (p ∷ passes) each = (
     subst (λ n. IsFirst shared made n p) (omega arith) (each 0 p (omega arith)),
     new_from (first + 1) passes (λ i d lt. subst (λ n. IsFirst shared made n (slice_index_or passes i d)) (omega arith) (each (suc i) d (omega (arith, lt)))),
   )
 
-  new_both : (first : ℕ) (ps qs : List (Pass Kept Ask Reply Setup k)) → AreNew first (ps ++ qs) → AreNew first ps × AreNew (first + length ps) qs
-  new_both first [] qs new = (tt, subst (λ n. AreNew n qs) (omega arith) new)
-  new_both first (p ∷ ps) qs new = let rest = new_both (first + 1) ps qs new.1 in ((new.0, rest.0), subst (λ n. AreNew n qs) (omega arith) rest.1)
+  new_both : (first : ℕ) (ps qs : List (Pass Kept Ask Reply Setup k)) → AreFrom first (ps ++ qs) → AreFrom first ps × AreFrom (first + length ps) qs
+  new_both first [] qs new = (tt, subst (λ n. AreFrom n qs) (omega arith) new)
+  new_both first (p ∷ ps) qs new = let rest = new_both (first + 1) ps qs new.1 in ((new.0, rest.0), subst (λ n. AreFrom n qs) (omega arith) rest.1)
 
-  new_of : (first : ℕ) (passes : List (Pass Kept Ask Reply Setup k)) → AreNew first passes → AllByRecursion (IsOf shared) passes
-  new_of first [] new = tt
-  new_of first (p ∷ passes) new = (new.0.of, new_of (first + 1) passes new.1)
+  all_new_from : (first : ℕ) (passes : List (Pass Kept Ask Reply Setup k)) → AreFrom first passes → AllByRecursion (λ p. IsFirst shared made (number_of p) p) passes
+  all_new_from first [] new = tt
+  all_new_from first (p ∷ passes) new = (subst (λ n. IsFirst shared made n p) (sym new.0.number) new.0, all_new_from (first + 1) passes new.1)
 
-  new_numbers : (first : ℕ) (passes : List (Pass Kept Ask Reply Setup k)) → AreNew first passes → numbers_of passes ≡ numbers_from first (length passes)
+  new_numbers : (first : ℕ) (passes : List (Pass Kept Ask Reply Setup k)) → AreFrom first passes → numbers_of passes ≡ numbers_from first (length passes)
   new_numbers first [] new = refl
   new_numbers first (p ∷ passes) new = λ i. new.0.number i ∷ new_numbers (first + 1) passes new.1 i
 
-  new_seats : (first : ℕ) (passes : List (Pass Kept Ask Reply Setup k)) → AreNew first passes → seats_of passes ≡ seats_at (past_given shared) (numbers_from first (length passes))
+  new_seats : (first : ℕ) (passes : List (Pass Kept Ask Reply Setup k)) → AreFrom first passes → seats_of passes ≡ seats_at (past_given shared) (numbers_from first (length passes))
   new_seats first [] new = refl
   new_seats first (p ∷ passes) new = λ i. (new.0.number i, new.0.mine i) ∷ new_seats (first + 1) passes new.1 i
 
-  unmet : (first : ℕ) (passes : List (Pass Kept Ask Reply Setup k)) → AreNew first passes → AllByRecursion (Unmet made) (map lasting passes)
+  unmet : (first : ℕ) (passes : List (Pass Kept Ask Reply Setup k)) → AreFrom first passes → AllByRecursion (Unmet made) (map lasting passes)
   unmet first [] new = tt
   unmet first (p ∷ passes) new = ((new.0.met, new.0.made_is), unmet (first + 1) passes new.1)
 
@@ -89,12 +89,12 @@ module _ {k : Ghosts Kept Ask Reply Setup} {J W : Type 0} (worker : J → W) (pa
   abbrev pub hired_of : J → Hired W
   hired_of job = record { worker = worker job; seats = length (passes job) }
 
-  can_work : (shared : SharedWorld) (needs : W → List (ℕ × List Entry) → Type 0) (made first : ℕ) (jobs : List J) → AreNew shared made first (flat_map passes jobs) → Each (λ w seats. needs w (seats_at (past_given shared) seats)) first (map hired_of jobs)
-      → AllByRecursion (λ job. CanWork needs shared (worker job) (passes job)) jobs
+  can_work : (shared : SharedWorld) (needs : W → List (ℕ × List Entry) → Type 0) (made first : ℕ) (jobs : List J) → AreFrom shared made first (flat_map passes jobs) → Each (λ w seats. needs w (seats_at (past_given shared) seats)) first (map hired_of jobs)
+      → AllByRecursion (λ job. CanWork needs shared made (worker job) (passes job)) jobs
   can_work shared needs made first [] new each = tt
   can_work shared needs made first (job ∷ jobs) new each =
       let both = new_both shared made first (passes job) (flat_map passes jobs) new in (
-        (All-from_recursion (IsOf shared) (passes job) (new_of shared made first (passes job) both.0), subst (needs (worker job)) (sym (new_seats shared made first (passes job) both.0)) each.0),
+        (All-from_recursion (λ p. IsFirst shared made (number_of p) p) (passes job) (all_new_from shared made first (passes job) both.0), subst (needs (worker job)) (sym (new_seats shared made first (passes job) both.0)) each.0),
         can_work shared needs made (first + length (passes job)) jobs both.1 each.1,
       )
 
@@ -130,7 +130,7 @@ module _ {k : Ghosts Kept Ask Reply Setup} {J W V E : Type 0} (worker : J → W)
     all_of (job ∷ jobs) (Ok v ∷ results) came ok = All-append (IsOf shared) (items v) (all_items items results) came.0.0 (all_of jobs results came.1 ok)
 
     -- what each worker did is what the closed world has
-    all_done : (past : List Entry) (made first : ℕ) (jobs : List J) (results : List (Result V E)) → AllZip (Came does) jobs results → AreAllOk results → AreNew shared made first (flat_map passes jobs)
+    all_done : (past : List Entry) (made first : ℕ) (jobs : List J) (results : List (Result V E)) → AllZip (Came does) jobs results → AreAllOk results → AreFrom shared made first (flat_map passes jobs)
         → AllByRecursion (IsIn past) (all_items items results) → Each (λ w seats. does w (seats_at (past_given shared) seats) (seats_at past seats)) first (map (hired_of worker passes) jobs)
     all_done past made first [] [] came ok new in_past = tt
     all_done past made first [] (r ∷ results) came ok new in_past = absurd came
@@ -149,13 +149,14 @@ module _ {k : Ghosts Kept Ask Reply Setup} {J W V E : Type 0} (worker : J → W)
 
 module _ {k : Ghosts Kept Ask Reply Setup} {J W : Type 0} (worker : J → W) (passes : J → List (Pass Kept Ask Reply Setup k)) (shared : SharedWorld) (new : List (Pass Kept Ask Reply Setup k)) (jobs : List J) (crew : List (Hired W))
     (first : AreFirst shared new) (dealt : flat_map passes jobs ≡ new) (hired : map (hired_of worker passes) jobs ≡ crew) (given : List Entry) (given_is : past_given shared ≡ given) where
-  all_new : AreNew shared (length new) 1 (flat_map passes jobs)
-  all_new = subst (AreNew shared (length new) 1) (sym dealt) (new_from shared (length new) 1 new (λ i d lt. subst (λ n. IsFirst shared (length new) n (slice_index_or new i d)) (omega arith) (first i d lt)))
+  all_new : AreFrom shared (length new) 1 (flat_map passes jobs)
+  all_new = subst (AreFrom shared (length new) 1) (sym dealt) (new_from shared (length new) 1 new (λ i d lt. subst (λ n. IsFirst shared (length new) n (slice_index_or new i d)) (omega arith) (first i d lt)))
 
-  pub may_work : (needs : W → List (ℕ × List Entry) → Type 0) → Each (λ w seats. needs w (seats_at given seats)) 1 crew → All (λ job. CanWork needs shared (worker job) (passes job)) jobs
-  may_work needs each =
+  pub may_work : (needs : W → List (ℕ × List Entry) → Type 0) (made : ℕ) → length new ≡ made → Each (λ w seats. needs w (seats_at given seats)) 1 crew → All (λ job. CanWork needs shared made (worker job) (passes job)) jobs
+  may_work needs made made_is each =
       let here = subst (λ past. Each (λ w seats. needs w (seats_at past seats)) 1 (map (hired_of worker passes) jobs)) (sym given_is) (subst (λ c. Each (λ w seats. needs w (seats_at given seats)) 1 c) (sym hired) each) in
-      All-from_recursion (λ job. CanWork needs shared (worker job) (passes job)) jobs (can_work worker passes shared needs (length new) 1 jobs all_new here)
+      let all = All-from_recursion (λ job. CanWork needs shared (length new) (worker job) (passes job)) jobs (can_work worker passes shared needs (length new) 1 jobs all_new here) in
+      subst (λ n. All (λ job. CanWork needs shared n (worker job) (passes job)) jobs) made_is all
 
   module _ {V E : Type 0} (items : V → List (Pass Kept Ask Reply Setup k)) (does : W → List (ℕ × List Entry) → List (ℕ × List Entry) → Type 0) (results : List (Result V E)) (all : List (Pass Kept Ask Reply Setup k))
       (many : length results ≡ length jobs) (each : (i : ℕ) (d : J) (e : Result V E) → i < length jobs → Came worker passes items shared does (slice_index_or jobs i d) (slice_index_or results i e))

@@ -28,7 +28,7 @@ alone lines user past done =
     let mine : own user past ≡ late = ap (λ (s : ℕ × List Entry). s.1) (after ∙ done.done.1) ∙ ap (λ (s : ℕ × List Entry). late ++ s.1) (sym before) ∙ append-nil late in
     subst₂ (λ n es. AreOfLines n lines es) (sym (ap (λ (s : ℕ × List Entry). s.0) before)) (sym mine) done.done.2
 
-did : (given past : List Entry) (lines asked : List Line) (user first many : ℕ) → given ≡ [] → asked ≡ lines → first ≡ user → many ≡ 1 → DoLines asked (seats_at given (numbers_from first many)) (seats_at past (numbers_from first many)) → AreOfLines user lines (own user past)
+pub did : (given past : List Entry) (lines asked : List Line) (user first many : ℕ) → given ≡ [] → asked ≡ lines → first ≡ user → many ≡ 1 → DoLines asked (seats_at given (numbers_from first many)) (seats_at past (numbers_from first many)) → AreOfLines user lines (own user past)
 did given past lines asked user first many empty same here one done =
     let a = subst (λ (ls : List Line). DoLines ls (seats_at given (numbers_from first many)) (seats_at past (numbers_from first many))) same done in
     let b = subst (λ (m : ℕ). DoLines lines (seats_at given (numbers_from first m)) (seats_at past (numbers_from first m))) one a in

@@ -1,6 +1,6 @@
 -- Seats: a number, and the entries that stand under it, the newest first.
 -- A choice of this project.
-use Rattle.std.specs.Prelude.{ℕ, ◌≡◌, List, [], ◌∷◌, map}
+use Rattle.std.specs.Prelude.{ℕ, ◌≡◌, List, [], ◌∷◌, map, All}
 use Rattle.call_types.specs.declared.ask.Ask.{Ask}
 use Rattle.call_types.specs.declared.entry.Entry.{Entry}
 use Rattle.call_types.specs.declared.setup.Setup.{Setup}
@@ -9,8 +9,9 @@ use Rattle.binder_model.specs.Told.{own}
 use Rattle.seat_lock.specs.declared.keeps.Keeps.{Ghosts}
 use Rattle.seat_lock.specs.declared.pass.Pass.{Pass}
 use Rattle.seat_lock.specs.Passes.{made_of, met_count, number_of}
+use Rattle.shared_world.specs.declared.shared.SharedWorld.{SharedWorld}
 use Rattle.shared_world.specs.Lines.{Kept}
-use Rattle.shared_world.specs.Passes.{mine_of}
+use Rattle.shared_world.specs.Passes.{IsFirst, mine_of}
 
 -- the seats of these numbers, as they are in a history
 abbrev pub seats_at : List Entry → List ℕ → List (ℕ × List Entry)
@@ -30,6 +31,11 @@ module _ {k : Ghosts Kept Ask Reply Setup} where
 
   abbrev pub numbers_of : List (Pass Kept Ask Reply Setup k) → List ℕ
   numbers_of passes = map number_of passes
+
+  -- the passes are new ones of this world, of which so many were made: each has the entries of its number in what was handed
+  -- in, and has met no other
+  abbrev pub AreNew : SharedWorld → ℕ → List (Pass Kept Ask Reply Setup k) → Type 0
+  AreNew shared made passes = All (λ p. IsFirst shared made (number_of p) p) passes
 
   -- what calls leave of a pass: its number, how many it met, and how many it knows to be made
   abbrev pub lasting : Pass Kept Ask Reply Setup k → ℕ × ℕ × ℕ

@@ -67,13 +67,14 @@ fn deal<W: Drop>(
     Ok(jobs)
 }
 
-/// All jobs, each on a thread of its own where one can be made, and else by the caller.
+/// All jobs, each on a thread of its own where one can be made, and else by the caller. So many passes were made.
 fn work_all<R: Threads + Wait + Sync, W: Worker + Send + Drop>(
     rt: &R,
     shared: &SharedWorld,
+    made: u64,
     jobs: Vec<Job<W>>,
 ) -> Result<Vec<Done>, AllocError>
-    requires { All (λ job. CanWork W.needs shared.now job.worker job.passes.items) jobs.items }
+    requires { All (λ job. CanWork W.needs shared.now made job.worker job.passes.items) jobs.items }
     ensures many { IfOk result (λ done. vec_len done ≡ vec_len jobs) }
     ensures each { IfOk result (λ done. (i : ℕ) (d : _) (e : _) → i < vec_len jobs → IfOk (slice_index_or done.items i e) (λ after. HasWorked W.does shared.now (slice_index_or jobs.items i d).worker (slice_index_or jobs.items i d).passes.items after.items)) }
 {
@@ -81,11 +82,11 @@ fn work_all<R: Threads + Wait + Sync, W: Worker + Send + Drop>(
         rt,
         jobs,
         &|job: Job<W>| -> Done
-            requires { CanWork W.needs shared.now job.worker job.passes.items }
+            requires { CanWork W.needs shared.now made job.worker job.passes.items }
             ensures { IfOk result (λ after. HasWorked W.does shared.entry.now job.worker job.passes.items after.items) }
         {
             let Job { worker, passes } = job;
-            worker.work(rt, shared, passes)
+            worker.work(rt, shared, made, passes)
         },
     )
 }
@@ -123,7 +124,7 @@ pub fn run_crew<R: Threads + Wait + Sync, W: Worker + Send + Drop>(
         return Err(OutOfMemory);
     };
     let jobs = deal(alloc, crew, passes)?;
-    let done = work_all(rt, &shared, jobs)?;
+    let done = work_all(rt, &shared, seats as u64, jobs)?;
     let passes = gather(alloc, done)?;
     match shared.close(passes) {
         Ok(world) => Ok(world),

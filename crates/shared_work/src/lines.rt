@@ -5,9 +5,10 @@ ghost use Rattle.shared_world.specs.Passes.{IsOf};
 ghost use Rattle.shared_work.specs.Lines.{HasAsked, HasDone};
 ghost use Rattle.shared_work.specs.Seats.{IsKept, seat_of};
 
-use crate::worker::{Listener, Worker};
+use crate::worker::Worker;
 use call_types::ask::Ask;
 use call_types::request::{Request, SeatKind};
+use fault_io::gate::Listener;
 use kube_types::copies::{OutOfMemory, Plain};
 use script_text::script::{Line, Script};
 use shared_world::shared::{SharedWorld, WorldPass};
@@ -86,6 +87,7 @@ impl<'a, L: Listener> Worker for UserLines<'a, L> {
         self,
         rt: &R,
         shared: &SharedWorld,
+        _made: u64,
         passes: Vec<WorldPass>,
     ) -> Result<Vec<WorldPass>, OutOfMemory> {
         let mut passes = passes;

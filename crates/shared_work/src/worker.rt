@@ -3,31 +3,11 @@
 ghost use Rattle.std.specs.Prelude.{ℕ, All, IfOk, List};
 ghost use Rattle.call_types.specs.declared.entry.Entry.{Entry};
 ghost use Rattle.shared_world.specs.Passes.{IsOf};
-ghost use Rattle.shared_work.specs.Seats.{AreKept, seats_of};
+ghost use Rattle.shared_work.specs.Seats.{AreKept, AreNew, seats_of};
 
-use fault_io::gate::Gate;
 use kube_types::copies::OutOfMemory;
 use shared_world::shared::{SharedWorld, WorldPass};
 use std::sync::Wait;
-
-/// Told right before and after each call that a seat makes, counted from 1. A gate is one, and is more: threads share it.
-pub trait Listener {
-    /// The call is made next.
-    fn comes(&self, seat: u64, nth: u64);
-
-    /// The call was answered or lost.
-    fn went(&self, seat: u64, nth: u64);
-}
-
-impl<G: Gate> Listener for G {
-    fn comes(&self, seat: u64, nth: u64) {
-        self.before(seat, nth)
-    }
-
-    fn went(&self, seat: u64, nth: u64) {
-        self.after(seat, nth)
-    }
-}
 
 /// Makes the calls of its seats, with a pass for each. A seat is its number and its entries, the newest first.
 pub trait Worker {
@@ -37,14 +17,15 @@ pub trait Worker {
     /// What it makes of its seats, from those before to those after.
     ghost does: { Self → List (ℕ × List Entry) → List (ℕ × List Entry) → Type 0 };
 
-    /// Works, and hands its passes back.
+    /// Works with new passes of a world of which so many were made, and hands them back.
     fn work<R: Wait>(
         self,
         rt: &R,
         shared: &SharedWorld,
+        made: u64,
         passes: Vec<WorldPass>,
     ) -> Result<Vec<WorldPass>, OutOfMemory>
-        requires of { All (IsOf shared.now) passes.items }
+        requires new { AreNew shared.now made passes.items }
         requires needs { needs self (seats_of passes.items) }
         ensures of { IfOk result (λ after. All (IsOf shared.now) after.items) }
         ensures kept { IfOk result (λ after. AreKept passes.items after.items) }
@@ -69,11 +50,12 @@ impl<A: Worker, B: Worker> Worker for OneOf<A, B> {
         self,
         rt: &R,
         shared: &SharedWorld,
+        made: u64,
         passes: Vec<WorldPass>,
     ) -> Result<Vec<WorldPass>, OutOfMemory> {
         match self {
-            OneOf::First(worker) => worker.work(rt, shared, passes),
-            OneOf::Second(worker) => worker.work(rt, shared, passes),
+            OneOf::First(worker) => worker.work(rt, shared, made, passes),
+            OneOf::Second(worker) => worker.work(rt, shared, made, passes),
         }
     }
 }

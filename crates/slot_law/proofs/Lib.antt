@@ -1,3 +1,3 @@
 pub mod Knowing
 pub mod Slots
-pub mod Unseen
+pub mod Would

@@ -1,7 +1,7 @@
 -- A slot that ends idle decides each key that waits, where it sees the store as it is; so a key on which the actor acts leaves an
 -- entry that lasts.
 use Rattle.std.proofs.Common.{◌≡◌, ◌∙◌, ℕ, zero, suc, ◌-◌, List, [], ◌∷◌, ◌++◌, append_assoc, Bool, true, false, true≢false, Option, Some, None, inl, inr, refl, sym, ap, subst, arith, ◌≢◌, if◌then◌else◌}
-use Rattle.std.specs.Prelude.{slice_get}
+use Rattle.std.specs.Prelude.{slice_get, ⊤}
 use Rattle.std.specs.List.{list_any}
 use Rattle.kube_types.specs.declared.key.Key.{Key}
 use Rattle.kube_types.specs.declared.parts.Kind.{Kind}
@@ -212,13 +212,20 @@ module _ (setup : Setup) (lets : Lets) (seat : ℕ) (kind : SeatKind) (after : A
       let a = asks_under s given (Call request) u turn (calls_fresh s given request turn) under in
       absurd (true≢false (sym (will_pass setup lets seat kind h u will) ∙ (ap (lets h) (sym (one request u.call (ap call_in a.call))) ∙ held)))
 
-module _ (setup : Setup) (lets : Lets) (seat : ℕ) (role : Role) (start : List Entry) (key : Key) (acts : ActsOn setup lets seat role start key) (built : IsBuiltKind role.kind) (after : ActorState) (past : List Entry) (left : ℕ) (history : IsHistory setup past) (fresh : after.memory.stale ≡ false) where
+-- with what is kept at each point of the slot, on which decisions may rest too
+module _ (setup : Setup) (lets : Lets) (seat : ℕ) (role : Role) (start : List Entry) (key : Key) (Kept : List Entry → Type 0)
+    (lasts : (s : ActorState) (h : List Entry) (u : Under) → IsDecisionPoint setup seat role start s h → Kept h → u.key ≡ key → GivesCall s.role s.memory (all_objects s.caches) u → WillLast setup lets seat role.kind h u)
+    (acts : (s : ActorState) (h : List Entry) (first : First) → IsDecisionPoint setup seat role start s h → Kept h → GivesNone s.role s.memory (all_objects s.caches) key first → ⊥)
+    (built : IsBuiltKind role.kind) (after : ActorState) (past : List Entry) (left : ℕ) (history : IsHistory setup past) (fresh : after.memory.stale ≡ false)
+    (stays : (s given : ActorState) (request : Request) (reply : Reply) (h newer : List Entry) → s.role ≡ role → IsReady seat s h → IsTurn s given (Call request) → past ≡ newer ++ (told_entry seat given request reply ∷ h) → Kept h
+    → Kept (told_entry seat given request reply ∷ h)) where
   point : (s : ActorState) (h : List Entry) → s.role ≡ role → IsHistory setup h → AreAlike (world setup start) (world setup h) → IsReady seat s h → KnowsBehind setup seat s.role s.pass h → passing s ≡ None → IsDecisionPoint setup seat role start s h
   point s h is before alike ready knows over = record { role_is = is; history = before; alike = alike; ready = ready; sees = sees setup seat s h before ready.stands.told knows over }
 
-  pub last : (s : ActorState) (h : List Entry) (b : ℕ) → Runs lets seat after past left true s h b → s.role ≡ role → AreAlike (world setup start) (world setup h) → KnowsBehind setup seat s.role s.pass h → waits key s.work ≡ true → HasLasting setup h past
-  last s h b (IsSpent none state entries rest busy) is alike knows waiting = absurd (true≢false busy)
-  last s h b (IsIdle some ready turn entries rest calm) is alike knows waiting =
+  pub last_kept : (s : ActorState) (h : List Entry) (b : ℕ) → Runs lets seat after past left true s h b → s.role ≡ role → AreAlike (world setup start) (world setup h) → KnowsBehind setup seat s.role s.pass h → Kept h → waits key s.work ≡ true
+      → HasLasting setup h past
+  last_kept s h b (IsSpent none state entries rest busy) is alike knows kept waiting = absurd (true≢false busy)
+  last_kept s h b (IsIdle some ready turn entries rest calm) is alike knows kept waiting =
       let awake : s.memory.stale ≡ false = ap (λ m. m.stale) (sym (turn_memory s after Idle turn)) ∙ fresh in
       let rests = idle_rests s after turn awake in
       let p = point s h is (subst (IsHistory setup) entries history) alike ready knows rests.passed in
@@ -227,9 +234,12 @@ module _ (setup : Setup) (lets : Lets) (seat : ℕ) (role : Role) (start : List 
     where
       by : IsDecisionPoint setup seat role start s h → StopsBy s after Idle key → HasLasting setup h past
       by p (ByCall u over under task call own gives) = none_some (ap call_in call)
-      by p (ByNone first over none) = absurd (acts.acts s h first p none)
-  last s h b (Asks given next request reply some ready turn passes absorbs more) is alike knows waiting = by (waits key given.work) refl (λ r a k w. last next (told_entry seat given request reply ∷ h) (b - 1) more r a k w)
+      by p (ByNone first over none) = absurd (acts s h first p kept none)
+  last_kept s h b (Asks given next request reply some ready turn passes absorbs more) is alike knows kept waiting = by (waits key given.work) refl (λ r a k w. last_kept next (told_entry seat given request reply ∷ h) (b - 1) more r a k kept_on w)
     where
+      kept_on : Kept (told_entry seat given request reply ∷ h)
+      kept_on = let g = run_grows lets seat after past left true next _ _ more in stays s given request reply h g.longer.added is ready turn g.longer.are kept
+
       whole : IsHistory setup (told_entry seat given request reply ∷ h)
       whole = run_older setup lets seat after past left true next _ _ more history
 
@@ -258,9 +268,9 @@ module _ (setup : Setup) (lets : Lets) (seat : ℕ) (role : Role) (start : List 
           let p = point s h is whole.0 alike ready knows over in
           let g = run_grows lets seat after past left true next _ _ more in
           let kind_is : given.role.kind ≡ role.kind = ap (λ (r : Role). r.kind) (given_role ∙ is) in
-          asked_so setup lets seat role.kind after past left history fresh given next request reply h g.longer.added u kind_is g.longer.are under task (one request u.call (ap call_in call)) absorbs (acts.lasts s h u p own gives)
+          asked_so setup lets seat role.kind after past left history fresh given next request reply h g.longer.added u kind_is g.longer.are under task (one request u.call (ap call_in call)) absorbs (lasts s h u p kept own gives)
           (λ n k e w. follow setup lets seat role.kind after past left history fresh next (told_entry seat given request reply ∷ h) (b - 1) more n k e w)
-      called (ByNone first over none) = absurd (acts.acts s h first (point s h is whole.0 alike ready knows over) none)
+      called (ByNone first over none) = absurd (acts s h first (point s h is whole.0 alike ready knows over) kept none)
 
       by : (b : Bool) → waits key given.work ≡ b
           → (next.role ≡ role → AreAlike (world setup start) (world setup (told_entry seat given request reply ∷ h)) → KnowsBehind setup seat next.role next.pass (told_entry seat given request reply ∷ h) → waits key next.work ≡ true
@@ -268,7 +278,7 @@ module _ (setup : Setup) (lets : Lets) (seat : ℕ) (role : Role) (start : List 
           → HasLasting setup h past
       by true still rest = on rest still (calls_last_or_leave_alike setup (world setup h) given.role.kind request (rows_stand_in_order setup h))
       by false stopped rest = called (stops_by s given (Call request) key turn waiting stopped)
-  last s h b (IsHeld given next request some ready turn held absorbs more) is alike knows waiting = by (waits key given.work) refl (λ r k w. last next h (b - 1) more r alike k w)
+  last_kept s h b (IsHeld given next request some ready turn held absorbs more) is alike knows kept waiting = by (waits key given.work) refl (λ r k w. last_kept next h (b - 1) more r alike k kept w)
     where
       before : IsHistory setup h
       before = run_older setup lets seat after past left true next _ _ more history
@@ -286,8 +296,14 @@ module _ (setup : Setup) (lets : Lets) (seat : ℕ) (role : Role) (start : List 
           held_so (ByCall u over under task call own gives) =
               let p = point s h is before alike ready knows over in
               let asked : request ≡ u.call = one request u.call (ap call_in call) in
-              absurd (true≢false (sym (will_pass setup lets seat role.kind h u (acts.lasts s h u p own gives)) ∙ (ap (lets h) (sym asked) ∙ held)))
-          held_so (ByNone first over none) = absurd (acts.acts s h first (point s h is before alike ready knows over) none)
+              absurd (true≢false (sym (will_pass setup lets seat role.kind h u (lasts s h u p kept own gives)) ∙ (ap (lets h) (sym asked) ∙ held)))
+          held_so (ByNone first over none) = absurd (acts s h first (point s h is before alike ready knows over) kept none)
+
+-- with nothing kept beside
+module _ (setup : Setup) (lets : Lets) (seat : ℕ) (role : Role) (start : List Entry) (key : Key) (acts : ActsOn setup lets seat role start key) (built : IsBuiltKind role.kind) (after : ActorState) (past : List Entry) (left : ℕ) (history : IsHistory setup past) (fresh : after.memory.stale ≡ false) where
+  pub last : (s : ActorState) (h : List Entry) (b : ℕ) → Runs lets seat after past left true s h b → s.role ≡ role → AreAlike (world setup start) (world setup h) → KnowsBehind setup seat s.role s.pass h → waits key s.work ≡ true → HasLasting setup h past
+  last s h b run is alike knows waiting =
+      last_kept setup lets seat role start key (λ x. ⊤) (λ x y u p k own gives. acts.lasts x y u p own gives) (λ x y first p k none. acts.acts x y first p none) built after past left history fresh (λ x given request reply y newer r ready turn are k. tt) s h b run is alike knows tt waiting
 
 pub slots_last : SlotsLast
 slots_last setup lets seat start key old after h past b left built history alike run fresh acts waiting =

@@ -4,13 +4,14 @@
 //! (`passed_see_the_store`); so each of its decisions rests on the store. A key that it has cached waits once it is
 //! woken (`cached_keys_wait`). In a slot that ends idle each key that waits is decided: where the decision on it is a
 //! call that lasts, at once or later, the slot has an entry that lasts (`slots_last`), but for an agent whose node was
-//! taken by another; no other actor is so (`others_stay_awake`). A key that it has not seen is told in the pass, and
-//! decided likewise (`unseen_slots_last`). All is said over any choice of which requests reach the world. Not said: which
-//! decisions are such calls, nor that an actor's own calls tell it of no object that it has not seen.
+//! taken by another; no other actor is so (`others_stay_awake`). All is said over any choice of which requests reach the
+//! world: a decision that would make a call that lasts makes it where each call that it leads to reaches a world like
+//! that of the start (`would_act_where_calls_pass`). Not said: which decisions are such calls, nor that a key of an
+//! object that stands waits.
 #![tactic(auto)]
 
-ghost use Rattle.slot_law.specs.Unseen.{UnseenSlotsLast};
 ghost use Rattle.slot_law.specs.Slots.{CachedKeysWait, OthersStayAwake, PassedSeeTheStore, SlotsLast};
+ghost use Rattle.slot_law.specs.Would.{WouldActWhereCallsPass};
 
 /// Past its pass an actor sees the store as it is.
 pub fn passed_see_the_store()
@@ -32,7 +33,7 @@ pub fn slots_last()
     ensures { SlotsLast }
 {}
 
-/// A slot in which the actor acts on an object that it has not seen has an entry that lasts.
-pub fn unseen_slots_last()
-    ensures { UnseenSlotsLast }
+/// A decision that would make a call that lasts makes it, where its calls pass.
+pub fn would_act_where_calls_pass()
+    ensures { WouldActWhereCallsPass }
 {}

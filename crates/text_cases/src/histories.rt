@@ -4,7 +4,7 @@ use crate::words::{bytes_of, letters, with_feeds, with_marks, word};
 use history_read::errors::HistoryError;
 use history_read::reading::read_history;
 use history_read::refusals::refusal_line;
-use history_text::lines::print_history;
+use history_text::histories::print_history;
 use history_type::History;
 use plain_data::copies::OutOfMemory;
 use sample_objects::lines::split;

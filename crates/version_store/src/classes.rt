@@ -11,7 +11,7 @@ use kube_types::defaults::is_default;
 use kube_types::key::Key;
 use kube_types::objects::{Class, Object};
 use kube_types::parts::Kind;
-use kube_types::table::row;
+use kube_types::table::{count_of_kind, row};
 use kube_types::text::Text;
 use std::alloc::Global;
 
@@ -53,12 +53,13 @@ fn default_from<'a>(object: &'a Object, later: Option<&'a Class>) -> Option<&'a 
     }
 }
 
-/// The default class, if any.
+/// The default class, if any. Only the classes are looked at, which stand first.
 fn default_class(rows: &[Object]) -> Option<&Class>
+    requires { AreRows rows.now }
     ensures { option_copied result ≡ default_class rows.now }
 {
     let mut best = None;
-    let mut left = rows.len();
+    let mut left = count_of_kind(rows, Kind::StorageClass);
     while left > 0 {
         left -= 1;
         best = default_from(&rows[left], best);
@@ -68,6 +69,7 @@ fn default_class(rows: &[Object]) -> Option<&Class>
 
 /// The name of the default class, if any.
 pub fn default_class_name(rows: &[Object]) -> Option<&Text>
+    requires { AreRows rows.now }
     ensures { option_copied result ≡ class_name (default_class rows.now) }
 {
     match default_class(rows) {

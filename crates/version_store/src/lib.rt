@@ -10,6 +10,7 @@ mod edits;
 mod imports;
 mod metadata;
 pub mod outcome;
+mod starts;
 pub mod store;
 mod verbs;
 mod writes;

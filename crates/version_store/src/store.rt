@@ -2,7 +2,7 @@
 
 ghost use Rattle.std.specs.Prelude.{◌≡◌, ◌-◌, ◌^◌, ◌<◌, true, IfOk, OnOk, OnErr, length, slice_get};
 ghost use Rattle.std.specs.Option.{option_copied};
-ghost use Rattle.kube_types.specs.Keys.{row_at, rows_of};
+ghost use Rattle.kube_types.specs.Keys.{AreRows, row_at, rows_of};
 ghost use Rattle.binder_model.specs.Store.{no_store};
 ghost use Rattle.binder_model.specs.Imports.{base_of, rows_of_imports};
 ghost use Rattle.binder_model.specs.Answers.{after, is_for_store, outcome, reply_of};
@@ -10,6 +10,7 @@ ghost use Rattle.version_store.specs.Steps.Made.{outcome_of};
 
 use crate::imports::{base_of, rows_of_imports};
 use crate::outcome::Made;
+use crate::starts::{Starts, objects_of, starts_of};
 use crate::verbs::outcome;
 use call_types::reply::Reply;
 use call_types::request::{Request, SeatKind};
@@ -18,7 +19,7 @@ use kube_types::key::Key;
 use kube_types::lookup::Lookup;
 use kube_types::objects::{Object, Version};
 use kube_types::parts::Kind;
-use kube_types::table::{at_of_kind, count_of_kind, row};
+use kube_types::table::row;
 use kube_types::text::Text;
 use std::alloc::Global;
 use std::marker::Model;
@@ -28,6 +29,7 @@ use std::marker::Model;
 pub struct Store {
     alloc: Global,
     rows: Vec<Object>,
+    starts: Starts,
     version: Version,
 }
 
@@ -36,6 +38,7 @@ impl Drop for Store {
         let Store {
             alloc: _,
             rows,
+            starts: _,
             version: _,
         } = self;
         drop(rows);
@@ -43,14 +46,14 @@ impl Drop for Store {
 }
 
 impl Model for Store {
-    ghost use Rattle.kube_types.specs.Keys.{AreRows};
     ghost use Rattle.binder_model.specs.Store.{State};
+    ghost use Rattle.version_store.specs.Steps.Starts.{AreKept};
 
     ghost Value = { State };
 
     ghost view = { λ s. record { rows = s.rows.items; version = s.version } };
 
-    ghost invariant = { λ s. AreRows s.rows.items };
+    ghost invariant = { λ s. AreKept s.rows.items s.starts };
 }
 
 impl Store {
@@ -58,9 +61,12 @@ impl Store {
     pub fn new(alloc: Global) -> Store
         ensures { result ≡ no_store }
     {
+        let rows = Vec::new(alloc);
+        let starts = starts_of(&rows);
         Store {
             alloc,
-            rows: Vec::new(alloc),
+            rows,
+            starts,
             version: 0,
         }
     }
@@ -70,9 +76,11 @@ impl Store {
         ensures { IfOk result (λ s. s ≡ record { rows = rows_of_imports imports.now imports.now; version = base_of imports.now }) }
     {
         let rows = rows_of_imports(alloc, imports)?;
+        let starts = starts_of(&rows);
         Ok(Store {
             alloc,
             rows,
+            starts,
             version: base_of(imports),
         })
     }
@@ -114,7 +122,9 @@ impl Store {
         ensures reply { IfOk result (λ reply. reply ≡ reply_of (outcome_of made)) }
         ensures err { OnErr result (self.new ≡ self.old) }
     {
-        made.write(self.alloc, &mut self.rows, &mut self.version)
+        let reply = made.write(self.alloc, &mut self.rows, &mut self.version);
+        self.starts = starts_of(&self.rows);
+        reply
     }
 
     /// Answers a request that is the store's. A FinishPod's epoch has been tested before.
@@ -156,6 +166,14 @@ impl Store {
         &self.rows
     }
 
+    /// The objects of a kind, in the order of namespace and name.
+    pub fn of_kind(&self, kind: Kind) -> &[Object]
+        ensures objects { result.now ≡ rows_of kind self.now.rows }
+        ensures order { AreRows self.now.rows }
+    {
+        objects_of(&self.rows, self.starts, kind)
+    }
+
     /// The object of a key.
     pub fn row(&self, key: &Key) -> Option<&Object>
         ensures { option_copied result ≡ row_at key.now self.now.rows }
@@ -167,14 +185,14 @@ impl Store {
     pub fn count(&self, kind: Kind) -> usize
         ensures { result ≡ length (rows_of kind self.now.rows) }
     {
-        count_of_kind(&self.rows, kind)
+        self.of_kind(kind).len()
     }
 
     /// The object at a place, from 0, among those of the kind in the order of namespace and name.
     pub fn at(&self, kind: Kind, place: usize) -> Option<&Object>
         ensures { option_copied result ≡ slice_get (rows_of kind self.now.rows) place }
     {
-        at_of_kind(&self.rows, kind, place)
+        self.of_kind(kind).get(place)
     }
 }
 
@@ -182,11 +200,11 @@ impl Lookup for Store {
     ghost rows = { λ s. s.rows };
 
     fn count(&self, kind: Kind) -> usize {
-        count_of_kind(&self.rows, kind)
+        self.of_kind(kind).len()
     }
 
     fn at(&self, kind: Kind, place: usize) -> Option<&Object> {
-        at_of_kind(&self.rows, kind, place)
+        self.of_kind(kind).get(place)
     }
 
     fn row(&self, key: &Key) -> Option<&Object> {

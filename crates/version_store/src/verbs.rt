@@ -5,13 +5,13 @@ ghost use Rattle.std.specs.Option.{option_copied};
 ghost use Rattle.std.specs.Result.{result_err};
 ghost use Rattle.kube_types.specs.declared.objects.Object.{Object};
 ghost use Rattle.kube_types.specs.declared.objects.Object.TheVariants as objects;
-ghost use Rattle.kube_types.specs.Keys.{AreRows, key_of, is_of_kind, row_at, rows_of};
+ghost use Rattle.kube_types.specs.Keys.{AreRows, key_of, row_at};
 ghost use Rattle.kube_types.specs.declared.names.Rule.TheVariants as rules;
 ghost use Rattle.call_types.specs.declared.reply.Refusal.TheVariants as refusals;
 ghost use Rattle.call_types.specs.declared.reply.Reply.TheVariants as replies;
 ghost use Rattle.binder_model.specs.Store.{at_version};
 ghost use Rattle.binder_model.specs.Answers.{Says, is_user, guard_on, is_other_version, is_other_uid, write_outcome, written_if_fits, create, update, update_status, edit, edit_to, delete, get, list, listed_rows, pod_with, bind, finish, outcome, refuse};
-ghost use Rattle.version_store.specs.Steps.Made.{is_listed, is_wanted, outcome_of, state_of};
+ghost use Rattle.version_store.specs.Steps.Made.{is_listed, outcome_of, state_of};
 
 use crate::classes::{default_class_name, lacks_named_node, lacks_node};
 use crate::edits::edited_object;
@@ -20,17 +20,17 @@ use crate::writes::{at_version, created_object, marked_object, updated_object, w
 use call_types::edit::Edit;
 use call_types::reply::{Change, Refusal, Reply};
 use call_types::request::{NewStatus, Request, SeatKind};
-use field_rules::{check_new, check_update, guard};
+use field_rules::{check_changed, check_new, guard};
 use finalizer_rules::{leaves, leaves_at_once};
 use kube_types::bindings::{is_deleting, is_scheduled, is_uid};
 use kube_types::copies::{OutOfMemory, Plain};
 use kube_types::items::Items;
-use kube_types::key::{key_of, kind_of, meta_of, same_kind};
+use kube_types::key::{key_of, meta_of};
 use kube_types::names::{Field, Rule};
 use kube_types::objects::{Object, Pod, Version};
 use kube_types::parts::Kind;
 use kube_types::shared::Shared;
-use kube_types::table::row;
+use kube_types::table::{of_kind, row};
 use kube_types::text::Text;
 use kube_types::uid::Uid;
 use std::alloc::Global;
@@ -111,7 +111,7 @@ fn create(
         return Ok(refuse_with(Refusal::Forbidden(rule)));
     }
     let lacks = lacks_node(alloc, object, rows)?;
-    if let Err(field) = check_new(lacks, object) {
+    if let Err(field) = check_new(alloc, lacks, object) {
         return Ok(refuse_with(Refusal::Invalid(field)));
     }
     let made = created_object(alloc, default_class_name(rows), object, version + 1, moment)?;
@@ -140,7 +140,7 @@ fn update(
     if let Err(rule) = guard_on(kind, Some(old), new) {
         return Ok(refuse_with(Refusal::Forbidden(rule)));
     }
-    if let Err(field) = check_update(old, new) {
+    if let Err(field) = check_changed(alloc, old, new) {
         return Ok(refuse_with(Refusal::Invalid(field)));
     }
     Ok(write_outcome(updated_object(alloc, old, new, version + 1)?))
@@ -194,7 +194,7 @@ fn edit(
     if let Err(rule) = guard_on(kind, Some(old), &new) {
         return Ok(refuse_with(Refusal::Forbidden(rule)));
     }
-    if let Err(field) = check_update(old, &new) {
+    if let Err(field) = check_changed(alloc, old, &new) {
         return Ok(refuse_with(Refusal::Invalid(field)));
     }
     Ok(write_outcome(updated_object(alloc, old, &new, version + 1)?))
@@ -239,12 +239,6 @@ fn get(alloc: Global, row: Option<&Object>) -> Result<Made, OutOfMemory>
     }
 }
 
-fn is_of_kind(kind: Kind, object: &Object) -> bool
-    ensures { result ≡ is_of_kind kind object.now }
-{
-    same_kind(kind_of(object), kind)
-}
-
 /// Whether the object is in the namespace, where one is given.
 fn is_listed(namespace: &Option<Text>, object: &Object) -> bool
     ensures { result ≡ is_listed namespace.now object.now }
@@ -255,25 +249,17 @@ fn is_listed(namespace: &Option<Text>, object: &Object) -> bool
     }
 }
 
-/// Whether the object is of the kind, and of the namespace where one is given.
-fn is_wanted(kind: Kind, namespace: &Option<Text>, object: &Object) -> bool
-    ensures { result ≡ is_wanted kind namespace.now object.now }
-{
-    is_of_kind(kind, object) && is_listed(namespace, object)
-}
-
-/// The objects of the kind, and of the namespace where one is given.
+/// The objects of the namespace, where one is given.
 fn listed_rows(
     alloc: Global,
-    rows: &[Object],
-    kind: Kind,
+    objects: &[Object],
     namespace: &Option<Text>,
 ) -> Result<Items<Object>, OutOfMemory>
-    ensures { IfOk result (λ items. items ≡ listed_rows namespace.now (rows_of kind rows.now)) }
+    ensures { IfOk result (λ items. items ≡ listed_rows namespace.now objects.now) }
 {
     let mut items = Items::new(alloc);
-    for object in rows {
-        if is_wanted(kind, namespace, object) {
+    for object in objects {
+        if is_listed(namespace, object) {
             let copied = object.copy(alloc)?;
             items.push(copied)?;
         }
@@ -289,9 +275,10 @@ fn list(
     kind: Kind,
     namespace: &Option<Text>,
 ) -> Result<Made, OutOfMemory>
+    requires { AreRows rows.now }
     ensures { IfOk result (λ made. outcome_of made ≡ list (state_of rows.now version) kind namespace.now) }
 {
-    let items = listed_rows(alloc, rows, kind, namespace)?;
+    let items = listed_rows(alloc, of_kind(rows, kind), namespace)?;
     Ok(Made::Says(Reply::Listed { items, version }))
 }
 

@@ -1,6 +1,7 @@
 -- A scan of the volumes finds the best.
-use Rattle.std.proofs.Common.{ℕ, ◌≡◌, ◌≢◌, ◌<◌, ◌+◌, Bool, true, false, not, ◌&&◌, List, length, Option, Some, None, slice_get, ◌∙◌, refl, sym, ap, subst}
+use Rattle.std.proofs.Common.{ℕ, ◌≡◌, ◌≢◌, ◌<◌, ◌+◌, nat_le, Bool, true, false, not, ◌&&◌, bytes_eq, List, length, Option, Some, None, slice_get, ◌∙◌, refl, sym, ap, subst}
 use borrow.Author.Count.{below_more}
+use Rattle.std.specs.Bool.{beq}
 use Rattle.std.specs.Cmp.{IsTotalOrder}
 use Rattle.std.specs.declared.cmp.Ordering.{Ordering}
 use Rattle.std.specs.declared.cmp.Ordering.TheVariants.{Less, Equal, Greater}
@@ -14,8 +15,9 @@ use Rattle.kube_types.specs.declared.objects.Claim.{Claim as ClaimData}
 use Rattle.kube_types.specs.declared.objects.Object.{Object}
 use Rattle.kube_types.specs.declared.objects.Object.TheVariants.{Class, Node, Volume, Claim, Pod}
 use Rattle.kube_types.specs.Keys.{rows_of}
-use Rattle.binder_model.specs.Matching.{IsBest, IsCandidate, eligible, for_last, is_excluded, match_cmp, mode_count, only_own_passes}
-use Rattle.volume_match.specs.Steps.Scan.{IsBestBelow, comes_before, is_open, is_preferred}
+use Rattle.kube_types.specs.Bindings.{class_of_claim, class_of_volume, is_deleting, is_protected_volume}
+use Rattle.binder_model.specs.Matching.{IsBest, IsCandidate, covers, eligible, for_last, is_admitted_on, is_excluded, is_selected, match_cmp, may_serve, mode_count, only_own_passes}
+use Rattle.volume_match.specs.Steps.Scan.{IsBestBelow, comes_before, is_open, is_preferred, serves}
 use Rattle.volume_match.specs.Volumes.{as_volume, volume_at}
 
 pub match_total : (c : ClaimData) → IsTotalOrder (match_cmp c)
@@ -131,6 +133,24 @@ closed rows c on own excluded place v there shut u k =
     let o : is_open c on own excluded place u ≡ true = candidate_open rows c on own excluded place u k in
     let x : true ≡ false = sym o ∙ (ap (is_open c on own excluded place) e ∙ shut) in
     cc
+
+falls : (a b : Bool) → b ≡ false → (a && b) ≡ false
+falls true b e = e
+falls false b e = refl
+
+falls_first : (a b : Bool) → a ≡ false → (a && b) ≡ false
+falls_first true b e = cc
+falls_first false b e = refl
+
+-- a volume that does not serve the claim is not open to it
+pub unserved : (c : ClaimData) (on : Option NodeData) (own : Bool) (excluded : List ℕ) (place : ℕ) (v : VolumeData) → serves v c ≡ false → is_open c on own excluded place v ≡ false
+unserved c on own excluded place v e =
+    falls (not (is_excluded excluded place)) (only_own_passes own v c && eligible v c on) (falls (only_own_passes own v c) (eligible v c on) (by (nat_le c.amount.bytes v.amount.bytes) (may_serve v c) (not (is_deleting v.meta) && is_protected_volume v) (bytes_eq (class_of_volume v) (class_of_claim c)) (beq v.block c.block) (covers c.modes v.modes) (is_selected c.selector v.meta.labels) (is_admitted_on v on) e))
+  where
+    by : (le may kept class block modes selected admitted : Bool) → (le && may) ≡ false → (kept && (le && class && block && modes) && selected && admitted && may) ≡ false
+    by true may kept class block modes selected admitted e = falls (kept && (true && class && block && modes) && selected && admitted) may e
+    by false may kept class block modes selected admitted e =
+        falls_first (kept && false && selected && admitted) may (falls_first (kept && false && selected) admitted (falls_first (kept && false) selected (falls kept false refl)))
 
 pub absent : (rows : List Object) (c : ClaimData) (on : Option NodeData) (own : Bool) (excluded : List ℕ) (place : ℕ) → volume_at rows place ≡ None → (u : VolumeData) → IsCandidate rows c on own excluded place u → ⊥
 absent rows c on own excluded place gone u k =

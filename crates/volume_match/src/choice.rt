@@ -7,7 +7,7 @@ ghost use Rattle.binder_model.specs.Matching.{IsBest, count_one, for_last, is_ex
 ghost use Rattle.volume_match.specs.Steps.Scan.{IsBestBelow, is_open, is_preferred};
 ghost use Rattle.volume_match.specs.Volumes.{volume_at};
 
-use crate::eligible::satisfies;
+use crate::eligible::{satisfies, serves};
 use kube_types::bindings::is_for;
 use kube_types::lookup::Lookup;
 use kube_types::objects::{Claim, Node, Object, Volume};
@@ -82,8 +82,11 @@ fn better<L: Lookup, P: Places>(
     match volume_at(lookup, place) {
         None => before,
         Some(volume) => {
-            if is_open(volume, claim, node, only_own, excluded, place)
-                && is_preferred(lookup, claim, volume, before)
+            // What costs least is asked first: whether the volume serves the claim, and is better.
+            if !serves(volume, claim) {
+                before
+            } else if is_preferred(lookup, claim, volume, before)
+                && is_open(volume, claim, node, only_own, excluded, place)
             {
                 Some(place)
             } else {

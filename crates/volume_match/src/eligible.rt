@@ -3,6 +3,7 @@
 ghost use Rattle.std.specs.Prelude.{◌≡◌};
 ghost use Rattle.std.specs.Option.{option_copied};
 ghost use Rattle.binder_model.specs.Matching.{is_admitted_on, covers, eligible, fits, may_serve, is_selected};
+ghost use Rattle.volume_match.specs.Steps.Scan.{serves};
 
 use kube_types::bindings::{
     class_of_claim, class_of_volume, is_deleting, is_for, is_protected_volume,
@@ -16,8 +17,8 @@ use label_rules::{admits, selects};
 pub fn satisfies(volume: &Volume, claim: &Claim, node: Option<&Node>) -> bool
     ensures { result ≡ eligible volume.now claim.now (option_copied node.entry) }
 {
-    // What costs least is asked first: most volumes are too small, or serve another claim.
-    if claim.amount.bytes > volume.amount.bytes || !may_serve(volume, claim) {
+    // What costs least is asked first.
+    if !serves(volume, claim) {
         return false;
     }
     !is_deleting(&volume.meta)
@@ -25,6 +26,13 @@ pub fn satisfies(volume: &Volume, claim: &Claim, node: Option<&Node>) -> bool
         && fits(volume, claim)
         && is_selected(&claim.selector, &volume.meta.labels)
         && is_admitted_on(volume, node)
+}
+
+/// Whether the volume is large enough, and is the claim's or nobody's. Most volumes are not.
+pub(crate) fn serves(volume: &Volume, claim: &Claim) -> bool
+    ensures { result ≡ serves volume.now claim.now }
+{
+    claim.amount.bytes <= volume.amount.bytes && may_serve(volume, claim)
 }
 
 /// Whether the volume has the size, the class, the volume mode and the access modes of the claim.

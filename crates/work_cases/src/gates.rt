@@ -11,10 +11,10 @@ struct Told {
     after: AtomicU64,
 }
 
-/// How many calls of each user it was told of, before and after; and how often it was told out of order.
+/// How many calls of each seat it was told of, before and after; and how often it was told out of order.
 #[derive(Drop)]
 pub struct Counts {
-    told: [Told; 4],
+    told: [Told; 12],
     out_of_order: AtomicU64,
 }
 
@@ -28,33 +28,51 @@ fn none() -> Told {
 impl Counts {
     pub fn new() -> Counts {
         Counts {
-            told: [none(), none(), none(), none()],
+            told: [
+                none(),
+                none(),
+                none(),
+                none(),
+                none(),
+                none(),
+                none(),
+                none(),
+                none(),
+                none(),
+                none(),
+                none(),
+            ],
             out_of_order: AtomicU64::new(0),
         }
     }
 
-    fn of(&self, user: u64) -> Option<&Told> {
-        self.told.get(user.checked_sub(1)? as usize)
+    fn of(&self, seat: u64) -> Option<&Told> {
+        self.told.get(seat.checked_sub(1)? as usize)
     }
 
     fn is_out_of_order(&self) {
         self.out_of_order.fetch_add(1, Ordering::SeqCst);
     }
 
-    /// How many calls of the user were answered.
-    pub fn answered(&self, user: u64) -> u64 {
-        match self.of(user) {
+    /// How many calls of the seat were answered.
+    pub fn answered(&self, seat: u64) -> u64 {
+        match self.of(seat) {
             Some(told) => told.after.load(Ordering::SeqCst),
             None => 0,
         }
     }
 
-    /// Whether it was told of so many calls of each user, each before and after, in order, and of no other.
-    pub fn are(&self, many: [u64; 4]) -> bool {
+    /// Whether it was told of so many calls of each seat, from the first one on, each before and after, in order, and of no
+    /// other.
+    pub fn are(&self, many: &[u64]) -> bool {
         self.out_of_order.load(Ordering::SeqCst) == 0
-            && self.told.iter().zip(many.iter()).all(|(told, many)| {
-                told.before.load(Ordering::SeqCst) == *many
-                    && told.after.load(Ordering::SeqCst) == *many
+            && self.told.iter().enumerate().all(|(place, told)| {
+                let wanted = match many.get(place) {
+                    Some(wanted) => *wanted,
+                    None => 0,
+                };
+                told.before.load(Ordering::SeqCst) == wanted
+                    && told.after.load(Ordering::SeqCst) == wanted
             })
     }
 }
@@ -89,18 +107,22 @@ impl Gate for Counts {
 /// How often the gate looks before it gives up.
 const LOOKS: u32 = 10_000_000;
 
-/// Holds the first user's first call until the second user's first call was answered, and the second user's second call
-/// until the first user's first call was answered. So whichever user is done first, alone it cannot go on.
+/// Holds the first call of one seat until the first call of another was answered, and the second call of the other until the
+/// first call of the one was answered. So whichever of the two is done first, alone it cannot go on.
 #[derive(Drop)]
 pub struct Holds {
     pub counts: Counts,
+    one: u64,
+    other: u64,
     gave_up: AtomicU64,
 }
 
 impl Holds {
-    pub fn new() -> Holds {
+    pub fn new(one: u64, other: u64) -> Holds {
         Holds {
             counts: Counts::new(),
+            one,
+            other,
             gave_up: AtomicU64::new(0),
         }
     }
@@ -109,10 +131,10 @@ impl Holds {
         self.gave_up.load(Ordering::SeqCst) > 0
     }
 
-    /// Waits until a call of this user was answered.
-    fn hold(&self, other: u64) {
+    /// Waits until a call of this seat was answered.
+    fn hold(&self, seat: u64) {
         for _ in 0..LOOKS {
-            if self.counts.answered(other) > 0 {
+            if self.counts.answered(seat) > 0 {
                 return;
             }
             thread::yield_now();
@@ -124,10 +146,11 @@ impl Holds {
 impl Gate for Holds {
     fn before(&self, seat: u64, nth: u64) {
         self.counts.before(seat, nth);
-        match (seat, nth) {
-            (1, 1) => self.hold(2),
-            (2, 2) => self.hold(1),
-            _ => {}
+        if seat == self.one && nth == 1 {
+            self.hold(self.other);
+        }
+        if seat == self.other && nth == 2 {
+            self.hold(self.one);
         }
     }
 

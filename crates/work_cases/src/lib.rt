@@ -1,4 +1,5 @@
-//! Cases of work on a shared world: users of a script, one by one and at the same time, and gates that are told of their calls.
+//! Cases of work on a shared world: users of a script, one by one and at the same time, whole runs of scripts, and gates that are
+//! told of their calls.
 //!
 //! It has tests alone, so no call and no promise. Only here is it seen that workers run side by side, and that a gate was
 //! told of each call: no promise says it. Not said: anything of other scripts and other interleavings.
@@ -6,6 +7,8 @@
 
 #[cfg(test)]
 mod gates;
+#[cfg(test)]
+mod runs;
 #[cfg(test)]
 mod scripts;
 #[cfg(test)]

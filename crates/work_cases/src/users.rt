@@ -62,7 +62,7 @@ fn one_user_on_one_thread(rt: HostRuntime) {
     let gate = Counts::new();
     let script = script_of(alloc, &WORDS).ok().expect(&rt, "memory");
     let world = twice(&rt, alloc, &gate, &script).expect(&rt, "memory");
-    assert!(rt; gate.are([3, 0, 0, 0]));
+    assert!(rt; gate.are(&[3, 0, 0, 0]));
     assert_eq!(rt; world.world().history().len(), 6);
     assert_eq!(rt; count_of(&world, 1), 6);
 }
@@ -95,7 +95,7 @@ fn four_users_at_once(rt: HostRuntime) {
     let gate = Counts::new();
     let world = run(&rt, alloc, &gate, &WORDS).expect(&rt, "memory");
     assert!(rt; has_all(alloc, &world, &WORDS));
-    assert!(rt; gate.are([3, 4, 0, 2]));
+    assert!(rt; gate.are(&[3, 4, 0, 2]));
 }
 
 #[test]
@@ -104,15 +104,15 @@ fn nobody_asks(rt: HostRuntime) {
     let gate = Counts::new();
     let world = run(&rt, alloc, &gate, &[]).expect(&rt, "memory");
     assert!(rt; has_all(alloc, &world, &[]));
-    assert!(rt; gate.are([0, 0, 0, 0]));
+    assert!(rt; gate.are(&[0, 0, 0, 0]));
 }
 
 #[test]
 fn each_waits_for_the_other(rt: HostRuntime) {
     let alloc = rt.alloc();
-    let gate = Holds::new();
+    let gate = Holds::new(1, 2);
     let world = run(&rt, alloc, &gate, &WORDS).expect(&rt, "memory");
     assert!(rt; !gate.has_given_up());
     assert!(rt; has_all(alloc, &world, &WORDS));
-    assert!(rt; gate.counts.are([3, 4, 0, 2]));
+    assert!(rt; gate.counts.are(&[3, 4, 0, 2]));
 }

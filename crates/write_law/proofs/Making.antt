@@ -17,7 +17,7 @@ use Rattle.binder_model.specs.Store.{State, at_version, leaves, updated_object}
 use Rattle.binder_model.specs.World.{World, effect, on_devices, reply_to}
 use Rattle.write_law.specs.Lasting.{IsChanged, IsLastingWrite, Lasts, content_of}
 
-no_guard : (kind : SeatKind) (old : Option Object) (new : Object) → is_user kind ≡ false → guard_on kind old new ≡ None
+pub no_guard : (kind : SeatKind) (old : Option Object) (new : Object) → is_user kind ≡ false → guard_on kind old new ≡ None
 unfolding guard_on
 no_guard seats.User old new e = absurd (true≢false e)
 no_guard seats.Binder old new e = refl

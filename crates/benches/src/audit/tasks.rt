@@ -6,7 +6,7 @@ use audit_check::audit;
 use audit_check::verdict::Verdict;
 use history_read::errors::HistoryError;
 use history_read::reading::read_history;
-use history_text::lines::print_history;
+use history_text::histories::print_history;
 use history_type::History;
 use kube_types::copies::OutOfMemory;
 use std::alloc::Global;

@@ -19,7 +19,7 @@ use Rattle.actor_turns.specs.declared.player.Player.{Player}
 use Rattle.script_runs.specs.declared.stage.Stage.{Stage}
 use Rattle.script_runs.specs.Budget.{most_budget}
 use Rattle.actor_turns.specs.Parts.{lives_of}
-use Rattle.script_runs.specs.Parts.{drain_roles, drain_seats, first_actor_seat, seat_kind_of, part_at, role_of}
+use Rattle.script_runs.specs.Parts.{drain_roles, drain_seats, first_actor_seat, is_named, seat_kind_of, part_at, role_of}
 use Rattle.script_lines.specs.Actors.{actor_word, four}
 use Rattle.worker_core.specs.declared.role.Role.{Role}
 use Rattle.script_runs.specs.Replays.{AreMoves, EndsAs, IsDrain, Progress, first_progress}
@@ -65,7 +65,7 @@ place_of nodes (Agent node) = 20 + place_of_node node nodes
 -- the parts of actors by the lines alone: each begins where the one before it ends
 
 abbrev pub part_from : List Line → Actor → ℕ → Part
-part_from lines actor first = part_at (actor_word actor) (seat_kind_of actor) first lines
+part_from lines actor first = part_at (is_named (actor_word actor) lines) (actor_word actor) (seat_kind_of actor) first lines
 
 abbrev pub end_of : Part → ℕ
 end_of part = part.first + lives_of part

@@ -1,5 +1,5 @@
 -- The shares that passes lend to a seat, so that it can count all passes, and what a view knows of the entries. A choice of this project.
-use Rattle.std.specs.Prelude.{◌≡◌, ℕ, ◌+◌, ◌<◌, List, [], ◌∷◌, length, slice_index_or, All}
+use Rattle.std.specs.Prelude.{◌≡◌, ℕ, ◌<◌, List, [], length, slice_index_or, All}
 use Rattle.seat_lock.specs.declared.keeps.Entry.{Entry}
 use Rattle.seat_lock.specs.declared.keeps.Keeps.{Ghosts}
 use Rattle.seat_lock.specs.declared.known.Known.{Known}

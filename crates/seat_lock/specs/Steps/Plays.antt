@@ -1,5 +1,5 @@
 -- What each step of the lock tells the seat that makes it, and what a split or a join makes of views. A choice of this project.
-use Rattle.std.specs.Prelude.{◌≡◌, ◌≢◌, ℕ, ◌+◌, ◌-◌, ◌%◌, ◌^◌, ◌<◌, ◌≤◌, max, List, [], ◌∷◌, ◌++◌, length, Option, Some, All}
+use Rattle.std.specs.Prelude.{◌≡◌, ◌≢◌, ℕ, ◌+◌, ◌-◌, ◌%◌, ◌^◌, ◌<◌, ◌≤◌, max, List, [], ◌∷◌, ◌++◌, Option, Some, All}
 use Rattle.atomic_table.specs.Table.{Me, Step}
 use Rattle.seat_lock.specs.declared.keeps.Entry.{Entry}
 use Rattle.seat_lock.specs.declared.known.Known.{Known}
@@ -28,6 +28,10 @@ module _ {X A R B : Type 0} where
   -- the turn is over, and the value is at home
   abbrev pub EndsTurn : Step (Option X) → SeatState X A R B → ℕ → SeatState X A R B → Type 0
   EndsTurn st m n m' = m' ≡ (record m.0 { stage = Idle }, [])
+
+  -- a bell was rung, which changes nothing of the seat
+  abbrev pub RingsBell : Step (Option X) → SeatState X A R B → ℕ → SeatState X A R B → Type 0
+  RingsBell st m n m' = m' ≡ m
 
   -- The next number is held for a seat to come, at the price of a fork. It is above those that the seat has and those that it knew of. A seat that accounts for all that it knew of is the only one, so that none was drawn since
   abbrev pub DrawsNumber : Step (Option X) → SeatState X A R B → ℕ → SeatState X A R B → Type 0

@@ -19,6 +19,10 @@ module _ {X A R B : Type 0} where
   abbrev pub TakesValue : (X → List (Entry A R)) → Me (Option X) (Known A R B) → X → Me (Option X) (Known A R B) → Type 0
   TakesValue history m x m' = (t : ℕ) × (m' ≡ (record m.0 { stage = Turn t (history x) }, (0, None) ∷ []))
 
+  -- the seat has the turn, and the value that it holds has these entries and its base
+  abbrev pub HoldsValue : (X → List (Entry A R)) → (X → B) → Me (Option X) (Known A R B) → Type 0
+  HoldsValue history base m = (x : X) × HasTurn (history x) m × (m.1 ≡ (0, Some x) ∷ []) × (m.0.base ≡ Some (base x))
+
 module _ {A R B : Type 0} where
   -- the seat is closing and has what it had, but for what it has seen
   pub record IsSameSeat (v w : Known A R B) : Type 0 where

@@ -11,12 +11,12 @@ use Rattle.seat_lock.specs.declared.pass.Pass.{Pass}
 use Rattle.shared_world.specs.declared.shared.SharedWorld.{SharedWorld}
 use Rattle.shared_world.specs.Lines.{Kept}
 use Rattle.shared_world.specs.Passes.{IsOf}
-use Rattle.shared_work.specs.Seats.{AreKept, seats_of}
+use Rattle.shared_work.specs.Seats.{AreKept, AreNew, seats_of}
 
 module _ {W : Type 0} {k : Ghosts Kept Ask Reply Setup} where
-  -- the worker may begin with these passes
-  abbrev pub CanWork : (W → List (ℕ × List Entry) → Type 0) → SharedWorld → W → List (Pass Kept Ask Reply Setup k) → Type 0
-  CanWork needs shared worker passes = All (IsOf shared) passes × needs worker (seats_of passes)
+  -- the worker may begin with these passes, where so many were made
+  abbrev pub CanWork : (W → List (ℕ × List Entry) → Type 0) → SharedWorld → ℕ → W → List (Pass Kept Ask Reply Setup k) → Type 0
+  CanWork needs shared made worker passes = AreNew shared made passes × needs worker (seats_of passes)
 
   -- the passes after its work
   abbrev pub HasWorked : (W → List (ℕ × List Entry) → List (ℕ × List Entry) → Type 0) → SharedWorld → W → List (Pass Kept Ask Reply Setup k) → List (Pass Kept Ask Reply Setup k) → Type 0

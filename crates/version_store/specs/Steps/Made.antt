@@ -1,10 +1,9 @@
 -- What the store makes of a request, as the outcome that it stands for; a default class and a list, object by object.
-use Rattle.std.specs.Prelude.{ℕ, Bool, true, ◌&&◌, List, Option, Some, None, if◌then◌else◌}
-use Rattle.kube_types.specs.declared.parts.Kind.{Kind}
+use Rattle.std.specs.Prelude.{ℕ, Bool, true, List, Option, Some, None, if◌then◌else◌}
 use Rattle.kube_types.specs.declared.objects.Class.{Class as ClassData}
 use Rattle.kube_types.specs.declared.objects.Object.{Object}
 use Rattle.kube_types.specs.declared.objects.Object.TheVariants.{Class}
-use Rattle.kube_types.specs.Keys.{is_of_kind, put_row}
+use Rattle.kube_types.specs.Keys.{put_row}
 use Rattle.binder_model.specs.Imports.{is_dropped, imported_object}
 use Rattle.kube_types.specs.Defaults.{is_default}
 use Rattle.binder_model.specs.Store.{State, newer_class}
@@ -33,6 +32,3 @@ default_from o later = later
 abbrev pub is_listed : Option (List ℕ) → Object → Bool
 is_listed None o = true
 is_listed (Some namespace) o = is_in_namespace namespace o
-
-abbrev pub is_wanted : Kind → Option (List ℕ) → Object → Bool
-is_wanted kind namespace o = is_of_kind kind o && is_listed namespace o

@@ -1,13 +1,17 @@
 -- The best volume among those before a place. A choice of this project.
-use Rattle.std.specs.Prelude.{ℕ, ◌≢◌, ◌<◌, Bool, true, not, ◌&&◌, List, Option, Some, None}
+use Rattle.std.specs.Prelude.{ℕ, ◌≢◌, ◌<◌, nat_le, Bool, true, not, ◌&&◌, List, Option, Some, None}
 use Rattle.std.specs.declared.cmp.Ordering.TheVariants.{Greater}
 use Rattle.std.specs.Ordering.{is_lt}
 use Rattle.kube_types.specs.declared.objects.Node.{Node as NodeData}
 use Rattle.kube_types.specs.declared.objects.Volume.{Volume as VolumeData}
 use Rattle.kube_types.specs.declared.objects.Claim.{Claim as ClaimData}
 use Rattle.kube_types.specs.declared.objects.Object.{Object}
-use Rattle.binder_model.specs.Matching.{IsCandidate, eligible, is_excluded, match_cmp, only_own_passes}
+use Rattle.binder_model.specs.Matching.{IsCandidate, eligible, is_excluded, match_cmp, may_serve, only_own_passes}
 use Rattle.volume_match.specs.Volumes.{volume_at}
+
+-- the volume is large enough, and is the claim's or nobody's
+abbrev pub serves : VolumeData → ClaimData → Bool
+serves v c = nat_le c.amount.bytes v.amount.bytes && may_serve v c
 
 -- the volume may be taken
 abbrev pub is_open : ClaimData → Option NodeData → Bool → List ℕ → ℕ → VolumeData → Bool

@@ -28,10 +28,10 @@ loop-made-init g c = record {
 }
 
 pub step-requires-clause-named : goal.step-requires-clause-named
-step-requires-clause-named g c = λ lfts outlives. ap (λ (p : Part). p.named) c.loop-made.invariant.part ∙ c.requires.named
+step-requires-clause-named g c = ap (λ (p : Part). p.named) c.loop-made.invariant.part ∙ c.requires.named
 
 pub step-requires-clause-small : goal.step-requires-clause-small
-step-requires-clause-small g c = λ lfts outlives.
+step-requires-clause-small g c =
     let i = c.loop-made.invariant in
     record {
       seats = subst (λ (p : Part). p.first + length p.restarts < 2 ^ 32) (sym i.part) c.requires.seats;
@@ -39,17 +39,17 @@ step-requires-clause-small g c = λ lfts outlives.
     }
 
 pub step-requires-clause-serves : goal.step-requires-clause-serves
-step-requires-clause-serves g c = λ lfts outlives seat life.
+step-requires-clause-serves g c = λ seat life.
     let i = c.loop-made.invariant in
     i.serves seat (c.requires.serves seat (subst (λ (p : Part). IsLife p seat) i.part life))
 
 pub step-requires-clause-orders : goal.step-requires-clause-orders
-step-requires-clause-orders g c = λ lfts outlives seat there.
+step-requires-clause-orders g c = λ seat there.
     let i = c.loop-made.invariant in
     subst (λ (p : Part). IsLife p seat) (sym i.part) (c.requires.orders seat (i.orders seat there))
 
 pub step-requires-clause-plays : goal.step-requires-clause-plays
-step-requires-clause-plays g c = λ lfts outlives. c.loop-made.invariant.some
+step-requires-clause-plays g c = c.loop-made.invariant.some
 
 pub returns-then-not-branch-clause-turned : goal.returns-then-not-branch-clause-turned
 returns-then-not-branch-clause-turned g c = λ idle plays.

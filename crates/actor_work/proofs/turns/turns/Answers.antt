@@ -32,24 +32,24 @@ loop-player-init g c =
     }
 
 pub turn-requires-clause-named : goal.turn-requires-clause-named
-turn-requires-clause-named g c = λ lfts outlives. ap (λ (p : Part). p.named) c.loop-player.invariant.part ∙ c.requires.named
+turn-requires-clause-named g c = ap (λ (p : Part). p.named) c.loop-player.invariant.part ∙ c.requires.named
 
 pub turn-requires-clause-seats : goal.turn-requires-clause-seats
-turn-requires-clause-seats g c = λ lfts outlives. subst (λ (p : Part). p.first + length p.restarts < 2 ^ 32) (sym c.loop-player.invariant.part) c.requires.seats
+turn-requires-clause-seats g c = subst (λ (p : Part). p.first + length p.restarts < 2 ^ 32) (sym c.loop-player.invariant.part) c.requires.seats
 
 pub turn-requires-clause-made : goal.turn-requires-clause-made
-turn-requires-clause-made g c = λ lfts outlives. let i = c.loop-player.invariant in omega (arith, i.end, i.high, i.low, c.requires.few, c.loop-player-test.true)
+turn-requires-clause-made g c = let i = c.loop-player.invariant in omega (arith, i.end, i.high, i.low, c.requires.few, c.loop-player-test.true)
 
 pub turn-requires-clause-plays : goal.turn-requires-clause-plays
-turn-requires-clause-plays g c = λ lfts outlives. let i = c.loop-player.invariant in record { idle = i.reached.told; plays = i.reached.plays }
+turn-requires-clause-plays g c = let i = c.loop-player.invariant in record { idle = i.reached.told; plays = i.reached.plays }
 
 pub turn-requires-clause-serves : goal.turn-requires-clause-serves
-turn-requires-clause-serves g c = λ lfts outlives seat life.
+turn-requires-clause-serves g c = λ seat life.
     let i = c.loop-player.invariant in
     i.serves seat (c.requires.serves seat (subst (λ (p : Part). IsLife p seat) i.part life))
 
 pub turn-requires-clause-orders : goal.turn-requires-clause-orders
-turn-requires-clause-orders g c = λ lfts outlives seat there.
+turn-requires-clause-orders g c = λ seat there.
     let i = c.loop-player.invariant in
     subst (λ (p : Part). IsLife p seat) (sym i.part) (c.requires.orders seat (i.orders seat there))
 

@@ -6,7 +6,7 @@ use Rattle.actor_work.proofs.Passing.{as_many, orders_lives, serves_lives, some_
 use Rattle.actor_work.proofs.work.work.Goals as goal
 
 pub turns-requires-clause-serves : goal.turns-requires-clause-serves
-turns-requires-clause-serves g c = λ lfts outlives seat life.
+turns-requires-clause-serves g c = λ seat life.
     let d = c.of-desk.result in
     let of = c.of-desk.ensures in
     let lives = subst (λ s. AreLives s d.made d.first d.passes.items) (sym of.0) (subst (λ m. AreLives c.args.shared.now m d.first d.passes.items) (sym of.1) (subst (λ f. AreLives c.args.shared.now c.args.made f d.passes.items) (sym of.2)
@@ -15,7 +15,7 @@ turns-requires-clause-serves g c = λ lfts outlives seat life.
     serves_lives d.shared.now d.made d.first d.passes.items c.args.player.part of.2 lives many seat life
 
 pub turns-requires-clause-orders : goal.turns-requires-clause-orders
-turns-requires-clause-orders g c = λ lfts outlives seat there.
+turns-requires-clause-orders g c = λ seat there.
     let d = c.of-desk.result in
     let of = c.of-desk.ensures in
     let many = ap (λ (v : _). length v.items) of.3 ∙ c.requires.many in

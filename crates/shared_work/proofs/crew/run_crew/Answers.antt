@@ -7,7 +7,7 @@ use Rattle.shared_work.proofs.crew.run_crew.Goals as goal
 pub work_all-requires-after_bounds : goal.work_all-requires-after_bounds
 work_all-requires-after_bounds g c κs within =
     may_work (λ job. job.worker) (λ job. job.passes.items) c.in-Ok.shared c.in-Ok.passes.items c.in_ok-jobs.jobs.items c.args.crew.items c.in-Ok.ensures.passes c.in_ok-jobs.ensures.passes c.in_ok-jobs.ensures.workers
-    c.args.world.past (ap (λ v. v.past) c.in-Ok.ensures.given) g.W.Worker.needs c.requires.needs
+    c.args.world.past (ap (λ v. v.past) c.in-Ok.ensures.given) g.W.Worker.needs c.all_seats-seats.result (omega (arith, c.in-Ok.ensures.many, c.in-Ok.passes.ok)) c.requires.needs
 
 pub close-requires-clause-some : goal.close-requires-clause-some
 close-requires-clause-some g c =

@@ -9,7 +9,7 @@ pub call-requires-clause-user : goal.call-requires-clause-user
 call-requires-clause-user c =
     let line = Call c.in-Call.user c.in-Call.request in
     let at = line_is c.args.script.now.lines c.as_slice.result.now c.args.place c.index-as_slice-place.result line c.as_slice.ensures c.requires.place c.index-as_slice-place.is c.in-Call.is in
-    within_at c.args.script.now.lines c.args.place line c.requires.readable.lines at
+    (within_at c.args.script.now.lines c.args.place line c.requires.readable.lines at).1
 
 pub returns-in-Call-clause-moved : goal.returns-in-Call-clause-moved
 returns-in-Call-clause-moved c =

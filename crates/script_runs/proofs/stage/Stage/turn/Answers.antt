@@ -8,28 +8,28 @@ index_mut-requires c =
     omega (arith, within, c.place_of-place.ensures)
 
 pub turn-requires-clause-named : goal.turn-requires-clause-named
-turn-requires-clause-named c = λ lfts.
+turn-requires-clause-named c =
     let s = c.args.self.now in
     let x = c.index_mut.result.now in
     let at = player_there c.args.script.now c.args.option c.args.actor.now s c.requires.readable c.requires.known c.requires.stands c.place_of-place.result x c.place_of-place.ensures c.index_mut.ensures.value in
     its_name c.args.script.now c.args.option c.args.actor.now s c.requires.readable c.requires.known c.requires.stands x at c.requires.named
 
 pub turn-requires-clause-seats : goal.turn-requires-clause-seats
-turn-requires-clause-seats c = λ lfts.
+turn-requires-clause-seats c =
     let s = c.args.self.now in
     let x = c.index_mut.result.now in
     let at = player_there c.args.script.now c.args.option c.args.actor.now s c.requires.readable c.requires.known c.requires.stands c.place_of-place.result x c.place_of-place.ensures c.index_mut.ensures.value in
     its_seats c.args.script.now c.args.option c.args.actor.now s c.requires.readable c.requires.known c.requires.stands x at c.requires.named
 
 pub turn-requires-clause-made : goal.turn-requires-clause-made
-turn-requires-clause-made c = λ lfts.
+turn-requires-clause-made c =
     let x = c.index_mut.result.now in
     let at = player_there c.args.script.now c.args.option c.args.actor.now c.args.self.now c.requires.readable c.requires.known c.requires.stands c.place_of-place.result x c.place_of-place.ensures c.index_mut.ensures.value in
     let made = c.requires.made _ x at in
     omega (arith, made, c.requires.most, c.requires.few)
 
 pub turn-requires-clause-plays : goal.turn-requires-clause-plays
-turn-requires-clause-plays c = λ lfts.
+turn-requires-clause-plays c =
     let s = c.args.self.now in
     let x = c.index_mut.result.now in
     let at = player_there c.args.script.now c.args.option c.args.actor.now s c.requires.readable c.requires.known c.requires.stands c.place_of-place.result x c.place_of-place.ensures c.index_mut.ensures.value in

@@ -1,0 +1,4 @@
+pub mod Actors
+pub mod Drains
+pub mod New
+pub mod Rounds

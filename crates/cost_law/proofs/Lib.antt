@@ -1,0 +1,4 @@
+pub mod Begun
+pub mod Starts
+pub mod Tasks
+pub mod Works

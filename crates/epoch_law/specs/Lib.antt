@@ -1,0 +1,4 @@
+pub mod Awake
+pub mod Epochs
+pub mod Remembered
+pub mod Silent

@@ -1,0 +1,6 @@
+pub mod Calls
+pub mod Events
+pub mod Points
+pub mod Rows
+pub mod Sizes
+pub mod Sums

@@ -1,6 +1,0 @@
-use Rattle.std.proofs.Common.{◌≡◌, drop}
-use Rattle.binder_model.specs.Fields.{has_twice}
-use Rattle.field_rules.proofs.faults.has_twice.Given as goal
-
-abbrev pub invariant-loop-i : goal.invariant-loop-i
-invariant-loop-i l = has_twice l.names-2 ≡ has_twice (drop l.i l.names-2)

@@ -1,0 +1,4 @@
+pub mod First
+pub mod Given
+pub mod Second
+pub mod Told

@@ -1,0 +1,2 @@
+pub mod Provisioning
+pub mod Scheduling

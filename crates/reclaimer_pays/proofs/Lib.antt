@@ -1,0 +1,4 @@
+pub mod Erasing
+pub mod Ids
+pub mod Names
+pub mod Reclaiming

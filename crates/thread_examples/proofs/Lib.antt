@@ -1,0 +1,5 @@
+pub mod Calls
+pub mod Drainers
+pub mod Drains
+pub mod Users
+pub mod Whole

@@ -1,0 +1,21 @@
+-- Where the objects of each kind begin among rows, as the store keeps it. A choice of this project.
+use Rattle.std.specs.Prelude.{ℕ, ◌≤◌, List, length}
+use Rattle.kube_types.specs.declared.objects.Object.{Object}
+use Rattle.kube_types.specs.Keys.{AreRows, IsKindStart}
+use Rattle.version_store.specs.declared.starts.Starts.{Starts}
+
+-- the objects of earlier kinds stand before this place, and those of this kind and of later ones from it on
+pub record BeginsAt (index : ℕ) (rows : List Object) (start : ℕ) : Type 0 where
+  pub within : start ≤ length rows
+  pub begins : IsKindStart index rows start
+
+pub record AreStarts (rows : List Object) (s : Starts) : Type 0 where
+  pub nodes : BeginsAt 1 rows s.nodes
+  pub volumes : BeginsAt 2 rows s.volumes
+  pub claims : BeginsAt 3 rows s.claims
+  pub pods : BeginsAt 4 rows s.pods
+
+-- the rows of the store are in order, and it knows where each kind begins
+pub record AreKept (rows : List Object) (s : Starts) : Type 0 where
+  pub order : AreRows rows
+  pub starts : AreStarts rows s

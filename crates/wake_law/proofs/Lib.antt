@@ -1,0 +1,4 @@
+pub mod Adding
+pub mod Decided
+pub mod Untold
+pub mod Wakes
