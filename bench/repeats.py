@@ -4,9 +4,14 @@ repeats.py SHAPE TIMES writes one. The shapes: claim protection lists the pods o
 the same, and lets the claim go at an old version, which is refused; the binder completes a claim at an old version, which is
 refused, and reads its volume; the binder reads the volume of a completed claim; it reads a claim that is gone, and releases
 its volume at an old version; a node agent reads the claim of a pod. In those named "changed" a user labels an object between
-two calls, so that versions differ. One shape more is no part of bench/audit, since an audit of it still grows with the square
-of the calls: "old watches", in which the binder watches the volumes from the version of its list, again and again, after it
-was told a later one.
+two calls, so that versions differ. And "old watches": the binder watches the volumes from the version of its list, again and
+again, after it was told a later one.
+
+In the rest an older telling than the last allows the call. Claim protection lets a claim go by a list of pods, after which
+others told a pod that uses it. The reclaimer deletes a volume under the key of another. It fails a volume whose data it could
+not erase, and deletes one whose data it erased, where another volume over the same data was the last that it had read. The
+binder reads a claim to which a volume refers by another UID, after it was told a volume that refers to the claim as it stands.
+
 The answers are written from the rules of the store, and not by the program: an audit says Yes to each history.
 """
 import json
@@ -15,8 +20,10 @@ import sys
 BINDER = (5, "Binder")
 PROTECTION = (6, "ClaimProtect")
 AGENT = (7, "Agent")
+OPS = (8, "Ops")
 USER = (1, "User")
 TIME = "2000-01-01T00:00:00Z"
+CLAIM = "00000000-0000-4000-8000-ffffffffffff"
 GUARDS = {"PersistentVolume": "kubernetes.io/pv-protection", "PersistentVolumeClaim": "kubernetes.io/pvc-protection"}
 
 
@@ -46,14 +53,16 @@ def key(do, thing, **more):
 
 
 class History:
-    """The lines so far, and the version of the store."""
+    """The setup and the lines so far, the version of the store, and how often data were erased."""
 
     def __init__(self):
-        self.lines = [line({"setup": {"faults": [], "pools": []}})]
+        self.lines = []
         self.version = 0
+        self.setup = {"faults": [], "pools": []}
+        self.erased = 0
 
     def text(self):
-        return "\n".join(self.lines + ["end\n"]).encode()
+        return "\n".join([line({"setup": self.setup})] + self.lines + ["end\n"]).encode()
 
     def call(self, seat, asked, reply):
         self.lines.append(line({"ask": asked, "kind": seat[1], "reply": reply, "seat": seat[0], "told": True}))
@@ -72,6 +81,14 @@ class History:
             made["metadata"]["finalizers"] = [GUARDS[thing["kind"]]]
         self.call(USER, {"do": "create", "object": thing}, {"done": made})
         return made
+
+    def imported(self, thing):
+        """The object as it stands where it is imported, before any call."""
+        given = self.written(thing)
+        given["metadata"]["uid"] = f"00000000-0000-4000-8000-{self.version:012x}"
+        self.setup.setdefault("imports", []).append(copied(given))
+        given["metadata"].update(creationTimestamp=TIME, finalizers=[GUARDS[thing["kind"]]])
+        return given
 
     def update(self, seat, thing):
         done = self.written(thing)
@@ -122,6 +139,16 @@ class History:
 
     def miss(self, seat, thing):
         self.call(seat, key("get", thing), {"refused": "NotFound"})
+
+    def erase(self, fails):
+        """The data of the volume, which are none, are erased, or it fails as planned."""
+        self.erased += 1
+        asked = {"do": "erase", "driver": "nfs", "id": "s:/x"}
+        if fails:
+            self.setup["faults"].append(self.erased)
+            self.call(OPS, asked, {"planned": self.erased, "refused": "BackFault"})
+        else:
+            self.call(OPS, asked, {"erased": False})
 
 
 def volume():
@@ -229,6 +256,90 @@ def old_watches(history, times, changed):
         history.watch(BINDER, "PersistentVolume", 0, [("ADDED", told)])
 
 
+def older_lists(history, times, changed):
+    told = history.delete(history.create(claim()))
+    history.items(PROTECTION, "PersistentVolumeClaim", [told])
+    newer, dropped = history.label(told, "first"), copied(told)
+    del dropped["metadata"]["finalizers"]
+    history.items(PROTECTION, "Pod", [], namespace="default")
+    history.create({"apiVersion": "v1", "kind": "Node", "metadata": {"name": "n1"}})
+    using = pod()
+    using["spec"]["nodeName"] = "n1"
+    using = history.create(using)
+    for number in range(times):
+        if changed:
+            using = history.label(using, str(number))
+        history.items(PROTECTION, "Pod", [using], namespace="default")
+        history.conflict(PROTECTION, {"do": "update", "object": dropped, "version": version(dropped)}, newer)
+
+
+def ended(history, name):
+    """A volume of this name that has ended for a claim that is gone, and that goes with its data."""
+    made = volume()
+    made["metadata"]["name"] = name
+    made["spec"].update(persistentVolumeReclaimPolicy="Delete", claimRef={"name": "c", "namespace": "default", "uid": CLAIM})
+    made["status"]["phase"] = "Released"
+    return history.imported(made)
+
+
+def other_names(history, times, changed):
+    told = ended(history, "a")
+    history.items(OPS, "PersistentVolume", [told])
+    history.get(OPS, told)
+    history.erase(False)
+    other = {**told, "metadata": {"name": "other"}}
+    for number in range(times):
+        if changed:
+            told = history.label(told, str(number))
+        history.get(OPS, told)
+        history.call(OPS, key("delete", other, uid=uid(told)), {"refused": "NotFound"})
+
+
+def over_same(history):
+    """Two volumes over the same data, of which the second was read last."""
+    first, second = ended(history, "a"), ended(history, "b")
+    history.items(OPS, "PersistentVolume", [first, second])
+    history.get(OPS, first)
+    history.get(OPS, second)
+    return first
+
+
+def failed_erasures(history, times, changed):
+    first = over_same(history)
+    newer = history.label(first, "first")
+    for number in range(times):
+        if changed:
+            newer = history.label(newer, str(number))
+        history.erase(True)
+        history.conflict(OPS, key("status", first, phase="Failed", version=version(first)), newer)
+
+
+def erased_deletions(history, times, changed):
+    first = over_same(history)
+    deleting = history.delete(first)
+    history.erase(False)
+    for number in range(times):
+        if changed:
+            deleting = history.label(deleting, str(number))
+        history.erase(True)
+        history.call(OPS, key("delete", first, uid=uid(first)), {"done": deleting})
+
+
+def other_volumes(history, times, changed):
+    stands, told = history.imported(claim()), []
+    for name, refers in (("a", CLAIM), ("b", uid(stands))):
+        made = volume()
+        made["metadata"]["name"] = name
+        made["spec"]["claimRef"] = {"name": "c", "namespace": "default", "uid": refers}
+        told.append(history.imported(made))
+    history.items(BINDER, "PersistentVolumeClaim", [stands])
+    history.items(BINDER, "PersistentVolume", told)
+    for number in range(times):
+        if changed:
+            stands = history.label(stands, str(number))
+        history.get(BINDER, stands)
+
+
 CALLS = {
     "pod lists": pod_lists,
     "unused claims": unused_claims,
@@ -236,16 +347,21 @@ CALLS = {
     "volume reads": volume_reads,
     "old releases": old_releases,
     "claim reads": claim_reads,
+    "old watches": old_watches,
+    "older lists": older_lists,
+    "other names": other_names,
+    "failed erasures": failed_erasures,
+    "erased deletions": erased_deletions,
+    "other volumes": other_volumes,
 }
-SHAPES = [name + more for name in CALLS for more in ("", ", changed")]
-SLOW = {"old watches": old_watches}
+SHAPES = [name + more for name in CALLS for more in ("", ", changed") if (name, more) != ("old watches", ", changed")]
 
 
 def repeated(shape, times):
     """The text of the history of this shape."""
     history = History()
     name, _, changed = shape.partition(", ")
-    {**CALLS, **SLOW}[name](history, times, changed != "")
+    CALLS[name](history, times, changed != "")
     return history.text()
 
 

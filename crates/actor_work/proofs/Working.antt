@@ -21,7 +21,7 @@ use Rattle.actor_turns.specs.Steps.Living.{HasLivedOn, LivedAll, LivedFewer}
 use Rattle.actor_turns.specs.Steps.Playing.{HasMadeAll, HasMadeFewer, HasTurned, IsLife, Plays}
 use Rattle.actor_turns.proofs.Lived.{each_lasted}
 use Rattle.actor_turns.proofs.Stepping.{life_there}
-use Rattle.actor_work.specs.Steps.Reached.{HasReached}
+use Rattle.actor_work.specs.Steps.Reached.{HasPlayedTo}
 use Rattle.actor_work.specs.Working.{AreWorkedLives, SomeLives}
 
 -- ---- the calls
@@ -85,10 +85,10 @@ at_seat : (seat : ℕ) (mine : List Entry) (idle : ℕ → List Entry) → and_i
 at_seat seat mine idle = let same : (seat == seat) ≡ true = (Decides-eqb seat seat).1 refl in rw same refl
 
 -- after a turn that gave fewer calls the actor was woken
-pub turn_reached : (end : ℕ) (told : ℕ → List Entry) (before after : List Entry) (old new : Player) → old.made ≤ end → new.part ≡ old.part → HasTurned all_pass (end - old.made) told before after old new → HasReached end true new after
+pub turn_reached : (end : ℕ) (told : ℕ → List Entry) (before after : List Entry) (old new : Player) → old.made ≤ end → new.part ≡ old.part → HasTurned all_pass (end - old.made) told before after old new → HasPlayedTo end true new after
 turn_reached end told before after old new low part t = by t.made
   where
-    by : HasMadeAll all_pass (end - old.made) told before after old new ⊎ HasMadeFewer all_pass (end - old.made) told before after old new → HasReached end true new after
+    by : HasMadeAll all_pass (end - old.made) told before after old new ⊎ HasMadeFewer all_pass (end - old.made) told before after old new → HasPlayedTo end true new after
     by (inl all) = record { told = told; plays = all.plays; rests = λ woken left seat from life. absurd (let m = all.made in omega (arith, m, left, low)) }
     by (inr few) = record { told = and_idle new.seat (own new.seat after) told; plays = few.plays; rests = λ woken left seat from life. at seat from life (seat == new.seat) refl }
       where
@@ -125,7 +125,7 @@ rests_stale kind mine built (inl quiet) =
     let some = follows_some kind built in
     absurd (subst (HasNoNews some.0) (none_added quiet.recent mine quiet.are) (quiet.quiet some.0 some.1))
 
-pub turn_stale : (end : ℕ) (before after : List Entry) (old new : Player) (reached : HasReached end true old before) → old.part.named ≡ true → IsBuiltKind old.part.kind → old.made < end → new.made ≡ old.made → HasTurned all_pass (end - old.made) reached.told before after old new
+pub turn_stale : (end : ℕ) (before after : List Entry) (old new : Player) (reached : HasPlayedTo end true old before) → old.part.named ≡ true → IsBuiltKind old.part.kind → old.made < end → new.made ≡ old.made → HasTurned all_pass (end - old.made) reached.told before after old new
     → WasToldStale old.part.kind (own (seat_at old.part (new.made + 1)) after)
 turn_stale end before after old new reached named built left none t = by t.made
   where

@@ -22,7 +22,8 @@ use Rattle.label_rules.specs.Selectors.{admits}
 use Rattle.binder_model.specs.BindWrites.{is_claim_bound}
 use Rattle.binder_model.specs.Choice.{AreShares, Assigns, GoesNowhere, IsProvisioned, Searches, Serves, Share, Step, TakesVolume, Waits, admits_if_carrying, admits_node, are_completed, assigned_node, by_size, can_provision, carries_claim, claim_cmp, claim_named, claims_of, class_provisions, first_taking, fixed_admit, has_carrier, insert_claim, is_missing, is_other, is_served_elsewhere, is_under_way, lacks_claim, others_of, step_of, takes_pod, volume_admits}
 use Rattle.binder_model.specs.Due.{CanPrepare, IsPodDue, IsStepDue, agent_due, carried_by, is_pod_mounted, is_ready, is_served_on, share_is_served, shares_are_served}
-use Rattle.binder_model.specs.Matching.{IsBest, IsCandidate, match_cmp, mode_count}
+use Rattle.binder_model.specs.Matching.{IsBest, IsCandidate, match_cmp}
+use Rattle.kube_types.specs.Bindings.{mode_count}
 use Rattle.binder_model.specs.ObjectKeys.{class_key, node_key, volume_key}
 use Rattle.binder_model.specs.World.{World}
 use Rattle.model_laws.proofs.Lists.{none_some}

@@ -17,7 +17,7 @@ use Rattle.all_pay.proofs.Rounds.{pays_off, round_paid}
 
 module _ (setup : Setup) (allow : ImportsAllow setup) (lets : Lets) (after : List Drainer) (past : List Entry) (left : ℕ) (run : IsRunOf setup past) where
   -- with no call left a drain ends as it begins
-  none_left : (ds : List Drainer) (h : List Entry) (b : ℕ) → Drains lets setup after past left ds h b → b ≡ 0 → past ≡ h
+  pub none_left : (ds : List Drainer) (h : List Entry) (b : ℕ) → Drains lets setup after past left ds h b → b ≡ 0 → past ≡ h
   none_left ds h b (NothingDue settled same entries rest) spent = entries
   none_left ds h b (IsSpent first due none same entries rest) spent = entries
   none_left ds h b (Goes first due some between middle rest whole round more) spent = absurd (omega (arith, some, spent))

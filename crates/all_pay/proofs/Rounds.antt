@@ -28,7 +28,7 @@ pub pays_off : (setup : Setup) (earlier past : List Entry) → IsRunOf setup pas
 pays_off setup earlier past run paid = record { paid = paid; fallen = paid_is_less setup earlier past (runs_are_histories setup past run.run) paid }
 
 module _ (setup : Setup) (allow : ImportsAllow setup) (ds : List Drainer) (roles : AreRoles (roles_of ds)) (rest : AreAtRest ds) where
-  payer_at : (place : ℕ) (d : Drainer) → slice_get ds place ≡ Some d → IsPayer setup d
+  pub payer_at : (place : ℕ) (d : Drainer) → slice_get ds place ≡ Some d → IsPayer setup d
   payer_at place d at =
       let built = built_at ds (roles_built (roles_of ds) roles) place d at in
       record { built = built; rests = rest place d at; pays = actors_pay setup d.seat d.actor.role built allow }

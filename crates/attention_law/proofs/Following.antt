@@ -21,7 +21,7 @@ use Rattle.worker_core.specs.States.{ActorState, waits}
 use Rattle.worker_core.proofs.Answered.{turn_role}
 use Rattle.worker_core.proofs.KeysKept.{absorbed_keys}
 use Rattle.attention_law.specs.Diligence.{AreQuiet, Call, IsAskedFor, IsKeyDue, IsDueThroughout, IsQuiet, WasAskedSince, entries, watches, watches_kind}
-use Rattle.attention_law.specs.Played.{Begins, Gives, IsPlayed, LostAfter, LostBefore, PlayedIsDiligent, Told, Turns, Wakes}
+use Rattle.attention_law.specs.Played.{Begins, PlaysCall, IsPlayed, LostAfter, LostBefore, PlayedIsDiligent, Told, Turns, Wakes}
 use Rattle.attention_law.proofs.Dues.{asked_no_watch}
 use Rattle.attention_law.proofs.Passing.{Goes, told_goes}
 use Rattle.attention_law.proofs.Phases.{Phase, answer_phase, called_or_waits, few_watches, opens, same_place, turn_phase, wake_phase}
@@ -61,7 +61,7 @@ record Came (s new : ActorState) : Type 0 where
   taken : OneTaken s → OneTaken new
   role : new.role ≡ s.role
 
-came : (s new : ActorState) (request : Request) (outcome : Outcome) (before : List Entry) → Gives s new request outcome before → Came s new
+came : (s new : ActorState) (request : Request) (outcome : Outcome) (before : List Entry) → PlaysCall s new request outcome before → Came s new
 came s new request outcome before g = record {
   taken = λ own. subst (λ x. OneTaken x) (sym g.takes) (answer_taken g.turned new.caches request outcome (turn_taken s g.turned (nexts.Call request) g.turns.turn own));
   role = ap (λ (x : ActorState). x.role) g.takes ∙ answer_role g.turned new.caches request outcome ∙ turn_role s g.turned (nexts.Call request) g.turns.turn;
@@ -110,17 +110,17 @@ was_played role s calls (Wakes old turned played turns wakes stands) (c ∷ late
 -- the step of a told call
 record ToldStep (role : Role) (e : Entry) (before : List Call) (s new : ActorState) : Type 0 where
   played : IsPlayed role s before
-  gives : Gives s new e.request (outcomes.Told e.reply) (entries before)
+  gives : PlaysCall s new e.request (outcomes.Told e.reply) (entries before)
   stands : StandsFor new (e ∷ entries before)
 
 told_step : (role : Role) (s new : ActorState) (calls before : List Call) (x e : Entry) (request : Request) (reply : Reply) → IsPlayed role s before → calls ≡ Some x ∷ before → IsTold x request reply
-    → Gives s new request (outcomes.Told reply) (entries before) → StandsFor new (entries calls) → (old : List Call) → calls ≡ Some e ∷ old → ToldStep role e old s new
+    → PlaysCall s new request (outcomes.Told reply) (entries before) → StandsFor new (entries calls) → (old : List Call) → calls ≡ Some e ∷ old → ToldStep role e old s new
 told_step role s new calls before x e request reply played is told gives stands old at =
     let own : x ≡ e = one x e (same_head _ _ _ _ (sym is ∙ at)) in
     let rest : before ≡ old = same_tail _ _ _ _ (sym is ∙ at) in
     subst (λ y. ToldStep role y old s new) own (subst (λ b. ToldStep role x b s new) rest (record {
       played = played;
-      gives = subst (λ r. Gives s new r (outcomes.Told x.reply) (entries before)) (sym told.asked) (subst (λ r. Gives s new request (outcomes.Told r) (entries before)) (sym told.answered) gives);
+      gives = subst (λ r. PlaysCall s new r (outcomes.Told x.reply) (entries before)) (sym told.asked) (subst (λ r. PlaysCall s new request (outcomes.Told r) (entries before)) (sym told.answered) gives);
       stands = subst (λ c. StandsFor new (entries c)) is stands;
     }))
 
@@ -182,7 +182,7 @@ module _ (role : Role) (built : IsBuiltKind role.kind) (kind : Kind) (place : �
   Followed s since = WasAskedSince role key start since ⊎ Phase place key s (watches kind since)
 
   told_on : (s new : ActorState) (calls before : List Call) (x : Entry) (request : Request) (reply : Reply) → IsPlayed role s before → calls ≡ Some x ∷ before → IsTold x request reply
-      → Gives s new request (outcomes.Told reply) (entries before) → StandsFor new (entries calls) → (since : List Call) → calls ≡ since ++ start → AreQuiet since → IsDueThroughout role key start since
+      → PlaysCall s new request (outcomes.Told reply) (entries before) → StandsFor new (entries calls) → (since : List Call) → calls ≡ since ++ start → AreQuiet since → IsDueThroughout role key start since
       → ((rest : List Call) → before ≡ rest ++ start → AreQuiet rest → IsDueThroughout role key start rest → s.memory.stale ≡ false → Followed s rest) → Followed new since
   told_on s new calls before x request reply played is told gives stands [] e quiet due earlier_on =
       let step = told_step role s new calls before x first request reply played is told gives stands earlier e in

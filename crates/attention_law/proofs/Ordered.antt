@@ -20,7 +20,7 @@ use Rattle.call_types.specs.declared.request.SeatKind.TheVariants.{Binder}
 use Rattle.binder_model.specs.BindWrites.{next_write}
 use Rattle.binder_model.specs.Matching.{IsBestAt, binder_takes, eligible, has_match, is_delayed, only_own_passes, waits_for_pod}
 use Rattle.binder_model.specs.ObjectKeys.{class_key}
-use Rattle.volume_match.specs.Volumes.{as_volume}
+use Rattle.kube_types.specs.VolumeIndex.{as_volume}
 use Rattle.claim_sync.specs.ClaimDecision.{IsVolumeFor, claim_decision, may_assign}
 use Rattle.claim_sync.specs.declared.action.ClaimStep.{ClaimStep}
 use Rattle.claim_sync.specs.declared.action.ClaimStep.TheVariants as steps

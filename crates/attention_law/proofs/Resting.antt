@@ -31,7 +31,7 @@ use Rattle.worker_core.proofs.ByKind.{start_reads_none}
 use Rattle.worker_core.proofs.KeysKept.{absorbed_keys}
 use Rattle.worker_core.proofs.Machines.{task_reads_none, under_calls}
 use Rattle.attention_law.specs.Diligence.{Call, IsAskedFor, IsKeyDue, IsDueThroughout, entries}
-use Rattle.attention_law.specs.Played.{Gives, IsPlayed, Turns, Wakes}
+use Rattle.attention_law.specs.Played.{PlaysCall, IsPlayed, Turns, Wakes}
 use Rattle.attention_law.specs.Resting.{Brings, Drops, HasPassed, Hears, IdleIsDone, IsPlayedSince, Misses, Resumes, Starts, WasCalledSince, is_whole, next_pass, pass_since}
 use Rattle.attention_law.proofs.Dues.{never_due}
 use Rattle.attention_law.proofs.Following.{due_now, no_list, one_taken, remembered, same_head, same_role, same_tail, stands_now, still_fresh}
@@ -64,7 +64,7 @@ read_given s mine request kind stands ask reads = by s.given refl ask stands.giv
 
 -- a key that is brought waits
 
-brought_waits : (key : Key) (s new : ActorState) (mine : List Entry) (e : Entry) (request : Request) (reply : Reply) → OneTaken s → Gives s new request (outcomes.Told reply) mine → IsTold e request reply → Brings key e → waits key new.work ≡ true
+brought_waits : (key : Key) (s new : ActorState) (mine : List Entry) (e : Entry) (request : Request) (reply : Reply) → OneTaken s → PlaysCall s new request (outcomes.Told reply) mine → IsTold e request reply → Brings key e → waits key new.work ≡ true
 brought_waits key s new mine e request reply own g told brings =
     ap (λ (x : ActorState). waits key x.work) g.takes
     ∙ ap (λ x. waits key (given_told (learned g.turned new.caches request reply) request reply x).work) read.given
@@ -78,7 +78,7 @@ brought_waits key s new mine e request reply own g told brings =
 
 -- a key that waits, and is due, is called for or goes on waiting
 
-call_waits : (role : Role) (key : Key) (s new : ActorState) (mine : List Entry) (request : Request) (outcome : Outcome) → s.role ≡ role → StandsFor s mine → Gives s new request outcome mine → IsKeyDue role key mine → waits key s.work ≡ true
+call_waits : (role : Role) (key : Key) (s new : ActorState) (mine : List Entry) (request : Request) (outcome : Outcome) → s.role ≡ role → StandsFor s mine → PlaysCall s new request outcome mine → IsKeyDue role key mine → waits key s.work ≡ true
     → IsAskedFor role key mine request ⊎ (waits key new.work ≡ true)
 call_waits role key s new mine request outcome own stands g due there =
     elim (called_or_waits key s g.turned mine stands g.turns.order (subst (λ r. IsKeyDue r key mine) (sym own) due) request g.turns.turn) [
@@ -97,7 +97,7 @@ goes_on role key start rest e s new so_far on = elim so_far [
 ]
 
 -- one call of a life that goes on
-module _ (role : Role) (key : Key) (before rest : List Call) (s new : ActorState) (request : Request) (outcome : Outcome) (played : IsPlayedSince role s before rest) (gives : Gives s new request outcome (entries (rest ++ before))) where
+module _ (role : Role) (key : Key) (before rest : List Call) (s new : ActorState) (request : Request) (outcome : Outcome) (played : IsPlayedSince role s before rest) (gives : PlaysCall s new request outcome (entries (rest ++ before))) where
   pub is_life : IsPlayed role s (rest ++ before)
   is_life = played_on role s before rest played
 
@@ -107,7 +107,7 @@ module _ (role : Role) (key : Key) (before rest : List Call) (s new : ActorState
       on : waits key s.work ≡ true → IsAskedFor role key (entries (later ++ start)) request ⊎ (waits key new.work ≡ true)
       on there =
           call_waits role key s new (entries (later ++ start)) request outcome (same_role role s (rest ++ before) is_life) (subst (λ c. StandsFor s (entries c)) same (stands_now role s (rest ++ before) is_life))
-          (subst (λ c. Gives s new request outcome (entries c)) same gives) due there
+          (subst (λ c. PlaysCall s new request outcome (entries c)) same gives) due there
 
 -- keys that are due since the life was woken
 

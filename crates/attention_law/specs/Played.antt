@@ -27,7 +27,7 @@ pub record Turns (s turned : ActorState) (answer : Next) (mine : List Entry) : T
   pub stands : StandsFor turned mine
 
 -- a turn that gave a call, and what came of it
-pub record Gives (s new : ActorState) (request : Request) (outcome : Outcome) (mine : List Entry) : Type 0 where
+pub record PlaysCall (s new : ActorState) (request : Request) (outcome : Outcome) (mine : List Entry) : Type 0 where
   pub turned : ActorState
   pub turns : Turns s turned (nexts.Call request) mine
   pub takes : new ≡ absorbed turned new.caches request outcome
@@ -36,11 +36,11 @@ pub record Gives (s new : ActorState) (request : Request) (outcome : Outcome) (m
 pub data IsPlayed (role : Role) : ActorState → List Call → Type 0 where
   Begins : {s : ActorState} {calls : List Call} → calls ≡ [] → IsNew role s → StandsFor s [] → IsPlayed role s calls
   Told : {new : ActorState} {calls : List Call} (s : ActorState) (before : List Call) (e : Entry) (request : Request) (reply : Reply) → IsPlayed role s before → calls ≡ Some e ∷ before → IsTold e request reply
-      → Gives s new request (outcomes.Told reply) (entries before) → StandsFor new (entries calls) → IsPlayed role new calls
+      → PlaysCall s new request (outcomes.Told reply) (entries before) → StandsFor new (entries calls) → IsPlayed role new calls
   LostBefore : {new : ActorState} {calls : List Call} (s : ActorState) (before : List Call) (request : Request) → IsPlayed role s before → calls ≡ None ∷ before
-      → Gives s new request outcomes.Lost (entries before) → StandsFor new (entries calls) → IsPlayed role new calls
+      → PlaysCall s new request outcomes.Lost (entries before) → StandsFor new (entries calls) → IsPlayed role new calls
   LostAfter : {new : ActorState} {calls : List Call} (s : ActorState) (before : List Call) (e : Entry) (request : Request) → IsPlayed role s before → calls ≡ Some e ∷ before → e.told ≡ false → e.request ≡ request
-      → Gives s new request outcomes.Lost (entries before) → StandsFor new (entries calls) → IsPlayed role new calls
+      → PlaysCall s new request outcomes.Lost (entries before) → StandsFor new (entries calls) → IsPlayed role new calls
   Wakes : {new : ActorState} {calls : List Call} (s turned : ActorState) → IsPlayed role s calls → Turns s turned nexts.Idle (entries calls) → new ≡ woken turned → StandsFor new (entries calls) → IsPlayed role new calls
 
 -- a life that is played so is diligent, of each kind of actor that is built

@@ -25,7 +25,7 @@ use Rattle.worker_core.specs.Roles.{IsBuiltKind, kinds_of}
 use Rattle.worker_core.specs.Stands.{IsNew, StandsFor}
 use Rattle.worker_core.specs.States.{ActorState}
 use Rattle.attention_law.specs.Diligence.{Call, IsAskedFor, IsDueThroughout, entries}
-use Rattle.attention_law.specs.Played.{Gives, IsPlayed, Turns}
+use Rattle.attention_law.specs.Played.{PlaysCall, IsPlayed, Turns}
 
 -- passes
 
@@ -114,11 +114,11 @@ pub record IsDone (role : Role) (before since : List Call) : Type 0 where
 pub data IsPlayedSince (role : Role) : ActorState → List Call → List Call → Type 0 where
   Starts : {s : ActorState} {before since : List Call} → before ≡ [] → since ≡ [] → IsNew role s → StandsFor s [] → IsPlayedSince role s before since
   Hears : {new : ActorState} {before since : List Call} (s : ActorState) (rest : List Call) (e : Entry) (request : Request) (reply : Reply) → IsPlayedSince role s before rest → since ≡ Some e ∷ rest → IsTold e request reply
-      → Gives s new request (outcomes.Told reply) (entries (rest ++ before)) → StandsFor new (entries (since ++ before)) → IsPlayedSince role new before since
+      → PlaysCall s new request (outcomes.Told reply) (entries (rest ++ before)) → StandsFor new (entries (since ++ before)) → IsPlayedSince role new before since
   Drops : {new : ActorState} {before since : List Call} (s : ActorState) (rest : List Call) (request : Request) → IsPlayedSince role s before rest → since ≡ None ∷ rest
-      → Gives s new request outcomes.Lost (entries (rest ++ before)) → StandsFor new (entries (since ++ before)) → IsPlayedSince role new before since
+      → PlaysCall s new request outcomes.Lost (entries (rest ++ before)) → StandsFor new (entries (since ++ before)) → IsPlayedSince role new before since
   Misses : {new : ActorState} {before since : List Call} (s : ActorState) (rest : List Call) (e : Entry) (request : Request) → IsPlayedSince role s before rest → since ≡ Some e ∷ rest → e.told ≡ false → e.request ≡ request
-      → Gives s new request outcomes.Lost (entries (rest ++ before)) → StandsFor new (entries (since ++ before)) → IsPlayedSince role new before since
+      → PlaysCall s new request outcomes.Lost (entries (rest ++ before)) → StandsFor new (entries (since ++ before)) → IsPlayedSince role new before since
   Resumes : {new : ActorState} {before since : List Call} (s turned : ActorState) (earlier made : List Call) → IsPlayedSince role s earlier made → before ≡ made ++ earlier → since ≡ [] → Turns s turned nexts.Idle (entries before) → new ≡ woken turned
       → StandsFor new (entries before) → IsPlayedSince role new before since
 

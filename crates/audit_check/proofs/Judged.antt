@@ -16,7 +16,7 @@ use Rattle.audit_check.specs.declared.verdict.AuditRule.{AuditRule}
 use Rattle.audit_check.specs.declared.verdict.AuditRule.TheVariants.{Answer, Licence}
 use Rattle.audit_check.specs.Verdicts.{Breaks, HasItsAnswer}
 use Rattle.audit_check.specs.Steps.Noted.{AreOwn, IsNoted, noted}
-use Rattle.audit_check.specs.Steps.Judged.{Stands, rule_of}
+use Rattle.audit_check.specs.Steps.Judged.{AuditorStands, rule_of}
 
 -- ---- one entry
 
@@ -24,7 +24,7 @@ own_noted : (old new : Seats) (e : Entry) (past : List Entry) → AreOwn old pas
 own_noted old new e past are is = λ seat. is seat ∙ ap (λ (xs : List Entry). if e.seat == seat then e ∷ xs else xs) (are seat)
 
 -- what the world answers is the answer of the entries that stand
-answer_of : (old : Auditor) (setup : Setup) (past : List Entry) (e : Entry) → Stands old setup past
+answer_of : (old : Auditor) (setup : Setup) (past : List Entry) (e : Entry) → AuditorStands old setup past
     → reply_in old.world e.kind e.request ≡ reply_to (effect setup (world setup past) e.kind e.request)
 answer_of old setup past e stands = λ i. reply_to (effect (stands.begun i) (world (stands.begun i) (stands.passed i)) e.kind e.request)
 
@@ -33,7 +33,7 @@ pub breaking : (old : Auditor) (e : Entry) (reply : Reply) (answered : Bool) (al
     → MatchResult allowed (λ _. Licensed e.kind (noted old.seats e.seat) e.request) (IsRefusedBy e.kind (noted old.seats e.seat) e.request)
     → reply ≡ reply_in old.world e.kind e.request
     → Some rule ≡ rule_of answered allowed
-    → (setup : Setup) (past : List Entry) → Stands old setup past → Breaks setup past e rule
+    → (setup : Setup) (past : List Entry) → AuditorStands old setup past → Breaks setup past e rule
 breaking old e reply false allowed rule same may is gives setup past stands =
     let first : Answer ≡ rule = cc in
     let wrong : HasItsAnswer setup past e → ⊥ = λ h. iff_false same refl (is ∙ answer_of old setup past e stands ∙ sym h) in
@@ -53,7 +53,7 @@ pub standing : (old new : Auditor) (e : Entry) (reply : Reply) (answered : Bool)
     → new.world.setup ≡ old.world.setup
     → new.world.past ≡ (record { seat = e.seat; kind = e.kind; request = e.request; reply = reply; told = e.told }) ∷ old.world.past
     → IsNoted old.seats new.seats e
-    → (setup : Setup) (past : List Entry) → Stands old setup past → Stands new setup (e ∷ past)
+    → (setup : Setup) (past : List Entry) → AuditorStands old setup past → AuditorStands new setup (e ∷ past)
 standing old new e reply false allowed same may is gives kept put is_noted setup past stands = cc
 standing old new e reply true (Err r) same may is gives kept put is_noted setup past stands = cc
 standing old new e reply true (Ok u) same may is gives kept put is_noted setup past stands =
@@ -70,8 +70,8 @@ standing old new e reply true (Ok u) same may is gives kept put is_noted setup p
 -- ---- entries in their order
 
 pub next_stands : (a : Auditor) (setup : Setup) (xs : List Entry) (i : ℕ) (d : Entry) → i < length xs
-    → Stands a setup (get_or xs i d ∷ reverse (take i xs)) → Stands a setup (reverse (take (i + 1) xs))
-next_stands a setup xs i d h stands = subst (λ (past : List Entry). Stands a setup past) (sym (newest_first xs i d h)) stands
+    → AuditorStands a setup (get_or xs i d ∷ reverse (take i xs)) → AuditorStands a setup (reverse (take (i + 1) xs))
+next_stands a setup xs i d h stands = subst (λ (past : List Entry). AuditorStands a setup past) (sym (newest_first xs i d h)) stands
 
-pub all_stand : (a : Auditor) (setup : Setup) (xs : List Entry) (i : ℕ) → length xs ≤ i → Stands a setup (reverse (take i xs)) → Stands a setup (reverse xs)
-all_stand a setup xs i h stands = subst (λ (ys : List Entry). Stands a setup (reverse ys)) (take_all i xs h) stands
+pub all_stand : (a : Auditor) (setup : Setup) (xs : List Entry) (i : ℕ) → length xs ≤ i → AuditorStands a setup (reverse (take i xs)) → AuditorStands a setup (reverse xs)
+all_stand a setup xs i h stands = subst (λ (ys : List Entry). AuditorStands a setup (reverse ys)) (take_all i xs h) stands

@@ -5,7 +5,7 @@ ghost use Rattle.call_types.specs.declared.entry.Entry.{Entry};
 ghost use Rattle.call_types.specs.declared.setup.Setup.{Setup};
 ghost use Rattle.binder_model.specs.Imports.{ImportsPass};
 ghost use Rattle.binder_model.specs.Safe.{Safe};
-ghost use Rattle.audit_check.specs.Steps.Judged.{Judges, Stands, rule_of};
+ghost use Rattle.audit_check.specs.Steps.Judged.{Judges, AuditorStands, rule_of};
 
 use crate::seats::Seats;
 use crate::verdict::AuditRule;
@@ -47,7 +47,7 @@ impl Auditor {
     /// With no entry yet.
     pub fn new(alloc: Global, setup: &Setup) -> Result<Auditor, OutOfMemory>
         requires { ImportsPass setup.now.imports }
-        ensures { IfOk result (λ a. Stands a setup.now []) }
+        ensures { IfOk result (λ a. AuditorStands a setup.now []) }
     {
         let world = World::new(alloc, setup, 0)?;
         Ok(Auditor {
@@ -58,7 +58,7 @@ impl Auditor {
 
     /// Goes through one more entry. Where it breaks, nothing more may be asked.
     pub fn judge(&mut self, entry: &Entry) -> Result<Option<AuditRule>, OutOfMemory>
-        ensures { IfOk result (λ rule. (setup : Setup) (past : List Entry) → Stands self.old setup past → Judges rule self.new setup past entry.now) }
+        ensures { IfOk result (λ rule. (setup : Setup) (past : List Entry) → AuditorStands self.old setup past → Judges rule self.new setup past entry.now) }
     {
         let allowed = self.seats.judge(entry.seat, entry.kind, &entry.request);
         let reply = self
@@ -76,7 +76,7 @@ impl Auditor {
     /// The entries that stand are safe at every point.
     #[tactic(auto, using(safety_law::proofs::Law::run_implies_safe))]
     pub fn is_safe(&self)
-        ensures { (setup : Setup) (past : List Entry) → Stands self.now setup past → Safe setup past }
+        ensures { (setup : Setup) (past : List Entry) → AuditorStands self.now setup past → Safe setup past }
     {
         let _ = self.world.history();
     }

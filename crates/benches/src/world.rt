@@ -1,14 +1,11 @@
 //! Calls on one world: volumes are created and labelled, nodes listed, volumes watched, and a node asked for its mounts, in
 //! turn.
 
-use crate::writes::{create_volume, label};
+use crate::writes::{create_node, create_volume, label};
 use call_types::request::{Request, SeatKind};
 use kube_types::copies::OutOfMemory;
-use kube_types::objects::Object;
 use kube_types::parts::Kind;
-use kube_types::shared::Shared;
 use sample_objects::keys::numbered;
-use sample_objects::pods::node;
 use sample_objects::setups::bare;
 use std::alloc::Global;
 use std::io;
@@ -18,14 +15,6 @@ use world_core::world::World;
 const VOLUMES: u64 = 256;
 
 const NODES: u64 = 4;
-
-fn create_node(alloc: Global, number: u64) -> Result<Request, OutOfMemory> {
-    let name = numbered(alloc, "n", number)?;
-    let node = node(alloc, name.as_str(), None, 0, "")?;
-    Ok(Request::Create {
-        object: Object::Node(Shared::new(alloc, node)?),
-    })
-}
 
 /// The first volume call of a round creates a volume, as long as there are fewer than `VOLUMES`, and labels one then.
 fn create_or_label(alloc: Global, round: u64) -> Result<Request, OutOfMemory> {

@@ -39,7 +39,7 @@ use Rattle.informer_cache.specs.All.{all_objects}
 use Rattle.model_laws.proofs.Histories.{rows_stand_in_order}
 use Rattle.model_laws.proofs.Lists.{IsIn, none_some, one, some_filter}
 use Rattle.model_laws.proofs.Readings.{member_stands}
-use Rattle.volume_match.specs.Volumes.{as_volume}
+use Rattle.kube_types.specs.VolumeIndex.{as_volume}
 use Rattle.claim_sync.specs.declared.action.ClaimStep.{ClaimStep}
 use Rattle.claim_sync.specs.declared.action.ClaimStep.TheVariants as claim_steps
 use Rattle.claim_sync.specs.ClaimDecision.{IsVolumeFor, claim_decision, completed_step, may_assign, named_step, named_volume, read_step, unless_lost, unnamed_step}

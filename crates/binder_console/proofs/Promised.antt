@@ -18,8 +18,14 @@ use Rattle.script_laws.specs.Scripts.{IsScript}
 use Rattle.script_laws.proofs.TextsGive.{ScriptGiven, script_gives}
 use Rattle.script_runs.specs.Diligent.{IsDiligentReplay}
 use Rattle.script_runs.specs.Replays.{IsReplay}
+use Rattle.script_runs.proofs.Readable.{script_readable}
 use Rattle.script_threads.specs.Runs.{IsRun}
 use Rattle.script_gen.specs.Generated.{generated}
+use Rattle.gen_laws.proofs.Whole.{generated_is_script}
+use Rattle.drain_law.proofs.Asking.{replayed_pods_are_on_named}
+use Rattle.drain_law.proofs.Moves.{replayed_drains_last}
+use Rattle.drain_law.proofs.Threaded.{threaded_drains_last}
+use Rattle.drain_law.proofs.Working.{threaded_pods_are_on_named}
 use Rattle.printable_law.specs.Laws.{HasOneHistory}
 use Rattle.printable_replays.proofs.Replays.{replay_texts_have_one}
 use Rattle.printable_replays.proofs.Threads.{thread_texts_have_one}
@@ -50,9 +56,16 @@ pub record IsPlayed (script : Script) (budget : Option ℕ) (setup : Setup) (pas
   pub run : Run setup past
   pub safe : Safe setup past
 
-promised : (script : Script) (budget : Option ℕ) (past : List Entry) (ending : Drained) → IsPlayed script budget script.setup past ending → IsPromised script budget past ending
-promised script budget past ending p =
-    record { calls = p.diligent.calls; diligent = p.diligent.diligent; run = p.run; safe = p.safe; enough = actors_give_enough script.setup past p.of p.actors }
+promised : (script : Script) (budget : Option ℕ) (past : List Entry) (ending : Drained) → IsScript script → IsPlayed script budget script.setup past ending → IsPromised script budget past ending
+promised script budget past ending is p = record {
+  calls = p.diligent.calls;
+  diligent = p.diligent.diligent;
+  run = p.run;
+  safe = p.safe;
+  enough = actors_give_enough script.setup past p.of p.actors;
+  lasting = replayed_drains_last script budget past ending (script_readable script is) p.of p.diligent.calls;
+  named = replayed_pods_are_on_named script budget past ending is.nodes p.run p.diligent.calls;
+}
 
 has_one : (script : Script) (budget : Option ℕ) (past : List Entry) (ending : Drained) (text : List ℕ)
     → IsScript script → IsPlayed script budget script.setup past ending → length past < most_entries → text ≡ replay_text script.setup past ending → HasOneHistory text script.setup (reverse past)
@@ -77,7 +90,7 @@ replay_answers script budget setup past ending input text read played short prin
       past = past;
       ending = ending;
       read = read;
-      promised = promised script budget past ending p;
+      promised = promised script budget past ending (read_is_script input script read) p;
       printed = same;
       alone = has_one script budget past ending text (read_is_script input script read) p short same;
       ends = refl;
@@ -92,7 +105,7 @@ gen_answers seed script budget setup past ending input text is played printed =
     by_ending (Gen seed budget) input text ending (record {
       past = past;
       ending = ending;
-      promised = promised (generated seed) budget past ending p;
+      promised = promised (generated seed) budget past ending (generated_is_script seed) p;
       printed = printed ∙ ap (λ (s : Setup). summary_text s past ending) (played.from ∙ ap (λ (s : Script). s.setup) is);
       ends = refl;
     })
@@ -132,7 +145,14 @@ run_answers script workers calls budget setup past ending input text read ran sh
       past = past;
       ending = ending;
       read = read;
-      promised = record { calls_are = p.calls_are; run = p.run; safe = p.safe; enough = actors_give_enough script.setup past p.of p.actors };
+      promised = record {
+        calls_are = p.calls_are;
+        run = p.run;
+        safe = p.safe;
+        enough = actors_give_enough script.setup past p.of p.actors;
+        lasting = threaded_drains_last script workers calls budget past ending p.of p.calls_are;
+        named = threaded_pods_are_on_named script workers calls budget past ending (read_is_script input script read).nodes p.run p.calls_are;
+      };
       printed = same;
       alone = run_has_one script workers calls budget past ending text (read_is_script input script read) p short same;
       ends = refl;

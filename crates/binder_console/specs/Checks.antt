@@ -15,8 +15,8 @@ use Rattle.binder_console.specs.declared.errors.CheckError.{CheckError}
 use Rattle.binder_console.specs.declared.errors.CheckError.TheVariants.{Refused, OutOfMemory}
 
 -- the name of the reason, a blank and the member
-abbrev pub with_member : List ℕ → Member → List ℕ
-with_member word m = word ++ (codes " " ++ member_word m)
+abbrev pub with_member_word : List ℕ → Member → List ℕ
+with_member_word word m = word ++ (codes " " ++ member_word m)
 
 -- the reason; no text is refused for want of memory
 unfoldable pub reason_text : ObjectError → List ℕ
@@ -26,9 +26,9 @@ reason_text reasons.NotJson = codes "NotJson"
 reason_text reasons.NotObject = codes "NotObject"
 reason_text reasons.NotWhole = codes "NotWhole"
 reason_text reasons.UnknownKind = codes "UnknownKind"
-reason_text (reasons.Missing m) = with_member (codes "Missing") m
-reason_text (reasons.WrongType m) = with_member (codes "WrongType") m
-reason_text (reasons.BadQuantity m) = with_member (codes "BadQuantity") m
+reason_text (reasons.Missing m) = with_member_word (codes "Missing") m
+reason_text (reasons.WrongType m) = with_member_word (codes "WrongType") m
+reason_text (reasons.BadQuantity m) = with_member_word (codes "BadQuantity") m
 
 -- the number of the item, from 1, in decimal digits, and the reason
 unfoldable pub refusal_line : ListError → List ℕ

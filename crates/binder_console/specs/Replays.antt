@@ -22,6 +22,8 @@ use Rattle.script_threads.specs.Runs.{IsRun}
 use Rattle.printable_law.specs.Laws.{HasOneHistory}
 use Rattle.script_gen.specs.Generated.{generated}
 use Rattle.size_law.specs.Enough.{GetEnoughThroughout}
+use Rattle.drain_law.specs.Lasting.{DrainsLast, ThreadedDrainLasts}
+use Rattle.drain_law.specs.Naming.{ArePodsOnNamedThroughout}
 use Rattle.binder_console.specs.declared.status.Status.{Status}
 use Rattle.binder_console.specs.declared.status.Status.TheVariants.{Done, Unsettled}
 
@@ -62,6 +64,10 @@ pub record IsPromised (script : Script) (budget : Option ℕ) (past : List Entry
   pub safe : Safe script.setup past
   -- no claim got less than it asked for, but where users bound a volume and a claim by hand
   pub enough : GetEnoughThroughout script.setup past
+  -- each whole round of its drains that begins with something due, for an actor that is no stale agent, has an entry that lasts
+  pub lasting : DrainsLast script budget past ending calls
+  -- at every point each pod that a node runs is on a node that the script names, so its drains have an agent of that node
+  pub named : ArePodsOnNamedThroughout script past
 
 -- The input is a script, and the text is that of one history from the script's setup, of which all is promised. The status
 -- says how the last drain ended.
@@ -92,6 +98,9 @@ pub record IsPromisedOfThreads (script : Script) (workers calls : ℕ) (budget :
   pub run : Run script.setup past
   pub safe : Safe script.setup past
   pub enough : GetEnoughThroughout script.setup past
+  -- so it is of each whole round of its drain
+  pub lasting : ThreadedDrainLasts script workers calls budget past ending calls_are
+  pub named : ArePodsOnNamedThroughout script past
 
 -- The input is a script, and the text is that of one history from the script's setup, of which all is promised. The status
 -- says how the drain ended.

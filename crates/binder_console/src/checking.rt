@@ -2,7 +2,7 @@
 
 ghost use Rattle.std.specs.Prelude.{◌≡◌, Err, IfOk, string_bytes};
 ghost use Rattle.object_text.specs.Listing.{list_of};
-ghost use Rattle.binder_console.specs.Checks.{with_member, reason_text, refusal_line, check_text, refusal_text, ChecksList, IfRefused};
+ghost use Rattle.binder_console.specs.Checks.{with_member_word, reason_text, refusal_line, check_text, refusal_text, ChecksList, IfRefused};
 
 use crate::errors::CheckError;
 use crate::printing::print_line;
@@ -41,7 +41,7 @@ pub fn checked(alloc: Global, input: &[u8]) -> Result<PieceText, CheckError>
 }
 
 fn with_member(alloc: Global, word: &str, member: Member) -> Result<String, OutOfMemory>
-    ensures { IfOk result (λ text. string_bytes text ≡ with_member word.now member) }
+    ensures { IfOk result (λ text. string_bytes text ≡ with_member_word word.now member) }
 {
     let name = member.name();
     Ok(format!(in alloc; "{word} {name}")?)

@@ -29,7 +29,7 @@ use Rattle.model_laws.proofs.Lists.{none_some, one}
 use Rattle.binder_machines.specs.declared.machine.Machine.{Machine}
 use Rattle.binder_machines.specs.declared.machine.Machine.TheVariants.{Frees, Binds, MarksBound, ReadsClaim, Releases, Unbinds, ReadsVolume, AssignsClass, Loses}
 use Rattle.binder_machines.specs.Machines.{assigned, call_of, may_bind, phase_call, read_of, write_class, write_lost, write_phase}
-use Rattle.binder_machines.specs.Evidence.{Keeps, MayReadClaim, ToldThis, ToldThisClaim}
+use Rattle.binder_machines.specs.Evidence.{MachineKeeps, MayReadClaim, ToldThis, ToldThisClaim}
 use Rattle.safety_invariant.proofs.Carried.{carried}
 use Rattle.safety_invariant.proofs.Tests.{same_text}
 use Rattle.binder_machines.proofs.Tests.{either, empty_is, free, uid_of}
@@ -171,7 +171,7 @@ phase_allowed v phase mine r told row e =
     tested mine (is_empty v.meta.namespace) (Some (write_phase v phase)) r
     (λ placed is. answered mine (write_phase v phase) r is (volume_status v mine (PhaseMay (binder_phase phase) mine) told (empty_is v.meta.namespace placed) row)) e
 
-pub row_allows : (machine : Machine) (mine : List Entry) (request : Request) → Keeps machine mine → call_of machine ≡ Some request → RowAllows seats.Binder mine request
+pub row_allows : (machine : Machine) (mine : List Entry) (request : Request) → MachineKeeps machine mine → call_of machine ≡ Some request → RowAllows seats.Binder mine request
 unfolding call_of
 row_allows (Frees v) mine r kept e = phase_allowed v volumes.Available mine r kept.0 kept.1 e
 row_allows (Binds v c) mine r kept e = tested mine (may_bind v c) (next_write v c) r (λ may is. binding_allowed v c mine r kept.0 kept.1 (open_of v c may) is) e
@@ -183,5 +183,5 @@ row_allows (ReadsVolume c) mine r kept e = tested mine (is_some c.meta.uid) (Som
 row_allows (AssignsClass c x) mine r kept e = tested mine (is_some c.meta.uid && is_empty x.meta.namespace) (Some (write_class c x)) r (λ tests is. answered mine _ r is (class_allowed c x mine kept.0 (kept.1 (empty_is x.meta.namespace (and_parts _ _ tests).1)))) e
 row_allows (Loses c) mine r kept e = answered mine (write_lost c) r e (lost_allowed c mine kept.0 kept.1)
 
-pub allowed : (machine : Machine) (mine : List Entry) (request : Request) → AreOfKind Binder mine → Keeps machine mine → call_of machine ≡ Some request → Licensed Binder mine request
+pub allowed : (machine : Machine) (mine : List Entry) (request : Request) → AreOfKind Binder mine → MachineKeeps machine mine → call_of machine ≡ Some request → Licensed Binder mine request
 allowed machine mine request own kept e = (own, row_allows machine mine request kept e)

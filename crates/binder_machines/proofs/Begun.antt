@@ -38,7 +38,7 @@ use Rattle.binder_machines.specs.declared.decide.First.TheVariants.{Begins}
 use Rattle.binder_machines.specs.declared.machine.Machine.{Machine}
 use Rattle.binder_machines.specs.declared.machine.Machine.TheVariants.{Binds, ReadsClaim, ReadsVolume, AssignsClass}
 use Rattle.binder_machines.specs.Machines.{machine_for}
-use Rattle.binder_machines.specs.Evidence.{Keeps, MayReadVolume, ToldThis}
+use Rattle.binder_machines.specs.Evidence.{MachineKeeps, MayReadVolume, ToldThis}
 use Rattle.binder_machines.specs.FirstSteps.{IsClaimFirst, IsFirst, first_of, lost_for, queue_of, volume_first}
 use Rattle.binder_machines.proofs.Moves.{Seen, becomes, decided_keeps, found, lacks}
 use Rattle.binder_machines.proofs.Shown.{completed_of, is_for_completed}
@@ -90,14 +90,14 @@ module _ (rows : List Object) (mine : List Entry) (order : AreRows rows) (shows 
   own_row : (key : Key) (o : Object) → row_at key rows ≡ Some o → IsNewest mine (key_of o) o
   own_row key o at = subst (λ k. IsNewest mine k o) (sym (row_at_key key o rows at)) (newest_row key o at)
 
-  volume_keeps : (key : Key) (v : VolumeData) (machine : Machine) → row_at key rows ≡ Some (Volume v) → machine_for v (volume_decision rows v NotAsked) ≡ Some machine → Keeps machine mine
+  volume_keeps : (key : Key) (v : VolumeData) (machine : Machine) → row_at key rows ≡ Some (Volume v) → machine_for v (volume_decision rows v NotAsked) ≡ Some machine → MachineKeeps machine mine
   unfolding volume_decision
   volume_keeps key v machine at = decided_keeps v false (seen_claim rows v NotAsked) mine machine told lacking seen
     where
       told : ToldThis v mine
       told = newest_volume (λ u. u ≡ v) mine key v (newest_row key (Volume v) at) refl
 
-      lacking : is_ended v.phase ≡ false → refers_by_uid v ≡ true → seen_claim rows v NotAsked ≡ None → Some (ReadsClaim v) ≡ Some machine → Keeps machine mine
+      lacking : is_ended v.phase ≡ false → refers_by_uid v ≡ true → seen_claim rows v NotAsked ≡ None → Some (ReadsClaim v) ≡ Some machine → MachineKeeps machine mine
       lacking live has none s =
           let k = known_of v has in
           let lacking = lacks k.uid (row_at (claim_key k.reference.namespace k.reference.name) rows) (sym (seen_row rows v k) ∙ none) in
@@ -128,14 +128,14 @@ module _ (rows : List Object) (mine : List Entry) (order : AreRows rows) (shows 
           let f = found k.uid c (row_at place rows) (sym (seen_row rows v k) ∙ is) in
           record { reference = k.reference; uid = k.uid; refers = k.refers; known = k.known; has = f.has; claim = newest_claim (λ d. d ≡ c) mine place c (newest_row place (Claim c) f.is) refl }
 
-  volume_begins : (key : Key) (v : VolumeData) (machine : Machine) → row_at key rows ≡ Some (Volume v) → Begins machine ≡ volume_first v (volume_decision rows v NotAsked) → Keeps machine mine
+  volume_begins : (key : Key) (v : VolumeData) (machine : Machine) → row_at key rows ≡ Some (Volume v) → Begins machine ≡ volume_first v (volume_decision rows v NotAsked) → MachineKeeps machine mine
   volume_begins key v machine at = by (volume_decision rows v NotAsked) refl
     where
-      queues : (r : Option Ref) → Begins machine ≡ queue_of r → Keeps machine mine
+      queues : (r : Option Ref) → Begins machine ≡ queue_of r → MachineKeeps machine mine
       queues None e = none_some (sym (ap machine_in e))
       queues (Some r) e = none_some (sym (ap machine_in e))
 
-      by : (a : VolumeAction) → volume_decision rows v NotAsked ≡ a → Begins machine ≡ volume_first v a → Keeps machine mine
+      by : (a : VolumeAction) → volume_decision rows v NotAsked ≡ a → Begins machine ≡ volume_first v a → MachineKeeps machine mine
       by actions.QueueClaim is e = queues v.claim_ref e
       by actions.Nothing is e = volume_keeps key v machine at (ap (machine_for v) is ∙ first_back (machine_for v actions.Nothing) machine e)
       by actions.ReadClaim is e = volume_keeps key v machine at (ap (machine_for v) is ∙ first_back (machine_for v actions.ReadClaim) machine e)
@@ -153,10 +153,10 @@ module _ (rows : List Object) (mine : List Entry) (order : AreRows rows) (shows 
     asks = record { claim = c; newest_claim = own_row key (Claim c) at; completed = done; named = refl };
   }
 
-  lost_keeps : (key : Key) (c : ClaimData) → row_at key rows ≡ Some (Claim c) → is_completed c ≡ true → Keeps (lost_for (is_empty c.volume_name) c) mine
+  lost_keeps : (key : Key) (c : ClaimData) → row_at key rows ≡ Some (Claim c) → is_completed c ≡ true → MachineKeeps (lost_for (is_empty c.volume_name) c) mine
   lost_keeps key c at done = by (is_empty c.volume_name) refl
     where
-      by : (none : Bool) → is_empty c.volume_name ≡ none → Keeps (lost_for none c) mine
+      by : (none : Bool) → is_empty c.volume_name ≡ none → MachineKeeps (lost_for none c) mine
       by true n = (newest_claim (λ d. d ≡ c) mine key c (newest_row key (Claim c) at) refl, record { completed = done; why = inl (empty_is c.volume_name n); same_modes = refl; same_amount = refl })
       by false n = may_read key c at done
 
@@ -174,7 +174,7 @@ module _ (rows : List Object) (mine : List Entry) (order : AreRows rows) (shows 
           let at : row_at (class_key other.meta.name) rows ≡ Some (Class other) = shows (class_key other.meta.name) ∙ told in
           subst (λ (k : Key). row_at k rows ≡ Some (Class other)) (sym (row_at_key (class_key other.meta.name) (Class other) rows at)) at
 
-  class_keeps : (key : Key) (c : ClaimData) (x : ClassData) → row_at key rows ≡ Some (Claim c) → claim_decision rows c NotAsked ≡ steps.AssignClass → IsDefaultOf (StandsIn rows) x → Keeps (AssignsClass c x) mine
+  class_keeps : (key : Key) (c : ClaimData) (x : ClassData) → row_at key rows ≡ Some (Claim c) → claim_decision rows c NotAsked ≡ steps.AssignClass → IsDefaultOf (StandsIn rows) x → MachineKeeps (AssignsClass c x) mine
   class_keeps key c x at decided default =
       let so = gets_class rows c NotAsked decided in (
         newest_claim (λ d. d ≡ c) mine key c (newest_row key (Claim c) at) refl,
@@ -189,10 +189,10 @@ module _ (rows : List Object) (mine : List Entry) (order : AreRows rows) (shows 
         },
       )
 
-  claim_begins : (key : Key) (c : ClaimData) (machine : Machine) → row_at key rows ≡ Some (Claim c) → IsClaimFirst rows c (claim_decision rows c NotAsked) (Begins machine) → Keeps machine mine
+  claim_begins : (key : Key) (c : ClaimData) (machine : Machine) → row_at key rows ≡ Some (Claim c) → IsClaimFirst rows c (claim_decision rows c NotAsked) (Begins machine) → MachineKeeps machine mine
   claim_begins key c machine at = by (claim_decision rows c NotAsked) refl
     where
-      by : (s : ClaimStep) → claim_decision rows c NotAsked ≡ s → IsClaimFirst rows c s (Begins machine) → Keeps machine mine
+      by : (s : ClaimStep) → claim_decision rows c NotAsked ≡ s → IsClaimFirst rows c s (Begins machine) → MachineKeeps machine mine
       by steps.Nothing is e = none_some (sym (ap machine_in e))
       by steps.ReadVolume is e = becomes (ReadsVolume c) machine mine (sym (ap machine_in e)) (may_read key c at (completed_of rows c (ap is_for_completed is)))
       by steps.Lost is e = becomes (lost_for (is_empty c.volume_name) c) machine mine (sym (ap machine_in e)) (lost_keeps key c at (completed_of rows c (ap is_for_completed is)))
@@ -203,7 +203,7 @@ module _ (rows : List Object) (mine : List Entry) (order : AreRows rows) (shows 
           becomes (Binds v c) machine mine (sym (ap machine_in e.begins))
           (newest_volume (λ u. u ≡ v) mine (key_of (Volume v)) v (newest_row (key_of (Volume v)) (Volume v) stands) refl, newest_claim (λ d. d ≡ c) mine key c (newest_row key (Claim c) at) refl)
 
-  begins_keep : (key : Key) (o : Option Object) (machine : Machine) → row_at key rows ≡ o → IsFirst rows o (Begins machine) → Keeps machine mine
+  begins_keep : (key : Key) (o : Option Object) (machine : Machine) → row_at key rows ≡ o → IsFirst rows o (Begins machine) → MachineKeeps machine mine
   begins_keep key (Some (Volume v)) machine at e = volume_begins key v machine at e
   begins_keep key (Some (Claim c)) machine at e = claim_begins key c machine at e
   begins_keep key None machine at e = none_some (sym (ap machine_in e))
@@ -211,5 +211,5 @@ module _ (rows : List Object) (mine : List Entry) (order : AreRows rows) (shows 
   begins_keep key (Some (Node x)) machine at e = none_some (sym (ap machine_in e))
   begins_keep key (Some (Pod x)) machine at e = none_some (sym (ap machine_in e))
 
-pub keep : (caches : AllKnown) (mine : List Entry) (key : Key) (machine : Machine) → AllStandFor caches mine → AreRows (all_objects caches) → IsFirst (all_objects caches) (row_at key (all_objects caches)) (Begins machine) → Keeps machine mine
+pub keep : (caches : AllKnown) (mine : List Entry) (key : Key) (machine : Machine) → AllStandFor caches mine → AreRows (all_objects caches) → IsFirst (all_objects caches) (row_at key (all_objects caches)) (Begins machine) → MachineKeeps machine mine
 keep caches mine key machine stand order first = begins_keep (all_objects caches) mine order stand.rows key (row_at key (all_objects caches)) machine refl first

@@ -27,7 +27,7 @@ use Rattle.binder_model.specs.ObjectKeys.{volume_key}
 use Rattle.binder_model.specs.BinderDue.{has_other_uid}
 use Rattle.binder_model.specs.BindWrites.{claim_write, next_write, shows_bound, write_bound, write_claim_status, write_completion, write_reference}
 use Rattle.binder_model.specs.Matching.{eligible, fits, may_serve}
-use Rattle.volume_match.specs.Volumes.{as_volume}
+use Rattle.kube_types.specs.VolumeIndex.{as_volume}
 use Rattle.claim_sync.specs.ClaimDecision.{IsVolumeFor, claim_decision, completed_step, has_write, is_blocked, named_step, named_volume, unless_lost, unnamed_step}
 use Rattle.claim_sync.specs.declared.action.ClaimStep.{ClaimStep}
 use Rattle.claim_sync.specs.declared.action.ClaimStep.TheVariants as steps

@@ -20,7 +20,7 @@ use Rattle.binder_model.specs.BinderDue.{claim_with, has_other_uid, is_reclaimed
 use Rattle.binder_model.specs.BinderLicence.{IsCompletedVersion, IsGone, IsHere, IsNotCarrying, IsReferring, WasReadGone, WasReadLost}
 use Rattle.binder_model.specs.Reading.{LacksUid}
 use Rattle.binder_model.specs.Told.{SomeOf, TellsObject, IsLiveAnswer, objects_in}
-use Rattle.volume_match.specs.Volumes.{as_volume}
+use Rattle.kube_types.specs.VolumeIndex.{as_volume}
 use Rattle.claim_sync.specs.ClaimDecision.{read_step, unless_lost}
 use Rattle.claim_sync.specs.declared.action.ClaimStep.{ClaimStep}
 use Rattle.claim_sync.specs.declared.action.ClaimStep.TheVariants as steps
@@ -31,7 +31,7 @@ use Rattle.model_laws.proofs.Lists.{none_some, one}
 use Rattle.binder_machines.specs.declared.machine.Machine.{Machine}
 use Rattle.binder_machines.specs.declared.machine.Machine.TheVariants.{Frees, Binds, MarksBound, ReadsClaim, Releases, Unbinds, ReadsVolume, Loses}
 use Rattle.binder_machines.specs.Machines.{call_of, claim_of_uid, claim_read, confirmed_for, machine_for, moved, read_of, unbound_to, volume_read}
-use Rattle.binder_machines.specs.Evidence.{Keeps, MayReadClaim, MayReadVolume, ToldThis, ToldThisClaim}
+use Rattle.binder_machines.specs.Evidence.{MachineKeeps, MayReadClaim, MayReadVolume, ToldThis, ToldThisClaim}
 use Rattle.safety_invariant.proofs.Tests.{same_text, uid_is}
 use Rattle.binder_machines.proofs.Tests.{bytes_differ, empty_is, filled_is, uid_differs, uid_of}
 
@@ -39,8 +39,8 @@ use Rattle.binder_machines.proofs.Tests.{bytes_differ, empty_is, filled_is, uid_
 tells : (P : Object → Type 0) (e : Entry) (reply : Reply) → e.told ≡ true → e.reply ≡ reply → SomeOf P (objects_in reply) → TellsObject P e
 tells P e reply told is some = (told, subst (λ r. SomeOf P (objects_in r)) (sym is) some)
 
-pub becomes : (a b : Machine) (mine : List Entry) → Some a ≡ Some b → Keeps a mine → Keeps b mine
-becomes a b mine e kept = subst (λ k. Keeps k mine) (one a b e) kept
+pub becomes : (a b : Machine) (mine : List Entry) → Some a ≡ Some b → MachineKeeps a mine → MachineKeeps b mine
+becomes a b mine e kept = subst (λ k. MachineKeeps k mine) (one a b e) kept
 
 -- the claim of the volume's reference was told, with the UID
 pub record Seen (v : VolumeData) (c : ClaimData) (mine : List Entry) : Type 0 where
@@ -55,11 +55,11 @@ elsewhere : (v : VolumeData) (c : ClaimData) (mine : List Entry) → (s : Seen v
 elsewhere v c mine s filled other = record { claim = s.has; named = filled_is c.volume_name filled; other = bytes_differ c.volume_name v.meta.name other }
 
 -- what is begun about a volume whose claim is there
-claimed_keeps : (v : VolumeData) (c : ClaimData) (mine : List Entry) (next : Machine) → ToldThis v mine → is_ended v.phase ≡ false → Seen v c mine → machine_for v (claimed_action v c) ≡ Some next → Keeps next mine
+claimed_keeps : (v : VolumeData) (c : ClaimData) (mine : List Entry) (next : Machine) → ToldThis v mine → is_ended v.phase ≡ false → Seen v c mine → machine_for v (claimed_action v c) ≡ Some next → MachineKeeps next mine
 claimed_keeps v c mine next told live s = by (is_empty c.volume_name) (bytes_eq c.volume_name v.meta.name) (is_bound v.phase) (is_protected_volume v) (is_reclaimed v) refl refl refl refl
   where
     by : (none this bound guarded erased : Bool) → is_empty c.volume_name ≡ none → bytes_eq c.volume_name v.meta.name ≡ this → is_protected_volume v ≡ guarded → is_reclaimed v ≡ erased
-        → machine_for v (if none then actions.QueueClaim else if this then (if bound || not guarded then actions.Nothing else actions.Bound) else if erased then actions.Release else actions.Unbind) ≡ Some next → Keeps next mine
+        → machine_for v (if none then actions.QueueClaim else if this then (if bound || not guarded then actions.Nothing else actions.Bound) else if erased then actions.Release else actions.Unbind) ≡ Some next → MachineKeeps next mine
     by true this bound guarded erased n t g r e = none_some e
     by false true true guarded erased n t g r e = none_some e
     by false true false false erased n t g r e = none_some e
@@ -104,22 +104,22 @@ no_uid None e = refl
 no_uid (Some u) e = absurd (true≢false e)
 
 -- what is begun about a volume without the UID of a claim
-free_keeps : (v : VolumeData) (mine : List Entry) (next : Machine) → ToldThis v mine → refers_by_uid v ≡ false → machine_for v (free_action v) ≡ Some next → Keeps next mine
+free_keeps : (v : VolumeData) (mine : List Entry) (next : Machine) → ToldThis v mine → refers_by_uid v ≡ false → machine_for v (free_action v) ≡ Some next → MachineKeeps next mine
 free_keeps v mine next told none = by (is_available v.phase)
   where
-    by : (b : Bool) → machine_for v (if b then actions.Nothing else actions.Available) ≡ Some next → Keeps next mine
+    by : (b : Bool) → machine_for v (if b then actions.Nothing else actions.Available) ≡ Some next → MachineKeeps next mine
     by true e = none_some e
     by false e = becomes (Frees v) next mine e (told, record { free = no_uid (ref_uid v.claim_ref) none })
 
 -- what is begun about a volume, where this claim of its reference is seen
 pub decided_keeps : (v : VolumeData) (asked : Bool) (claim : Option ClaimData) (mine : List Entry) (next : Machine) → ToldThis v mine
-    → (is_ended v.phase ≡ false → refers_by_uid v ≡ true → claim ≡ None → machine_for v (referred_action v asked None) ≡ Some next → Keeps next mine)
+    → (is_ended v.phase ≡ false → refers_by_uid v ≡ true → claim ≡ None → machine_for v (referred_action v asked None) ≡ Some next → MachineKeeps next mine)
     → ((c : ClaimData) → refers_by_uid v ≡ true → claim ≡ Some c → Seen v c mine)
-    → machine_for v (if not (refers_by_uid v) then free_action v else if is_ended v.phase then actions.Nothing else referred_action v asked claim) ≡ Some next → Keeps next mine
+    → machine_for v (if not (refers_by_uid v) then free_action v else if is_ended v.phase then actions.Nothing else referred_action v asked claim) ≡ Some next → MachineKeeps next mine
 decided_keeps v asked claim mine next told lacking seen = by (refers_by_uid v) (is_ended v.phase) claim refl refl refl
   where
     by : (known ended : Bool) (x : Option ClaimData) → refers_by_uid v ≡ known → is_ended v.phase ≡ ended → claim ≡ x
-        → machine_for v (if not known then free_action v else if ended then actions.Nothing else referred_action v asked x) ≡ Some next → Keeps next mine
+        → machine_for v (if not known then free_action v else if ended then actions.Nothing else referred_action v asked x) ≡ Some next → MachineKeeps next mine
     by false ended x k d c e = free_keeps v mine next told k e
     by true true x k d c e = none_some e
     by true false None k d c e = lacking d k c e
@@ -179,14 +179,14 @@ record ReadAs (e : Entry) (o : Option Object) : Type 1 where
   told : (P : Object → Type 0) (x : Object) → o ≡ Some x → P x → TellsObject P e
 
 claim_goes_on : (v : VolumeData) (o : Option Object) (mine : List Entry) (e : Entry) (next : Machine) → MayReadClaim v mine → e.told ≡ true → call_of (ReadsClaim v) ≡ Some e.request
-    → ReadAs e o → machine_for v (volume_read v o) ≡ Some next → Keeps next (e ∷ mine)
+    → ReadAs e o → machine_for v (volume_read v o) ≡ Some next → MachineKeeps next (e ∷ mine)
 unfolding volume_read
 claim_goes_on v o mine e next kept told call read = decided_keeps v true (claim_of_uid (ref_uid v.claim_ref) o) (e ∷ mine) next (inr kept.volume) lacking seen
   where
     uid_is_its : claim_of_uid (ref_uid v.claim_ref) o ≡ claim_with kept.uid o
     uid_is_its = ap (λ u. claim_of_uid u o) (uid_of v kept.reference kept.uid kept.refers kept.known)
 
-    lacking : is_ended v.phase ≡ false → refers_by_uid v ≡ true → claim_of_uid (ref_uid v.claim_ref) o ≡ None → Some (Releases v) ≡ Some next → Keeps next (e ∷ mine)
+    lacking : is_ended v.phase ≡ false → refers_by_uid v ≡ true → claim_of_uid (ref_uid v.claim_ref) o ≡ None → Some (Releases v) ≡ Some next → MachineKeeps next (e ∷ mine)
     lacking live known none s =
         let c = claim_was_asked v kept.reference e.request kept.refers call in
         let same : IsSameObject v.meta v.meta = record { uid = c.uid; first = c.has; second = c.has } in
@@ -258,10 +258,10 @@ why_lost c o mine e kept told call read is = by (is_completed c) (is_empty c.vol
         inr (inl ((told, k.key, read.live (IsNotCarrying c) (not_carrying c o s)), told_claim (IsCompletedVersion c) c mine kept.claim (record { same = same; completed = kept.completed })))
 
 volume_goes_on : (c : ClaimData) (o : Option Object) (mine : List Entry) (e : Entry) (next : Machine) → MayReadVolume c mine → e.told ≡ true → call_of (ReadsVolume c) ≡ Some e.request
-    → ReadAs e o → confirmed_for c (claim_read c o) ≡ Some next → Keeps next (e ∷ mine)
+    → ReadAs e o → confirmed_for c (claim_read c o) ≡ Some next → MachineKeeps next (e ∷ mine)
 volume_goes_on c o mine e next kept told call read = by (claim_read c o) refl
   where
-    by : (s : ClaimStep) → claim_read c o ≡ s → confirmed_for c s ≡ Some next → Keeps next (e ∷ mine)
+    by : (s : ClaimStep) → claim_read c o ≡ s → confirmed_for c s ≡ Some next → MachineKeeps next (e ∷ mine)
     by steps.Lost is n = becomes (Loses c) next (e ∷ mine) n (inr kept.claim, record { completed = kept.completed; why = why_lost c o mine e kept told call read is; same_modes = refl; same_amount = refl })
     by steps.Nothing is n = none_some n
     by steps.ReadVolume is n = none_some n
@@ -270,10 +270,10 @@ volume_goes_on c o mine e next kept told call read = by (claim_read c o) refl
 
 -- what is left after unbinding
 
-unbound_keeps : (v : VolumeData) (mine : List Entry) (next : Machine) → ToldThis v mine → unbound_to v ≡ Some next → Keeps next mine
+unbound_keeps : (v : VolumeData) (mine : List Entry) (next : Machine) → ToldThis v mine → unbound_to v ≡ Some next → MachineKeeps next mine
 unbound_keeps v mine next told = by (refers_by_uid v) refl
   where
-    by : (b : Bool) → refers_by_uid v ≡ b → (if b then None else machine_for v (free_action v)) ≡ Some next → Keeps next mine
+    by : (b : Bool) → refers_by_uid v ≡ b → (if b then None else machine_for v (free_action v)) ≡ Some next → MachineKeeps next mine
     by true k e = none_some e
     by false k e = free_keeps v mine next told k e
 
@@ -288,11 +288,11 @@ read_found e o told is = record {
   told = λ P x some p. tells P e (replies.Found o) told is (inl (subst P (sym (one o x some)) p));
 }
 
-pub keeps_on : (machine next : Machine) (mine : List Entry) (e : Entry) → Keeps machine mine → call_of machine ≡ Some e.request → e.told ≡ true → moved machine e.reply ≡ Some next → Keeps next (e ∷ mine)
+pub keeps_on : (machine next : Machine) (mine : List Entry) (e : Entry) → MachineKeeps machine mine → call_of machine ≡ Some e.request → e.told ≡ true → moved machine e.reply ≡ Some next → MachineKeeps next (e ∷ mine)
 unfolding moved
 keeps_on machine next mine e kept call told step = by machine e.reply refl kept call step
   where
-    by : (k : Machine) (reply : Reply) → e.reply ≡ reply → Keeps k mine → call_of k ≡ Some e.request → moved k reply ≡ Some next → Keeps next (e ∷ mine)
+    by : (k : Machine) (reply : Reply) → e.reply ≡ reply → MachineKeeps k mine → call_of k ≡ Some e.request → moved k reply ≡ Some next → MachineKeeps next (e ∷ mine)
     by (Binds v c) (replies.Done (Volume w)) is k call s = becomes (Binds w c) next (e ∷ mine) s (inl (tells _ e _ told is (inl refl)), inr k.1)
     by (Binds v c) (replies.Done (Claim d)) is k call s = becomes (Binds v d) next (e ∷ mine) s (inr k.0, inl (tells _ e _ told is (inl refl)))
     by (Unbinds v) (replies.Done (Volume w)) is k call s = unbound_keeps w (e ∷ mine) next (inl (tells _ e _ told is (inl refl))) s

@@ -40,13 +40,13 @@ pub record MayReadVolume (c : ClaimData) (mine : List Entry) : Type 0 where
   pub completed : is_completed c ≡ true
   pub asks : AsksForVolume mine (volume_key c.volume_name)
 
-abbrev pub Keeps : Machine → List Entry → Type 0
-Keeps (Frees v) mine = ToldThis v mine × MayFree v
-Keeps (Binds v c) mine = ToldThis v mine × ToldThisClaim c mine
-Keeps (MarksBound v) mine = ToldThis v mine × MayBind mine v
-Keeps (ReadsClaim v) mine = MayReadClaim v mine
-Keeps (Releases v) mine = ToldThis v mine × MayRelease mine v
-Keeps (Unbinds v) mine = ToldThis v mine × MayUnbind mine v (unbound_volume v)
-Keeps (ReadsVolume c) mine = MayReadVolume c mine
-Keeps (AssignsClass c x) mine = ToldThisClaim c mine × (x.meta.namespace ≡ [] → MayAssignClass mine c (assigned c x))
-Keeps (Loses c) mine = ToldThisClaim c mine × MayLose mine c c.got_modes c.got
+abbrev pub MachineKeeps : Machine → List Entry → Type 0
+MachineKeeps (Frees v) mine = ToldThis v mine × MayFree v
+MachineKeeps (Binds v c) mine = ToldThis v mine × ToldThisClaim c mine
+MachineKeeps (MarksBound v) mine = ToldThis v mine × MayBind mine v
+MachineKeeps (ReadsClaim v) mine = MayReadClaim v mine
+MachineKeeps (Releases v) mine = ToldThis v mine × MayRelease mine v
+MachineKeeps (Unbinds v) mine = ToldThis v mine × MayUnbind mine v (unbound_volume v)
+MachineKeeps (ReadsVolume c) mine = MayReadVolume c mine
+MachineKeeps (AssignsClass c x) mine = ToldThisClaim c mine × (x.meta.namespace ≡ [] → MayAssignClass mine c (assigned c x))
+MachineKeeps (Loses c) mine = ToldThisClaim c mine × MayLose mine c c.got_modes c.got

@@ -11,7 +11,7 @@ ghost use Rattle.informer_cache.specs.All.{AllKnown, AllStandFor, all_objects};
 ghost use Rattle.binder_machines.specs.declared.decide.First.TheVariants.{Begins};
 ghost use Rattle.binder_machines.specs.declared.machine.Machine.{Machine};
 ghost use Rattle.binder_machines.specs.BeginLaw.{BegunHaveCalls, ReadHaveCalls};
-ghost use Rattle.binder_machines.specs.Evidence.{Keeps};
+ghost use Rattle.binder_machines.specs.Evidence.{MachineKeeps};
 ghost use Rattle.binder_machines.specs.FirstSteps.{IsFirst};
 ghost use Rattle.binder_machines.specs.KindLaw.{CallsReadNoKind, VolumesQueueClaims};
 ghost use Rattle.binder_machines.specs.Machines.{call_of, moved};
@@ -19,17 +19,17 @@ ghost use Rattle.binder_machines.specs.ReadLaw.{ClaimReadDecides, ParkedHaveEnde
 
 /// The next call of a machine is allowed by its evidence.
 pub fn calls_are_allowed()
-    ensures { (machine : Machine) (mine : List Entry) (request : Request) → AreOfKind Binder mine → Keeps machine mine → call_of machine ≡ Some request → Licensed Binder mine request }
+    ensures { (machine : Machine) (mine : List Entry) (request : Request) → AreOfKind Binder mine → MachineKeeps machine mine → call_of machine ≡ Some request → Licensed Binder mine request }
 {}
 
 /// The evidence of a machine goes on with the answer to its call.
 pub fn evidence_goes_on()
-    ensures { (machine next : Machine) (mine : List Entry) (e : Entry) → Keeps machine mine → call_of machine ≡ Some e.request → e.told ≡ true → moved machine e.reply ≡ Some next → Keeps next (e ∷ mine) }
+    ensures { (machine next : Machine) (mine : List Entry) (e : Entry) → MachineKeeps machine mine → call_of machine ≡ Some e.request → e.told ≡ true → moved machine e.reply ≡ Some next → MachineKeeps next (e ∷ mine) }
 {}
 
 /// Where the caches stand for what was told, a machine that begins has its evidence.
 pub fn decisions_keep()
-    ensures { (caches : AllKnown) (mine : List Entry) (key : Key) (machine : Machine) → AllStandFor caches mine → AreRows (all_objects caches) → IsFirst (all_objects caches) (row_at key (all_objects caches)) (Begins machine) → Keeps machine mine }
+    ensures { (caches : AllKnown) (mine : List Entry) (key : Key) (machine : Machine) → AllStandFor caches mine → AreRows (all_objects caches) → IsFirst (all_objects caches) (row_at key (all_objects caches)) (Begins machine) → MachineKeeps machine mine }
 {}
 
 /// After the claim of a volume was read by itself, what goes on is what the table of volumes says of

@@ -12,6 +12,7 @@ use kube_types::key::Key;
 use kube_types::lookup::{Live, Lookup};
 use kube_types::objects::{Claim, Object, Volume};
 use kube_types::parts::{Kind, VolumePhase};
+use kube_types::volume_index::VolumeIndex;
 use volume_sync::{VolumeAction, decide_volume};
 
 /// A look-up that shows nothing: what was read by itself decides alone.
@@ -31,6 +32,10 @@ impl Lookup for NoRows {
     }
 
     fn row(&self, _key: &Key) -> Option<&Object> {
+        None
+    }
+
+    fn volumes(&self) -> Option<&VolumeIndex> {
         None
     }
 }

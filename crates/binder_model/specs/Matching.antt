@@ -1,7 +1,7 @@
 -- Which volume a claim is bound to: eligible, and the best of the eligible.
 -- Source: Kubernetes documentation, "Persistent Volumes" (Binding), and the volume index of `pv_controller.go`;
 -- that a pre-bound volume must fit too, and that ties go by name, is this project's choice.
-use Rattle.std.specs.Prelude.{ℕ, ◌≡◌, ◌≢◌, ◌==◌, ◌+◌, nat_le, Bool, true, false, not, ◌&&◌, ◌||◌, List, Option, Some, None, bytes_eq, is_none, slice_get, if◌then◌else◌}
+use Rattle.std.specs.Prelude.{ℕ, ◌≡◌, ◌≢◌, ◌==◌, nat_le, Bool, true, false, not, ◌&&◌, ◌||◌, List, Option, Some, None, bytes_eq, is_none, slice_get, if◌then◌else◌}
 use Rattle.std.specs.Bool.{beq}
 use Rattle.std.specs.List.{list_any}
 use Rattle.std.specs.declared.cmp.Ordering.{Ordering}
@@ -17,22 +17,13 @@ use Rattle.kube_types.specs.declared.objects.Claim.{Claim as ClaimData}
 use Rattle.kube_types.specs.declared.objects.Object.{Object}
 use Rattle.kube_types.specs.declared.objects.Object.TheVariants.{Class, Volume}
 use Rattle.kube_types.specs.Keys.{rows_of, row_at}
-use Rattle.kube_types.specs.Bindings.{class_of_volume, class_of_claim, is_deleting, is_protected_volume, is_for, is_ended, is_available}
+use Rattle.kube_types.specs.Bindings.{class_of_volume, class_of_claim, is_deleting, is_protected_volume, is_for, is_ended, is_available, mode_count}
 use Rattle.label_rules.specs.Selectors.{selects, admits}
 use Rattle.binder_model.specs.ObjectKeys.{class_key}
 
 -- each mode of the first is one of the second
 abbrev pub covers : Modes → Modes → Bool
 covers wanted given = (not wanted.rwo || given.rwo) && (not wanted.rox || given.rox) && (not wanted.rwx || given.rwx) && (not wanted.rwop || given.rwop)
-
--- one for an access mode that is there
-abbrev pub count_one : Bool → ℕ
-count_one true = 1
-count_one false = 0
-
--- how many access modes there are
-abbrev pub mode_count : Modes → ℕ
-mode_count m = count_one m.rwo + count_one m.rox + count_one m.rwx + count_one m.rwop
 
 -- size, class, volume mode and access modes fit
 abbrev pub fits : VolumeData → ClaimData → Bool

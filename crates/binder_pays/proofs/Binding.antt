@@ -27,7 +27,7 @@ use Rattle.model_laws.proofs.Lists.{none_some, one}
 use Rattle.binder_machines.specs.declared.machine.Machine.{Machine}
 use Rattle.binder_machines.specs.declared.machine.Machine.TheVariants as machines
 use Rattle.binder_machines.specs.Machines.{call_of, may_bind, moved}
-use Rattle.settle_measure.specs.Lowers.{Lowers, Stands, StandsClaim}
+use Rattle.settle_measure.specs.Lowers.{Lowers, StandsVolume, StandsClaim}
 use Rattle.settle_measure.proofs.Words.{annotated_name, annotated_namespace, carries_alike, value_put}
 use Rattle.settle_binding.proofs.Claims.{completion_pays, rewritten_claim, status_pays, with_claim_status}
 use Rattle.settle_binding.proofs.References.{refers_to}
@@ -177,7 +177,7 @@ module _ (setup : Setup) (seat : ℕ) (key : Key) where
       by (Fourth so on done open_ is) = absurd (true≢false (sym shown ∙ open_))
 
   -- the fourth write
-  fourth : (h : List Entry) (v : VolumeData) (c : ClaimData) → Stands (world setup h) v → StandsClaim (world setup h) c → carries v c ≡ true → is_bound v.phase ≡ true → is_completed c ≡ true → c.volume_name ≡ v.meta.name → Pays h v c
+  fourth : (h : List Entry) (v : VolumeData) (c : ClaimData) → StandsVolume (world setup h) v → StandsClaim (world setup h) c → carries v c ≡ true → is_bound v.phase ≡ true → is_completed c ≡ true → c.volume_name ≡ v.meta.name → Pays h v c
   fourth h v c s sc carried bound completed named call asks = by (stage v c call (bind_is v c call asks))
     where
       shows : shows_bound (shown_claim h v c) v ≡ true
@@ -199,7 +199,7 @@ module _ (setup : Setup) (seat : ℕ) (key : Key) where
       by (Fourth so on done open_ is) = subst (PaysFrom setup seat key h (machines.Binds v c)) (sym is) (writes open_)
 
   -- the third write, and those after it
-  third : (h : List Entry) (v : VolumeData) (c : ClaimData) → Stands (world setup h) v → StandsClaim (world setup h) c → carries v c ≡ true → is_bound v.phase ≡ true → GoesOnWith v c → Pays h v c
+  third : (h : List Entry) (v : VolumeData) (c : ClaimData) → StandsVolume (world setup h) v → StandsClaim (world setup h) c → carries v c ≡ true → is_bound v.phase ≡ true → GoesOnWith v c → Pays h v c
   third h v c s sc carried bound (inr done) call asks = fourth h v c s sc carried bound done.0 done.1 call asks
   third h v c s sc carried bound (inl open_) call asks = by (stage v c call (bind_is v c call asks))
     where
@@ -216,7 +216,7 @@ module _ (setup : Setup) (seat : ℕ) (key : Key) where
       by (Fourth so on done unshown is) = absurd (true≢false (sym done ∙ ap (λ b. b && bytes_eq c.volume_name v.meta.name) open_.0))
 
   -- the second write, and those after it
-  second : (h : List Entry) (v : VolumeData) (c : ClaimData) → Stands (world setup h) v → StandsClaim (world setup h) c → carries v c ≡ true → GoesOnWith v c → Pays h v c
+  second : (h : List Entry) (v : VolumeData) (c : ClaimData) → StandsVolume (world setup h) v → StandsClaim (world setup h) c → carries v c ≡ true → GoesOnWith v c → Pays h v c
   second h v c s sc carried goes call asks = by (stage v c call (bind_is v c call asks))
     where
       writes : is_bound v.phase ≡ false → is_ended v.phase ≡ false → PaysFrom setup seat key h (machines.Binds v c) (write_bound v)
@@ -236,7 +236,7 @@ module _ (setup : Setup) (seat : ℕ) (key : Key) where
       by (Fourth so bound done unshown is) = on bound
 
   -- all four, where the first pays if it is to be made
-  pub binds_pay : (h : List Entry) (v : VolumeData) (c : ClaimData) → Stands (world setup h) v → StandsClaim (world setup h) c → GoesOnWith v c
+  pub binds_pay : (h : List Entry) (v : VolumeData) (c : ClaimData) → StandsVolume (world setup h) v → StandsClaim (world setup h) c → GoesOnWith v c
       → (carries v c ≡ false → next_write v c ≡ Some (write_reference v c) → Lowers setup (world setup h) seats.Binder (write_reference v c) 1) → Pays h v c
   binds_pay h v c s sc goes first call asks = by (stage v c call (bind_is v c call asks))
     where

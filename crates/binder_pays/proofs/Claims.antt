@@ -34,7 +34,7 @@ use Rattle.binder_model.specs.World.{world}
 use Rattle.model_laws.proofs.Histories.{rows_stand_in_order}
 use Rattle.model_laws.proofs.Lists.{IsIn, none_some, one, some_filter}
 use Rattle.model_laws.proofs.Readings.{found_stands, member_stands}
-use Rattle.volume_match.specs.Volumes.{as_volume}
+use Rattle.kube_types.specs.VolumeIndex.{as_volume}
 use Rattle.claim_sync.specs.declared.action.ClaimStep.{ClaimStep}
 use Rattle.claim_sync.specs.declared.action.ClaimStep.TheVariants as claim_steps
 use Rattle.claim_sync.specs.ClaimDecision.{IsVolumeFor, claim_decision, completed_step, has_write, is_blocked, is_open_to, may_assign, named_step, named_volume, unless_lost, unnamed_step}
@@ -44,7 +44,7 @@ use Rattle.binder_machines.specs.declared.machine.Machine.TheVariants as machine
 use Rattle.binder_machines.specs.FirstSteps.{IsBindingTo, IsClaimFirst, lost_for}
 use Rattle.binder_machines.specs.Machines.{call_of, confirmed_for, moved, write_class, write_lost}
 use Rattle.settle_measure.specs.Measure as measure
-use Rattle.settle_measure.specs.Lowers.{Lowers, Stands, StandsClaim}
+use Rattle.settle_measure.specs.Lowers.{Lowers, StandsVolume, StandsClaim}
 use Rattle.settle_binding.proofs.Alike.{class_pays}
 use Rattle.settle_binding.proofs.Binding.{match_pays, named_reference_pays, completed_pays}
 use Rattle.settle_binding.proofs.Claims.{lost_pays}
@@ -203,7 +203,7 @@ module _ (setup : Setup) (seat : ℕ) (key : Key) (h : List Entry) (pass : Impor
   named_by : (v : VolumeData) → row_at (volume_key c.volume_name) rows ≡ Some (Volume v) → c.volume_name ≡ v.meta.name
   named_by v on = ap (λ (k : Key). k.name) (sym (row_at_key (volume_key c.volume_name) (Volume v) rows on))
 
-  stands_named : (v : VolumeData) → row_at (volume_key c.volume_name) rows ≡ Some (Volume v) → Stands (world setup h) v
+  stands_named : (v : VolumeData) → row_at (volume_key c.volume_name) rows ≡ Some (Volume v) → StandsVolume (world setup h) v
   stands_named v on = volume_stands setup h v (ap (λ name. row_at (volume_key name) rows) (sym (named_by v on)) ∙ on)
 
   -- a volume has a name

@@ -34,7 +34,7 @@ use Rattle.binder_machines.specs.declared.machine.Machine.{Machine}
 use Rattle.binder_machines.specs.declared.machine.Machine.TheVariants as machines
 use Rattle.binder_machines.specs.FirstSteps.{queue_of, volume_first}
 use Rattle.binder_machines.specs.Machines.{call_of, machine_for, moved, phase_call, read_of, unbound_to, volume_read, write_phase}
-use Rattle.settle_measure.specs.Lowers.{Lowers, Stands}
+use Rattle.settle_measure.specs.Lowers.{Lowers, StandsVolume}
 use Rattle.settle_binding.proofs.Stages.{at_key, available_pays, bound_pays, release_pays, rewritten, unbind_pays}
 use Rattle.due_law.proofs.Volumes.{get_said, get_stays, got}
 use Rattle.binder_pays.proofs.Answered.{Answered, Goes, Refuses, Stays, volume_updated}
@@ -214,15 +214,15 @@ module _ (setup : Setup) (seat : ℕ) (key : Key) where
       subst (PaysFrom setup seat key h machine) (sym (phase_is v phase given (sym call ∙ asks)))
       (write_pays setup seat key h machine (write_phase v phase) refl lowers (λ n moves. none_some (sym (ends _) ∙ moves)))
 
-  frees_pay : (h : List Entry) (v : VolumeData) → Stands (world setup h) v → volume_due (world setup h).store.rows v ≡ Some dues.Available → MachinePays setup seat key h (machines.Frees v)
+  frees_pay : (h : List Entry) (v : VolumeData) → StandsVolume (world setup h) v → volume_due (world setup h).store.rows v ≡ Some dues.Available → MachinePays setup seat key h (machines.Frees v)
   unfolding call_of
   frees_pay h v s due = phase_pays h v volumes.Available (machines.Frees v) refl (frees_end v) (available_pays setup (world setup h) seats.Binder v s due)
 
-  bounds_pay : (h : List Entry) (v : VolumeData) → Stands (world setup h) v → volume_due (world setup h).store.rows v ≡ Some dues.Bound → MachinePays setup seat key h (machines.MarksBound v)
+  bounds_pay : (h : List Entry) (v : VolumeData) → StandsVolume (world setup h) v → volume_due (world setup h).store.rows v ≡ Some dues.Bound → MachinePays setup seat key h (machines.MarksBound v)
   unfolding call_of
   bounds_pay h v s due = phase_pays h v volumes.Bound (machines.MarksBound v) refl (marks_end v) (bound_pays setup (world setup h) seats.Binder v s due)
 
-  releases_pay : (h : List Entry) (v : VolumeData) → Stands (world setup h) v → volume_due (world setup h).store.rows v ≡ Some dues.Release → MachinePays setup seat key h (machines.Releases v)
+  releases_pay : (h : List Entry) (v : VolumeData) → StandsVolume (world setup h) v → volume_due (world setup h).store.rows v ≡ Some dues.Release → MachinePays setup seat key h (machines.Releases v)
   unfolding call_of
   releases_pay h v s due = phase_pays h v volumes.Released (machines.Releases v) refl (releases_end v) (release_pays setup (world setup h) seats.Binder v s due)
 
@@ -231,7 +231,7 @@ module _ (setup : Setup) (seat : ℕ) (key : Key) where
   unbound h v = rewritten v (unbound_volume v) ((world setup h).store.version + 1)
 
   -- unbinding, and phase Available after it
-  unbinds_pay : (h : List Entry) (v : VolumeData) → Stands (world setup h) v → volume_due (world setup h).store.rows v ≡ Some dues.Unbind → MachinePays setup seat key h (machines.Unbinds v)
+  unbinds_pay : (h : List Entry) (v : VolumeData) → StandsVolume (world setup h) v → volume_due (world setup h).store.rows v ≡ Some dues.Unbind → MachinePays setup seat key h (machines.Unbinds v)
   unfolding call_of moved
   unbinds_pay h v s due call asks =
       subst (PaysFrom setup seat key h (machines.Unbinds v)) (one (write_unbound v) call asks)
@@ -249,13 +249,13 @@ module _ (setup : Setup) (seat : ℕ) (key : Key) where
       by n moves (Stays is put) = then_free n put (frees_next (unbound h v) n (sym (ap (moved (machines.Unbinds v)) is) ∙ moves))
 
   -- the read of the claim, and phase Released after it
-  reads_pay : (h : List Entry) (v : VolumeData) (r : Ref) (uid : Uid) → Stands (world setup h) v → v.claim_ref ≡ Some r → r.uid ≡ Some uid → is_ended v.phase ≡ false → claim_with uid (row_at (claim_key r.namespace r.name) (world setup h).store.rows) ≡ None
+  reads_pay : (h : List Entry) (v : VolumeData) (r : Ref) (uid : Uid) → StandsVolume (world setup h) v → v.claim_ref ≡ Some r → r.uid ≡ Some uid → is_ended v.phase ≡ false → claim_with uid (row_at (claim_key r.namespace r.name) (world setup h).store.rows) ≡ None
       → volume_due (world setup h).store.rows v ≡ Some dues.Release → MachinePays setup seat key h (machines.ReadsClaim v)
   reads_pay h v r uid s refers known open_ away due call asks =
       subst (PaysFrom setup seat key h (machines.ReadsClaim v)) (sym (read_is v r call refers asks))
       (read_pays setup seat key h (machines.ReadsClaim v) (claim_key r.namespace r.name)
       (λ n moves. subst (MachinePays setup seat key (with_own setup seat h (Get (claim_key r.namespace r.name)))) (sym (released n moves))
-      (releases_pay (with_own setup seat h (Get (claim_key r.namespace r.name))) v (subst (λ w. Stands w v) (sym same) s) (subst (λ w. volume_due w.store.rows v ≡ Some dues.Release) (sym same) due))))
+      (releases_pay (with_own setup seat h (Get (claim_key r.namespace r.name))) v (subst (λ w. StandsVolume w v) (sym same) s) (subst (λ w. volume_due w.store.rows v ≡ Some dues.Release) (sym same) due))))
     where
       same : world setup (with_own setup seat h (Get (claim_key r.namespace r.name))) ≡ world setup h
       same = get_stays setup (world setup h) seats.Binder (claim_key r.namespace r.name)
@@ -264,7 +264,7 @@ module _ (setup : Setup) (seat : ℕ) (key : Key) where
       released n moves = read_releases v r uid (row_at (claim_key r.namespace r.name) (world setup h).store.rows) n refers known open_ away (sym (ap (moved (machines.ReadsClaim v)) (get_said setup (world setup h) seats.Binder (claim_key r.namespace r.name))) ∙ moves)
 
   -- whatever begins for a volume pays
-  pub begun_pays : (h : List Entry) (v : VolumeData) (machine : Machine) → Stands (world setup h) v → VolumeBegun (world setup h).store.rows v machine → MachinePays setup seat key h machine
+  pub begun_pays : (h : List Entry) (v : VolumeData) (machine : Machine) → StandsVolume (world setup h) v → VolumeBegun (world setup h).store.rows v machine → MachinePays setup seat key h machine
   begun_pays h v machine s (Frees is due) = subst (MachinePays setup seat key h) (sym is) (frees_pay h v s due)
   begun_pays h v machine s (Bounds is due) = subst (MachinePays setup seat key h) (sym is) (bounds_pay h v s due)
   begun_pays h v machine s (Releases is due) = subst (MachinePays setup seat key h) (sym is) (releases_pay h v s due)

@@ -23,7 +23,7 @@ use Rattle.model_laws.proofs.Lists.{none_some, one}
 use Rattle.binder_machines.specs.declared.machine.Machine.{Machine}
 use Rattle.binder_machines.specs.Machines.{call_of, moved}
 use Rattle.settle_binding.proofs.Stages.{key_is}
-use Rattle.settle_measure.specs.Lowers.{Lowers, Stands, StandsClaim}
+use Rattle.settle_measure.specs.Lowers.{Lowers, StandsVolume, StandsClaim}
 use Rattle.settle_measure.proofs.Aside.{claim_key_differs}
 use Rattle.worker_core.specs.declared.task.Task.TheVariants as tasks
 use Rattle.worker_core.specs.declared.task.Under.{Under}
@@ -97,15 +97,15 @@ other_kind v namespace name e = let n : 2 ≡ 3 = ap (λ (k : Key). kind_index k
 abbrev pub rows_in : Setup → List Entry → List Object
 rows_in setup h = (world setup h).store.rows
 
-pub volume_stands : (setup : Setup) (h : List Entry) (v : VolumeData) → row_at (volume_key v.meta.name) (rows_in setup h) ≡ Some (Volume v) → Stands (world setup h) v
+pub volume_stands : (setup : Setup) (h : List Entry) (v : VolumeData) → row_at (volume_key v.meta.name) (rows_in setup h) ≡ Some (Volume v) → StandsVolume (world setup h) v
 volume_stands setup h v there = record { order = rows_stand_in_order setup h; there = there; stays = none_has_left setup h (volume_key v.meta.name) (Volume v) there }
 
 pub claim_stands : (setup : Setup) (h : List Entry) (c : ClaimData) (uid : Uid) → row_at (claim_key c.meta.namespace c.meta.name) (rows_in setup h) ≡ Some (Claim c) → c.meta.uid ≡ Some uid → StandsClaim (world setup h) c
 claim_stands setup h c uid there has = record { order = rows_stand_in_order setup h; there = there; stays = none_has_left setup h (claim_key c.meta.namespace c.meta.name) (Claim c) there; uid = uid; has = has }
 
 -- after the volume was written
-module _ (setup : Setup) (seat : ℕ) (h : List Entry) (call : Request) (v new : VolumeData) (s : Stands (world setup h) v) (same : key_of (Volume new) ≡ key_of (Volume v)) (put : rows_in setup (with_own setup seat h call) ≡ put_row (Volume new) (rows_in setup h)) where
-  pub new_volume : Stands (world setup (with_own setup seat h call)) new
+module _ (setup : Setup) (seat : ℕ) (h : List Entry) (call : Request) (v new : VolumeData) (s : StandsVolume (world setup h) v) (same : key_of (Volume new) ≡ key_of (Volume v)) (put : rows_in setup (with_own setup seat h call) ≡ put_row (Volume new) (rows_in setup h)) where
+  pub new_volume : StandsVolume (world setup (with_own setup seat h call)) new
   new_volume =
       let key : volume_key new.meta.name ≡ key_of (Volume new) = ap (λ (k : Key). volume_key k.name) same ∙ sym (same ∙ key_is setup (world setup h) seats.Binder v s) in
       volume_stands setup (with_own setup seat h call) new (ap (λ k. row_at k (rows_in setup (with_own setup seat h call))) key ∙ (ap (row_at (key_of (Volume new))) put ∙ row_at-put_row (Volume new) (rows_in setup h)))
@@ -120,7 +120,7 @@ module _ (setup : Setup) (seat : ℕ) (h : List Entry) (call : Request) (c new :
   pub new_claim : new.meta.uid ≡ c.meta.uid → StandsClaim (world setup (with_own setup seat h call)) new
   new_claim uid = claim_stands setup (with_own setup seat h call) new sc.uid (ap (row_at (key_of (Claim new))) put ∙ row_at-put_row (Claim new) (rows_in setup h)) (uid ∙ sc.has)
 
-  pub same_volume : (v : VolumeData) → Stands (world setup h) v → Stands (world setup (with_own setup seat h call)) v
+  pub same_volume : (v : VolumeData) → StandsVolume (world setup h) v → StandsVolume (world setup (with_own setup seat h call)) v
   same_volume v s =
       volume_stands setup (with_own setup seat h call) v
       (ap (row_at (volume_key v.meta.name)) put ∙ (row_at-put_row_other (volume_key v.meta.name) (Claim new) (rows_in setup h) (claim_key_differs new v.meta.name) ∙ s.there))

@@ -14,11 +14,11 @@ use Rattle.kube_types.specs.Lookups.{is_asked}
 use Rattle.binder_model.specs.Matching.{fits, has_match}
 use Rattle.binder_model.specs.ObjectKeys.{volume_key}
 use Rattle.binder_model.specs.BinderDue.{claim_due, completed_due, has_other_uid, lost_due, named_due}
-use Rattle.volume_match.specs.Volumes.{as_volume}
+use Rattle.kube_types.specs.VolumeIndex.{as_volume}
 use Rattle.claim_sync.specs.declared.action.ClaimStep.{ClaimStep}
 use Rattle.claim_sync.specs.declared.action.ClaimStep.TheVariants as steps
 use Rattle.claim_sync.specs.ClaimDecision.{claim_decision, completed_step, has_write, is_blocked, may_assign, named_step, other_step, read_step, unless_lost}
-use Rattle.claim_sync.specs.Steps.Conditions.{live_volume}
+use Rattle.claim_sync.specs.Conditions.{live_volume}
 use Rattle.claim_sync.specs.ClaimLaw.{ReadsRows, due_of}
 
 bound_or_not : (blocked free fitting own : Bool) → due_of (if blocked then steps.Nothing else if (if free then fitting else own) then steps.Bind else steps.Nothing) ≡ (if blocked then None else if free then (if fitting then Some dues.Bind else None) else if own then Some dues.Bind else None)
@@ -29,14 +29,14 @@ bound_or_not false false fitting true = refl
 bound_or_not false false fitting false = refl
 
 -- phase Lost is due where the phase is another
-lost_agrees : (c : ClaimData) → due_of (unless_lost c steps.Lost) ≡ lost_due c
+pub lost_agrees : (c : ClaimData) → due_of (unless_lost c steps.Lost) ≡ lost_due c
 lost_agrees c = by (is_lost c.phase)
   where
     by : (b : Bool) → due_of (if b then steps.Nothing else steps.Lost) ≡ (if b then None else Some dues.Lost)
     by true = refl
     by false = refl
 
-named_agrees : (c : ClaimData) (row : Option Object) → due_of (named_step c (as_volume row)) ≡ named_due c row
+pub named_agrees : (c : ClaimData) (row : Option Object) → due_of (named_step c (as_volume row)) ≡ named_due c row
 unfolding named_due
 named_agrees c None = refl
 named_agrees c (Some (Volume v)) = bound_or_not (is_blocked v) (is_none v.claim_ref) (fits v c) (is_for v c)
@@ -58,7 +58,7 @@ other_lost c v (Present o) other reads =
     ap (λ (x : Option VolumeData). due_of (read_step c x)) reads
     ∙ (ap (λ (b : Bool). due_of (if b then unless_lost c steps.Lost else steps.Nothing)) other ∙ lost_agrees c)
 
-lost_or_bound : (other writes : Bool) (s : ClaimStep) (lost : Option Due) → (other ≡ true → due_of s ≡ lost) → due_of (if other then s else if writes then steps.Bind else steps.Nothing) ≡ (if other then lost else if writes then Some dues.Bind else None)
+pub lost_or_bound : (other writes : Bool) (s : ClaimStep) (lost : Option Due) → (other ≡ true → due_of s ≡ lost) → due_of (if other then s else if writes then steps.Bind else steps.Nothing) ≡ (if other then lost else if writes then Some dues.Bind else None)
 lost_or_bound true writes s lost is = is refl
 lost_or_bound false true s lost is = refl
 lost_or_bound false false s lost is = refl

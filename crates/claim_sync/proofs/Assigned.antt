@@ -8,7 +8,7 @@ use Rattle.kube_types.specs.declared.lookup.Live.TheVariants.{NotAsked, Absent, 
 use Rattle.kube_types.specs.Bindings.{is_completed, is_deleting, is_empty, is_lost}
 use Rattle.binder_model.specs.Matching.{has_match}
 use Rattle.binder_model.specs.BinderDue.{has_other_uid}
-use Rattle.volume_match.specs.Volumes.{as_volume}
+use Rattle.kube_types.specs.VolumeIndex.{as_volume}
 use Rattle.claim_sync.specs.declared.action.ClaimStep.TheVariants as steps
 use Rattle.claim_sync.specs.ClaimDecision.{claim_decision, completed_step, has_write, is_blocked, is_open_to, lacking_step, may_assign, named_step, named_volume, other_step, read_step, unless_lost}
 

@@ -119,3 +119,7 @@ default_matches rows c None order lacks default = sym (assignable_is rows c fals
     refused i (Volume x) there h = cc
     refused i (Claim x) there h = cc
     refused i (Pod x) there h = cc
+
+-- a claim that names no volume has a best match where there is a match
+pub match_alone : (empty is_empty matched : Bool) → empty ≡ is_empty → empty ≡ true → matched ≡ (is_empty && matched)
+match_alone empty is_empty matched same alone = ap (λ (b : Bool). b && matched) (sym alone ∙ same)

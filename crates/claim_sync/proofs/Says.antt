@@ -12,14 +12,14 @@ use Rattle.kube_types.specs.Lookups.{is_asked, is_present}
 use Rattle.binder_model.specs.Matching.{has_match}
 use Rattle.binder_model.specs.ObjectKeys.{volume_key}
 use Rattle.binder_model.specs.BinderDue.{has_other_uid}
-use Rattle.volume_match.specs.Volumes.{as_volume}
+use Rattle.kube_types.specs.VolumeIndex.{as_volume}
 use Rattle.case_table.specs.declared.rows.CaseRow.{CaseRow}
 use Rattle.case_table.specs.Cases.{action_of}
 use Rattle.claim_sync.specs.declared.action.ClaimStep.{ClaimStep}
 use Rattle.claim_sync.specs.declared.action.ClaimStep.TheVariants as steps
 use Rattle.claim_sync.specs.ClaimTable.{claim_rows, step_number, step_numbered}
 use Rattle.claim_sync.specs.ClaimDecision.{IsVolumeFor, IsVolumeAt, claim_decision, completed_step, has_write, is_blocked, is_open_to, may_assign, named_step, named_volume, read_step, unless_lost}
-use Rattle.claim_sync.specs.Steps.Conditions.{claim_conditions, conditions_on, has_best, lacks_claim, live_volume, on_volume, reads_live}
+use Rattle.claim_sync.specs.Conditions.{claim_conditions, conditions_on, has_best, lacks_claim, live_volume, on_volume, reads_live}
 use Rattle.claim_sync.proofs.Matches.{best_matches}
 use Rattle.claim_sync.proofs.Rows.{chosen, rows_say}
 

@@ -19,7 +19,7 @@ use Rattle.binder_model.specs.Matching.{IsBest, fits, has_match, waits_for_pod}
 use Rattle.binder_model.specs.ObjectKeys.{volume_key}
 use Rattle.binder_model.specs.BindWrites.{next_write}
 use Rattle.binder_model.specs.BinderDue.{has_other_uid, is_default_row}
-use Rattle.volume_match.specs.Volumes.{as_volume}
+use Rattle.kube_types.specs.VolumeIndex.{as_volume}
 use Rattle.claim_sync.specs.declared.action.ClaimAction.{ClaimAction}
 use Rattle.claim_sync.specs.declared.action.ClaimAction.TheVariants as actions
 use Rattle.claim_sync.specs.declared.action.ClaimStep.{ClaimStep}

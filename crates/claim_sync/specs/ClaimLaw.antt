@@ -10,7 +10,7 @@ use Rattle.claim_sync.specs.declared.action.ClaimStep.{ClaimStep}
 use Rattle.claim_sync.specs.declared.action.ClaimStep.TheVariants as steps
 use Rattle.kube_types.specs.Lookups.{is_asked}
 use Rattle.claim_sync.specs.ClaimDecision.{claim_decision, named_volume}
-use Rattle.claim_sync.specs.Steps.Conditions.{live_volume}
+use Rattle.claim_sync.specs.Conditions.{live_volume}
 
 -- to read the volume is never due
 abbrev pub due_of : ClaimStep → Option Due

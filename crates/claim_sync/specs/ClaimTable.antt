@@ -10,7 +10,7 @@ use Rattle.case_table.specs.Cases.{action_of}
 use Rattle.claim_sync.specs.declared.action.ClaimStep.{ClaimStep}
 use Rattle.claim_sync.specs.declared.action.ClaimStep.TheVariants as steps
 use Rattle.claim_sync.specs.ClaimDecision.{claim_decision}
-use Rattle.claim_sync.specs.Steps.Conditions.{claim_conditions}
+use Rattle.claim_sync.specs.Conditions.{claim_conditions}
 
 -- the number of a step in the table
 abbrev pub step_number : ClaimStep → ℕ

@@ -1,4 +1,4 @@
 pub mod ClaimDecision
 pub mod ClaimLaw
 pub mod ClaimTable
-pub mod Steps
+pub mod Conditions

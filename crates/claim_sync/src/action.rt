@@ -42,7 +42,7 @@ impl ClaimStep {
     }
 
     /// The step of a number of the table.
-    pub(crate) fn numbered(number: u8) -> ClaimStep
+    pub fn numbered(number: u8) -> ClaimStep
         ensures { result ≡ step_numbered number }
     {
         match number {

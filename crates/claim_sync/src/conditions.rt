@@ -4,7 +4,7 @@ ghost use Rattle.std.specs.Prelude.{◌≡◌, ◌&&◌, None, Some, is_none, is
 ghost use Rattle.std.specs.Option.{option_copied};
 ghost use Rattle.binder_model.specs.BindWrites.{next_write};
 ghost use Rattle.claim_sync.specs.ClaimDecision.{has_write, is_blocked, is_open_to, may_assign};
-ghost use Rattle.claim_sync.specs.Steps.Conditions.{claim_conditions, conditions_on, has_best};
+ghost use Rattle.claim_sync.specs.Conditions.{claim_conditions, conditions_on, has_best};
 
 use crate::seen::{has_other_uid, live_volume, named_volume, reads_live};
 use bind_writes::next_step;
@@ -38,8 +38,10 @@ pub(crate) fn claim_conditions<L: Lookup>(
     }
 }
 
-/// The conditions with this volume. Those on a volume that is not seen are false.
-fn conditions_on(
+/// The conditions of the table with this volume. Those on a volume that is not seen are false. The caller says whether a
+/// match exists, whether a class may be assigned, whether the volume was asked for by itself, and whether a binding may be
+/// made with it.
+pub fn conditions_on(
     claim: &Claim,
     matched: bool,
     assignable: bool,

@@ -3,7 +3,7 @@
 ghost use Rattle.std.specs.Prelude.{◌≡◌, ◌&&◌, is_some};
 ghost use Rattle.kube_types.specs.Bindings.{is_empty};
 ghost use Rattle.claim_sync.specs.ClaimDecision.{AssignsClass, BindsTo, BindsVolume, claim_decision, may_assign, step_of};
-ghost use Rattle.claim_sync.specs.Steps.Conditions.{has_best};
+ghost use Rattle.claim_sync.specs.Conditions.{has_best};
 
 use crate::action::{ClaimAction, ClaimStep};
 use crate::conditions::claim_conditions;

@@ -13,6 +13,9 @@ mod place;
 mod seen;
 mod table;
 
-pub use action::ClaimAction;
+pub use action::{ClaimAction, ClaimStep};
+pub use conditions::conditions_on;
 pub use decision::decide_claim;
+pub use place::{class_place, has_best};
+pub use seen::as_volume;
 pub use table::{claim_rows, claim_table};

@@ -2,10 +2,10 @@
 
 ghost use Rattle.std.specs.Prelude.{◌≡◌};
 ghost use Rattle.std.specs.Option.{option_copied};
-ghost use Rattle.volume_match.specs.Volumes.{as_volume};
+ghost use Rattle.kube_types.specs.VolumeIndex.{as_volume};
 ghost use Rattle.binder_model.specs.BinderDue.{has_other_uid};
 ghost use Rattle.claim_sync.specs.ClaimDecision.{named_volume};
-ghost use Rattle.claim_sync.specs.Steps.Conditions.{lacks_claim, live_volume, reads_live};
+ghost use Rattle.claim_sync.specs.Conditions.{lacks_claim, live_volume, reads_live};
 
 use kube_types::bindings::{is_completed, is_uid};
 use kube_types::lookup::{Live, Lookup};
@@ -36,7 +36,8 @@ pub(crate) fn live_volume<'a>(live: Live<'a>) -> Option<&'a Volume>
     }
 }
 
-fn as_volume<'a>(object: Option<&'a Object>) -> Option<&'a Volume>
+/// The object, where it is a volume.
+pub fn as_volume<'a>(object: Option<&'a Object>) -> Option<&'a Volume>
     ensures { option_copied result ≡ as_volume (option_copied object.entry) }
 {
     match object {

@@ -10,7 +10,7 @@ use Rattle.clap.specs.Walk.{Row, first_of, has_row}
 use Rattle.clap.specs.Lexer.{long_of, long_of_rest, short_of, short_of_rest, strip_byte}
 use Rattle.clap.specs.declared.builder.value_parser.Reading.TheVariants.{AsWritten}
 use Rattle.clap.specs.declared.parser.matches.ValueSource.TheVariants.{CommandLine}
-use Rattle.command_words.specs.Grammar.{Part, Text, command_named, each_once, has_part, is_option, number_in, options_by, parts_from, text_of, with_part, words_by, words_of}
+use Rattle.command_words.specs.Grammar.{Part, Text, command_named, each_once, has_part, is_option, number_between, options_by, parts_from, part_text, with_part, words_by, words_of}
 use Rattle.command_words.specs.declared.words.Command.{Command}
 use Rattle.command_words.specs.declared.words.Options.{Options}
 use Rattle.command_words.specs.declared.words.Words.{Words}
@@ -108,9 +108,9 @@ no_command : (word : Text) → hyphen word ≡ true → command_named word ≡ N
 no_command [] e = absurd (true≢false (sym e))
 no_command (x ∷ xs) e = subst (λ y. command_named (y ∷ xs) ≡ None) (sym (eqb-true x 45 e)) refl
 
-no_number : (least most : ℕ) (word : Text) → hyphen word ≡ true → number_in least most (Some word) ≡ None
+no_number : (least most : ℕ) (word : Text) → hyphen word ≡ true → number_between least most (Some word) ≡ None
 no_number least most [] e = absurd (true≢false (sym e))
-no_number least most (x ∷ xs) e = subst (λ y. number_in least most (Some (y ∷ xs)) ≡ None) (sym (eqb-true x 45 e)) refl
+no_number least most (x ∷ xs) e = subst (λ y. number_between least most (Some (y ∷ xs)) ≡ None) (sym (eqb-true x 45 e)) refl
 
 pub is_one_of : (name : Text) → is_option name ≡ true
     → (codes "workers" ≡ name) ⊎ ((codes "seed" ≡ name) ⊎ ((codes "calls" ≡ name) ⊎ (codes "budget" ≡ name)))
@@ -160,7 +160,7 @@ module _ (given : Text → Option Text) (word : Text) (hyphened : hyphen word �
   no_command_word e = ap (λ o. words_with (option_and_then command_named o) (options_by given)) e ∙ ap (λ o. words_with o (options_by given)) (no_command word hyphened)
 
   abbrev number_of : ℕ → ℕ → Text → Option (Option ℕ)
-  number_of least most name = number_in least most (given name)
+  number_of least most name = number_between least most (given name)
 
   without : (o : Option Options) → options_by given ≡ o → o ≡ None → words_by given ≡ None
   without o is none = ap (words_with (option_and_then command_named (given (codes "command")))) (is ∙ none) ∙ no_options (option_and_then command_named (given (codes "command")))
@@ -168,15 +168,15 @@ module _ (given : Text → Option Text) (word : Text) (hyphened : hyphen word �
   no_option_word : (name : Text) → is_option name ≡ true → given name ≡ Some word → words_by given ≡ None
   no_option_word name known e = elim (is_one_of name known) [
     | inl h ↦ without _ (ap (λ o. options_from o (number_of 0 999999999 (codes "seed")) (number_of 0 1000 (codes "calls")) (number_of 0 999999999 (codes "budget")))
-        (ap (number_in 1 4) (ap given h ∙ e) ∙ no_number 1 4 word hyphened)) refl
+        (ap (number_between 1 4) (ap given h ∙ e) ∙ no_number 1 4 word hyphened)) refl
     | inr r ↦ elim r [
       | inl h ↦ without _ (ap (λ o. options_from (number_of 1 4 (codes "workers")) o (number_of 0 1000 (codes "calls")) (number_of 0 999999999 (codes "budget")))
-          (ap (number_in 0 999999999) (ap given h ∙ e) ∙ no_number 0 999999999 word hyphened)) (no_seed (number_of 1 4 (codes "workers")) (number_of 0 1000 (codes "calls")) (number_of 0 999999999 (codes "budget")))
+          (ap (number_between 0 999999999) (ap given h ∙ e) ∙ no_number 0 999999999 word hyphened)) (no_seed (number_of 1 4 (codes "workers")) (number_of 0 1000 (codes "calls")) (number_of 0 999999999 (codes "budget")))
       | inr s ↦ elim s [
         | inl h ↦ without _ (ap (λ o. options_from (number_of 1 4 (codes "workers")) (number_of 0 999999999 (codes "seed")) o (number_of 0 999999999 (codes "budget")))
-            (ap (number_in 0 1000) (ap given h ∙ e) ∙ no_number 0 1000 word hyphened)) (no_calls (number_of 1 4 (codes "workers")) (number_of 0 999999999 (codes "seed")) (number_of 0 999999999 (codes "budget")))
+            (ap (number_between 0 1000) (ap given h ∙ e) ∙ no_number 0 1000 word hyphened)) (no_calls (number_of 1 4 (codes "workers")) (number_of 0 999999999 (codes "seed")) (number_of 0 999999999 (codes "budget")))
         | inr h ↦ without _ (ap (λ o. options_from (number_of 1 4 (codes "workers")) (number_of 0 999999999 (codes "seed")) (number_of 0 1000 (codes "calls")) o)
-            (ap (number_in 0 999999999) (ap given h ∙ e) ∙ no_number 0 999999999 word hyphened)) (no_budget (number_of 1 4 (codes "workers")) (number_of 0 999999999 (codes "seed")) (number_of 0 1000 (codes "calls")))
+            (ap (number_between 0 999999999) (ap given h ∙ e) ∙ no_number 0 999999999 word hyphened)) (no_budget (number_of 1 4 (codes "workers")) (number_of 0 999999999 (codes "seed")) (number_of 0 1000 (codes "calls")))
       ]
     ]
   ]
@@ -219,15 +219,15 @@ and_true : (b : Bool) → (b && true) ≡ b
 and_true true = refl
 and_true false = refl
 
-first_is : (parts : List Part) (id : Text) → first_of id (map row parts) ≡ text_of parts id
+first_is : (parts : List Part) (id : Text) → first_of id (map row parts) ≡ part_text parts id
 first_is [] id = refl
 first_is (p ∷ rest) id = go (bytes_eq p.0 id) (first_is rest id)
   where
-    go : (b : Bool) → first_of id (map row rest) ≡ text_of rest id → option_and_then (λ (r : Row). Rattle.std.specs.Prelude.slice_get r.values 0) (cond b (Some (row p)) (find (λ r. bytes_eq r.id id) (map row rest))) ≡ option_map (λ q. q.1) (cond b (Some p) (find (λ q. bytes_eq q.0 id) rest))
+    go : (b : Bool) → first_of id (map row rest) ≡ part_text rest id → option_and_then (λ (r : Row). Rattle.std.specs.Prelude.slice_get r.values 0) (cond b (Some (row p)) (find (λ r. bytes_eq r.id id) (map row rest))) ≡ option_map (λ q. q.1) (cond b (Some p) (find (λ q. bytes_eq q.0 id) rest))
     go true later = refl
     go false later = later
 
-from_nothing : (o : Option (List Part)) → adds [] o ≡ option_and_then (λ parts. if each_once parts then words_by (text_of parts) else None) o
+from_nothing : (o : Option (List Part)) → adds [] o ≡ option_and_then (λ parts. if each_once parts then words_by (part_text parts) else None) o
 from_nothing None = refl
 from_nothing (Some parts) =
     ap₂ (λ b (given : Text → Option Text). cond b (words_by given) None) (ap (λ b. each_once parts && b) (all_free parts) ∙ and_true (each_once parts)) (λ i id. first_is parts id i)

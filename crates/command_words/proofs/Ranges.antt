@@ -8,7 +8,7 @@ use Rattle.std.specs.Str.Parse.{digits_value}
 use Rattle.command_words.specs.declared.words.Command.{Command}
 use Rattle.command_words.specs.declared.words.Options.{Options}
 use Rattle.command_words.specs.declared.words.Words.{Words}
-use Rattle.command_words.specs.Grammar.{AreInRange, Part, Text, command_named, each_once, is_number, number_in, options_by, parts_from, text_of, words_by, words_of}
+use Rattle.command_words.specs.Grammar.{AreInRange, Part, Text, command_named, each_once, is_number, number_between, options_by, parts_from, part_text, words_by, words_of}
 
 both : (a b : Bool) → (a && b) ≡ true → (a ≡ true) × (b ≡ true)
 both true b h = (refl, h)
@@ -26,7 +26,7 @@ in_range least most text h =
     let ends = both (nat_le least (digits_value 10 text)) (nat_le (digits_value 10 text) most) nine.1 in
     (le_of least (digits_value 10 text) ends.0, le_of (digits_value 10 text) most ends.1)
 
-given_in_range : (least most : ℕ) (text : Option Text) (n : ℕ) → number_in least most text ≡ Some (Some n) → (least ≤ n) × (n ≤ most)
+given_in_range : (least most : ℕ) (text : Option Text) (n : ℕ) → number_between least most text ≡ Some (Some n) → (least ≤ n) × (n ≤ most)
 given_in_range least most None n h = absurd (cc)
 given_in_range least most (Some text) n h = by (is_number least most text) refl h
   where
@@ -35,16 +35,16 @@ given_in_range least most (Some text) n h = by (is_number least most text) refl 
     by false is h = absurd (cc)
 
 -- the number of an option, or its default
-or_default : (least most default : ℕ) (text : Option Text) (n : Option ℕ) → number_in least most text ≡ Some n → least ≤ default → default ≤ most
+or_default : (least most default : ℕ) (text : Option Text) (n : Option ℕ) → number_between least most text ≡ Some n → least ≤ default → default ≤ most
     → (least ≤ unwrap_or n default) × (unwrap_or n default ≤ most)
 or_default least most default text None h low high = (low, high)
 or_default least most default text (Some n) h low high = given_in_range least most text n h
 
 options_in_range : (given : Text → Option Text) (options : Options) → options_by given ≡ Some options → AreInRange options
 options_in_range given options h =
-    by (number_in 1 4 (given (codes "workers"))) refl (number_in 0 999999999 (given (codes "seed"))) (number_in 0 1000 (given (codes "calls"))) refl (number_in 0 999999999 (given (codes "budget"))) h
+    by (number_between 1 4 (given (codes "workers"))) refl (number_between 0 999999999 (given (codes "seed"))) (number_between 0 1000 (given (codes "calls"))) refl (number_between 0 999999999 (given (codes "budget"))) h
   where
-    by : (w : Option (Option ℕ)) → number_in 1 4 (given (codes "workers")) ≡ w → (s c : Option (Option ℕ)) → number_in 0 1000 (given (codes "calls")) ≡ c → (b : Option (Option ℕ))
+    by : (w : Option (Option ℕ)) → number_between 1 4 (given (codes "workers")) ≡ w → (s c : Option (Option ℕ)) → number_between 0 1000 (given (codes "calls")) ≡ c → (b : Option (Option ℕ))
         → option_and_then (λ workers. option_and_then (λ seed. option_and_then (λ calls. option_map (λ budget. record {
           workers = unwrap_or workers 2;
           seed = unwrap_or seed 1;
@@ -77,10 +77,10 @@ words_by_in_range given said h = by (option_and_then command_named (given (codes
 pub words_in_range : (words : List Text) (said : Words) → words_of words ≡ Some said → AreInRange said.options
 words_in_range words said h = by (parts_from None words) h
   where
-    by : (p : Option (List Part)) → option_and_then (λ parts. if each_once parts then words_by (text_of parts) else None) p ≡ Some said → AreInRange said.options
+    by : (p : Option (List Part)) → option_and_then (λ parts. if each_once parts then words_by (part_text parts) else None) p ≡ Some said → AreInRange said.options
     by None h = absurd (cc)
     by (Some parts) h = when (each_once parts) h
       where
-        when : (b : Bool) → (if b then words_by (text_of parts) else None) ≡ Some said → AreInRange said.options
-        when true h = words_by_in_range (text_of parts) said h
+        when : (b : Bool) → (if b then words_by (part_text parts) else None) ≡ Some said → AreInRange said.options
+        when true h = words_by_in_range (part_text parts) said h
         when false h = absurd (cc)

@@ -65,8 +65,8 @@ abbrev pub each_once : List Part → Bool
 each_once [] = true
 each_once (p ∷ rest) = not (has_part p.0 rest) && each_once rest
 
-abbrev pub text_of : List Part → Text → Option Text
-text_of parts name = option_map (λ p. p.1) (find (λ p. bytes_eq p.0 name) parts)
+abbrev pub part_text : List Part → Text → Option Text
+part_text parts name = option_map (λ p. p.1) (find (λ p. bytes_eq p.0 name) parts)
 
 -- ---- what the parts say
 
@@ -85,9 +85,9 @@ is_number least most text =
     && (nat_le least (digits_value 10 text) && nat_le (digits_value 10 text) most)))
 
 -- the number of an option, if it is given; no answer where the text is none
-abbrev pub number_in : ℕ → ℕ → Option Text → Option (Option ℕ)
-number_in least most None = Some None
-number_in least most (Some text) = if is_number least most text then Some (Some (digits_value 10 text)) else None
+abbrev pub number_between : ℕ → ℕ → Option Text → Option (Option ℕ)
+number_between least most None = Some None
+number_between least most (Some text) = if is_number least most text then Some (Some (digits_value 10 text)) else None
 
 -- the command and the options, from the text of each
 abbrev pub options_by : (Text → Option Text) → Option Options
@@ -98,10 +98,10 @@ options_by given =
       calls = unwrap_or calls 200;
       budget = budget;
     })
-    (number_in 0 999999999 (given (codes "budget"))))
-    (number_in 0 1000 (given (codes "calls"))))
-    (number_in 0 999999999 (given (codes "seed"))))
-    (number_in 1 4 (given (codes "workers")))
+    (number_between 0 999999999 (given (codes "budget"))))
+    (number_between 0 1000 (given (codes "calls"))))
+    (number_between 0 999999999 (given (codes "seed"))))
+    (number_between 1 4 (given (codes "workers")))
 
 -- the numbers of the options that have a range of their own
 abbrev pub AreInRange : Options → Type 0
@@ -113,7 +113,7 @@ words_by given = option_and_then (λ command. option_map (λ options. record { c
 
 -- what the words say, where they are of the grammar
 abbrev pub words_of : List Text → Option Words
-words_of words = option_and_then (λ parts. if each_once parts then words_by (text_of parts) else None) (parts_from None words)
+words_of words = option_and_then (λ parts. if each_once parts then words_by (part_text parts) else None) (parts_from None words)
 
 -- the answer is the one that the grammar gives; want of memory says nothing of the words
 abbrev pub Reads : Result Words WordsError → Option Words → Type 0

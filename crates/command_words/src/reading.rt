@@ -5,7 +5,7 @@ ghost use Rattle.std.specs.List.{list_all};
 ghost use Rattle.std.specs.Char.{is_ascii_digit};
 ghost use Rattle.std.specs.Str.Parse.{digits_value};
 ghost use Rattle.clap.specs.Words.{app_of, first_value, found_of, rule_of};
-ghost use Rattle.command_words.specs.Grammar.{command_named, is_number, number_in, options_by, words_by, words_of, Reads};
+ghost use Rattle.command_words.specs.Grammar.{command_named, is_number, number_between, options_by, words_by, words_of, Reads};
 ghost use Rattle.command_words.specs.Steps.Line.{Matches, bare_line, line, option_rule};
 
 use crate::words::{Command, Options, Words, WordsError};
@@ -56,7 +56,7 @@ fn number_of(word: &str, least: u64, most: u64) -> Option<u64>
 }
 
 fn number_in(given: Option<&str>, least: u64, most: u64) -> Option<Option<u64>>
-    ensures { result ≡ number_in least most (option_map (λ s. s.now) given.entry) }
+    ensures { result ≡ number_between least most (option_map (λ s. s.now) given.entry) }
 {
     match given {
         None => Some(None),

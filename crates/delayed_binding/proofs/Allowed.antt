@@ -35,7 +35,7 @@ use Rattle.binder_model.specs.Matching.{eligible, fits, is_admitted_on, is_delay
 use Rattle.binder_model.specs.ObjectKeys.{class_key, node_key, claim_key, volume_key}
 use Rattle.binder_model.specs.SchedulerLicence.{AreReadyOn, MaySelectNode}
 use Rattle.binder_model.specs.Told.{IsNewest, ToldClaim, ToldVolume}
-use Rattle.volume_match.specs.Volumes.{as_volume}
+use Rattle.kube_types.specs.VolumeIndex.{as_volume}
 use Rattle.model_laws.proofs.Evidence.{told_claim, told_volume}
 use Rattle.model_laws.proofs.Lists.{none_some, one}
 use Rattle.model_laws.proofs.Identity.{placed_same}
@@ -43,7 +43,7 @@ use Rattle.model_laws.proofs.Newest.{newest_claim, newest_volume}
 use Rattle.delayed_binding.specs.declared.choice.Choice.{Choice}
 use Rattle.delayed_binding.specs.declared.choice.Choice.TheVariants.{Assign, Prepare, Wait, NoNode}
 use Rattle.delayed_binding.specs.Choices.{IsAssigned, IsChoice, IsChoiceAt, IsCompleted, IsPrepared, IsSearching, IsServedElsewhere, IsUnderWay, LacksClaim, Stage, binds_of, others_in, provisions_of, set_aside}
-use Rattle.delayed_binding.specs.WriteLaw.{AreKept, AssignedPodsAreAllowed, ChosenWritesAreAllowed, HasWrite, IsUnwritten, PreparedHaveWrites, PreparedWritesAreAllowed, PreparedWritesAreThere, ShowsNewest, WritesAreApart, is_known, written_keys}
+use Rattle.delayed_binding.specs.WriteLaw.{OthersAreUnchanged, AssignedPodsAreAllowed, ChosenWritesAreAllowed, HasWrite, IsUnwritten, PreparedHaveWrites, PreparedWritesAreAllowed, PreparedWritesAreThere, ShowsNewest, WritesAreApart, is_known, written_keys}
 use Rattle.delayed_binding.specs.Writes.{bind_write, joined, node_write, placed_on, prepare_write, reference_write, selecting_write}
 use Rattle.delayed_binding.proofs.Known.{Each, IsSome, IsSought, claim_of_row, others_apart, others_sought, others_stored, some_others, and_right}
 use Rattle.delayed_binding.proofs.Scanning.{carriers_are_volumes}
@@ -325,7 +325,7 @@ module _ (rows : List Object) (order : AreRows rows) (p : PodData) (last : Optio
 
   -- the writes on later rows, which keep what the next write is made from
 
-  keeps_next : has_twice p.claims ≡ false → (later : List Object) (nth : ℕ) → AreKept rows later (Prepare name bs ps) nth → KeepsNext rows later written (length bs) nth
+  keeps_next : has_twice p.claims ≡ false → (later : List Object) (nth : ℕ) → OthersAreUnchanged rows later (Prepare name bs ps) nth → KeepsNext rows later written (length bs) nth
   keeps_next once later nth kept = record {
     next = λ key at. kept key (next_unwritten once nth key at);
     claims = λ key below h. kept key (claim_unwritten nth key below h);

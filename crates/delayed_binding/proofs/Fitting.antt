@@ -16,7 +16,7 @@ use Rattle.call_types.specs.declared.request.Request.{Request}
 use Rattle.binder_model.specs.BindWrites.{write_reference}
 use Rattle.binder_model.specs.Choice.{claim_in, claims_of}
 use Rattle.binder_model.specs.Matching.{eligible, fits, is_admitted_on, is_selected, may_serve}
-use Rattle.volume_match.specs.Volumes.{as_volume}
+use Rattle.kube_types.specs.VolumeIndex.{as_volume}
 use Rattle.model_laws.proofs.Lists.{none_some, one}
 use Rattle.delayed_binding.specs.declared.choice.Choice.TheVariants.{Assign, Prepare, Wait, NoNode}
 use Rattle.delayed_binding.specs.Choices.{others_in, set_aside}

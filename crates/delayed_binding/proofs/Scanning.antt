@@ -17,7 +17,7 @@ use Rattle.binder_model.specs.Matching.{is_excluded}
 use Rattle.delayed_binding.specs.Choices.{places_from}
 use Rattle.delayed_binding.specs.Steps.Places.{admits_at, carries_at, is_in_namespace}
 use Rattle.delayed_binding.specs.Steps.Sharing.{AreSame}
-use Rattle.volume_match.specs.Volumes.{as_volume}
+use Rattle.kube_types.specs.VolumeIndex.{as_volume}
 
 -- what the objects of other kinds cannot change
 

@@ -11,7 +11,7 @@ use Rattle.binder_model.specs.Matching.{IsBest, is_excluded}
 use Rattle.volume_match.specs.Volumes.{volume_at}
 use Rattle.model_laws.proofs.Lists.{one}
 use Rattle.delayed_binding.specs.Choices.{binds_of, pair_of, provisions_of, set_aside}
-use Rattle.delayed_binding.specs.Steps.Sharing.{AreSame, HaveNoShares, Held, IsGiven, IsLeft, IsSharedOut, IsUnserved, TakesBest, taken_by}
+use Rattle.delayed_binding.specs.Steps.Sharing.{AreSame, HaveNoShares, Held, IsServedAs, IsLeftToProvision, IsSharedOut, IsUnserved, TakesBest, taken_by}
 use Rattle.delayed_binding.proofs.Bests.{AreSetAside, aside_more, best_same, one_best, set_aside_is}
 
 -- one share more
@@ -98,7 +98,7 @@ module _ (rows : List Object) (n : NodeData) where
     }
 
     -- the next one is to be provisioned
-    shared_provisioned : IsLeft rows n c held after → IsSharedOut rows n (cs ++ c ∷ []) after
+    shared_provisioned : IsLeftToProvision rows n c held after → IsSharedOut rows n (cs ++ c ∷ []) after
     shared_provisioned t = record {
       shares = done.shares ++ IsProvisioned ∷ [];
       are = provisions_more cs done.shares (set_aside rows) c done.are (best_same rows c (Some n) false held.taken (taken_by (set_aside rows) done.shares) done.taken_are None t.none) t.can;
@@ -107,7 +107,7 @@ module _ (rows : List Object) (n : NodeData) where
       provisions_are = ap (λ (h : Held). h.provisions) t.after_is ∙ (ap (λ ks. ks ++ key_of (Claim c) ∷ []) done.provisions_are ∙ sym (keys_more cs done.shares (set_aside rows) c done.are));
     }
 
-    pub shared_more : IsGiven rows n c held after true → IsSharedOut rows n (cs ++ c ∷ []) after
+    pub shared_more : IsServedAs rows n c held after true → IsSharedOut rows n (cs ++ c ∷ []) after
     shared_more g = elim g [ inl t ↦ shared_taken t | inr t ↦ shared_provisioned t ]
 
   module _ (order : AreRows rows) where

@@ -12,7 +12,8 @@ use Rattle.kube_types.specs.declared.objects.Object.TheVariants.{Volume, Claim}
 use Rattle.kube_types.specs.Keys.{AreRows, key_of, rows_of}
 use Rattle.binder_model.specs.Choice.{AreShares, IsProvisioned, Share, TakesVolume, can_provision}
 use Rattle.binder_model.specs.Matching.{eligible, is_excluded}
-use Rattle.volume_match.specs.Volumes.{as_volume, volume_at}
+use Rattle.kube_types.specs.VolumeIndex.{as_volume}
+use Rattle.volume_match.specs.Volumes.{volume_at}
 use Rattle.model_laws.proofs.Lists.{none_some, one}
 use Rattle.delayed_binding.specs.Choices.{binds_of, pair_of, provisions_of}
 use Rattle.delayed_binding.proofs.Bests.{one_place}

@@ -40,8 +40,8 @@ abbrev pub IsUnwritten : Choice → ℕ → Key → Type 0
 IsUnwritten choice nth key = (i : ℕ) → i < nth → slice_get (written_keys choice) i ≢ Some key
 
 -- the later rows are those of the choice, but for what its first writes wrote
-abbrev pub AreKept : List Object → List Object → Choice → ℕ → Type 0
-AreKept rows later choice nth = (key : Key) → IsUnwritten choice nth key → row_at key later ≡ row_at key rows
+abbrev pub OthersAreUnchanged : List Object → List Object → Choice → ℕ → Type 0
+OthersAreUnchanged rows later choice nth = (key : Key) → IsUnwritten choice nth key → row_at key later ≡ row_at key rows
 
 -- each claim of the pod has its UID and is named once, as in each store
 abbrev pub is_known : ClaimData → Bool
@@ -55,7 +55,7 @@ pub record AreClaimsKnown (rows : List Object) (p : PodData) : Type 0 where
 abbrev pub PreparedWritesAreAllowed : Type 0
 PreparedWritesAreAllowed =
     (rows later : List Object) (p : PodData) (last : Option (List ℕ)) (choice : Choice) (nth : ℕ) (mine : List Entry) (request : Request)
-    → AreRows rows → AreClaimsKnown rows p → IsChoice rows p last choice → AreKept rows later choice nth → ShowsNewest later mine
+    → AreRows rows → AreClaimsKnown rows p → IsChoice rows p last choice → OthersAreUnchanged rows later choice nth → ShowsNewest later mine
     → AreOfKind Scheduler mine → prepare_write later choice nth ≡ Some request → Licensed Scheduler mine request
 
 -- each write of what was chosen, on the rows of the choice

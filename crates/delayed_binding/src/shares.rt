@@ -11,7 +11,7 @@ ghost use Rattle.binder_model.specs.ObjectKeys.{class_key};
 ghost use Rattle.volume_match.specs.Volumes.{volume_at};
 ghost use Rattle.delayed_binding.specs.Choices.{IsPreparedOn, others_in, pair_of};
 ghost use Rattle.delayed_binding.specs.Steps.Scans.{IsFirstInTurn, IsPreparedIf};
-ghost use Rattle.delayed_binding.specs.Steps.Sharing.{AreSame, HaveNoShares, IsGiven, IsSharedOut, held_by, place_in};
+ghost use Rattle.delayed_binding.specs.Steps.Sharing.{AreSame, HaveNoShares, IsServedAs, IsSharedOut, held_by, place_in};
 
 use crate::choice::Choice;
 use crate::marks::Marks;
@@ -102,7 +102,7 @@ impl Shares {
         node: &Node,
         claim: &Claim,
     ) -> Result<bool, OutOfMemory>
-        ensures { IfOk result (λ given. IsGiven (L.rows lookup.now) node.now claim.now (held_by self.old) (held_by self.new) given) }
+        ensures { IfOk result (λ given. IsServedAs (L.rows lookup.now) node.now claim.now (held_by self.old) (held_by self.new) given) }
     {
         match best_outside(lookup, claim, Some(node), false, &self.taken) {
             Some(place) => {

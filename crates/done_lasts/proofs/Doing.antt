@@ -57,7 +57,7 @@ use Rattle.safety_invariant.proofs.Came.{row_was}
 use Rattle.safety_invariant.proofs.Effects.{effect_form}
 use Rattle.binder_machines.specs.declared.machine.Machine.{Machine}
 use Rattle.binder_machines.specs.declared.machine.Machine.TheVariants.{Frees, Binds, MarksBound, ReadsClaim, Releases, Unbinds, ReadsVolume, AssignsClass, Loses}
-use Rattle.binder_machines.specs.Evidence.{Keeps, ToldThis, ToldThisClaim}
+use Rattle.binder_machines.specs.Evidence.{MachineKeeps, ToldThis, ToldThisClaim}
 use Rattle.binder_machines.specs.Machines.{assigned, call_of, read_of, write_class, write_lost}
 use Rattle.binder_machines.proofs.Tests.{empty_is}
 use Rattle.licence_rows.proofs.NewestKeys.{newest_keyed}
@@ -126,7 +126,7 @@ some_in P (o ∷ os) h = elim h [
   | inr more ↦ let r = some_in P os more in (r.0, inr r.1, r.2)
 ]
 
-told_one : (P : Object → Type 0) (mine : List Entry) → ToldObject P mine → (o : Object) × ToldObject (λ x. x ≡ o) mine × P o
+pub told_one : (P : Object → Type 0) (mine : List Entry) → ToldObject P mine → (o : Object) × ToldObject (λ x. x ≡ o) mine × P o
 told_one P [] h = absurd h
 told_one P (e ∷ mine) h = elim h [
   | inl now ↦ let r = some_in P (objects_in e.reply) now.1 in (r.0, inl (now.0, r.1), r.2)
@@ -135,6 +135,11 @@ told_one P (e ∷ mine) h = elim h [
 
 same_version : (told now : ℕ) → is_other_version (Some told) now ≡ false → now ≡ told
 same_version told now v = let t : (told == now) ≡ true = not-false (told == now) v in grind (arith, nat_tests)
+
+-- what stands at the version of an object that stood is that object
+pub stands_it : (setup : Setup) (h : List Entry) (x old : Object) (key : Key) → Stood setup h x → key_of x ≡ key → row_at key (world setup h).store.rows ≡ Some old → is_other_version (Some (meta_of x).version) (meta_of old).version ≡ false → old ≡ x
+stands_it setup h x old key was keyed there version =
+    one_version_one_object setup h old x (row_was setup h key old there) was (same_version (meta_of x).version (meta_of old).version version) (inl (row_at_key key old (world setup h).store.rows there ∙ sym keyed))
 
 -- what stood passes the tests of a create
 stood_valid : (setup : Setup) → ImportsPass setup.imports → (past : List Entry) (o : Object) → Stood setup past o → IsValid o
@@ -268,14 +273,9 @@ module _ (setup : Setup) (seat : ℕ) (h : List Entry) (imports : ImportsPass se
   claim_stood : (c : ClaimData) → ToldThisClaim c (own seat h) → Stood setup h (Claim c)
   claim_stood c told = told_is_true setup h seat (Claim c) history (told_map (is_claim c) (own seat h) told)
 
-  -- what stands at the version of an object that stood is that object
-  stands_it : (x old : Object) (key : Key) → Stood setup h x → key_of x ≡ key → row_at key (world setup h).store.rows ≡ Some old → is_other_version (Some (meta_of x).version) (meta_of old).version ≡ false → old ≡ x
-  stands_it x old key was keyed there version =
-      one_version_one_object setup h old x (row_was setup h key old there) was (same_version (meta_of x).version (meta_of old).version version) (inl (row_at_key key old (world setup h).store.rows there ∙ sym keyed))
-
   stored_it : (x old : Object) (key : Key) → Stood setup h x → key_of x ≡ key → row_at key (world setup h).store.rows ≡ Some old → is_other_version (Some (meta_of x).version) (meta_of old).version ≡ false → IsStored (world setup h) x
   stored_it x old key was keyed there version =
-      let at : row_at key (world setup h).store.rows ≡ Some x = there ∙ ap Some (stands_it x old key was keyed there version) in
+      let at : row_at key (world setup h).store.rows ≡ Some x = there ∙ ap Some (stands_it setup h x old key was keyed there version) in
       record { there = ap (λ k. row_at k (world setup h).store.rows) keyed ∙ at; valid = rows_are_valid setup h imports key x at }
 
   -- an update of what stands, to something else
@@ -328,8 +328,8 @@ module _ (setup : Setup) (seat : ℕ) (h : List Entry) (imports : ImportsPass se
           by : (b : Bool) → IsUpdate (world setup h).store kind (Claim (record c { volume_name = v.meta.name; meta = annotated_meta bind_completed (annotated_meta_if b bound_by_controller c.meta) })) (Some c.meta.version) o
               → written_by (effect setup (world setup h) kind (requests.Update (Claim (record c { volume_name = v.meta.name; meta = annotated_meta bind_completed (annotated_meta_if b bound_by_controller c.meta) })) (Some c.meta.version))) ≡ Some o
               → Lasts setup (world setup h) kind (requests.Update (Claim (record c { volume_name = v.meta.name; meta = annotated_meta bind_completed (annotated_meta_if b bound_by_controller c.meta) })) (Some c.meta.version))
-          by true u wrote = with_name (put_pair bound_by_controller yes c.meta.annotations) u.old (stands_it (Claim c) u.old (key_of (Claim c)) (claim_stood c told) refl u.there u.version) u.is u.there _ wrote
-          by false u wrote = with_name c.meta.annotations u.old (stands_it (Claim c) u.old (key_of (Claim c)) (claim_stood c told) refl u.there u.version) u.is u.there _ wrote
+          by true u wrote = with_name (put_pair bound_by_controller yes c.meta.annotations) u.old (stands_it setup h (Claim c) u.old (key_of (Claim c)) (claim_stood c told) refl u.there u.version) u.is u.there _ wrote
+          by false u wrote = with_name c.meta.annotations u.old (stands_it setup h (Claim c) u.old (key_of (Claim c)) (claim_stood c told) refl u.there u.version) u.is u.there _ wrote
 
   status_at : (v : VolumeData) (c : ClaimData) (request : Request) → ToldThisClaim c (own seat h) → shows_bound c v ≡ false → write_claim_status v c ≡ request → Writes (world setup h) kind request o → Lasts setup (world setup h) kind request
   status_at v c request told shows is writes = subst (λ r. Writes (world setup h) kind r o → Lasts setup (world setup h) kind r) is go writes
@@ -362,7 +362,7 @@ module _ (setup : Setup) (seat : ℕ) (h : List Entry) (imports : ImportsPass se
   no_get : (key : Key) (request : Request) → requests.Get key ≡ request → Writes (world setup h) kind request o → Lasts setup (world setup h) kind request
   no_get key request is writes = absurd (subst (λ r. Writes (world setup h) kind r o) (sym is) writes)
 
-  machine_lasts : (m : Machine) (request : Request) → Keeps m (own seat h) → IsNewMachine m → call_of m ≡ Some request → Writes (world setup h) kind request o → written_by (effect setup (world setup h) kind request) ≡ Some o → Lasts setup (world setup h) kind request
+  machine_lasts : (m : Machine) (request : Request) → MachineKeeps m (own seat h) → IsNewMachine m → call_of m ≡ Some request → Writes (world setup h) kind request o → written_by (effect setup (world setup h) kind request) ≡ Some o → Lasts setup (world setup h) kind request
   unfolding call_of
   machine_lasts (Frees v) request keeps new call writes written = by (is_empty v.meta.namespace) refl call
     where
@@ -433,7 +433,7 @@ module _ (setup : Setup) (seat : ℕ) (h : List Entry) (imports : ImportsPass se
     where
       go : Writes (world setup h) kind (claim_write_over c (unguarded_claim c)) o → written_by (effect setup (world setup h) kind (claim_write_over c (unguarded_claim c))) ≡ Some o → Lasts setup (world setup h) kind (claim_write_over c (unguarded_claim c))
       go i wrote =
-          let same = stands_it (Claim c) i.old (key_of (Claim c)) (claim_stood c keeps.told) refl i.there i.version in
+          let same = stands_it setup h (Claim c) i.old (key_of (Claim c)) (claim_stood c keeps.told) refl i.there i.version in
           let is_o = i.is ∙ ap (λ y. updated_object y (Claim (unguarded_claim c)) ((world setup h).store.version + 1)) same in
           over (claim_write_over c (unguarded_claim c)) wrote (Claim c) (ap (λ y. row_at (key_of y) (world setup h).store.rows) is_o ∙ (i.there ∙ ap Some same))
           (λ e. true≢false (sym new ∙ (ap (λ (x : Object). has_name pvc_protection (meta_of x).finalizers) (e ∙ ap content_of is_o) ∙ dropped pvc_protection c.meta.finalizers)))

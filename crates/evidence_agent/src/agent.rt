@@ -11,7 +11,7 @@ ghost use Rattle.informer_cache.specs.All.{AllStandFor};
 ghost use Rattle.evidence_places.specs.Steps.Since.{IsPodList, gets};
 ghost use Rattle.evidence_agent.specs.Pods.{AreTold};
 ghost use Rattle.evidence_agent.specs.Indexed.{IsAgentIndexOf};
-ghost use Rattle.evidence_agent.specs.Steps.Seen.{AreReadBehind, IsListed, IsRead, IsShown, IsStaying, IsStayingPod, IsTakenAt, IsToMount, IsVolumeRead, key_at};
+ghost use Rattle.evidence_agent.specs.Steps.Seen.{AreReadBehind, IsListed, IsRead, IsShown, IsStaying, IsStayingPod, IsTakenAt, IsToMount, IsVolumeRead, key_with_parts};
 
 use crate::index::AgentIndex;
 use crate::pods::ToldPod;
@@ -119,7 +119,7 @@ pub fn is_current(index: &AgentIndex, entries: &[Entry], node: &Text, epoch: u64
 
 /// Whether the entry tells a read of the key.
 fn tells_get(kind: Kind, namespace: &str, name: &str, entry: &Entry) -> bool
-    ensures { IsTrue result → gets (key_at kind namespace.now name.now) entry.now ≡ true }
+    ensures { IsTrue result → gets (key_with_parts kind namespace.now name.now) entry.now ≡ true }
 {
     if !entry.told {
         return false;
@@ -142,7 +142,7 @@ fn read_behind<'a>(
     name: &str,
 ) -> Option<(usize, &'a Reply)>
     requires { IsAgentIndexOf index.now (reverse entries.now) }
-    ensures { IfSome result (λ r. IsRead (reverse entries.now) (key_at kind namespace.now name.now) behind r.0 r.1.now) }
+    ensures { IfSome result (λ r. IsRead (reverse entries.now) (key_with_parts kind namespace.now name.now) behind r.0 r.1.now) }
 {
     let about = About::object(Matter::Read, kind, namespace, name);
     match index.lasts.place(&about) {

@@ -1,3 +1,4 @@
 mod Absence
 mod Defaults
+mod Listed
 mod Shown

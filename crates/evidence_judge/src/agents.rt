@@ -10,7 +10,6 @@ ghost use Rattle.evidence_places.specs.Rows.{AreLastsOf};
 ghost use Rattle.evidence_judge.specs.Steps.Kept.{AreAgentsOf};
 
 use call_types::entry::Entry;
-use call_types::request::Request;
 use evidence_agent::agent::{is_current, may_mount, may_unmount};
 use evidence_agent::finish::may_finish;
 use evidence_agent::index::AgentIndex;
@@ -198,22 +197,5 @@ pub(crate) fn shows_over<'a>(
     match last_found(&agents.index.lasts, entries, id) {
         None => None,
         Some(volume) => Some(volume),
-    }
-}
-
-/// The name of the volume over the data that the request erases, as far as it was read.
-pub(crate) fn erased_over<'a>(
-    agents: &Agents,
-    entries: &'a [Entry],
-    request: &Request,
-) -> Option<&'a Text>
-    requires { AreAgentsOf agents.now (reverse entries.now) }
-{
-    match request {
-        Request::Erase { id } => match shows_over(agents, entries, id) {
-            None => None,
-            Some(volume) => Some(&volume.meta.name),
-        },
-        _ => None,
     }
 }

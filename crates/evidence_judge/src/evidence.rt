@@ -1,18 +1,19 @@
 //! What one seat was told so far.
 
-ghost use Rattle.std.specs.Prelude.{◌≡◌, [], ◌∷◌, IsTrue, MatchResult, OnErr, OnOk, length, reverse, true};
+ghost use Rattle.std.specs.Prelude.{◌≡◌, [], ◌∷◌, List, IsTrue, MatchResult, OnErr, OnOk, length, reverse, true};
 ghost use Rattle.call_types.specs.declared.entry.Entry.{Entry};
 ghost use Rattle.binder_model.specs.Licence.{IsRefusedBy, Licensed};
 ghost use Rattle.evidence_pages.specs.Indexed.{IsIndexOf};
 ghost use Rattle.evidence_judge.specs.Steps.Kept.{AreAgentsOf};
 
 use crate::agents::{
-    Agents, erased_over, shows_current, shows_finish, shows_mount, shows_over, shows_read,
-    shows_unmount,
+    Agents, shows_current, shows_finish, shows_mount, shows_over, shows_read, shows_unmount,
 };
+use crate::lists::Lists;
 use crate::lookups::{
     is_kind_of, newest_in, shows_absent, shows_default, shows_from, shows_lacking, shows_unlisted,
 };
+use crate::references::{References, about};
 use call_types::entry::Entry;
 use call_types::request::{Request, SeatKind};
 use evidence_pages::index::Index;
@@ -36,6 +37,8 @@ pub struct Evidence {
     entries: Items<Entry>,
     index: Index,
     agents: Agents,
+    lists: Lists,
+    references: References,
 }
 
 impl Drop for Evidence {
@@ -45,10 +48,13 @@ impl Drop for Evidence {
             entries,
             index,
             agents,
+            lists: _,
+            references,
         } = self;
         drop(entries);
         drop(index);
         drop(agents);
+        drop(references);
     }
 }
 
@@ -57,12 +63,13 @@ impl Model for Evidence {
     ghost use Rattle.call_types.specs.declared.entry.Entry.{Entry};
     ghost use Rattle.evidence_pages.specs.Indexed.{IsIndexOf};
     ghost use Rattle.evidence_judge.specs.Steps.Kept.{AreAgentsOf};
+    ghost use Rattle.evidence_judge.specs.Steps.Lists.{AreListsOf};
 
     ghost Value = { List Entry };
 
     ghost view = { λ e. reverse e.entries };
 
-    ghost invariant = { λ e. IsIndexOf e.index (reverse e.entries) × AreAgentsOf e.agents (reverse e.entries) };
+    ghost invariant = { λ e. IsIndexOf e.index (reverse e.entries) × AreAgentsOf e.agents (reverse e.entries) × AreListsOf e.lists (reverse e.entries) };
 }
 
 fn is_first(entries: &[Entry]) -> bool
@@ -78,12 +85,29 @@ fn next_place(entries: &[Entry]) -> usize
     entries.len()
 }
 
+/// Takes the entry into the index of what the newest told objects refer to, and into that of the entries.
+fn learn(
+    alloc: Global,
+    index: &mut Index,
+    references: &mut References,
+    entry: &Entry,
+    first: bool,
+) -> Result<(), OutOfMemory>
+    ensures { OnOk result ((mine : List Entry) → (first ≡ true → mine ≡ []) → IsIndexOf index.old mine → IsIndexOf index.new (entry.now ∷ mine)) }
+{
+    references.leave(&index.caches, entry);
+    index.learn(alloc, entry, first)?;
+    references.enter(alloc, &index.caches, entry)?;
+    Ok(())
+}
+
 /// Puts one more entry behind the others and into the index.
 fn take(
     alloc: Global,
     entries: &mut Items<Entry>,
     index: &mut Index,
     agents: &mut Agents,
+    references: &mut References,
     entry: &Entry,
 ) -> Result<(), OutOfMemory>
     requires { AreAgentsOf agents.old (reverse entries.old) }
@@ -96,8 +120,7 @@ fn take(
     let noted = entries.as_slice();
     let first = is_first(noted);
     let place = next_place(noted);
-    let over = erased_over(agents, noted, &entry.request);
-    index.learn(alloc, entry, first, over)?;
+    learn(alloc, index, references, entry, first)?;
     agents.learn(alloc, entry, place)?;
     entries.push(kept)
 }
@@ -112,6 +135,8 @@ impl Evidence {
             entries: Items::new(alloc),
             index: Index::new(alloc),
             agents: Agents::new(alloc),
+            lists: Lists::new(),
+            references: References::new(alloc),
         }
     }
 
@@ -122,17 +147,23 @@ impl Evidence {
         ensures err { OnErr result (self.new ≡ self.old) }
     {
         let alloc = self.alloc;
+        let lists = self.lists.after(entry);
         match take(
             alloc,
             &mut self.entries,
             &mut self.index,
             &mut self.agents,
+            &mut self.references,
             entry,
         ) {
-            Ok(()) => Ok(()),
+            Ok(()) => {
+                self.lists = lists;
+                Ok(())
+            }
             Err(OutOfMemory) => {
                 self.index = Index::lost(alloc);
                 self.agents = Agents::lost(alloc);
+                self.references = References::new(alloc);
                 Err(OutOfMemory)
             }
         }
@@ -186,7 +217,7 @@ impl Record for Evidence {
     }
 
     fn about(&self, kind: Kind, namespace: &str, name: &str, sought: Sought) -> &[Entry] {
-        self.index.pages.about(kind, namespace, name, sought)
+        about(&self.index, &self.references, kind, namespace, name, sought)
     }
 
     fn provisioned(&self, name: &Text, sought: Sought) -> &[Entry] {
@@ -209,7 +240,7 @@ impl Record for Evidence {
     }
 
     fn is_from(&self, kind: Kind, from: Version) -> bool {
-        shows_from(&self.index, kind, from)
+        shows_from(&self.index, &self.lists, kind, from)
     }
 
     fn is_current(&self, node: &Text, epoch: u64) -> bool {

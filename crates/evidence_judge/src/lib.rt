@@ -8,6 +8,8 @@
 
 mod agents;
 pub mod evidence;
+mod lists;
 mod lookups;
+mod references;
 
 pub use evidence::Evidence;

@@ -13,7 +13,9 @@ ghost use Rattle.informer_cache.specs.declared.cache.Ask.TheVariants as asks;
 ghost use Rattle.licence_scans.specs.Keyed.{key_at};
 ghost use Rattle.licence_record.specs.Defaulted.{IsDefaultNamed};
 ghost use Rattle.evidence_pages.specs.Indexed.{IsIndexOf};
+ghost use Rattle.evidence_judge.specs.Steps.Lists.{AreListsOf};
 
+use crate::lists::Lists;
 use call_types::request::SeatKind;
 use evidence_pages::index::Index;
 use evidence_pages::newest::newest_of;
@@ -186,10 +188,13 @@ pub(crate) fn shows_unlisted(index: &Index, kind: Kind) -> bool
     is_ask(index.caches.ask(kind), Ask::List)
 }
 
-/// Whether the kind is to be watched from this version.
-pub(crate) fn shows_from(index: &Index, kind: Kind, from: Version) -> bool
-    ensures { (mine : List Entry) → IsIndexOf index.now mine → IsTrue result → IsFrom from (following_of mine kind) }
+/// Whether a watch of the kind may begin at this version: the one of its list, or the one reached since.
+pub(crate) fn shows_from(index: &Index, lists: &Lists, kind: Kind, from: Version) -> bool
+    ensures { (mine : List Entry) → IsIndexOf index.now mine → AreListsOf lists.now mine → IsTrue result → IsFrom from (following_of mine kind) }
 {
+    if lists.has(kind, from) {
+        return true;
+    }
     if !index.known {
         return false;
     }

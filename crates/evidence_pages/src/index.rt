@@ -14,7 +14,6 @@ use call_types::entry::Entry;
 use call_types::request::SeatKind;
 use informer_cache::caches::Caches;
 use kube_types::copies::{OutOfMemory, Plain};
-use kube_types::text::Text;
 use std::alloc::Global;
 
 /// What is looked up in place of the entries. Where the caches do not know, or there is no kind, the
@@ -88,18 +87,11 @@ impl Index {
         }
     }
 
-    /// Takes one more entry, which may be the first. Where it erases data, `over` names the volume over
-    /// them.
-    pub fn learn(
-        &mut self,
-        alloc: Global,
-        entry: &Entry,
-        first: bool,
-        over: Option<&Text>,
-    ) -> Result<(), OutOfMemory>
+    /// Takes one more entry, which may be the first.
+    pub fn learn(&mut self, alloc: Global, entry: &Entry, first: bool) -> Result<(), OutOfMemory>
         ensures { OnOk result ((mine : List Entry) → (first ≡ true → mine ≡ []) → IsIndexOf self.old mine → IsIndexOf self.new (entry.now ∷ mine)) }
     {
-        learn(alloc, &mut self.pages, entry, over)?;
+        learn(alloc, &mut self.pages, entry)?;
         absorb(&mut self.caches, entry)?;
         self.kind = kind_after(self.kind, first, entry.kind);
         Ok(())

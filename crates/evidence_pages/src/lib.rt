@@ -11,5 +11,7 @@ mod marks;
 pub mod newest;
 pub mod pages;
 pub mod parts;
+pub mod runs;
 pub mod sought;
 mod tellings;
+mod uses;

@@ -2,6 +2,7 @@
 //! asks reads what stands there.
 
 use crate::sought::Sought;
+use crate::uses::Uses;
 use call_types::entry::Entry;
 use call_types::reply::{Refusal, Reply};
 use call_types::request::Request;
@@ -10,6 +11,7 @@ use kube_types::copies::OutOfMemory;
 use kube_types::key::{kind_index, kind_of, meta_of};
 use kube_types::objects::{Claim, Object, Pod, Version, Volume};
 use kube_types::parts::{Kind, Policy, VolumePhase};
+use kube_types::text::Text;
 use kube_types::uid::Uid;
 use std::alloc::Global;
 use std::collections::BTreeMap;
@@ -45,8 +47,6 @@ enum Matter {
     /// The last read, and the last one that found something else.
     Read,
     OtherRead,
-    /// The last list.
-    Listed,
     /// The last answer of the back end of each sort.
     Failed,
     Erased,
@@ -103,7 +103,7 @@ fn claim_uid(volume: &Volume) -> Option<Uid> {
 }
 
 /// Whether the volume has ended and goes with its data.
-fn is_ended_for_good(volume: &Volume) -> bool {
+pub(crate) fn is_ended_for_good(volume: &Volume) -> bool {
     if !is_ended(volume.phase) {
         return false;
     }
@@ -133,11 +133,26 @@ fn found_uid(reply: &Reply) -> Option<u128> {
     }
 }
 
+/// The name of the claim that the entry at the place tells alone.
+fn claim_name<'a>(entries: &'a [Entry], place: usize) -> Option<&'a Text> {
+    if place >= entries.len() {
+        return None;
+    }
+    match &entries[place].reply {
+        Reply::Done(object) => match object {
+            Object::Claim(claim) => Some(&claim.meta.name),
+            _ => None,
+        },
+        _ => None,
+    }
+}
+
 /// The marks of the first entries of a page, `known` of them. Contracts see that number, and no place.
 pub(crate) struct Marks {
     places: BTreeMap<Mark, usize>,
     known: usize,
     found: u128,
+    uses: Uses,
 }
 
 impl Drop for Marks {
@@ -146,8 +161,10 @@ impl Drop for Marks {
             places,
             known: _,
             found: _,
+            uses,
         } = self;
         drop(places);
+        drop(uses);
     }
 }
 
@@ -166,6 +183,7 @@ impl Marks {
             places: BTreeMap::new(alloc),
             known: 0,
             found: 0,
+            uses: Uses::new(alloc),
         }
     }
 
@@ -329,6 +347,13 @@ impl Marks {
         }
     }
 
+    fn learn_list(&mut self, reply: &Reply, place: usize) -> Result<(), OutOfMemory> {
+        match reply {
+            Reply::Listed { items, version: _ } => self.uses.learn(items.as_slice(), place),
+            _ => Ok(()),
+        }
+    }
+
     fn learn(&mut self, entry: &Entry, place: usize) -> Result<(), OutOfMemory> {
         match &entry.reply {
             Reply::Done(object) => self.learn_object(object, place),
@@ -337,7 +362,7 @@ impl Marks {
                 Request::List {
                     kind: _,
                     namespace: _,
-                } => self.put(mark_alone(Matter::Listed), place),
+                } => self.learn_list(reply, place),
                 _ => self.learn_answer(reply, place),
             },
         }
@@ -404,6 +429,20 @@ impl Marks {
         }
     }
 
+    /// From the first telling of the claim, deleting, to the last list whose pods do not use it.
+    fn unused(&self, entries: &[Entry], claim: Uid) -> Option<(usize, usize)> {
+        match self.place(mark_of(Matter::DeletingClaim, claim)) {
+            None => None,
+            Some(first) => match claim_name(entries, first) {
+                None => None,
+                Some(name) => match self.uses.unused(name.as_str()) {
+                    None => None,
+                    Some(last) => Some((first, last)),
+                },
+            },
+        }
+    }
+
     /// A stretch that begins with a telling and ends with a read.
     fn stretch(&self, sought: Sought) -> Option<(usize, usize)> {
         match sought {
@@ -416,12 +455,6 @@ impl Marks {
                 self.lacking(from, claim)
             }
             Sought::Lost(claim) => self.lacking(mark_of(Matter::CompletedClaim, claim), claim),
-            Sought::Unused(claim) => {
-                self.between(
-                    mark_of(Matter::DeletingClaim, claim),
-                    mark_alone(Matter::Listed),
-                )
-            }
             Sought::Failed(given) => {
                 self.since_version(Kind::PersistentVolume, given, Matter::Failed)
             }
@@ -439,9 +472,15 @@ impl Marks {
         }
     }
 
-    /// Where what is sought on a page of this kind begins, and its last entry.
-    pub(crate) fn find(&self, kind: Kind, sought: Sought) -> Option<(usize, usize)> {
+    /// Where what is sought on a page of this kind, with these entries, begins, and its last entry.
+    pub(crate) fn find(
+        &self,
+        entries: &[Entry],
+        kind: Kind,
+        sought: Sought,
+    ) -> Option<(usize, usize)> {
         match sought {
+            Sought::Unused(claim) => self.unused(entries, claim),
             Sought::Version(given) => self.at_version(kind, given),
             Sought::Last => self.at(mark_alone(Matter::Last)),
             Sought::Claim(uid) => self.at(mark_of(Matter::Claim, uid)),

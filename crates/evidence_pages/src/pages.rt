@@ -6,20 +6,21 @@ ghost use Rattle.call_types.specs.declared.entry.Entry.{Entry};
 ghost use Rattle.evidence_pages.specs.Parts.{ArePages, IsPart, MayStandBehind};
 
 use crate::marks::Marks;
-use crate::parts::{Parts, uid_in, wanted_by};
+use crate::parts::{Parts, erased_of, failed_of, uid_in, wanted_by};
 use crate::sought::Sought;
 use call_types::entry::Entry;
 use call_types::reply::Reply;
 use kube_types::copies::{OutOfMemory, Plain, same_option};
 use kube_types::items::Items;
 use kube_types::key::{Key, kind_index, meta_of};
-use kube_types::objects::Object;
+use kube_types::objects::{DataId, Object, Version};
 use kube_types::parts::Kind;
 use kube_types::rows::{Ranked, place_of};
 use kube_types::text::Text;
 use kube_types::uid::Uid;
 use std::alloc::Global;
 use std::cmp::Ordering;
+use std::collections::BTreeMap;
 use std::marker::Model;
 
 /// What was told that speaks of one key, the oldest first.
@@ -56,15 +57,17 @@ impl<'a> Ranked<Parts<'a>> for Page {
     }
 }
 
-/// Pages in the order of their keys.
+/// Pages in the order of their keys, and by its UID what a volume is over.
 pub struct Pages {
     list: Vec<Page>,
+    sources: BTreeMap<u128, DataId>,
 }
 
 impl Drop for Pages {
     fn drop(self) {
-        let Pages { list } = self;
+        let Pages { list, sources } = self;
         drop(list);
+        drop(sources);
     }
 }
 
@@ -208,9 +211,10 @@ fn stretch_of<'a>(entries: &'a [Entry], first: usize, last: usize) -> &'a [Entry
 fn found_on<'a>(page: &'a Page, sought: Sought) -> &'a [Entry]
     ensures { (mine : List Entry) → IsPart (reverse page.now.entries) mine → IsPart (reverse result.now) mine }
 {
-    match page.marks.find(page.key.kind, sought) {
+    let entries = page.entries.as_slice();
+    match page.marks.find(entries, page.key.kind, sought) {
         None => &[],
-        Some((first, last)) => stretch_of(page.entries.as_slice(), first, last),
+        Some((first, last)) => stretch_of(entries, first, last),
     }
 }
 
@@ -244,12 +248,81 @@ fn entries_at<'a>(pages: &'a [Page], key: &Parts<'_>, sought: Sought) -> &'a [En
     }
 }
 
+/// What is sought on the page of the key, where there is one.
+fn entries_of_some<'a>(pages: &'a [Page], key: Option<Parts<'_>>, sought: Sought) -> &'a [Entry]
+    ensures { (mine : List Entry) → ArePages pages.now mine → IsPart (reverse result.now) mine }
+{
+    match key {
+        None => &[],
+        Some(key) => entries_at(pages, &key, sought),
+    }
+}
+
+/// The UID of the object of the version that the entry tells alone.
+fn uid_at(entry: &Entry, given: Option<Version>) -> Option<Uid> {
+    match &entry.reply {
+        Reply::Done(object) => {
+            let meta = meta_of(object);
+            if same_option(&Some(meta.version), &given) {
+                meta.uid
+            } else {
+                None
+            }
+        }
+        _ => None,
+    }
+}
+
+/// The UID of an object of the version that the entries tell.
+fn uid_among(entries: &[Entry], given: Option<Version>) -> Option<Uid> {
+    for entry in entries {
+        match uid_at(entry, given) {
+            None => {}
+            Some(uid) => return Some(uid),
+        }
+    }
+    None
+}
+
 impl Pages {
     pub fn new(alloc: Global) -> Pages
         ensures { result ≡ [] }
     {
         Pages {
             list: Vec::new(alloc),
+            sources: BTreeMap::new(alloc),
+        }
+    }
+
+    /// Keeps what the volume of the UID is over.
+    pub(crate) fn put_source(&mut self, volume: Option<Uid>, id: DataId) -> Result<(), OutOfMemory>
+        ensures { self.new ≡ self.old }
+    {
+        match volume {
+            None => Ok(()),
+            Some(uid) => {
+                let _ = self.sources.insert(uid.0, id)?;
+                Ok(())
+            }
+        }
+    }
+
+    /// The page of the calls by which the data of the volume were erased.
+    fn erased_key(&self, volume: Uid) -> Option<Parts<'_>> {
+        match self.sources.get(&volume.0) {
+            None => None,
+            Some(id) => Some(erased_of(id)),
+        }
+    }
+
+    /// The page of the calls that failed to erase the data of the volume that was told under the key in the version.
+    fn failed_key(&self, key: &Parts<'_>, given: Option<Version>) -> Option<Parts<'_>> {
+        match uid_among(entries_at(&self.list, key, Sought::Version(given)), given) {
+            None => None,
+            Some(uid) => match self.sources.get(&uid.0) {
+                None => None,
+                Some(id) => Some(failed_of(id)),
+            },
         }
     }
 
@@ -269,7 +342,15 @@ impl Pages {
             namespace,
             name,
         };
-        entries_at(&self.list, &key, sought)
+        match sought {
+            Sought::Failed(given) => {
+                entries_of_some(&self.list, self.failed_key(&key, given), sought)
+            }
+            Sought::Erased(volume) => {
+                entries_of_some(&self.list, self.erased_key(volume), sought)
+            }
+            _ => entries_at(&self.list, &key, sought),
+        }
     }
 
     /// The same of what is provisioned under this name.

@@ -4,6 +4,7 @@ ghost use Rattle.std.specs.Prelude.{◌≡◌, ◌++◌, [], List, ℕ, MatchOpt
 ghost use Rattle.binder_model.specs.ObjectKeys.{claim_key};
 ghost use Rattle.evidence_pages.specs.Keyed.{key_by};
 
+use kube_types::objects::DataId;
 use kube_types::parts::Kind;
 
 /// The kind, namespace and name of an object.
@@ -29,5 +30,24 @@ pub fn wanted_by<'a>(uid: &'a str) -> Parts<'a>
         kind: Kind::PersistentVolumeClaim,
         namespace: "",
         name: uid,
+    }
+}
+
+/// The page of the volumes that have ended over the data, and of the calls by which these were erased. No volume has such a
+/// key, since none is in a namespace.
+pub(crate) fn erased_of<'a>(id: &'a DataId) -> Parts<'a> {
+    Parts {
+        kind: Kind::PersistentVolume,
+        namespace: id.driver.as_str(),
+        name: id.id.as_str(),
+    }
+}
+
+/// The same of the calls that failed to erase them. No node has such a key.
+pub(crate) fn failed_of<'a>(id: &'a DataId) -> Parts<'a> {
+    Parts {
+        kind: Kind::Node,
+        namespace: id.driver.as_str(),
+        name: id.id.as_str(),
     }
 }

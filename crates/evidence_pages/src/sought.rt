@@ -35,7 +35,7 @@ pub enum Sought {
     Released { volume: Uid, claim: Uid },
     /// From the claim, completed, to the last read that found no volume for it.
     Lost(Uid),
-    /// From the claim, deleting, to the last list of pods.
+    /// From the claim, deleting, to the last list of pods of which none uses it.
     Unused(Uid),
     /// From the volume of the version to the last Erase that failed.
     Failed(Option<Version>),

@@ -7,15 +7,17 @@ ghost use Rattle.call_types.specs.declared.reply.Reply.TheVariants.{Done};
 ghost use Rattle.binder_model.specs.Told.{SomeOf, ToldObject, objects_in, objects_of_event, objects_of_events};
 ghost use Rattle.evidence_pages.specs.Parts.{ArePages};
 
+use crate::marks::is_ended_for_good;
 use crate::pages::Pages;
-use crate::parts::{Parts, uid_in, wanted_by};
+use crate::parts::{Parts, erased_of, failed_of, uid_in, wanted_by};
 use call_types::entry::Entry;
-use call_types::reply::{Change, Event, Reply};
+use call_types::reply::{Change, Event, Refusal, Reply};
 use call_types::request::{Request, SeatKind};
-use kube_types::bindings::{is_deleting, is_scheduled};
+use kube_types::bindings::{is_deleting, is_ended, is_scheduled};
 use kube_types::copies::{OutOfMemory, Plain};
+use kube_types::data::data_id;
 use kube_types::key::{kind_of, meta_of};
-use kube_types::objects::{Claim, Object, Pod, Volume};
+use kube_types::objects::{Claim, DataId, Object, Pod, Volume};
 use kube_types::parts::Kind;
 use kube_types::text::Text;
 use std::alloc::Global;
@@ -50,8 +52,47 @@ fn tell_at(
     pages.add(alloc, key, told)
 }
 
+/// Puts a volume that has ended on the pages of what is erased of its data.
+fn tell_over(
+    alloc: Global,
+    pages: &mut Pages,
+    id: &DataId,
+    volume: &Volume,
+    entry: &Entry,
+    object: &Object,
+) -> Result<(), OutOfMemory>
+    ensures { OnOk result ((mine : List Entry) → ToldObject (λ x. x ≡ object.now) mine → ArePages pages.old mine → ArePages pages.new mine) }
+{
+    tell_at(alloc, pages, &failed_of(id), entry, object)?;
+    if !is_ended_for_good(volume) {
+        return Ok(());
+    }
+    tell_at(alloc, pages, &erased_of(id), entry, object)
+}
+
+/// The same, where ops was told it and it has ended.
+fn tell_ended(
+    alloc: Global,
+    pages: &mut Pages,
+    volume: &Volume,
+    entry: &Entry,
+    object: &Object,
+) -> Result<(), OutOfMemory>
+    ensures { OnOk result ((mine : List Entry) → ToldObject (λ x. x ≡ object.now) mine → ArePages pages.old mine → ArePages pages.new mine) }
+{
+    if !entry.kind.same(&SeatKind::Ops) {
+        return Ok(());
+    }
+    if !is_ended(volume.phase) {
+        return Ok(());
+    }
+    let id = data_id(alloc, &volume.source)?;
+    tell_over(alloc, pages, &id, volume, entry, object)?;
+    pages.put_source(volume.meta.uid, id)
+}
+
 /// Puts a volume on the page of the claim that it refers to.
-fn tell_volume(
+fn tell_referring(
     alloc: Global,
     pages: &mut Pages,
     volume: &Volume,
@@ -71,6 +112,20 @@ fn tell_volume(
             tell_at(alloc, pages, &key, entry, object)
         }
     }
+}
+
+/// Puts a volume on the pages of the other keys of which it speaks.
+fn tell_volume(
+    alloc: Global,
+    pages: &mut Pages,
+    volume: &Volume,
+    entry: &Entry,
+    object: &Object,
+) -> Result<(), OutOfMemory>
+    ensures { OnOk result ((mine : List Entry) → ToldObject (λ x. x ≡ object.now) mine → ArePages pages.old mine → ArePages pages.new mine) }
+{
+    tell_ended(alloc, pages, volume, entry, object)?;
+    tell_referring(alloc, pages, volume, entry, object)
 }
 
 /// Puts a claim on the page of the volume that it names.
@@ -299,25 +354,27 @@ fn keep_provision(
     }
 }
 
-/// Puts what was erased on the page of the volume over it.
+/// The page of the calls that were answered as this one, which was to erase the data.
+fn page_of_erase<'a>(id: &'a DataId, reply: &Reply) -> Option<Parts<'a>> {
+    match reply {
+        Reply::Erased { removed: _ } => Some(erased_of(id)),
+        Reply::Refused(Refusal::BackFault { planned: _ }) => Some(failed_of(id)),
+        _ => None,
+    }
+}
+
+/// Puts a call that erased the data, or failed to, on the page of such calls.
 fn keep_erase(
     alloc: Global,
     pages: &mut Pages,
-    over: Option<&Text>,
+    id: &DataId,
     entry: &Entry,
 ) -> Result<(), OutOfMemory>
     ensures { OnOk result ((mine : List Entry) → ArePages pages.old mine → ArePages pages.new (entry.now ∷ mine)) }
 {
-    match over {
+    match page_of_erase(id, &entry.reply) {
         None => Ok(()),
-        Some(name) => {
-            let key = Parts {
-                kind: Kind::PersistentVolume,
-                namespace: "",
-                name: name.as_str(),
-            };
-            keep_at(alloc, pages, &key, entry)
-        }
+        Some(key) => keep_at(alloc, pages, &key, entry),
     }
 }
 
@@ -346,12 +403,7 @@ fn keep_list(
 
 /// Puts the whole entry on the page of what its request speaks of: a read of one key, of the pods of a
 /// namespace, or a call to the back end.
-fn keep_asked(
-    alloc: Global,
-    pages: &mut Pages,
-    entry: &Entry,
-    over: Option<&Text>,
-) -> Result<(), OutOfMemory>
+fn keep_asked(alloc: Global, pages: &mut Pages, entry: &Entry) -> Result<(), OutOfMemory>
     ensures { OnOk result ((mine : List Entry) → ArePages pages.old mine → ArePages pages.new (entry.now ∷ mine)) }
 {
     match &entry.request {
@@ -370,24 +422,18 @@ fn keep_asked(
             bytes: _,
             labels: _,
         } => keep_provision(alloc, pages, name, entry),
-        Request::Erase { id: _ } => keep_erase(alloc, pages, over, entry),
+        Request::Erase { id } => keep_erase(alloc, pages, id, entry),
         _ => Ok(()),
     }
 }
 
-/// Puts an entry, and what it tells, on the pages of the keys of which it speaks. Where it erases data,
-/// `over` names the volume over them.
-pub(crate) fn learn(
-    alloc: Global,
-    pages: &mut Pages,
-    entry: &Entry,
-    over: Option<&Text>,
-) -> Result<(), OutOfMemory>
+/// Puts an entry, and what it tells, on the pages of the keys of which it speaks.
+pub(crate) fn learn(alloc: Global, pages: &mut Pages, entry: &Entry) -> Result<(), OutOfMemory>
     ensures { OnOk result ((mine : List Entry) → ArePages pages.old mine → ArePages pages.new (entry.now ∷ mine)) }
 {
     if !entry.told {
         return Ok(());
     }
-    keep_asked(alloc, pages, entry, over)?;
+    keep_asked(alloc, pages, entry)?;
     tell_reply(alloc, pages, entry)
 }

@@ -3,6 +3,8 @@
 use Rattle.std.specs.Prelude.{ℕ, ◌==◌, ◌&&◌, Bool, false, List, [], ◌∷◌, Option, Some, None, if◌then◌else◌}
 use Rattle.std.specs.declared.result.Result.{Result}
 use Rattle.std.specs.declared.result.Result.TheVariants.{Ok, Err}
+use Rattle.kube_types.specs.declared.objects.Object.{Object}
+use Rattle.kube_types.specs.declared.objects.Object.TheVariants.{Class, Node, Volume, Claim, Pod}
 use Rattle.binder_model.specs.Fields.{is_lower_or_digit, is_name_byte}
 
 -- the fault that the first test found, else that of the next
@@ -28,3 +30,11 @@ byte_fits (Some last) byte = if byte == 46 then is_lower_or_digit last else is_n
 -- the last byte of the part that the byte stands in
 abbrev pub after_byte : ℕ → Option ℕ
 after_byte byte = if byte == 46 then None else Some byte
+
+-- the names of which none may stand twice: the claims of a pod, the finalizers of other objects
+abbrev pub names_in : Object → List (List ℕ)
+names_in (Pod p) = p.claims
+names_in (Class x) = x.meta.finalizers
+names_in (Node n) = n.meta.finalizers
+names_in (Volume v) = v.meta.finalizers
+names_in (Claim c) = c.meta.finalizers

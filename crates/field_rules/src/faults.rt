@@ -1,21 +1,23 @@
 //! Which fields of an object are invalid.
 
-ghost use Rattle.std.specs.Prelude.{◌≡◌, ◌==◌, ◌&&◌, ◌||◌, Option, false, not};
+ghost use Rattle.std.specs.Prelude.{◌≡◌, ◌==◌, ◌&&◌, ◌||◌, Option, false, not, IfOk, IfSome};
 ghost use Rattle.std.specs.List.{list_all, slice_split};
 ghost use Rattle.std.specs.Result.{result_err};
 ghost use Rattle.kube_types.specs.declared.names.Field.{Field};
 ghost use Rattle.kube_types.specs.declared.objects.Object.TheVariants as objects;
 ghost use Rattle.kube_types.specs.Bindings.{is_deleting};
+ghost use Rattle.kube_types.specs.Keys.{meta_of};
 ghost use Rattle.binder_model.specs.Fields.{adds_finalizer, is_lower_or_digit, is_name_byte, is_label, is_subdomain, is_namespace, has_no_mode, has_twice, is_nameless, keeps_class, volume_fault, claim_fault, class_fault, pod_fault, kind_fault, create_fault, changed_field, update_fault};
-ghost use Rattle.field_rules.specs.Faults.{after_byte, byte_fits, ends_well, fault_or, reads_as_label};
+ghost use Rattle.field_rules.specs.Faults.{after_byte, byte_fits, ends_well, fault_or, names_in, reads_as_label};
 
 use crate::same::{
     are_same_names, are_same_pairs, are_same_terms, is_same_amount, is_same_class, is_same_flag,
     is_same_modes, is_same_policy, is_same_selector, is_same_source, is_same_text,
 };
-use crate::twice::has_twice;
+use crate::twice::{has_twice, stands_twice};
 use finalizer_rules::adds_while_deleting;
 use kube_types::bindings::{is_completed, lacks_class};
+use kube_types::copies::OutOfMemory;
 use kube_types::key::meta_of;
 use kube_types::names::Field;
 use kube_types::objects::{Claim, Class, Meta, Object, Pod, Ref, Volume};
@@ -157,7 +159,8 @@ fn is_nameless(reference: &Option<Ref>) -> bool
 }
 
 #[tactic(auto, unfolding(binder_model::specs::Fields::volume_fault, binder_model::specs::Fields::faulty))]
-fn check_volume(memory: Option<Global>, volume: &Volume) -> Result<(), Field>
+fn check_volume(known: Option<bool>, volume: &Volume) -> Result<(), Field>
+    requires { IfSome known (λ twice. twice ≡ has_twice volume.now.meta.finalizers) }
     ensures { result_err result ≡ volume_fault volume.now }
 {
     refuse!(
@@ -165,83 +168,106 @@ fn check_volume(memory: Option<Global>, volume: &Volume) -> Result<(), Field>
         volume.amount.bytes == 0 => Field::Capacity,
         has_no_mode(volume.modes) => Field::AccessModes,
         is_nameless(&volume.claim_ref) => Field::ClaimRef,
-        has_twice(memory, &volume.meta.finalizers) => Field::Finalizers
+        has_twice(known, &volume.meta.finalizers) => Field::Finalizers
     );
     Ok(())
 }
 
 #[tactic(auto, unfolding(binder_model::specs::Fields::claim_fault, binder_model::specs::Fields::faulty))]
-fn check_claim(memory: Option<Global>, claim: &Claim) -> Result<(), Field>
+fn check_claim(known: Option<bool>, claim: &Claim) -> Result<(), Field>
+    requires { IfSome known (λ twice. twice ≡ has_twice claim.now.meta.finalizers) }
     ensures { result_err result ≡ claim_fault claim.now }
 {
     refuse!(
         !is_namespace(&claim.meta.namespace) => Field::Namespace,
         claim.amount.bytes == 0 => Field::Request,
         has_no_mode(claim.modes) => Field::AccessModes,
-        has_twice(memory, &claim.meta.finalizers) => Field::Finalizers
+        has_twice(known, &claim.meta.finalizers) => Field::Finalizers
     );
     Ok(())
 }
 
 #[tactic(auto, unfolding(binder_model::specs::Fields::class_fault, binder_model::specs::Fields::faulty))]
-fn check_class(memory: Option<Global>, class: &Class) -> Result<(), Field>
+fn check_class(known: Option<bool>, class: &Class) -> Result<(), Field>
+    requires { IfSome known (λ twice. twice ≡ has_twice class.now.meta.finalizers) }
     ensures { result_err result ≡ class_fault class.now }
 {
     refuse!(
         !class.meta.namespace.as_str().is_empty() => Field::Namespace,
         class.provisioner.as_str().is_empty() => Field::Provisioner,
-        has_twice(memory, &class.meta.finalizers) => Field::Finalizers
+        has_twice(known, &class.meta.finalizers) => Field::Finalizers
     );
     Ok(())
 }
 
 #[tactic(auto, unfolding(binder_model::specs::Fields::pod_fault, binder_model::specs::Fields::faulty))]
-fn check_pod(memory: Option<Global>, lacks_node: bool, pod: &Pod) -> Result<(), Field>
+fn check_pod(known: Option<bool>, lacks_node: bool, pod: &Pod) -> Result<(), Field>
+    requires { IfSome known (λ twice. twice ≡ has_twice pod.now.claims) }
     ensures { result_err result ≡ pod_fault lacks_node pod.now }
 {
     refuse!(
         !is_namespace(&pod.meta.namespace) => Field::Namespace,
         lacks_node => Field::NodeName,
-        pod.claims.contains("") || has_twice(memory, &pod.claims) => Field::Claims,
+        pod.claims.contains("") || has_twice(known, &pod.claims) => Field::Claims,
         !pod.meta.finalizers.as_slice().is_empty() => Field::Finalizers
     );
     Ok(())
 }
 
 #[tactic(auto, unfolding(binder_model::specs::Fields::kind_fault, binder_model::specs::Fields::faulty))]
-fn check_kind(memory: Option<Global>, lacks_node: bool, object: &Object) -> Result<(), Field>
+fn check_kind(known: Option<bool>, lacks_node: bool, object: &Object) -> Result<(), Field>
+    requires { IfSome known (λ twice. twice ≡ has_twice (names_in object.now)) }
     ensures { result_err result ≡ kind_fault lacks_node object.now }
 {
     match object {
-        Object::Class(class) => check_class(memory, class),
+        Object::Class(class) => check_class(known, class),
         Object::Node(node) => {
             refuse!(
                 !node.meta.namespace.as_str().is_empty() => Field::Namespace,
-                has_twice(memory, &node.meta.finalizers) => Field::Finalizers
+                has_twice(known, &node.meta.finalizers) => Field::Finalizers
             );
             Ok(())
         }
-        Object::Volume(volume) => check_volume(memory, volume),
-        Object::Claim(claim) => check_claim(memory, claim),
-        Object::Pod(pod) => check_pod(memory, lacks_node, pod),
+        Object::Volume(volume) => check_volume(known, volume),
+        Object::Claim(claim) => check_claim(known, claim),
+        Object::Pod(pod) => check_pod(known, lacks_node, pod),
     }
 }
 
 /// Answers the first invalid field of a new object.
 #[tactic(auto, unfolding(binder_model::specs::Fields::create_fault, binder_model::specs::Fields::faulty))]
-fn check_object(memory: Option<Global>, lacks_node: bool, object: &Object) -> Result<(), Field>
+fn check_object(known: Option<bool>, lacks_node: bool, object: &Object) -> Result<(), Field>
+    requires { IfSome known (λ twice. twice ≡ has_twice (names_in object.now)) }
     ensures { result_err result ≡ create_fault lacks_node object.now }
 {
     refuse!(!is_subdomain(&meta_of(object).name) => Field::Name);
-    check_kind(memory, lacks_node, object)
+    check_kind(known, lacks_node, object)
+}
+
+/// The names of which none may stand twice: the claims of a pod, the finalizers of other objects.
+fn names_in(object: &Object) -> &Names
+    ensures { result.now ≡ names_in object.now }
+{
+    match object {
+        Object::Class(class) => &class.meta.finalizers,
+        Object::Node(node) => &node.meta.finalizers,
+        Object::Volume(volume) => &volume.meta.finalizers,
+        Object::Claim(claim) => &claim.meta.finalizers,
+        Object::Pod(pod) => &pod.claims,
+    }
 }
 
 /// Answers the first invalid field of a new object. `lacks_node` says that a pod names a node that is
 /// not there.
-pub fn check_new(alloc: Global, lacks_node: bool, object: &Object) -> Result<(), Field>
-    ensures { result_err result ≡ create_fault lacks_node object.now }
+pub fn check_new(
+    alloc: Global,
+    lacks_node: bool,
+    object: &Object,
+) -> Result<Result<(), Field>, OutOfMemory>
+    ensures { IfOk result (λ checked. result_err checked ≡ create_fault lacks_node object.now) }
 {
-    check_object(Some(alloc), lacks_node, object)
+    let twice = stands_twice(alloc, names_in(object))?;
+    Ok(check_object(Some(twice), lacks_node, object))
 }
 
 /// Answers the first invalid field of a new object, without memory. Whether a pod's node is there is
@@ -334,29 +360,47 @@ fn keep_fixed(old: &Object, new: &Object) -> Result<(), Field>
     }
 }
 
+/// What is known of the finalizers of an object, of whose names it is known whether one stands twice.
+fn known_of_finalizers(known: Option<bool>, object: &Object) -> Option<bool>
+    requires { IfSome known (λ twice. twice ≡ has_twice (names_in object.now)) }
+    ensures { IfSome result (λ twice. twice ≡ has_twice (meta_of object.now).finalizers) }
+{
+    match object {
+        Object::Pod(_) => None,
+        Object::Class(_) | Object::Node(_) | Object::Volume(_) | Object::Claim(_) => known,
+    }
+}
+
 /// Whether finalizers are added to an object that is to be deleted, or one stands twice.
-fn has_wrong_finalizers(memory: Option<Global>, old: &Meta, finalizers: &Names) -> bool
+fn has_wrong_finalizers(known: Option<bool>, old: &Meta, finalizers: &Names) -> bool
+    requires { IfSome known (λ twice. twice ≡ has_twice finalizers.now) }
     ensures { result ≡ ((is_deleting old.now && adds_finalizer old.now.finalizers finalizers.now) || has_twice finalizers.now) }
 {
-    adds_while_deleting(old, finalizers) || has_twice(memory, finalizers)
+    adds_while_deleting(old, finalizers) || has_twice(known, finalizers)
 }
 
 /// Answers the first invalid field of an object that takes the place of the old one.
 #[tactic(auto, unfolding(binder_model::specs::Fields::update_fault, binder_model::specs::Fields::faulty))]
-fn check_change(memory: Option<Global>, old: &Object, new: &Object) -> Result<(), Field>
+fn check_change(known: Option<bool>, old: &Object, new: &Object) -> Result<(), Field>
+    requires { IfSome known (λ twice. twice ≡ has_twice (names_in new.now)) }
     ensures { result_err result ≡ update_fault old.now new.now }
 {
     keep_fixed(old, new)?;
     let finalizers = &meta_of(new).finalizers;
-    refuse!(has_wrong_finalizers(memory, meta_of(old), finalizers) => Field::Finalizers);
-    check_object(memory, false, new)
+    refuse!(has_wrong_finalizers(known_of_finalizers(known, new), meta_of(old), finalizers) => Field::Finalizers);
+    check_object(known, false, new)
 }
 
 /// Answers the first invalid field of an object that takes the place of the old one.
-pub fn check_changed(alloc: Global, old: &Object, new: &Object) -> Result<(), Field>
-    ensures { result_err result ≡ update_fault old.now new.now }
+pub fn check_changed(
+    alloc: Global,
+    old: &Object,
+    new: &Object,
+) -> Result<Result<(), Field>, OutOfMemory>
+    ensures { IfOk result (λ checked. result_err checked ≡ update_fault old.now new.now) }
 {
-    check_change(Some(alloc), old, new)
+    let twice = stands_twice(alloc, names_in(new))?;
+    Ok(check_change(Some(twice), old, new))
 }
 
 /// Answers the first invalid field of an object that takes the place of the old one, without memory.

@@ -3,7 +3,8 @@
 //!
 //! Promises: `check_create`, `check_update`, `guard` and `check_import` answer the first fault of the
 //! definition's order, and Ok exactly where there is none; `check_new` and `check_changed` do so with memory, in
-//! less time where an object has many finalizers; `admit` gives what admission makes of an object.
+//! less time where an object has many finalizers, or say that there was none left; `admit` gives what admission makes of
+//! an object.
 //! Not said: whether a pod's node is there, which only the store can know.
 #![tactic(auto)]
 

@@ -1,6 +1,6 @@
 //! Whether a name stands twice in a list.
 
-ghost use Rattle.std.specs.Prelude.{◌≡◌, ◌++◌, [], ◌∷◌, true, not, bytes_eq, IfOk};
+ghost use Rattle.std.specs.Prelude.{◌≡◌, ◌++◌, [], ◌∷◌, true, not, bytes_eq, IfOk, IfSome};
 ghost use Rattle.std.proofs.Common.{ap};
 ghost use Rattle.std.specs.Hash as fed;
 ghost use Rattle.std.specs.List.{list_any};
@@ -118,17 +118,25 @@ fn has_equal_pair(names: &[Text]) -> bool
     false
 }
 
-/// Whether a name stands twice in the list. Where memory is given, many names are kept in a set; they
-/// are compared by pairs where none is given, or none is left.
-pub(crate) fn has_twice(memory: Option<Global>, names: &Names) -> bool
+/// Whether a name stands twice in the list, by what is known of it, else by pairs.
+pub(crate) fn has_twice(known: Option<bool>, names: &Names) -> bool
+    requires { IfSome known (λ twice. twice ≡ has_twice names.now) }
     ensures { result ≡ has_twice names.now }
 {
+    match known {
+        Some(twice) => twice,
+        None => has_equal_pair(names.as_slice()),
+    }
+}
+
+/// Whether a name stands twice in the list. Many names are kept in a set, which takes memory.
+pub(crate) fn stands_twice(alloc: Global, names: &Names) -> Result<bool, OutOfMemory>
+    ensures { IfOk result (λ twice. twice ≡ has_twice names.now) }
+{
     let list = names.as_slice();
-    match memory {
-        Some(alloc) if list.len() > FEW => match finds_twice(alloc, list) {
-            Ok(twice) => twice,
-            Err(_) => has_equal_pair(list),
-        },
-        _ => has_equal_pair(list),
+    if list.len() > FEW {
+        finds_twice(alloc, list)
+    } else {
+        Ok(has_equal_pair(list))
     }
 }

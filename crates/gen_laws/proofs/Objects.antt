@@ -13,7 +13,7 @@ use Rattle.script_laws.specs.Given.{IsLineObject}
 use Rattle.script_laws.proofs.Kept.{Keeps}
 use Rattle.script_laws.proofs.Shallow.{object_less}
 use Rattle.object_laws.proofs.ExtraBack.{extra_back}
-use Rattle.script_gen.specs.Objects.{named_meta, gibibytes, class_named, node_in, volume_of, claim_of, numbered}
+use Rattle.script_gen.specs.Objects.{named_meta, gibibytes, class_named, zoned_node, volume_of, sized_claim, numbered}
 
 pub meta_given : (namespaced : Bool) (namespace name : List ℕ) → IsNamespace namespaced namespace → IsMeta namespaced (named_meta namespace name)
 meta_given namespaced namespace name is = record { namespace = is; uid = tt; version = omega arith; created = tt; deleted = tt; labels = tt; annotations = tt }
@@ -60,13 +60,13 @@ class_given name delayed = record {
   levels = (object_less (Class (class_named name delayed)) (keeps_none 125)).shallow;
 }
 
-pub node_given : (name zone : List ℕ) → IsLineObject (Node (node_in name zone))
+pub node_given : (name zone : List ℕ) → IsLineObject (Node (zoned_node name zone))
 node_given name zone = record {
   given = record {
     meta = record { namespace = refl; uid = tt; version = omega arith; created = tt; deleted = tt; labels = (tt, tt); annotations = tt };
     extra = (no_members, no_extra 125 listed.Node);
   };
-  levels = (object_less (Node (node_in name zone)) (keeps_none 124)).shallow;
+  levels = (object_less (Node (zoned_node name zone)) (keeps_none 124)).shallow;
 }
 
 pub volume_given : (i k : ℕ) (many : Bool) → k < 16 → IsLineObject (Volume (volume_of i (1 + k) many))
@@ -81,7 +81,7 @@ volume_given i k many h = record {
   levels = (object_less (Volume (volume_of i (1 + k) many)) (keeps_none 124)).shallow;
 }
 
-pub claim_given : (name : List ℕ) (k : ℕ) (class : List ℕ) → k < 16 → IsLineObject (Claim (claim_of name (1 + k) class))
+pub claim_given : (name : List ℕ) (k : ℕ) (class : List ℕ) → k < 16 → IsLineObject (Claim (sized_claim name (1 + k) class))
 claim_given name k class h = record {
   given = record {
     meta = meta_given true (codes "default") name tt;
@@ -90,5 +90,5 @@ claim_given name k class h = record {
     got = tt;
     extra = (no_members, no_extra 125 listed.Claim);
   };
-  levels = (object_less (Claim (claim_of name (1 + k) class)) (keeps_none 124)).shallow;
+  levels = (object_less (Claim (sized_claim name (1 + k) class)) (keeps_none 124)).shallow;
 }

@@ -13,7 +13,7 @@ use Rattle.call_types.specs.declared.setup.Pool.{Pool}
 use Rattle.call_types.specs.declared.setup.Setup.{Setup}
 use Rattle.binder_model.specs.Imports.{PassAfter}
 use Rattle.object_print.specs.Objects.{object_data}
-use Rattle.object_laws.specs.Given.{IsGiven}
+use Rattle.object_laws.specs.Given.{IsGivenObject}
 use Rattle.history_text.specs.Entries.{seat_word, entry_pairs, entry_data, pool_pairs, pool_data, setup_pairs, setup_data}
 use Rattle.history_lines.specs.Words.{seat_named}
 use Rattle.history_lines.specs.Members.{number_in, object_in, some_list_from}
@@ -52,9 +52,9 @@ pool_back : (p : Pool) → IsPool p → pool_in (pool_data p) ≡ Some p
 unfolding pool_in pool_data
 pool_back p is = ap pool_at (looked (pool_pairs p)) ∙ pool_found p.name p.provisioner p.bytes p.topology
 
-imports_back : (os : List Object) → All IsGiven os → some_list_from object_in (filled_array object_data os) ≡ Some os
+imports_back : (os : List Object) → All IsGivenObject os → some_list_from object_in (filled_array object_data os) ≡ Some os
 imports_back [] is = refl
-imports_back (o ∷ os) is = list_back object_in object_data IsGiven object_again (o ∷ os) is
+imports_back (o ∷ os) is = list_back object_in object_data IsGivenObject object_again (o ∷ os) is
 
 -- what a world asks of imports is what is tested
 passes_back : (before os : List Object) → PassAfter before os → pass_after before os ≡ true

@@ -28,7 +28,7 @@ use Rattle.call_types.specs.declared.setup.Pool.{Pool}
 use Rattle.call_types.specs.declared.setup.Setup.{Setup}
 use Rattle.object_print.specs.Metadata.{uid_data}
 use Rattle.object_print.specs.Objects.{object_data}
-use Rattle.object_laws.specs.Given.{IsGiven, IsUid}
+use Rattle.object_laws.specs.Given.{IsGivenObject, IsUid}
 use Rattle.object_laws.proofs.Canonical.{object_good}
 use Rattle.object_laws.proofs.CanonicalParts.{good_object_of, good_filled, good_option, good_filled_pairs, good_modes}
 use Rattle.history_text.specs.Requests.{two_texts, key_pairs, edit_pairs, amount_text, status_pairs, ask_word, argument_pairs, request_data}
@@ -145,14 +145,14 @@ good_refusal n (refusals.BackFault planned) is = (good_string, (good_number plan
 good_refusal n (refusals.StaleEpoch current) is = (good_string, (good_number current is, tt))
 good_refusal n (refusals.Assigned node) is = (good_string, (good_string, tt))
 
-good_told : (o : Object) → IsGiven o → Good 129 (object_data o)
+good_told : (o : Object) → IsGivenObject o → Good 129 (object_data o)
 good_told o is = deeper (deeper (object_good o is))
 
 good_reply_pairs : (r : Reply) → IsReply r → GoodPairs 129 (reply_pairs r)
 good_reply_pairs (replies.Done o) is = (good_told o is, tt)
 good_reply_pairs (replies.Left o) is = (good_told o is, tt)
 good_reply_pairs (replies.Found o) is = (good_told o is, tt)
-good_reply_pairs (replies.Listed items version) is = (deeper (good_listed 127 object_data IsGiven object_good items is.0), (good_number version is.1, tt))
+good_reply_pairs (replies.Listed items version) is = (deeper (good_listed 127 object_data IsGivenObject object_good items is.0), (good_number version is.1, tt))
 good_reply_pairs (replies.Events events) is = (good_listed 128 event_data IsEvent good_event events.events is.events, (good_number events.upto is.upto, tt))
 good_reply_pairs (replies.Provisioned id topology) is = (good_string, (good_string, good_topology 129 topology))
 good_reply_pairs (replies.Erased removed) is = (good_boolean removed, tt)
@@ -178,16 +178,16 @@ good_pool : (p : Pool) → IsPool p → Good 127 (pool_data p)
 unfolding pool_data
 good_pool p is = good_object_of 126 (pool_pairs p) (good_number p.bytes is, (good_string, (good_string, good_topology 126 p.topology)))
 
-good_imports : (os : List Object) → All IsGiven os → GoodOption 128 (filled_array object_data os)
+good_imports : (os : List Object) → All IsGivenObject os → GoodOption 128 (filled_array object_data os)
 good_imports [] is = tt
-good_imports (o ∷ os) is = good_listed 127 object_data IsGiven object_good (o ∷ os) is
+good_imports (o ∷ os) is = good_listed 127 object_data IsGivenObject object_good (o ∷ os) is
 
-good_parts : (s : Setup) → All IsPool s.pools → All IsNumber s.faults → All IsGiven s.imports → Good 129 (object_of (setup_pairs s))
+good_parts : (s : Setup) → All IsPool s.pools → All IsNumber s.faults → All IsGivenObject s.imports → Good 129 (object_of (setup_pairs s))
 good_parts s pools faults imports =
     good_object_of 128 (setup_pairs s)
     (good_listed 127 number_data IsNumber (λ n h. good_number n h) s.faults faults, (good_imports s.imports imports, (good_listed 127 pool_data IsPool good_pool s.pools pools, tt)))
 
-pub good_setup : (s : Setup) → All IsPool s.pools → All IsNumber s.faults → All IsGiven s.imports → Good 130 (setup_data s)
+pub good_setup : (s : Setup) → All IsPool s.pools → All IsNumber s.faults → All IsGivenObject s.imports → Good 130 (setup_data s)
 unfolding setup_data
 good_setup s pools faults imports = good_object_of 129 ((codes "setup", Some (object_of (setup_pairs s))) ∷ []) (good_parts s pools faults imports, tt)
 

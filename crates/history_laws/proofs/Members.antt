@@ -23,7 +23,7 @@ use Rattle.object_print.specs.Objects.{object_data}
 use Rattle.object_text.specs.declared.errors.Member.TheVariants as members
 use Rattle.object_text.specs.MemberReaders.{pairs_in, pairs_or_none}
 use Rattle.object_text.specs.PartReaders.{amount_from}
-use Rattle.object_laws.specs.Given.{IsGiven, IsAmount, IsUid}
+use Rattle.object_laws.specs.Given.{IsGivenObject, IsAmount, IsUid}
 use Rattle.object_laws.proofs.Back.{object_back}
 use Rattle.object_laws.proofs.PartsBack.{modes_items, pairs_back}
 use Rattle.history_text.specs.Requests.{amount_text}
@@ -73,7 +73,7 @@ some_amount_back (Some a) is = next (λ v. Some (Some v)) (quantity_back a is)
 
 -- ---- objects, lists and maps
 
-pub object_again : (o : Object) → IsGiven o → object_in (object_data o) ≡ Some o
+pub object_again : (o : Object) → IsGivenObject o → object_in (object_data o) ≡ Some o
 object_again o is = ap taken (object_back o is)
 
 items_back : {X : Type 0} (read : Data → Option X) (data_of : X → Data) (P : X → Type 0) → ((x : X) → P x → read (data_of x) ≡ Some x) → (xs found : List X) → All P xs → items_from read (items_data data_of xs) found ≡ Some (found ++ xs)

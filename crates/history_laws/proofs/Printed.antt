@@ -11,7 +11,7 @@ use Rattle.history_read.specs.declared.errors.Reason.{Reason}
 use Rattle.history_read.specs.declared.errors.Reason.TheVariants.{MissingEnd}
 use Rattle.history_read.specs.declared.errors.BadLine.{BadLine}
 use Rattle.history_type.specs.declared.History.{History}
-use Rattle.history_read.specs.Grammar.{lines_in, lines_of, in_line, refused, at_line, entries_from, with_setup, history_in}
+use Rattle.history_read.specs.Grammar.{lines_in, lines_of, in_line, refused_line, at_line, entries_from, with_setup, history_in}
 use Rattle.history_laws.specs.Texts.{lines_before_end, IsRest}
 use Rattle.history_laws.specs.Laws.{ReadIsPrinted}
 use Rattle.history_laws.proofs.LinesRead.{entry_printed, setup_printed, in_line_gives}
@@ -52,7 +52,7 @@ one_more part next parts found all e is r = record {
 same_ok : {X : Type 0} (a b : X) → ◌≡◌ {A = Result X BadLine} (Ok a) (Ok b) → b ≡ a
 same_ok a b h = cc
 
-no_end : (n : ℕ) (r : Result Entry Reason) (all : List Entry) → at_line n r (λ e. refused (n + 1) MissingEnd) ≡ Ok all → ⊥
+no_end : (n : ℕ) (r : Result Entry Reason) (all : List Entry) → at_line n r (λ e. refused_line (n + 1) MissingEnd) ≡ Ok all → ⊥
 no_end n (Ok e) all h = cc
 no_end n (Err reason) all h = cc
 
@@ -61,7 +61,7 @@ entries_are n [] found all h = absurd (cc)
 entries_are n ([] ∷ []) found all h = absurd (cc)
 entries_are n ((b ∷ bs) ∷ []) found all h = by (bytes_eq (b ∷ bs) (codes "end")) refl h
   where
-    by : (t : Bool) → bytes_eq (b ∷ bs) (codes "end") ≡ t → (if t then Ok found else at_line n (in_line entry_of (b ∷ bs)) (λ e. refused (n + 1) MissingEnd)) ≡ Ok all → AreRead ((b ∷ bs) ∷ []) found all
+    by : (t : Bool) → bytes_eq (b ∷ bs) (codes "end") ≡ t → (if t then Ok found else at_line n (in_line entry_of (b ∷ bs)) (λ e. refused_line (n + 1) MissingEnd)) ≡ Ok all → AreRead ((b ∷ bs) ∷ []) found all
     by true is same = ends_here (b ∷ bs) [] found all is (same_ok found all same) [] tt (sym (append-nil (b ∷ bs)))
     by false is same = absurd (no_end n (in_line entry_of (b ∷ bs)) all same)
 entries_are n (part ∷ next ∷ parts) found all h = by (bytes_eq part (codes "end")) (in_line entry_of part) refl refl (λ e k. entries_are (n + 1) (next ∷ parts) (found ++ e ∷ []) all k) h
@@ -94,7 +94,7 @@ same_history : (s : Setup) (r : Result (List Entry) BadLine) (h : History) → w
 same_history s (Ok es) h is = (es, refl, sym (same_ok (record { setup = s; entries = es }) h is))
 same_history s (Err b) h is = absurd (cc)
 
-alone : (r : Result Setup Reason) (h : History) → at_line 1 r (λ x. with_setup x (refused 2 MissingEnd)) ≡ Ok h → ⊥
+alone : (r : Result Setup Reason) (h : History) → at_line 1 r (λ x. with_setup x (refused_line 2 MissingEnd)) ≡ Ok h → ⊥
 alone (Ok x) h is = cc
 alone (Err reason) h is = cc
 

@@ -4,7 +4,7 @@ use Rattle.std.specs.List.{All}
 use Rattle.serde_json.specs.Data.{Data}
 use Rattle.plain_data.specs.Pairs.{ArePairs}
 use Rattle.kube_types.specs.Named.{volume_phase_named, claim_phase_named}
-use Rattle.object_laws.specs.Given.{IsGiven, IsAmount, IsUid}
+use Rattle.object_laws.specs.Given.{IsGivenObject, IsAmount, IsUid}
 use Rattle.history_lines.specs.declared.words.AskWord.{AskWord}
 use Rattle.history_lines.specs.declared.words.AskWord.TheVariants as asks
 use Rattle.history_lines.specs.declared.words.ReplyWord.{ReplyWord}
@@ -12,7 +12,7 @@ use Rattle.history_lines.specs.declared.words.ReplyWord.TheVariants as words
 use Rattle.history_lines.specs.declared.words.RefusalWord.{RefusalWord}
 use Rattle.history_lines.specs.declared.words.RefusalWord.TheVariants as names
 use Rattle.history_lines.specs.Words.{ask_named, replied_word, all_replies, refusal_named, change_named, field_named, rule_named}
-use Rattle.history_lines.specs.Members.{Look, look_in, standing, text_at, some_text_at, number_at, some_number_at, flag_at, uid_in, uid_at, some_uid_at, some_amount_at, object_in, object_at, list_at, modes_at, some_labels_at, kind_at, key_at, data_id_at, topology_at}
+use Rattle.history_lines.specs.Members.{Look, look_in, standing, text_at, some_text_at, number_at, some_number_at, flag_at, uid_in, uid_at, some_uid_at, some_amount_at, object_in, object_at, list_at, modes_at, some_labels_at, kind_at, key_at, data_id_at, some_topology_at}
 use Rattle.history_lines.specs.Requests.{edit_at, status_from, status_at, request_by, request_in}
 use Rattle.history_lines.specs.Replies.{event_in, mounted_in, refusal_by, refusal_at, reply_by, reply_in}
 use Rattle.history_laws.specs.Given.{IsNumber, IsStatus, IsRequest, IsEvent, IsMountRow, IsRefusal, IsReply}
@@ -30,9 +30,9 @@ status_given m = by (m (codes "modes"))
         step (λ a. IfSome a IsAmount) IsStatus (some_amount_at (codes "amount") m) _ (some_amount_given (codes "amount") m) (λ a is. is))))
 
 by_request : (ask : AskWord) (m : Look) → AllRead m → IfSome (request_by ask m) IsRequest
-by_request asks.Create m all = step IsGiven IsRequest (object_at (codes "object") m) _ (object_at_given (codes "object") m all) (λ o is. is)
+by_request asks.Create m all = step IsGivenObject IsRequest (object_at (codes "object") m) _ (object_at_given (codes "object") m all) (λ o is. is)
 by_request asks.Update m all =
-    step IsGiven IsRequest (object_at (codes "object") m) _ (object_at_given (codes "object") m all) (λ o is.
+    step IsGivenObject IsRequest (object_at (codes "object") m) _ (object_at_given (codes "object") m all) (λ o is.
     step IsSomeNumber IsRequest (some_number_at (codes "version") m) _ (some_number_given (codes "version") m all) (λ v number. (is, number)))
 by_request asks.Status m all =
     past IsRequest (key_at m) _ (λ key.
@@ -85,7 +85,7 @@ unfolding event_in
 event_given d t =
     let m : Look = look_in d in
     past IsEvent (text_at (codes "change") m) _ (λ word. past IsEvent (change_named word) _ (λ change.
-    step IsGiven IsEvent (object_at (codes "object") m) _ (object_at_given (codes "object") m (looks d t)) (λ o is.
+    step IsGivenObject IsEvent (object_at (codes "object") m) _ (object_at_given (codes "object") m (looks d t)) (λ o is.
     step IsNumber IsEvent (number_at (codes "version") m) _ (number_at_given (codes "version") m (looks d t)) (λ n number.
     record { object = is; version = number }))))
 
@@ -112,16 +112,16 @@ refusal_given : (m : Look) → AllRead m → IfSome (refusal_at m) IsRefusal
 refusal_given m all = past IsRefusal (text_at (codes "refused") m) _ (λ word. past IsRefusal (refusal_named word) _ (λ name. by_refusal name m all))
 
 by_reply : (word : ReplyWord) (m : Look) → AllRead m → IfSome (reply_by word m) IsReply
-by_reply words.Done m all = step IsGiven IsReply (object_at (codes "done") m) _ (object_at_given (codes "done") m all) (λ o is. is)
-by_reply words.Left m all = step IsGiven IsReply (object_at (codes "left") m) _ (object_at_given (codes "left") m all) (λ o is. is)
-by_reply words.Found m all = step IsGiven IsReply (object_at (codes "found") m) _ (object_at_given (codes "found") m all) (λ o is. is)
+by_reply words.Done m all = step IsGivenObject IsReply (object_at (codes "done") m) _ (object_at_given (codes "done") m all) (λ o is. is)
+by_reply words.Left m all = step IsGivenObject IsReply (object_at (codes "left") m) _ (object_at_given (codes "left") m all) (λ o is. is)
+by_reply words.Found m all = step IsGivenObject IsReply (object_at (codes "found") m) _ (object_at_given (codes "found") m all) (λ o is. is)
 by_reply words.Listed m all =
-    step (All IsGiven) IsReply (list_at object_in (codes "items") m) _ (list_at_given object_in IsGiven object_in_given (codes "items") m all) (λ os are.
+    step (All IsGivenObject) IsReply (list_at object_in (codes "items") m) _ (list_at_given object_in IsGivenObject object_in_given (codes "items") m all) (λ os are.
     step IsNumber IsReply (number_at (codes "listed") m) _ (number_at_given (codes "listed") m all) (λ n number. (are, number)))
 by_reply words.Events m all =
     step (All IsEvent) IsReply (list_at event_in (codes "events") m) _ (list_at_given event_in IsEvent event_given (codes "events") m all) (λ es are.
     step IsNumber IsReply (number_at (codes "upto") m) _ (number_at_given (codes "upto") m all) (λ n number. record { events = are; upto = number }))
-by_reply words.Provisioned m all = past IsReply (data_id_at m) _ (λ id. past IsReply (topology_at m) _ (λ topology. tt))
+by_reply words.Provisioned m all = past IsReply (data_id_at m) _ (λ id. past IsReply (some_topology_at m) _ (λ topology. tt))
 by_reply words.Erased m all = past IsReply (flag_at (codes "erased") m) _ (λ removed. tt)
 by_reply words.Epoch m all = step IsNumber IsReply (number_at (codes "epoch") m) _ (number_at_given (codes "epoch") m all) (λ n is. is)
 by_reply words.Mounted m all = step (All IsMountRow) IsReply (list_at mounted_in (codes "mounted") m) _ (list_at_given mounted_in IsMountRow mounted_given (codes "mounted") m all) (λ rows are. are)

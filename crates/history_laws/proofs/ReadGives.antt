@@ -10,12 +10,12 @@ use Rattle.call_types.specs.declared.entry.Entry.{Entry}
 use Rattle.call_types.specs.declared.setup.Pool.{Pool}
 use Rattle.call_types.specs.declared.setup.Setup.{Setup}
 use Rattle.object_text.specs.Reading.{value_in, value_of}
-use Rattle.object_laws.specs.Given.{IsGiven}
+use Rattle.object_laws.specs.Given.{IsGivenObject}
 use Rattle.object_laws.proofs.GivesParts.{of_ok}
 use Rattle.object_laws.proofs.PartsRead.{read_taken}
 use Rattle.history_text.specs.Entries.{entry_data, entry_line, setup_data, setup_line}
 use Rattle.history_lines.specs.Answers.{◌>>=◌, taken}
-use Rattle.history_lines.specs.Members.{Look, look_in, text_at, number_in, number_at, flag_at, object_in, list_at, some_list_at, topology_at}
+use Rattle.history_lines.specs.Members.{Look, look_in, text_at, number_in, number_at, flag_at, object_in, list_at, some_list_at, some_topology_at}
 use Rattle.history_lines.specs.Requests.{request_in}
 use Rattle.history_lines.specs.Replies.{reply_in}
 use Rattle.history_lines.specs.Entries.{printed_as, asked_at, seat_kind_at, replied_at, entry_in, entry_of, pool_in, rise, imports_pass, parts_with, parts_in, setup_in, setup_of}
@@ -104,16 +104,16 @@ record HasLists (s : Setup) : Type 0 where
   pub pools : All IsPool s.pools
   pub faults : All IsNumber s.faults
   pub rising : rise s.faults ≡ true
-  pub imports : All IsGiven s.imports
+  pub imports : All IsGivenObject s.imports
 
 pool_given : (d : Data) → IsRead d → IfSome (pool_in d) IsPool
 unfolding pool_in
 pool_given d t =
     let m : Look = look_in d in
     step IsNumber IsPool (number_at (codes "bytes") m) _ (number_at_given (codes "bytes") m (looks d t)) (λ n number.
-    past IsPool (text_at (codes "name") m) _ (λ name. past IsPool (text_at (codes "provisioner") m) _ (λ provisioner. past IsPool (topology_at m) _ (λ topology. number))))
+    past IsPool (text_at (codes "name") m) _ (λ name. past IsPool (text_at (codes "provisioner") m) _ (λ provisioner. past IsPool (some_topology_at m) _ (λ topology. number))))
 
-lists_with : (pools : List Pool) (faults : List ℕ) (imports : List Object) → All IsPool pools → All IsNumber faults → All IsGiven imports → IfSome (parts_with pools faults imports) HasLists
+lists_with : (pools : List Pool) (faults : List ℕ) (imports : List Object) → All IsPool pools → All IsNumber faults → All IsGivenObject imports → IfSome (parts_with pools faults imports) HasLists
 lists_with pools faults imports a b c = by (rise faults) (imports_pass imports) refl
   where
     by : (r p : Bool) → rise faults ≡ r → IfSome (if r && p then Some (record { pools = pools; faults = faults; imports = imports }) else None) HasLists
@@ -126,7 +126,7 @@ unfolding parts_in
 lists_given d t =
     let m : Look = look_in d in
     step (All IsNumber) HasLists (list_at number_in (codes "faults") m) _ (list_at_given number_in IsNumber number_in_given (codes "faults") m (looks d t)) (λ faults b.
-    step (All IsGiven) HasLists (some_list_at object_in (codes "imports") m) _ (some_list_given object_in IsGiven object_in_given (codes "imports") m (looks d t)) (λ imports c.
+    step (All IsGivenObject) HasLists (some_list_at object_in (codes "imports") m) _ (some_list_given object_in IsGivenObject object_in_given (codes "imports") m (looks d t)) (λ imports c.
     step (All IsPool) HasLists (list_at pool_in (codes "pools") m) _ (list_at_given pool_in IsPool pool_given (codes "pools") m (looks d t)) (λ pools a.
     lists_with pools faults imports a b c)))
 

@@ -20,7 +20,7 @@ use Rattle.object_text.specs.declared.errors.Member.TheVariants as members
 use Rattle.object_text.specs.MemberReaders.{pairs_in, pairs_or_none}
 use Rattle.object_text.specs.PartReaders.{quantity_text, amount_from, amount_in}
 use Rattle.object_text.specs.Reading.{object_of}
-use Rattle.object_laws.specs.Given.{IsGiven, IsAmount, IsUid}
+use Rattle.object_laws.specs.Given.{IsGivenObject, IsAmount, IsUid}
 use Rattle.object_laws.proofs.GivesParts.{past as then_past, pairs_given}
 use Rattle.object_laws.proofs.Gives.{IsSound, sound_given}
 use Rattle.object_laws.proofs.PartsRead.{IsTaken, AreTaken, HasTakenParts, taken_reads, taken_parts, taken_member}
@@ -134,11 +134,11 @@ some_amount_given k m = by (m k)
 
 -- ---- objects, lists and maps
 
-pub object_in_given : (d : Data) → IsRead d → IfSome (object_in d) IsGiven
-object_in_given d t = of_taken IsGiven (object_of d) (sound_given d (sound d t))
+pub object_in_given : (d : Data) → IsRead d → IfSome (object_in d) IsGivenObject
+object_in_given d t = of_taken IsGivenObject (object_of d) (sound_given d (sound d t))
 
-pub object_at_given : (k : List ℕ) (m : Look) → AllRead m → IfSome (object_at k m) IsGiven
-object_at_given k m all = step IsRead IsGiven (m k) object_in (all k) object_in_given
+pub object_at_given : (k : List ℕ) (m : Look) → AllRead m → IfSome (object_at k m) IsGivenObject
+object_at_given k m all = step IsRead IsGivenObject (m k) object_in (all k) object_in_given
 
 items_given : {X : Type 0} (read : Data → Option X) (P : X → Type 0) → ((d : Data) → IsRead d → IfSome (read d) P) → (ds : Items) → AreTaken 126 ds → (found : List X) → All P found → IfSome (items_from read ds found) (All P)
 items_given read P each no_items t found h = h

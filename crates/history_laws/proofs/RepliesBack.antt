@@ -15,7 +15,7 @@ use Rattle.call_types.specs.declared.reply.Reply.{Reply}
 use Rattle.call_types.specs.declared.reply.Reply.TheVariants as replies
 use Rattle.object_print.specs.Metadata.{uid_data}
 use Rattle.object_print.specs.Objects.{object_data}
-use Rattle.object_laws.specs.Given.{IsGiven, IsUid}
+use Rattle.object_laws.specs.Given.{IsGivenObject, IsUid}
 use Rattle.history_text.specs.Replies.{change_word, event_pairs, event_data, mount_pairs, mount_data, refusal_pairs, reply_pairs, reply_data}
 use Rattle.history_lines.specs.Answers.{◌>>=◌}
 use Rattle.history_lines.specs.Words.{change_named, field_named, rule_named}
@@ -104,7 +104,7 @@ reply_found : (r : Reply) → IsReply r → reply_at (shown (reply_pairs r)) ≡
 reply_found (replies.Done o) is = next (λ x. Some (replies.Done x)) (object_again o is)
 reply_found (replies.Left o) is = next (λ x. Some (replies.Left x)) (object_again o is)
 reply_found (replies.Found o) is = next (λ x. Some (replies.Found x)) (object_again o is)
-reply_found (replies.Listed items version) is = rw (list_back object_in object_data IsGiven object_again items is.0) refl
+reply_found (replies.Listed items version) is = rw (list_back object_in object_data IsGivenObject object_again items is.0) refl
 reply_found (replies.Events events) is = rw (list_back event_in event_data IsEvent event_back events.events is.events) refl
 reply_found (replies.Provisioned id None) is = refl
 reply_found (replies.Provisioned id (Some t)) is = refl

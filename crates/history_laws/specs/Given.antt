@@ -20,7 +20,7 @@ use Rattle.call_types.specs.declared.setup.Setup.{Setup}
 use Rattle.binder_model.specs.Imports.{ImportsPass}
 use Rattle.history_text.specs.Entries.{entry_data, setup_data}
 use Rattle.history_lines.specs.Entries.{rise}
-use Rattle.object_laws.specs.Given.{IsGiven, IsAmount, IsUid}
+use Rattle.object_laws.specs.Given.{IsGivenObject, IsAmount, IsUid}
 
 -- a number of 64 bits
 abbrev pub IsNumber : ℕ → Type 0
@@ -31,8 +31,8 @@ IsStatus (statuses.Volume phase) = ⊤
 IsStatus (statuses.Claim phase modes amount) = IfSome amount IsAmount
 
 abbrev pub IsRequest : Request → Type 0
-IsRequest (asks.Create object) = IsGiven object
-IsRequest (asks.Update object version) = IsGiven object × IfSome version IsNumber
+IsRequest (asks.Create object) = IsGivenObject object
+IsRequest (asks.Update object version) = IsGivenObject object × IfSome version IsNumber
 IsRequest (asks.UpdateStatus key status version) = IsStatus status × IfSome version IsNumber
 IsRequest (asks.Edit key edit) = ⊤
 IsRequest (asks.Delete key uid) = IfSome uid IsUid
@@ -50,7 +50,7 @@ IsRequest (asks.Unmount node epoch pod) = IsNumber epoch × IsUid pod
 IsRequest (asks.SetTime moment) = ⊤
 
 pub record IsEvent (e : Event) : Type 0 where
-  pub object : IsGiven e.object
+  pub object : IsGivenObject e.object
   pub version : IsNumber e.version
 
 pub record IsMountRow (row : MountRow) : Type 0 where
@@ -74,10 +74,10 @@ IsRefusal (refusals.StaleEpoch current) = IsNumber current
 IsRefusal (refusals.Assigned node) = ⊤
 
 abbrev pub IsReply : Reply → Type 0
-IsReply (replies.Done object) = IsGiven object
-IsReply (replies.Left object) = IsGiven object
-IsReply (replies.Found object) = IsGiven object
-IsReply (replies.Listed items version) = All IsGiven items × IsNumber version
+IsReply (replies.Done object) = IsGivenObject object
+IsReply (replies.Left object) = IsGivenObject object
+IsReply (replies.Found object) = IsGivenObject object
+IsReply (replies.Listed items version) = All IsGivenObject items × IsNumber version
 IsReply (replies.Events events) = AreEvents events
 IsReply (replies.Provisioned id topology) = ⊤
 IsReply (replies.Erased removed) = ⊤
@@ -99,7 +99,7 @@ pub record IsSetup (s : Setup) : Type 0 where
   pub pools : All IsPool s.pools
   pub faults : All IsNumber s.faults
   pub rising : rise s.faults ≡ true
-  pub imports : All IsGiven s.imports
+  pub imports : All IsGivenObject s.imports
   pub passing : ImportsPass s.imports
 
 pub record IsTextHistory (s : Setup) (es : List Entry) : Type 0 where

@@ -11,7 +11,7 @@ use Rattle.binder_model.specs.Imports.{import_fault, PassAfter, ImportsPass}
 use Rattle.object_text.specs.Reading.{value_of}
 use Rattle.history_text.specs.Entries.{setup_line}
 use Rattle.history_lines.specs.declared.errors.Unread.{Unread}
-use Rattle.history_lines.specs.Answers.{◌>>=◌, taken, Gives}
+use Rattle.history_lines.specs.Answers.{◌>>=◌, taken, PartGives}
 use Rattle.history_lines.specs.Members.{Look, look_in, number_in, object_in, list_at, some_list_at}
 use Rattle.history_lines.specs.Entries.{pass_after, rise, pool_in, parts_with, parts_at, parts_in, setup_in, printed_as, setup_of}
 
@@ -79,6 +79,6 @@ setup_passes line s h =
     let a = step (taken (value_of line)) (λ d. setup_in d >>= λ t. printed_as setup_line line t) s h in
     printed_passing line (setup_in a.0) s (read_passing a.0) a.1
 
-pub read_passes : (line : List ℕ) (r : Result Setup Unread) → Gives r (setup_of line) → IfOk r (λ s. ImportsPass s.imports)
+pub read_passes : (line : List ℕ) (r : Result Setup Unread) → PartGives r (setup_of line) → IfOk r (λ s. ImportsPass s.imports)
 read_passes line (Ok s) is = setup_passes line s is
 read_passes line (Err e) is = tt

@@ -3,9 +3,9 @@ use Rattle.std.proofs.Common.{Result, ap}
 use Rattle.object_text.specs.declared.errors.ObjectError.{ObjectError}
 use Rattle.object_text.specs.declared.errors.ObjectError.TheVariants as objects
 use Rattle.object_text.specs.Answers as manifests
-use Rattle.history_lines.specs.Answers.{taken, unread_of, Fails}
+use Rattle.history_lines.specs.Answers.{taken, unread_of, PartFails}
 
-pub taken_fails : {X : Type 0} (e : ObjectError) (answer : Result X ObjectError) → manifests.Fails e answer → Fails (unread_of e) (taken answer)
+pub taken_fails : {X : Type 0} (e : ObjectError) (answer : Result X ObjectError) → manifests.Fails e answer → PartFails (unread_of e) (taken answer)
 taken_fails objects.OutOfMemory answer h = tt
 taken_fails objects.NotJson answer h = ap taken h
 taken_fails objects.NotObject answer h = ap taken h

@@ -30,16 +30,16 @@ unread_of (objects.BadQuantity m) = NotCanonical
 
 -- ---- answers
 
-abbrev pub Fails : {X : Type 0} → Unread → Option X → Type 0
-Fails OutOfMemory answer = ⊤
-Fails NotCanonical answer = answer ≡ None
+abbrev pub PartFails : {X : Type 0} → Unread → Option X → Type 0
+PartFails OutOfMemory answer = ⊤
+PartFails NotCanonical answer = answer ≡ None
 
 -- the result is this answer, unless memory was wanting
-abbrev pub Gives : {X : Type 0} → Result X Unread → Option X → Type 0
-Gives (Ok x) answer = answer ≡ Some x
-Gives (Err e) answer = Fails e answer
+abbrev pub PartGives : {X : Type 0} → Result X Unread → Option X → Type 0
+PartGives (Ok x) answer = answer ≡ Some x
+PartGives (Err e) answer = PartFails e answer
 
 -- the same, where the result is seen by a view
-abbrev pub GivesBy : {X Y : Type 0} → (X → Y) → Result X Unread → Option Y → Type 0
-GivesBy view (Ok x) answer = answer ≡ Some (view x)
-GivesBy view (Err e) answer = Fails e answer
+abbrev pub PartGivesBy : {X Y : Type 0} → (X → Y) → Result X Unread → Option Y → Type 0
+PartGivesBy view (Ok x) answer = answer ≡ Some (view x)
+PartGivesBy view (Err e) answer = PartFails e answer

@@ -14,7 +14,7 @@ use Rattle.object_text.specs.Reading.{value_of}
 use Rattle.history_text.specs.Entries.{entry_line, setup_line}
 use Rattle.history_lines.specs.Answers.{◌>>=◌, taken}
 use Rattle.history_lines.specs.Words.{seat_named}
-use Rattle.history_lines.specs.Members.{Look, look_in, text_at, number_in, number_at, flag_at, object_in, list_at, some_list_at, topology_at}
+use Rattle.history_lines.specs.Members.{Look, look_in, text_at, number_in, number_at, flag_at, object_in, list_at, some_list_at, some_topology_at}
 use Rattle.history_lines.specs.Requests.{request_in}
 use Rattle.history_lines.specs.Replies.{reply_in}
 
@@ -59,7 +59,7 @@ pool_at m = do
   bytes ← number_at (codes "bytes") m
   name ← text_at (codes "name") m
   provisioner ← text_at (codes "provisioner") m
-  topology ← topology_at m
+  topology ← some_topology_at m
   Some (record { name = name; provisioner = provisioner; bytes = bytes; topology = topology })
 
 unfoldable pub pool_in : Data → Option Pool

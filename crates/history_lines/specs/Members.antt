@@ -158,5 +158,5 @@ abbrev pub topology_from : Option Data → Look → Option (Option (List ℕ × 
 topology_from None m = Some None
 topology_from (Some d) m = text_in (Some d) >>= λ label. text_at (codes "value") m >>= λ value. Some (Some (label, value))
 
-abbrev pub topology_at : Look → Option (Option (List ℕ × List ℕ))
-topology_at m = topology_from (m (codes "label")) m
+abbrev pub some_topology_at : Look → Option (Option (List ℕ × List ℕ))
+some_topology_at m = topology_from (m (codes "label")) m

@@ -14,7 +14,7 @@ use Rattle.history_lines.specs.declared.words.RefusalWord.{RefusalWord}
 use Rattle.history_lines.specs.declared.words.RefusalWord.TheVariants as names
 use Rattle.history_lines.specs.Answers.{◌>>=◌}
 use Rattle.history_lines.specs.Words.{replied_word, all_replies, refusal_named, change_named, field_named, rule_named}
-use Rattle.history_lines.specs.Members.{Look, look_in, standing, text_at, number_at, flag_at, uid_in, uid_at, object_in, object_at, list_at, data_id_at, topology_at}
+use Rattle.history_lines.specs.Members.{Look, look_in, standing, text_at, number_at, flag_at, uid_in, uid_at, object_in, object_at, list_at, data_id_at, some_topology_at}
 
 -- ---- events, and pods that are mounted
 
@@ -87,7 +87,7 @@ events_at m = do
 abbrev pub provisioned_at : Look → Option Reply
 provisioned_at m = do
   id ← data_id_at m
-  topology ← topology_at m
+  topology ← some_topology_at m
   Some (replies.Provisioned id topology)
 
 abbrev pub reply_by : ReplyWord → Look → Option Reply

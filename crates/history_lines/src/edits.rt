@@ -1,7 +1,7 @@
 //! The edit that a request has.
 
 ghost use Rattle.serde_json.specs.View.{view};
-ghost use Rattle.history_lines.specs.Answers.{Gives};
+ghost use Rattle.history_lines.specs.Answers.{PartGives};
 ghost use Rattle.history_lines.specs.Members.{look_in};
 ghost use Rattle.history_lines.specs.Requests.{two_texts_in, two_texts_at, policy_at, edit_by, edit_at};
 
@@ -20,7 +20,7 @@ fn two_texts_in(
     first: &str,
     second: &str,
 ) -> Result<(Text, Text), Unread>
-    ensures { Gives result (two_texts_in first.now second.now (look_in (view value.now))) }
+    ensures { PartGives result (two_texts_in first.now second.now (look_in (view value.now))) }
 {
     let one = text_at(alloc, value, first)?;
     let two = text_at(alloc, value, second)?;
@@ -34,13 +34,13 @@ fn two_texts_at(
     first: &str,
     second: &str,
 ) -> Result<(Text, Text), Unread>
-    ensures { Gives result (two_texts_at name.now first.now second.now (look_in (view value.now))) }
+    ensures { PartGives result (two_texts_at name.now first.now second.now (look_in (view value.now))) }
 {
     two_texts_in(alloc, member_at(value, name)?, first, second)
 }
 
 fn policy_at(value: &Value) -> Result<Policy, Unread>
-    ensures { Gives result (policy_at (look_in (view value.now))) }
+    ensures { PartGives result (policy_at (look_in (view value.now))) }
 {
     let word = word_at(value, "setPolicy")?;
     found(Policy::named(word))
@@ -48,7 +48,7 @@ fn policy_at(value: &Value) -> Result<Policy, Unread>
 
 /// The edit of the member that stands.
 fn edit_by(alloc: Global, word: EditWord, value: &Value) -> Result<Edit, Unread>
-    ensures { Gives result (edit_by word (look_in (view value.now))) }
+    ensures { PartGives result (edit_by word (look_in (view value.now))) }
 {
     match word {
         EditWord::AddFinalizer => Ok(Edit::AddFinalizer(text_at(alloc, value, "addFinalizer")?)),
@@ -79,7 +79,7 @@ fn edit_by(alloc: Global, word: EditWord, value: &Value) -> Result<Edit, Unread>
 
 /// The edit of a request, by the first edit member that stands.
 pub fn edit_at(alloc: Global, value: &Value) -> Result<Edit, Unread>
-    ensures { Gives result (edit_at (look_in (view value.now))) }
+    ensures { PartGives result (edit_at (look_in (view value.now))) }
 {
     let word = standing(&ALL_EDITS, value)?;
     edit_by(alloc, word, value)

@@ -6,8 +6,8 @@ ghost use Rattle.json_text.specs.Look.{text_in};
 ghost use Rattle.object_text.specs.declared.errors.Member.TheVariants as members;
 ghost use Rattle.object_text.specs.MemberReaders.{pairs_at};
 ghost use Rattle.object_text.specs.PartReaders.{modes_from, no_modes};
-ghost use Rattle.history_lines.specs.Answers.{Gives, GivesBy, taken};
-ghost use Rattle.history_lines.specs.Members.{look_in, standing, text_at, filled_at, some_text_at, number_in, number_at, some_number_at, flag_at, uid_in, uid_at, some_uid_at, quantity_in, some_amount_at, object_in, object_at, items_from, list_in, list_at, some_list_at, modes_at, some_labels_at, kind_at, key_at, data_id_at, topology_at};
+ghost use Rattle.history_lines.specs.Answers.{PartGives, PartGivesBy, taken};
+ghost use Rattle.history_lines.specs.Members.{look_in, standing, text_at, filled_at, some_text_at, number_in, number_at, some_number_at, flag_at, uid_in, uid_at, some_uid_at, quantity_in, some_amount_at, object_in, object_at, items_from, list_in, list_at, some_list_at, modes_at, some_labels_at, kind_at, key_at, data_id_at, some_topology_at};
 
 use crate::errors::Unread;
 use crate::words::LineWord;
@@ -31,17 +31,17 @@ pub trait FromJson: Drop {
     ghost use Rattle.std.specs.Prelude.{Option};
     ghost use Rattle.serde_json.specs.Data.{Data};
     ghost use Rattle.serde_json.specs.View.{view};
-    ghost use Rattle.history_lines.specs.Answers.{Gives};
+    ghost use Rattle.history_lines.specs.Answers.{PartGives};
 
     ghost read: { Data → Option Self };
 
     fn read(alloc: Global, value: &Value) -> Result<Self, Unread>
-        ensures { Gives result (read (view value.now)) };
+        ensures { PartGives result (read (view value.now)) };
 }
 
 /// The value that is there.
 pub(crate) fn found<T>(value: Option<T>) -> Result<T, Unread>
-    ensures { Gives result value }
+    ensures { PartGives result value }
 {
     match value {
         Some(value) => Ok(value),
@@ -51,7 +51,7 @@ pub(crate) fn found<T>(value: Option<T>) -> Result<T, Unread>
 
 /// The member of this name.
 pub fn member_at<'v>(value: &'v Value, name: &str) -> Result<&'v Value, Unread>
-    ensures { GivesBy (λ v. view v.now) result (look_in (view value.now) name.now) }
+    ensures { PartGivesBy (λ v. view v.now) result (look_in (view value.now) name.now) }
 {
     match value.get(name) {
         Some(member) => Ok(member),
@@ -61,7 +61,7 @@ pub fn member_at<'v>(value: &'v Value, name: &str) -> Result<&'v Value, Unread>
 
 /// The first of these whose member stands.
 pub(crate) fn standing<T: LineWord>(all: &[T], value: &Value) -> Result<T, Unread>
-    ensures { Gives result (standing T.word all.now (look_in (view value.now))) }
+    ensures { PartGives result (standing T.word all.now (look_in (view value.now))) }
 {
     for one in all {
         if value.get(one.word()).is_some() {
@@ -74,7 +74,7 @@ pub(crate) fn standing<T: LineWord>(all: &[T], value: &Value) -> Result<T, Unrea
 // ---- texts, numbers, booleans
 
 fn word_in<'v>(value: Option<&'v Value>) -> Result<&'v str, Unread>
-    ensures { GivesBy (λ s. s.now) result (text_in (option_map (λ v. view v.now) value.entry)) }
+    ensures { PartGivesBy (λ s. s.now) result (text_in (option_map (λ v. view v.now) value.entry)) }
 {
     match text_in(value) {
         Some(word) => Ok(word),
@@ -84,14 +84,14 @@ fn word_in<'v>(value: Option<&'v Value>) -> Result<&'v str, Unread>
 
 /// A text, as it stands in the value.
 pub fn word_at<'v>(value: &'v Value, name: &str) -> Result<&'v str, Unread>
-    ensures { GivesBy (λ s. s.now) result (text_at name.now (look_in (view value.now))) }
+    ensures { PartGivesBy (λ s. s.now) result (text_at name.now (look_in (view value.now))) }
 {
     word_in(value.get(name))
 }
 
 /// A copy of a text.
 pub fn text_at(alloc: Global, value: &Value, name: &str) -> Result<Text, Unread>
-    ensures { Gives result (text_at name.now (look_in (view value.now))) }
+    ensures { PartGives result (text_at name.now (look_in (view value.now))) }
 {
     let word = word_at(value, name)?;
     Ok(Text::new(alloc, word)?)
@@ -99,7 +99,7 @@ pub fn text_at(alloc: Global, value: &Value, name: &str) -> Result<Text, Unread>
 
 /// A copy of a text, the empty one where it is absent.
 pub fn filled_at(alloc: Global, value: &Value, name: &str) -> Result<Text, Unread>
-    ensures { Gives result (filled_at name.now (look_in (view value.now))) }
+    ensures { PartGives result (filled_at name.now (look_in (view value.now))) }
 {
     match value.get(name) {
         None => Ok(Text::new(alloc, "")?),
@@ -109,7 +109,7 @@ pub fn filled_at(alloc: Global, value: &Value, name: &str) -> Result<Text, Unrea
 
 /// A copy of a text that may be absent.
 pub fn some_text_at(alloc: Global, value: &Value, name: &str) -> Result<Option<Text>, Unread>
-    ensures { Gives result (some_text_at name.now (look_in (view value.now))) }
+    ensures { PartGives result (some_text_at name.now (look_in (view value.now))) }
 {
     match value.get(name) {
         None => Ok(None),
@@ -119,14 +119,14 @@ pub fn some_text_at(alloc: Global, value: &Value, name: &str) -> Result<Option<T
 
 /// A whole number.
 pub fn number_at(value: &Value, name: &str) -> Result<u64, Unread>
-    ensures { Gives result (number_at name.now (look_in (view value.now))) }
+    ensures { PartGives result (number_at name.now (look_in (view value.now))) }
 {
     found(whole_in(value.get(name)))
 }
 
 /// A whole number that may be absent.
 pub fn some_number_at(value: &Value, name: &str) -> Result<Option<u64>, Unread>
-    ensures { Gives result (some_number_at name.now (look_in (view value.now))) }
+    ensures { PartGives result (some_number_at name.now (look_in (view value.now))) }
 {
     match value.get(name) {
         None => Ok(None),
@@ -136,7 +136,7 @@ pub fn some_number_at(value: &Value, name: &str) -> Result<Option<u64>, Unread>
 
 /// A boolean.
 pub fn flag_at(value: &Value, name: &str) -> Result<bool, Unread>
-    ensures { Gives result (flag_at name.now (look_in (view value.now))) }
+    ensures { PartGives result (flag_at name.now (look_in (view value.now))) }
 {
     found(boolean_in(value.get(name)))
 }
@@ -154,7 +154,7 @@ impl FromJson for u64 {
 // ---- ids and amounts
 
 fn uid_in(value: &Value) -> Result<Uid, Unread>
-    ensures { Gives result (uid_in (view value.now)) }
+    ensures { PartGives result (uid_in (view value.now)) }
 {
     let word = word_in(Some(value))?;
     found(Uid::parse(word))
@@ -162,14 +162,14 @@ fn uid_in(value: &Value) -> Result<Uid, Unread>
 
 /// An id.
 pub fn uid_at(value: &Value, name: &str) -> Result<Uid, Unread>
-    ensures { Gives result (uid_at name.now (look_in (view value.now))) }
+    ensures { PartGives result (uid_at name.now (look_in (view value.now))) }
 {
     uid_in(member_at(value, name)?)
 }
 
 /// An id that may be absent.
 pub fn some_uid_at(value: &Value, name: &str) -> Result<Option<Uid>, Unread>
-    ensures { Gives result (some_uid_at name.now (look_in (view value.now))) }
+    ensures { PartGives result (some_uid_at name.now (look_in (view value.now))) }
 {
     match value.get(name) {
         None => Ok(None),
@@ -189,14 +189,14 @@ impl FromJson for Uid {
 
 #[tactic(auto, using(crate::proofs::Taken::taken_fails))]
 fn quantity_in(alloc: Global, value: &Value) -> Result<Amount, Unread>
-    ensures { Gives result (quantity_in (view value.now)) }
+    ensures { PartGives result (quantity_in (view value.now)) }
 {
     Ok(amount_counted(alloc, value, Member::Storage)?)
 }
 
 /// A quantity that may be absent.
 pub fn some_amount_at(alloc: Global, value: &Value, name: &str) -> Result<Option<Amount>, Unread>
-    ensures { Gives result (some_amount_at name.now (look_in (view value.now))) }
+    ensures { PartGives result (some_amount_at name.now (look_in (view value.now))) }
 {
     match value.get(name) {
         None => Ok(None),
@@ -219,13 +219,13 @@ impl FromJson for Object {
 
 /// An object, whatever its length.
 pub fn object_at(alloc: Global, value: &Value, name: &str) -> Result<Object, Unread>
-    ensures { Gives result (object_at name.now (look_in (view value.now))) }
+    ensures { PartGives result (object_at name.now (look_in (view value.now))) }
 {
     Object::read(alloc, member_at(value, name)?)
 }
 
 fn items_of<T: FromJson>(alloc: Global, values: &[Value]) -> Result<Items<T>, Unread>
-    ensures { Gives result (items_from T.read (items_view values.now) []) }
+    ensures { PartGives result (items_from T.read (items_view values.now) []) }
 {
     let mut found = Items::new(alloc);
     for value in values {
@@ -235,7 +235,7 @@ fn items_of<T: FromJson>(alloc: Global, values: &[Value]) -> Result<Items<T>, Un
 }
 
 fn list_in<T: FromJson>(alloc: Global, value: Option<&Value>) -> Result<Items<T>, Unread>
-    ensures { Gives result (list_in T.read (option_map (λ v. view v.now) value.entry)) }
+    ensures { PartGives result (list_in T.read (option_map (λ v. view v.now) value.entry)) }
 {
     match items_in(value) {
         Some(values) => items_of(alloc, values),
@@ -245,7 +245,7 @@ fn list_in<T: FromJson>(alloc: Global, value: Option<&Value>) -> Result<Items<T>
 
 /// What each item of an array gives, in order.
 pub fn list_at<T: FromJson>(alloc: Global, value: &Value, name: &str) -> Result<Items<T>, Unread>
-    ensures { Gives result (list_at T.read name.now (look_in (view value.now))) }
+    ensures { PartGives result (list_at T.read name.now (look_in (view value.now))) }
 {
     list_in(alloc, value.get(name))
 }
@@ -256,7 +256,7 @@ pub fn some_list_at<T: FromJson>(
     value: &Value,
     name: &str,
 ) -> Result<Items<T>, Unread>
-    ensures { Gives result (some_list_at T.read name.now (look_in (view value.now))) }
+    ensures { PartGives result (some_list_at T.read name.now (look_in (view value.now))) }
 {
     match value.get(name) {
         None => Ok(Items::new(alloc)),
@@ -266,14 +266,14 @@ pub fn some_list_at<T: FromJson>(
 
 #[tactic(auto, using(crate::proofs::Taken::taken_fails))]
 fn modes_in(values: &[Value]) -> Result<Modes, Unread>
-    ensures { Gives result (taken (modes_from (items_view values.now) no_modes)) }
+    ensures { PartGives result (taken (modes_from (items_view values.now) no_modes)) }
 {
     Ok(modes_of(values)?)
 }
 
 /// Access modes.
 pub fn modes_at(value: &Value, name: &str) -> Result<Modes, Unread>
-    ensures { Gives result (modes_at name.now (look_in (view value.now))) }
+    ensures { PartGives result (modes_at name.now (look_in (view value.now))) }
 {
     match items_in(value.get(name)) {
         Some(values) => modes_in(values),
@@ -283,14 +283,14 @@ pub fn modes_at(value: &Value, name: &str) -> Result<Modes, Unread>
 
 #[tactic(auto, using(crate::proofs::Taken::taken_fails))]
 fn labels_in(alloc: Global, value: &Value) -> Result<Pairs, Unread>
-    ensures { Gives result (taken (pairs_at members.Labels (Some (view value.now)))) }
+    ensures { PartGives result (taken (pairs_at members.Labels (Some (view value.now)))) }
 {
     Ok(pairs_at(alloc, Some(value), Member::Labels)?)
 }
 
 /// Labels that may be absent.
 pub fn some_labels_at(alloc: Global, value: &Value) -> Result<Option<Pairs>, Unread>
-    ensures { Gives result (some_labels_at (look_in (view value.now))) }
+    ensures { PartGives result (some_labels_at (look_in (view value.now))) }
 {
     match value.get("labels") {
         None => Ok(None),
@@ -302,7 +302,7 @@ pub fn some_labels_at(alloc: Global, value: &Value) -> Result<Option<Pairs>, Unr
 
 /// The kind of an object.
 pub fn kind_at(value: &Value) -> Result<Kind, Unread>
-    ensures { Gives result (kind_at (look_in (view value.now))) }
+    ensures { PartGives result (kind_at (look_in (view value.now))) }
 {
     let word = word_at(value, "kind")?;
     found(Kind::named(word))
@@ -310,7 +310,7 @@ pub fn kind_at(value: &Value) -> Result<Kind, Unread>
 
 /// The key of an object.
 pub fn key_at(alloc: Global, value: &Value) -> Result<Key, Unread>
-    ensures { Gives result (key_at (look_in (view value.now))) }
+    ensures { PartGives result (key_at (look_in (view value.now))) }
 {
     let kind = kind_at(value)?;
     let namespace = filled_at(alloc, value, "namespace")?;
@@ -324,7 +324,7 @@ pub fn key_at(alloc: Global, value: &Value) -> Result<Key, Unread>
 
 /// The id of data.
 pub fn data_id_at(alloc: Global, value: &Value) -> Result<DataId, Unread>
-    ensures { Gives result (data_id_at (look_in (view value.now))) }
+    ensures { PartGives result (data_id_at (look_in (view value.now))) }
 {
     let driver = text_at(alloc, value, "driver")?;
     let id = text_at(alloc, value, "id")?;
@@ -333,7 +333,7 @@ pub fn data_id_at(alloc: Global, value: &Value) -> Result<DataId, Unread>
 
 /// A label and its value, where the label stands.
 pub fn topology_at(alloc: Global, value: &Value) -> Result<Option<(Text, Text)>, Unread>
-    ensures { Gives result (topology_at (look_in (view value.now))) }
+    ensures { PartGives result (some_topology_at (look_in (view value.now))) }
 {
     match value.get("label") {
         None => Ok(None),

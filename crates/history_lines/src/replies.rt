@@ -1,7 +1,7 @@
 //! The reply that an entry has.
 
 ghost use Rattle.serde_json.specs.View.{view};
-ghost use Rattle.history_lines.specs.Answers.{Gives};
+ghost use Rattle.history_lines.specs.Answers.{PartGives};
 ghost use Rattle.history_lines.specs.Members.{look_in};
 ghost use Rattle.history_lines.specs.Replies.{event_in, mounted_in, invalid_at, forbidden_at, refusal_by, refusal_at, listed_at, events_at, provisioned_at, reply_by, reply_in};
 
@@ -54,7 +54,7 @@ impl FromJson for MountRow {
 // ---- refusals
 
 fn invalid_at(value: &Value) -> Result<Refusal, Unread>
-    ensures { Gives result (invalid_at (look_in (view value.now))) }
+    ensures { PartGives result (invalid_at (look_in (view value.now))) }
 {
     let word = word_at(value, "field")?;
     let field = found(field_named(word))?;
@@ -62,7 +62,7 @@ fn invalid_at(value: &Value) -> Result<Refusal, Unread>
 }
 
 fn forbidden_at(value: &Value) -> Result<Refusal, Unread>
-    ensures { Gives result (forbidden_at (look_in (view value.now))) }
+    ensures { PartGives result (forbidden_at (look_in (view value.now))) }
 {
     let word = word_at(value, "rule")?;
     let rule = found(rule_named(word))?;
@@ -71,7 +71,7 @@ fn forbidden_at(value: &Value) -> Result<Refusal, Unread>
 
 /// The refusal of this name.
 fn refusal_by(alloc: Global, name: RefusalWord, value: &Value) -> Result<Refusal, Unread>
-    ensures { Gives result (refusal_by name (look_in (view value.now))) }
+    ensures { PartGives result (refusal_by name (look_in (view value.now))) }
 {
     match name {
         RefusalWord::NotFound => Ok(Refusal::NotFound),
@@ -100,7 +100,7 @@ fn refusal_by(alloc: Global, name: RefusalWord, value: &Value) -> Result<Refusal
 }
 
 fn refusal_at(alloc: Global, value: &Value) -> Result<Refusal, Unread>
-    ensures { Gives result (refusal_at (look_in (view value.now))) }
+    ensures { PartGives result (refusal_at (look_in (view value.now))) }
 {
     let word = word_at(value, "refused")?;
     let name = found(refusal_named(word))?;
@@ -110,7 +110,7 @@ fn refusal_at(alloc: Global, value: &Value) -> Result<Refusal, Unread>
 // ---- each reply
 
 fn listed_at(alloc: Global, value: &Value) -> Result<Reply, Unread>
-    ensures { Gives result (listed_at (look_in (view value.now))) }
+    ensures { PartGives result (listed_at (look_in (view value.now))) }
 {
     let items = list_at(alloc, value, "items")?;
     let version = number_at(value, "listed")?;
@@ -118,7 +118,7 @@ fn listed_at(alloc: Global, value: &Value) -> Result<Reply, Unread>
 }
 
 fn events_at(alloc: Global, value: &Value) -> Result<Reply, Unread>
-    ensures { Gives result (events_at (look_in (view value.now))) }
+    ensures { PartGives result (events_at (look_in (view value.now))) }
 {
     let events = list_at(alloc, value, "events")?;
     let upto = number_at(value, "upto")?;
@@ -126,7 +126,7 @@ fn events_at(alloc: Global, value: &Value) -> Result<Reply, Unread>
 }
 
 fn provisioned_at(alloc: Global, value: &Value) -> Result<Reply, Unread>
-    ensures { Gives result (provisioned_at (look_in (view value.now))) }
+    ensures { PartGives result (provisioned_at (look_in (view value.now))) }
 {
     let id = data_id_at(alloc, value)?;
     let topology = topology_at(alloc, value)?;
@@ -135,7 +135,7 @@ fn provisioned_at(alloc: Global, value: &Value) -> Result<Reply, Unread>
 
 /// The reply of the member that stands.
 fn reply_by(alloc: Global, word: ReplyWord, value: &Value) -> Result<Reply, Unread>
-    ensures { Gives result (reply_by word (look_in (view value.now))) }
+    ensures { PartGives result (reply_by word (look_in (view value.now))) }
 {
     match word {
         ReplyWord::Done => Ok(Reply::Done(object_at(alloc, value, "done")?)),
@@ -157,7 +157,7 @@ fn reply_by(alloc: Global, word: ReplyWord, value: &Value) -> Result<Reply, Unre
 /// The reply that a value gives.
 #[tactic(auto, unfolding(crate::specs::Replies::reply_in))]
 pub fn reply_in(alloc: Global, value: &Value) -> Result<Reply, Unread>
-    ensures { Gives result (reply_in (view value.now)) }
+    ensures { PartGives result (reply_in (view value.now)) }
 {
     let word = standing(&ALL_REPLIES, value)?;
     reply_by(alloc, word, value)

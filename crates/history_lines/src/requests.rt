@@ -1,7 +1,7 @@
 //! The request that an entry has.
 
 ghost use Rattle.serde_json.specs.View.{view};
-ghost use Rattle.history_lines.specs.Answers.{Gives};
+ghost use Rattle.history_lines.specs.Answers.{PartGives};
 ghost use Rattle.history_lines.specs.Members.{look_in};
 ghost use Rattle.history_lines.specs.Requests.{volume_status_at, claim_status_at, status_at, update_at, update_status_at, edit_request_at, delete_at, list_request_at, watch_at, bind_at, finish_at, provision_at, mounts_at, mount_at, unmount_at, request_by, request_in};
 
@@ -20,7 +20,7 @@ use std::alloc::Global;
 // ---- new statuses
 
 fn volume_status_at(value: &Value) -> Result<NewStatus, Unread>
-    ensures { Gives result (volume_status_at (look_in (view value.now))) }
+    ensures { PartGives result (volume_status_at (look_in (view value.now))) }
 {
     let word = word_at(value, "phase")?;
     let phase = found(VolumePhase::named(word))?;
@@ -28,7 +28,7 @@ fn volume_status_at(value: &Value) -> Result<NewStatus, Unread>
 }
 
 fn claim_status_at(alloc: Global, value: &Value) -> Result<NewStatus, Unread>
-    ensures { Gives result (claim_status_at (look_in (view value.now))) }
+    ensures { PartGives result (claim_status_at (look_in (view value.now))) }
 {
     let word = word_at(value, "phase")?;
     let phase = found(ClaimPhase::named(word))?;
@@ -43,7 +43,7 @@ fn claim_status_at(alloc: Global, value: &Value) -> Result<NewStatus, Unread>
 
 /// A new status. That of a claim has its modes.
 fn status_at(alloc: Global, value: &Value) -> Result<NewStatus, Unread>
-    ensures { Gives result (status_at (look_in (view value.now))) }
+    ensures { PartGives result (status_at (look_in (view value.now))) }
 {
     match value.get("modes") {
         None => volume_status_at(value),
@@ -54,7 +54,7 @@ fn status_at(alloc: Global, value: &Value) -> Result<NewStatus, Unread>
 // ---- each request
 
 fn update_at(alloc: Global, value: &Value) -> Result<Request, Unread>
-    ensures { Gives result (update_at (look_in (view value.now))) }
+    ensures { PartGives result (update_at (look_in (view value.now))) }
 {
     let object = object_at(alloc, value, "object")?;
     let version = some_number_at(value, "version")?;
@@ -62,7 +62,7 @@ fn update_at(alloc: Global, value: &Value) -> Result<Request, Unread>
 }
 
 fn update_status_at(alloc: Global, value: &Value) -> Result<Request, Unread>
-    ensures { Gives result (update_status_at (look_in (view value.now))) }
+    ensures { PartGives result (update_status_at (look_in (view value.now))) }
 {
     let key = key_at(alloc, value)?;
     let status = status_at(alloc, value)?;
@@ -75,7 +75,7 @@ fn update_status_at(alloc: Global, value: &Value) -> Result<Request, Unread>
 }
 
 fn edit_request_at(alloc: Global, value: &Value) -> Result<Request, Unread>
-    ensures { Gives result (edit_request_at (look_in (view value.now))) }
+    ensures { PartGives result (edit_request_at (look_in (view value.now))) }
 {
     let key = key_at(alloc, value)?;
     let edit = edit_at(alloc, value)?;
@@ -83,7 +83,7 @@ fn edit_request_at(alloc: Global, value: &Value) -> Result<Request, Unread>
 }
 
 fn delete_at(alloc: Global, value: &Value) -> Result<Request, Unread>
-    ensures { Gives result (delete_at (look_in (view value.now))) }
+    ensures { PartGives result (delete_at (look_in (view value.now))) }
 {
     let key = key_at(alloc, value)?;
     let uid = some_uid_at(value, "uid")?;
@@ -91,7 +91,7 @@ fn delete_at(alloc: Global, value: &Value) -> Result<Request, Unread>
 }
 
 fn list_request_at(alloc: Global, value: &Value) -> Result<Request, Unread>
-    ensures { Gives result (list_request_at (look_in (view value.now))) }
+    ensures { PartGives result (list_request_at (look_in (view value.now))) }
 {
     let kind = kind_at(value)?;
     let namespace = some_text_at(alloc, value, "namespace")?;
@@ -99,7 +99,7 @@ fn list_request_at(alloc: Global, value: &Value) -> Result<Request, Unread>
 }
 
 fn watch_at(value: &Value) -> Result<Request, Unread>
-    ensures { Gives result (watch_at (look_in (view value.now))) }
+    ensures { PartGives result (watch_at (look_in (view value.now))) }
 {
     let kind = kind_at(value)?;
     let from = number_at(value, "from")?;
@@ -107,7 +107,7 @@ fn watch_at(value: &Value) -> Result<Request, Unread>
 }
 
 fn bind_at(alloc: Global, value: &Value) -> Result<Request, Unread>
-    ensures { Gives result (bind_at (look_in (view value.now))) }
+    ensures { PartGives result (bind_at (look_in (view value.now))) }
 {
     let key = key_at(alloc, value)?;
     let uid = uid_at(value, "uid")?;
@@ -116,7 +116,7 @@ fn bind_at(alloc: Global, value: &Value) -> Result<Request, Unread>
 }
 
 fn finish_at(alloc: Global, value: &Value) -> Result<Request, Unread>
-    ensures { Gives result (finish_at (look_in (view value.now))) }
+    ensures { PartGives result (finish_at (look_in (view value.now))) }
 {
     let key = key_at(alloc, value)?;
     let uid = uid_at(value, "uid")?;
@@ -131,7 +131,7 @@ fn finish_at(alloc: Global, value: &Value) -> Result<Request, Unread>
 }
 
 fn provision_at(alloc: Global, value: &Value) -> Result<Request, Unread>
-    ensures { Gives result (provision_at (look_in (view value.now))) }
+    ensures { PartGives result (provision_at (look_in (view value.now))) }
 {
     let name = text_at(alloc, value, "name")?;
     let provisioner = text_at(alloc, value, "provisioner")?;
@@ -146,7 +146,7 @@ fn provision_at(alloc: Global, value: &Value) -> Result<Request, Unread>
 }
 
 fn mounts_at(alloc: Global, value: &Value) -> Result<Request, Unread>
-    ensures { Gives result (mounts_at (look_in (view value.now))) }
+    ensures { PartGives result (mounts_at (look_in (view value.now))) }
 {
     let node = text_at(alloc, value, "node")?;
     let epoch = number_at(value, "epoch")?;
@@ -154,7 +154,7 @@ fn mounts_at(alloc: Global, value: &Value) -> Result<Request, Unread>
 }
 
 fn mount_at(alloc: Global, value: &Value) -> Result<Request, Unread>
-    ensures { Gives result (mount_at (look_in (view value.now))) }
+    ensures { PartGives result (mount_at (look_in (view value.now))) }
 {
     let node = text_at(alloc, value, "node")?;
     let epoch = number_at(value, "epoch")?;
@@ -169,7 +169,7 @@ fn mount_at(alloc: Global, value: &Value) -> Result<Request, Unread>
 }
 
 fn unmount_at(alloc: Global, value: &Value) -> Result<Request, Unread>
-    ensures { Gives result (unmount_at (look_in (view value.now))) }
+    ensures { PartGives result (unmount_at (look_in (view value.now))) }
 {
     let node = text_at(alloc, value, "node")?;
     let epoch = number_at(value, "epoch")?;
@@ -179,7 +179,7 @@ fn unmount_at(alloc: Global, value: &Value) -> Result<Request, Unread>
 
 /// The request of this word.
 fn request_by(alloc: Global, word: AskWord, value: &Value) -> Result<Request, Unread>
-    ensures { Gives result (request_by word (look_in (view value.now))) }
+    ensures { PartGives result (request_by word (look_in (view value.now))) }
 {
     match word {
         AskWord::Create => Ok(Request::Create {
@@ -215,7 +215,7 @@ fn request_by(alloc: Global, word: AskWord, value: &Value) -> Result<Request, Un
 /// The request that a value gives.
 #[tactic(auto, unfolding(crate::specs::Requests::request_in))]
 pub fn request_in(alloc: Global, value: &Value) -> Result<Request, Unread>
-    ensures { Gives result (request_in (view value.now)) }
+    ensures { PartGives result (request_in (view value.now)) }
 {
     let name = word_at(value, "do")?;
     let word = found(ask_named(name))?;

@@ -4,7 +4,7 @@ ghost use Rattle.std.specs.Prelude.{◌≡◌, None, IfOk};
 ghost use Rattle.binder_model.specs.Imports.{ImportsPass};
 ghost use Rattle.serde_json.specs.View.{view};
 ghost use Rattle.history_text.specs.Entries.{setup_line};
-ghost use Rattle.history_lines.specs.Answers.{Gives};
+ghost use Rattle.history_lines.specs.Answers.{PartGives};
 ghost use Rattle.history_lines.specs.Entries.{pool_in, is_above, rise_from, imports_pass, parts_with, parts_in, setup_in, printed_as, setup_of};
 
 use crate::entries::json_of;
@@ -74,7 +74,7 @@ fn parts_with(
     faults: Items<u64>,
     imports: Items<Object>,
 ) -> Result<Setup, Unread>
-    ensures { Gives result (parts_with pools faults imports) }
+    ensures { PartGives result (parts_with pools faults imports) }
 {
     if rise(faults.as_slice()) && imports_pass(alloc, imports.as_slice())? {
         Ok(Setup {
@@ -89,7 +89,7 @@ fn parts_with(
 
 #[tactic(auto, unfolding(crate::specs::Entries::parts_in))]
 fn parts_in(alloc: Global, value: &Value) -> Result<Setup, Unread>
-    ensures { Gives result (parts_in (view value.now)) }
+    ensures { PartGives result (parts_in (view value.now)) }
 {
     let faults = list_at(alloc, value, "faults")?;
     let imports = some_list_at(alloc, value, "imports")?;
@@ -100,13 +100,13 @@ fn parts_in(alloc: Global, value: &Value) -> Result<Setup, Unread>
 /// The setup that a value gives.
 #[tactic(auto, unfolding(crate::specs::Entries::setup_in))]
 pub fn setup_in(alloc: Global, value: &Value) -> Result<Setup, Unread>
-    ensures { Gives result (setup_in (view value.now)) }
+    ensures { PartGives result (setup_in (view value.now)) }
 {
     parts_in(alloc, member_at(value, "setup")?)
 }
 
 fn printed_as(alloc: Global, line: &[u8], setup: Setup) -> Result<Setup, Unread>
-    ensures { Gives result (printed_as setup_line line.now setup) }
+    ensures { PartGives result (printed_as setup_line line.now setup) }
 {
     let printed = print_setup(alloc, &setup)?;
     if printed.as_slice() == line {
@@ -118,7 +118,7 @@ fn printed_as(alloc: Global, line: &[u8], setup: Setup) -> Result<Setup, Unread>
 
 #[tactic(auto, unfolding(crate::specs::Entries::setup_of))]
 fn read_setup(alloc: Global, line: &[u8]) -> Result<Setup, Unread>
-    ensures { Gives result (setup_of line.now) }
+    ensures { PartGives result (setup_of line.now) }
 {
     let tree = json_of(alloc, line)?;
     let setup = setup_in(alloc, tree.value())?;
@@ -128,7 +128,7 @@ fn read_setup(alloc: Global, line: &[u8]) -> Result<Setup, Unread>
 /// The setup of a line: the one whose printed line it is. A world may begin with its imports.
 #[tactic(auto, using(crate::proofs::Imports::read_passes))]
 pub fn setup_of(alloc: Global, line: &[u8]) -> Result<Setup, Unread>
-    ensures gives { Gives result (setup_of line.now) }
+    ensures gives { PartGives result (setup_of line.now) }
     ensures imports { IfOk result (λ s. ImportsPass s.imports) }
 {
     read_setup(alloc, line)

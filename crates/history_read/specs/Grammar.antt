@@ -40,19 +40,19 @@ canonical (Some x) = Ok x
 abbrev pub in_line : {X : Type 0} → (List ℕ → Option X) → List ℕ → Result X Reason
 in_line of line = if nat_lt most_line_bytes (length line) then Err TooLong else canonical (of line)
 
-abbrev pub refused : {X : Type 0} → ℕ → Reason → Result X BadLine
-refused n reason = Err (record { line = n; reason = reason })
+abbrev pub refused_line : {X : Type 0} → ℕ → Reason → Result X BadLine
+refused_line n reason = Err (record { line = n; reason = reason })
 
 -- the first refusal with the number of its line, else what the next step makes of the value
 abbrev pub at_line : {X Y : Type 0} → ℕ → Result X Reason → (X → Result Y BadLine) → Result Y BadLine
 at_line n (Ok x) next = next x
-at_line n (Err reason) next = refused n reason
+at_line n (Err reason) next = refused_line n reason
 
 -- ---- the text
 
 -- the entries of lines up to the line `end`, the first of which has this number, behind those that were found
 abbrev pub entries_from : ℕ → List (List ℕ) → List Entry → Result (List Entry) BadLine
-entries_from n [] found = refused n MissingEnd
+entries_from n [] found = refused_line n MissingEnd
 entries_from n (line ∷ lines) found =
     if bytes_eq line (codes "end") then Ok found else at_line n (in_line entry_of line) (λ e. entries_from (n + 1) lines (found ++ e ∷ []))
 
@@ -61,7 +61,7 @@ with_setup s (Ok es) = Ok (record { setup = s; entries = es })
 with_setup s (Err b) = Err b
 
 abbrev pub history_in : List (List ℕ) → Result History BadLine
-history_in [] = refused 1 MissingEnd
+history_in [] = refused_line 1 MissingEnd
 history_in (line ∷ lines) = at_line 1 (in_line setup_of line) (λ s. with_setup s (entries_from 2 lines []))
 
 -- the setup and the entries of a text; or the first line at fault, and the first of its reasons

@@ -15,6 +15,7 @@ use history_lines::errors::Unread;
 use history_lines::setups::setup_of;
 use history_type::History;
 use kube_types::items::Items;
+use piece_print::recent::Recent;
 use std::alloc::Global;
 
 const MOST_LINE_BYTES: usize = 4_194_304;
@@ -33,13 +34,13 @@ fn setup_in(alloc: Global, line: &[u8]) -> Result<Setup, LineError>
     }
 }
 
-fn entry_in(alloc: Global, line: &[u8]) -> Result<Entry, LineError>
+fn entry_in(alloc: Global, recent: &mut Recent, line: &[u8]) -> Result<Entry, LineError>
     ensures { LineGives result (in_line entry_of line.now) }
 {
     if line.len() > MOST_LINE_BYTES {
         return Err(LineError::Refused(Reason::TooLong));
     }
-    match entry_of(alloc, line) {
+    match entry_of(alloc, recent, line) {
         Ok(entry) => Ok(entry),
         Err(Unread::NotCanonical) => Err(LineError::Refused(Reason::NotCanonical)),
         Err(Unread::OutOfMemory) => Err(LineError::OutOfMemory),
@@ -68,6 +69,7 @@ fn error_at(line: u64, e: LineError) -> HistoryError
 fn entries_of(alloc: Global, text: &[u8]) -> Result<Items<Entry>, HistoryError>
     ensures { HistoryGives result (entries_from 2 (lines_of text.now) []) }
 {
+    let mut recent = Recent::new(alloc)?;
     let mut found = Items::new(alloc);
     let mut rest = text;
     let mut line = 2;
@@ -76,7 +78,7 @@ fn entries_of(alloc: Global, text: &[u8]) -> Result<Items<Entry>, HistoryError>
         if is_end(first) {
             return Ok(found);
         }
-        match entry_in(alloc, first) {
+        match entry_in(alloc, &mut recent, first) {
             Ok(entry) => found.push(entry)?,
             Err(e) => return Err(error_at(line, e)),
         }

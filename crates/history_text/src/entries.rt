@@ -15,8 +15,10 @@ use call_types::request::{Request, SeatKind};
 use kube_types::copies::OutOfMemory;
 use kube_types::text::Bytes;
 use object_print::members::MemberSink;
+use piece_print::recent::Recent;
 use piece_print::writing::JsonPieces;
 use std::alloc::Global;
+use std::mem::replace;
 
 /// The word for the kind of a seat.
 pub fn seat_word(kind: SeatKind) -> &'static str
@@ -64,11 +66,21 @@ pub fn write_entry<'a>(out: &mut JsonPieces<'a>, entry: &'a Entry) -> Result<(),
 }
 
 /// The line of an entry, without a line feed.
-#[tactic(auto, using(json_text::proofs::Closing::alone), unfolding(crate::specs::Entries::entry_line))]
 pub fn print_entry(alloc: Global, entry: &Entry) -> Result<Bytes, OutOfMemory>
     ensures { IfOk result (λ b. b ≡ entry_line entry.now) }
 {
-    let mut out = JsonPieces::plain(alloc);
+    let mut recent = Recent::none(alloc);
+    print_beside(alloc, &mut recent, entry)
+}
+
+/// The same, where objects that were printed lately are not printed again.
+#[tactic(auto, using(json_text::proofs::Closing::alone), unfolding(crate::specs::Entries::entry_line))]
+pub fn print_beside(alloc: Global, recent: &mut Recent, entry: &Entry) -> Result<Bytes, OutOfMemory>
+    ensures { IfOk result (λ b. b ≡ entry_line entry.now) }
+{
+    let mut out = JsonPieces::beside(alloc, replace(recent, Recent::none(alloc)));
     write_entry(&mut out, entry)?;
-    out.into_bytes()
+    let (bytes, printed) = out.into_both()?;
+    *recent = printed;
+    Ok(bytes)
 }

@@ -13,7 +13,7 @@ use Rattle.kube_types.specs.Bindings.{is_ended, ref_uid}
 use Rattle.binder_model.specs.Imports.{is_claim_named, names_another, reference_of, shares_uid}
 use Rattle.model_laws.proofs.Lists.{IsIn}
 use Rattle.safety_law.proofs.Passing.{none_of}
-use Rattle.import_rules.specs.Steps.Passing.{clash, clashes, number_of, object_at, referred, refers_wrongly, uid_number}
+use Rattle.import_rules.specs.Steps.Passing.{clash, clashes, number_of, placed_object, referred, refers_wrongly, uid_number}
 use Rattle.import_rules.proofs.Faults.{none_in}
 
 -- each of the objects has a UID
@@ -64,13 +64,13 @@ clash_apart (Volume v) (Claim c) e = or_from _ _ (names_apart v.claim_ref (Claim
 
 -- ---- the place of a UID
 
-first : (p : ℕ → Bool) (x : ℕ) (xs : List ℕ) (o : Object) (os : List Object) → p x ≡ true → object_at (position p (x ∷ xs)) (o ∷ os) ≡ Some o
+first : (p : ℕ → Bool) (x : ℕ) (xs : List ℕ) (o : Object) (os : List Object) → p x ≡ true → placed_object (position p (x ∷ xs)) (o ∷ os) ≡ Some o
 first p x xs o os e = rw (e, some) refl
   where
     some : nat_lt 0 (suc (length xs)) ≡ true
     some = grind (arith, nat_tests)
 
-later : (p : ℕ → Bool) (x : ℕ) (xs : List ℕ) (o : Object) (os : List Object) → p x ≡ false → object_at (position p (x ∷ xs)) (o ∷ os) ≡ object_at (position p xs) os
+later : (p : ℕ → Bool) (x : ℕ) (xs : List ℕ) (o : Object) (os : List Object) → p x ≡ false → placed_object (position p (x ∷ xs)) (o ∷ os) ≡ placed_object (position p xs) os
 later p x xs o os e = rw (e, next, less) (by (nat_lt (position_or_len p xs) (length xs)))
   where
     next : 1 + position_or_len p xs ≡ suc (position_or_len p xs)
@@ -79,7 +79,7 @@ later p x xs o os e = rw (e, next, less) (by (nat_lt (position_or_len p xs) (len
     less : nat_lt (suc (position_or_len p xs)) (suc (length xs)) ≡ nat_lt (position_or_len p xs) (length xs)
     less = grind (arith, nat_tests)
 
-    by : (b : Bool) → object_at (cond b (Some (suc (position_or_len p xs))) None) (o ∷ os) ≡ object_at (cond b (Some (position_or_len p xs)) None) os
+    by : (b : Bool) → placed_object (cond b (Some (suc (position_or_len p xs))) None) (o ∷ os) ≡ placed_object (cond b (Some (position_or_len p xs)) None) os
     by true = refl
     by false = refl
 
@@ -98,12 +98,12 @@ module _ (v : Object) (u : Uid) (is : ref_uid (reference_of v) ≡ Some u) where
       from : (a : Object) → IsIn a os → nat_eq u.0 (uid_number a) ≡ false
       from a h = nat_eq_equiv.congr u.0 (uid_number o) (uid_number a) same ∙ none_of (λ b. nat_eq (uid_number o) (uid_number b)) os a h tests
 
-  found : (os : List Object) → AreApart os → AreKnown os → clashes v (object_at (position (nat_eq u.0) (map uid_number os)) os) ≡ list_any (clash v) os
+  found : (os : List Object) → AreApart os → AreKnown os → clashes v (placed_object (position (nat_eq u.0) (map uid_number os)) os) ≡ list_any (clash v) os
   found [] apart known = refl
   found (o ∷ os) apart known = by (nat_eq u.0 (uid_number o)) refl (found os apart.1 (λ a h. known a (inr h)))
     where
-      by : (b : Bool) → nat_eq u.0 (uid_number o) ≡ b → clashes v (object_at (position (nat_eq u.0) (map uid_number os)) os) ≡ list_any (clash v) os
-          → clashes v (object_at (position (nat_eq u.0) (map uid_number (o ∷ os))) (o ∷ os)) ≡ list_any (clash v) (o ∷ os)
+      by : (b : Bool) → nat_eq u.0 (uid_number o) ≡ b → clashes v (placed_object (position (nat_eq u.0) (map uid_number os)) os) ≡ list_any (clash v) os
+          → clashes v (placed_object (position (nat_eq u.0) (map uid_number (o ∷ os))) (o ∷ os)) ≡ list_any (clash v) (o ∷ os)
       by true e more = ap (clashes v) (first (nat_eq u.0) (uid_number o) (map uid_number os) o os e) ∙ sym (alone (clash v o) (others o os e apart.0 (λ a h. known a (inr h))))
         where
           alone : (b : Bool) → list_any (clash v) os ≡ false → (b || list_any (clash v) os) ≡ b

@@ -1,5 +1,5 @@
 -- Rows are kept in order, and what they tell after an edit.
-use Rattle.std.proofs.Common.{◌≡◌, ℕ, List, Bool, true, false, Some, None, Result, Ok, Err, OnOk, OnErr, true≢false, refl, sym, ◌∙◌, ap, if◌then◌else◌}
+use Rattle.std.proofs.Common.{◌≡◌, ℕ, List, Bool, true, false, Some, None, true≢false, refl, sym, ◌∙◌, ap, if◌then◌else◌}
 use Rattle.std.specs.Prelude.{option_map, is_some}
 use Rattle.plain_data.proofs.RowFacts.{rising_put, rising_without}
 use Rattle.kube_types.specs.declared.parts.Kind.{Kind}
@@ -77,9 +77,11 @@ module _ {kind : Kind} {key : Key} {version : ℕ} {m : Mark} {ms next_ms : List
   pub tells_absent : next_os ≡ without_row key os → (k : Key) → row_told next_ms next_os k ≡ (if same_key key k then Some (told_at version None) else row_told ms os k)
   tells_absent objects k = rw (marks, objects, sym key_is, sym version_is) (told_absent kind m ms os kept k)
 
-  pub keeps_present : {T E : Type 0} (r : Result T E) (o : Object) → kind_of o ≡ kind → key_of o ≡ key → OnOk r (next_os ≡ put_row o os) → OnErr r (next_os ≡ os) → AreKept kind next_ms next_os
-  keeps_present (Ok x) o is own objects same = rw (marks, objects) (kept_present kind m ms os kept o is (key_is ∙ sym own))
-  keeps_present (Err e) o is own objects same = rw (marks, same) (kept_mark kind m ms os kept)
+  pub keeps_present : (o : Object) → kind_of o ≡ kind → key_of o ≡ key → next_os ≡ put_row o os → AreKept kind next_ms next_os
+  keeps_present o is own objects = rw (marks, objects) (kept_present kind m ms os kept o is (key_is ∙ sym own))
+
+  pub keeps_mark : next_os ≡ os → AreKept kind next_ms next_os
+  keeps_mark same = rw (marks, same) (kept_mark kind m ms os kept)
 
   pub keeps_absent : next_os ≡ without_row key os → AreKept kind next_ms next_os
   keeps_absent objects = rw (marks, objects, sym key_is) (kept_absent kind m ms os kept)

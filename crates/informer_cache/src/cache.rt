@@ -1,8 +1,10 @@
 //! A cache of one kind.
 
-ghost use Rattle.std.specs.Prelude.{◌≡◌, false, List, [], ◌∷◌, IfOk, OnOk};
+ghost use Rattle.std.specs.Prelude.{◌≡◌, false, List, [], ◌∷◌, IfOk, IfSome, OnOk};
+ghost use Rattle.std.specs.Option.{option_copied};
 ghost use Rattle.kube_types.specs.declared.parts.Kind.{Kind};
 ghost use Rattle.kube_types.specs.Keys.{AreRows};
+ghost use Rattle.kube_types.specs.VolumeIndex.{StandsFor, volumes_in};
 ghost use Rattle.call_types.specs.declared.entry.Entry.{Entry};
 ghost use Rattle.binder_model.specs.Told.{tells_of};
 ghost use Rattle.informer_cache.specs.Cache.{IsDone, IsLeft, IsQuiet, IsTold, Known, Learns, CacheStandsFor, ask_of, keys_in, kind_known, objects_of, tells_done, tells_left};
@@ -19,6 +21,7 @@ use kube_types::items::Items;
 use kube_types::key::{Key, meta_of};
 use kube_types::objects::{Object, Version};
 use kube_types::parts::Kind;
+use kube_types::volume_index::VolumeIndex;
 use std::alloc::Global;
 use std::marker::Model;
 
@@ -72,6 +75,19 @@ impl Cache {
         }
     }
 
+    /// The same, with an index of the volumes. It takes no memory.
+    pub fn with_index(alloc: Global, kind: Kind) -> Cache
+        ensures kind { kind_known result ≡ kind }
+        ensures stands { CacheStandsFor result [] }
+    {
+        Cache {
+            alloc,
+            rows: Rows::with_index(alloc, kind),
+            lists: Lists::new(alloc),
+            from: None,
+        }
+    }
+
     pub fn kind(&self) -> Kind
         ensures { result ≡ kind_known self.now }
     {
@@ -85,6 +101,13 @@ impl Cache {
         ensures kind { AreOfKind (kind_known self.now) (objects_of self.now) }
     {
         self.rows.objects()
+    }
+
+    /// The index of the volumes among the objects, where one is kept.
+    pub fn volumes(&self) -> Option<&VolumeIndex>
+        ensures { IfSome (option_copied result) (λ index. StandsFor index (volumes_in (objects_of self.now))) }
+    {
+        self.rows.volumes()
     }
 
     /// The read that keeps the cache up to date.

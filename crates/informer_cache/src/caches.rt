@@ -2,10 +2,11 @@
 
 ghost use Rattle.std.specs.Prelude.{◌≡◌, List, [], ◌∷◌, IfOk, OnOk};
 ghost use Rattle.kube_types.specs.declared.parts.Kind.{Kind};
+ghost use Rattle.kube_types.specs.declared.parts.Kind.TheVariants as kinds;
 ghost use Rattle.kube_types.specs.declared.key.Key.{Key};
 ghost use Rattle.kube_types.specs.Keys.{AreRows, row_at, rows_of};
 ghost use Rattle.call_types.specs.declared.entry.Entry.{Entry};
-ghost use Rattle.informer_cache.specs.Cache.{IsDone, IsLeft, IsTold, ask_of, keys_in, kind_known, objects_of};
+ghost use Rattle.informer_cache.specs.Cache.{CacheStandsFor, IsDone, IsLeft, IsTold, ask_of, keys_in, kind_known, objects_of};
 ghost use Rattle.informer_cache.specs.Knowledge.{AreOfKind};
 ghost use Rattle.informer_cache.specs.All.{AllStandFor, AreCaches, EachStandsFor, all_objects, cache_of};
 
@@ -20,6 +21,7 @@ use kube_types::lookup::Lookup;
 use kube_types::objects::{Object, Version};
 use kube_types::parts::Kind;
 use kube_types::table::row;
+use kube_types::volume_index::VolumeIndex;
 use std::alloc::Global;
 use std::marker::Model;
 
@@ -28,7 +30,9 @@ use std::marker::Model;
 /// Where n keys of a kind were told, `row` is a binary search, and `at`, `count` and `ask` take the same
 /// few steps always. `note`, `forget` and each event are a search, and where the key is new a move of
 /// the rows after it. A list of a whole kind of n objects takes n searches; the list of a namespace
-/// takes as many, with a copy of each row that it leaves, and a move of rows for each new key.
+/// takes as many, with a copy of each row that it leaves, and a move of rows for each new key. Where an index of the
+/// volumes is kept, each change of a volume changes it too, by a search and a move in each of its lists that the volume
+/// enters or leaves, and a list of volumes makes it anew.
 pub struct Caches {
     alloc: Global,
     classes: Cache,
@@ -71,19 +75,36 @@ impl Caches {
     pub fn new(alloc: Global) -> Caches
         ensures { AllStandFor result [] }
     {
-        let caches = Caches::empty(alloc);
+        Caches::told_nothing(alloc, Cache::new(alloc, Kind::PersistentVolume))
+    }
+
+    /// The same, with an index of the volumes. It takes no memory.
+    pub fn with_index(alloc: Global) -> Caches
+        ensures { AllStandFor result [] }
+    {
+        Caches::told_nothing(alloc, Cache::with_index(alloc, Kind::PersistentVolume))
+    }
+
+    fn told_nothing(alloc: Global, volumes: Cache) -> Caches
+        requires kind { kind_known volumes ≡ kinds.PersistentVolume }
+        requires stands { CacheStandsFor volumes [] }
+        ensures { AllStandFor result [] }
+    {
+        let caches = Caches::empty(alloc, volumes);
         caches.stand_together();
         caches
     }
 
-    fn empty(alloc: Global) -> Caches
+    fn empty(alloc: Global, volumes: Cache) -> Caches
+        requires kind { kind_known volumes ≡ kinds.PersistentVolume }
+        requires stands { CacheStandsFor volumes [] }
         ensures { EachStandsFor result [] }
     {
         Caches {
             alloc,
             classes: Cache::new(alloc, Kind::StorageClass),
             nodes: Cache::new(alloc, Kind::Node),
-            volumes: Cache::new(alloc, Kind::PersistentVolume),
+            volumes,
             claims: Cache::new(alloc, Kind::PersistentVolumeClaim),
             pods: Cache::new(alloc, Kind::Pod),
         }
@@ -216,5 +237,10 @@ impl Lookup for Caches {
     fn row(&self, key: &Key) -> Option<&Object> {
         self.stand_together();
         row(self.objects(key.kind), key)
+    }
+
+    fn volumes(&self) -> Option<&VolumeIndex> {
+        self.stand_together();
+        self.volumes.volumes()
     }
 }

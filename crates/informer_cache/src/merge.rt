@@ -256,8 +256,9 @@ pub fn take_list(
         version,
         items: &sorted,
     };
-    let next = view.merged(alloc)?;
+    let mut next = view.merged(alloc)?;
     lists.raise(alloc, namespace, version)?;
+    next.keep_index_as(alloc, rows)?;
     *rows = next;
     Ok(())
 }

@@ -4,26 +4,33 @@ ghost use Rattle.std.specs.Prelude.{◌≡◌, [], Some, None, IfOk, IfErr, IfSo
 ghost use Rattle.std.specs.List.Sorted.{IsSearchInRange};
 ghost use Rattle.std.specs.Option.{option_copied};
 ghost use Rattle.kube_types.specs.declared.key.Key.{Key};
-ghost use Rattle.kube_types.specs.Keys.{AreRows, IsRowAt, IsRowGap, key_of, put_row, same_key};
+ghost use Rattle.kube_types.specs.Keys.{AreRows, IsRowAt, IsRowGap, key_of, put_row, row_at, same_key};
+ghost use Rattle.kube_types.specs.VolumeIndex.{StandsFor, volumes_in};
+ghost use Rattle.kept_index.specs.Keeping.{Keeps};
 ghost use Rattle.informer_cache.specs.Marks.{AreMarks};
 ghost use Rattle.informer_cache.specs.Knowledge.{AreKept, row_told, telling_of, told_at};
 
 use crate::marks::{Mark, comes_last, put_in, version_in};
 use crate::told::Told;
+use kept_index::KeptIndex;
 use kube_types::copies::{OutOfMemory, Plain};
 use kube_types::key::Key;
 use kube_types::objects::{Object, Version};
 use kube_types::parts::Kind;
 use kube_types::table::{row, row_place, take_out};
+use kube_types::volume_index::VolumeIndex;
 use std::alloc::Global;
 use std::marker::Model;
+use std::mem;
 
 /// The objects of one kind in the order of their keys, and of each key that was told of by itself
-/// the version at which that was. A key with a version and no object is absent.
+/// the version at which that was. A key with a version and no object is absent. Where they are asked to, they keep an index
+/// of the volumes among the objects.
 pub struct Rows {
     kind: Kind,
     marks: Vec<Mark>,
     objects: Vec<Object>,
+    index: KeptIndex,
 }
 
 impl Drop for Rows {
@@ -32,20 +39,23 @@ impl Drop for Rows {
             kind: _,
             marks,
             objects,
+            index,
         } = self;
         drop(marks);
         drop(objects);
+        drop(index);
     }
 }
 
 impl Model for Rows {
     ghost use Rattle.informer_cache.specs.Knowledge.{AreKept, RowState};
+    ghost use Rattle.kept_index.specs.Keeping.{Keeps};
 
     ghost Value = { RowState };
 
     ghost view = { λ r. record { kind = r.kind; marks = r.marks.items; objects = r.objects.items } };
 
-    ghost invariant = { λ r. AreKept r.kind r.marks.items r.objects.items };
+    ghost invariant = { λ r. AreKept r.kind r.marks.items r.objects.items × Keeps r.index r.objects.items };
 }
 
 /// Where the object of the key is, or where it would stand.
@@ -61,6 +71,27 @@ fn object_place(objects: &[Object], key: &Key) -> Result<usize, usize>
     row_place(objects, key)
 }
 
+/// Puts the object in place of the one of its key, or in its place in the order, and answers what stood there.
+fn exchanged(
+    objects: &mut Vec<Object>,
+    key: &Key,
+    object: Object,
+) -> Result<Option<Object>, OutOfMemory>
+    requires rows { AreRows objects.old.items }
+    requires key { key_of object ≡ key.now }
+    ensures before { IfOk result (λ before. before ≡ row_at key.now objects.old.items) }
+    ensures ok { OnOk result (objects.new.items ≡ put_row object objects.old.items) }
+    ensures err { OnErr result (objects.new.items ≡ objects.old.items) }
+{
+    match object_place(objects, key) {
+        Ok(at) => Ok(Some(mem::replace(&mut objects[at], object))),
+        Err(at) => {
+            objects.insert(at, object)?;
+            Ok(None)
+        }
+    }
+}
+
 /// Puts the object in place of the one of its key, or in its place in the order.
 pub(crate) fn put_object(
     objects: &mut Vec<Object>,
@@ -72,10 +103,7 @@ pub(crate) fn put_object(
     ensures ok { OnOk result (objects.new.items ≡ put_row object objects.old.items) }
     ensures err { OnErr result (objects.new.items ≡ objects.old.items) }
 {
-    match object_place(objects, key) {
-        Ok(at) => objects[at] = object,
-        Err(at) => objects.insert(at, object)?,
-    }
+    exchanged(objects, key, object)?;
     Ok(())
 }
 
@@ -93,19 +121,24 @@ fn put_present(
     alloc: Global,
     marks: &mut Vec<Mark>,
     objects: &mut Vec<Object>,
+    index: &mut KeptIndex,
     key: &Key,
     version: Version,
     object: &Object,
 ) -> Result<(), OutOfMemory>
     requires kept { AreKept key.now.kind marks.old.items objects.old.items }
+    requires index { Keeps index.old objects.old.items }
     requires key { key_of object.now ≡ key.now }
     ensures told { OnOk result ((k : Key) → row_told marks.new.items objects.new.items k ≡ (if same_key key.now k then Some (told_at version (Some object.now)) else row_told marks.old.items objects.old.items k)) }
     ensures kept { AreKept key.now.kind marks.new.items objects.new.items }
+    ensures index { Keeps index.new objects.new.items }
 {
-    let object = object.copy(alloc)?;
+    let copy = object.copy(alloc)?;
     let mark = mark_of(alloc, key, version)?;
     put_in(marks, mark)?;
-    put_object(objects, key, object)
+    let before = exchanged(objects, key, copy)?;
+    index.follow(alloc, before.as_ref(), Some(object))?;
+    Ok(())
 }
 
 /// Nothing stands under the key, as of this version.
@@ -113,16 +146,20 @@ fn put_absent(
     alloc: Global,
     marks: &mut Vec<Mark>,
     objects: &mut Vec<Object>,
+    index: &mut KeptIndex,
     key: &Key,
     version: Version,
 ) -> Result<(), OutOfMemory>
     requires kept { AreKept key.now.kind marks.old.items objects.old.items }
+    requires index { Keeps index.old objects.old.items }
     ensures told { OnOk result ((k : Key) → row_told marks.new.items objects.new.items k ≡ (if same_key key.now k then Some (told_at version None) else row_told marks.old.items objects.old.items k)) }
     ensures kept { AreKept key.now.kind marks.new.items objects.new.items }
+    ensures index { Keeps index.new objects.new.items }
 {
     let mark = mark_of(alloc, key, version)?;
     put_in(marks, mark)?;
-    let _ = take_out(objects, key);
+    let before = take_out(objects, key);
+    index.leave(alloc, before.as_ref());
     Ok(())
 }
 
@@ -150,7 +187,30 @@ impl Rows {
             kind,
             marks: Vec::new(alloc),
             objects: Vec::new(alloc),
+            index: KeptIndex::none(),
         }
+    }
+
+    /// The same, with an index of the volumes. It takes no memory.
+    pub fn with_index(alloc: Global, kind: Kind) -> Rows
+        ensures { result ≡ record { kind = kind; marks = []; objects = [] } }
+    {
+        Rows {
+            kind,
+            marks: Vec::new(alloc),
+            objects: Vec::new(alloc),
+            index: KeptIndex::new(alloc),
+        }
+    }
+
+    /// Keeps an index of the volumes where the earlier rows keep one.
+    pub fn keep_index_as(&mut self, alloc: Global, earlier: &Rows) -> Result<(), OutOfMemory>
+        ensures { self.new ≡ self.old }
+    {
+        if earlier.volumes().is_some() {
+            self.index = KeptIndex::of(alloc, &self.objects)?;
+        }
+        Ok(())
     }
 
     pub fn kind(&self) -> Kind
@@ -173,6 +233,13 @@ impl Rows {
         &self.objects
     }
 
+    /// The index of the volumes among the objects, where one is kept.
+    pub fn volumes(&self) -> Option<&VolumeIndex>
+        ensures { IfSome (option_copied result) (λ index. StandsFor index (volumes_in self.now.objects)) }
+    {
+        self.index.get()
+    }
+
     /// What was told of the key by itself.
     pub fn told(&self, key: &Key) -> Option<Told<'_>>
         ensures { option_map telling_of result ≡ row_told self.now.marks self.now.objects key.now }
@@ -192,11 +259,19 @@ impl Rows {
                 alloc,
                 &mut self.marks,
                 &mut self.objects,
+                &mut self.index,
                 key,
                 told.version,
                 object,
             ),
-            None => put_absent(alloc, &mut self.marks, &mut self.objects, key, told.version),
+            None => put_absent(
+                alloc,
+                &mut self.marks,
+                &mut self.objects,
+                &mut self.index,
+                key,
+                told.version,
+            ),
         }
     }
 }

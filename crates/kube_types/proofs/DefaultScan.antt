@@ -1,8 +1,6 @@
 -- The scan of the classes finds the default one.
-use Rattle.std.proofs.Common.{ℕ, ◌≡◌, ◌≢◌, ◌<◌, ◌+◌, Bool, true, false, true≢false, not, List, length, Option, Some, None, slice_get, ◌∙◌, refl, sym, ap, subst}
-use Rattle.std.specs.Prelude.{◌&&◌}
+use Rattle.std.proofs.Common.{ℕ, ◌≡◌, ◌<◌, ◌+◌, Bool, true, false, true≢false, List, length, Option, Some, None, slice_get, ◌∙◌, refl, sym, ap, subst}
 use Rattle.std.specs.Cmp.{IsTotalOrder}
-use Rattle.std.specs.Ordering.{is_lt}
 use Rattle.std.proofs.lemmas.Cmp.{nat_list_cmp_total, on_total, then_total, back_total}
 use Rattle.std.proofs.lemmas.Option.{slice_get_within}
 use Rattle.kube_types.specs.declared.parts.Kind.TheVariants as kinds

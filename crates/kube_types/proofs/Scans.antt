@@ -1,5 +1,5 @@
 -- A scan of the places finds the first of the candidates.
-use Rattle.std.proofs.Common.{ℕ, ◌≡◌, ◌≢◌, ◌<◌, ◌+◌, Bool, true, false, true≢false, List, length, Option, Some, None, slice_get, ◌∙◌, refl, sym, ap, subst}
+use Rattle.std.proofs.Common.{ℕ, ◌≡◌, ◌≢◌, ◌+◌, true, false, true≢false, Option, Some, None, ◌∙◌, refl, sym, ap, subst}
 use borrow.Author.Count.{below_more}
 use Rattle.std.specs.Cmp.{IsTotalOrder}
 use Rattle.std.specs.declared.cmp.Ordering.{Ordering}

@@ -1,9 +1,10 @@
 -- The words of bindings: the class of an object, completed, for, carries, protected.
 -- Source: Kubernetes documentation, "Persistent Volumes", and the constants of `pv_controller.go` and of the protection controllers.
-use Rattle.std.specs.Prelude.{ℕ, ◌==◌, Bool, true, false, not, ◌&&◌, List, Option, Some, None, bytes_eq, codes, is_some, is_none, unwrap_or, [], ◌∷◌}
+use Rattle.std.specs.Prelude.{ℕ, ◌+◌, ◌==◌, Bool, true, false, not, ◌&&◌, List, Option, Some, None, bytes_eq, codes, is_some, is_none, unwrap_or, [], ◌∷◌}
 use Rattle.std.specs.List.{list_any}
 use Rattle.plain_data.specs.Pairs.{Pair, value_at}
 use Rattle.kube_types.specs.declared.uid.Uid.{Uid}
+use Rattle.kube_types.specs.declared.parts.Modes.{Modes}
 use Rattle.kube_types.specs.declared.parts.VolumePhase.{VolumePhase}
 use Rattle.kube_types.specs.declared.parts.VolumePhase.TheVariants as phases
 use Rattle.kube_types.specs.declared.parts.ClaimPhase.{ClaimPhase}
@@ -169,3 +170,12 @@ carries v c = refers_carrying v.claim_ref c
 abbrev pub ref_uid : Option Ref → Option Uid
 ref_uid None = None
 ref_uid (Some r) = r.uid
+
+-- one for an access mode that is there
+abbrev pub count_one : Bool → ℕ
+count_one true = 1
+count_one false = 0
+
+-- how many access modes there are
+abbrev pub mode_count : Modes → ℕ
+mode_count m = count_one m.rwo + count_one m.rox + count_one m.rwx + count_one m.rwop

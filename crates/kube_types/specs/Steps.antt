@@ -1,1 +1,2 @@
+pub mod IndexEdits
 pub mod Scan

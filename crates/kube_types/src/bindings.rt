@@ -1,10 +1,10 @@
 //! The words of bindings: classes, completed, for, carries, protected.
 
-ghost use Rattle.std.specs.Prelude.{◌≡◌, IfOk};
-ghost use Rattle.kube_types.specs.Bindings.{carries, class_of_claim, class_of_volume, is_completed, is_deleting, is_empty, is_ended, is_for, is_lost, is_protected_claim, is_protected_volume, is_scheduled, is_uid, lacks_class, names_claim, uid_fits};
+ghost use Rattle.std.specs.Prelude.{◌≡◌, ◌≤◌, IfOk};
+ghost use Rattle.kube_types.specs.Bindings.{carries, class_of_claim, class_of_volume, count_one, is_completed, is_deleting, is_empty, is_ended, is_for, is_lost, is_protected_claim, is_protected_volume, is_scheduled, is_uid, lacks_class, mode_count, names_claim, uid_fits};
 
 use crate::objects::{Claim, Meta, Pod, Ref, Volume};
-use crate::parts::{ClaimPhase, VolumePhase};
+use crate::parts::{ClaimPhase, Modes, VolumePhase};
 use crate::uid::Uid;
 use plain_data::copies::{OutOfMemory, Plain};
 use plain_data::text::Text;
@@ -188,4 +188,19 @@ pub fn ref_to(alloc: Global, claim: &Claim) -> Result<Ref, OutOfMemory>
         name: claim.meta.name.copy(alloc)?,
         uid: claim.meta.uid,
     })
+}
+
+/// How many access modes are set.
+pub fn mode_count(modes: Modes) -> u8
+    ensures { result ≡ mode_count modes }
+{
+    count_one(modes.rwo) + count_one(modes.rox) + count_one(modes.rwx) + count_one(modes.rwop)
+}
+
+/// One where it is set, and else none.
+pub fn count_one(is_set: bool) -> u8
+    ensures value { result ≡ count_one is_set }
+    ensures bound { result ≤ 1 }
+{
+    if is_set { 1 } else { 0 }
 }

@@ -4,7 +4,8 @@
 //! carries, protected) are those of the definitions (`bindings`). `Uid::from_serial` gives two numbers two ids, and
 //! the text of an id gives it back (`uid`). A printed word names the value that has it, and nothing else (`words`).
 //! Rows in the order of their keys are found, put and taken by key (`table`). A `Lookup` is a list of objects in that
-//! order, no key twice. Not said: that an object is valid, or that anybody made it.
+//! order, no key twice. An index of volumes stands for those that were put into it and not taken out since (`StandsFor`);
+//! an edit of it that is out of memory leaves it as it was (`volume_index`). Not said: that an object is valid, or that anybody made it.
 #![tactic(auto)]
 
 pub mod bindings;
@@ -18,6 +19,9 @@ pub mod parts;
 pub mod plain;
 pub mod table;
 pub mod uid;
+pub mod volume_index;
+mod volume_lists;
+pub mod volume_order;
 pub mod words;
 
 pub use plain_data::{copies, items, pairs, rows, shared, text};

@@ -1,14 +1,16 @@
 //! Looking up objects.
 
-ghost use Rattle.std.specs.Prelude.{◌≡◌, List, length, slice_get};
+ghost use Rattle.std.specs.Prelude.{◌≡◌, List, length, slice_get, IfSome};
 ghost use Rattle.std.specs.Option.{option_copied};
 ghost use Rattle.kube_types.specs.Keys.{AreRows, row_at, rows_of};
 ghost use Rattle.kube_types.specs.Lookups.{is_asked, is_present};
+ghost use Rattle.kube_types.specs.VolumeIndex.{StandsFor, volumes_in};
 ghost use Rattle.kube_types.specs.declared.objects.Object.{Object};
 
 use crate::key::Key;
 use crate::objects::Object;
 use crate::parts::Kind;
+use crate::volume_index::VolumeIndex;
 
 /// Objects that can be looked up. `rows` are all of them, in the order of their keys.
 pub trait Lookup {
@@ -28,6 +30,10 @@ pub trait Lookup {
     fn row(&self, key: &Key) -> Option<&Object>
         ensures object { option_copied result ≡ row_at key.now (rows self.now) }
         ensures order { AreRows (rows self.now) };
+
+    /// An index of the volumes, where one is kept: it saves looking at all of them.
+    fn volumes(&self) -> Option<&VolumeIndex>
+        ensures { IfSome (option_copied result) (λ index. StandsFor index (volumes_in (rows self.now))) };
 }
 
 /// What is known of an object that was read by itself.

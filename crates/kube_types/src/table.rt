@@ -9,6 +9,7 @@ use crate::key::{Key, key_of, kind_index, kind_of, same_kind};
 use crate::lookup::Lookup;
 use crate::objects::Object;
 use crate::parts::Kind;
+use crate::volume_index::VolumeIndex;
 use plain_data::copies::OutOfMemory;
 use plain_data::rows::{Ranked, place_of, put_at};
 use std::alloc::Global;
@@ -220,5 +221,9 @@ impl Lookup for Table {
 
     fn row(&self, key: &Key) -> Option<&Object> {
         row(&self.rows, key)
+    }
+
+    fn volumes(&self) -> Option<&VolumeIndex> {
+        None
     }
 }

@@ -7,6 +7,7 @@
 ghost use Rattle.std.specs.Prelude.{◌≡◌};
 ghost use Rattle.std.specs.List.{list_all, list_any};
 ghost use Rattle.std.specs.Option.{option_copied};
+ghost use Rattle.plain_data.specs.Pairs.{ArePairs, text_cmp};
 ghost use Rattle.label_rules.specs.Selectors.{admits, has_pair, holds, holds_by, is_one_of, selects, term_matches};
 
 use kube_types::items::Items;
@@ -14,6 +15,10 @@ use kube_types::objects::{Expr, NodeTerms, Selector};
 use kube_types::pairs::Pairs;
 use kube_types::parts::Op;
 use kube_types::text::{Names, Text};
+use std::cmp::Ordering;
+
+/// With more labels than this for each wanted pair, the pairs are sought one by one, by halves.
+const LABELS_A_PAIR: usize = 8;
 
 /// Whether the selector selects an object with these labels. The empty selector selects each object.
 pub fn selects(selector: &Selector, labels: &Pairs) -> bool
@@ -53,12 +58,56 @@ fn term_matches(labels: &Pairs, exprs: &[Expr]) -> bool
 fn has_all(labels: &Pairs, wanted: &Pairs) -> bool
     ensures { result ≡ list_all (has_pair labels.now) wanted.now }
 {
+    if wanted.as_slice().len() < labels.as_slice().len() / LABELS_A_PAIR {
+        return has_each(labels, wanted);
+    }
+    stand_among(labels.as_slice(), wanted.as_slice())
+}
+
+fn has_each(labels: &Pairs, wanted: &Pairs) -> bool
+    ensures { result ≡ list_all (has_pair labels.now) wanted.now }
+{
     for pair in wanted.as_slice() {
         if !has_pair(labels, &pair.0, &pair.1) {
             return false;
         }
     }
     true
+}
+
+/// The order of the two keys. Whether they are the same is asked first: it costs less.
+fn key_order(label: &Text, wanted: &Text) -> Ordering
+    ensures { result ≡ text_cmp label.now wanted.now }
+{
+    if label.is(wanted.as_str()) {
+        return Ordering::Equal;
+    }
+    label.as_str().cmp(wanted.as_str())
+}
+
+/// One walk over both, since the keys of both rise.
+fn stand_among(labels: &[(Text, Text)], wanted: &[(Text, Text)]) -> bool
+    requires labels { ArePairs labels.now }
+    requires wanted { ArePairs wanted.now }
+    ensures { result ≡ list_all (has_pair labels.now) wanted.now }
+{
+    let mut left = wanted;
+    for label in labels {
+        match left {
+            [] => return true,
+            [pair, rest @ ..] => match key_order(&label.0, &pair.0) {
+                Ordering::Less => {}
+                Ordering::Equal => {
+                    if !pair.1.is(label.1.as_str()) {
+                        return false;
+                    }
+                    left = rest;
+                }
+                Ordering::Greater => return false,
+            },
+        }
+    }
+    left.is_empty()
 }
 
 fn has_pair(labels: &Pairs, key: &Text, value: &Text) -> bool

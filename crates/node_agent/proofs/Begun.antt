@@ -24,8 +24,8 @@ use Rattle.pod_law.proofs.Told.{telling}
 use Rattle.node_agent.specs.declared.agent.AgentOp.{AgentOp}
 use Rattle.node_agent.specs.declared.step.AgentStep.TheVariants as steps
 use Rattle.node_agent.specs.Agents.{agent_at, agent_begins, agent_call, agent_for, agent_known, at_start, next_step, step_for}
-use Rattle.node_agent.specs.BeginLaw.{BegunHaveCalls}
-use Rattle.node_agent.specs.Evidence.{AgentKeeps, HasStarted, MayDecide, MayRead, StartedBy}
+use Rattle.node_agent.specs.BeginLaw.{BegunAgentsHaveCalls}
+use Rattle.node_agent.specs.Evidence.{AgentKeeps, HasStarted, MayDecide, MayReadForPod, StartedBy}
 use Rattle.node_agent.proofs.Allowed.{newest_pod}
 use Rattle.node_agent.proofs.Gets.{neither_of}
 use Rattle.node_agent.proofs.Moves.{next_keeps}
@@ -61,7 +61,7 @@ becomes a b mine e kept = subst (λ (k : AgentOp). AgentKeeps k mine) (one a b e
 
 -- the pod stands on the node
 module _ (node : List ℕ) (epoch : ℕ) (p : PodData) (uid : Uid) (mine : List Entry) (row : Option Object) (at : row ≡ Some (Pod p)) (may : MayDecide node epoch row mine) (newest : IsNewest mine (pod_key p.meta.namespace p.meta.name) (Pod p)) (on_node : IsPodOn uid node p) where
-  reading : is_deleting p.meta ≡ false → MayRead (at_start node epoch p uid steps.Done) mine
+  reading : is_deleting p.meta ≡ false → MayReadForPod (at_start node epoch p uid steps.Done) mine
   reading staying =
       let c = cut p node mine may.started (newest_pod (λ q. q ≡ p) mine (pod_key p.meta.namespace p.meta.name) p newest refl) in
       record {
@@ -140,7 +140,7 @@ pod_calls node epoch mounts p op = by (is_scheduled p && bytes_eq p.node node) p
     by true None e = none_some e
     by true (Some uid) e = at_calls node epoch p uid (has_row uid mounts) op e
 
-pub begun_have_calls : BegunHaveCalls
+pub begun_have_calls : BegunAgentsHaveCalls
 begun_have_calls node epoch mounts (Some (Pod p)) op e = pod_calls node epoch mounts p op e
 begun_have_calls node epoch mounts None op e = none_some e
 begun_have_calls node epoch mounts (Some (Class x)) op e = none_some e

@@ -28,7 +28,7 @@ use Rattle.node_agent.specs.declared.step.AgentStep.{AgentStep}
 use Rattle.node_agent.specs.declared.step.AgentStep.TheVariants as steps
 use Rattle.node_agent.specs.declared.step.ReadyClaim.{ReadyClaim}
 use Rattle.node_agent.specs.Agents.{after_claim, after_last, after_mounts, after_unmount, agent_after, agent_call, agent_moved, agent_call_at, is_claim_read, is_agent_ready, is_volume_read, next_step, ready_by, ready_claim}
-use Rattle.node_agent.specs.Evidence.{AgentKeeps, AreFoundReady, IsFoundReady, MayEnd, MayRead, MayReadClaim, MayReadVolume, StepKeeps, at_rest}
+use Rattle.node_agent.specs.Evidence.{AgentKeeps, AreFoundReady, IsFoundReady, MayEnd, MayReadForPod, MayReadClaim, MayReadVolume, StepKeeps, at_rest}
 use Rattle.node_agent.proofs.Gets.{IsFound, both, claim_past, claims_past, epoch_past, last_found, never_past, newest_past, no_epoch, since_epoch_past, volumes_past}
 
 opposite : (b : Bool) → not b ≡ true → b ≡ false
@@ -36,7 +36,7 @@ opposite true h = sym h
 opposite false h = refl
 
 -- the evidence on the pod, after a Get that found an object, with these claims counted
-abbrev pod_past : (op : AgentOp) (mine : List Entry) (key : Key) (o : Object) (e : Entry) (ready : List ReadyClaim) → (m : MayRead op mine) → IsFound key o e → AreFoundReady (e ∷ m.recent) op.pod.meta.namespace ready op.pod.claims → MayRead (record op { ready = ready }) (e ∷ mine)
+abbrev pod_past : (op : AgentOp) (mine : List Entry) (key : Key) (o : Object) (e : Entry) (ready : List ReadyClaim) → (m : MayReadForPod op mine) → IsFound key o e → AreFoundReady (e ∷ m.recent) op.pod.meta.namespace ready op.pod.claims → MayReadForPod (record op { ready = ready }) (e ∷ mine)
 pod_past op mine key o e ready m f all =
     let none : epoch_in op.node e ≡ None = no_epoch op.node e (requests.Get key) f.asked (λ reply. refl) in
     record {
@@ -55,7 +55,7 @@ pod_past op mine key o e ready m f all =
     }
 
 -- what is done next about the pod
-pub next_keeps : (op : AgentOp) (mine : List Entry) → MayRead op mine → StepKeeps (next_step op.ready (slice_get op.pod.claims (length op.ready))) op mine
+pub next_keeps : (op : AgentOp) (mine : List Entry) → MayReadForPod op mine → StepKeeps (next_step op.ready (slice_get op.pod.claims (length op.ready))) op mine
 next_keeps op mine m = by (slice_get op.pod.claims (length op.ready)) refl
   where
     by_read : (name : List ℕ) (b : Bool) → slice_get op.pod.claims (length op.ready) ≡ Some name → is_claim_read name op.ready ≡ b → StepKeeps (if b then steps.Parked else steps.ReadsClaim name) op mine

@@ -8,7 +8,7 @@ use Rattle.node_agent.specs.declared.step.AgentStep.TheVariants as steps
 use Rattle.node_agent.specs.Agents.{agent_call, agent_parks, agent_call_at}
 use Rattle.pod_law.specs.Tellings.{tells_pod}
 use Rattle.node_agent.specs.Evidence.{HasStarted, StartedBy}
-use Rattle.node_agent.specs.StartLaw.{ParkedHaveEnded, StartGoesOn, UntoldHasStarted}
+use Rattle.node_agent.specs.StartLaw.{ParkedAgentsHaveEnded, StartGoesOn, UntoldHasStarted}
 use Rattle.node_agent.proofs.Gets.{neither_of}
 
 pub untold_has_started : UntoldHasStarted
@@ -25,7 +25,7 @@ untold_has_started node (e ∷ mine) none = by (is_some (epoch_in node e)) (unto
 pub start_goes_on : StartGoesOn
 start_goes_on node e mine none listed started = subst (λ (x : Option ℕ). StartedBy (is_some x) node e mine (HasStarted node mine)) (sym none) (listed, started)
 
-pub parked_have_ended : ParkedHaveEnded
+pub parked_have_ended : ParkedAgentsHaveEnded
 unfolding agent_call
 parked_have_ended op = by op.step
   where

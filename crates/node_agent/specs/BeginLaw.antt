@@ -9,8 +9,8 @@ use Rattle.call_types.specs.declared.reply.MountRow.{MountRow}
 use Rattle.node_agent.specs.declared.agent.AgentOp.{AgentOp}
 use Rattle.node_agent.specs.Agents.{agent_begins, agent_call}
 
-abbrev pub BegunHaveCalls : Type 0
-BegunHaveCalls = (node : List ℕ) (epoch : ℕ) (mounts : List MountRow) (row : Option Object) (op : AgentOp) → agent_begins node epoch mounts row ≡ Some op → is_some (agent_call op) ≡ true
+abbrev pub BegunAgentsHaveCalls : Type 0
+BegunAgentsHaveCalls = (node : List ℕ) (epoch : ℕ) (mounts : List MountRow) (row : Option Object) (op : AgentOp) → agent_begins node epoch mounts row ≡ Some op → is_some (agent_call op) ≡ true
 
 -- the request neither lists nor watches a whole kind
 pub record ReadsNoKind (request : Request) : Type 0 where

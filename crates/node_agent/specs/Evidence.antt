@@ -34,7 +34,7 @@ AreFoundReady recent namespace (r ∷ ready) (name ∷ names) = IsFoundReady rec
 
 -- The pod was told since the node was taken, by a list of all pods or after one, and is the newest told: it is on the node and stays.
 -- `recent` are the entries after the one that told it: by them the claims counted are ready. The seat never asked to finish the pod
-pub record MayRead (op : AgentOp) (mine : List Entry) : Type 0 where
+pub record MayReadForPod (op : AgentOp) (mine : List Entry) : Type 0 where
   pub current : last_epoch op.node mine ≡ Some op.epoch
   pub recent : List Entry
   pub teller : Entry
@@ -54,12 +54,12 @@ pub record IsNext (op : AgentOp) (name : List ℕ) : Type 0 where
   pub unread : is_claim_read name op.ready ≡ false
 
 pub record MayReadClaim (op : AgentOp) (name : List ℕ) (mine : List Entry) : Type 0 where
-  pub pod : MayRead op mine
+  pub pod : MayReadForPod op mine
   pub next : IsNext op name
 
 -- the next claim was read last, and found ready; its volume was read for no other claim
 pub record MayReadVolume (op : AgentOp) (name : List ℕ) (c : ClaimData) (mine : List Entry) : Type 0 where
-  pub pod : MayRead op mine
+  pub pod : MayReadForPod op mine
   pub next : IsNext op name
   pub read : last_get (claim_key op.pod.meta.namespace name) pod.recent ≡ Some (Found (Claim c))
   pub ready : is_agent_ready c ≡ true
@@ -68,7 +68,7 @@ pub record MayReadVolume (op : AgentOp) (name : List ℕ) (c : ClaimData) (mine 
 
 -- each claim of the pod was counted
 pub record MayMountPod (op : AgentOp) (mine : List Entry) : Type 0 where
-  pub pod : MayRead op mine
+  pub pod : MayReadForPod op mine
   pub whole : slice_get op.pod.claims (length op.ready) ≡ None
 
 -- the pod was told deleting, on the node

@@ -50,5 +50,5 @@ abbrev pub LicensedHasStarted : Type 0
 LicensedHasStarted = (node : List ℕ) (mine : List Entry) → AreLicensed mine → AreToldByReads mine → TookFirst node mine → HasStarted node mine
 
 -- a machine whose key is parked has ended
-abbrev pub ParkedHaveEnded : Type 0
-ParkedHaveEnded = (op : AgentOp) → agent_parks op.step ≡ true → agent_call op ≡ None
+abbrev pub ParkedAgentsHaveEnded : Type 0
+ParkedAgentsHaveEnded = (op : AgentOp) → agent_parks op.step ≡ true → agent_call op ≡ None

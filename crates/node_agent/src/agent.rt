@@ -1,10 +1,10 @@
 //! What a node agent has under way for one pod.
 
-ghost use Rattle.std.specs.Prelude.{◌≡◌, IfOk, OnOk};
+ghost use Rattle.std.specs.Prelude.{◌≡◌, ◌++◌, ◌∷◌, [], IfOk, OnOk, OnErr};
 ghost use Rattle.binder_model.specs.AgentLicence.{has_row};
-ghost use Rattle.node_agent.specs.Agents.{after_last, after_mounts, after_unmount, agent_at, agent_call, agent_moved, agent_parks, at_start, finish_call, mount_call, agent_step_after};
+ghost use Rattle.node_agent.specs.Agents.{after_last, after_mounts, after_unmount, agent_at, agent_call, agent_moved, agent_parks, at_start, finish_call, mount_call, agent_step_after, step_for};
 
-use crate::reads::{after_claim, pod_key, ready_by, step_for, uids_of};
+use crate::reads::{after_claim, name_at, pod_key, ready_by, step_by, step_for, uids_of};
 use crate::step::{AgentStep, ReadyClaim};
 use call_types::reply::{MountRow, Reply};
 use call_types::request::Request;
@@ -119,17 +119,26 @@ impl AgentOp {
     /// Takes the answer to the next call.
     #[tactic(auto, unfolding(crate::specs::Agents::agent_moved))]
     pub fn absorb(&mut self, alloc: Global, reply: &Reply) -> Result<(), OutOfMemory>
-        ensures { OnOk result (self.new ≡ agent_moved self.old reply.now) }
+        ensures ok { OnOk result (self.new ≡ agent_moved self.old reply.now) }
+        ensures err { OnErr result (self.new ≡ self.old) }
     {
         match ready_by(alloc, &self.step, reply)? {
-            Some(claim) => {
-                self.ready.push(claim)?;
-                self.step = step_for(alloc, &self.pod, self.ready.as_slice())?;
-            }
+            Some(claim) => self.take_ready(alloc, claim),
             None => {
                 self.step = self.step_after(alloc, reply)?;
+                Ok(())
             }
         }
+    }
+
+    /// Takes a claim that was found ready. The name of the next one is copied before it is put down.
+    fn take_ready(&mut self, alloc: Global, claim: ReadyClaim) -> Result<(), OutOfMemory>
+        ensures ok { OnOk result (self.new ≡ record self.old { ready = self.old.ready ++ claim ∷ []; step = step_for self.old.pod (self.old.ready ++ claim ∷ []) }) }
+        ensures err { OnErr result (self.new ≡ self.old) }
+    {
+        let name = name_at(alloc, &self.pod, self.ready.as_slice().len() + 1)?;
+        self.ready.push(claim)?;
+        self.step = step_by(self.ready.as_slice(), name);
         Ok(())
     }
 

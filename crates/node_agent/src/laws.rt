@@ -11,10 +11,10 @@ ghost use Rattle.binder_model.specs.Licence.{AreOfKind, Licensed};
 ghost use Rattle.informer_cache.specs.All.{AllKnown, AllStandFor, all_objects};
 ghost use Rattle.node_agent.specs.declared.agent.AgentOp.{AgentOp};
 ghost use Rattle.node_agent.specs.Agents.{agent_begins, agent_call, agent_moved};
-ghost use Rattle.node_agent.specs.BeginLaw.{BegunHaveCalls, CallsReadNoKind};
+ghost use Rattle.node_agent.specs.BeginLaw.{BegunAgentsHaveCalls, CallsReadNoKind};
 ghost use Rattle.node_agent.specs.Evidence.{AgentKeeps, MayDecide};
 ghost use Rattle.node_agent.specs.HistoryLaw.{HistoriesTellByReads, TakersHaveStarted, TakersMayDecide, TakersTookFirst};
-ghost use Rattle.node_agent.specs.StartLaw.{LicensedHasStarted, ParkedHaveEnded, StartGoesOn, UntoldHasStarted, UntoldIsUnfinished};
+ghost use Rattle.node_agent.specs.StartLaw.{LicensedHasStarted, ParkedAgentsHaveEnded, StartGoesOn, UntoldHasStarted, UntoldIsUnfinished};
 
 /// The next call of a machine is allowed by its evidence.
 pub fn calls_are_allowed()
@@ -34,7 +34,7 @@ pub fn decisions_keep()
 
 /// Each machine that begins has a next call.
 pub fn begun_have_calls()
-    ensures { BegunHaveCalls }
+    ensures { BegunAgentsHaveCalls }
 {}
 
 /// No call of a machine lists or watches a whole kind.
@@ -44,7 +44,7 @@ pub fn calls_read_no_kind()
 
 /// A machine whose key is parked has ended.
 pub fn parked_have_ended()
-    ensures { ParkedHaveEnded }
+    ensures { ParkedAgentsHaveEnded }
 {}
 
 /// A seat that was told no pod has started.

@@ -1,7 +1,6 @@
 //! What is read of a pod's claims, and what is read next.
 
-ghost use Rattle.std.specs.Prelude.{◌≡◌, IfOk};
-ghost use Rattle.std.specs.Option.{option_copied};
+ghost use Rattle.std.specs.Prelude.{◌≡◌, IfOk, slice_get};
 ghost use Rattle.binder_model.specs.BindWrites.{is_claim_bound};
 ghost use Rattle.binder_model.specs.ObjectKeys.{pod_key};
 ghost use Rattle.node_agent.specs.Agents.{after_claim, is_claim_read, is_agent_ready, is_volume_read, next_step, ready_by, ready_claim, step_for, uids_of};
@@ -26,23 +25,30 @@ pub(crate) fn step_for(
 ) -> Result<AgentStep, OutOfMemory>
     ensures { IfOk result (λ step. step ≡ step_for pod.now ready.now) }
 {
-    next_step(alloc, ready, pod.claims.as_slice().get(ready.len()))
+    Ok(step_by(ready, name_at(alloc, pod, ready.len())?))
 }
 
-fn next_step(
-    alloc: Global,
-    ready: &[ReadyClaim],
-    name: Option<&Text>,
-) -> Result<AgentStep, OutOfMemory>
-    ensures { IfOk result (λ step. step ≡ next_step ready.now (option_copied name.entry)) }
+/// The name of the pod's claim at this place, if it has so many.
+pub(crate) fn name_at(alloc: Global, pod: &Pod, place: usize) -> Result<Option<Text>, OutOfMemory>
+    ensures { IfOk result (λ name. name ≡ slice_get pod.now.claims place) }
+{
+    match pod.claims.as_slice().get(place) {
+        None => Ok(None),
+        Some(name) => Ok(Some(name.copy(alloc)?)),
+    }
+}
+
+/// The next step, where this claim is the next one of the pod. It takes no memory.
+pub(crate) fn step_by(ready: &[ReadyClaim], name: Option<Text>) -> AgentStep
+    ensures { result ≡ next_step ready.now name }
 {
     match name {
-        None => Ok(AgentStep::MountsPod),
+        None => AgentStep::MountsPod,
         Some(name) => {
-            if is_claim_read(name, ready) {
-                return Ok(AgentStep::Parked);
+            if is_claim_read(&name, ready) {
+                return AgentStep::Parked;
             }
-            Ok(AgentStep::ReadsClaim(name.copy(alloc)?))
+            AgentStep::ReadsClaim(name)
         }
     }
 }

@@ -11,7 +11,7 @@ use Rattle.object_text.specs.declared.errors.ListError.{ListError}
 use Rattle.object_text.specs.MemberReaders.{needed_items}
 use Rattle.object_text.specs.Reading.{is_object, most_bytes, object_of, read_text_of, value_of}
 use Rattle.object_text.specs.Listing.{is_long, item_of, with_item, items_from, is_list, list_items, one_item, list_in, list_from, list_of}
-use Rattle.object_laws.specs.Given.{IsGiven}
+use Rattle.object_laws.specs.Given.{IsGivenObject}
 use Rattle.object_laws.specs.Again.{IsReadAgain, TextIsReadAgain, ListIsReadAgain}
 use Rattle.object_laws.proofs.GivesParts.{step, if_ok, of_ok}
 use Rattle.object_laws.proofs.Texts.{text_gives, list_gives}
@@ -21,7 +21,7 @@ use Rattle.object_laws.proofs.Utf8Objects.{Each, each_append, ObjectUtf8, line_u
 use Rattle.object_laws.proofs.Utf8Readers.{needed_items_read_utf8}
 use Rattle.object_laws.proofs.Utf8Kinds.{object_read_utf8, value_read_utf8}
 
-again : (o : Object) → IsGiven o → ObjectUtf8 o → IsReadAgain o
+again : (o : Object) → IsGivenObject o → ObjectUtf8 o → IsReadAgain o
 again o is h short = record { manifest = line_is_read o is (line_utf8 o is h) short; listed = line_is_listed o is (line_utf8 o is h) short }
 
 -- ---- the text of a manifest
@@ -73,9 +73,9 @@ list_utf8 : (text : List ℕ) → IfOk (list_of text) AreUtf8
 unfolding list_of
 list_utf8 text = list_from_utf8 (value_of text) (value_read_utf8 text)
 
-all_again : (os : List Object) → All IsGiven os → AreUtf8 os → All IsReadAgain os
+all_again : (os : List Object) → All IsGivenObject os → AreUtf8 os → All IsReadAgain os
 all_again [] is h = All-nil IsReadAgain
-all_again (o ∷ os) is h = All-cons IsReadAgain o os (again o (All-head IsGiven o os is) h.0) (all_again os (All-tail IsGiven o os is) h.1)
+all_again (o ∷ os) is h = All-cons IsReadAgain o os (again o (All-head IsGivenObject o os is) h.0) (all_again os (All-tail IsGivenObject o os is) h.1)
 
 pub list_is_read_again : ListIsReadAgain
 list_is_read_again text os e = all_again os (list_gives text os e) (of_ok AreUtf8 (list_of text) os (list_utf8 text) e)

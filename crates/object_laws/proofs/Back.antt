@@ -20,7 +20,7 @@ use Rattle.object_print.specs.Claims.{claim_pairs, claim_data}
 use Rattle.object_print.specs.Objects.{class_data, pod_pairs, pod_data, node_pairs, node_data, object_data}
 use Rattle.object_print.proofs.ObjectFloats.{class_free, node_free, volume_free, claim_free, pod_free}
 use Rattle.object_text.specs.Reading.{is_object, api_version, kind_at, object_of_kind, object_of}
-use Rattle.object_laws.specs.Given.{IsClass, IsGiven}
+use Rattle.object_laws.specs.Given.{IsClass, IsGivenObject}
 use Rattle.object_laws.proofs.ClassBack.{class_is, class_has, class_back}
 use Rattle.object_laws.proofs.PodBack.{node_back, pod_back}
 use Rattle.object_laws.proofs.VolumeBack.{volume_back}
@@ -65,7 +65,7 @@ pod_tells : (p : Pod) → TellsKind kinds.Pod (pod_data p)
 unfolding pod_data
 pod_tells p = record { members = refl; name = get-put_all (codes "kind") (pod_pairs p) no_members; version = get-put_all (codes "apiVersion") (pod_pairs p) no_members }
 
-pub object_tells : (o : Object) → IsGiven o → TellsKind (kind_of o) (object_data o)
+pub object_tells : (o : Object) → IsGivenObject o → TellsKind (kind_of o) (object_data o)
 unfolding object_data
 object_tells (objects.Class c) h = class_tells c h
 object_tells (objects.Node n) h = node_tells n
@@ -73,7 +73,7 @@ object_tells (objects.Volume v) h = volume_tells v
 object_tells (objects.Claim c) h = claim_tells c
 object_tells (objects.Pod p) h = pod_tells p
 
-pub object_back : (o : Object) → IsGiven o → object_of (object_data o) ≡ Ok o
+pub object_back : (o : Object) → IsGivenObject o → object_of (object_data o) ≡ Ok o
 unfolding object_data
 object_back (objects.Class c) h = read_by_kind kinds.StorageClass (class_data c) (class_tells c h) (class_free c) ∙ rw (class_back c h) refl
 object_back (objects.Node n) h = read_by_kind kinds.Node (node_data n) (node_tells n) (node_free n) ∙ rw (node_back n h) refl

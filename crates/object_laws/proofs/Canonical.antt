@@ -20,7 +20,7 @@ use Rattle.object_print.specs.Volumes.{volume_front, volume_back, volume_spec, v
 use Rattle.object_print.specs.Claims.{claim_front, claim_back, claim_spec, got_modes, claim_status_pairs, claim_status, claim_pairs, claim_data}
 use Rattle.object_print.specs.Objects.{class_back, class_data, pod_spec, pod_pairs, pod_data, node_pairs, node_data, object_data}
 use Rattle.object_text.specs.declared.extra.Listed.{Listed}
-use Rattle.object_laws.specs.Given.{AreExtra, IsVolume, IsClaim, IsClass, IsNode, IsPod, IsGiven}
+use Rattle.object_laws.specs.Given.{AreExtra, IsVolume, IsClaim, IsClass, IsNode, IsPod, IsGivenObject}
 use Rattle.object_laws.proofs.ExtraBack.{extra_back}
 use Rattle.object_laws.proofs.CanonicalParts.{good_object_of, good_filled, good_option, good_texts, good_filled_array, good_filled_pairs, good_filled_object, good_meta, good_modes, good_storage, good_requests, good_ref, good_source, good_node_terms, good_selector}
 
@@ -83,7 +83,7 @@ good_node : (n : Node) → IsNode n → Good 127 (node_data n)
 unfolding node_data
 good_node n h = good_object_of 126 (node_pairs n) (good_string, (good_string, (good_meta 124 false n.meta, (good_filled_object 125 (extra_members n.extra) (good_kept _ n.extra h.extra.0 h.extra.1), tt))))
 
-pub object_good : (o : Object) → IsGiven o → Good 127 (object_data o)
+pub object_good : (o : Object) → IsGivenObject o → Good 127 (object_data o)
 unfolding object_data
 object_good (objects.Class c) h = good_class c h
 object_good (objects.Node n) h = good_node n h

@@ -22,7 +22,7 @@ use Rattle.object_text.specs.Answers.{◌>>=◌}
 use Rattle.object_text.specs.MemberReaders.{at, way_from, optional_items_from}
 use Rattle.object_text.specs.PartReaders.{known, modes_from, no_modes, modes_or_none, optional_modes, optional_quantity, claim_phase_at, selector_of, selector_at}
 use Rattle.object_text.specs.KindReaders.{claim_shape, claim_ties, claim_status_of, claim_of}
-use Rattle.object_text.specs.ExtraMembers.{is_listed}
+use Rattle.object_text.specs.ExtraMembers.{is_listed_member}
 use Rattle.object_laws.specs.Given.{IsAmount, IsSelector, AreExtra, IsClaim}
 use Rattle.object_laws.proofs.ExtraBack.{extra_back, spec_has, kept_back}
 use Rattle.object_laws.proofs.PartsBack.{next, shown_text_back, text_back, optional_text_back, pairs_back, quantity_back, modes_items, modes_back, block_back, exprs_back}
@@ -111,7 +111,7 @@ spec_is : (c : Claim) (ms : Members) → AreExtra 125 listed.Claim c.extra ms �
 unfolding claim_spec
 spec_is c ms h = ap (λ es. object (put_all (spec_pairs c) es)) (extra_back 125 listed.Claim c.extra ms (omega arith) h)
 
-spec_names : (c : Claim) (ms : Members) → AreExtra 125 listed.Claim c.extra ms → (k : List ℕ) → is_listed listed.Claim k ≡ true → get_member k (put_all (spec_pairs c) ms) ≡ pick k (spec_pairs c) None
+spec_names : (c : Claim) (ms : Members) → AreExtra 125 listed.Claim c.extra ms → (k : List ℕ) → is_listed_member listed.Claim k ≡ true → get_member k (put_all (spec_pairs c) ms) ≡ pick k (spec_pairs c) None
 spec_names c ms h k is = spec_has listed.Claim (spec_pairs c) ms k h.others is
 
 shape_back : (c : Claim) (ms : Members) → IsAmount c.amount → AreExtra 125 listed.Claim c.extra ms → claim_shape (spec_place c ms) ≡ Ok (record { modes = c.modes; block = c.block; amount = c.amount })

@@ -15,7 +15,7 @@ use Rattle.object_text.specs.declared.extra.Listed.TheVariants as listed
 use Rattle.object_text.specs.MemberReaders.{at}
 use Rattle.object_text.specs.PartReaders.{class_policy_at, delayed_at}
 use Rattle.object_text.specs.KindReaders.{class_of}
-use Rattle.object_text.specs.ExtraMembers.{is_listed}
+use Rattle.object_text.specs.ExtraMembers.{is_listed_member}
 use Rattle.object_laws.specs.Given.{IsClassPolicy, AreExtra, IsClass}
 use Rattle.object_laws.proofs.ExtraBack.{extra_back, spec_has, kept_back}
 use Rattle.object_laws.proofs.PartsBack.{needed_text_back, pairs_back}
@@ -39,7 +39,7 @@ pub class_is : (c : Class) (ms : Members) → AreExtra 126 listed.Class c.extra 
 unfolding class_data
 class_is c ms h = ap (λ es. object (put_all (class_pairs c) es)) (extra_back 126 listed.Class c.extra ms (omega arith) h)
 
-pub class_has : (c : Class) (ms : Members) → AreExtra 126 listed.Class c.extra ms → (k : List ℕ) → is_listed listed.Class k ≡ true → get_member k (put_all (class_pairs c) ms) ≡ pick k (class_pairs c) None
+pub class_has : (c : Class) (ms : Members) → AreExtra 126 listed.Class c.extra ms → (k : List ℕ) → is_listed_member listed.Class k ≡ true → get_member k (put_all (class_pairs c) ms) ≡ pick k (class_pairs c) None
 class_has c ms h k is = spec_has listed.Class (class_pairs c) ms k h.others is
 
 members_back : (c : Class) (h : IsClass c) → class_of (object (put_all (class_pairs c) h.extra.0)) ≡ Ok c

@@ -9,7 +9,7 @@ use Rattle.json_text.proofs.ReadBack.{read-compact_text}
 use Rattle.json_text.proofs.PutAll.{get-put_all, others-put_all, others_all, not_other}
 use Rattle.json_text.specs.Members.{MemberList, members_unless, extra_from, extra_members}
 use Rattle.object_text.specs.declared.extra.Listed.{Listed}
-use Rattle.object_text.specs.ExtraMembers.{is_listed, extra_text, extra_at}
+use Rattle.object_text.specs.ExtraMembers.{is_listed_member, extra_text, extra_at}
 use Rattle.object_laws.specs.Given.{AreExtra}
 
 extra_none : extra_members [] ≡ no_members
@@ -30,10 +30,10 @@ pub extra_back : (n : ℕ) (known : Listed) (kept : List ℕ) (ms : Members) →
 extra_back n known kept ms shallow h = ap extra_members h.text ∙ extra_some n ms shallow h.good
 
 -- of a known name nothing else counts
-pub spec_has : (known : Listed) (ps : MemberList) (ms : Members) (k : List ℕ) → AreOthers (is_listed known) ms → is_listed known k ≡ true → get_member k (put_all ps ms) ≡ pick k ps None
-spec_has known ps ms k h is = get-put_all k ps ms ∙ ap (pick k ps) (not_other (is_listed known) k ms is h)
+pub spec_has : (known : Listed) (ps : MemberList) (ms : Members) (k : List ℕ) → AreOthers (is_listed_member known) ms → is_listed_member known k ≡ true → get_member k (put_all ps ms) ≡ pick k ps None
+spec_has known ps ms k h is = get-put_all k ps ms ∙ ap (pick k ps) (not_other (is_listed_member known) k ms is h)
 
 -- the members are kept again
-pub kept_back : (n : ℕ) (known : Listed) (ps : MemberList) (kept : List ℕ) (ms : Members) → AreExtra n known kept ms → are_known (is_listed known) ps ≡ true → extra_at known (Some (object (put_all ps ms))) ≡ kept
+pub kept_back : (n : ℕ) (known : Listed) (ps : MemberList) (kept : List ℕ) (ms : Members) → AreExtra n known kept ms → are_known (is_listed_member known) ps ≡ true → extra_at known (Some (object (put_all ps ms))) ≡ kept
 unfolding extra_at
-kept_back n known ps kept ms h is = ap extra_text (others-put_all (is_listed known) ps ms is ∙ others_all (is_listed known) ms h.others) ∙ sym h.text
+kept_back n known ps kept ms h is = ap extra_text (others-put_all (is_listed_member known) ps ms is ∙ others_all (is_listed_member known) ms h.others) ∙ sym h.text

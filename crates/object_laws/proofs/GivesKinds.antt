@@ -24,10 +24,10 @@ use Rattle.object_text.specs.declared.kind_readers.ClaimTies.{ClaimTies}
 use Rattle.object_text.specs.declared.kind_readers.ClaimStatus.{ClaimStatus}
 use Rattle.object_text.specs.Answers.{◌>>=◌}
 use Rattle.object_text.specs.MemberWords.{member_word}
-use Rattle.object_text.specs.MemberReaders.{at, needed_text, way_from, needed_way, object_at, text_or, optional_text, optional_items_from, pairs_at}
+use Rattle.object_text.specs.MemberReaders.{at, needed_text, way_from, needed_way, some_object_at, text_or, optional_text, optional_items_from, pairs_at}
 use Rattle.object_text.specs.MetaReaders.{meta_of}
 use Rattle.object_text.specs.PartReaders.{quantity_at, optional_quantity, modes_at, optional_modes, block_at, policy_at, class_policy_at, delayed_at, claim_phase_at, claim_ref_at, there, source_at, terms_at, selector_at, claims_or_none, claims_at}
-use Rattle.object_text.specs.ExtraMembers.{is_listed, place_members, extra_at}
+use Rattle.object_text.specs.ExtraMembers.{is_listed_member, place_members, extra_at}
 use Rattle.object_text.specs.KindReaders.{volume_shape, volume_ties, volume_spec_of, volume_status_of, volume_of, claim_shape, claim_ties, claim_status_of, claim_of, class_of, node_of, pod_of}
 use Rattle.object_laws.specs.Given.{IsMeta, IsAmount, IsRef, IsSource, IsSelector, IsClassPolicy, AreExtra, IsFree, NoneBefore, AreVolumeExtra, IsVolume, IsClaim, IsClass, IsNode, IsPod}
 use Rattle.object_laws.proofs.GivesParts.{step, past, itself, pairs_given, meta_given, quantity_given, optional_quantity_given, class_policy_given, claim_ref_given, NoneThere, IsFirst, source_given, selector_given}
@@ -86,22 +86,22 @@ good_way n m (Some (object ms)) h = good_members h
 pub needed_way_given : (n : ℕ) (m : Member) (d : Data) → Good (suc (suc n)) d → IfOk (needed_way m (Some d)) (IsGoodPlace n)
 needed_way_given n m d h = good_way n m (unless_null (at m (Some d))) (good_unless (suc n) (at m (Some d)) (good_at (suc n) m (Some d) (good_place (suc n) d h)))
 
-pub object_at_given : (n : ℕ) (m : Member) (d : Data) → Good (suc (suc n)) d → IfOk (object_at m (Some d)) (IsGoodPlace n)
+pub object_at_given : (n : ℕ) (m : Member) (d : Data) → Good (suc (suc n)) d → IfOk (some_object_at m (Some d)) (IsGoodPlace n)
 object_at_given n m d h = good_way n m (at m (Some d)) (good_at (suc n) m (Some d) (good_place (suc n) d h))
 
 -- ---- the members that are kept
 
 abbrev kept_members : Listed → Option Data → Members
-kept_members known place = others (is_listed known) (place_members place)
+kept_members known place = others (is_listed_member known) (place_members place)
 
 extra_given : (n : ℕ) (known : Listed) (place : Option Data) → IsGoodPlace n place → AreExtra n known (extra_at known place) (kept_members known place)
 unfolding extra_at
-extra_given n known place h = record { text = refl; others = others_are (is_listed known) (place_members place); good = good_others (is_listed known) (place_members place) h }
+extra_given n known place h = record { text = refl; others = others_are (is_listed_member known) (place_members place); good = good_others (is_listed_member known) (place_members place) h }
 
-same_at : (known : Listed) (m : Member) (place : Option Data) → is_listed known (member_word m) ≡ false → AreMembers (place_members place) → get_member (member_word m) (kept_members known place) ≡ at m place
-same_at known m place free h = member_kept (is_listed known) (member_word m) (place_members place) free h ∙ sym (at_is m place)
+same_at : (known : Listed) (m : Member) (place : Option Data) → is_listed_member known (member_word m) ≡ false → AreMembers (place_members place) → get_member (member_word m) (kept_members known place) ≡ at m place
+same_at known m place free h = member_kept (is_listed_member known) (member_word m) (place_members place) free h ∙ sym (at_is m place)
 
-free_at : (known : Listed) (m : Member) (place : Option Data) → is_listed known (member_word m) ≡ false → AreMembers (place_members place) → there m place ≡ None → IsFree (member_word m) (kept_members known place)
+free_at : (known : Listed) (m : Member) (place : Option Data) → is_listed_member known (member_word m) ≡ false → AreMembers (place_members place) → there m place ≡ None → IsFree (member_word m) (kept_members known place)
 free_at known m place free h none = ap unless_null (same_at known m place free h) ∙ none
 
 none_before_given : (kind : SourceKind) (place : Option Data) → AreMembers (place_members place) → NoneThere kind (there members.Csi place) (there members.Nfs place) (there members.Local place)
@@ -194,10 +194,10 @@ IsClaimStatus s = IfSome s.got IsAmount
 claim_status_given : (d : Data) → IfOk (claim_status_of d) IsClaimStatus
 unfolding claim_status_of
 claim_status_given d =
-    past IsClaimStatus (object_at members.Status (Some d)) _ (λ status.
+    past IsClaimStatus (some_object_at members.Status (Some d)) _ (λ status.
     past IsClaimStatus (claim_phase_at status) _ (λ phase.
     past IsClaimStatus (optional_modes status) _ (λ got_modes.
-    past IsClaimStatus (object_at members.Capacity status) _ (λ capacity.
+    past IsClaimStatus (some_object_at members.Capacity status) _ (λ capacity.
     step (λ a. IfSome a IsAmount) IsClaimStatus (optional_quantity members.Storage capacity) _ (optional_quantity_given members.Storage capacity) (λ got is_got. is_got)))))
 
 pub claim_given : (d : Data) → Good 127 d → IfOk (claim_of d) IsClaim
@@ -228,7 +228,7 @@ pub node_given : (d : Data) → Good 127 d → IfOk (node_of d) IsNode
 unfolding node_of
 node_given d h =
     step (IsMeta false) IsNode (meta_of false d) _ (meta_given false d) (λ meta is_meta.
-    step (IsGoodPlace 125) IsNode (object_at members.Spec (Some d)) _ (object_at_given 125 members.Spec d h) (λ spec good.
+    step (IsGoodPlace 125) IsNode (some_object_at members.Spec (Some d)) _ (object_at_given 125 members.Spec d h) (λ spec good.
     record { meta = is_meta; extra = (kept_members listed.Node spec, extra_given 125 listed.Node spec good) }))
 
 -- the claims that a pod names are among its kept members
@@ -240,7 +240,7 @@ pub pod_given : (d : Data) → Good 127 d → IfOk (pod_of d) IsPod
 unfolding pod_of
 pod_given d h =
     step (IsMeta true) IsPod (meta_of true d) _ (meta_given true d) (λ meta is_meta.
-    step (IsGoodPlace 125) IsPod (object_at members.Spec (Some d)) _ (object_at_given 125 members.Spec d h) (λ spec good.
+    step (IsGoodPlace 125) IsPod (some_object_at members.Spec (Some d)) _ (object_at_given 125 members.Spec d h) (λ spec good.
     past IsPod (text_or members.NodeName [] spec) _ (λ node.
     step (λ cs. claims_at spec ≡ Ok cs) IsPod (claims_at spec) _ (itself (claims_at spec)) (λ claims are_claims.
     record { meta = is_meta; extra = (kept_members listed.Pod spec, record { extra = extra_given 125 listed.Pod spec good; claims = claims_kept spec good.canonical ∙ are_claims }) }))))

@@ -25,7 +25,7 @@ use Rattle.object_text.specs.declared.errors.ObjectError.TheVariants.{WrongType}
 use Rattle.object_text.specs.declared.meta_readers.Identity.{Identity}
 use Rattle.object_text.specs.declared.meta_readers.Marks.{Marks}
 use Rattle.object_text.specs.Answers.{◌>>=◌}
-use Rattle.object_text.specs.MemberReaders.{at, as_text, as_object, needed, needed_text, needed_object, object_at, text_or, optional_text, texts_at, pairs_from, pairs_in, pairs_or_none, pairs_at, uid_from, uid_named, uid_or_none, uid_at, stamp_named, stamp_from, stamp_at, stamp_or_empty, is_version, version_at}
+use Rattle.object_text.specs.MemberReaders.{at, as_text, as_object, needed, needed_text, needed_object, some_object_at, text_or, optional_text, texts_at, pairs_from, pairs_in, pairs_or_none, pairs_at, uid_from, uid_named, uid_or_none, uid_at, stamp_named, stamp_from, stamp_at, stamp_or_empty, is_version, version_at}
 use Rattle.object_text.specs.MetaReaders.{namespace_at, identity_at, marks_at, meta_of}
 use Rattle.object_text.specs.PartReaders.{quantity_text, amount_from, amount_in, quantity_at, amount_or_none, optional_quantity, known, class_policy_at, ref_at, ref_or_none, claim_ref_at, two_texts, one_text, source_from, there, source_at, exprs_at, selector_of, selector_or_none, selector_at}
 use Rattle.object_laws.specs.Given.{IsUid, IsStamp, IsStampOrEmpty, IsNamespace, IsMeta, IsAmount, IsRef, IsSource, IsSelector, IsClassPolicy}
@@ -197,7 +197,7 @@ ref_given place =
 
 pub claim_ref_given : (place : Option Data) → IfOk (claim_ref_at place) (λ r. IfSome r IsRef)
 unfolding claim_ref_at
-claim_ref_given place = past (λ r. IfSome r IsRef) (object_at members.ClaimRef place) _ or_none
+claim_ref_given place = past (λ r. IfSome r IsRef) (some_object_at members.ClaimRef place) _ or_none
   where
     or_none : (o : Option Data) → IfOk (ref_or_none o) (λ r. IfSome r IsRef)
     or_none None = tt
@@ -241,7 +241,7 @@ selector_given_of place = step ArePairs IsSelector (pairs_at members.MatchLabels
 
 pub selector_given : (place : Option Data) → IfOk (selector_at place) (λ s. IfSome s IsSelector)
 unfolding selector_at
-selector_given place = past (λ s. IfSome s IsSelector) (object_at members.Selector place) _ or_none
+selector_given place = past (λ s. IfSome s IsSelector) (some_object_at members.Selector place) _ or_none
   where
     or_none : (o : Option Data) → IfOk (selector_or_none o) (λ s. IfSome s IsSelector)
     or_none None = tt

@@ -18,17 +18,17 @@ use Rattle.object_text.specs.declared.errors.ObjectError.{ObjectError}
 use Rattle.object_text.specs.Reading.{most_bytes, object_of, read_text_of}
 use Rattle.object_text.specs.Listing.{is_list, item_of, list_in, list_of}
 use Rattle.object_text.proofs.WholeSizes.{least_whole}
-use Rattle.object_laws.specs.Given.{IsGiven}
+use Rattle.object_laws.specs.Given.{IsGivenObject}
 use Rattle.object_laws.proofs.Canonical.{object_good}
 use Rattle.object_laws.proofs.Back.{TellsKind, object_tells, object_back}
 
-pub printed_is_line : (o : Object) → IsGiven o → IsLine (object_line o)
+pub printed_is_line : (o : Object) → IsGivenObject o → IsLine (object_line o)
 printed_is_line o h = let good = object_good o h in objects_are_lines o good.canonical
 
 same_object : (o p : Object) (r : Result Object ObjectError) → r ≡ Ok o → r ≡ Ok p → o ≡ p
 same_object o p r e f = cc
 
-pub lines_are_apart : (o p : Object) → IsGiven o → IsGiven p → object_line o ≡ object_line p → o ≡ p
+pub lines_are_apart : (o p : Object) → IsGivenObject o → IsGivenObject p → object_line o ≡ object_line p → o ≡ p
 unfolding object_line
 lines_are_apart o p ho hp same =
     let good = object_good o ho in
@@ -36,7 +36,7 @@ lines_are_apart o p ho hp same =
     let values : object_data o ≡ object_data p = one_value_of (object_data o) (object_data p) good.canonical other.canonical same in
     same_object o p (object_of (object_data o)) (object_back o ho) (ap object_of values ∙ object_back p hp)
 
-pub line_is_read : (o : Object) → IsGiven o → is_utf8 (object_line o) ≡ true → length (object_line o) ≤ most_bytes → read_text_of (object_line o) ≡ Ok o
+pub line_is_read : (o : Object) → IsGivenObject o → is_utf8 (object_line o) ≡ true → length (object_line o) ≤ most_bytes → read_text_of (object_line o) ≡ Ok o
 unfolding object_line read_text_of
 line_is_read o h utf8 short =
     let good = object_good o h in
@@ -50,7 +50,7 @@ no_list kinds.PersistentVolume d h = rw h.name refl
 no_list kinds.PersistentVolumeClaim d h = rw h.name refl
 no_list kinds.Pod d h = rw h.name refl
 
-pub line_is_listed : (o : Object) → IsGiven o → is_utf8 (object_line o) ≡ true → length (object_line o) ≤ most_bytes → list_of (object_line o) ≡ Ok (o ∷ [])
+pub line_is_listed : (o : Object) → IsGivenObject o → is_utf8 (object_line o) ≡ true → length (object_line o) ≤ most_bytes → list_of (object_line o) ≡ Ok (o ∷ [])
 unfolding object_line list_of list_in item_of
 line_is_listed o h utf8 short =
     let good = object_good o h in

@@ -27,7 +27,7 @@ use Rattle.object_text.specs.declared.errors.Member.TheVariants as members
 use Rattle.object_text.specs.declared.errors.ObjectError.{ObjectError}
 use Rattle.object_text.specs.Answers.{◌>>=◌}
 use Rattle.object_text.specs.MemberWords.{member_word}
-use Rattle.object_text.specs.MemberReaders.{at, as_text, as_items, needed_from, needed_text, needed_way, way_from, object_at, text_from, text_or, optional_from, optional_text, optional_items_from, texts_from, texts_or_none, texts_at, pairs_from, pairs_or_none, pairs_at, uid_from, uid_or_none, uid_at}
+use Rattle.object_text.specs.MemberReaders.{at, as_text, as_items, needed_from, needed_text, needed_way, way_from, some_object_at, text_from, text_or, optional_from, optional_text, optional_items_from, texts_from, texts_or_none, texts_at, pairs_from, pairs_or_none, pairs_at, uid_from, uid_or_none, uid_at}
 use Rattle.object_text.specs.PartReaders.{amount_from, amount_in, quantity_at, no_modes, modes_from, modes_at, known, block_at, op_at, expr_of, exprs_from, exprs_or_none, exprs_at}
 use Rattle.object_laws.specs.Given.{IsUid, IsAmount}
 
@@ -67,7 +67,7 @@ needed_text_back m place s h = ap (λ p. needed_from m (unless_null p) >>= λ d.
 pub needed_way_back : (m : Member) (place : Option Data) (ms : Members) → at m place ≡ Some (object ms) → needed_way m place ≡ Ok (Some (object ms))
 needed_way_back m place ms h = ap (λ p. way_from m (unless_null p)) h
 
-pub object_at_back : (m : Member) (place : Option Data) (ms : Members) → at m place ≡ Some (object ms) → object_at m place ≡ Ok (Some (object ms))
+pub object_at_back : (m : Member) (place : Option Data) (ms : Members) → at m place ≡ Some (object ms) → some_object_at m place ≡ Ok (Some (object ms))
 object_at_back m place ms h = ap (way_from m) h
 
 -- ---- lists of texts

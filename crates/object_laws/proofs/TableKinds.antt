@@ -16,7 +16,7 @@ use Rattle.object_text.specs.declared.errors.Member.{Member}
 use Rattle.object_text.specs.declared.errors.Member.TheVariants as members
 use Rattle.object_text.specs.declared.errors.ObjectError.{ObjectError}
 use Rattle.object_text.specs.Answers.{◌>>=◌}
-use Rattle.object_text.specs.MemberReaders.{at, as_object, needed_from, needed_text, needed_object, needed_way, way_from, object_at, text_or, optional_text, optional_items, pairs_at, texts_at, uid_at, stamp_at, stamp_or_empty, version_at}
+use Rattle.object_text.specs.MemberReaders.{at, as_object, needed_from, needed_text, needed_object, needed_way, way_from, some_object_at, text_or, optional_text, optional_items, pairs_at, texts_at, uid_at, stamp_at, stamp_or_empty, version_at}
 use Rattle.object_text.specs.MetaReaders.{namespace_at, identity_at, marks_at, meta_with, meta_of}
 use Rattle.object_text.specs.PartReaders.{quantity_at, optional_quantity, modes_at, optional_modes, block_at, policy_at, class_policy_at, delayed_at, volume_phase_at, claim_phase_at, claim_ref_at, source_at, terms_or_none, terms_at, selector_at, claims_at}
 use Rattle.object_text.specs.KindReaders.{volume_shape, volume_ties, volume_spec_of, volume_status_of, volume_of, claim_shape, claim_ties, claim_status_of, claim_of, class_of, node_of, pod_of}
@@ -64,7 +64,7 @@ one_step m presence d place is = ap (λ r. r >>= λ next. Ok next) is
 
 -- ---- objects on the way
 
-object_fault : (m : Member) (place : Option Data) → fault (object_at m place) ≡ member_fault Optional Members m (at m place)
+object_fault : (m : Member) (place : Option Data) → fault (some_object_at m place) ≡ member_fault Optional Members m (at m place)
 object_fault m place = by (at m place)
   where
     by : (o : Option Data) → fault (way_from m o) ≡ member_fault Optional Members m o
@@ -72,7 +72,7 @@ object_fault m place = by (at m place)
     by (Some d) = mapped (as_object m d) Some
 
 -- an object that has to be there is there on each way
-needed_ways : (m : Member) (place : Option Data) (o : Data) → needed_object m place ≡ Ok o → (needed_way m place ≡ Ok (Some o)) × (object_at m place ≡ Ok (Some o))
+needed_ways : (m : Member) (place : Option Data) (o : Data) → needed_object m place ≡ Ok o → (needed_way m place ≡ Ok (Some o)) × (some_object_at m place ≡ Ok (Some o))
 needed_ways m place o h = by (at m place) h
   where
     by : (p : Option Data) → (needed_from m (unless_null p) >>= λ d. as_object m d) ≡ Ok o → (way_from m (unless_null p) ≡ Ok (Some o)) × (way_from m p ≡ Ok (Some o))
@@ -85,7 +85,7 @@ needed_ways m place o h = by (at m place) h
     by (Some (object ms)) h = (ap (λ r. r >>= λ d. Ok (Some d)) h, ap (λ r. r >>= λ d. Ok (Some d)) h)
 
 -- an object on the way to a required member is there on each way
-way_same : (m : Member) (place : Option Data) (o : Data) → needed_way m place ≡ Ok (Some o) → object_at m place ≡ Ok (Some o)
+way_same : (m : Member) (place : Option Data) (o : Data) → needed_way m place ≡ Ok (Some o) → some_object_at m place ≡ Ok (Some o)
 way_same m place o h = by (at m place) h
   where
     by : (p : Option Data) → way_from m (unless_null p) ≡ Ok (Some o) → way_from m p ≡ Ok (Some o)
@@ -116,7 +116,7 @@ marks_rows =
     ∷ meta_row members.Finalizers Texts Optional
     ∷ []
 
-identity_fault : (namespaced : Bool) (d metadata : Data) → needed_way members.Metadata (Some d) ≡ Ok (Some metadata) → object_at members.Metadata (Some d) ≡ Ok (Some metadata)
+identity_fault : (namespaced : Bool) (d metadata : Data) → needed_way members.Metadata (Some d) ≡ Ok (Some metadata) → some_object_at members.Metadata (Some d) ≡ Ok (Some metadata)
     → fault (identity_at namespaced (Some metadata)) ≡ rows_fault identity_rows d
 unfolding identity_at
 identity_fault namespaced d metadata needed there =
@@ -126,7 +126,7 @@ identity_fault namespaced d metadata needed there =
     seq (uid_at members.Uid place) _ _ _ (row_is (meta_row members.Uid Uuid Optional) d place _ (one_step members.Metadata Optional d place there) (uid_fault members.Uid place)) (λ uid is_uid.
     seq (version_at members.ResourceVersion place) _ _ None (row_is (meta_row members.ResourceVersion Version (Default (codes "0"))) d place _ (one_step members.Metadata (Default (codes "0")) d place there) (version_fault place)) (λ version is_version. refl))))
 
-marks_fault : (d metadata : Data) → object_at members.Metadata (Some d) ≡ Ok (Some metadata) → fault (marks_at (Some metadata)) ≡ rows_fault marks_rows d
+marks_fault : (d metadata : Data) → some_object_at members.Metadata (Some d) ≡ Ok (Some metadata) → fault (marks_at (Some metadata)) ≡ rows_fault marks_rows d
 unfolding marks_at
 marks_fault d metadata there =
     let place : Option Data = Some metadata in
@@ -161,13 +161,13 @@ node_fault : (d : Data) → fault (node_of d) ≡ (rows_fault meta_rows d then r
 unfolding node_of
 node_fault d =
     seq (meta_of false d) _ _ _ (meta_fault false d) (λ meta is_meta.
-    seq (object_at members.Spec (Some d)) _ _ None (object_fault members.Spec (Some d)) (λ spec is_spec. refl))
+    seq (some_object_at members.Spec (Some d)) _ _ None (object_fault members.Spec (Some d)) (λ spec is_spec. refl))
 
 pod_fault : (d : Data) → fault (pod_of d) ≡ (rows_fault meta_rows d then rows_fault pod_rows d)
 unfolding pod_of
 pod_fault d =
     seq (meta_of true d) _ _ _ (meta_fault true d) (λ meta is_meta.
-    way_seq (object_at members.Spec (Some d)) _ _ (λ spec is.
+    way_seq (some_object_at members.Spec (Some d)) _ _ (λ spec is.
     seq (text_or members.NodeName [] spec) _ _ _ (row_is (spec_row members.NodeName Text (Default [])) d spec _ (one_step members.Spec (Default []) d spec is) (text_fault members.NodeName [] spec)) (λ node is_node.
     seq (claims_at spec) _ _ None (row_is (spec_row members.Volumes PodVolumes Optional) d spec _ (one_step members.Spec Optional d spec is) (claims_fault spec)) (λ claims are_claims. refl)))
     (λ e is. first_row (spec_row members.NodeName Text (Default [])) (spec_row members.Volumes PodVolumes Optional ∷ []) d (Err e) (ap (λ r. r >>= λ next. Ok next) is)))
@@ -227,7 +227,7 @@ claim_shape_fault d spec is =
     seq (block_at place) _ _ _ (row_is (spec_row members.VolumeMode (OneOf (map volume_mode both)) (Default (volume_mode false))) d place _ (one_step members.Spec (Default (volume_mode false)) d place there) (block_fault place)) (λ block is_block.
     requests_seq d spec _ is ∙ sym (then_none (row_fault requests_row d))))
 
-claim_ties_fault : (d spec : Data) → object_at members.Spec (Some d) ≡ Ok (Some spec) → fault (claim_ties (Some spec)) ≡ rows_fault ties_rows d
+claim_ties_fault : (d spec : Data) → some_object_at members.Spec (Some d) ≡ Ok (Some spec) → fault (claim_ties (Some spec)) ≡ rows_fault ties_rows d
 unfolding claim_ties
 claim_ties_fault d spec there =
     let place : Option Data = Some spec in
@@ -236,11 +236,11 @@ claim_ties_fault d spec there =
     seq (text_or members.VolumeName [] place) _ _ None (row_is (spec_row members.VolumeName Text (Default [])) d place _ (one_step members.Spec (Default []) d place there) (text_fault members.VolumeName [] place)) (λ name is_name. refl)))
 
 -- what the claim got, below one more object
-got_seq : {B : Type 0} (d : Data) (status : Option Data) (g : Option Amount → B) → object_at members.Status (Some d) ≡ Ok status
-    → fault (object_at members.Capacity status >>= λ capacity. optional_quantity members.Storage capacity >>= λ amount. Ok (g amount)) ≡ row_fault got_row d
+got_seq : {B : Type 0} (d : Data) (status : Option Data) (g : Option Amount → B) → some_object_at members.Status (Some d) ≡ Ok status
+    → fault (some_object_at members.Capacity status >>= λ capacity. optional_quantity members.Storage capacity >>= λ amount. Ok (g amount)) ≡ row_fault got_row d
 got_seq {B} d status g is =
-    by (object_at members.Capacity status)
-    ∙ ap (λ r. after (r >>= λ s. object_at members.Capacity s >>= λ capacity. Ok capacity) (λ p. member_fault Optional Quantity members.Storage (at members.Storage p))) (sym is)
+    by (some_object_at members.Capacity status)
+    ∙ ap (λ r. after (r >>= λ s. some_object_at members.Capacity s >>= λ capacity. Ok capacity) (λ p. member_fault Optional Quantity members.Storage (at members.Storage p))) (sym is)
   where
     by : (r : Result (Option Data) ObjectError) → fault (r >>= λ capacity. optional_quantity members.Storage capacity >>= λ amount. Ok (g amount))
         ≡ after (r >>= λ capacity. Ok capacity) (λ p. member_fault Optional Quantity members.Storage (at members.Storage p))
@@ -253,7 +253,7 @@ claim_phase_row = status_row members.Phase (OneOf (map claim_phase_word all_clai
 claim_status_fault : (d : Data) → fault (claim_status_of d) ≡ rows_fault status_rows d
 unfolding claim_status_of
 claim_status_fault d =
-    way_seq (object_at members.Status (Some d)) _ _ (λ status is.
+    way_seq (some_object_at members.Status (Some d)) _ _ (λ status is.
     seq (claim_phase_at status) _ _ _ (row_is claim_phase_row d status _ (one_step members.Status (Default (claim_phase_word claim_phases.Pending)) d status is) (claim_phase_fault status)) (λ phase is_phase.
     seq (optional_modes status) _ _ _ (row_is (status_row members.AccessModes Modes Optional) d status _ (one_step members.Status Optional d status is) (optional_modes_fault status)) (λ modes are_modes.
     got_seq d status _ is ∙ sym (then_none (row_fault got_row d)))))
@@ -330,19 +330,19 @@ volume_shape_fault d spec is =
     seq (policy_at place) _ _ None (row_is (spec_row members.PersistentVolumeReclaimPolicy (OneOf (map policy_word all_policies)) (Default (policy_word Retain))) d place _ (one_step members.Spec (Default (policy_word Retain)) d place there) (policy_fault place)) (λ policy is_policy. refl)))))
 
 -- the terms, below two more objects
-terms_are : (d spec : Data) → object_at members.Spec (Some d) ≡ Ok (Some spec) → fault (terms_at (Some spec)) ≡ row_fault terms_row d
+terms_are : (d spec : Data) → some_object_at members.Spec (Some d) ≡ Ok (Some spec) → fault (terms_at (Some spec)) ≡ row_fault terms_row d
 unfolding terms_at
 terms_are d spec there =
-    by (object_at members.NodeAffinity (Some spec))
-    ∙ ap (λ r. after (r >>= λ s. object_at members.NodeAffinity s >>= λ affinity. object_at members.Required affinity >>= λ required. Ok required) (λ p. member_fault Optional Terms members.NodeSelectorTerms (at members.NodeSelectorTerms p))) (sym there)
+    by (some_object_at members.NodeAffinity (Some spec))
+    ∙ ap (λ r. after (r >>= λ s. some_object_at members.NodeAffinity s >>= λ affinity. some_object_at members.Required affinity >>= λ required. Ok required) (λ p. member_fault Optional Terms members.NodeSelectorTerms (at members.NodeSelectorTerms p))) (sym there)
   where
     last : (q : Result (Option Data) ObjectError) → fault (q >>= λ required. optional_items members.NodeSelectorTerms required >>= λ listed. terms_or_none listed) ≡ after (q >>= λ required. Ok required) (λ p. member_fault Optional Terms members.NodeSelectorTerms (at members.NodeSelectorTerms p))
     last (Ok required) = terms_fault required
     last (Err e) = refl
 
-    by : (r : Result (Option Data) ObjectError) → fault (r >>= λ affinity. object_at members.Required affinity >>= λ required. optional_items members.NodeSelectorTerms required >>= λ listed. terms_or_none listed)
-        ≡ after (r >>= λ affinity. object_at members.Required affinity >>= λ required. Ok required) (λ p. member_fault Optional Terms members.NodeSelectorTerms (at members.NodeSelectorTerms p))
-    by (Ok affinity) = last (object_at members.Required affinity)
+    by : (r : Result (Option Data) ObjectError) → fault (r >>= λ affinity. some_object_at members.Required affinity >>= λ required. optional_items members.NodeSelectorTerms required >>= λ listed. terms_or_none listed)
+        ≡ after (r >>= λ affinity. some_object_at members.Required affinity >>= λ required. Ok required) (λ p. member_fault Optional Terms members.NodeSelectorTerms (at members.NodeSelectorTerms p))
+    by (Ok affinity) = last (some_object_at members.Required affinity)
     by (Err e) = refl
 
 volume_ties_fault : (d spec : Data) → needed_way members.Spec (Some d) ≡ Ok (Some spec) → fault (volume_ties (Some spec)) ≡ (row_fault reference_row d then (source_fault d then row_fault terms_row d))
@@ -373,7 +373,7 @@ volume_spec_fault d = whole _ (λ spec is shape. mapped (volume_ties (Some spec)
 
 volume_status_fault : (d : Data) → fault (volume_status_of d) ≡ row_fault volume_phase_row d
 unfolding volume_status_of
-volume_status_fault d = by (object_at members.Status (Some d))
+volume_status_fault d = by (some_object_at members.Status (Some d))
   where
     by : (r : Result (Option Data) ObjectError) → fault (r >>= λ status. volume_phase_at status)
         ≡ after (r >>= λ status. Ok status) (λ p. member_fault (Default (volume_phase_word volume_phases.Pending)) (OneOf (map volume_phase_word all_volume_phases)) members.Phase (at members.Phase p))

@@ -20,7 +20,7 @@ use Rattle.object_text.specs.MemberWords.{member_word}
 use Rattle.object_text.specs.MemberReaders.{at, as_items, needed_from, needed, needed_items}
 use Rattle.object_text.specs.Reading.{is_object, most_bytes, object_of, read_text_of, value_in, value_of}
 use Rattle.object_text.specs.Listing.{is_long, item_of, with_item, items_from, is_list, list_items, one_item, list_in, list_from, list_of}
-use Rattle.object_laws.specs.Given.{IsGiven}
+use Rattle.object_laws.specs.Given.{IsGivenObject}
 use Rattle.object_laws.specs.Laws.{TextGives, ListGives}
 use Rattle.object_laws.proofs.GivesParts.{step, if_ok, of_ok}
 use Rattle.object_laws.proofs.Gives.{IsSound, sound_given}
@@ -48,13 +48,13 @@ value_given text = by (is_utf8 text) (read text) refl
 
 -- ---- the text of a manifest
 
-text_given : (text : List ℕ) → IfOk (read_text_of text) IsGiven
+text_given : (text : List ℕ) → IfOk (read_text_of text) IsGivenObject
 unfolding read_text_of
 text_given text =
-    if_ok IsGiven (nat_lt most_bytes (length text)) (Err TooLong) _ (λ e. tt) (λ e. step (IsTaken 127) IsGiven (value_of text) _ (value_given text) (λ d h. sound_given d (sound_whole d h)))
+    if_ok IsGivenObject (nat_lt most_bytes (length text)) (Err TooLong) _ (λ e. tt) (λ e. step (IsTaken 127) IsGivenObject (value_of text) _ (value_given text) (λ d h. sound_given d (sound_whole d h)))
 
 pub text_gives : TextGives
-text_gives text o e = of_ok IsGiven (read_text_of text) o (text_given text) e
+text_gives text o e = of_ok IsGivenObject (read_text_of text) o (text_given text) e
 
 -- ---- the items of a list
 
@@ -103,29 +103,29 @@ items_sound m d h = step (IsTaken 126) AreSound (needed m (Some d)) _ (needed_ta
 -- ---- lists
 
 abbrev AreGiven : List Object → Type 0
-AreGiven os = All IsGiven os
+AreGiven os = All IsGivenObject os
 
-one_given : (o : Object) → IsGiven o → AreGiven (o ∷ [])
-one_given o h = All-cons IsGiven o [] h (All-nil IsGiven)
+one_given : (o : Object) → IsGivenObject o → AreGiven (o ∷ [])
+one_given o h = All-cons IsGivenObject o [] h (All-nil IsGivenObject)
 
-item_given : (d : Data) → IsSound d → IfOk (item_of d) IsGiven
+item_given : (d : Data) → IsSound d → IfOk (item_of d) IsGivenObject
 unfolding item_of
-item_given d h = if_ok IsGiven (is_long d) (Err TooLong) (object_of d) (λ e. tt) (λ e. sound_given d h)
+item_given d h = if_ok IsGivenObject (is_long d) (Err TooLong) (object_of d) (λ e. tt) (λ e. sound_given d h)
 
-next_given : (n : ℕ) (r : Result Object ObjectError) (next : Object → Result (List Object) ListError) → IfOk r IsGiven → ((o : Object) → IsGiven o → IfOk (next o) AreGiven) → IfOk (with_item n r next) AreGiven
+next_given : (n : ℕ) (r : Result Object ObjectError) (next : Object → Result (List Object) ListError) → IfOk r IsGivenObject → ((o : Object) → IsGivenObject o → IfOk (next o) AreGiven) → IfOk (with_item n r next) AreGiven
 next_given n (Ok o) next h k = k o h
 next_given n (Err e) next h k = tt
 
 items_given : (n : ℕ) (ds : Items) (found : List Object) → AreSound ds → AreGiven found → IfOk (items_from n ds found) AreGiven
 items_given n no_items found s h = h
 items_given n (item d ds) found s h =
-    next_given n (item_of d) _ (item_given d s.0) (λ o is. items_given (n + 1) ds (found ++ o ∷ []) s.1 (All-append IsGiven found (o ∷ []) h (one_given o is)))
+    next_given n (item_of d) _ (item_given d s.0) (λ o is. items_given (n + 1) ds (found ++ o ∷ []) s.1 (All-append IsGivenObject found (o ∷ []) h (one_given o is)))
 
 list_items_given : (r : Result Items ObjectError) → IfOk r AreSound → IfOk (list_items r) AreGiven
-list_items_given (Ok ds) h = items_given 1 ds [] h (All-nil IsGiven)
+list_items_given (Ok ds) h = items_given 1 ds [] h (All-nil IsGivenObject)
 list_items_given (Err e) h = tt
 
-one_item_given : (r : Result Object ObjectError) → IfOk r IsGiven → IfOk (one_item r) AreGiven
+one_item_given : (r : Result Object ObjectError) → IfOk r IsGivenObject → IfOk (one_item r) AreGiven
 one_item_given (Ok o) h = one_given o h
 one_item_given (Err e) h = tt
 

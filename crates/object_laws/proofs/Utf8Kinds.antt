@@ -16,7 +16,7 @@ use Rattle.object_text.specs.declared.kind_readers.VolumeSpec.{VolumeSpec}
 use Rattle.object_text.specs.declared.kind_readers.ClaimShape.{ClaimShape}
 use Rattle.object_text.specs.declared.kind_readers.ClaimTies.{ClaimTies}
 use Rattle.object_text.specs.declared.kind_readers.ClaimStatus.{ClaimStatus}
-use Rattle.object_text.specs.MemberReaders.{needed_text, needed_way, object_at, text_or, optional_text, pairs_at}
+use Rattle.object_text.specs.MemberReaders.{needed_text, needed_way, some_object_at, text_or, optional_text, pairs_at}
 use Rattle.object_text.specs.MetaReaders.{meta_of}
 use Rattle.object_text.specs.PartReaders.{quantity_at, optional_quantity, modes_at, optional_modes, block_at, policy_at, class_policy_at, delayed_at, claim_phase_at, claim_ref_at, source_at, terms_at, selector_at, claims_at}
 use Rattle.object_text.specs.KindReaders.{volume_shape, volume_ties, volume_spec_of, volume_status_of, volume_of, claim_shape, claim_ties, claim_status_of, claim_of, class_of, node_of, pod_of}
@@ -114,10 +114,10 @@ ClaimStatusUtf8 s = IfSome s.got AmountUtf8
 claim_status_read_utf8 : (d : Data) → HasUtf8 d → IfOk (claim_status_of d) ClaimStatusUtf8
 unfolding claim_status_of
 claim_status_read_utf8 d h =
-    step PlaceUtf8 ClaimStatusUtf8 (object_at members.Status (Some d)) _ (object_at_read_utf8 members.Status (Some d) h) (λ status status_utf8.
+    step PlaceUtf8 ClaimStatusUtf8 (some_object_at members.Status (Some d)) _ (object_at_read_utf8 members.Status (Some d) h) (λ status status_utf8.
     past ClaimStatusUtf8 (claim_phase_at status) _ (λ phase.
     past ClaimStatusUtf8 (optional_modes status) _ (λ got_modes.
-    step PlaceUtf8 ClaimStatusUtf8 (object_at members.Capacity status) _ (object_at_read_utf8 members.Capacity status status_utf8) (λ capacity capacity_utf8.
+    step PlaceUtf8 ClaimStatusUtf8 (some_object_at members.Capacity status) _ (object_at_read_utf8 members.Capacity status status_utf8) (λ capacity capacity_utf8.
     step (λ a. IfSome a AmountUtf8) ClaimStatusUtf8 (optional_quantity members.Storage capacity) _ (optional_quantity_read_utf8 members.Storage capacity capacity_utf8) (λ got got_utf8. got_utf8)))))
 
 claim_read_utf8 : (d : Data) → HasUtf8 d → IfOk (claim_of d) ClaimUtf8
@@ -146,13 +146,13 @@ node_read_utf8 : (d : Data) → HasUtf8 d → IfOk (node_of d) NodeUtf8
 unfolding node_of
 node_read_utf8 d h =
     step MetaUtf8 NodeUtf8 (meta_of false d) _ (meta_read_utf8 false d h) (λ meta meta_utf8.
-    step PlaceUtf8 NodeUtf8 (object_at members.Spec (Some d)) _ (object_at_read_utf8 members.Spec (Some d) h) (λ spec spec_utf8. record { meta = meta_utf8; extra = extra_read_utf8 listed.Node spec spec_utf8 }))
+    step PlaceUtf8 NodeUtf8 (some_object_at members.Spec (Some d)) _ (object_at_read_utf8 members.Spec (Some d) h) (λ spec spec_utf8. record { meta = meta_utf8; extra = extra_read_utf8 listed.Node spec spec_utf8 }))
 
 pod_read_utf8 : (d : Data) → HasUtf8 d → IfOk (pod_of d) PodUtf8
 unfolding pod_of
 pod_read_utf8 d h =
     step MetaUtf8 PodUtf8 (meta_of true d) _ (meta_read_utf8 true d h) (λ meta meta_utf8.
-    step PlaceUtf8 PodUtf8 (object_at members.Spec (Some d)) _ (object_at_read_utf8 members.Spec (Some d) h) (λ spec spec_utf8.
+    step PlaceUtf8 PodUtf8 (some_object_at members.Spec (Some d)) _ (object_at_read_utf8 members.Spec (Some d) h) (λ spec spec_utf8.
     step IsUtf8 PodUtf8 (text_or members.NodeName [] spec) _ (text_or_read_utf8 members.NodeName [] spec IsUtf8-nil spec_utf8) (λ node node_utf8.
     past PodUtf8 (claims_at spec) _ (λ claims. record { meta = meta_utf8; node = node_utf8; extra = extra_read_utf8 listed.Pod spec spec_utf8 }))))
 

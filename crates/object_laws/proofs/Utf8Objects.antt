@@ -49,7 +49,7 @@ use Rattle.object_print.specs.Parts.{modes_data, storage_pairs, storage_data, re
 use Rattle.object_print.specs.Volumes.{volume_front, volume_back, volume_spec, volume_status_pairs, volume_status, volume_pairs, volume_data}
 use Rattle.object_print.specs.Claims.{claim_front, claim_back, claim_spec, got_modes, claim_status_pairs, claim_status, claim_pairs, claim_data}
 use Rattle.object_print.specs.Objects.{class_back, class_data, pod_spec, pod_pairs, pod_data, node_pairs, node_data, object_data, object_line}
-use Rattle.object_laws.specs.Given.{IsMeta, IsVolume, IsClaim, IsClass, IsNode, IsPod, IsGiven}
+use Rattle.object_laws.specs.Given.{IsMeta, IsVolume, IsClaim, IsClass, IsNode, IsPod, IsGivenObject}
 use Rattle.object_laws.proofs.Utf8Texts.{HasUtf8, ItemsUtf8, MembersUtf8, put_utf8, text_utf8}
 use Rattle.object_laws.proofs.Utf8Read.{read_utf8}
 
@@ -392,7 +392,7 @@ node_utf8 : (n : Node) → IsNode n → NodeUtf8 n → HasUtf8 (node_data n)
 unfolding node_data
 node_utf8 n is h = object_of_utf8 (node_pairs n) refl (IsUtf8-are_ascii _ refl, (IsUtf8-are_ascii _ refl, (meta_utf8 false n.meta is.meta h.meta, (filled_object_utf8 (extra_members n.extra) (extra_utf8 n.extra h.extra), tt))))
 
-object_utf8 : (o : Object) → IsGiven o → ObjectUtf8 o → HasUtf8 (object_data o)
+object_utf8 : (o : Object) → IsGivenObject o → ObjectUtf8 o → HasUtf8 (object_data o)
 unfolding object_data
 object_utf8 (objects.Class c) is h = class_utf8 c is h
 object_utf8 (objects.Node n) is h = node_utf8 n is h
@@ -400,6 +400,6 @@ object_utf8 (objects.Volume v) is h = volume_utf8 v is h
 object_utf8 (objects.Claim c) is h = claim_utf8 c is h
 object_utf8 (objects.Pod p) is h = pod_utf8 p is h
 
-pub line_utf8 : (o : Object) → IsGiven o → ObjectUtf8 o → is_utf8 (object_line o) ≡ true
+pub line_utf8 : (o : Object) → IsGivenObject o → ObjectUtf8 o → is_utf8 (object_line o) ≡ true
 unfolding object_line
 line_utf8 o is h = is_utf8-from_IsUtf8 (object_line o) (text_utf8 (object_data o) (object_utf8 o is h))

@@ -22,10 +22,10 @@ use Rattle.object_text.specs.declared.extra.Listed.{Listed}
 use Rattle.object_text.specs.declared.meta_readers.Identity.{Identity}
 use Rattle.object_text.specs.declared.meta_readers.Marks.{Marks}
 use Rattle.object_text.specs.MemberWords.{member_word}
-use Rattle.object_text.specs.MemberReaders.{at, as_text, as_items, as_object, needed_from, needed, needed_text, needed_items, needed_object, way_from, needed_way, object_at, text_from, text_or, optional_from, optional_text, optional_items_from, optional_items, texts_from, texts_or_none, texts_at, pairs_from, pairs_in, pairs_or_none, pairs_at, uid_at, stamp_named, stamp_from, stamp_at, stamp_or_empty, version_at}
+use Rattle.object_text.specs.MemberReaders.{at, as_text, as_items, as_object, needed_from, needed, needed_text, needed_items, needed_object, way_from, needed_way, some_object_at, text_from, text_or, optional_from, optional_text, optional_items_from, optional_items, texts_from, texts_or_none, texts_at, pairs_from, pairs_in, pairs_or_none, pairs_at, uid_at, stamp_named, stamp_from, stamp_at, stamp_or_empty, version_at}
 use Rattle.object_text.specs.MetaReaders.{kept_namespace, namespace_at, identity_at, marks_at, meta_of}
 use Rattle.object_text.specs.PartReaders.{number_digits, quantity_text, amount_from, amount_in, quantity_at, amount_or_none, optional_quantity, ref_at, ref_or_none, claim_ref_at, two_texts, one_text, source_from, there, source_at, op_at, expr_of, exprs_from, exprs_or_none, exprs_at, term_of, terms_from, terms_or_none, terms_at, selector_of, selector_or_none, selector_at}
-use Rattle.object_text.specs.ExtraMembers.{is_listed, extra_text, place_members, extra_at}
+use Rattle.object_text.specs.ExtraMembers.{is_listed_member, extra_text, place_members, extra_at}
 use Rattle.object_laws.proofs.GivesParts.{step, past, if_ok}
 use Rattle.object_laws.proofs.Utf8Texts.{HasUtf8, ItemsUtf8, MembersUtf8, put_utf8, text_utf8}
 use Rattle.object_laws.proofs.Utf8Objects.{Each, each_append, members_in_utf8, PairUtf8, MetaUtf8, AmountUtf8, RefUtf8, SourceUtf8, ExprUtf8, TermUtf8, TermsUtf8, SelectorUtf8}
@@ -117,7 +117,7 @@ way_read_utf8 m (Some d) h = step HasUtf8 PlaceUtf8 (as_object m d) _ (object_re
 pub needed_way_read_utf8 : (m : Member) (place : Option Data) → PlaceUtf8 place → IfOk (needed_way m place) PlaceUtf8
 needed_way_read_utf8 m place h = way_read_utf8 m (unless_null (at m place)) (unless_utf8 (at m place) (at_utf8 m place h))
 
-pub object_at_read_utf8 : (m : Member) (place : Option Data) → PlaceUtf8 place → IfOk (object_at m place) PlaceUtf8
+pub object_at_read_utf8 : (m : Member) (place : Option Data) → PlaceUtf8 place → IfOk (some_object_at m place) PlaceUtf8
 object_at_read_utf8 m place h = way_read_utf8 m (at m place) (at_utf8 m place h)
 
 pub text_or_read_utf8 : (m : Member) (other : List ℕ) (place : Option Data) → IsUtf8 other → PlaceUtf8 place → IfOk (text_or m other place) IsUtf8
@@ -291,7 +291,7 @@ ref_read_utf8 place h =
 
 pub claim_ref_read_utf8 : (place : Option Data) → PlaceUtf8 place → IfOk (claim_ref_at place) (λ r. IfSome r RefUtf8)
 unfolding claim_ref_at
-claim_ref_read_utf8 place h = step PlaceUtf8 (λ r. IfSome r RefUtf8) (object_at members.ClaimRef place) _ (object_at_read_utf8 members.ClaimRef place h) by
+claim_ref_read_utf8 place h = step PlaceUtf8 (λ r. IfSome r RefUtf8) (some_object_at members.ClaimRef place) _ (object_at_read_utf8 members.ClaimRef place h) by
   where
     by : (o : Option Data) → PlaceUtf8 o → IfOk (ref_or_none o) (λ r. IfSome r RefUtf8)
     by None k = tt
@@ -358,8 +358,8 @@ terms_read_utf8_from (item d ds) found h k =
 pub terms_read_utf8 : (place : Option Data) → PlaceUtf8 place → IfOk (terms_at place) (λ t. IfSome t TermsUtf8)
 unfolding terms_at
 terms_read_utf8 place h =
-    step PlaceUtf8 (λ t. IfSome t TermsUtf8) (object_at members.NodeAffinity place) _ (object_at_read_utf8 members.NodeAffinity place h) (λ affinity affinity_utf8.
-    step PlaceUtf8 (λ t. IfSome t TermsUtf8) (object_at members.Required affinity) _ (object_at_read_utf8 members.Required affinity affinity_utf8) (λ required required_utf8.
+    step PlaceUtf8 (λ t. IfSome t TermsUtf8) (some_object_at members.NodeAffinity place) _ (object_at_read_utf8 members.NodeAffinity place h) (λ affinity affinity_utf8.
+    step PlaceUtf8 (λ t. IfSome t TermsUtf8) (some_object_at members.Required affinity) _ (object_at_read_utf8 members.Required affinity affinity_utf8) (λ required required_utf8.
     step (λ o. IfSome o ItemsUtf8) (λ t. IfSome t TermsUtf8) (optional_items members.NodeSelectorTerms required) _ (optional_items_read_utf8 members.NodeSelectorTerms required required_utf8) by))
   where
     by : (o : Option Items) → IfSome o ItemsUtf8 → IfOk (terms_or_none o) (λ t. IfSome t TermsUtf8)
@@ -374,7 +374,7 @@ selector_read_utf8_of place h =
 
 pub selector_read_utf8 : (place : Option Data) → PlaceUtf8 place → IfOk (selector_at place) (λ s. IfSome s SelectorUtf8)
 unfolding selector_at
-selector_read_utf8 place h = step PlaceUtf8 (λ s. IfSome s SelectorUtf8) (object_at members.Selector place) _ (object_at_read_utf8 members.Selector place h) by
+selector_read_utf8 place h = step PlaceUtf8 (λ s. IfSome s SelectorUtf8) (some_object_at members.Selector place) _ (object_at_read_utf8 members.Selector place h) by
   where
     by : (o : Option Data) → PlaceUtf8 o → IfOk (selector_or_none o) (λ s. IfSome s SelectorUtf8)
     by None k = tt
@@ -400,4 +400,4 @@ extra_text_utf8 (member k d ms) h = text_utf8 (object (member k d ms)) h
 
 pub extra_read_utf8 : (known : Listed) (place : Option Data) → PlaceUtf8 place → IsUtf8 (extra_at known place)
 unfolding extra_at
-extra_read_utf8 known place h = extra_text_utf8 (others (is_listed known) (place_members place)) (others_read_utf8_from (is_listed known) (place_members place) no_members (kept_utf8 place h) tt)
+extra_read_utf8 known place h = extra_text_utf8 (others (is_listed_member known) (place_members place)) (others_read_utf8_from (is_listed_member known) (place_members place) no_members (kept_utf8 place h) tt)

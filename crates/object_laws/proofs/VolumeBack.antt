@@ -28,9 +28,9 @@ use Rattle.object_text.specs.declared.errors.Member.TheVariants as members
 use Rattle.object_text.specs.declared.extra.Listed.TheVariants as listed
 use Rattle.object_text.specs.Answers.{◌>>=◌}
 use Rattle.object_text.specs.MemberWords.{member_word}
-use Rattle.object_text.specs.MemberReaders.{at, way_from, object_at, optional_items}
+use Rattle.object_text.specs.MemberReaders.{at, way_from, some_object_at, optional_items}
 use Rattle.object_text.specs.PartReaders.{known, policy_at, volume_phase_at, ref_at, ref_or_none, claim_ref_at, there, source_at, term_of, terms_from, terms_or_none, terms_at}
-use Rattle.object_text.specs.ExtraMembers.{is_listed}
+use Rattle.object_text.specs.ExtraMembers.{is_listed_member}
 use Rattle.object_text.specs.KindReaders.{volume_shape, volume_ties, volume_spec_of, volume_status_of, volume_of}
 use Rattle.object_laws.specs.Given.{IsRef, IsAmount, HasItsTexts, IsSource, IsFree, NoneBefore, AreVolumeExtra, IsVolume}
 use Rattle.object_laws.proofs.PartsBack.{next, object_has, needed_text_back, shown_text_back, text_back, needed_way_back, object_at_back, uid_back, quantity_back, modes_back, block_back, exprs_back}
@@ -110,9 +110,9 @@ terms_items (t ∷ ts) found = next (λ x. terms_from (items_data term_data ts) 
 
 terms_back : (place : Option Data) (o : Option NodeTerms) → at members.NodeAffinity place ≡ option_map node_terms_data o → terms_at place ≡ Ok o
 unfolding terms_at node_terms_data put_some
-terms_back place o h = ap (λ p. way_from members.NodeAffinity p >>= λ a. object_at members.Required a >>= λ r. optional_items members.NodeSelectorTerms r >>= λ l. terms_or_none l) h ∙ by o
+terms_back place o h = ap (λ p. way_from members.NodeAffinity p >>= λ a. some_object_at members.Required a >>= λ r. optional_items members.NodeSelectorTerms r >>= λ l. terms_or_none l) h ∙ by o
   where
-    by : (t : Option NodeTerms) → (way_from members.NodeAffinity (option_map node_terms_data t) >>= λ a. object_at members.Required a >>= λ r. optional_items members.NodeSelectorTerms r >>= λ l. terms_or_none l) ≡ Ok t
+    by : (t : Option NodeTerms) → (way_from members.NodeAffinity (option_map node_terms_data t) >>= λ a. some_object_at members.Required a >>= λ r. optional_items members.NodeSelectorTerms r >>= λ l. terms_or_none l) ≡ Ok t
     by None = refl
     by (Some t) = next (λ ts. Ok (Some (record { terms = ts }))) (terms_items t.terms [])
 
@@ -140,7 +140,7 @@ apart k csi nfs local host Nfs = nfs
 apart k csi nfs local host Local = local
 apart k csi nfs local host HostPath = host
 
-plain_has : (v : Volume) (ms : Members) → AreOthers (is_listed (listed.Volume v.source.kind)) ms → (m : Member) → is_listed (listed.Volume v.source.kind) (member_word m) ≡ true
+plain_has : (v : Volume) (ms : Members) → AreOthers (is_listed_member (listed.Volume v.source.kind)) ms → (m : Member) → is_listed_member (listed.Volume v.source.kind) (member_word m) ≡ true
     → bytes_eq (member_word m) (codes "csi") ≡ false → bytes_eq (member_word m) (codes "nfs") ≡ false → bytes_eq (member_word m) (codes "local") ≡ false → bytes_eq (member_word m) (codes "hostPath") ≡ false
     → at m (spec_with v ms) ≡ pick (member_word m) (plain_pairs v) None
 plain_has v ms h m known csi nfs local host =
@@ -149,7 +149,7 @@ plain_has v ms h m known csi nfs local host =
     skipped : (k : List ℕ) → bytes_eq k (source_word v.source.kind) ≡ false → pick k (spec_pairs v) None ≡ pick k (plain_pairs v) None
     skipped k e = rw e refl
 
-shape_back : (v : Volume) (ms : Members) → IsAmount v.amount → AreOthers (is_listed (listed.Volume v.source.kind)) ms
+shape_back : (v : Volume) (ms : Members) → IsAmount v.amount → AreOthers (is_listed_member (listed.Volume v.source.kind)) ms
     → volume_shape (spec_with v ms) ≡ Ok (record { amount = v.amount; modes = v.modes; block = v.block; class = v.class; policy = v.policy })
 unfolding volume_shape storage_data
 shape_back v ms is h =
@@ -166,7 +166,7 @@ shape_back v ms is h =
 abbrev spec_of : Volume → SourceKind → List ℕ → List ℕ → MemberList
 spec_of v kind s t = spec_pairs (record v { source = source_with kind s t })
 
-source_has : (v : Volume) (ms : Members) (kind : SourceKind) (s t : List ℕ) → AreOthers (is_listed (listed.Volume kind)) ms
+source_has : (v : Volume) (ms : Members) (kind : SourceKind) (s t : List ℕ) → AreOthers (is_listed_member (listed.Volume kind)) ms
     → get_member (source_word kind) (put_all (spec_of v kind s t) ms) ≡ Some (source_data (source_with kind s t))
 source_has v ms Csi s t h = spec_has (listed.Volume Csi) (spec_of v Csi s t) ms (codes "csi") h refl
 source_has v ms Nfs s t h = spec_has (listed.Volume Nfs) (spec_of v Nfs s t) ms (codes "nfs") h refl
@@ -177,10 +177,10 @@ source_has v ms HostPath s t h = spec_has (listed.Volume HostPath) (spec_of v Ho
 still_free : (k : List ℕ) (ps : MemberList) (ms : Members) → pick k ps (get_member k ms) ≡ get_member k ms → IsFree k ms → unless_null (get_member k (put_all ps ms)) ≡ None
 still_free k ps ms same free = ap unless_null (get-put_all k ps ms ∙ same) ∙ free
 
-spec_source_back : (v : Volume) (ms : Members) → IsSource v.source → AreOthers (is_listed (listed.Volume v.source.kind)) ms → NoneBefore v.source.kind ms → source_at (spec_with v ms) ≡ Ok v.source
+spec_source_back : (v : Volume) (ms : Members) → IsSource v.source → AreOthers (is_listed_member (listed.Volume v.source.kind)) ms → NoneBefore v.source.kind ms → source_at (spec_with v ms) ≡ Ok v.source
 spec_source_back v ms is h free = by v.source.kind v.source.first v.source.second is h free
   where
-    by : (kind : SourceKind) (s t : List ℕ) → HasItsTexts kind t → AreOthers (is_listed (listed.Volume kind)) ms → NoneBefore kind ms
+    by : (kind : SourceKind) (s t : List ℕ) → HasItsTexts kind t → AreOthers (is_listed_member (listed.Volume kind)) ms → NoneBefore kind ms
         → source_at (Some (object (put_all (spec_of v kind s t) ms))) ≡ Ok (source_with kind s t)
     by Csi s t its o f = csi_back (Some (object (put_all (spec_of v Csi s t) ms))) s t (source_has v ms Csi s t o)
     by Nfs s t its o f =
@@ -193,7 +193,7 @@ spec_source_back v ms is h free = by v.source.kind v.source.first v.source.secon
         let ps : MemberList = spec_of v HostPath s [] in
         rw its (host_back (Some (object (put_all ps ms))) s (still_free (codes "csi") ps ms refl f.0) (still_free (codes "nfs") ps ms refl f.1) (still_free (codes "local") ps ms refl f.2) (source_has v ms HostPath s [] o))
 
-ties_back : (v : Volume) (ms : Members) → IsVolume v → AreOthers (is_listed (listed.Volume v.source.kind)) ms → NoneBefore v.source.kind ms
+ties_back : (v : Volume) (ms : Members) → IsVolume v → AreOthers (is_listed_member (listed.Volume v.source.kind)) ms → NoneBefore v.source.kind ms
     → volume_ties (spec_with v ms) ≡ Ok (record { claim_ref = v.claim_ref; source = v.source; terms = v.terms })
 unfolding volume_ties
 ties_back v ms is h free =
@@ -204,10 +204,10 @@ ties_back v ms is h free =
     rw (claim_ref, spec_source_back v ms is.source h free, terms) refl
 
 -- the printed names are known
-all_known : (v : Volume) → are_known (is_listed (listed.Volume v.source.kind)) (spec_pairs v) ≡ true
+all_known : (v : Volume) → are_known (is_listed_member (listed.Volume v.source.kind)) (spec_pairs v) ≡ true
 all_known v = by v.source.kind
   where
-    by : (kind : SourceKind) → are_known (is_listed (listed.Volume kind)) (spec_of v kind [] []) ≡ true
+    by : (kind : SourceKind) → are_known (is_listed_member (listed.Volume kind)) (spec_of v kind [] []) ≡ true
     by Csi = refl
     by Nfs = refl
     by Local = refl

@@ -27,7 +27,7 @@ use Rattle.kube_types.specs.declared.objects.Object.{Object}
 use Rattle.kube_types.specs.declared.objects.Object.TheVariants as objects
 use Rattle.object_text.specs.declared.extra.Listed.{Listed}
 use Rattle.object_text.specs.declared.extra.Listed.TheVariants as listed
-use Rattle.object_text.specs.ExtraMembers.{is_listed, extra_text}
+use Rattle.object_text.specs.ExtraMembers.{is_listed_member, extra_text}
 use Rattle.object_text.specs.PartReaders.{claims_at}
 
 -- ---- metadata
@@ -92,7 +92,7 @@ IsClassPolicy Recycle = ⊥
 -- the kept text is that of these members: unknown to the reader, in order, canonical, and nesting at most so deep
 pub record AreExtra (n : ℕ) (known : Listed) (kept : List ℕ) (ms : Members) : Type 0 where
   pub text : kept ≡ extra_text ms
-  pub others : AreOthers (is_listed known) ms
+  pub others : AreOthers (is_listed_member known) ms
   pub good : GoodMembers n ms
 
 abbrev pub IsFree : List ℕ → Members → Type 0
@@ -144,9 +144,9 @@ pub record IsPod (p : Pod) : Type 0 where
   pub meta : IsMeta true p.meta
   pub extra : (ms : Members) × ArePodExtra p ms
 
-abbrev pub IsGiven : Object → Type 0
-IsGiven (objects.Class c) = IsClass c
-IsGiven (objects.Node n) = IsNode n
-IsGiven (objects.Volume v) = IsVolume v
-IsGiven (objects.Claim c) = IsClaim c
-IsGiven (objects.Pod p) = IsPod p
+abbrev pub IsGivenObject : Object → Type 0
+IsGivenObject (objects.Class c) = IsClass c
+IsGivenObject (objects.Node n) = IsNode n
+IsGivenObject (objects.Volume v) = IsVolume v
+IsGivenObject (objects.Claim c) = IsClaim c
+IsGivenObject (objects.Pod p) = IsPod p

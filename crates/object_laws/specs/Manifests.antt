@@ -19,7 +19,7 @@ use Rattle.object_text.specs.declared.errors.Member.TheVariants as members
 use Rattle.object_text.specs.declared.errors.ObjectError.{ObjectError}
 use Rattle.object_text.specs.declared.errors.ObjectError.TheVariants.{Missing, WrongType}
 use Rattle.object_text.specs.Answers.{◌>>=◌}
-use Rattle.object_text.specs.MemberReaders.{at, as_text, as_items, as_object, needed_way, object_at, texts_from, pairs_in, uid_named, stamp_named, version_named}
+use Rattle.object_text.specs.MemberReaders.{at, as_text, as_items, as_object, needed_way, some_object_at, texts_from, pairs_in, uid_named, stamp_named, version_named}
 use Rattle.object_text.specs.PartReaders.{amount_in, no_modes, modes_from, class_policies, ref_at, source_at, terms_from, selector_of, claims_from}
 use Rattle.object_text.specs.Reading.{object_of_kind}
 
@@ -181,9 +181,9 @@ member_fault Nullable shape m place = on None (shape_fault shape m) (unless_null
 -- an object on the way to a required member may be null, which is as absent; on another way it may not
 abbrev pub step_to : Presence → Member → Option Data → Result (Option Data) ObjectError
 step_to Required m place = needed_way m place
-step_to Optional m place = object_at m place
-step_to (Default s) m place = object_at m place
-step_to Nullable m place = object_at m place
+step_to Optional m place = some_object_at m place
+step_to (Default s) m place = some_object_at m place
+step_to Nullable m place = some_object_at m place
 
 abbrev pub way_to : Presence → List Member → Option Data → Result (Option Data) ObjectError
 way_to presence [] place = Ok place

@@ -26,12 +26,12 @@ is_class_member k =
     || (bytes_eq k (codes "reclaimPolicy") || (bytes_eq k (codes "volumeBindingMode") || bytes_eq k (codes "parameters"))))))
 
 -- of a pod's spec the node alone; of a node's spec nothing
-abbrev pub is_listed : Listed → List ℕ → Bool
-is_listed (listed.Volume kind) k = is_volume_member kind k
-is_listed listed.Claim k = is_claim_member k
-is_listed listed.Class k = is_class_member k
-is_listed listed.Pod k = bytes_eq k (codes "nodeName")
-is_listed listed.Node k = false
+abbrev pub is_listed_member : Listed → List ℕ → Bool
+is_listed_member (listed.Volume kind) k = is_volume_member kind k
+is_listed_member listed.Claim k = is_claim_member k
+is_listed_member listed.Class k = is_class_member k
+is_listed_member listed.Pod k = bytes_eq k (codes "nodeName")
+is_listed_member listed.Node k = false
 
 abbrev pub extra_text : Members → List ℕ
 extra_text no_members = []
@@ -42,4 +42,4 @@ place_members None = no_members
 place_members (Some d) = members_in d
 
 unfoldable pub extra_at : Listed → Option Data → List ℕ
-extra_at known place = extra_text (others (is_listed known) (place_members place))
+extra_at known place = extra_text (others (is_listed_member known) (place_members place))

@@ -21,7 +21,7 @@ use Rattle.object_text.specs.declared.kind_readers.ClaimShape.{ClaimShape}
 use Rattle.object_text.specs.declared.kind_readers.ClaimTies.{ClaimTies}
 use Rattle.object_text.specs.declared.kind_readers.ClaimStatus.{ClaimStatus}
 use Rattle.object_text.specs.Answers.{◌>>=◌}
-use Rattle.object_text.specs.MemberReaders.{needed_text, needed_way, object_at, text_or, optional_text, pairs_at}
+use Rattle.object_text.specs.MemberReaders.{needed_text, needed_way, some_object_at, text_or, optional_text, pairs_at}
 use Rattle.object_text.specs.MetaReaders.{meta_of}
 use Rattle.object_text.specs.PartReaders.{quantity_at, optional_quantity, modes_at, optional_modes, block_at, policy_at, class_policy_at, delayed_at, volume_phase_at, claim_phase_at, claim_ref_at, source_at, terms_at, selector_at, claims_at}
 use Rattle.object_text.specs.ExtraMembers.{extra_at}
@@ -54,7 +54,7 @@ volume_spec_of d = do
 
 unfoldable pub volume_status_of : Data → Result VolumePhase ObjectError
 volume_status_of d = do
-  status ← object_at members.Status (Some d)
+  status ← some_object_at members.Status (Some d)
   volume_phase_at status
 
 abbrev pub volume_with : Meta → VolumeSpec → VolumePhase → Volume
@@ -100,10 +100,10 @@ claim_ties spec = do
 
 unfoldable pub claim_status_of : Data → Result ClaimStatus ObjectError
 claim_status_of d = do
-  status ← object_at members.Status (Some d)
+  status ← some_object_at members.Status (Some d)
   phase ← claim_phase_at status
   got_modes ← optional_modes status
-  capacity ← object_at members.Capacity status
+  capacity ← some_object_at members.Capacity status
   got ← optional_quantity members.Storage capacity
   Ok (record { phase = phase; got_modes = got_modes; got = got })
 
@@ -144,13 +144,13 @@ class_of d = do
 unfoldable pub node_of : Data → Result Node ObjectError
 node_of d = do
   meta ← meta_of false d
-  spec ← object_at members.Spec (Some d)
+  spec ← some_object_at members.Spec (Some d)
   Ok (record { meta = meta; extra = extra_at listed.Node spec })
 
 unfoldable pub pod_of : Data → Result Pod ObjectError
 pod_of d = do
   meta ← meta_of true d
-  spec ← object_at members.Spec (Some d)
+  spec ← some_object_at members.Spec (Some d)
   node ← text_or members.NodeName [] spec
   claims ← claims_at spec
   Ok (record { meta = meta; claims = claims; node = node; extra = extra_at listed.Pod spec })

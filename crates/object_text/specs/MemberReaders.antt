@@ -78,8 +78,8 @@ needed_way m place = way_from m (unless_null (at m place))
 -- ---- members that may be absent: null is of the wrong type
 
 -- also on the way to a member that may be absent
-abbrev pub object_at : Member → Option Data → Result (Option Data) ObjectError
-object_at m place = way_from m (at m place)
+abbrev pub some_object_at : Member → Option Data → Result (Option Data) ObjectError
+some_object_at m place = way_from m (at m place)
 
 abbrev pub text_from : Member → List ℕ → Option Data → Result (List ℕ) ObjectError
 text_from m other None = Ok other

@@ -29,7 +29,7 @@ use Rattle.object_text.specs.declared.errors.Member.TheVariants as members
 use Rattle.object_text.specs.declared.errors.ObjectError.{ObjectError}
 use Rattle.object_text.specs.declared.errors.ObjectError.TheVariants.{Missing, WrongType, BadQuantity, NotWhole}
 use Rattle.object_text.specs.Answers.{◌>>=◌}
-use Rattle.object_text.specs.MemberReaders.{at, as_text, as_object, needed, needed_text, needed_items, object_at, text_or, optional_text, optional_items, texts_at, pairs_at, uid_at}
+use Rattle.object_text.specs.MemberReaders.{at, as_text, as_object, needed, needed_text, needed_items, some_object_at, text_or, optional_text, optional_items, texts_at, pairs_at, uid_at}
 
 -- ---- quantities: a text, or a whole number that stands for its digits
 
@@ -133,7 +133,7 @@ ref_or_none None = Ok None
 ref_or_none (Some d) = ref_at (Some d) >>= λ r. Ok (Some r)
 
 unfoldable pub claim_ref_at : Option Data → Result (Option Ref) ObjectError
-claim_ref_at place = object_at members.ClaimRef place >>= λ o. ref_or_none o
+claim_ref_at place = some_object_at members.ClaimRef place >>= λ o. ref_or_none o
 
 -- ---- the source of a volume
 
@@ -199,8 +199,8 @@ terms_or_none (Some ds) = terms_from ds [] >>= λ ts. Ok (Some (record { terms =
 
 unfoldable pub terms_at : Option Data → Result (Option NodeTerms) ObjectError
 terms_at place = do
-  affinity ← object_at members.NodeAffinity place
-  required ← object_at members.Required affinity
+  affinity ← some_object_at members.NodeAffinity place
+  required ← some_object_at members.Required affinity
   listed ← optional_items members.NodeSelectorTerms required
   terms_or_none listed
 
@@ -217,7 +217,7 @@ selector_or_none None = Ok None
 selector_or_none (Some d) = selector_of (Some d) >>= λ s. Ok (Some s)
 
 unfoldable pub selector_at : Option Data → Result (Option Selector) ObjectError
-selector_at place = object_at members.Selector place >>= λ o. selector_or_none o
+selector_at place = some_object_at members.Selector place >>= λ o. selector_or_none o
 
 -- ---- the claims of a pod
 
@@ -225,7 +225,7 @@ selector_at place = object_at members.Selector place >>= λ o. selector_or_none 
 unfoldable pub claim_name_of : Data → Result (Option (List ℕ)) ObjectError
 claim_name_of d = do
   volume ← as_object members.Volumes d
-  claim ← object_at members.PersistentVolumeClaim (Some volume)
+  claim ← some_object_at members.PersistentVolumeClaim (Some volume)
   optional_text members.ClaimName claim
 
 abbrev pub with_name : List (List ℕ) → Option (List ℕ) → List (List ℕ)

@@ -4,7 +4,7 @@ ghost use Rattle.std.specs.Prelude.{◌≡◌, IfOk, false, map, option_map};
 ghost use Rattle.serde_json.specs.View.{view};
 ghost use Rattle.serde_json.specs.Written.{has_float};
 ghost use Rattle.json_text.specs.Trees.{members_in, others};
-ghost use Rattle.object_text.specs.ExtraMembers.{is_volume_member, is_claim_member, is_class_member, is_listed, extra_text, extra_at};
+ghost use Rattle.object_text.specs.ExtraMembers.{is_volume_member, is_claim_member, is_class_member, is_listed_member, extra_text, extra_at};
 ghost use Rattle.object_text.specs.Steps.Among.{is_one_of};
 ghost use Rattle.object_text.specs.Steps.Whole.{IsWholePlace};
 
@@ -81,9 +81,9 @@ fn is_class_member(name: &str) -> bool
 }
 
 impl KnownNames for Listed {
-    ghost use Rattle.object_text.specs.ExtraMembers.{is_listed};
+    ghost use Rattle.object_text.specs.ExtraMembers.{is_listed_member};
 
-    ghost known = { is_listed };
+    ghost known = { is_listed_member };
 
     fn is_known(&self, name: &str) -> bool {
         match *self {
@@ -99,7 +99,7 @@ impl KnownNames for Listed {
 #[tactic(auto, using(crate::proofs::WholeParts::others_whole))]
 fn extra_of(alloc: Global, listed: Listed, value: &Value) -> Result<Text, OutOfMemory>
     requires { has_float (view value.now) ≡ false }
-    ensures { IfOk result (λ t. t ≡ extra_text (others (is_listed listed) (members_in (view value.now)))) }
+    ensures { IfOk result (λ t. t ≡ extra_text (others (is_listed_member listed) (members_in (view value.now)))) }
 {
     let fields = Fields::others(alloc, &listed, value)?;
     if fields.is_empty() {

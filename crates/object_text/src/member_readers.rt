@@ -6,7 +6,7 @@ ghost use Rattle.std.specs.Char.{is_ascii_digit};
 ghost use Rattle.std.specs.Str.Parse.{digits_value};
 ghost use Rattle.serde_json.specs.View.{view, items_view, members_view};
 ghost use Rattle.object_text.specs.Answers.{Gives, GivesBy};
-ghost use Rattle.object_text.specs.MemberReaders.{at, as_text, as_items, as_object, needed, needed_text, needed_items, needed_object, needed_way, object_at, text_or, optional_text, optional_items, texts_from, texts_at, pairs_from, pairs_in, pairs_at, uid_named, uid_at, stamp_named, stamp_at, stamp_or_empty, is_version, version_named, version_at};
+ghost use Rattle.object_text.specs.MemberReaders.{at, as_text, as_items, as_object, needed, needed_text, needed_items, needed_object, needed_way, some_object_at, text_or, optional_text, optional_items, texts_from, texts_at, pairs_from, pairs_in, pairs_at, uid_named, uid_at, stamp_named, stamp_at, stamp_or_empty, is_version, version_named, version_at};
 ghost use Rattle.object_text.specs.Steps.Whole.{IsWholePlace};
 
 use crate::errors::{Member, ObjectError};
@@ -130,7 +130,7 @@ pub fn object_at<'v>(
     place: Option<&'v Value>,
     member: Member,
 ) -> Result<Option<&'v Value>, ObjectError>
-    ensures value { GivesBy (option_map (λ v. view v.now)) result (object_at member (option_map (λ v. view v.now) place.entry)) }
+    ensures value { GivesBy (option_map (λ v. view v.now)) result (some_object_at member (option_map (λ v. view v.now) place.entry)) }
     ensures whole { IsWholePlace (option_map (λ v. view v.now) place.entry) → IfOk result (λ o. IsWholePlace (option_map (λ v. view v.now) o)) }
 {
     match at(place, member) {

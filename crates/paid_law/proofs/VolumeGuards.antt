@@ -32,7 +32,7 @@ use Rattle.protect_sync.specs.declared.volumes.VolumeGuardStep.{VolumeGuardStep}
 use Rattle.protect_sync.specs.declared.volumes.VolumeGuardStep.TheVariants as steps
 use Rattle.safety_invariant.proofs.KeptBindings.{unguarded}
 use Rattle.safety_law.proofs.Law.{run_implies_safe}
-use Rattle.settle_measure.specs.Lowers.{Stands}
+use Rattle.settle_measure.specs.Lowers.{StandsVolume}
 use Rattle.settle_upkeep.specs.Pays.{NoneIsCompletedOn}
 use Rattle.settle_upkeep.proofs.Guards.{volume_guard_pays, volume_unguard_pays}
 use Rattle.worker_core.specs.declared.role.Role.{Role}
@@ -131,7 +131,7 @@ module _ (setup : Setup) (seat : ℕ) (role : Role) (kind : role.kind ≡ seats.
     at_key : row_at (volume_key v.meta.name) (world setup h).store.rows ≡ Some (Volume v)
     at_key = ap (λ k. row_at k (world setup h).store.rows) (sym own_key) ∙ on_store.there
 
-    stands : leaves (Volume v) ≡ false → Stands (world setup h) v
+    stands : leaves (Volume v) ≡ false → StandsVolume (world setup h) v
     stands stays = record { order = rows_stand_in_order setup h; there = at_key; stays = stays }
 
     -- the machine that began, with its call

@@ -49,7 +49,7 @@ use Rattle.pass_law.proofs.Told.{told_after, within_five}
 use Rattle.event_law.specs.Ahead.{from_of, sum_over}
 use Rattle.cost_law.specs.Ends.{done_by}
 use Rattle.event_law.specs.Telling.{IsToldSo, told}
-use Rattle.pass_law.specs.Passes.{IsGiven, events_cost, first_cost, wait_cost, waits_cost}
+use Rattle.pass_law.specs.Passes.{IsCallGiven, events_cost, first_cost, wait_cost, waits_cost}
 
 add_full : (n : ℕ) → (n + 64) / 64 ≡ n / 64 + 1
 add_full n = let e = add-div_right n {k = 64} (omega arith) in omega (arith, e)
@@ -101,7 +101,7 @@ wait_more version (Some from) = by (nat_lt from version) (nat_lt from (version +
 twice_five : (seat : SeatKind) → sum_over (λ k. 2) (kinds_of seat) ≤ 10
 twice_five seat = of_each seat (λ k. 2) 2 (λ k. omega arith)
 
-module _ (setup : Setup) (seat base high : ℕ) (x : ActorState) (request : Request) (reply : Reply) (h : List Entry) (given : IsGiven setup seat x request reply h) (short : (world setup (told_entry seat x request reply ∷ h)).store.version ≤ high) where
+module _ (setup : Setup) (seat base high : ℕ) (x : ActorState) (request : Request) (reply : Reply) (h : List Entry) (given : IsCallGiven setup seat x request reply h) (short : (world setup (told_entry seat x request reply ∷ h)).store.version ≤ high) where
   abbrev entry : Entry
   entry = told_entry seat x request reply
 

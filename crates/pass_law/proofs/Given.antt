@@ -53,7 +53,7 @@ use Rattle.cost_law.proofs.Starts.{agent_done, agent_takes_none, is_done, is_tak
 use Rattle.cost_law.proofs.Tasks.{under_goes}
 use Rattle.event_law.specs.Ahead.{from_of}
 use Rattle.cost_law.specs.Ends.{done_by, start_left}
-use Rattle.pass_law.specs.Passes.{IsGiven}
+use Rattle.pass_law.specs.Passes.{IsCallGiven}
 
 -- what was given is a task's call, a call of the start, or a read
 
@@ -136,7 +136,7 @@ agent_call_kind setup w (tasks.Provision op) request is call = absurd (true≢fa
 agent_call_kind setup w (tasks.Erase op) request is call = absurd (true≢false (sym (ap is_agent is)))
 agent_call_kind setup w (tasks.Schedule op) request is call = absurd (true≢false (sym (ap is_agent is)))
 
-module _ (setup : Setup) (seat : ℕ) (x : ActorState) (request : Request) (reply : Reply) (h : List Entry) (given : IsGiven setup seat x request reply h) where
+module _ (setup : Setup) (seat : ℕ) (x : ActorState) (request : Request) (reply : Reply) (h : List Entry) (given : IsCallGiven setup seat x request reply h) where
   pub task_called : x.given ≡ Some givens.Task → TaskCalled x request reply
   task_called eg = by x.under refl given.stands.under_way (ap (given_call x) (sym eg) ∙ given.ask)
     where
@@ -179,7 +179,7 @@ pub record StartCalled (x : ActorState) (request : Request) (reply : Reply) : Ty
   pub unread : (kind : Kind) → reads_kind kind request ≡ false
   pub light : WritesLight x.role.kind reply
 
-module _ (setup : Setup) (seat : ℕ) (x : ActorState) (request : Request) (reply : Reply) (h : List Entry) (given : IsGiven setup seat x request reply h) where
+module _ (setup : Setup) (seat : ℕ) (x : ActorState) (request : Request) (reply : Reply) (h : List Entry) (given : IsCallGiven setup seat x request reply h) where
   pub start_called : x.given ≡ Some givens.Start → StartCalled x request reply
   start_called eg =
       let call : start_call x.role x.memory ≡ Some request = ap (given_call x) (sym eg) ∙ given.ask in
@@ -237,7 +237,7 @@ in_place [] place kind at = none_some at
 in_place (k ∷ ks) zero kind at = inl (one k kind at)
 in_place (k ∷ ks) (suc place) kind at = inr (in_place ks place kind at)
 
-module _ (setup : Setup) (seat : ℕ) (x : ActorState) (request : Request) (reply : Reply) (h : List Entry) (given : IsGiven setup seat x request reply h) where
+module _ (setup : Setup) (seat : ℕ) (x : ActorState) (request : Request) (reply : Reply) (h : List Entry) (given : IsCallGiven setup seat x request reply h) where
   pub low_from : (kind : Kind) (from : ℕ) → from_of seat h kind ≡ Some from → from ≤ (world setup h).store.version
   low_from kind from is =
       let on = watches_on setup h seat kind given.history.0 (watches_from x.role.kind (own seat h) kind given.built given.stands.licensed) in

@@ -31,7 +31,7 @@ use Rattle.worker_core.specs.declared.turn.Given.TheVariants as givens
 use Rattle.worker_core.specs.declared.turn.Pass.{Pass}
 use Rattle.worker_core.specs.Absorbs.{all_added, ended_work, given_told, is_passing, learned, pass_after, read_told, task_told, work_after}
 use Rattle.worker_core.specs.Memories.{memory_after}
-use Rattle.worker_core.specs.Roles.{kind_at, kinds_of}
+use Rattle.worker_core.specs.Roles.{kind_in_order, kinds_of}
 use Rattle.worker_core.specs.States.{ActorState}
 use Rattle.worker_core.specs.Tasks.{task_parks, under_after}
 use Rattle.worker_core.specs.Turns.{passing}
@@ -65,7 +65,7 @@ use Rattle.cost_law.proofs.Tasks.{done_few}
 use Rattle.event_law.specs.Ahead.{Point, cost_at, from_of, kind_cost, kinds_cost, pass_cost}
 use Rattle.cost_law.specs.Ends.{start_left}
 use Rattle.event_law.specs.Telling.{told}
-use Rattle.pass_law.specs.Passes.{HasReached, IsGiven, second_cost}
+use Rattle.pass_law.specs.Passes.{KindsHaveReached, IsCallGiven, second_cost}
 
 -- the answers
 
@@ -112,18 +112,18 @@ within_five seats.Agent = omega arith
 abbrev watched_cost : Pass → Bool → Bool → Bool → List Event → ℕ
 watched_cost pass passes full event es = pass_cost (record { behind = if passes && not full then pass.behind + 1 else pass.behind; event = event || not (is_none_of es) })
 
-pass_less : (role : Role) (pass : Pass) (kind : Kind) (from : ℕ) (events : EventsData) → kind_at role pass.behind ≡ Some kind
-    → (((length events.events == most_events) ≡ true) × (pass_cost (pass_after pass (is_passing (kind_at role pass.behind) kind) (requests.Watch kind from) (replies.Events events)) ≤ pass_cost pass + 5))
-    ⊎ (((length events.events == most_events) ≡ false) × (pass_cost (pass_after pass (is_passing (kind_at role pass.behind) kind) (requests.Watch kind from) (replies.Events events)) + 1 ≤ pass_cost pass + 5 * length events.events))
+pass_less : (role : Role) (pass : Pass) (kind : Kind) (from : ℕ) (events : EventsData) → kind_in_order role pass.behind ≡ Some kind
+    → (((length events.events == most_events) ≡ true) × (pass_cost (pass_after pass (is_passing (kind_in_order role pass.behind) kind) (requests.Watch kind from) (replies.Events events)) ≤ pass_cost pass + 5))
+    ⊎ (((length events.events == most_events) ≡ false) × (pass_cost (pass_after pass (is_passing (kind_in_order role pass.behind) kind) (requests.Watch kind from) (replies.Events events)) + 1 ≤ pass_cost pass + 5 * length events.events))
 pass_less role pass kind from events at = by (length events.events == most_events) refl
   where
-    passing_it : is_passing (kind_at role pass.behind) kind ≡ true
+    passing_it : is_passing (kind_in_order role pass.behind) kind ≡ true
     passing_it = ap (λ k. is_passing k kind) at ∙ (same_kind-Decides kind kind).1 refl
 
     behind : pass.behind < 5
     behind = let a = slice_get_within (kinds_of role.kind) pass.behind kind at in let b = within_five role.kind in omega (arith, a, b)
 
-    is : (full : Bool) → (length events.events == most_events) ≡ full → pass_cost (pass_after pass (is_passing (kind_at role pass.behind) kind) (requests.Watch kind from) (replies.Events events)) ≡ watched_cost pass true full pass.event events.events
+    is : (full : Bool) → (length events.events == most_events) ≡ full → pass_cost (pass_after pass (is_passing (kind_in_order role pass.behind) kind) (requests.Watch kind from) (replies.Events events)) ≡ watched_cost pass true full pass.event events.events
     is full e = ap (λ p. watched_cost pass p (length events.events == most_events) pass.event events.events) passing_it ∙ ap (λ b. watched_cost pass true b pass.event events.events) e
 
     less : (event : Bool) (es : List Event) → watched_cost pass true false event es + 1 ≤ ((5 - pass.behind) + (if event then 5 else 0)) + 5 * length es
@@ -137,8 +137,8 @@ pass_less role pass kind from events at = by (length events.events == most_event
     more false (y ∷ ys) = omega arith
 
     by : (full : Bool) → (length events.events == most_events) ≡ full
-        → (((length events.events == most_events) ≡ true) × (pass_cost (pass_after pass (is_passing (kind_at role pass.behind) kind) (requests.Watch kind from) (replies.Events events)) ≤ pass_cost pass + 5))
-        ⊎ (((length events.events == most_events) ≡ false) × (pass_cost (pass_after pass (is_passing (kind_at role pass.behind) kind) (requests.Watch kind from) (replies.Events events)) + 1 ≤ pass_cost pass + 5 * length events.events))
+        → (((length events.events == most_events) ≡ true) × (pass_cost (pass_after pass (is_passing (kind_in_order role pass.behind) kind) (requests.Watch kind from) (replies.Events events)) ≤ pass_cost pass + 5))
+        ⊎ (((length events.events == most_events) ≡ false) × (pass_cost (pass_after pass (is_passing (kind_in_order role pass.behind) kind) (requests.Watch kind from) (replies.Events events)) + 1 ≤ pass_cost pass + 5 * length events.events))
     by true e = let a = is true e in let b = more pass.event events.events in inl (e, omega (arith, a, b))
     by false e = let a = is false e in let b = less pass.event events.events in inr (e, omega (arith, a, b))
 
@@ -147,8 +147,8 @@ pub kind_still : (setup : Setup) (m high : ℕ) (e : Entry) (h : List Entry) (k 
 kind_still setup m high e h k None stays = ap (λ n. (m + 1) + (m + 7) * ((high - n) / 513)) stays.version
 kind_still setup m high e h k (Some from) stays = ap (λ l. 9 * pending k from l + (m + 7) * ((high - from) / 513)) stays.log
 
-module _ (setup : Setup) (seat base m high : ℕ) (x : ActorState) (request : Request) (reply : Reply) (h : List Entry) (given : IsGiven setup seat x request reply h) (at : Point setup x.role.kind base m high h)
-    (begins : base_of setup ≤ base) (reached : HasReached base seat x.role.kind h) (short : (world setup (told_entry seat x request reply ∷ h)).store.version ≤ high) where
+module _ (setup : Setup) (seat base m high : ℕ) (x : ActorState) (request : Request) (reply : Reply) (h : List Entry) (given : IsCallGiven setup seat x request reply h) (at : Point setup x.role.kind base m high h)
+    (begins : base_of setup ≤ base) (reached : KindsHaveReached base seat x.role.kind h) (short : (world setup (told_entry seat x request reply ∷ h)).store.version ≤ high) where
   abbrev entry : Entry
   entry = told_entry seat x request reply
 

@@ -28,7 +28,7 @@ use Rattle.worker_core.specs.declared.turn.Outcome.TheVariants.{Told}
 use Rattle.worker_threads.specs.Rounds.{told_entry}
 
 -- the call that an actor has given, and the answer that the world gives to it
-pub record IsGiven (setup : Setup) (seat : ℕ) (x : ActorState) (request : Request) (reply : Reply) (h : List Entry) : Type 0 where
+pub record IsCallGiven (setup : Setup) (seat : ℕ) (x : ActorState) (request : Request) (reply : Reply) (h : List Entry) : Type 0 where
   pub built : IsBuiltKind x.role.kind
   pub stands : StandsFor x (own seat h)
   pub queue : QueueStands x
@@ -64,18 +64,18 @@ first_cost setup seat kind base high s h =
     20 * (high - (world setup h).store.version) + (under_left s.under + start_left s.role s.memory + (waits_cost setup seat kind h + (events_cost setup kind base h + (5 - s.pass.behind))))
 
 -- each kind that the seat watches has reached the version with which the slot began
-abbrev pub HasReached : ℕ → ℕ → SeatKind → List Entry → Type 0
-HasReached base seat seat_kind h = (kind : Kind) (from : ℕ) → follows seat_kind kind ≡ true → from_of seat h kind ≡ Some from → base ≤ from
+abbrev pub KindsHaveReached : ℕ → ℕ → SeatKind → List Entry → Type 0
+KindsHaveReached base seat seat_kind h = (kind : Kind) (from : ℕ) → follows seat_kind kind ≡ true → from_of seat h kind ≡ Some from → base ≤ from
 
 -- past the first pass each call whose answer is told leaves less to come
 abbrev pub CallsPay : Type 0
 CallsPay =
-    (setup : Setup) (seat base m high : ℕ) (x : ActorState) (request : Request) (reply : Reply) (h : List Entry) (caches : AllKnown) → IsGiven setup seat x request reply h → Point setup x.role.kind base m high h → base_of setup ≤ base
-    → HasReached base seat x.role.kind h → (world setup (told_entry seat x request reply ∷ h)).store.version ≤ high
+    (setup : Setup) (seat base m high : ℕ) (x : ActorState) (request : Request) (reply : Reply) (h : List Entry) (caches : AllKnown) → IsCallGiven setup seat x request reply h → Point setup x.role.kind base m high h → base_of setup ≤ base
+    → KindsHaveReached base seat x.role.kind h → (world setup (told_entry seat x request reply ∷ h)).store.version ≤ high
     → second_cost setup seat x.role.kind m high (absorbed x caches request (Told reply)) (told_entry seat x request reply ∷ h) + 1 ≤ second_cost setup seat x.role.kind m high x h
 
 -- so does each call of the first pass
 abbrev pub FirstCallsPay : Type 0
 FirstCallsPay =
-    (setup : Setup) (seat base high : ℕ) (x : ActorState) (request : Request) (reply : Reply) (h : List Entry) (caches : AllKnown) → IsGiven setup seat x request reply h → (world setup (told_entry seat x request reply ∷ h)).store.version ≤ high
+    (setup : Setup) (seat base high : ℕ) (x : ActorState) (request : Request) (reply : Reply) (h : List Entry) (caches : AllKnown) → IsCallGiven setup seat x request reply h → (world setup (told_entry seat x request reply ∷ h)).store.version ≤ high
     → first_cost setup seat x.role.kind base high (absorbed x caches request (Told reply)) (told_entry seat x request reply ∷ h) + 1 ≤ first_cost setup seat x.role.kind base high x h

@@ -7,5 +7,6 @@
 
 pub mod memo;
 pub mod pieces;
+pub mod recent;
 pub mod sinks;
 pub mod writing;

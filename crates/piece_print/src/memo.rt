@@ -85,7 +85,9 @@ impl<'a> Memo<'a> {
                 return self.rows[at].text.copy(alloc);
             }
         }
-        let text = Shared::new(alloc, print_object(alloc, object)?)?;
+        // What is printed has room for more; what is kept has not.
+        let printed = print_object(alloc, object)?;
+        let text = Shared::new(alloc, Bytes::new(alloc, printed.as_slice())?)?;
         let kept = text.copy(alloc)?;
         let row = Kept { object, text: kept };
         match place {

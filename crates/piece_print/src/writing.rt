@@ -7,6 +7,7 @@ ghost use Rattle.piece_print.specs.Writing.{text_in, whole};
 
 use crate::memo::Memo;
 use crate::pieces::{PieceText, Pieces};
+use crate::recent::Recent;
 use json_text::writing::JsonText;
 use kube_types::copies::OutOfMemory;
 use kube_types::objects::Object;
@@ -25,6 +26,7 @@ pub struct JsonPieces<'a> {
     pub tail: JsonText,
     front: Pieces,
     memo: Memo<'a>,
+    recent: Recent,
     keeps: bool,
 }
 
@@ -34,11 +36,13 @@ impl<'a> Drop for JsonPieces<'a> {
             tail,
             front,
             memo,
+            recent,
             keeps: _,
         } = self;
         drop(tail);
         drop(front);
         drop(memo);
+        drop(recent);
     }
 }
 
@@ -54,13 +58,14 @@ fn after_value(alloc: Global) -> Result<JsonText, OutOfMemory>
 
 impl<'a> JsonPieces<'a> {
     #[tactic(auto, using(crate::proofs::Behind::behind_none))]
-    fn begin(alloc: Global, keeps: bool) -> JsonPieces<'a>
+    fn begin(alloc: Global, recent: Recent, keeps: bool) -> JsonPieces<'a>
         ensures { whole result ≡ ([], false) }
     {
         JsonPieces {
             tail: JsonText::new(alloc),
             front: Pieces::new(alloc),
             memo: Memo::new(alloc),
+            recent,
             keeps,
         }
     }
@@ -69,14 +74,21 @@ impl<'a> JsonPieces<'a> {
     pub fn new(alloc: Global) -> JsonPieces<'a>
         ensures { whole result ≡ ([], false) }
     {
-        JsonPieces::begin(alloc, true)
+        JsonPieces::begin(alloc, Recent::none(alloc), true)
     }
 
     /// No text, in which the text of each object will stand where it is put. It takes no memory.
     pub fn plain(alloc: Global) -> JsonPieces<'a>
         ensures { whole result ≡ ([], false) }
     {
-        JsonPieces::begin(alloc, false)
+        JsonPieces::beside(alloc, Recent::none(alloc))
+    }
+
+    /// The same, where what was printed lately is not printed again. It takes no memory.
+    pub fn beside(alloc: Global, recent: Recent) -> JsonPieces<'a>
+        ensures { whole result ≡ ([], false) }
+    {
+        JsonPieces::begin(alloc, recent, false)
     }
 
     #[tactic(auto, using(crate::proofs::Behind::shared_behind))]
@@ -96,7 +108,7 @@ impl<'a> JsonPieces<'a> {
         ensures ok { OnOk result (whole self.new ≡ with_value (object_data object.now) (whole self.old)) }
     {
         if !self.keeps {
-            return object.write(&mut self.tail);
+            return self.recent.write(&mut self.tail, object);
         }
         let text = self.memo.line_of(object)?;
         self.put_shared(text)
@@ -167,30 +179,42 @@ impl<'a> JsonPieces<'a> {
             tail,
             mut front,
             memo,
+            recent,
             keeps: _,
         } = self;
         drop(memo);
+        drop(recent);
         front.push(tail.as_slice())?;
         Ok(PieceText::new(front, rest))
     }
 
     /// The text in one piece. Where it has one already, this takes no memory.
-    #[tactic(auto, using(crate::proofs::Behind::text_of_behind, crate::proofs::Behind::text_of_tail))]
     pub fn into_bytes(self) -> Result<Bytes, OutOfMemory>
         ensures { IfOk result (λ bytes. bytes ≡ text_in self.entry) }
+    {
+        let (bytes, recent) = self.into_both()?;
+        drop(recent);
+        Ok(bytes)
+    }
+
+    /// The text in one piece, and what was printed lately.
+    #[tactic(auto, using(crate::proofs::Behind::text_of_behind, crate::proofs::Behind::text_of_tail))]
+    pub fn into_both(self) -> Result<(Bytes, Recent), OutOfMemory>
+        ensures { IfOk result (λ both. both.0 ≡ text_in self.entry) }
     {
         let JsonPieces {
             tail,
             mut front,
             memo,
+            recent,
             keeps: _,
         } = self;
         drop(memo);
         if front.has_nothing() {
-            return Ok(tail.into_bytes());
+            return Ok((tail.into_bytes(), recent));
         }
         front.push(tail.as_slice())?;
-        front.flat()
+        Ok((front.flat()?, recent))
     }
 }
 

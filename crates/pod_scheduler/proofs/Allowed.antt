@@ -12,7 +12,7 @@ use Rattle.model_laws.proofs.Lists.{none_some, one}
 use Rattle.pod_scheduler.specs.declared.schedule.ScheduleOp.{ScheduleOp}
 use Rattle.pod_scheduler.specs.declared.schedule.ScheduleStep.{ScheduleStep}
 use Rattle.pod_scheduler.specs.declared.schedule.ScheduleStep.TheVariants as steps
-use Rattle.pod_scheduler.specs.BeginLaw.{CallsAreWrites, ParkedHaveEnded}
+use Rattle.pod_scheduler.specs.BeginLaw.{CallsAreWrites, ParkedSchedulesHaveEnded}
 use Rattle.pod_scheduler.specs.Evidence.{MayUpdate, MayWrite, ScheduleKeeps, StepKeeps}
 use Rattle.pod_scheduler.specs.Schedules.{schedule_call_at, is_write, schedule_call, schedule_parks, only_write}
 
@@ -71,6 +71,6 @@ step_ended (steps.Writes place) writes parks = absurd (true≢false (sym parks))
 step_ended steps.Done writes parks = absurd (true≢false (sym parks))
 step_ended steps.Parked writes parks = refl
 
-pub parked_have_ended : ParkedHaveEnded
+pub parked_have_ended : ParkedSchedulesHaveEnded
 unfolding schedule_call
 parked_have_ended op parks = step_ended op.step op.writes parks

@@ -29,7 +29,7 @@ use Rattle.delayed_binding.proofs.Allowed.{assigned_pods_are_allowed, chosen_wri
 use Rattle.delayed_binding.proofs.Unique.{choices_are_unique}
 use Rattle.pod_scheduler.specs.declared.schedule.ScheduleOp.{ScheduleOp}
 use Rattle.pod_scheduler.specs.declared.tries.Tried.{Tried}
-use Rattle.pod_scheduler.specs.BeginLaw.{BegunHaveCalls, DecisionsAreUnique, DecisionsKeep}
+use Rattle.pod_scheduler.specs.BeginLaw.{BegunSchedulesHaveCalls, DecisionsAreUnique, DecisionsKeep}
 use Rattle.pod_scheduler.specs.Decisions.{BeginsFor, BeginsIf, BeginsOn, are_known, begun_with, binding, is_known_in, last_refused, present, writes_for}
 use Rattle.pod_scheduler.specs.Evidence.{MayUpdate, MayWrite, ScheduleKeeps}
 use Rattle.pod_scheduler.specs.Schedules.{is_write, schedule_call}
@@ -164,7 +164,7 @@ unfolding schedule_call
 calls [] op e h = none_some (sym e)
 calls (w ∷ writes) op e h = subst (λ (x : ScheduleOp). is_some (schedule_call x) ≡ true) (sym (one op _ e)) (ap (λ b. is_some (if b then Some w else None)) h)
 
-pub begun_have_calls : BegunHaveCalls
+pub begun_have_calls : BegunSchedulesHaveCalls
 begun_have_calls rows refused row op begins =
     let b = begins_pod rows refused row op begins in
     let first = writes_by rows b.pod IsFirstWrite tt b.begins.choice (λ uid name is same. refl) (λ known. first_write (present (writes_of rows b.begins.choice)) (each_present (writes_of rows b.begins.choice) (writes_are_updates rows b.begins.choice))) in

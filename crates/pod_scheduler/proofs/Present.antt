@@ -11,7 +11,7 @@ use Rattle.kube_types.specs.Keys.{row_at}
 use Rattle.call_types.specs.declared.request.Request.{Request}
 use Rattle.call_types.specs.declared.request.Request.TheVariants as requests
 use Rattle.binder_model.specs.Choice.{claim_in}
-use Rattle.volume_match.specs.Volumes.{as_volume}
+use Rattle.kube_types.specs.VolumeIndex.{as_volume}
 use Rattle.model_laws.proofs.Lists.{none_some, one}
 use Rattle.delayed_binding.specs.declared.choice.Choice.{Choice}
 use Rattle.delayed_binding.specs.declared.choice.Choice.TheVariants.{Assign, Prepare, Wait, NoNode}

@@ -14,7 +14,7 @@ use Rattle.binder_model.specs.Told.{After, IsClaimWith, SomeOf, objects_in}
 use Rattle.model_laws.proofs.Lists.{IsIn, none_some, one, some_filter}
 use Rattle.pod_scheduler.specs.declared.tries.Tried.{Tried}
 use Rattle.pod_scheduler.specs.declared.tries.Tries.{Tries}
-use Rattle.pod_scheduler.specs.Tries.{is_try_of, is_refusal, node_in, refuse_if, refused_in, see, see_all, see_claim, select, select_if, tried_of, tries_after, tries_of}
+use Rattle.pod_scheduler.specs.Tries.{is_try_of, is_refusal, node_selected_for, refuse_if, refused_in, see, see_all, see_claim, select, select_if, tried_of, tries_after, tries_of}
 use Rattle.pod_scheduler.specs.TryLaw.{HasNode, IsWithout, RefusedWereRefused, SelectedWereSelected, Selecting, Selects, TellsRefused}
 
 -- what is found
@@ -107,7 +107,7 @@ all_refused (o ∷ os) m t h = elim (all_refused os (see o m) t h) [
 -- a write selects
 
 select_refused : (request : Request) (reply : Reply) (m : Tries) → (select_if request reply m).refused ≡ m.refused
-select_refused (Update (Claim asked) given) (Done (Claim c)) m = by c.meta.uid (node_in c)
+select_refused (Update (Claim asked) given) (Done (Claim c)) m = by c.meta.uid (node_selected_for c)
   where
     by : (u : Option Uid) (n : Option (List ℕ)) → (select u n c m).refused ≡ m.refused
     by (Some uid) (Some node) = refl
@@ -115,7 +115,7 @@ select_refused (Update (Claim asked) given) (Done (Claim c)) m = by c.meta.uid (
     by None n = refl
 select_refused _ _ m = refl
 
-selected_by_claim : (c : ClaimData) (m : Tries) (t : Tried) (u : Option Uid) (n : Option (List ℕ)) → c.meta.uid ≡ u → node_in c ≡ n → IsIn t (select u n c m).selected → IsIn t m.selected ⊎ HasNode t c
+selected_by_claim : (c : ClaimData) (m : Tries) (t : Tried) (u : Option Uid) (n : Option (List ℕ)) → c.meta.uid ≡ u → node_selected_for c ≡ n → IsIn t (select u n c m).selected → IsIn t m.selected ⊎ HasNode t c
 selected_by_claim c m t (Some uid) (Some node) known on h = elim h [
   | inl same ↦ inr (subst (λ y. HasNode y c) same (record { claim = known; node = on; version = refl }))
   | inr more ↦ inl (some_filter (λ y. y ≡ t) (λ y. not (is_try_of uid y)) m.selected more)
@@ -124,7 +124,7 @@ selected_by_claim c m t (Some uid) None known on h = inl h
 selected_by_claim c m t None n known on h = inl h
 
 select_selected : (request : Request) (reply : Reply) (m : Tries) (t : Tried) → IsIn t (select_if request reply m).selected → IsIn t m.selected ⊎ Selecting t request reply
-select_selected (Update (Claim asked) given) (Done (Claim c)) m t h = selected_by_claim c m t c.meta.uid (node_in c) refl refl h
+select_selected (Update (Claim asked) given) (Done (Claim c)) m t h = selected_by_claim c m t c.meta.uid (node_selected_for c) refl refl h
 select_selected _ _ m t h = inl h
 
 -- the entries

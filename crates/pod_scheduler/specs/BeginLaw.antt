@@ -29,12 +29,12 @@ DecisionsKeep =
     → AllStandFor caches mine → AreRows (all_objects caches) → AreOfKind Scheduler mine
     → BeginsOn (all_objects caches) refused (row_at key (all_objects caches)) (Some op) → ScheduleKeeps op mine
 
-abbrev pub BegunHaveCalls : Type 0
-BegunHaveCalls = (rows : List Object) (refused : List Tried) (row : Option Object) (op : ScheduleOp) → BeginsOn rows refused row (Some op) → is_some (schedule_call op) ≡ true
+abbrev pub BegunSchedulesHaveCalls : Type 0
+BegunSchedulesHaveCalls = (rows : List Object) (refused : List Tried) (row : Option Object) (op : ScheduleOp) → BeginsOn rows refused row (Some op) → is_some (schedule_call op) ≡ true
 
 -- so none counts as a read of the actor's own
 abbrev pub CallsAreWrites : Type 0
 CallsAreWrites = (op : ScheduleOp) (request : Request) → schedule_call op ≡ Some request → is_write request ≡ true
 
-abbrev pub ParkedHaveEnded : Type 0
-ParkedHaveEnded = (op : ScheduleOp) → schedule_parks op.step ≡ true → schedule_call op ≡ None
+abbrev pub ParkedSchedulesHaveEnded : Type 0
+ParkedSchedulesHaveEnded = (op : ScheduleOp) → schedule_parks op.step ≡ true → schedule_call op ≡ None

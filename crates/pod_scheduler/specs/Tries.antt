@@ -37,8 +37,8 @@ abbrev pub tried_of : Uid → List Tried → Option Tried
 tried_of uid [] = None
 tried_of uid (t ∷ ts) = if is_try_of uid t then Some t else tried_of uid ts
 
-abbrev pub node_in : ClaimData → Option (List ℕ)
-node_in c = value_at selected_node c.meta.annotations
+abbrev pub node_selected_for : ClaimData → Option (List ℕ)
+node_selected_for c = value_at selected_node c.meta.annotations
 
 -- a claim is seen
 
@@ -48,7 +48,7 @@ is_other_node node (Some seen) = not (bytes_eq node seen)
 
 -- the claim, not completed, has another node or none, and was written after the node was
 abbrev pub is_refusal : Tried → ClaimData → Bool
-is_refusal t c = not (is_completed c) && nat_lt t.version c.meta.version && is_other_node t.node (node_in c)
+is_refusal t c = not (is_completed c) && nat_lt t.version c.meta.version && is_other_node t.node (node_selected_for c)
 
 -- the node that stands selected, where the claim shows it to be refused
 abbrev pub refused_in : ClaimData → Option Tried → Option Tried
@@ -82,7 +82,7 @@ select (Some uid) (Some node) c m = record m { selected = renewed (record { clai
 select uid chosen c m = m
 
 abbrev pub selected_by : ClaimData → Tries → Tries
-selected_by c m = select c.meta.uid (node_in c) c m
+selected_by c m = select c.meta.uid (node_selected_for c) c m
 
 abbrev pub select_if : Request → Reply → Tries → Tries
 select_if (Update (Claim asked) version) (Done (Claim c)) m = selected_by c m

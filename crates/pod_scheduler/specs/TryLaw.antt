@@ -11,12 +11,12 @@ use Rattle.call_types.specs.declared.reply.Reply.TheVariants.{Done}
 use Rattle.binder_model.specs.At.{HasUid}
 use Rattle.binder_model.specs.Told.{After, IsClaimWith, SomeOf, TellsObject}
 use Rattle.pod_scheduler.specs.declared.tries.Tried.{Tried}
-use Rattle.pod_scheduler.specs.Tries.{is_refusal, node_in, tries_of}
+use Rattle.pod_scheduler.specs.Tries.{is_refusal, node_selected_for, tries_of}
 
 -- the claim has the node, at the version that is kept
 pub record HasNode (t : Tried) (c : ClaimData) : Type 0 where
   pub claim : HasUid t.claim c
-  pub node : node_in c ≡ Some t.node
+  pub node : node_selected_for c ≡ Some t.node
   pub version : t.version ≡ c.meta.version
 
 -- the entry selected the node: a write of the claim that was done

@@ -6,7 +6,7 @@ ghost use Rattle.call_types.specs.declared.request.Request.{Request};
 ghost use Rattle.call_types.specs.declared.request.SeatKind.TheVariants.{Scheduler};
 ghost use Rattle.binder_model.specs.Licence.{AreOfKind, Licensed};
 ghost use Rattle.pod_scheduler.specs.declared.schedule.ScheduleOp.{ScheduleOp};
-ghost use Rattle.pod_scheduler.specs.BeginLaw.{BegunHaveCalls, CallsAreWrites, DecisionsAreUnique, DecisionsKeep, ParkedHaveEnded};
+ghost use Rattle.pod_scheduler.specs.BeginLaw.{BegunSchedulesHaveCalls, CallsAreWrites, DecisionsAreUnique, DecisionsKeep, ParkedSchedulesHaveEnded};
 ghost use Rattle.pod_scheduler.specs.DueLaw.{BeginsWhatIsDue};
 ghost use Rattle.pod_scheduler.specs.Evidence.{ScheduleKeeps};
 ghost use Rattle.pod_scheduler.specs.Schedules.{schedule_call, schedule_moved};
@@ -39,7 +39,7 @@ pub fn decisions_keep()
 /// Each machine that begins has a next call.
 #[tactic(auto, using(crate::proofs::Begun::begun_have_calls))]
 pub fn begun_have_calls()
-    ensures { BegunHaveCalls }
+    ensures { BegunSchedulesHaveCalls }
 {}
 
 /// Each call is a write.
@@ -51,7 +51,7 @@ pub fn calls_are_writes()
 /// A machine whose key is parked has ended.
 #[tactic(auto, using(crate::proofs::Allowed::parked_have_ended))]
 pub fn parked_have_ended()
-    ensures { ParkedHaveEnded }
+    ensures { ParkedSchedulesHaveEnded }
 {}
 
 /// Where the look-up is the store itself, what begins on a pod is what is due for it.

@@ -22,7 +22,7 @@ use Rattle.binder_model.specs.Devices.{DeviceAnswer, device_answer}
 use Rattle.binder_model.specs.Watching.{oldest, told_events}
 use Rattle.binder_model.specs.World.{World, OnStore, OnDevices, SetsMoment, base, is_time, fits_shape, set_time, watch, stale_epoch, on_devices, effect, refused_rule, reply_to, log_after, world_after}
 use Rattle.model_laws.proofs.Imported.{pass_base}
-use Rattle.object_laws.specs.Given.{IsStamp, IsGiven}
+use Rattle.object_laws.specs.Given.{IsStamp, IsGivenObject}
 use Rattle.history_laws.specs.Given.{IsNumber, IsEvent, IsRequest, IsRefusal, IsSetup}
 use Rattle.printable_law.specs.Keeping.{IsGivenStore, IsGivenWorld, IsGivenEffect, CallsKeepGiven}
 use Rattle.printable_law.proofs.Lists.{put_all, without_all}
@@ -39,7 +39,7 @@ store_more most s h = let few = h.version in record { rows = h.rows; version = o
 world_more : (most : ℕ) (w : World) → IsGivenWorld most w → IsGivenWorld (most + 1) w
 world_more most w h = record { store = store_more most w.store h.store; moment = h.moment; log = h.log; devices = devices_more most w.devices h.devices }
 
-logged : (change : Change) (o : Object) (log : List Event) → IsGiven o → All IsEvent log → All IsEvent ((record { change = change; object = o; version = (meta_of o).version }) ∷ log)
+logged : (change : Change) (o : Object) (log : List Event) → IsGivenObject o → All IsEvent log → All IsEvent ((record { change = change; object = o; version = (meta_of o).version }) ∷ log)
 logged change o log is h = let few = version_given o is in All-cons IsEvent _ log (record { object = is; version = omega (arith, few) }) h
 
 on_store : (most : ℕ) (w : World) (x : Outcome) → IsGivenWorld most w → IsGivenOutcome x → IsGivenEffect most w (OnStore x)
@@ -48,7 +48,7 @@ on_store most w (Says reply) h k = record { reply = k.given; world = world_more 
 on_store most w (Stores change o) h k = let few = h.store.version in record {
   reply = k.given;
   world = record {
-    store = record { rows = put_all key_cmp key_of IsGiven o w.store.rows k.given h.store.rows; version = omega (arith, few) };
+    store = record { rows = put_all key_cmp key_of IsGivenObject o w.store.rows k.given h.store.rows; version = omega (arith, few) };
     moment = h.moment;
     log = logged change o w.log k.given h.log;
     devices = devices_more most w.devices h.devices;
@@ -57,7 +57,7 @@ on_store most w (Stores change o) h k = let few = h.store.version in record {
 on_store most w (Removes o) h k = let few = h.store.version in record {
   reply = k.given;
   world = record {
-    store = record { rows = without_all key_cmp key_of IsGiven (key_of o) w.store.rows h.store.rows; version = omega (arith, few) };
+    store = record { rows = without_all key_cmp key_of IsGivenObject (key_of o) w.store.rows h.store.rows; version = omega (arith, few) };
     moment = h.moment;
     log = logged _ o w.log k.given h.log;
     devices = devices_more most w.devices h.devices;

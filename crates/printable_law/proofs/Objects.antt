@@ -21,7 +21,7 @@ use Rattle.binder_model.specs.Store.{first_moment, with_meta, at_version, marked
 use Rattle.binder_model.specs.Edits.{with_volume_name, edited_object}
 use Rattle.binder_model.specs.Answers.{with_status}
 use Rattle.binder_model.specs.Imports.{imported_meta, imported_object}
-use Rattle.object_laws.specs.Given.{IsStamp, IsStampOrEmpty, IsMeta, IsRef, IsVolume, IsClaim, IsPod, IsGiven}
+use Rattle.object_laws.specs.Given.{IsStamp, IsStampOrEmpty, IsMeta, IsRef, IsVolume, IsClaim, IsPod, IsGivenObject}
 use Rattle.history_laws.specs.Given.{IsStatus}
 
 -- ---- pairs
@@ -102,17 +102,17 @@ is_in_namespaces (Volume x) = false
 is_in_namespaces (Claim x) = true
 is_in_namespaces (Pod x) = true
 
-pub meta_given : (o : Object) → IsGiven o → IsMeta (is_in_namespaces o) (meta_of o)
+pub meta_given : (o : Object) → IsGivenObject o → IsMeta (is_in_namespaces o) (meta_of o)
 meta_given (Class x) h = h.meta
 meta_given (Node x) h = h.meta
 meta_given (Volume x) h = h.meta
 meta_given (Claim x) h = h.meta
 meta_given (Pod x) h = h.meta
 
-pub version_given : (o : Object) → IsGiven o → (meta_of o).version ≤ 2 ^ 62
+pub version_given : (o : Object) → IsGivenObject o → (meta_of o).version ≤ 2 ^ 62
 version_given o h = (meta_given o h).version
 
-with_meta_given : (o : Object) (m : Meta) → IsGiven o → IsMeta (is_in_namespaces o) m → IsGiven (with_meta o m)
+with_meta_given : (o : Object) (m : Meta) → IsGivenObject o → IsMeta (is_in_namespaces o) m → IsGivenObject (with_meta o m)
 unfolding with_meta
 with_meta_given (Class x) m h k = record { meta = k; policy = h.policy; parameters = h.parameters; extra = h.extra }
 with_meta_given (Node x) m h k = record { meta = k; extra = h.extra }
@@ -120,7 +120,7 @@ with_meta_given (Volume x) m h k = volume_meta x m h k
 with_meta_given (Claim x) m h k = claim_meta x m h k
 with_meta_given (Pod x) m h k = pod_meta x m h k
 
-without_status_given : (o : Object) → IsGiven o → IsGiven (without_status o)
+without_status_given : (o : Object) → IsGivenObject o → IsGivenObject (without_status o)
 unfolding without_status
 without_status_given (Class x) h = h
 without_status_given (Node x) h = h
@@ -128,7 +128,7 @@ without_status_given (Volume x) h = record { meta = h.meta; amount = h.amount; c
 without_status_given (Claim x) h = record { meta = h.meta; amount = h.amount; selector = h.selector; got = tt; extra = h.extra }
 without_status_given (Pod x) h = h
 
-admitted_given : (class : Option (List ℕ)) (o : Object) → IsGiven o → IsGiven (admitted_object class o)
+admitted_given : (class : Option (List ℕ)) (o : Object) → IsGivenObject o → IsGivenObject (admitted_object class o)
 unfolding admitted_object
 admitted_given class (Class x) h = h
 admitted_given class (Node x) h = h
@@ -136,35 +136,35 @@ admitted_given class (Volume x) h = volume_meta x _ h (meta_finalizers false x.m
 admitted_given class (Claim x) h = record { meta = meta_finalizers true x.meta _ h.meta; amount = h.amount; selector = h.selector; got = h.got; extra = h.extra }
 admitted_given class (Pod x) h = h
 
-pub created_given : (class : Option (List ℕ)) (o : Object) (version : ℕ) (moment : List ℕ) → IsGiven o → version ≤ 2 ^ 62 → IsStamp moment → IsGiven (created_object class o version moment)
+pub created_given : (class : Option (List ℕ)) (o : Object) (version : ℕ) (moment : List ℕ) → IsGivenObject o → version ≤ 2 ^ 62 → IsStamp moment → IsGivenObject (created_object class o version moment)
 unfolding created_object
 created_given class o version moment h few at =
     let given = admitted_given class (without_status o) (without_status_given o h) in
     with_meta_given (admitted_object class (without_status o)) _ given (first_meta _ _ version moment (meta_given _ given) few at)
 
-with_status_of_given : (old new : Object) → IsGiven old → IsGiven new → IsGiven (with_status_of old new)
+with_status_of_given : (old new : Object) → IsGivenObject old → IsGivenObject new → IsGivenObject (with_status_of old new)
 unfolding with_status_of
 with_status_of_given (Volume a) (Volume b) h k = record { meta = k.meta; amount = k.amount; claim_ref = k.claim_ref; source = k.source; extra = k.extra }
 with_status_of_given (Claim a) (Claim b) h k = record { meta = k.meta; amount = k.amount; selector = k.selector; got = h.got; extra = k.extra }
 with_status_of_given old new h k = k
 
-pub updated_given : (old new : Object) (version : ℕ) → IsGiven old → IsGiven new → version ≤ 2 ^ 62 → IsGiven (updated_object old new version)
+pub updated_given : (old new : Object) (version : ℕ) → IsGivenObject old → IsGivenObject new → version ≤ 2 ^ 62 → IsGivenObject (updated_object old new version)
 unfolding updated_object
 updated_given old new version h k few =
     let given = with_status_of_given old new h k in
     with_meta_given (with_status_of old new) _ given (later_meta _ _ (meta_of old) (meta_of (with_status_of old new)) version (meta_given old h) (meta_given _ given) few)
 
-pub at_version_given : (o : Object) (version : ℕ) → IsGiven o → version ≤ 2 ^ 62 → IsGiven (at_version o version)
+pub at_version_given : (o : Object) (version : ℕ) → IsGivenObject o → version ≤ 2 ^ 62 → IsGivenObject (at_version o version)
 unfolding at_version
 at_version_given o version h few = with_meta_given o _ h (meta_version _ (meta_of o) version (meta_given o h) few)
 
-pub marked_given : (o : Object) (version : ℕ) (moment : List ℕ) → IsGiven o → version ≤ 2 ^ 62 → IsStamp moment → IsGiven (marked_object o version moment)
+pub marked_given : (o : Object) (version : ℕ) (moment : List ℕ) → IsGivenObject o → version ≤ 2 ^ 62 → IsStamp moment → IsGivenObject (marked_object o version moment)
 unfolding marked_object
 marked_given o version moment h few at = with_meta_given o _ h (meta_marked _ (meta_of o) version moment (meta_given o h) few at)
 
 -- ---- edits and statuses
 
-named_given : (name : List ℕ) (o : Object) → IsGiven o → IfSome (with_volume_name name o) IsGiven
+named_given : (name : List ℕ) (o : Object) → IsGivenObject o → IfSome (with_volume_name name o) IsGivenObject
 unfolding with_volume_name
 named_given name (Class x) h = tt
 named_given name (Node x) h = tt
@@ -172,7 +172,7 @@ named_given name (Volume x) h = tt
 named_given name (Claim x) h = claim_named x x.meta name h h.meta
 named_given name (Pod x) h = tt
 
-pub edited_given : (change : Edit) (o : Object) → IsGiven o → IfSome (edited_object change o) IsGiven
+pub edited_given : (change : Edit) (o : Object) → IsGivenObject o → IfSome (edited_object change o) IsGivenObject
 unfolding edited_object
 edited_given (edits.AddFinalizer f) o h = with_meta_given o _ h (meta_finalizers _ (meta_of o) _ (meta_given o h))
 edited_given (edits.DropFinalizer f) o h = with_meta_given o _ h (meta_finalizers _ (meta_of o) _ (meta_given o h))
@@ -188,7 +188,7 @@ edited_given (edits.SetClaimRef namespace name) o h = tt
 edited_given edits.ClearClaimRef (Volume v) h = volume_reference v _ None h (meta_annotations false v.meta _ h.meta (pairs_without bound_by_controller _ h.meta.annotations)) tt
 edited_given edits.ClearClaimRef o h = tt
 
-pub status_given : (status : NewStatus) (o : Object) → IsStatus status → IsGiven o → IfSome (with_status status o) IsGiven
+pub status_given : (status : NewStatus) (o : Object) → IsStatus status → IsGivenObject o → IfSome (with_status status o) IsGivenObject
 unfolding with_status
 status_given (statuses.Volume phase) (Volume v) k h = record { meta = h.meta; amount = h.amount; claim_ref = h.claim_ref; source = h.source; extra = h.extra }
 status_given (statuses.Claim phase modes amount) (Claim c) k h = record { meta = h.meta; amount = h.amount; selector = h.selector; got = k; extra = h.extra }
@@ -206,7 +206,7 @@ created_or_first m h = by (is_empty m.created)
 imported_meta_given : (b : Bool) (m : Meta) → IsMeta b m → IsMeta b (imported_meta m)
 imported_meta_given b m h = record { namespace = h.namespace; uid = h.uid; version = h.version; created = created_or_first m h.created; deleted = h.deleted; labels = h.labels; annotations = h.annotations }
 
-pub imported_given : (imports : List Object) (o : Object) → IsGiven o → IsGiven (imported_object imports o)
+pub imported_given : (imports : List Object) (o : Object) → IsGivenObject o → IsGivenObject (imported_object imports o)
 unfolding imported_object
 imported_given imports (Class x) h = record { meta = imported_meta_given false x.meta h.meta; policy = h.policy; parameters = h.parameters; extra = h.extra }
 imported_given imports (Node x) h = record { meta = imported_meta_given false x.meta h.meta; extra = h.extra }

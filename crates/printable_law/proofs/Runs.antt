@@ -13,7 +13,7 @@ use Rattle.binder_model.specs.Promises.{most_entries}
 use Rattle.binder_model.specs.Run.{Run}
 use Rattle.binder_model.specs.World.{base, first_world, world}
 use Rattle.model_laws.proofs.Imported.{pass_base}
-use Rattle.object_laws.specs.Given.{IsGiven}
+use Rattle.object_laws.specs.Given.{IsGivenObject}
 use Rattle.history_laws.specs.Given.{IsRequest, IsReply, IsEvent, IsEntry, IsSetup}
 use Rattle.printable_law.specs.Keeping.{IsEpoch, IsMount, IsGivenWorld}
 use Rattle.printable_law.specs.Laws.{IsAskedGiven, RunsGive, RunTextsHaveOne}
@@ -24,13 +24,13 @@ use Rattle.printable_law.proofs.Told.{own_all}
 use Rattle.printable_law.proofs.Asking.{licensed_ask_given}
 use Rattle.printable_law.proofs.Texts.{has_one}
 
-rows_given : (imports os : List Object) → All IsGiven os → All IsGiven (rows_of_imports imports os)
+rows_given : (imports os : List Object) → All IsGivenObject os → All IsGivenObject (rows_of_imports imports os)
 rows_given imports [] h = h
-rows_given imports (o ∷ os) h = by (is_dropped o) (rows_given imports os (All-tail IsGiven o os h))
+rows_given imports (o ∷ os) h = by (is_dropped o) (rows_given imports os (All-tail IsGivenObject o os h))
   where
-    by : (b : Bool) → All IsGiven (rows_of_imports imports os) → All IsGiven (if b then rows_of_imports imports os else put_row (imported_object imports o) (rows_of_imports imports os))
+    by : (b : Bool) → All IsGivenObject (rows_of_imports imports os) → All IsGivenObject (if b then rows_of_imports imports os else put_row (imported_object imports o) (rows_of_imports imports os))
     by true rest = rest
-    by false rest = put_all key_cmp key_of IsGiven _ _ (imported_given imports o (All-head IsGiven o os h)) rest
+    by false rest = put_all key_cmp key_of IsGivenObject _ _ (imported_given imports o (All-head IsGivenObject o os h)) rest
 
 first_given : (setup : Setup) → IsSetup setup → IsGivenWorld (base setup + 0) (first_world setup)
 first_given setup is = record {

@@ -23,7 +23,7 @@ use Rattle.binder_model.specs.Told.{own, first_some, objects_of_event, objects_o
 use Rattle.binder_model.specs.Reading.{Following, Unlisted, ListedAt, reached_on, follow_on, following_of, IsFrom}
 use Rattle.binder_model.specs.AgentLicence.{epoch_told, epoch_in, last_epoch, since_epoch, is_get_of, last_get}
 use Rattle.model_laws.proofs.Newest.{newest_told}
-use Rattle.object_laws.specs.Given.{IsVolume, IsClaim, IsPod, IsGiven}
+use Rattle.object_laws.specs.Given.{IsVolume, IsClaim, IsPod, IsGivenObject}
 use Rattle.history_laws.specs.Given.{IsNumber, IsEvent, IsReply, IsEntry}
 use Rattle.printable_law.proofs.Lists.{some_all, some_value}
 
@@ -37,28 +37,28 @@ own_all seat (e ∷ past) h = by (e.seat == seat) (own_all seat past (All-tail I
 
 -- ---- objects
 
-event_objects : (change : Change) (o : Object) → IsGiven o → All IsGiven (objects_of_event change o)
-event_objects changes.Added o h = All-cons IsGiven o [] h (All-nil IsGiven)
-event_objects changes.Modified o h = All-cons IsGiven o [] h (All-nil IsGiven)
-event_objects changes.Deleted o h = All-nil IsGiven
+event_objects : (change : Change) (o : Object) → IsGivenObject o → All IsGivenObject (objects_of_event change o)
+event_objects changes.Added o h = All-cons IsGivenObject o [] h (All-nil IsGivenObject)
+event_objects changes.Modified o h = All-cons IsGivenObject o [] h (All-nil IsGivenObject)
+event_objects changes.Deleted o h = All-nil IsGivenObject
 
-events_objects : (es : List Event) → All IsEvent es → All IsGiven (objects_of_events es)
-events_objects [] h = All-nil IsGiven
-events_objects (e ∷ es) h = All-append IsGiven (objects_of_event e.change e.object) (objects_of_events es) (event_objects e.change e.object (All-head IsEvent e es h).object) (events_objects es (All-tail IsEvent e es h))
+events_objects : (es : List Event) → All IsEvent es → All IsGivenObject (objects_of_events es)
+events_objects [] h = All-nil IsGivenObject
+events_objects (e ∷ es) h = All-append IsGivenObject (objects_of_event e.change e.object) (objects_of_events es) (event_objects e.change e.object (All-head IsEvent e es h).object) (events_objects es (All-tail IsEvent e es h))
 
-pub objects_given : (reply : Reply) → IsReply reply → All IsGiven (objects_in reply)
-objects_given (replies.Done o) h = All-cons IsGiven o [] h (All-nil IsGiven)
-objects_given (replies.Found o) h = All-cons IsGiven o [] h (All-nil IsGiven)
+pub objects_given : (reply : Reply) → IsReply reply → All IsGivenObject (objects_in reply)
+objects_given (replies.Done o) h = All-cons IsGivenObject o [] h (All-nil IsGivenObject)
+objects_given (replies.Found o) h = All-cons IsGivenObject o [] h (All-nil IsGivenObject)
 objects_given (replies.Listed items version) h = h.0
 objects_given (replies.Events events) h = events_objects events.events h.events
-objects_given reply h = All-nil IsGiven
+objects_given reply h = All-nil IsGivenObject
 
-pub told_object : (P : Object → Type 0) (mine : List Entry) → All IsEntry mine → ToldObject P mine → (o : Object) × (P o × IsGiven o)
+pub told_object : (P : Object → Type 0) (mine : List Entry) → All IsEntry mine → ToldObject P mine → (o : Object) × (P o × IsGivenObject o)
 told_object P mine all h =
     let r = some_all (TellsObject P) IsEntry mine h all in
-    some_all P IsGiven (objects_in r.0.reply) r.1.0.1 (objects_given r.0.reply r.1.1.reply)
+    some_all P IsGivenObject (objects_in r.0.reply) r.1.0.1 (objects_given r.0.reply r.1.1.reply)
 
-as_volume : (P : VolumeData → Type 0) (o : Object) → IsVolumeWith P o → IsGiven o → (v : VolumeData) × (P v × IsVolume v)
+as_volume : (P : VolumeData → Type 0) (o : Object) → IsVolumeWith P o → IsGivenObject o → (v : VolumeData) × (P v × IsVolume v)
 as_volume P (Volume v) p h = (v, (p, h))
 as_volume P (Class x) p h = absurd p
 as_volume P (Node x) p h = absurd p
@@ -68,7 +68,7 @@ as_volume P (Pod x) p h = absurd p
 pub told_volume : (P : VolumeData → Type 0) (mine : List Entry) → All IsEntry mine → ToldVolume P mine → (v : VolumeData) × (P v × IsVolume v)
 told_volume P mine all h = let r = told_object (IsVolumeWith P) mine all h in as_volume P r.0 r.1.0 r.1.1
 
-as_claim : (P : ClaimData → Type 0) (o : Object) → IsClaimWith P o → IsGiven o → (c : ClaimData) × (P c × IsClaim c)
+as_claim : (P : ClaimData → Type 0) (o : Object) → IsClaimWith P o → IsGivenObject o → (c : ClaimData) × (P c × IsClaim c)
 as_claim P (Claim c) p h = (c, (p, h))
 as_claim P (Class x) p h = absurd p
 as_claim P (Node x) p h = absurd p
@@ -78,7 +78,7 @@ as_claim P (Pod x) p h = absurd p
 pub told_claim : (P : ClaimData → Type 0) (mine : List Entry) → All IsEntry mine → ToldClaim P mine → (c : ClaimData) × (P c × IsClaim c)
 told_claim P mine all h = let r = told_object (IsClaimWith P) mine all h in as_claim P r.0 r.1.0 r.1.1
 
-as_pod : (P : PodData → Type 0) (o : Object) → IsPodWith P o → IsGiven o → (p : PodData) × (P p × IsPod p)
+as_pod : (P : PodData → Type 0) (o : Object) → IsPodWith P o → IsGivenObject o → (p : PodData) × (P p × IsPod p)
 as_pod P (Pod x) p h = (x, (p, h))
 as_pod P (Class x) p h = absurd p
 as_pod P (Node x) p h = absurd p
@@ -89,7 +89,7 @@ pub told_pod : (P : PodData → Type 0) (mine : List Entry) → All IsEntry mine
 told_pod P mine all h = let r = told_object (IsPodWith P) mine all h in as_pod P r.0 r.1.0 r.1.1
 
 pub tells_pod : (P : PodData → Type 0) (e : Entry) → IsEntry e → TellsObject (IsPodWith P) e → (p : PodData) × (P p × IsPod p)
-tells_pod P e is h = let r = some_all (IsPodWith P) IsGiven (objects_in e.reply) h.1 (objects_given e.reply is.reply) in as_pod P r.0 r.1.0 r.1.1
+tells_pod P e is h = let r = some_all (IsPodWith P) IsGivenObject (objects_in e.reply) h.1 (objects_given e.reply is.reply) in as_pod P r.0 r.1.0 r.1.1
 
 pub volume_before : (P : VolumeData → Type 0) (Q : Entry → Type 0) (mine : List Entry) → All IsEntry mine → After (ToldVolume P) Q mine → (v : VolumeData) × (P v × IsVolume v)
 volume_before P Q [] all h = absurd h
@@ -98,8 +98,8 @@ volume_before P Q (e ∷ mine) all h = elim h [
   | inr more ↦ volume_before P Q mine (All-tail IsEntry e mine all) more
 ]
 
-pub newest_given : (mine : List Entry) (key : Key) (o : Object) → All IsEntry mine → IsNewest mine key o → IsGiven o
-newest_given mine key o all h = let r = told_object (λ x. x ≡ o) mine all (newest_told mine key o h) in subst IsGiven r.1.0 r.1.1
+pub newest_given : (mine : List Entry) (key : Key) (o : Object) → All IsEntry mine → IsNewest mine key o → IsGivenObject o
+newest_given mine key o all h = let r = told_object (λ x. x ≡ o) mine all (newest_told mine key o h) in subst IsGivenObject r.1.0 r.1.1
 
 -- ---- versions from which a watch goes on
 
@@ -179,5 +179,5 @@ gets_given key (e ∷ recent) all = by (e.told && is_get_of key e.request) (gets
     by true rest = (All-head IsEntry e recent all).reply
     by false rest = rest
 
-pub get_given : (key : Key) (o : Object) (recent : List Entry) → All IsEntry recent → last_get key recent ≡ Some (replies.Found o) → IsGiven o
+pub get_given : (key : Key) (o : Object) (recent : List Entry) → All IsEntry recent → last_get key recent ≡ Some (replies.Found o) → IsGivenObject o
 get_given key o recent all h = some_value IsReply (last_get key recent) (replies.Found o) h (gets_given key recent all)

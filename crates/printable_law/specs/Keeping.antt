@@ -7,12 +7,12 @@ use Rattle.call_types.specs.declared.request.Request.{Request}
 use Rattle.binder_model.specs.Store.{State}
 use Rattle.binder_model.specs.Devices.{Devices, MountAt}
 use Rattle.binder_model.specs.World.{World, Effect, effect, reply_to, world_after}
-use Rattle.object_laws.specs.Given.{IsGiven, IsStamp}
+use Rattle.object_laws.specs.Given.{IsGivenObject, IsStamp}
 use Rattle.history_laws.specs.Given.{IsEvent, IsMountRow, IsRequest, IsReply, IsSetup}
 
 -- each object is one that a manifest can give, and the version is at most this number
 pub record IsGivenStore (most : ℕ) (s : State) : Type 0 where
-  pub rows : All IsGiven s.rows
+  pub rows : All IsGivenObject s.rows
   pub version : s.version ≤ most
 
 abbrev pub IsEpoch : ℕ → List ℕ × ℕ → Type 0

@@ -13,7 +13,7 @@ use Rattle.kube_types.specs.Keys.{meta_of}
 use Rattle.call_types.specs.declared.setup.Pool.{Pool}
 use Rattle.call_types.specs.declared.request.Request.{Request}
 use Rattle.call_types.specs.declared.request.Request.TheVariants as requests
-use Rattle.object_laws.specs.Given.{IsGiven}
+use Rattle.object_laws.specs.Given.{IsGivenObject}
 use Rattle.history_lines.specs.Entries.{rise_from, rise}
 use Rattle.history_laws.specs.Given.{IsNumber, IsPool, IsRequest}
 use Rattle.script_lines.specs.Members.{most_call}
@@ -81,7 +81,7 @@ script_setups_give script is = record {
 
 -- ---- a user's call
 
-condition_given : (o : Object) → IsGiven o → IfSome (condition_of o) IsNumber
+condition_given : (o : Object) → IsGivenObject o → IfSome (condition_of o) IsNumber
 condition_given o h = by ((meta_of o).version == 0)
   where
     by : (b : Bool) → IfSome (if b then None else Some (meta_of o).version) IsNumber

@@ -31,7 +31,7 @@ use Rattle.model_laws.proofs.Lists.{none_some}
 use Rattle.reclaim_ops.specs.declared.provision.ProvisionStep.{ProvisionStep}
 use Rattle.reclaim_ops.specs.declared.provision.ProvisionStep.TheVariants as steps
 use Rattle.reclaim_ops.specs.Decisions.{at_step, claim_begins, claim_for, volume_begins}
-use Rattle.reclaim_ops.specs.DueLaw.{due_at, due_of}
+use Rattle.reclaim_ops.specs.DueLaw.{due_at, due_of_provision}
 use Rattle.reclaim_ops.specs.Provisions.{ask_call, clear_call, create_call, provision_call, provision_moved}
 use Rattle.reclaim_ops.proofs.Dues.{begins_what_is_due}
 use Rattle.worker_core.specs.declared.role.Role.{Role}
@@ -184,8 +184,8 @@ module _ (setup : Setup) (seat : ℕ) (role : Role) (start : List Entry) (key : 
 
     -- what begins is what is due
     begins_by : Begun d (claim_for (world setup h).store.rows d) → BeginsLasting setup seat role start key s h
-    begins_by (BeginsNone e) = none_some (sym (ap (due_of setup (world setup h)) e) ∙ (begins_what_is_due setup (world setup h) d ∙ due_here))
-    begins_by (BeginsOne uid x step e chosen) = by_step uid x step e chosen (sym (ap (due_of setup (world setup h)) e) ∙ (begins_what_is_due setup (world setup h) d ∙ due_here))
+    begins_by (BeginsNone e) = none_some (sym (ap (due_of_provision setup (world setup h)) e) ∙ (begins_what_is_due setup (world setup h) d ∙ due_here))
+    begins_by (BeginsOne uid x step e chosen) = by_step uid x step e chosen (sym (ap (due_of_provision setup (world setup h)) e) ∙ (begins_what_is_due setup (world setup h) d ∙ due_here))
 
   at_point : (s : ActorState) (h : List Entry) → IsDecisionPoint setup seat role start s h → BeginsLasting setup seat role start key s h
   at_point s h p = let at = claim_alike (world setup start) (world setup h) key c p.alike there in begins_by s h p at.claim at.is at.same (begun (world setup h).store.rows at.claim)

@@ -21,12 +21,12 @@ use Rattle.reclaim_ops.specs.declared.erase.EraseStep.{EraseStep}
 use Rattle.reclaim_ops.specs.declared.erase.EraseStep.TheVariants as steps
 use Rattle.reclaim_ops.specs.BeginLaw.{EraseCallsReadNoKind, lists_or_watches}
 use Rattle.reclaim_ops.specs.Erasures.{erase_call_at, erase_call, fail_call, key_of_volume}
-use Rattle.reclaim_ops.specs.Evidence.{EraseKeeps, EraseStepKeeps, MayDeleteErased, MayEraseData, MayRead, MayWriteFailed}
+use Rattle.reclaim_ops.specs.Evidence.{EraseKeeps, EraseStepKeeps, MayDeleteErased, MayEraseData, MayReclaim, MayWriteFailed}
 
 pub answered : (mine : List Entry) (a b : Request) → Some a ≡ Some b → RowAllows seats.Ops mine a → RowAllows seats.Ops mine b
 answered mine a b e may = subst (λ r. RowAllows seats.Ops mine r) (one a b e) may
 
-reads : (v : VolumeData) (mine : List Entry) → MayRead v mine → RowAllows seats.Ops mine (requests.Get (key_of_volume v))
+reads : (v : VolumeData) (mine : List Entry) → MayReclaim v mine → RowAllows seats.Ops mine (requests.Get (key_of_volume v))
 reads v mine kept =
     let row : AsksForEnded mine (key_of_volume v) = record { volume = v; newest_volume = kept.newest; ended = kept.ended } in
     row

@@ -22,9 +22,9 @@ due_at setup w op (steps.Provisions labels) =
 due_at setup w op steps.ClearsNode = Some dues.ClearNode
 due_at setup w op step = None
 
-abbrev pub due_of : Setup → World → Option ProvisionOp → Option Due
-due_of setup w None = None
-due_of setup w (Some op) = due_at setup w op op.step
+abbrev pub due_of_provision : Setup → World → Option ProvisionOp → Option Due
+due_of_provision setup w None = None
+due_of_provision setup w (Some op) = due_at setup w op op.step
 
 abbrev pub BeginsWhatIsDue : Type 0
-BeginsWhatIsDue = (setup : Setup) (w : World) (c : ClaimData) → due_of setup w (claim_for w.store.rows c) ≡ provision_due setup w c
+BeginsWhatIsDue = (setup : Setup) (w : World) (c : ClaimData) → due_of_provision setup w (claim_for w.store.rows c) ≡ provision_due setup w c

@@ -84,7 +84,7 @@ pub record MayDecide (mine : List Entry) : Type 0 where
 -- reclaiming
 
 -- the volume is the newest told, and is to be reclaimed
-pub record MayRead (v : VolumeData) (mine : List Entry) : Type 0 where
+pub record MayReclaim (v : VolumeData) (mine : List Entry) : Type 0 where
   pub newest : IsNewest mine (key_of_volume v) (Volume v)
   pub ended : IsToErase v
 
@@ -108,7 +108,7 @@ pub record MayWriteFailed (v : VolumeData) (mine : List Entry) : Type 0 where
   pub failed : After (ToldVolume (λ o. o ≡ v)) (TellsEraseFailed (data_id_of v.source)) mine
 
 abbrev pub EraseStepKeeps : EraseStep → VolumeData → List Entry → Type 0
-EraseStepKeeps erase_steps.ReadsVolume v mine = MayRead v mine
+EraseStepKeeps erase_steps.ReadsVolume v mine = MayReclaim v mine
 EraseStepKeeps (erase_steps.Erases uid) v mine = MayEraseData v uid mine
 EraseStepKeeps (erase_steps.Deletes uid) v mine = MayDeleteErased v uid mine
 EraseStepKeeps erase_steps.WritesFailed v mine = MayWriteFailed v mine

@@ -30,7 +30,8 @@ pub(crate) fn is_to_reclaim(volume: &Volume) -> bool
         && !is_deleting(&volume.meta)
 }
 
-fn is_delete(policy: Policy) -> bool
+/// Whether the volume goes with its claim.
+pub fn is_delete(policy: Policy) -> bool
     ensures { result ≡ is_delete policy }
 {
     match policy {

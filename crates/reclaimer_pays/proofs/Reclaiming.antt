@@ -47,7 +47,7 @@ use Rattle.safety_invariant.proofs.Known.{invariant_of}
 use Rattle.safety_law.proofs.FirstWorld.{first_world_is_good}
 use Rattle.safety_law.proofs.Law.{room_for}
 use Rattle.safety_law.proofs.Runs.{run_good}
-use Rattle.settle_measure.specs.Lowers.{Stands}
+use Rattle.settle_measure.specs.Lowers.{StandsVolume}
 use Rattle.settle_upkeep.specs.Pays.{NoneIsCompletedOn}
 use Rattle.settle_upkeep.proofs.Guards.{delete_pays, failed_pays}
 use Rattle.worker_core.specs.declared.role.Role.{Role}
@@ -211,7 +211,7 @@ module _ (setup : Setup) (seat : ℕ) (key : Key) (v : VolumeData) where
   unfolding leaves
   stays w r = ap (λ b. b && has_no_names v.meta.finalizers) (ended_so v r.due).staying
 
-  stands : (w : World) → IsReclaimed w v → Stands w v
+  stands : (w : World) → IsReclaimed w v → StandsVolume w v
   stands w r = record { order = r.order; there = r.there; stays = stays w r }
 
   at_own_key : (w : World) → IsReclaimed w v → row_at (key_of_volume v) w.store.rows ≡ Some (Volume v)

@@ -18,7 +18,8 @@ use Rattle.kube_types.proofs.RowPlaces.{row_at_place}
 use Rattle.binder_model.specs.BindWrites.{write_reference}
 use Rattle.binder_model.specs.Choice.{AreShares, IsProvisioned, Share, TakesVolume, are_completed, by_size, carries_claim, claim_cmp, claim_in, claim_named, claims_of, has_carrier, insert_claim, is_other, is_served_elsewhere, is_under_way, lacks_claim}
 use Rattle.binder_model.specs.ObjectKeys.{claim_key}
-use Rattle.volume_match.specs.Volumes.{as_volume, volume_at}
+use Rattle.kube_types.specs.VolumeIndex.{as_volume}
+use Rattle.volume_match.specs.Volumes.{volume_at}
 use Rattle.model_laws.proofs.Lists.{IsIn}
 use Rattle.model_laws.proofs.Readings.{found_stands}
 use Rattle.delayed_binding.specs.declared.choice.Choice.{Choice}

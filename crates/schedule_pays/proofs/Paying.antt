@@ -29,7 +29,8 @@ use Rattle.binder_model.specs.Matching.{eligible, fits, is_admitted_on, is_exclu
 use Rattle.binder_model.specs.ObjectKeys.{node_key, volume_key}
 use Rattle.binder_model.specs.Store.{has_no_names, leaves, updated_object, with_meta, with_status_of}
 use Rattle.binder_model.specs.World.{Effect, World, log_after, world, world_after}
-use Rattle.volume_match.specs.Volumes.{as_volume, volume_at}
+use Rattle.kube_types.specs.VolumeIndex.{as_volume}
+use Rattle.volume_match.specs.Volumes.{volume_at}
 use Rattle.model_laws.proofs.Histories.{rows_stand_in_order}
 use Rattle.model_laws.proofs.Lists.{none_some, one}
 use Rattle.delayed_binding.specs.declared.choice.Choice.{Choice}
@@ -44,7 +45,7 @@ use Rattle.pod_scheduler.specs.Decisions.{BeginsIf, are_known, begun_with, bindi
 use Rattle.pod_scheduler.specs.Schedules.{is_refused, is_write, is_written, only_write, schedule_call, schedule_call_at, schedule_moved}
 use Rattle.pod_scheduler.proofs.Allowed.{write_of_is}
 use Rattle.pod_scheduler.proofs.Begun.{all_known}
-use Rattle.settle_measure.specs.Lowers.{Lowers, Stands as StandsVolume, StandsClaim}
+use Rattle.settle_measure.specs.Lowers.{Lowers, StandsVolume, StandsClaim}
 use Rattle.settle_measure.specs.Measure.{is_seeking}
 use Rattle.settle_binding.proofs.Binding.{prepare_pays, seeking_parts}
 use Rattle.settle_binding.proofs.Alike.{node_stays}

@@ -43,7 +43,7 @@ use Rattle.worker_core.specs.declared.turn.Outcome.TheVariants.{Lost, Told}
 use Rattle.worker_core.specs.declared.turn.Pass.{Pass}
 use Rattle.worker_core.specs.Absorbs.{all_added, given_told, is_passing, learned, lost_given, lost_to, lost_under, pass_after, read_told, task_told, told_to, work_after, woken}
 use Rattle.worker_core.specs.Memories.{Memory}
-use Rattle.worker_core.specs.Roles.{IsBuiltKind, kind_at, kinds_of}
+use Rattle.worker_core.specs.Roles.{IsBuiltKind, kind_in_order, kinds_of}
 use Rattle.worker_core.specs.Stands.{AnyIsUnderWay}
 use Rattle.worker_core.specs.States.{ActorState, asked, call_in, call_under, given_call, start_call, start_of}
 use Rattle.worker_core.specs.Tasks.{under_after}
@@ -66,7 +66,7 @@ use Rattle.event_law.specs.Telling.{told}
 use Rattle.event_law.proofs.Calls.{Stays, Wrote, unread_from, watched_from, world_moves}
 use Rattle.event_law.proofs.Events.{told_so}
 use Rattle.event_law.proofs.Points.{taken_once, waiting_once}
-use Rattle.pass_law.specs.Passes.{IsGiven}
+use Rattle.pass_law.specs.Passes.{IsCallGiven}
 use Rattle.pass_law.proofs.First.{at_most, nil_right}
 use Rattle.pass_law.proofs.Given.{FindsGone, GivenSo, GivesRead, GivesStart, GivesTask, IsTold, Lists, ReadCalled, Reads, given_so, read_called, task_called}
 use Rattle.pass_law.proofs.Told.{told_after}
@@ -115,7 +115,7 @@ turn_of s given request turn = by s.memory.stale s.under (start_call s.role s.me
 no_start : {X : Type 0} (x : ActorState) (request : Request) → x.role.kind ≡ seats.Scheduler → asked x ≡ Some request → x.given ≡ Some givens.Start → X
 no_start x request kind ask eg = none_some (ap (λ k. start_of k x.role.node x.memory) (sym kind) ∙ (ap (given_call x) (sym eg) ∙ ask))
 
-module _ (setup : Setup) (seat base : ℕ) (x : ActorState) (request : Request) (reply : Reply) (h : List Entry) (given : IsGiven setup seat x request reply h) (kind_is : x.role.kind ≡ seats.Scheduler) (low : base_of setup ≤ base) (near : (world setup h).store.version ≤ base + 512) (begun : base ≤ (world setup h).store.version) where
+module _ (setup : Setup) (seat base : ℕ) (x : ActorState) (request : Request) (reply : Reply) (h : List Entry) (given : IsCallGiven setup seat x request reply h) (kind_is : x.role.kind ≡ seats.Scheduler) (low : base_of setup ≤ base) (near : (world setup h).store.version ≤ base + 512) (begun : base ≤ (world setup h).store.version) where
   abbrev entry : Entry
   entry = told_entry seat x request reply
 
@@ -171,7 +171,7 @@ record At (setup : Setup) (seat base : ℕ) (h : List Entry) : Type 0 where
   reached : (k : Kind) → IsReached base seat h k
   light : (x : Event) → IsIn x (world setup h).log → base < x.version → key_writes (world setup h).store.rows (key_of x.object) ≤ 0
 
-module _ (setup : Setup) (seat : ℕ) (x : ActorState) (request : Request) (reply : Reply) (h : List Entry) (given : IsGiven setup seat x request reply h) (kind_is : x.role.kind ≡ seats.Scheduler) (run : IsRunOf setup h) (may : RowAllows seats.Scheduler (own seat h) request) where
+module _ (setup : Setup) (seat : ℕ) (x : ActorState) (request : Request) (reply : Reply) (h : List Entry) (given : IsCallGiven setup seat x request reply h) (kind_is : x.role.kind ≡ seats.Scheduler) (run : IsRunOf setup h) (may : RowAllows seats.Scheduler (own seat h) request) where
   abbrev next_h : List Entry
   next_h = told_entry seat x request reply ∷ h
 
@@ -293,7 +293,7 @@ module _ (setup : Setup) (lets : Lets) (seat : ℕ) (after : ActorState) (past :
   run_at : (s : ActorState) (h : List Entry) (b : ℕ) → Runs lets seat after past left idle s h b → IsRunOf setup h
   run_at s h b runs = let g = run_grows lets seat after past left idle s h b runs in older_run setup g.longer.added h (subst (IsRunOf setup) g.longer.are run)
 
-  given_at : (s given : ActorState) (h : List Entry) (request : Request) (reply : Reply) → s.role.kind ≡ seats.Scheduler → IsReady seat s h → IsTurn s given (Call request) → IsHistory setup (told_entry seat given request reply ∷ h) → IsGiven setup seat given request reply h
+  given_at : (s given : ActorState) (h : List Entry) (request : Request) (reply : Reply) → s.role.kind ≡ seats.Scheduler → IsReady seat s h → IsTurn s given (Call request) → IsHistory setup (told_entry seat given request reply ∷ h) → IsCallGiven setup seat given request reply h
   given_at s given h request reply kind ready turn whole = record {
     built = subst IsBuiltKind (sym (ap (λ (r : Role). r.kind) (turn_role s given (Call request) turn) ∙ kind)) tt;
     stands = turn_stands s given (Call request) (own seat h) ready.rows ready.stands.told turn;
@@ -327,7 +327,7 @@ module _ (setup : Setup) (lets : Lets) (seat : ℕ) (after : ActorState) (past :
         here : IsRunOf setup h
         here = older_run setup (told_entry seat given request reply ∷ []) h whole_run
 
-        g : IsGiven setup seat given request reply h
+        g : IsCallGiven setup seat given request reply h
         g = given_at s given h request reply kind ready turn whole
 
         given_kind : given.role.kind ≡ seats.Scheduler
@@ -364,7 +364,7 @@ module _ (setup : Setup) (lets : Lets) (seat : ℕ) (after : ActorState) (past :
   -- ---- the first pass
 
   abbrev Behind : ActorState → List Entry → Type 0
-  Behind s h = (place : ℕ) (kind : Kind) → place < s.pass.behind → kind_at s.role place ≡ Some kind → IsReached (world setup h).store.version seat h kind
+  Behind s h = (place : ℕ) (kind : Kind) → place < s.pass.behind → kind_in_order s.role place ≡ Some kind → IsReached (world setup h).store.version seat h kind
 
   -- past it the second part begins
   begins : (s : ActorState) (h : List Entry) (b : ℕ) → Runs lets seat after past left idle s h b → s.role.kind ≡ seats.Scheduler → IsReady seat s h → s.under ≡ None → passing s ≡ None → Behind s h → KnowsBehind setup seat s.role s.pass h → pods_writes (world setup h) ≤ 512
@@ -396,7 +396,7 @@ module _ (setup : Setup) (lets : Lets) (seat : ℕ) (after : ActorState) (past :
       by false e = inr (grind (arith, nat_tests))
 
   -- a read of the first pass
-  pass_on : (x : ActorState) (request : Request) (reply : Reply) (h : List Entry) (caches : AllKnown) (k : Kind) → IsGiven setup seat x request reply h → x.role.kind ≡ seats.Scheduler → x.given ≡ Some (givens.Read k) → Behind x h
+  pass_on : (x : ActorState) (request : Request) (reply : Reply) (h : List Entry) (caches : AllKnown) (k : Kind) → IsCallGiven setup seat x request reply h → x.role.kind ≡ seats.Scheduler → x.given ≡ Some (givens.Read k) → Behind x h
       → Behind (told_to x caches request reply) (told_entry seat x request reply ∷ h)
   pass_on x request reply h caches k given kind_is eg behind = subst (λ y. Behind y (told_entry seat x request reply ∷ h)) (sym is) (by r.reads)
     where
@@ -412,13 +412,13 @@ module _ (setup : Setup) (lets : Lets) (seat : ℕ) (after : ActorState) (past :
       moved : (kind : Kind) → IsReached (world setup h).store.version seat (told_entry seat x request reply ∷ h) kind → IsReached (world setup (told_entry seat x request reply ∷ h)).store.version seat (told_entry seat x request reply ∷ h) kind
       moved kind q = let v = same_version in let up = q.up in record { from = q.from; is = q.is; up = omega (arith, v, up) }
 
-      old : (place : ℕ) (kind : Kind) → place < x.pass.behind → kind_at x.role place ≡ Some kind → IsReached (world setup (told_entry seat x request reply ∷ h)).store.version seat (told_entry seat x request reply ∷ h) kind
+      old : (place : ℕ) (kind : Kind) → place < x.pass.behind → kind_in_order x.role place ≡ Some kind → IsReached (world setup (told_entry seat x request reply ∷ h)).store.version seat (told_entry seat x request reply ∷ h) kind
       old place kind lt there = moved kind (reached_on setup seat (world setup h).store.version x request reply h given kind_is (first_low setup h) (omega arith) (omega arith) kind (behind place kind lt there))
 
-      stays_so : (p : Pass) → p.behind ≡ x.pass.behind → (place : ℕ) (kind : Kind) → place < p.behind → kind_at x.role place ≡ Some kind → IsReached (world setup (told_entry seat x request reply ∷ h)).store.version seat (told_entry seat x request reply ∷ h) kind
+      stays_so : (p : Pass) → p.behind ≡ x.pass.behind → (place : ℕ) (kind : Kind) → place < p.behind → kind_in_order x.role place ≡ Some kind → IsReached (world setup (told_entry seat x request reply ∷ h)).store.version seat (told_entry seat x request reply ∷ h) kind
       stays_so p same place kind lt there = old place kind (omega (arith, same, lt)) there
 
-      by : Reads setup seat x k request reply h → (place : ℕ) (kind : Kind) → place < (pass_after x.pass (is_passing (passing x) k) request reply).behind → kind_at x.role place ≡ Some kind
+      by : Reads setup seat x k request reply h → (place : ℕ) (kind : Kind) → place < (pass_after x.pass (is_passing (passing x) k) request reply).behind → kind_in_order x.role place ≡ Some kind
           → IsReached (world setup (told_entry seat x request reply ∷ h)).store.version seat (told_entry seat x request reply ∷ h) kind
       by (Lists none asks answered) = stays_so (pass_after x.pass (is_passing (passing x) k) request reply) (ap (λ q. (pass_after x.pass (is_passing (passing x) k) q reply).behind) asks)
       by (FindsGone f gone some passes asks low answered) = stays_so (pass_after x.pass (is_passing (passing x) k) request reply) (ap (λ q. (pass_after x.pass (is_passing (passing x) k) q reply).behind) asks ∙ ap (λ a. (pass_after x.pass (is_passing (passing x) k) (requests.Watch k f) a).behind) answered)
@@ -430,13 +430,13 @@ module _ (setup : Setup) (lets : Lets) (seat : ℕ) (after : ActorState) (past :
               ap (λ q. (pass_after x.pass (is_passing (passing x) k) q reply).behind) asks ∙ (ap (λ a. (pass_after x.pass (is_passing (passing x) k) (requests.Watch k f) a).behind) answered
               ∙ (ap (λ p. (pass_after x.pass p (requests.Watch k f) (replies.Events (told_events k f (world setup h).store.version (world setup h).log))).behind) is_p ∙ ap (λ b. if not b then x.pass.behind + 1 else x.pass.behind) e))
 
-          told_by : (full : Bool) → (length (told k f (world setup h).log) == most_events) ≡ full → (place : ℕ) (kind : Kind) → place < (pass_after x.pass (is_passing (passing x) k) request reply).behind → kind_at x.role place ≡ Some kind
+          told_by : (full : Bool) → (length (told k f (world setup h).log) == most_events) ≡ full → (place : ℕ) (kind : Kind) → place < (pass_after x.pass (is_passing (passing x) k) request reply).behind → kind_in_order x.role place ≡ Some kind
               → IsReached (world setup (told_entry seat x request reply ∷ h)).store.version seat (told_entry seat x request reply ∷ h) kind
           told_by true e place kind lt there = stays_so (pass_after x.pass (is_passing (passing x) k) request reply) (behind_is true e) place kind lt there
           told_by false e place kind lt there = elim (at_or_before place x.pass.behind (let n = behind_is false e in omega (arith, lt, n))) [
             | inl before ↦ old place kind before there
             | inr here ↦
-                let k_is : k ≡ kind = one k kind (sym passes ∙ (ap (kind_at x.role) (sym here) ∙ there)) in
+                let k_is : k ≡ kind = one k kind (sym passes ∙ (ap (kind_in_order x.role) (sym here) ∙ there)) in
                 let now = watched_from seat (told_entry seat x request reply) h refl refl k f f (world setup h).store.version (world setup h).log asks answered some in
                 let whole = (told_so setup h k f false below e).whole refl in
                 moved kind (subst (IsReached (world setup h).store.version seat (told_entry seat x request reply ∷ h)) k_is (record { from = (told_events k f (world setup h).store.version (world setup h).log).upto; is = now; up = omega (arith, whole) }))
@@ -452,7 +452,7 @@ module _ (setup : Setup) (lets : Lets) (seat : ℕ) (after : ActorState) (past :
       whole : IsHistory setup (told_entry seat given request reply ∷ h)
       whole = runs_are_histories setup (told_entry seat given request reply ∷ h) (run_at next (told_entry seat given request reply ∷ h) (b - 1) more).run
 
-      g : IsGiven setup seat given request reply h
+      g : IsCallGiven setup seat given request reply h
       g = given_at s given h request reply kind ready turn whole
 
       given_kind : given.role.kind ≡ seats.Scheduler

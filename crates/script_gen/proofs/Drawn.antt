@@ -5,7 +5,7 @@ use Rattle.kube_types.specs.declared.objects.Object.TheVariants.{Volume, Claim}
 use Rattle.call_types.specs.declared.request.Request.TheVariants.{Delete}
 use Rattle.script_text.specs.declared.script.Line.TheVariants.{Call}
 use Rattle.script_gen.specs.Draws.{draw}
-use Rattle.script_gen.specs.Objects.{numbered, volume_of, claim_of, claim_key}
+use Rattle.script_gen.specs.Objects.{numbered, volume_of, sized_claim, claim_key}
 use Rattle.script_gen.specs.Generated.{creates, volume_line, class_drawn, claim_line, delete_line}
 
 -- a draw of this number
@@ -20,11 +20,11 @@ volume_at seed other n m i size many same first second size_is many_is =
     λ k. creates (Volume (volume_of i (1 + s k) (t k == 0)))
 
 pub claim_at : (seed other n m i size class : ℕ) → other ≡ seed → n ≡ 2 * i + 513 → m ≡ 2 * i + 514 → size ≡ draw seed n 16 → class ≡ draw other m 4
-    → creates (Claim (claim_of (numbered (codes "c") i) (1 + size) (class_drawn class))) ≡ claim_line seed i
+    → creates (Claim (sized_claim (numbered (codes "c") i) (1 + size) (class_drawn class))) ≡ claim_line seed i
 claim_at seed other n m i size class same first second size_is class_is =
     let s : size ≡ draw seed (2 * i + 513) 16 = drawn_at seed seed n (2 * i + 513) 16 size refl first size_is in
     let t : class ≡ draw seed (2 * i + 514) 4 = drawn_at seed other m (2 * i + 514) 4 class same second class_is in
-    λ k. creates (Claim (claim_of (numbered (codes "c") i) (1 + s k) (class_drawn (t k))))
+    λ k. creates (Claim (sized_claim (numbered (codes "c") i) (1 + s k) (class_drawn (t k))))
 
 pub delete_at : (seed n i claim : ℕ) → n ≡ i + 1025 → claim ≡ draw seed n 256
     → Call 1 (Delete (claim_key (numbered (codes "c") claim)) None) ≡ delete_line seed i

@@ -8,7 +8,7 @@ use Rattle.script_text.specs.declared.script.Line.{Line}
 use Rattle.script_text.specs.declared.script.Line.TheVariants.{Call, Drain}
 use Rattle.script_text.specs.declared.script.Script.{Script}
 use Rattle.script_gen.specs.Draws.{draw}
-use Rattle.script_gen.specs.Objects.{numbered, pool, pool_size, class_named, node_in, volume_of, claim_of, pod_with, claim_key}
+use Rattle.script_gen.specs.Objects.{numbered, pool, pool_size, class_named, zoned_node, volume_of, sized_claim, pod_with, claim_key}
 
 -- each line is the first user's
 abbrev pub creates : Object → Line
@@ -26,10 +26,10 @@ class_drawn n = if n == 3 then codes "fast" else codes "slow"
 
 -- claim i, of 1 to 16 GiB, drawn after all volumes
 abbrev pub claim_line : ℕ → ℕ → Line
-claim_line seed i = creates (Claim (claim_of (numbered (codes "c") i) (1 + draw seed (2 * i + 513) 16) (class_drawn (draw seed (2 * i + 514) 4))))
+claim_line seed i = creates (Claim (sized_claim (numbered (codes "c") i) (1 + draw seed (2 * i + 513) 16) (class_drawn (draw seed (2 * i + 514) 4))))
 
 abbrev pub late_claim_line : ℕ → Line
-late_claim_line i = creates (Claim (claim_of (numbered (codes "l") i) 1 (codes "late")))
+late_claim_line i = creates (Claim (sized_claim (numbered (codes "l") i) 1 (codes "late")))
 
 abbrev pub pod_line : ℕ → Line
 pod_line i = creates (Pod (pod_with (numbered (codes "p") i) (numbered (codes "l") i)))
@@ -45,10 +45,10 @@ class_lines = creates (Class (class_named (codes "fast") false)) ∷ creates (Cl
 
 abbrev pub node_lines : List Line
 node_lines =
-    creates (Node (node_in (codes "n0") (codes "z0")))
-    ∷ creates (Node (node_in (codes "n1") (codes "z1")))
-    ∷ creates (Node (node_in (codes "n2") (codes "z0")))
-    ∷ creates (Node (node_in (codes "n3") (codes "z1")))
+    creates (Node (zoned_node (codes "n0") (codes "z0")))
+    ∷ creates (Node (zoned_node (codes "n1") (codes "z1")))
+    ∷ creates (Node (zoned_node (codes "n2") (codes "z0")))
+    ∷ creates (Node (zoned_node (codes "n3") (codes "z1")))
     ∷ []
 
 -- the lines of each number below n, in order

@@ -65,8 +65,8 @@ class_named name delayed = record {
   extra = [];
 }
 
-abbrev pub node_in : List ℕ → List ℕ → Node
-node_in name zone = record { meta = record (named_meta [] name) { labels = (codes "zone", zone) ∷ [] }; extra = [] }
+abbrev pub zoned_node : List ℕ → List ℕ → Node
+zoned_node name zone = record { meta = record (named_meta [] name) { labels = (codes "zone", zone) ∷ [] }; extra = [] }
 
 -- ---- volumes, claims and pods
 
@@ -89,8 +89,8 @@ volume_of i size many = record {
   phase = volume_phases.Pending;
 }
 
-abbrev pub claim_of : List ℕ → ℕ → List ℕ → Claim
-claim_of name size class = record {
+abbrev pub sized_claim : List ℕ → ℕ → List ℕ → Claim
+sized_claim name size class = record {
   meta = named_meta (codes "default") name;
   modes = writers false;
   amount = gibibytes size;

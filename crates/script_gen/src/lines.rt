@@ -3,7 +3,7 @@
 ghost use Rattle.std.specs.Prelude.{◌≡◌, ◌+◌, ◌*◌, ◌<◌, [], ◌∷◌, ◌++◌, IfOk, OnOk};
 ghost use Rattle.kube_types.specs.declared.objects.Object.TheVariants as objects;
 ghost use Rattle.script_text.specs.declared.script.Line.TheVariants as lines;
-ghost use Rattle.script_gen.specs.Objects.{class_named, node_in};
+ghost use Rattle.script_gen.specs.Objects.{class_named, zoned_node};
 ghost use Rattle.script_gen.specs.Generated.{creates, volume_line, class_drawn, claim_line, late_claim_line, pod_line, delete_line, class_lines, node_lines, volume_lines, claim_lines, pod_lines, delete_lines, generated_lines};
 
 use crate::draws::Draws;
@@ -115,7 +115,7 @@ fn push_node(
     name: &str,
     zone: &str,
 ) -> Result<(), OutOfMemory>
-    ensures { OnOk result (lines.new ≡ lines.old ++ creates (objects.Node (node_in name.now zone.now)) ∷ []) }
+    ensures { OnOk result (lines.new ≡ lines.old ++ creates (objects.Node (zoned_node name.now zone.now)) ∷ []) }
 {
     let node = node_in(alloc, name, zone)?;
     lines.push(creates(Object::Node(Shared::new(alloc, node)?)))

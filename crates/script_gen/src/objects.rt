@@ -1,7 +1,7 @@
 //! The objects of a generated script.
 
 ghost use Rattle.std.specs.Prelude.{◌≡◌, ◌<◌, IfOk};
-ghost use Rattle.script_gen.specs.Objects.{numbered, pool, named_meta, gibibytes, writers, class_named, node_in, nfs_source, volumes_of, volume_of, claim_of, pod_with, claim_key};
+ghost use Rattle.script_gen.specs.Objects.{numbered, pool, named_meta, gibibytes, writers, class_named, zoned_node, nfs_source, volumes_of, volume_of, sized_claim, pod_with, claim_key};
 
 use call_types::setup::Pool;
 use itoa::Buffer;
@@ -93,7 +93,7 @@ pub fn class_named(alloc: Global, name: &str, delayed: bool) -> Result<Class, Ou
 }
 
 pub fn node_in(alloc: Global, name: &str, zone: &str) -> Result<Node, OutOfMemory>
-    ensures { IfOk result (λ n. n ≡ node_in name.now zone.now) }
+    ensures { IfOk result (λ n. n ≡ zoned_node name.now zone.now) }
 {
     let label = Text::new(alloc, "zone")?;
     let zone = Text::new(alloc, zone)?;
@@ -142,7 +142,7 @@ pub fn volume_of(alloc: Global, i: u64, size: u64, many: bool) -> Result<Volume,
 /// A claim of so many GiB.
 pub fn claim_of(alloc: Global, name: Text, size: u64, class: &str) -> Result<Claim, OutOfMemory>
     requires { size < 32 }
-    ensures { IfOk result (λ c. c ≡ claim_of name size class.now) }
+    ensures { IfOk result (λ c. c ≡ sized_claim name size class.now) }
 {
     let amount = gibibytes(alloc, size)?;
     let class = Text::new(alloc, class)?;

@@ -4,7 +4,7 @@ use Rattle.std.specs.List.{All}
 use Rattle.std.proofs.lemmas.List.Elements.{All-nil, All-cons}
 use Rattle.kube_types.specs.declared.objects.Object.{Object}
 use Rattle.binder_model.specs.Imports.{PassAfter}
-use Rattle.object_laws.specs.Given.{IsGiven}
+use Rattle.object_laws.specs.Given.{IsGivenObject}
 use Rattle.script_laws.specs.Scripts.{AreImportsAfter}
 use Rattle.script_laws.specs.Laws.{ImportsGiven}
 
@@ -12,9 +12,9 @@ pass_after : (before imports : List Object) → AreImportsAfter before imports �
 pass_after before [] h = tt
 pass_after before (o ∷ os) h = (h.0.passes, pass_after (before ++ o ∷ []) os h.1)
 
-all_given : (before imports : List Object) → AreImportsAfter before imports → All IsGiven imports
-all_given before [] h = All-nil IsGiven
-all_given before (o ∷ os) h = All-cons IsGiven o os h.0.object.given (all_given (before ++ o ∷ []) os h.1)
+all_given : (before imports : List Object) → AreImportsAfter before imports → All IsGivenObject imports
+all_given before [] h = All-nil IsGivenObject
+all_given before (o ∷ os) h = All-cons IsGivenObject o os h.0.object.given (all_given (before ++ o ∷ []) os h.1)
 
 pub imports_given : ImportsGiven
 imports_given s is = record { given = all_given [] s.setup.imports is.imports; pass = pass_after [] s.setup.imports is.imports }

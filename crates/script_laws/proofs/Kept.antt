@@ -21,10 +21,10 @@ use Rattle.object_text.specs.declared.errors.ObjectError.TheVariants.{NotObject,
 use Rattle.object_text.specs.declared.extra.Listed.{Listed}
 use Rattle.object_text.specs.declared.extra.Listed.TheVariants as listed
 use Rattle.object_text.specs.declared.kind_readers.VolumeSpec.{VolumeSpec}
-use Rattle.object_text.specs.MemberReaders.{needed_text, needed_way, object_at, text_or, pairs_at}
+use Rattle.object_text.specs.MemberReaders.{needed_text, needed_way, some_object_at, text_or, pairs_at}
 use Rattle.object_text.specs.MetaReaders.{meta_of}
 use Rattle.object_text.specs.PartReaders.{class_policy_at, delayed_at, claims_at}
-use Rattle.object_text.specs.ExtraMembers.{is_listed, place_members, extra_at}
+use Rattle.object_text.specs.ExtraMembers.{is_listed_member, place_members, extra_at}
 use Rattle.object_text.specs.KindReaders.{volume_shape, volume_ties, volume_spec_of, volume_status_of, volume_of, claim_shape, claim_ties, claim_status_of, claim_of, class_of, node_of, pod_of}
 use Rattle.object_text.specs.Reading.{is_object, whole_object, kind_at, object_of_kind, object_of}
 use Rattle.object_laws.specs.Given.{AreExtra}
@@ -40,9 +40,9 @@ Keeps n kept = GoodMembers n (extra_members kept)
 kept_gives : (n : ℕ) (known : Listed) (place : Option Data) → n ≤ 126 → IsGoodPlace n place → Keeps n (extra_at known place)
 unfolding extra_at
 kept_gives n known place le h =
-    let ms : Members = others (is_listed known) (place_members place) in
-    let good : GoodMembers n ms = good_others (is_listed known) (place_members place) h in
-    let are : AreExtra n known (extra_at known place) ms = record { text = refl; others = others_are (is_listed known) (place_members place); good = good } in
+    let ms : Members = others (is_listed_member known) (place_members place) in
+    let good : GoodMembers n ms = good_others (is_listed_member known) (place_members place) h in
+    let are : AreExtra n known (extra_at known place) ms = record { text = refl; others = others_are (is_listed_member known) (place_members place); good = good } in
     rw (extra_back n known (extra_at known place) ms le are) good
 
 -- of each kind, in an object that nests at most 126 levels deep
@@ -107,13 +107,13 @@ node_keeps : (d : Data) → Good 126 d → IfOk (node_of d) NodeKeeps
 unfolding node_of
 node_keeps d h =
     past NodeKeeps (meta_of false d) _ (λ meta.
-    step (IsGoodPlace 124) NodeKeeps (object_at members.Spec (Some d)) _ (object_at_given 124 members.Spec d h) (λ spec good. kept_gives 124 listed.Node spec (omega arith) good))
+    step (IsGoodPlace 124) NodeKeeps (some_object_at members.Spec (Some d)) _ (object_at_given 124 members.Spec d h) (λ spec good. kept_gives 124 listed.Node spec (omega arith) good))
 
 pod_keeps : (d : Data) → Good 126 d → IfOk (pod_of d) PodKeeps
 unfolding pod_of
 pod_keeps d h =
     past PodKeeps (meta_of true d) _ (λ meta.
-    step (IsGoodPlace 124) PodKeeps (object_at members.Spec (Some d)) _ (object_at_given 124 members.Spec d h) (λ spec good.
+    step (IsGoodPlace 124) PodKeeps (some_object_at members.Spec (Some d)) _ (object_at_given 124 members.Spec d h) (λ spec good.
     past PodKeeps (text_or members.NodeName [] spec) _ (λ node.
     past PodKeeps (claims_at spec) _ (λ claims. kept_gives 124 listed.Pod spec (omega arith) good))))
 

@@ -15,7 +15,7 @@ use Rattle.json_text.proofs.ReadBack.{read-compact_text}
 use Rattle.plain_data.specs.Pairs.{Pair}
 use Rattle.object_text.specs.Reading.{is_object, value_in}
 use Rattle.script_lines.specs.declared.errors.Reason.TheVariants.{TooLong, NotJson}
-use Rattle.script_lines.specs.Answers.{◌>>=◌, taken}
+use Rattle.script_lines.specs.Answers.{◌>>=◌, taken_in_line}
 use Rattle.script_text.specs.declared.script.Meaning.{Meaning}
 use Rattle.script_text.specs.Said.{Said, and_said}
 use Rattle.script_text.specs.LineReaders.{verb_at, meaning_of}
@@ -82,7 +82,7 @@ blank_value xs e = ap (λ ls. option_and_then of_json (option_and_then (λ (p : 
 blank_line_value : (line : List ℕ) → list_all is_blank line ≡ true → line_value line ≡ Err NotJson
 blank_line_value line e = by (is_utf8 line) (read line) (blank_value line e)
   where
-    by : (u : Bool) (o : Option Data) → o ≡ None → (taken (value_in (if u then o else None)) >>= λ d. object_value d) ≡ Err NotJson
+    by : (u : Bool) (o : Option Data) → o ≡ None → (taken_in_line (value_in (if u then o else None)) >>= λ d. object_value d) ≡ Err NotJson
     by true o none = rw none refl
     by false o none = refl
 

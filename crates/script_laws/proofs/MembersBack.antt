@@ -28,7 +28,7 @@ use Rattle.object_text.specs.PartReaders.{amount_in, amount_from}
 use Rattle.object_text.specs.Reading.{is_object, most_bytes}
 use Rattle.object_text.specs.Listing.{item_of}
 use Rattle.object_text.proofs.WholeSizes.{least_whole}
-use Rattle.object_laws.specs.Given.{IsGiven, IsNamespace, IsUid}
+use Rattle.object_laws.specs.Given.{IsGivenObject, IsNamespace, IsUid}
 use Rattle.object_laws.proofs.PartsBack.{uid_back}
 use Rattle.object_laws.proofs.Canonical.{object_good}
 use Rattle.object_laws.proofs.Back.{object_tells, object_back}
@@ -36,7 +36,7 @@ use Rattle.script_lines.specs.declared.actors.Actor.{Actor}
 use Rattle.script_lines.specs.declared.line_member.LineMember.{LineMember}
 use Rattle.script_lines.specs.declared.line_member.LineMember.TheVariants as members
 use Rattle.script_lines.specs.declared.errors.Reason.TheVariants.{BadValue}
-use Rattle.script_lines.specs.Answers.{◌>>=◌, taken, unless}
+use Rattle.script_lines.specs.Answers.{◌>>=◌, taken_in_line, unless}
 use Rattle.script_lines.specs.Actors.{actor_word, actor_named}
 use Rattle.script_lines.specs.Members.{at, needed_from, text_of, text_at, count_of, count_at, most_call, is_given, new_call_at, user_from, user_at, kind_from, kind_at, is_namespaced, namespace_at, condition_at, key_at, object_taken, object_at, actor_from, actor_at, when_named, when_at, size_taken, size_at}
 use Rattle.script_print.specs.Printing.{when_word}
@@ -70,8 +70,8 @@ kind_back : (line : Data) (kind : Kind) → at (members.Of manifests.Kind) line 
 kind_back line kind e = ap (λ r. r >>= λ s. kind_from (kind_named s)) (text_back (members.Of manifests.Kind) line (kind_word kind) e) ∙ ap kind_from (kinds_inverse.back kind)
 
 namespace_back : (namespaced : Bool) (line : Data) (s : List ℕ) → IsNamespace namespaced s → at (members.Of manifests.Namespace) line ≡ (if namespaced then text s else None) → namespace_at namespaced line ≡ Ok s
-namespace_back true line s is e = ap (λ o. taken (text_from manifests.Namespace (codes "default") o) >>= λ t. Ok (kept_namespace true t)) e
-namespace_back false line s is e = ap (λ o. taken (text_from manifests.Namespace (codes "default") o) >>= λ t. Ok (kept_namespace false t)) e ∙ ap Ok (sym is)
+namespace_back true line s is e = ap (λ o. taken_in_line (text_from manifests.Namespace (codes "default") o) >>= λ t. Ok (kept_namespace true t)) e
+namespace_back false line s is e = ap (λ o. taken_in_line (text_from manifests.Namespace (codes "default") o) >>= λ t. Ok (kept_namespace false t)) e ∙ ap Ok (sym is)
 
 pub key_back : (line : Data) (k : Key) → IsLineKey k → at (members.Of manifests.Kind) line ≡ text (kind_word k.kind) → at (members.Of manifests.Name) line ≡ text k.name
     → at (members.Of manifests.Namespace) line ≡ (if is_namespaced k.kind then text k.namespace else None) → key_at line ≡ Ok k
@@ -83,11 +83,11 @@ pub kind_alone_back : (line : Data) (kind : Kind) → at (members.Of manifests.K
 kind_alone_back line kind e = kind_back line kind e
 
 pub condition_back : (line : Data) (uid : Option Uid) → IfSome uid IsUid → at (members.Of manifests.Uid) line ≡ option_map uid_data uid → condition_at line ≡ Ok uid
-condition_back line uid is e = ap taken (uid_back manifests.Uid (Some line) uid is e)
+condition_back line uid is e = ap taken_in_line (uid_back manifests.Uid (Some line) uid is e)
 
 -- ---- objects
 
-item_back : (o : Object) → IsGiven o → length (object_line o) ≤ most_bytes → item_of (object_data o) ≡ Ok o
+item_back : (o : Object) → IsGivenObject o → length (object_line o) ≤ most_bytes → item_of (object_data o) ≡ Ok o
 unfolding item_of object_line
 item_back o h short =
     let good = object_good o h in
@@ -101,7 +101,7 @@ not_null (string s) h = refl
 not_null (array ds) h = refl
 not_null (object ms) h = refl
 
-pub object_at_back : (line : Data) (o : Object) → IsGiven o → length (object_line o) ≤ most_bytes → at members.Object line ≡ Some (object_data o) → object_at line ≡ Ok o
+pub object_at_back : (line : Data) (o : Object) → IsGivenObject o → length (object_line o) ≤ most_bytes → at members.Object line ≡ Some (object_data o) → object_at line ≡ Ok o
 object_at_back line o is short e =
     let tells = object_tells o is in
     ap (λ p. needed_from members.Object (unless_null p) >>= λ d. object_taken (item_of d)) e

@@ -20,7 +20,7 @@ use Rattle.object_text.specs.declared.errors.Member.TheVariants as manifests
 use Rattle.object_text.specs.MemberReaders.{optional_text, text_or, uid_from, uid_named, uid_or_none, uid_at}
 use Rattle.object_text.specs.Reading.{object_of}
 use Rattle.object_text.specs.Listing.{is_long, item_of}
-use Rattle.object_laws.specs.Given.{IsGiven, IsNamespace, IsUid}
+use Rattle.object_laws.specs.Given.{IsGivenObject, IsNamespace, IsUid}
 use Rattle.object_laws.proofs.Gives.{sound_given}
 use Rattle.object_laws.proofs.GivesParts.{if_ok, step as object_step, past as object_past}
 use Rattle.object_laws.proofs.Utf8Texts.{HasUtf8}
@@ -33,7 +33,7 @@ use Rattle.script_lines.specs.declared.actors.Worker.{Worker}
 use Rattle.script_lines.specs.declared.line_member.LineMember.{LineMember}
 use Rattle.script_lines.specs.declared.line_member.LineMember.TheVariants as members
 use Rattle.script_lines.specs.declared.errors.Reason.TheVariants.{BadValue}
-use Rattle.script_lines.specs.Answers.{taken}
+use Rattle.script_lines.specs.Answers.{taken_in_line}
 use Rattle.script_lines.specs.Actors.{worker_word, agent_word, actor_word, all_workers, agent_named, worker_or, actor_named}
 use Rattle.script_lines.specs.Members.{at, needed, text_of, text_at, count_of, count_at, most_call, is_given, new_call_at, user_from, user_at, kind_at, is_namespaced, namespace_at, condition_at, key_at, object_taken, object_at, actor_from, actor_at}
 use Rattle.script_laws.specs.Given.{IsCount, IsNewCall, IsLineObject, IsLineKey, IsActor}
@@ -85,15 +85,15 @@ user_gives d = by (at members.User d)
 
 -- ---- keys
 
-pub taken_gives : {X : Type 0} (P : X → Type 0) (r : Result X ObjectError) → IfOk r P → IfOk (taken r) P
+pub taken_gives : {X : Type 0} (P : X → Type 0) (r : Result X ObjectError) → IfOk r P → IfOk (taken_in_line r) P
 taken_gives P (Ok x) h = h
 taken_gives P (Err e) h = tt
 
 namespace_gives : (namespaced : Bool) (d : Data) → HasUtf8 d → IfOk (namespace_at namespaced d) (λ s. IsNamespace namespaced s × IsUtf8 s)
 namespace_gives true d u =
-    step IsUtf8 (λ s. IsNamespace true s × IsUtf8 s) (taken (text_or manifests.Namespace (codes "default") (Some d))) _ (taken_gives IsUtf8 (text_or manifests.Namespace (codes "default") (Some d)) (text_or_read_utf8 manifests.Namespace (codes "default") (Some d) (IsUtf8-are_ascii (codes "default") refl) u)) (λ s k. (tt, k))
+    step IsUtf8 (λ s. IsNamespace true s × IsUtf8 s) (taken_in_line (text_or manifests.Namespace (codes "default") (Some d))) _ (taken_gives IsUtf8 (text_or manifests.Namespace (codes "default") (Some d)) (text_or_read_utf8 manifests.Namespace (codes "default") (Some d) (IsUtf8-are_ascii (codes "default") refl) u)) (λ s k. (tt, k))
 namespace_gives false d u =
-    past (λ s. IsNamespace false s × IsUtf8 s) (taken (text_or manifests.Namespace (codes "default") (Some d))) _ (λ s. (refl, IsUtf8-are_ascii [] refl))
+    past (λ s. IsNamespace false s × IsUtf8 s) (taken_in_line (text_or manifests.Namespace (codes "default") (Some d))) _ (λ s. (refl, IsUtf8-are_ascii [] refl))
 
 -- a key of UTF-8, with a namespace where it has one
 pub record KeyGiven (k : Key) : Type 0 where
@@ -129,7 +129,7 @@ pub record ObjectGiven (o : Object) : Type 0 where
   pub given : IsLineObject o
   pub utf8 : ObjectUtf8 o
 
-all_known : (r : Result Object ObjectError) → IfOk r IsGiven → IfOk r KeepsLess → IfOk r ObjectUtf8 → IfOk r ObjectGiven
+all_known : (r : Result Object ObjectError) → IfOk r IsGivenObject → IfOk r KeepsLess → IfOk r ObjectUtf8 → IfOk r ObjectGiven
 all_known (Ok o) h k u = let good = object_less o k in record { given = record { given = h; levels = good.shallow }; utf8 = u }
 all_known (Err e) h k u = tt
 

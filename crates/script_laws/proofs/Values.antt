@@ -24,7 +24,7 @@ use Rattle.script_laws.proofs.Kept.{IsSoundLess}
 use Rattle.script_lines.specs.declared.line_member.LineMember.{LineMember}
 use Rattle.script_lines.specs.declared.errors.Reason.{Reason}
 use Rattle.script_lines.specs.declared.errors.Reason.TheVariants.{NotObject}
-use Rattle.script_lines.specs.Answers.{◌>>=◌, taken, unless}
+use Rattle.script_lines.specs.Answers.{◌>>=◌, taken_in_line, unless}
 use Rattle.script_lines.specs.MemberWords.{line_word}
 use Rattle.script_lines.specs.Members.{at, needed_from, needed}
 use Rattle.script_text.specs.Grammar.{object_value, line_value}
@@ -70,7 +70,7 @@ taken_value text = by (is_utf8 text) (read text) refl
 pub line_was_read : (text : List ℕ) → IfOk (line_value text) (WasRead 127)
 line_was_read text = by (value_of text) (taken_value text) (value_read_utf8 text)
   where
-    by : (r : Result Data ObjectError) → IfOk r (IsTaken 127) → IfOk r HasUtf8 → IfOk (taken r >>= object_value) (WasRead 127)
+    by : (r : Result Data ObjectError) → IfOk r (IsTaken 127) → IfOk r HasUtf8 → IfOk (taken_in_line r >>= object_value) (WasRead 127)
     by (Ok d) t u = if_ok (WasRead 127) (is_object d) (Ok d) (Err NotObject) (λ e. let own = taken_reads 127 d (omega arith) t in record { source = t; shallow = depth-read own.0 d own.1; utf8 = u }) (λ e. tt)
     by (Err e) t u = tt
 

@@ -8,7 +8,7 @@ use Rattle.kube_types.specs.declared.objects.Object.{Object}
 use Rattle.call_types.specs.declared.request.Request.{Request}
 use Rattle.call_types.specs.declared.request.Request.TheVariants as asks
 use Rattle.object_print.specs.Objects.{object_data}
-use Rattle.object_laws.specs.Given.{IsGiven, IsNamespace, IsUid}
+use Rattle.object_laws.specs.Given.{IsGivenObject, IsNamespace, IsUid}
 use Rattle.script_lines.specs.declared.actors.Actor.{Actor}
 use Rattle.script_lines.specs.Actors.{actor_word, actor_named}
 use Rattle.script_lines.specs.Members.{is_given, is_namespaced, most_call, most_turn}
@@ -32,7 +32,7 @@ IsLineKey k = IsNamespace (is_namespaced k.kind) k.namespace
 
 -- an object that a line can give: in the line it stands one level deeper than in a manifest
 pub record IsLineObject (o : Object) : Type 0 where
-  pub given : IsGiven o
+  pub given : IsGivenObject o
   pub levels : depth (object_data o) ≤ 126
 
 -- the calls that a user has a line for

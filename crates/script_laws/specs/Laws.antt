@@ -4,7 +4,7 @@ use Rattle.std.specs.Prelude.{◌≡◌, ℕ, List, true, All, Ok}
 use Rattle.std.specs.Str.{is_utf8}
 use Rattle.plain_data.specs.Pairs.{Pair}
 use Rattle.binder_model.specs.Imports.{ImportsPass}
-use Rattle.object_laws.specs.Given.{IsGiven}
+use Rattle.object_laws.specs.Given.{IsGivenObject}
 use Rattle.script_text.specs.declared.script.Line.{Line}
 use Rattle.script_text.specs.declared.script.Script.{Script}
 use Rattle.script_text.specs.declared.script.Meaning.TheVariants as meanings
@@ -38,7 +38,7 @@ ScriptIsReadAgain = (text : List ℕ) (s : Script) → script_of text ≡ Ok s �
 
 -- what a manifest can give, each after those before it
 pub record AreGivenImports (s : Script) : Type 0 where
-  pub given : All IsGiven s.setup.imports
+  pub given : All IsGivenObject s.setup.imports
   pub pass : ImportsPass s.setup.imports
 
 -- the imported objects of a script that a text can give

@@ -37,9 +37,9 @@ reason_of (objects.WrongType m) = WrongType (Of m)
 reason_of (objects.BadQuantity m) = BadQuantity (Of m)
 
 -- what a reader of manifests answers, in a line
-abbrev pub taken : {X : Type 0} → Result X ObjectError → Result X Reason
-taken (Ok x) = Ok x
-taken (Err e) = Err (reason_of e)
+abbrev pub taken_in_line : {X : Type 0} → Result X ObjectError → Result X Reason
+taken_in_line (Ok x) = Ok x
+taken_in_line (Err e) = Err (reason_of e)
 
 abbrev pub line_error : ObjectError → LineError
 line_error objects.OutOfMemory = lines.OutOfMemory
@@ -54,19 +54,19 @@ line_error (objects.BadQuantity m) = lines.Refused (BadQuantity (Of m))
 
 -- ---- answers
 
-abbrev pub Fails : {X : Type 0} → LineError → Result X Reason → Type 0
-Fails lines.OutOfMemory answer = ⊤
-Fails (lines.Refused reason) answer = answer ≡ Err reason
+abbrev pub MemberFails : {X : Type 0} → LineError → Result X Reason → Type 0
+MemberFails lines.OutOfMemory answer = ⊤
+MemberFails (lines.Refused reason) answer = answer ≡ Err reason
 
 -- the result is this answer, unless memory was wanting
-abbrev pub Gives : {X : Type 0} → Result X LineError → Result X Reason → Type 0
-Gives (Ok x) answer = answer ≡ Ok x
-Gives (Err e) answer = Fails e answer
+abbrev pub MemberGives : {X : Type 0} → Result X LineError → Result X Reason → Type 0
+MemberGives (Ok x) answer = answer ≡ Ok x
+MemberGives (Err e) answer = MemberFails e answer
 
 -- the same, where the result is seen by a view
-abbrev pub GivesBy : {X Y : Type 0} → (X → Y) → Result X LineError → Result Y Reason → Type 0
-GivesBy view (Ok x) answer = answer ≡ Ok (view x)
-GivesBy view (Err e) answer = Fails e answer
+abbrev pub MemberGivesBy : {X Y : Type 0} → (X → Y) → Result X LineError → Result Y Reason → Type 0
+MemberGivesBy view (Ok x) answer = answer ≡ Ok (view x)
+MemberGivesBy view (Err e) answer = MemberFails e answer
 
 abbrev pub ScriptFails : {X : Type 0} → ScriptError → Result X BadLine → Type 0
 ScriptFails scripts.OutOfMemory answer = ⊤

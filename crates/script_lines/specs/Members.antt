@@ -32,7 +32,7 @@ use Rattle.script_lines.specs.declared.edit_members.EditMember.{EditMember}
 use Rattle.script_lines.specs.declared.edit_members.EditMember.TheVariants.{AddFinalizer, DropFinalizer, DropLabel, DropAnnotation, SetLabel, SetAnnotation, SetVolumeName, SetPolicy, SetClaimRef, ClearClaimRef}
 use Rattle.script_lines.specs.declared.errors.Reason.{Reason}
 use Rattle.script_lines.specs.declared.errors.Reason.TheVariants.{Missing, WrongType, UnknownKind, BadQuantity, NotWhole, BadValue}
-use Rattle.script_lines.specs.Answers.{◌>>=◌, reason_of, taken, unless}
+use Rattle.script_lines.specs.Answers.{◌>>=◌, reason_of, taken_in_line, unless}
 use Rattle.script_lines.specs.MemberWords.{line_word}
 use Rattle.script_lines.specs.Actors.{actor_named}
 
@@ -131,11 +131,11 @@ is_namespaced kinds.Pod = true
 
 -- `default` where there is none; objects of other kinds have none
 abbrev pub namespace_at : Bool → Data → Result (List ℕ) Reason
-namespace_at namespaced line = taken (text_or manifests.Namespace (codes "default") (Some line)) >>= λ s. Ok (kept_namespace namespaced s)
+namespace_at namespaced line = taken_in_line (text_or manifests.Namespace (codes "default") (Some line)) >>= λ s. Ok (kept_namespace namespaced s)
 
 -- the UID that the object has to have, where there is one
 abbrev pub condition_at : Data → Result (Option Uid) Reason
-condition_at line = taken (uid_at manifests.Uid (Some line))
+condition_at line = taken_in_line (uid_at manifests.Uid (Some line))
 
 unfoldable pub key_at : Data → Result Key Reason
 key_at line = do

@@ -33,13 +33,13 @@ reason_member (reasons.BadQuantity m) = Some m
 reason_member (reasons.BadValue m) = Some m
 reason_member reason = None
 
-abbrev pub with_member : List ℕ → Option LineMember → List ℕ
-with_member word None = word
-with_member word (Some m) = word ++ (codes " " ++ line_word m)
+abbrev pub with_line_member : List ℕ → Option LineMember → List ℕ
+with_line_member word None = word
+with_line_member word (Some m) = word ++ (codes " " ++ line_word m)
 
 -- the name of the reason, and behind a blank the member, if it has one
 unfoldable pub reason_text : Reason → List ℕ
-reason_text reason = with_member (reason_word reason) (reason_member reason)
+reason_text reason = with_line_member (reason_word reason) (reason_member reason)
 
 -- the number of the line in decimal digits, and the reason
 unfoldable pub refusal_line : BadLine → List ℕ

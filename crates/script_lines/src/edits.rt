@@ -5,7 +5,7 @@ ghost use Rattle.object_text.specs.declared.errors.Member.TheVariants as manifes
 ghost use Rattle.script_lines.specs.declared.line_member.LineMember.TheVariants as members;
 ghost use Rattle.serde_json.specs.View.{view};
 ghost use Rattle.kube_types.specs.Named.{policy_named};
-ghost use Rattle.script_lines.specs.Answers.{Gives};
+ghost use Rattle.script_lines.specs.Answers.{MemberGives};
 ghost use Rattle.script_lines.specs.Members.{edit_member, stands, the_one, edit_member_at, two_texts_in, policy_from, cleared, edit_of, edit_from, edit_at};
 
 use crate::edit_members::EditMember;
@@ -40,7 +40,7 @@ fn stands(line: &Value, edit: EditMember) -> bool
 }
 
 fn edit_member_among(line: &Value, edits: &[EditMember]) -> Result<EditMember, LineError>
-    ensures { Gives result (the_one (filter (stands (view line.now)) edits.now)) }
+    ensures { MemberGives result (the_one (filter (stands (view line.now)) edits.now)) }
 {
     let mut found: Option<EditMember> = None;
     for edit in edits {
@@ -58,7 +58,7 @@ fn edit_member_among(line: &Value, edits: &[EditMember]) -> Result<EditMember, L
 }
 
 fn edit_member_at(line: &Value) -> Result<EditMember, LineError>
-    ensures { Gives result (edit_member_at (view line.now)) }
+    ensures { MemberGives result (edit_member_at (view line.now)) }
 {
     edit_member_among(line, &ALL_EDITS)
 }
@@ -71,7 +71,7 @@ fn two_texts_in(
     one: LineMember,
     two: LineMember,
 ) -> Result<(Text, Text), LineError>
-    ensures { Gives result (two_texts_in member one two (view value.now)) }
+    ensures { MemberGives result (two_texts_in member one two (view value.now)) }
 {
     let object = object_of(value, member)?;
     let first = text_at(alloc, object, one)?;
@@ -83,7 +83,7 @@ fn two_texts_in(
 }
 
 fn policy_named(word: &str) -> Result<Edit, LineError>
-    ensures { Gives result (policy_from (policy_named word.now)) }
+    ensures { MemberGives result (policy_from (policy_named word.now)) }
 {
     match Policy::named(word) {
         Some(policy) => Ok(Edit::SetPolicy(policy)),
@@ -92,7 +92,7 @@ fn policy_named(word: &str) -> Result<Edit, LineError>
 }
 
 fn cleared(value: &Value) -> Result<Edit, LineError>
-    ensures { Gives result (cleared (view value.now)) }
+    ensures { MemberGives result (cleared (view value.now)) }
 {
     match value {
         Value::Bool(true) => Ok(Edit::ClearClaimRef),
@@ -101,7 +101,7 @@ fn cleared(value: &Value) -> Result<Edit, LineError>
 }
 
 fn label_in(alloc: Global, value: &Value, edit: EditMember) -> Result<(Text, Text), LineError>
-    ensures { Gives result (two_texts_in (edit_member edit) (members.Of manifests.Key) members.Value (view value.now)) }
+    ensures { MemberGives result (two_texts_in (edit_member edit) (members.Of manifests.Key) members.Value (view value.now)) }
 {
     two_texts_in(
         alloc,
@@ -113,7 +113,7 @@ fn label_in(alloc: Global, value: &Value, edit: EditMember) -> Result<(Text, Tex
 }
 
 fn claim_in(alloc: Global, value: &Value) -> Result<(Text, Text), LineError>
-    ensures { Gives result (two_texts_in members.SetClaimRef (members.Of manifests.Namespace) (members.Of manifests.Name) (view value.now)) }
+    ensures { MemberGives result (two_texts_in members.SetClaimRef (members.Of manifests.Namespace) (members.Of manifests.Name) (view value.now)) }
 {
     two_texts_in(
         alloc,
@@ -126,7 +126,7 @@ fn claim_in(alloc: Global, value: &Value) -> Result<(Text, Text), LineError>
 
 /// The edit that the value of an edit member is.
 fn edit_of(alloc: Global, edit: EditMember, value: &Value) -> Result<Edit, LineError>
-    ensures { Gives result (edit_of edit (view value.now)) }
+    ensures { MemberGives result (edit_of edit (view value.now)) }
 {
     match edit {
         EditMember::AddFinalizer => Ok(Edit::AddFinalizer(text_of(
@@ -168,7 +168,7 @@ fn edit_of(alloc: Global, edit: EditMember, value: &Value) -> Result<Edit, LineE
 }
 
 fn edit_from(alloc: Global, edit: EditMember, value: Option<&Value>) -> Result<Edit, LineError>
-    ensures { Gives result (edit_from edit (option_map (λ v. view v.now) value.entry)) }
+    ensures { MemberGives result (edit_from edit (option_map (λ v. view v.now) value.entry)) }
 {
     match value {
         None => Err(LineError::Refused(Reason::BadValue(LineMember::Edit))),
@@ -179,7 +179,7 @@ fn edit_from(alloc: Global, edit: EditMember, value: Option<&Value>) -> Result<E
 /// The edit of a line: of the one edit member that stands in it.
 #[tactic(auto, unfolding(crate::specs::Members::edit_at))]
 pub fn edit_at(alloc: Global, line: &Value) -> Result<Edit, LineError>
-    ensures { Gives result (edit_at (view line.now)) }
+    ensures { MemberGives result (edit_at (view line.now)) }
 {
     let edit = edit_member_at(line)?;
     edit_from(alloc, edit, at(line, edit.member()))

@@ -6,7 +6,7 @@ ghost use Rattle.kube_types.specs.Named.{kind_named};
 ghost use Rattle.object_text.specs.PartReaders.{amount_in};
 ghost use Rattle.object_text.specs.Listing.{item_of};
 ghost use Rattle.object_text.specs.declared.errors.Member.TheVariants as manifests;
-ghost use Rattle.script_lines.specs.Answers.{Gives, GivesBy};
+ghost use Rattle.script_lines.specs.Answers.{MemberGives, MemberGivesBy};
 ghost use Rattle.script_lines.specs.Steps.Results.{object_line_error, size_line_error};
 ghost use Rattle.script_lines.specs.Actors.{actor_named};
 ghost use Rattle.script_lines.specs.Members.{at as at_line, needed, text_of, text_at, object_value_of, count_of, count_at, most_call, user_at, kind_from, kind_at, namespace_at, condition_at, key_at, object_taken, object_at, actor_from, actor_at, when_named, when_at, size_taken, size_at, value_from, topology_at};
@@ -44,7 +44,7 @@ pub fn at<'v>(line: &'v Value, member: LineMember) -> Option<&'v Value>
 
 /// A member that has to be there.
 pub fn needed<'v>(line: &'v Value, member: LineMember) -> Result<&'v Value, LineError>
-    ensures { GivesBy (λ v. view v.now) result (needed member (view line.now)) }
+    ensures { MemberGivesBy (λ v. view v.now) result (needed member (view line.now)) }
 {
     match unless_null(at(line, member)) {
         Some(value) => Ok(value),
@@ -56,7 +56,7 @@ pub fn needed<'v>(line: &'v Value, member: LineMember) -> Result<&'v Value, Line
 
 /// The text that the value is.
 pub fn word_of<'v>(value: &'v Value, member: LineMember) -> Result<&'v str, LineError>
-    ensures { GivesBy (λ s. s.now) result (text_of member (view value.now)) }
+    ensures { MemberGivesBy (λ s. s.now) result (text_of member (view value.now)) }
 {
     match value.as_str() {
         Some(word) => Ok(word),
@@ -66,14 +66,14 @@ pub fn word_of<'v>(value: &'v Value, member: LineMember) -> Result<&'v str, Line
 
 /// A text that has to be there.
 pub fn word_at<'v>(line: &'v Value, member: LineMember) -> Result<&'v str, LineError>
-    ensures { GivesBy (λ s. s.now) result (text_at member (view line.now)) }
+    ensures { MemberGivesBy (λ s. s.now) result (text_at member (view line.now)) }
 {
     word_of(needed(line, member)?, member)
 }
 
 /// A copy of the text that the value is.
 pub fn text_of(alloc: Global, value: &Value, member: LineMember) -> Result<Text, LineError>
-    ensures { Gives result (text_of member (view value.now)) }
+    ensures { MemberGives result (text_of member (view value.now)) }
 {
     let word = word_of(value, member)?;
     Ok(Text::new(alloc, word)?)
@@ -81,7 +81,7 @@ pub fn text_of(alloc: Global, value: &Value, member: LineMember) -> Result<Text,
 
 /// A copy of a text that has to be there.
 pub fn text_at(alloc: Global, line: &Value, member: LineMember) -> Result<Text, LineError>
-    ensures { Gives result (text_at member (view line.now)) }
+    ensures { MemberGives result (text_at member (view line.now)) }
 {
     let word = word_at(line, member)?;
     Ok(Text::new(alloc, word)?)
@@ -89,7 +89,7 @@ pub fn text_at(alloc: Global, line: &Value, member: LineMember) -> Result<Text, 
 
 /// The value, where it is an object.
 pub fn object_of<'v>(value: &'v Value, member: LineMember) -> Result<&'v Value, LineError>
-    ensures { GivesBy (λ v. view v.now) result (object_value_of member (view value.now)) }
+    ensures { MemberGivesBy (λ v. view v.now) result (object_value_of member (view value.now)) }
 {
     match value.as_object() {
         Some(_) => Ok(value),
@@ -98,7 +98,7 @@ pub fn object_of<'v>(value: &'v Value, member: LineMember) -> Result<&'v Value, 
 }
 
 fn count_of(value: &Value, member: LineMember, most: u64) -> Result<u64, LineError>
-    ensures { Gives result (count_of member most (view value.now)) }
+    ensures { MemberGives result (count_of member most (view value.now)) }
 {
     match value {
         Value::Number(number) => {
@@ -121,7 +121,7 @@ fn count_of(value: &Value, member: LineMember, most: u64) -> Result<u64, LineErr
 
 /// A whole number from 1 to the greatest, which has to be there.
 pub fn count_at(line: &Value, member: LineMember, most: u64) -> Result<u64, LineError>
-    ensures { Gives result (count_at member most (view line.now)) }
+    ensures { MemberGives result (count_at member most (view line.now)) }
 {
     let value = needed(line, member)?;
     count_of(value, member, most)
@@ -129,14 +129,14 @@ pub fn count_at(line: &Value, member: LineMember, most: u64) -> Result<u64, Line
 
 /// The number of a call, which has to be there.
 pub fn call_at(line: &Value, member: LineMember) -> Result<u64, LineError>
-    ensures { Gives result (count_at member most_call (view line.now)) }
+    ensures { MemberGives result (count_at member most_call (view line.now)) }
 {
     count_at(line, member, MOST_CALL)
 }
 
 /// The user of a line.
 pub fn user_at(line: &Value) -> Result<u64, LineError>
-    ensures { Gives result (user_at (view line.now)) }
+    ensures { MemberGives result (user_at (view line.now)) }
 {
     match at(line, LineMember::User) {
         None => Ok(1),
@@ -147,7 +147,7 @@ pub fn user_at(line: &Value) -> Result<u64, LineError>
 // ---- keys
 
 fn kind_named(word: &str) -> Result<Kind, LineError>
-    ensures { Gives result (kind_from (kind_named word.now)) }
+    ensures { MemberGives result (kind_from (kind_named word.now)) }
 {
     match Kind::named(word) {
         Some(kind) => Ok(kind),
@@ -157,7 +157,7 @@ fn kind_named(word: &str) -> Result<Kind, LineError>
 
 /// The kind of a line.
 pub fn kind_at(line: &Value) -> Result<Kind, LineError>
-    ensures { Gives result (kind_at (view line.now)) }
+    ensures { MemberGives result (kind_at (view line.now)) }
 {
     let word = word_at(line, LineMember::Of(Member::Kind))?;
     kind_named(word)
@@ -165,7 +165,7 @@ pub fn kind_at(line: &Value) -> Result<Kind, LineError>
 
 #[tactic(auto, using(crate::proofs::Taken::taken_fails))]
 fn namespace_at(alloc: Global, namespaced: bool, line: &Value) -> Result<Text, LineError>
-    ensures { Gives result (namespace_at namespaced (view line.now)) }
+    ensures { MemberGives result (namespace_at namespaced (view line.now)) }
 {
     let word = word_or(Some(line), Member::Namespace, "default")?;
     if namespaced {
@@ -178,7 +178,7 @@ fn namespace_at(alloc: Global, namespaced: bool, line: &Value) -> Result<Text, L
 /// The UID that the object of a line has to have, where there is one.
 #[tactic(auto, using(crate::proofs::Taken::taken_fails))]
 pub fn condition_at(line: &Value) -> Result<Option<Uid>, LineError>
-    ensures { Gives result (condition_at (view line.now)) }
+    ensures { MemberGives result (condition_at (view line.now)) }
 {
     Ok(uid_at(Some(line), Member::Uid)?)
 }
@@ -186,7 +186,7 @@ pub fn condition_at(line: &Value) -> Result<Option<Uid>, LineError>
 /// The key of a line.
 #[tactic(auto, unfolding(crate::specs::Members::key_at))]
 pub fn key_at(alloc: Global, line: &Value) -> Result<Key, LineError>
-    ensures { Gives result (key_at (view line.now)) }
+    ensures { MemberGives result (key_at (view line.now)) }
 {
     let kind = kind_at(line)?;
     let namespace = namespace_at(alloc, is_namespaced(kind), line)?;
@@ -212,7 +212,7 @@ fn object_error(e: ObjectError) -> LineError
 
 #[tactic(auto, using(crate::proofs::Taken::object_fails))]
 fn object_in(alloc: Global, value: &Value) -> Result<Object, LineError>
-    ensures { Gives result (object_taken (item_of (view value.now))) }
+    ensures { MemberGives result (object_taken (item_of (view value.now))) }
 {
     match item_of(alloc, value) {
         Ok(object) => Ok(object),
@@ -222,7 +222,7 @@ fn object_in(alloc: Global, value: &Value) -> Result<Object, LineError>
 
 /// The object of a line.
 pub fn object_at(alloc: Global, line: &Value) -> Result<Object, LineError>
-    ensures { Gives result (object_at (view line.now)) }
+    ensures { MemberGives result (object_at (view line.now)) }
 {
     let value = needed(line, LineMember::Object)?;
     object_in(alloc, value)
@@ -231,7 +231,7 @@ pub fn object_at(alloc: Global, line: &Value) -> Result<Object, LineError>
 // ---- actors
 
 fn known_actor(alloc: Global, agents: &Pairs, word: &str) -> Result<Actor, LineError>
-    ensures { Gives result (actor_from (actor_named agents.now word.now)) }
+    ensures { MemberGives result (actor_from (actor_named agents.now word.now)) }
 {
     match actor_named(alloc, agents, word)? {
         Some(actor) => Ok(actor),
@@ -241,14 +241,14 @@ fn known_actor(alloc: Global, agents: &Pairs, word: &str) -> Result<Actor, LineE
 
 /// The actor of a line.
 pub fn actor_at(alloc: Global, agents: &Pairs, line: &Value) -> Result<Actor, LineError>
-    ensures { Gives result (actor_at agents.now (view line.now)) }
+    ensures { MemberGives result (actor_at agents.now (view line.now)) }
 {
     let word = word_at(line, LineMember::Actor)?;
     known_actor(alloc, agents, word)
 }
 
 fn when_named(word: &str) -> Result<bool, LineError>
-    ensures { Gives result (when_named word.now) }
+    ensures { MemberGives result (when_named word.now) }
 {
     if word == "before" {
         Ok(false)
@@ -261,7 +261,7 @@ fn when_named(word: &str) -> Result<bool, LineError>
 
 /// Whether the call of a line is lost after its effect.
 pub fn when_at(line: &Value) -> Result<bool, LineError>
-    ensures { Gives result (when_at (view line.now)) }
+    ensures { MemberGives result (when_at (view line.now)) }
 {
     let word = word_at(line, LineMember::When)?;
     when_named(word)
@@ -282,7 +282,7 @@ fn size_error(e: ObjectError) -> LineError
 
 #[tactic(auto, using(crate::proofs::Taken::size_fails))]
 fn size_in(alloc: Global, value: &Value) -> Result<Amount, LineError>
-    ensures { Gives result (size_taken (amount_in manifests.Storage (view value.now))) }
+    ensures { MemberGives result (size_taken (amount_in manifests.Storage (view value.now))) }
 {
     match amount_counted(alloc, value, Member::Storage) {
         Ok(amount) => Ok(amount),
@@ -292,7 +292,7 @@ fn size_in(alloc: Global, value: &Value) -> Result<Amount, LineError>
 
 /// The size of a pool.
 pub fn size_at(alloc: Global, line: &Value) -> Result<Amount, LineError>
-    ensures { Gives result (size_at (view line.now)) }
+    ensures { MemberGives result (size_at (view line.now)) }
 {
     let value = needed(line, LineMember::Bytes)?;
     size_in(alloc, value)
@@ -303,7 +303,7 @@ fn value_of_label(
     label: Text,
     value: Option<&Value>,
 ) -> Result<Option<(Text, Text)>, LineError>
-    ensures { Gives result (value_from label (option_map (λ v. view v.now) value.entry)) }
+    ensures { MemberGives result (value_from label (option_map (λ v. view v.now) value.entry)) }
 {
     match value {
         None => Err(LineError::Refused(Reason::Missing(LineMember::Value))),
@@ -313,7 +313,7 @@ fn value_of_label(
 
 /// The topology of a pool.
 pub fn topology_at(alloc: Global, line: &Value) -> Result<Option<(Text, Text)>, LineError>
-    ensures { Gives result (topology_at (view line.now)) }
+    ensures { MemberGives result (topology_at (view line.now)) }
 {
     let value = at(line, LineMember::Value);
     match at(line, LineMember::Label) {

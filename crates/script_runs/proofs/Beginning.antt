@@ -25,7 +25,7 @@ use Rattle.actor_turns.specs.Steps.Living.{Lives}
 use Rattle.worker_core.specs.declared.role.Role.{Role}
 use Rattle.actor_turns.specs.Steps.Playing.{EachPlayer, IsNewPlayer, Plays}
 use Rattle.script_runs.specs.Steps.Settled.{IsNoted}
-use Rattle.script_runs.specs.Steps.Standing.{AreNewPlayers, EachWithRole, Ended, HasAdded, HasMoved, IsBudget, SoFar, Stands, actors_for, agents_for, end_of, part_from, parts_from, parts_in, seat_past, with_made, workers_of}
+use Rattle.script_runs.specs.Steps.Standing.{AreNewPlayers, EachWithRole, Ended, HasAdded, HasMoved, IsBudget, SoFar, StageStands, actors_for, agents_for, end_of, part_from, parts_from, parts_in, seat_past, with_made, workers_of}
 use Rattle.actor_turns.proofs.Lived.{new_lives}
 use Rattle.actor_turns.proofs.Turning.{new_plays}
 
@@ -125,7 +125,7 @@ actors_added lines nodes second third fourth fifth sixth end none ones two three
     (added_then lines (workers_of workers.Binder) of_ops first_actor_seat second end none ones items binders with_ops)
 
 pub begins : (script : Script) (option : Option ℕ) (s : Stage) (first : ℕ) → s.world.past ≡ [] → s.world.setup ≡ script.setup → HasAdded script.lines (actors_for script.node_names) first_actor_seat first [] s.players.items
-    → AreNew first script.node_names s.drainers → first ≡ drain_seat script → ((past : List Entry) → HaveNoEntries (seats_of s.drainers) past → AreStanding s.drainers past) → s.drained ≡ 0 → s.budget ≡ first_budget option → s.settled ≡ None → Stands script option (first_progress option) s
+    → AreNew first script.node_names s.drainers → first ≡ drain_seat script → ((past : List Entry) → HaveNoEntries (seats_of s.drainers) past → AreStanding s.drainers past) → s.drained ≡ 0 → s.budget ≡ first_budget option → s.settled ≡ None → StageStands script option (first_progress option) s
 begins script option s first past setup added are seat stand drained budget unsettled =
     let lines = script.lines in
     let actors = actors_for script.node_names in
@@ -156,7 +156,7 @@ new_made lines actors first next players added place x at =
 
 -- ---- the lines
 
-pub so_far_first : (script : Script) (option : Option ℕ) (s : Stage) → Stands script option (first_progress option) s → SoFar script option 0 s
+pub so_far_first : (script : Script) (option : Option ℕ) (s : Stage) → StageStands script option (first_progress option) s → SoFar script option 0 s
 so_far_first script option s stands = record { progress = first_progress option; stands = stands; moves = λ end rest. rest }
 
 pub so_far_on : (script : Script) (option : Option ℕ) (place : ℕ) (line : Line) (old new : Stage) → slice_get script.lines place ≡ Some line → SoFar script option place old → HasMoved script option (IsMove script option line) old new → SoFar script option (place + 1) new
@@ -170,7 +170,7 @@ so_far_on script option place line old new at so moved =
 
 -- ---- the end
 
-ends_as : (script : Script) (option : Option ℕ) (after : Progress) (s : Stage) (d : Drained) → Stands script option after s → made_of d ≤ s.drained → EndsWith s.world.setup s.world.past (s.budget - (s.drained - made_of d)) d → EndsAs script.setup after (with_made s.drained d)
+ends_as : (script : Script) (option : Option ℕ) (after : Progress) (s : Stage) (d : Drained) → StageStands script option after s → made_of d ≤ s.drained → EndsWith s.world.setup s.world.past (s.budget - (s.drained - made_of d)) d → EndsAs script.setup after (with_made s.drained d)
 ends_as script option after s (Settled made) stands some ends = (stands.drained, subst (λ h. IsSettled script.setup (world script.setup h)) stands.past (subst (λ u. IsSettled u (world u s.world.past)) stands.setup ends))
 ends_as script option after s (Spent made key due) stands some ends =
     let spent = ends.0 in
@@ -179,7 +179,7 @@ ends_as script option after s (Spent made key due) stands some ends =
     (stands.drained, omega (arith, spent, some, few, budget), subst (λ h. IsFirstDue script.setup (world script.setup h) (Some (key, due))) stands.past (subst (λ u. IsFirstDue u (world u s.world.past) (Some (key, due))) stands.setup ends.1))
 
 pub has_ended : (script : Script) (option : Option ℕ) (old new : Stage) (d ending : Drained) → HasMoved script option (IsDrain all_pass script option) old new → made_of d ≤ new.drained → EndsWith new.world.setup new.world.past (new.budget - (new.drained - made_of d)) d → ending ≡ with_made new.drained d
-    → (p : Progress) → Stands script option p old → Ended script option p new ending
+    → (p : Progress) → StageStands script option p old → Ended script option p new ending
 has_ended script option old new d ending moved some ends is p stands =
     let leads = moved p stands in
     record {
@@ -189,7 +189,7 @@ has_ended script option old new d ending moved some ends is p stands =
       ends = subst (EndsAs script.setup leads.after) (sym is) (ends_as script option leads.after new d leads.stands some ends);
     }
 
-pub replays : (script : Script) (option : Option ℕ) (place : ℕ) (before after : Stage) (past : List Entry) (ending : Drained) → length script.lines ≤ place → SoFar script option place before → ((p : Progress) → Stands script option p before → Ended script option p after ending) → past ≡ after.world.past → IsReplay script option past ending
+pub replays : (script : Script) (option : Option ℕ) (place : ℕ) (before after : Stage) (past : List Entry) (ending : Drained) → length script.lines ≤ place → SoFar script option place before → ((p : Progress) → StageStands script option p before → Ended script option p after ending) → past ≡ after.world.past → IsReplay script option past ending
 replays script option place before after past ending all so ended is =
     let e = ended so.progress so.stands in
     record {

@@ -22,7 +22,7 @@ use Rattle.script_text.specs.declared.script.Script.{Script}
 use Rattle.script_lines.specs.Actors.{actor_word, agent_word, kind_prefix, number_word}
 use Rattle.script_text.specs.Said.{restart_of, restarts_of}
 use Rattle.actor_turns.specs.declared.part.Part.{Part}
-use Rattle.script_runs.specs.Limits.{AreInOrder as NamesInOrder, AreWithinLimits, IsKnown, IsWithinLimits, NameKnown, NamesKnown}
+use Rattle.script_runs.specs.Limits.{NamesAreInOrder as NamesInOrder, AreWithinLimits, IsKnown, IsWithinLimits, NameKnown, NamesKnown}
 use Rattle.actor_turns.specs.Parts.{lives_by}
 use Rattle.script_runs.specs.Parts.{all_actors, all_lives, drain_seat, first_actor_seat, is_named, seat_kind_of, kind_of_worker, is_turn_of, lives_before, lives_in, part_of}
 use Rattle.script_runs.specs.Steps.Standing.{agents_for, actors_for, all_parts, end_of, part_from, parts_from, place_of, place_of_kind, place_of_node, place_of_number, seat_of_drains, seat_past, workers_of}

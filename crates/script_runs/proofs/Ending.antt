@@ -19,7 +19,7 @@ use Rattle.script_runs.specs.declared.stage.Stage.{Stage}
 use Rattle.actor_turns.specs.Diligent.{IsDiligentLife}
 use Rattle.script_runs.specs.Diligent.{AreDiligent, IsDiligentReplay}
 use Rattle.script_runs.specs.Replays.{NoMoves, Progress}
-use Rattle.script_runs.specs.Steps.Standing.{Ended, SoFar, SomeStands, Stands, parts_in, place_of}
+use Rattle.script_runs.specs.Steps.Standing.{Ended, SoFar, SomeStands, StageStands, parts_in, place_of}
 use Rattle.script_runs.proofs.Casting.{actor_at, known_at, named_at, part_of_actor}
 use Rattle.actor_turns.proofs.Lived.{each_life}
 use Rattle.script_runs.proofs.Needs.{its_name, its_part}
@@ -30,7 +30,7 @@ player_of [] place part at = none_some at
 player_of (x ∷ xs) zero part at = (x, refl)
 player_of (x ∷ xs) (suc place) part at = player_of xs place part at
 
-module _ (script : Script) (option : Option ℕ) (end : Progress) (s : Stage) (readable : IsReadable script) (stands : Stands script option end s) where
+module _ (script : Script) (option : Option ℕ) (end : Progress) (s : Stage) (readable : IsReadable script) (stands : StageStands script option end s) where
   diligent_actor : (actor : Actor) → IsKnown script.node_names actor → is_named (actor_word actor) script.lines ≡ true → (seat : ℕ) → (part_of script actor).first ≤ seat → seat < (part_of script actor).first + lives_of (part_of script actor)
       → IsDiligentLife [] (role_of actor) (part_of script actor) seat (end.made (part_of script actor).name) end.past
   diligent_actor actor known named seat low high =
@@ -58,7 +58,7 @@ module _ (script : Script) (option : Option ℕ) (end : Progress) (s : Stage) (r
       diligent_actor actor (known_at script.node_names script.lines place (kinds_of_line.Turn actor calls) readable.known at) (named_at script.lines place actor calls at) seat low high
 
 pub diligent_replay : (script : Script) (option : Option ℕ) (place : ℕ) (before after : Stage) (past : List Entry) (ending : Drained) → IsReadable script → length script.lines ≤ place → SoFar script option place before
-    → ((p : Progress) → Stands script option p before → Ended script option p after ending) → past ≡ after.world.past → IsDiligentReplay script option past ending
+    → ((p : Progress) → StageStands script option p before → Ended script option p after ending) → past ≡ after.world.past → IsDiligentReplay script option past ending
 diligent_replay script option place before after past ending readable all so ended is =
     let e = ended so.progress so.stands in
     record {

@@ -30,7 +30,7 @@ use Rattle.script_laws.specs.Scripts.{AreImportsAfter, AreLinesAfter, IsScript}
 use Rattle.script_laws.proofs.Imports.{imports_given}
 use Rattle.script_laws.proofs.MembersGive.{AreAgents}
 use Rattle.script_laws.proofs.TextsGive.{ScriptGiven, agents_and, script_gives}
-use Rattle.script_runs.specs.Limits.{AreInOrder, AreWithinLimits, IsKnown, IsReadable, IsWithinLimits, NameKnown, NamesKnown}
+use Rattle.script_runs.specs.Limits.{NamesAreInOrder, AreWithinLimits, IsKnown, IsReadable, IsWithinLimits, NameKnown, NamesKnown}
 use Rattle.script_text.proofs.Indexes.{agents_more}
 
 -- ---- numbers of lines
@@ -124,7 +124,7 @@ after_nodes : (p : Pair) (ps : List Pair) → p.0 ≡ agent_word p.1 → AreAgen
 after_nodes p [] is are after = tt
 after_nodes p (q ∷ ps) is are after = (sym (ap (λ (name : List ℕ). text_cmp name q.0) is ∙ ap (text_cmp (agent_word p.1)) are.0) ∙ after.0, after_nodes p ps is are.1 after.1)
 
-nodes_in_order : (agents : List Pair) → AreAgents agents → ArePairs agents → AreInOrder (nodes_of agents)
+nodes_in_order : (agents : List Pair) → AreAgents agents → ArePairs agents → NamesAreInOrder (nodes_of agents)
 nodes_in_order [] are order = tt
 nodes_in_order (p ∷ ps) are order = (after_nodes p ps are.0 are.1 order.0, nodes_in_order ps are.1 order.1)
 
@@ -182,7 +182,7 @@ script_readable script is =
       lines = lines_within imports agents [] script.lines is.lines;
       few = omega (arith, few);
       nodes = subst (λ (names : List (List ℕ)). length names ≤ 8) nodes (omega (arith, long, most));
-      order = subst AreInOrder nodes (nodes_in_order agents named.names named.order);
+      order = subst NamesAreInOrder nodes (nodes_in_order agents named.names named.order);
       known = subst (λ (names : List (List ℕ)). NameKnown names script.lines) nodes (lines_known imports agents [] script.lines is.lines);
     }
 

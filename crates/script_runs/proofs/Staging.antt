@@ -23,7 +23,7 @@ use Rattle.attention_law.specs.Diligence.{Call, entries}
 use Rattle.attention_law.specs.Resting.{WasToldStale}
 use Rattle.actor_turns.specs.Calls.{AreCalls, AreNeededLives, AreOfLife, seat_at}
 use Rattle.script_runs.specs.Budget.{raised}
-use Rattle.script_runs.specs.Limits.{AreInOrder as NamesInOrder}
+use Rattle.script_runs.specs.Limits.{NamesAreInOrder as NamesInOrder}
 use Rattle.actor_turns.specs.Parts.{lives_of}
 use Rattle.script_runs.specs.Parts.{all_actors, all_lives, drain_roles, drain_seat, drain_seats, seat_kind_of, part_of, role_of}
 use Rattle.script_lines.specs.declared.actors.Actor.{Actor}
@@ -34,7 +34,7 @@ use Rattle.script_runs.specs.Replays.{IsDrain, IsTurnLine, IsUserCall, Progress,
 use Rattle.actor_turns.specs.Steps.Living.{HasLivedOn, LivedAll, LivedFewer, Lives}
 use Rattle.actor_turns.specs.Steps.Playing.{HasMadeAll, HasMadeFewer, HasTurned, IsLife, Plays, StandsSince}
 use Rattle.script_runs.specs.Steps.Settled.{IsNoted}
-use Rattle.script_runs.specs.Steps.Standing.{HasMoved, IsBudget, Leads, Stands, actors_for, all_parts, parts_in, seat_of_drains}
+use Rattle.script_runs.specs.Steps.Standing.{HasMoved, IsBudget, Leads, StageStands, actors_for, all_parts, parts_in, seat_of_drains}
 use Rattle.script_runs.proofs.Casting.{in_order, names_differ, names_in}
 use Rattle.actor_turns.proofs.Lived.{all_needed, lives_on}
 use Rattle.actor_turns.proofs.Lives.{seat_within}
@@ -187,7 +187,7 @@ pub record HasPlayed (old new : Stage) (place : ℕ) (x after : Player) : Type 0
   pub budget : new.budget ≡ old.budget
   pub settled : new.settled ≡ old.settled
 
-module _ (script : Script) (option : Option ℕ) (old new : Stage) (place : ℕ) (x after : Player) (order : NamesInOrder script.node_names) (last : drain_seat script ≡ seat_of_drains script) (played : HasPlayed old new place x after) (p : Progress) (stands : Stands script option p old) where
+module _ (script : Script) (option : Option ℕ) (old new : Stage) (place : ℕ) (x after : Player) (order : NamesInOrder script.node_names) (last : drain_seat script ≡ seat_of_drains script) (played : HasPlayed old new place x after) (p : Progress) (stands : StageStands script option p old) where
   part_there : (j : ℕ) (y : Player) → slice_get old.players.items j ≡ Some y → slice_get (all_parts script) j ≡ Some y.part
   part_there j y at = ap (λ ps. slice_get ps j) (sym stands.parts) ∙ part_at_place old.players.items j y at
 
@@ -210,7 +210,7 @@ module _ (script : Script) (option : Option ℕ) (old new : Stage) (place : ℕ)
   none_held = played.held ∙ stands.held place x played.there
 
   stands_on : (count : ℕ) (idle : ℕ → List Call) → after.made ≡ x.made + count → IsGrown old.world.past new.world.past → ((seat : ℕ) → (IsLife x.part seat → ⊥) → own seat new.world.past ≡ own seat old.world.past) → ((seat : ℕ) → (IsLife x.part seat → ⊥) → idle seat ≡ p.idle seat)
-      → Plays after new.world.past (told_at idle) → ((actor : Actor) → slice_get (actors_for script.node_names) place ≡ Some actor → Lives (role_of actor) after new.world.past idle) → Stands script option (record p { past = new.world.past; made = and_made x.part.name count p.made; idle = idle }) new
+      → Plays after new.world.past (told_at idle) → ((actor : Actor) → slice_get (actors_for script.node_names) place ≡ Some actor → Lives (role_of actor) after new.world.past idle) → StageStands script option (record p { past = new.world.past; made = and_made x.part.name count p.made; idle = idle }) new
   stands_on count idle more grown others same_idle plays lives = record {
     past = refl;
     setup = played.setup ∙ stands.setup;

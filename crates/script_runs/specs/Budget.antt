@@ -8,14 +8,14 @@ use Rattle.call_types.specs.declared.setup.Setup.{Setup}
 use Rattle.binder_model.specs.World.{world}
 
 -- an object, and the claims that it names if it is a pod
-abbrev pub size_of : Object → ℕ
-size_of (Pod p) = 1 + length p.claims
-size_of object = 1
+abbrev pub size_of_object : Object → ℕ
+size_of_object (Pod p) = 1 + length p.claims
+size_of_object object = 1
 
 -- the objects, and the claims that pods name, each pod's counted by itself
 abbrev pub size_of_all : List Object → ℕ
 size_of_all [] = 0
-size_of_all (object ∷ objects) = size_of object + size_of_all objects
+size_of_all (object ∷ objects) = size_of_object object + size_of_all objects
 
 -- the planned faults whose number the devices have not reached
 abbrev pub faults_ahead : ℕ → List ℕ → ℕ

@@ -41,8 +41,8 @@ NameKnown nodes [] = ⊤
 NameKnown nodes (line ∷ lines) = NamesKnown nodes line × NameKnown nodes lines
 
 -- names in their order, none twice
-abbrev pub AreInOrder : List (List ℕ) → Type 0
-AreInOrder names = IsRising text_cmp (λ name. name) names
+abbrev pub NamesAreInOrder : List (List ℕ) → Type 0
+NamesAreInOrder names = IsRising text_cmp (λ name. name) names
 
 -- what the reader of scripts gives: imports that pass one after another, at most 4,096 lines, at most 8 nodes in the order of
 -- their names, and agents of these nodes
@@ -51,7 +51,7 @@ pub record IsReadable (script : Script) : Type 0 where
   pub lines : AreWithinLimits script.lines
   pub few : length script.lines ≤ 4096
   pub nodes : length script.node_names ≤ 8
-  pub order : AreInOrder script.node_names
+  pub order : NamesAreInOrder script.node_names
   pub known : NameKnown script.node_names script.lines
 
 -- each script that the reader answers is readable

@@ -2,7 +2,7 @@
 
 ghost use Rattle.std.specs.Prelude.{◌≡◌, ◌≤◌, ◌<◌, ◌+◌, Some, None};
 ghost use Rattle.binder_model.specs.World.{world};
-ghost use Rattle.script_runs.specs.Budget.{at_most, faults_ahead, most_budget, raised, size_of, size_of_all};
+ghost use Rattle.script_runs.specs.Budget.{at_most, faults_ahead, most_budget, raised, size_of_object, size_of_all};
 
 use kube_types::objects::Object;
 use world_core::world::World;
@@ -27,7 +27,7 @@ fn capped(sum: u64, more: u64) -> u64
 
 /// An object, and the claims that it names if it is a pod.
 fn claims_of(object: &Object) -> u64
-    ensures { 1 + result ≡ size_of object.now }
+    ensures { 1 + result ≡ size_of_object object.now }
 {
     match object {
         Object::Pod(pod) => pod.claims.as_slice().len() as u64,

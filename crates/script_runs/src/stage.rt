@@ -17,7 +17,7 @@ ghost use Rattle.script_runs.specs.Parts.{is_named, seat_kind_of, part_of, role_
 ghost use Rattle.script_runs.specs.Replays.{IsDrain, IsMove, IsTurnLine, IsUserCall, Progress, first_progress};
 ghost use Rattle.actor_turns.specs.Steps.Playing.{IsNewPlayer};
 ghost use Rattle.script_runs.specs.Steps.Settled.{IsNoted};
-ghost use Rattle.script_runs.specs.Steps.Standing.{Ended, HasAdded, HasMoved, MadeAtMost, SomeStands, Stands, actors_for, agents_for, part_from, place_of, place_of_kind, place_of_node, place_of_number, with_made, workers_of};
+ghost use Rattle.script_runs.specs.Steps.Standing.{Ended, HasAdded, HasMoved, MadeAtMost, SomeStands, StageStands, actors_for, agents_for, part_from, place_of, place_of_kind, place_of_node, place_of_number, with_made, workers_of};
 
 use crate::budget::raised;
 use crate::parts::{part_from, seat_after};
@@ -229,7 +229,7 @@ impl Stage {
         option: Option<u64>,
     ) -> Result<Drained, OutOfMemory>
         requires stands { SomeStands script.now option self.old }
-        ensures ended { IfOk result (λ ending. (p : Progress) → Stands script.now option p self.old → Ended script.now option p self.new ending) }
+        ensures ended { IfOk result (λ ending. (p : Progress) → StageStands script.now option p self.old → Ended script.now option p self.new ending) }
         ensures actors { OnOk result (AreByActors self.old.world.past → AreByActors self.new.world.past) }
     {
         let last = self.drain(script, option)?;
@@ -457,7 +457,7 @@ pub fn first_budget(option: Option<u64>) -> u64
 /// A world of the script's setup, and new actors.
 pub fn begin(alloc: Global, script: &Script, option: Option<u64>) -> Result<Stage, OutOfMemory>
     requires readable { IsReadable script.now }
-    ensures stands { IfOk result (λ s. Stands script.now option (first_progress option) s) }
+    ensures stands { IfOk result (λ s. StageStands script.now option (first_progress option) s) }
     ensures actors { IfOk result (λ s. AreByActors s.world.past) }
     ensures made { IfOk result (λ s. MadeAtMost 0 s) }
 {

@@ -18,7 +18,7 @@ use Rattle.script_text.specs.declared.script.Meaning.{Meaning}
 use Rattle.script_text.specs.declared.script.Meaning.TheVariants as meanings
 use Rattle.script_text.specs.declared.script.Script.{Script}
 use Rattle.script_text.specs.declared.script.Numbered.{Numbered}
-use Rattle.script_lines.specs.Answers.{◌>>=◌, taken, unless}
+use Rattle.script_lines.specs.Answers.{◌>>=◌, taken_in_line, unless}
 use Rattle.script_lines.specs.Actors.{actor_word}
 use Rattle.script_lines.specs.Members.{object_at}
 use Rattle.script_text.specs.Said.{Said, nothing_said, and_said, created_by, meaning_node, and_node, agents_of, objects_of, losses_of, restarts_of, calls_of, numbered_of}
@@ -103,7 +103,7 @@ object_value d = if is_object d then Ok d else Err NotObject
 
 -- the JSON object that a line is
 abbrev pub line_value : List ℕ → Result Data Reason
-line_value line = taken (value_of line) >>= λ d. object_value d
+line_value line = taken_in_line (value_of line) >>= λ d. object_value d
 
 -- with the line of this number, which is not of blanks alone
 unfoldable pub and_filled : List Pair → Said → ℕ → List ℕ → Result Said Reason

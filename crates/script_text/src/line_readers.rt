@@ -3,7 +3,7 @@
 ghost use Rattle.std.specs.Prelude.{◌≡◌};
 ghost use Rattle.serde_json.specs.View.{view};
 ghost use Rattle.script_lines.specs.declared.errors.Reason.TheVariants.{BadValue};
-ghost use Rattle.script_lines.specs.Answers.{Gives, unless};
+ghost use Rattle.script_lines.specs.Answers.{MemberGives, unless};
 ghost use Rattle.script_text.specs.Steps.Results.{import_result, line_result};
 ghost use Rattle.script_text.specs.LineReaders.{create_line, condition_of, update_line, edit_line, delete_line, get_line, list_line, time_line, pool_line, fault_line, import_line, lose_line, restart_line, turn_line, verb_from, verb_at, meaning_by};
 ghost use Rattle.script_lines.specs.declared.line_member.LineMember.TheVariants as members;
@@ -11,7 +11,7 @@ ghost use Rattle.script_lines.specs.Actors.{actor_word};
 ghost use Rattle.script_lines.specs.Members.{new_call_at};
 ghost use Rattle.script_text.specs.Said.{begins, has_begun, losses_of, restarts_of};
 ghost use Rattle.script_lines.specs.Verbs.{verb_named};
-ghost use Rattle.script_text.specs.Steps.Indexed.{Stands, said_by};
+ghost use Rattle.script_text.specs.Steps.Indexed.{ProgressStands, said_by};
 
 use crate::progress::Progress;
 use crate::script::{Line, Meaning};
@@ -43,7 +43,7 @@ const MOST_TURN: u64 = 1000;
 
 #[tactic(auto, unfolding(crate::specs::LineReaders::create_line))]
 pub(crate) fn create_line(alloc: Global, line: &Value) -> Result<Line, LineError>
-    ensures { Gives result (create_line (view line.now)) }
+    ensures { MemberGives result (create_line (view line.now)) }
 {
     let object = object_at(alloc, line)?;
     let user = user_at(line)?;
@@ -62,7 +62,7 @@ fn condition_of(object: &Object) -> Option<Version>
 
 #[tactic(auto, unfolding(crate::specs::LineReaders::update_line))]
 fn update_line(alloc: Global, line: &Value) -> Result<Line, LineError>
-    ensures { Gives result (update_line (view line.now)) }
+    ensures { MemberGives result (update_line (view line.now)) }
 {
     let object = object_at(alloc, line)?;
     let user = user_at(line)?;
@@ -75,7 +75,7 @@ fn update_line(alloc: Global, line: &Value) -> Result<Line, LineError>
 
 #[tactic(auto, unfolding(crate::specs::LineReaders::edit_line))]
 fn edit_line(alloc: Global, line: &Value) -> Result<Line, LineError>
-    ensures { Gives result (edit_line (view line.now)) }
+    ensures { MemberGives result (edit_line (view line.now)) }
 {
     let key = key_at(alloc, line)?;
     let edit = edit_at(alloc, line)?;
@@ -88,7 +88,7 @@ fn edit_line(alloc: Global, line: &Value) -> Result<Line, LineError>
 
 #[tactic(auto, unfolding(crate::specs::LineReaders::delete_line))]
 fn delete_line(alloc: Global, line: &Value) -> Result<Line, LineError>
-    ensures { Gives result (delete_line (view line.now)) }
+    ensures { MemberGives result (delete_line (view line.now)) }
 {
     let key = key_at(alloc, line)?;
     let uid = condition_at(line)?;
@@ -101,7 +101,7 @@ fn delete_line(alloc: Global, line: &Value) -> Result<Line, LineError>
 
 #[tactic(auto, unfolding(crate::specs::LineReaders::get_line))]
 fn get_line(alloc: Global, line: &Value) -> Result<Line, LineError>
-    ensures { Gives result (get_line (view line.now)) }
+    ensures { MemberGives result (get_line (view line.now)) }
 {
     let key = key_at(alloc, line)?;
     let user = user_at(line)?;
@@ -113,7 +113,7 @@ fn get_line(alloc: Global, line: &Value) -> Result<Line, LineError>
 
 #[tactic(auto, unfolding(crate::specs::LineReaders::list_line))]
 fn list_line(line: &Value) -> Result<Line, LineError>
-    ensures { Gives result (list_line (view line.now)) }
+    ensures { MemberGives result (list_line (view line.now)) }
 {
     let kind = kind_at(line)?;
     let user = user_at(line)?;
@@ -128,7 +128,7 @@ fn list_line(line: &Value) -> Result<Line, LineError>
 
 #[tactic(auto, unfolding(crate::specs::LineReaders::time_line))]
 fn time_line(alloc: Global, line: &Value) -> Result<Line, LineError>
-    ensures { Gives result (time_line (view line.now)) }
+    ensures { MemberGives result (time_line (view line.now)) }
 {
     let at = text_at(alloc, line, LineMember::At)?;
     let user = user_at(line)?;
@@ -142,7 +142,7 @@ fn time_line(alloc: Global, line: &Value) -> Result<Line, LineError>
 
 #[tactic(auto, unfolding(crate::specs::LineReaders::pool_line))]
 fn pool_line(alloc: Global, line: &Value) -> Result<Meaning, LineError>
-    ensures { Gives result (pool_line (view line.now)) }
+    ensures { MemberGives result (pool_line (view line.now)) }
 {
     let name = text_at(alloc, line, LineMember::Of(Member::Name))?;
     let provisioner = text_at(alloc, line, LineMember::Of(Member::Provisioner))?;
@@ -161,7 +161,7 @@ fn pool_line(alloc: Global, line: &Value) -> Result<Meaning, LineError>
 }
 
 fn new_call(call: u64, given: bool, member: LineMember) -> Result<u64, LineError>
-    ensures { Gives result (unless given (BadValue member) call) }
+    ensures { MemberGives result (unless given (BadValue member) call) }
 {
     if given {
         Err(LineError::Refused(Reason::BadValue(member)))
@@ -172,8 +172,8 @@ fn new_call(call: u64, given: bool, member: LineMember) -> Result<u64, LineError
 
 #[tactic(auto, unfolding(crate::specs::LineReaders::fault_line))]
 fn fault_line(progress: &Progress, line: &Value) -> Result<Meaning, LineError>
-    requires { Stands progress.now }
-    ensures { Gives result (fault_line progress.now.faults.items (view line.now)) }
+    requires { ProgressStands progress.now }
+    ensures { MemberGives result (fault_line progress.now.faults.items (view line.now)) }
 {
     let call = call_at(line, LineMember::Call)?;
     let call = new_call(call, progress.has_fault(call), LineMember::Call)?;
@@ -209,7 +209,7 @@ fn has_begun(lines: &[Line]) -> bool
 /// An object of an older store: before any call, and none that the objects before it refuse.
 #[tactic(auto, unfolding(crate::specs::LineReaders::import_line))]
 fn import_line(alloc: Global, progress: &Progress, line: &Value) -> Result<Meaning, LineError>
-    ensures { Gives result (import_line progress.now.lines progress.now.imports (view line.now)) }
+    ensures { MemberGives result (import_line progress.now.lines progress.now.imports (view line.now)) }
 {
     let object = object_at(alloc, line)?;
     if has_begun(progress.lines.as_slice()) {
@@ -229,8 +229,8 @@ fn new_loss(
     actor: &Actor,
     line: &Value,
 ) -> Result<u64, LineError>
-    requires { Stands progress.now }
-    ensures { Gives result (new_call_at members.Call (losses_of (actor_word actor.now) progress.now.lines) (view line.now)) }
+    requires { ProgressStands progress.now }
+    ensures { MemberGives result (new_call_at members.Call (losses_of (actor_word actor.now) progress.now.lines) (view line.now)) }
 {
     let call = call_at(line, LineMember::Call)?;
     let name = actor.name(alloc)?;
@@ -244,8 +244,8 @@ fn lose_line(
     progress: &Progress,
     line: &Value,
 ) -> Result<Line, LineError>
-    requires { Stands progress.now }
-    ensures { Gives result (lose_line agents.now progress.now.lines (view line.now)) }
+    requires { ProgressStands progress.now }
+    ensures { MemberGives result (lose_line agents.now progress.now.lines (view line.now)) }
 {
     let actor = actor_at(alloc, agents, line)?;
     let call = new_loss(alloc, progress, &actor, line)?;
@@ -259,8 +259,8 @@ fn new_restart(
     actor: &Actor,
     line: &Value,
 ) -> Result<u64, LineError>
-    requires { Stands progress.now }
-    ensures { Gives result (new_call_at members.After (restarts_of (actor_word actor.now) progress.now.lines) (view line.now)) }
+    requires { ProgressStands progress.now }
+    ensures { MemberGives result (new_call_at members.After (restarts_of (actor_word actor.now) progress.now.lines) (view line.now)) }
 {
     let after = call_at(line, LineMember::After)?;
     let name = actor.name(alloc)?;
@@ -274,8 +274,8 @@ fn restart_line(
     progress: &Progress,
     line: &Value,
 ) -> Result<Line, LineError>
-    requires { Stands progress.now }
-    ensures { Gives result (restart_line agents.now progress.now.lines (view line.now)) }
+    requires { ProgressStands progress.now }
+    ensures { MemberGives result (restart_line agents.now progress.now.lines (view line.now)) }
 {
     let actor = actor_at(alloc, agents, line)?;
     let after = new_restart(alloc, progress, &actor, line)?;
@@ -284,7 +284,7 @@ fn restart_line(
 
 #[tactic(auto, unfolding(crate::specs::LineReaders::turn_line))]
 fn turn_line(alloc: Global, agents: &Pairs, line: &Value) -> Result<Line, LineError>
-    ensures { Gives result (turn_line agents.now (view line.now)) }
+    ensures { MemberGives result (turn_line agents.now (view line.now)) }
 {
     let actor = actor_at(alloc, agents, line)?;
     let calls = count_at(line, LineMember::Calls, MOST_TURN)?;
@@ -294,7 +294,7 @@ fn turn_line(alloc: Global, agents: &Pairs, line: &Value) -> Result<Line, LineEr
 // ---- any line
 
 fn known_verb(word: &str) -> Result<Verb, LineError>
-    ensures { Gives result (verb_from (verb_named word.now)) }
+    ensures { MemberGives result (verb_from (verb_named word.now)) }
 {
     match verb_named(word) {
         Some(verb) => Ok(verb),
@@ -304,7 +304,7 @@ fn known_verb(word: &str) -> Result<Verb, LineError>
 
 /// What a line does.
 pub(crate) fn verb_at(line: &Value) -> Result<Verb, LineError>
-    ensures { Gives result (verb_at (view line.now)) }
+    ensures { MemberGives result (verb_at (view line.now)) }
 {
     let word = word_at(line, LineMember::Do)?;
     known_verb(word)
@@ -339,8 +339,8 @@ pub(crate) fn meaning_by(
     progress: &Progress,
     line: &Value,
 ) -> Result<Meaning, LineError>
-    requires { Stands progress.now }
-    ensures { Gives result (meaning_by verb agents.now (said_by progress.now) (view line.now)) }
+    requires { ProgressStands progress.now }
+    ensures { MemberGives result (meaning_by verb agents.now (said_by progress.now) (view line.now)) }
 {
     match verb {
         Verb::Create => as_line(create_line(alloc, line)),

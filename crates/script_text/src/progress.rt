@@ -8,7 +8,7 @@ ghost use Rattle.script_text.specs.declared.script.Meaning.TheVariants as meanin
 ghost use Rattle.script_lines.specs.Members.{is_given};
 ghost use Rattle.script_text.specs.Said.{nothing_said, and_said, has_begun, agents_of, losses_of, restarts_of, nodes_of, numbered_of};
 ghost use Rattle.script_text.specs.Grammar.{limit_of, unless_passed};
-ghost use Rattle.script_text.specs.Steps.Indexed.{AreFaults, Stands, Takes, said_by};
+ghost use Rattle.script_text.specs.Steps.Indexed.{AreFaults, ProgressStands, Takes, said_by};
 
 use crate::index::{Index, no_index, note_import, note_line};
 use crate::script::{Line, Numbered, Script};
@@ -83,7 +83,7 @@ fn put_fault(faults: &mut Vec<u64>, call: u64) -> Result<(), OutOfMemory>
 impl Progress {
     /// Nothing was said. It takes no memory.
     pub fn new(alloc: Global) -> Progress
-        ensures stands { Stands result }
+        ensures stands { ProgressStands result }
         ensures said { said_by result ≡ nothing_said }
     {
         Progress {
@@ -99,7 +99,7 @@ impl Progress {
 
     /// Whether a fault line gave the number.
     pub fn has_fault(&self, call: u64) -> bool
-        requires { Stands self.now }
+        requires { ProgressStands self.now }
         ensures { result ≡ is_given call self.now.faults.items }
     {
         fault_place(&self.faults, call).is_ok()
@@ -107,7 +107,7 @@ impl Progress {
 
     /// Whether a line lost this call of the actor of this name.
     pub fn has_loss(&self, name: &Text, call: u64) -> bool
-        requires { Stands self.now }
+        requires { ProgressStands self.now }
         ensures { result ≡ is_given call (losses_of name.now self.now.lines) }
     {
         self.index.losses.has(name.as_str(), call)
@@ -115,7 +115,7 @@ impl Progress {
 
     /// Whether a line began a new life after this call of the actor of this name.
     pub fn has_restart(&self, name: &Text, call: u64) -> bool
-        requires { Stands self.now }
+        requires { ProgressStands self.now }
         ensures { result ≡ is_given call (restarts_of name.now self.now.lines) }
     {
         self.index.restarts.has(name.as_str(), call)
@@ -128,7 +128,7 @@ pub(crate) fn take_pool(
     pool: Pool,
     size: &Text,
 ) -> Result<(), LineError>
-    requires { Stands progress.old }
+    requires { ProgressStands progress.old }
     ensures { Takes result progress.new (unless_passed (limit_of (and_said (said_by progress.old) _number (meanings.Pool pool size.now)) (meanings.Pool pool size.now)) (and_said (said_by progress.old) _number (meanings.Pool pool size.now))) }
 {
     progress.pools.push(pool)?;
@@ -140,7 +140,7 @@ pub(crate) fn take_pool(
 }
 
 pub(crate) fn take_fault(progress: &mut Progress, _number: u64, call: u64) -> Result<(), LineError>
-    requires { Stands progress.old }
+    requires { ProgressStands progress.old }
     ensures { Takes result progress.new (unless_passed (limit_of (and_said (said_by progress.old) _number (meanings.Fault call)) (meanings.Fault call)) (and_said (said_by progress.old) _number (meanings.Fault call))) }
 {
     put_fault(&mut progress.faults, call)?;
@@ -156,7 +156,7 @@ pub(crate) fn take_import(
     _number: u64,
     object: Object,
 ) -> Result<(), LineError>
-    requires stands { Stands progress.old }
+    requires stands { ProgressStands progress.old }
     requires early { has_begun progress.old.lines ≡ false }
     ensures { Takes result progress.new (unless_passed (limit_of (and_said (said_by progress.old) _number (meanings.Import object)) (meanings.Import object)) (and_said (said_by progress.old) _number (meanings.Import object))) }
 {
@@ -177,7 +177,7 @@ pub(crate) fn take_line(
     number: u64,
     line: Line,
 ) -> Result<(), LineError>
-    requires { Stands progress.old }
+    requires { ProgressStands progress.old }
     ensures { Takes result progress.new (unless_passed (limit_of (and_said (said_by progress.old) number (meanings.Line line)) (meanings.Line line)) (and_said (said_by progress.old) number (meanings.Line line))) }
 {
     note_line(
@@ -206,7 +206,7 @@ impl Progress {
     /// The script that was said, with the numbers of its lines.
     #[tactic(auto, unfolding(crate::specs::Said::numbered_of))]
     pub fn into_numbered(self, alloc: Global) -> Result<Numbered, OutOfMemory>
-        requires { Stands self }
+        requires { ProgressStands self }
         ensures said { IfOk result (λ n. n ≡ numbered_of (said_by self)) }
         ensures nodes { IfOk result (λ n. n.script.node_names ≡ nodes_of (agents_of n.script.setup.imports n.script.lines)) }
     {

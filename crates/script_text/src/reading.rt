@@ -5,11 +5,11 @@ ghost use Rattle.std.specs.List.{list_all};
 ghost use Rattle.serde_json.specs.View.{view};
 ghost use Rattle.json_text.specs.Trees.{tree_data};
 ghost use Rattle.object_text.specs.Reading.{value_of};
-ghost use Rattle.script_lines.specs.Answers.{Gives, GivesBy, ScriptGives, taken};
+ghost use Rattle.script_lines.specs.Answers.{MemberGives, MemberGivesBy, ScriptGives, taken_in_line};
 ghost use Rattle.script_text.specs.Said.{agents_of, and_node, created_node, meaning_node, nodes_of};
 ghost use Rattle.script_text.specs.LineReaders.{meaning_of};
 ghost use Rattle.script_text.specs.Grammar.{agents_in, and_filled, and_line, is_blank, line_value, lines_of, node_from, own_object, read_numbered_of, said_in, script_of};
-ghost use Rattle.script_text.specs.Steps.Indexed.{Stands, Takes, said_by};
+ghost use Rattle.script_text.specs.Steps.Indexed.{ProgressStands, Takes, said_by};
 ghost use Rattle.script_text.specs.Steps.Known.{IfNamed, IsKnown, SaidGives, names_actor};
 
 use crate::index::{imported_node, node_name, put_node};
@@ -53,13 +53,13 @@ fn are_blank(line: &[u8]) -> bool
 
 #[tactic(auto, using(script_lines::proofs::Taken::taken_fails))]
 fn json_of(alloc: Global, line: &[u8]) -> Result<Tree, LineError>
-    ensures { GivesBy tree_data result (taken (value_of line.now)) }
+    ensures { MemberGivesBy tree_data result (taken_in_line (value_of line.now)) }
 {
     Ok(value_of(alloc, line)?)
 }
 
 fn line_value(alloc: Global, line: &[u8]) -> Result<Tree, LineError>
-    ensures { GivesBy tree_data result (line_value line.now) }
+    ensures { MemberGivesBy tree_data result (line_value line.now) }
 {
     let tree = json_of(alloc, line)?;
     if tree.value().as_object().is_none() {
@@ -73,7 +73,7 @@ fn line_value(alloc: Global, line: &[u8]) -> Result<Tree, LineError>
 /// What a line creates or imports, by its own members alone.
 #[tactic(auto, using(crate::proofs::LineResults::line_gives, crate::proofs::LineResults::import_gives), unfolding(crate::specs::Grammar::own_object))]
 fn own_object(alloc: Global, line: &[u8]) -> Result<Meaning, LineError>
-    ensures { Gives result (own_object line.now) }
+    ensures { MemberGives result (own_object line.now) }
 {
     if line.len() > MOST_LINE_BYTES {
         return Err(LineError::Refused(Reason::TooLong));
@@ -198,8 +198,8 @@ fn meaning_of(
     value: &Value,
 ) -> Result<Meaning, LineError>
     requires known { IsKnown known.old (map (λ line. line.now) lines.now) }
-    requires stands { Stands progress.now }
-    ensures gives { Gives result (meaning_of (agents_in (map (λ line. line.now) lines.now)) (said_by progress.now) (view value.now)) }
+    requires stands { ProgressStands progress.now }
+    ensures gives { MemberGives result (meaning_of (agents_in (map (λ line. line.now) lines.now)) (said_by progress.now) (view value.now)) }
     ensures known { IsKnown known.new (map (λ line. line.now) lines.now) }
 {
     let verb = verb_at(value)?;
@@ -219,7 +219,7 @@ fn take_filled(
     line: &[u8],
 ) -> Result<(), LineError>
     requires known { IsKnown known.old (map (λ line. line.now) lines.now) }
-    requires stands { Stands progress.old }
+    requires stands { ProgressStands progress.old }
     ensures takes { Takes result progress.new (and_filled (agents_in (map (λ line. line.now) lines.now)) (said_by progress.old) number line.now) }
     ensures known { IsKnown known.new (map (λ line. line.now) lines.now) }
 {
@@ -242,7 +242,7 @@ fn take_line(
     line: &[u8],
 ) -> Result<(), LineError>
     requires known { IsKnown known.old (map (λ line. line.now) lines.now) }
-    requires stands { Stands progress.old }
+    requires stands { ProgressStands progress.old }
     ensures takes { Takes result progress.new (and_line (agents_in (map (λ line. line.now) lines.now)) (said_by progress.old) number line.now) }
     ensures known { IsKnown known.new (map (λ line. line.now) lines.now) }
 {

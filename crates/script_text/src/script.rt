@@ -3,7 +3,7 @@
 ghost use Rattle.std.specs.Prelude.{◌≡◌};
 ghost use Rattle.script_text.specs.Said.{and_said};
 ghost use Rattle.script_text.specs.Grammar.{limit_of, unless_passed};
-ghost use Rattle.script_text.specs.Steps.Indexed.{CanTake, Stands, Takes, said_by};
+ghost use Rattle.script_text.specs.Steps.Indexed.{CanTake, ProgressStands, Takes, said_by};
 
 use crate::progress::{Progress, take_fault, take_import, take_line, take_pool};
 use call_types::request::Request;
@@ -89,7 +89,7 @@ impl Meaning {
         progress: &mut Progress,
         number: u64,
     ) -> Result<(), LineError>
-        requires stands { Stands progress.old }
+        requires stands { ProgressStands progress.old }
         requires early { CanTake progress.old.lines self }
         ensures { Takes result progress.new (unless_passed (limit_of (and_said (said_by progress.old) number self) self) (and_said (said_by progress.old) number self)) }
     {

@@ -26,7 +26,7 @@ use Rattle.kube_types.specs.Sources.{data_id_of}
 use Rattle.model_laws.proofs.Lists.{none_some}
 use Rattle.settle_measure.specs.Measure.{claim_left, completed_left, guard_left, has_offer, holds, is_awaited, is_fit, is_held_by, is_lost, life_left, offers, offers_claim, phase_left, stage_left, unless, volume_left, was_erased}
 use Rattle.settle_binding.specs.Pays.{MayTake}
-use Rattle.settle_measure.specs.Lowers.{Lowers, Stands, StandsClaim}
+use Rattle.settle_measure.specs.Lowers.{Lowers, StandsVolume, StandsClaim}
 use Rattle.settle_measure.proofs.Others.{AsGood, provision_less, any_in, as_good_put}
 use Rattle.settle_binding.proofs.Stages.{AllSafe, at_key, false_not, key_is, lowered, lowered_paid, no_carrier, rewritten, update_by, with_uid}
 use Rattle.settle_measure.proofs.Sums.{found_in}
@@ -61,7 +61,7 @@ no_uid v c t = by v.claim_ref refl t.open_to
     by (Some r) e (inl none) = none_some (sym none ∙ e)
     by (Some r) e (inr own) = ap ref_uid e ∙ by_uid r r.uid e refl own
 
-module _ (setup : Setup) (w : World) (kind : SeatKind) (v : VolumeData) (c : ClaimData) (s : Stands w v) (sc : StandsClaim w c) (t : MayTake v c) where
+module _ (setup : Setup) (w : World) (kind : SeatKind) (v : VolumeData) (c : ClaimData) (s : StandsVolume w v) (sc : StandsClaim w c) (t : MayTake v c) where
   -- the volume as it is written
   abbrev taken : VolumeData
   taken = rewritten v (taken_for v c) (w.store.version + 1)

@@ -34,7 +34,7 @@ use Rattle.model_laws.proofs.Lists.{IsIn, none_some, one}
 use Rattle.safety_invariant.specs.Writes.{IsLeaving, IsStatus, IsUpdate}
 use Rattle.settle_measure.specs.Measure.{claim_left, completed_left, guard_left, is_fit, is_seeking, life_left, was_erased, is_awaited, left_of, left_on, phase_left, seeks, stage_left, unless, volume_left}
 use Rattle.settle_binding.specs.Pays.{AvailablePays, BoundPays, ReleasePays, UnbindPays}
-use Rattle.settle_measure.specs.Lowers.{Lowers, Stands}
+use Rattle.settle_measure.specs.Lowers.{Lowers, StandsVolume}
 use Rattle.settle_measure.proofs.Entries.{Put, Took, came}
 use Rattle.settle_measure.proofs.Others.{Harmless}
 use Rattle.settle_measure.proofs.Sums.{stands}
@@ -65,7 +65,7 @@ claim_of a b e = ap (λ o. taken_out o) e
 abbrev pub AllSafe : World → VolumeData → VolumeData → Type 0
 AllSafe w v new = (c : ClaimData) → IsIn (Claim c) w.store.rows → Harmless v new c
 
-module _ (setup : Setup) (w : World) (kind : SeatKind) (v : VolumeData) (s : Stands w v) where
+module _ (setup : Setup) (w : World) (kind : SeatKind) (v : VolumeData) (s : StandsVolume w v) where
   pub key_is : key_of (Volume v) ≡ volume_key v.meta.name
   key_is = row_at_key (volume_key v.meta.name) (Volume v) w.store.rows s.there
 
@@ -374,7 +374,7 @@ phase_safe v p n c e = record {
   done = λ completed named. omega arith;
 }
 
-pub bound_write_pays : (setup : Setup) (w : World) (kind : SeatKind) (v : VolumeData) (uid : Uid) → Stands w v → ref_uid v.claim_ref ≡ Some uid → is_ended v.phase ≡ false → is_bound v.phase ≡ false → Lowers setup w kind (write_bound v) 1
+pub bound_write_pays : (setup : Setup) (w : World) (kind : SeatKind) (v : VolumeData) (uid : Uid) → StandsVolume w v → ref_uid v.claim_ref ≡ Some uid → is_ended v.phase ≡ false → is_bound v.phase ≡ false → Lowers setup w kind (write_bound v) 1
 bound_write_pays setup w kind v uid s has going fresh =
     let before = with_uid (is_awaited w.store.rows v.claim_ref) (ref_uid v.claim_ref) uid v.phase has in
     let after = with_uid (is_awaited w.store.rows v.claim_ref) (ref_uid v.claim_ref) uid volumes.Bound has in
@@ -448,7 +448,7 @@ free_stage a None p e f = by a (is_available p) f
     by false true e = omega arith
     by false false e = omega arith
 
-module _ (setup : Setup) (w : World) (kind : SeatKind) (v : VolumeData) (s : Stands w v) (a : IsAway w.store.rows v is_unbind_due) where
+module _ (setup : Setup) (w : World) (kind : SeatKind) (v : VolumeData) (s : StandsVolume w v) (a : IsAway w.store.rows v is_unbind_due) where
   unbind_away : (c : ClaimData) → IsIn (Claim c) w.store.rows → carries v c ≡ true → IsElsewhere v c
   unbind_away c i e = away_due v c (unbind_is_away _ (looked_up w.store.rows v is_unbind_due s.order a c i e))
 

@@ -27,22 +27,22 @@ use Rattle.binder_model.specs.Choice.{has_carrier}
 use Rattle.binder_model.specs.Matching.{eligible, has_match}
 use Rattle.binder_model.specs.World.{World}
 use Rattle.settle_measure.specs.Measure.{is_lost, is_seeking}
-use Rattle.settle_measure.specs.Lowers.{Lowers, Stands, StandsClaim}
+use Rattle.settle_measure.specs.Lowers.{Lowers, StandsVolume, StandsClaim}
 
 abbrev pub AvailablePays : Type 0
-AvailablePays = (setup : Setup) (w : World) (kind : SeatKind) (v : VolumeData) → Stands w v → volume_due w.store.rows v ≡ Some dues.Available → Lowers setup w kind (write_available v) 1
+AvailablePays = (setup : Setup) (w : World) (kind : SeatKind) (v : VolumeData) → StandsVolume w v → volume_due w.store.rows v ≡ Some dues.Available → Lowers setup w kind (write_available v) 1
 
-abbrev pub write_phase : VolumeData → VolumePhase → Request
-write_phase v phase = UpdateStatus (volume_key v.meta.name) (statuses.Volume phase) (Some v.meta.version)
+abbrev pub set_phase : VolumeData → VolumePhase → Request
+set_phase v phase = UpdateStatus (volume_key v.meta.name) (statuses.Volume phase) (Some v.meta.version)
 
 abbrev pub ReleasePays : Type 0
-ReleasePays = (setup : Setup) (w : World) (kind : SeatKind) (v : VolumeData) → Stands w v → volume_due w.store.rows v ≡ Some dues.Release → Lowers setup w kind (write_phase v volumes.Released) 1
+ReleasePays = (setup : Setup) (w : World) (kind : SeatKind) (v : VolumeData) → StandsVolume w v → volume_due w.store.rows v ≡ Some dues.Release → Lowers setup w kind (set_phase v volumes.Released) 1
 
 abbrev pub UnbindPays : Type 0
-UnbindPays = (setup : Setup) (w : World) (kind : SeatKind) (v : VolumeData) → Stands w v → volume_due w.store.rows v ≡ Some dues.Unbind → Lowers setup w kind (write_unbound v) 1
+UnbindPays = (setup : Setup) (w : World) (kind : SeatKind) (v : VolumeData) → StandsVolume w v → volume_due w.store.rows v ≡ Some dues.Unbind → Lowers setup w kind (write_unbound v) 1
 
 abbrev pub BoundPays : Type 0
-BoundPays = (setup : Setup) (w : World) (kind : SeatKind) (v : VolumeData) → Stands w v → volume_due w.store.rows v ≡ Some dues.Bound → Lowers setup w kind (write_bound v) 1
+BoundPays = (setup : Setup) (w : World) (kind : SeatKind) (v : VolumeData) → StandsVolume w v → volume_due w.store.rows v ≡ Some dues.Bound → Lowers setup w kind (write_bound v) 1
 
 -- the volume may be given to the claim: it has not ended, and its reference is absent or is the claim's without its UID
 pub record MayTake (v : VolumeData) (c : ClaimData) : Type 0 where
@@ -53,32 +53,32 @@ pub record MayTake (v : VolumeData) (c : ClaimData) : Type 0 where
 -- the binder takes the best volume for a claim that seeks one: one that is for the claim goes before one that is not
 abbrev pub MatchPays : Type 0
 MatchPays =
-    (setup : Setup) (w : World) (kind : SeatKind) (v : VolumeData) (c : ClaimData) → Stands w v → StandsClaim w c → is_seeking c ≡ true → eligible v c None ≡ true → carries v c ≡ false
+    (setup : Setup) (w : World) (kind : SeatKind) (v : VolumeData) (c : ClaimData) → StandsVolume w v → StandsClaim w c → is_seeking c ≡ true → eligible v c None ≡ true → carries v c ≡ false
     → ((u : VolumeData) → row_at (key_of (Volume u)) w.store.rows ≡ Some (Volume u) → eligible u c None ≡ true → is_for u c ≡ true → is_for v c ≡ true)
     → Lowers setup w kind (write_reference v c) 1
 
 -- the scheduler takes a volume for a claim that no volume carries
 abbrev pub PreparePays : Type 0
 PreparePays =
-    (setup : Setup) (w : World) (kind : SeatKind) (v : VolumeData) (c : ClaimData) (n : NodeData) → Stands w v → StandsClaim w c → is_seeking c ≡ true → eligible v c (Some n) ≡ true → has_carrier w.store.rows c ≡ false
+    (setup : Setup) (w : World) (kind : SeatKind) (v : VolumeData) (c : ClaimData) (n : NodeData) → StandsVolume w v → StandsClaim w c → is_seeking c ≡ true → eligible v c (Some n) ≡ true → has_carrier w.store.rows c ≡ false
     → Lowers setup w kind (write_reference v c) 1
 
 -- the claim names the volume, and is not completed
 abbrev pub NamedPays : Type 0
 NamedPays =
-    (setup : Setup) (w : World) (kind : SeatKind) (v : VolumeData) (c : ClaimData) → Stands w v → StandsClaim w c → is_completed c ≡ false → is_deleting c.meta ≡ false → is_empty c.volume_name ≡ false → c.volume_name ≡ v.meta.name
+    (setup : Setup) (w : World) (kind : SeatKind) (v : VolumeData) (c : ClaimData) → StandsVolume w v → StandsClaim w c → is_completed c ≡ false → is_deleting c.meta ≡ false → is_empty c.volume_name ≡ false → c.volume_name ≡ v.meta.name
     → named_due c (Some (Volume v)) ≡ Some dues.Bind → carries v c ≡ false → Lowers setup w kind (write_reference v c) 1
 
 -- the claim is completed, and its volume has no reference
 abbrev pub CompletedPays : Type 0
 CompletedPays =
-    (setup : Setup) (w : World) (kind : SeatKind) (v : VolumeData) (c : ClaimData) → Stands w v → StandsClaim w c → is_completed c ≡ true → c.volume_name ≡ v.meta.name → v.claim_ref ≡ None → next_write v c ≡ Some (write_reference v c)
+    (setup : Setup) (w : World) (kind : SeatKind) (v : VolumeData) (c : ClaimData) → StandsVolume w v → StandsClaim w c → is_completed c ≡ true → c.volume_name ≡ v.meta.name → v.claim_ref ≡ None → next_write v c ≡ Some (write_reference v c)
     → Lowers setup w kind (write_reference v c) 1
 
 -- the third write of a binding
 abbrev pub CompletionPays : Type 0
 CompletionPays =
-    (setup : Setup) (w : World) (kind : SeatKind) (v : VolumeData) (c : ClaimData) → Stands w v → StandsClaim w c → carries v c ≡ true → is_completed c ≡ false → is_deleting c.meta ≡ false
+    (setup : Setup) (w : World) (kind : SeatKind) (v : VolumeData) (c : ClaimData) → StandsVolume w v → StandsClaim w c → carries v c ≡ true → is_completed c ≡ false → is_deleting c.meta ≡ false
     → Lowers setup w kind (write_completion v c) 1
 
 -- the fourth write of a binding

@@ -14,7 +14,7 @@ use Rattle.reclaim_ops.specs.declared.provision.ProvisionOp.{ProvisionOp}
 use Rattle.reclaim_ops.specs.declared.provision.ProvisionStep.{ProvisionStep}
 use Rattle.reclaim_ops.specs.declared.provision.ProvisionStep.TheVariants as steps
 use Rattle.reclaim_ops.specs.Decisions.{claim_begins, claim_for}
-use Rattle.reclaim_ops.specs.DueLaw.{due_at, due_of}
+use Rattle.reclaim_ops.specs.DueLaw.{due_at, due_of_provision}
 use Rattle.reclaim_ops.specs.Provisions.{provision_call_at, provision_call}
 use Rattle.reclaim_ops.proofs.Dues.{begins_what_is_due}
 use Rattle.settle_check.specs.Steps.Asking.{call_due}
@@ -24,7 +24,7 @@ pub decided_for : (rows : List Object) (key stands_under : Key) (c : ClaimData) 
 decided_for rows key stands_under c op same at is = is ∙ ap (claim_begins rows) (ap (λ (k : Key). row_at k rows) same ∙ at)
 
 module _ (setup : Setup) (w : World) where
-  first_call : (op : ProvisionOp) → call_due setup w op.class.delayed (provision_call op) ≡ due_of setup w (Some op)
+  first_call : (op : ProvisionOp) → call_due setup w op.class.delayed (provision_call op) ≡ due_of_provision setup w (Some op)
   unfolding provision_call
   first_call op = by op.step
     where
@@ -38,12 +38,12 @@ module _ (setup : Setup) (w : World) where
   -- nothing begins
   pub none_begins : (s : State) (c : ClaimData) (op : Option ProvisionOp) → s ≡ w.store → op ≡ claim_for s.rows c → op ≡ None → None ≡ provision_due setup w c
   none_begins s c op same is none =
-      let here : None ≡ claim_for w.store.rows c = sym none ∙ is ∙ ap (λ (t : State). claim_for t.rows c) same in ap (due_of setup w) here ∙ begins_what_is_due setup w c
+      let here : None ≡ claim_for w.store.rows c = sym none ∙ is ∙ ap (λ (t : State). claim_for t.rows c) same in ap (due_of_provision setup w) here ∙ begins_what_is_due setup w c
 
   -- a machine begins, with its first call
   pub one_begins : (s : State) (c : ClaimData) (found : Option ProvisionOp) (op : ProvisionOp) → s ≡ w.store → found ≡ claim_for s.rows c → found ≡ Some op → call_due setup w op.class.delayed (provision_call op) ≡ provision_due setup w c
   one_begins s c found op same is some =
-      let here : Some op ≡ claim_for w.store.rows c = sym some ∙ is ∙ ap (λ (t : State). claim_for t.rows c) same in first_call op ∙ ap (due_of setup w) here ∙ begins_what_is_due setup w c
+      let here : Some op ≡ claim_for w.store.rows c = sym some ∙ is ∙ ap (λ (t : State). claim_for t.rows c) same in first_call op ∙ ap (due_of_provision setup w) here ∙ begins_what_is_due setup w c
 
   -- a completed claim wants nothing
   pub completed_wants_none : (c : ClaimData) → is_completed c ≡ true → None ≡ provision_due setup w c

@@ -1,6 +1,11 @@
 pub mod Asked
-pub mod LiveReads
+pub mod ClaimRows
+pub mod ClaimSays
+pub mod Listed
+pub mod Numbered
 pub mod Placed
 pub mod Preparing
 pub mod Scanned
 pub mod Settled
+pub mod VolumeRows
+pub mod VolumeSays

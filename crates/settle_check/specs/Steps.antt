@@ -1,3 +1,4 @@
 pub mod Asking
+pub mod OnStore
 pub mod Scan
 pub mod Searching

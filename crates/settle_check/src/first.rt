@@ -3,11 +3,17 @@
 ghost use Rattle.std.specs.Prelude.{◌≡◌, IfOk, Some};
 ghost use Rattle.kube_types.specs.Keys.{key_of, row_at};
 ghost use Rattle.binder_model.specs.Due.{IsDue, IsFirstDue};
-ghost use Rattle.settle_check.specs.WorldOf.{world_of};
+ghost use Rattle.settle_check.specs.ClaimDues.{claim_due_rows};
 ghost use Rattle.settle_check.specs.First.{first_key};
+ghost use Rattle.settle_check.specs.VolumeDues.{volume_due_rows};
+ghost use Rattle.settle_check.specs.WorldOf.{world_of};
 ghost use Rattle.settle_check.specs.Steps.Scan.{IsFirstIn, first_pair};
 
-use crate::objects::{due_of_claim, due_of_pod, due_of_volume};
+use crate::claim_table::claim_due_table;
+use crate::objects::{due_of_claim, due_of_pod};
+use crate::volume_table::volume_due_table;
+use crate::volumes::due_of_volume;
+use case_table::Table;
 use kube_types::copies::OutOfMemory;
 use kube_types::key::{Key, key_of};
 use kube_types::names::Due;
@@ -23,13 +29,21 @@ pub struct FirstDue<'a> {
 }
 
 /// What is due for the object, which stands in the store.
-fn object_due(alloc: Global, world: &World, object: &Object) -> Result<Option<Due>, OutOfMemory>
-    requires { row_at (key_of object.now) (world_of world.now).store.rows ≡ Some object.now }
+fn object_due(
+    alloc: Global,
+    world: &World,
+    object: &Object,
+    volumes: &Table<11, 21>,
+    claims: &Table<12, 18>,
+) -> Result<Option<Due>, OutOfMemory>
+    requires stands { row_at (key_of object.now) (world_of world.now).store.rows ≡ Some object.now }
+    requires volumes { volumes.now ≡ volume_due_rows }
+    requires claims { claims.now ≡ claim_due_rows }
     ensures { IfOk result (λ action. IsDue world.now.setup (world_of world.now) object.now action) }
 {
     match object {
-        Object::Volume(volume) => Ok(due_of_volume(world.store(), volume)),
-        Object::Claim(claim) => due_of_claim(alloc, world, claim),
+        Object::Volume(volume) => Ok(due_of_volume(world.store(), volume, volumes)),
+        Object::Claim(claim) => due_of_claim(alloc, world, claim, claims),
         Object::Pod(pod) => due_of_pod(alloc, world, pod),
         Object::Class(_) | Object::Node(_) => Ok(None),
     }
@@ -39,9 +53,11 @@ fn object_due(alloc: Global, world: &World, object: &Object) -> Result<Option<Du
 fn scan(alloc: Global, world: &World) -> Result<Option<FirstDue<'_>>, OutOfMemory>
     ensures { IfOk result (λ first. IsFirstIn (IsDue world.now.setup (world_of world.now)) (world_of world.now).store.rows (first_pair first)) }
 {
+    let volumes = volume_due_table();
+    let claims = claim_due_table();
     let objects = world.store().objects();
     for object in objects {
-        if let Some(action) = object_due(alloc, world, object)? {
+        if let Some(action) = object_due(alloc, world, object, &volumes, &claims)? {
             return Ok(Some(FirstDue { object, action }));
         }
     }

@@ -22,7 +22,7 @@ abbrev pub Lowers : Setup → World → SeatKind → Request → ℕ → Type 0
 Lowers setup w kind request n = (o : Object) → written_by (effect setup w kind request) ≡ Some o → left_of (world_after w (effect setup w kind request)) + n ≤ left_of w
 
 -- the volume stands, and is not one that has left
-pub record Stands (w : World) (v : VolumeData) : Type 0 where
+pub record StandsVolume (w : World) (v : VolumeData) : Type 0 where
   pub order : AreRows w.store.rows
   pub there : row_at (volume_key v.meta.name) w.store.rows ≡ Some (Volume v)
   pub stays : leaves (Volume v) ≡ false

@@ -17,6 +17,7 @@ use Rattle.kube_types.specs.Bindings.{pv_protection, pvc_protection}
 use Rattle.kube_types.specs.Uids.{uid_of_serial}
 use Rattle.binder_model.specs.BindWrites.{completed_with, taken_for, unbound_volume}
 use Rattle.binder_model.specs.Devices.{no_devices}
+use Rattle.binder_model.specs.Store.{no_modes}
 use Rattle.settle_measure.specs.Measure.{left_on}
 
 abbrev pub meta : List ℕ → List ℕ → ℕ → List (List ℕ) → Meta
@@ -25,9 +26,6 @@ meta namespace name serial finalizers =
 
 abbrev pub once : Modes
 once = record { rwo = true; rox = false; rwx = false; rwop = false }
-
-abbrev pub no_modes : Modes
-no_modes = record { rwo = false; rox = false; rwx = false; rwop = false }
 
 -- a volume of this name and so many bytes, with its finalizer
 abbrev pub volume_of : List ℕ → ℕ → Option Ref → VolumePhase → VolumeData
@@ -67,11 +65,11 @@ open_claim = claim_on []
 abbrev pub free : VolumePhase → VolumeData
 free = volume_of (codes "a") 5 None
 
-abbrev pub taken : VolumePhase → VolumeData
-taken phase = record (taken_for (free volumes.Available) open_claim) { phase = phase }
+abbrev pub taken_volume : VolumePhase → VolumeData
+taken_volume phase = record (taken_for (free volumes.Available) open_claim) { phase = phase }
 
 abbrev pub completed : ClaimData
-completed = completed_with open_claim (taken volumes.Bound)
+completed = completed_with open_claim (taken_volume volumes.Bound)
 
 abbrev pub shown : ClaimData
 shown = record completed { phase = claims.Bound; got_modes = once; got = Some (record { text = []; bytes = 5 }) }
@@ -87,13 +85,13 @@ left_with_two u v c = left_on (Volume u ∷ Volume v ∷ Claim c ∷ []) no_devi
 pub record FallsAsItBinds : Type 0 where
   pub is_fresh : left_with (free volumes.Pending) open_claim ≡ 21
   pub is_available : left_with (free volumes.Available) open_claim ≡ 20
-  pub is_taken : left_with (taken volumes.Available) open_claim ≡ 19
-  pub is_bound : left_with (taken volumes.Bound) open_claim ≡ 18
-  pub is_completed : left_with (taken volumes.Bound) completed ≡ 8
-  pub is_shown : left_with (taken volumes.Bound) shown ≡ 7
+  pub is_taken : left_with (taken_volume volumes.Available) open_claim ≡ 19
+  pub is_bound : left_with (taken_volume volumes.Bound) open_claim ≡ 18
+  pub is_completed : left_with (taken_volume volumes.Bound) completed ≡ 8
+  pub is_shown : left_with (taken_volume volumes.Bound) shown ≡ 7
 
 abbrev pub small : VolumeData
-small = record (volume_of (codes "b") 1 None volumes.Available) { claim_ref = (taken volumes.Available).claim_ref }
+small = record (volume_of (codes "b") 1 None volumes.Available) { claim_ref = (taken_volume volumes.Available).claim_ref }
 
 abbrev pub wide : VolumeData
 wide = volume_of (codes "b") 9 None volumes.Available
@@ -102,11 +100,11 @@ wide = volume_of (codes "b") 9 None volumes.Available
 -- where a good one carries it already, a second one is not taken, since what is left would rise
 pub record CountsOffers : Type 0 where
   pub beside_small : left_with_two (free volumes.Available) small open_claim ≡ 27
-  pub taken_beside_small : left_with_two (taken volumes.Available) small open_claim ≡ 26
-  pub beside_wide : left_with_two (taken volumes.Available) wide open_claim ≡ 23
-  pub taken_twice : left_with_two (taken volumes.Available) (taken_for wide open_claim) open_claim ≡ 26
+  pub taken_beside_small : left_with_two (taken_volume volumes.Available) small open_claim ≡ 26
+  pub beside_wide : left_with_two (taken_volume volumes.Available) wide open_claim ≡ 23
+  pub taken_twice : left_with_two (taken_volume volumes.Available) (taken_for wide open_claim) open_claim ≡ 26
 
 -- unbinding a volume of a completed claim raises what is left, and so does a phase taken back
 pub record RisesWhereItMust : Type 0 where
-  pub unbound : left_with (taken volumes.Bound) shown < left_with (unbound_volume (taken volumes.Bound)) shown
+  pub unbound : left_with (taken_volume volumes.Bound) shown < left_with (unbound_volume (taken_volume volumes.Bound)) shown
   pub taken_back : left_with (free volumes.Available) open_claim < left_with (free volumes.Pending) open_claim

@@ -29,7 +29,7 @@ use Rattle.kube_types.specs.Sources.{data_id_of}
 use Rattle.model_laws.proofs.Lists.{IsIn, one}
 use Rattle.safety_invariant.specs.Writes.{IsMark, IsUpdate}
 use Rattle.settle_measure.specs.Measure.{completed_left, guard_left, holds, is_awaited, is_fit, is_held_by, is_lost, left_of, left_on, life_left, offers, offers_claim, phase_left, unless, volume_left, was_erased}
-use Rattle.settle_measure.specs.Lowers.{Lowers, Stands}
+use Rattle.settle_measure.specs.Lowers.{Lowers, StandsVolume}
 use Rattle.settle_upkeep.specs.Pays.{ClaimGuardPays, ClaimUnguardPays, DeletePays, FailedPays, NoneIsCompletedOn, VolumeGuardPays, VolumeUnguardPays}
 use Rattle.settle_binding.proofs.Alike.{MetaAlike, binding_same, seeking_same}
 use Rattle.settle_measure.proofs.Aside.{Useless, claim_gone, as_good, gone_total, without_agrees}
@@ -99,7 +99,7 @@ volume_guard_pays setup w kind v s due =
 
 -- the finalizer is dropped
 
-module _ (setup : Setup) (w : World) (kind : SeatKind) (v : VolumeData) (s : Stands w v) where
+module _ (setup : Setup) (w : World) (kind : SeatKind) (v : VolumeData) (s : StandsVolume w v) where
   -- an update of the volume that stays or leaves
   pub update_either : (x : VolumeData) (given : Option ℕ) (n : ℕ) → key_of (Volume x) ≡ key_of (Volume v)
       → ((y : Effect) → Put w y (Volume (rewritten v x (w.store.version + 1))) → left_of (world_after w y) + n ≤ left_of w)

@@ -31,13 +31,13 @@ use Rattle.binder_model.specs.Devices.{Data, DeviceAnswer, device_answer, has_da
 use Rattle.binder_model.specs.Store.{at_version}
 use Rattle.binder_model.specs.World.{OnStore, World, effect, world_after}
 use Rattle.settle_measure.specs.Measure.{was_erased, is_seeking, left_of}
-use Rattle.settle_measure.specs.Lowers.{Lowers, Stands, StandsClaim, with_devices}
-use Rattle.settle_binding.specs.Pays.{write_phase}
+use Rattle.settle_measure.specs.Lowers.{Lowers, StandsVolume, StandsClaim, with_devices}
+use Rattle.settle_binding.specs.Pays.{set_phase}
 
 -- protection
 
 abbrev pub VolumeGuardPays : Type 0
-VolumeGuardPays = (setup : Setup) (w : World) (kind : SeatKind) (v : VolumeData) → Stands w v → volume_guard_due v ≡ Some dues.Guard → Lowers setup w kind (Update (Volume (record v { meta = guarded_meta pv_protection v.meta })) (Some v.meta.version)) 1
+VolumeGuardPays = (setup : Setup) (w : World) (kind : SeatKind) (v : VolumeData) → StandsVolume w v → volume_guard_due v ≡ Some dues.Guard → Lowers setup w kind (Update (Volume (record v { meta = guarded_meta pv_protection v.meta })) (Some v.meta.version)) 1
 
 -- no completed claim is carried by the volume that it names
 abbrev pub NoneIsCompletedOn : World → VolumeData → Type 0
@@ -46,7 +46,7 @@ NoneIsCompletedOn w v = (c : ClaimData) → row_at (key_of (Claim c)) w.store.ro
 -- where it stays for other finalizers, and where it leaves
 abbrev pub VolumeUnguardPays : Type 0
 VolumeUnguardPays =
-    (setup : Setup) (w : World) (kind : SeatKind) (v : VolumeData) → Stands w v → volume_guard_due v ≡ Some dues.Unguard → NoneIsCompletedOn w v
+    (setup : Setup) (w : World) (kind : SeatKind) (v : VolumeData) → StandsVolume w v → volume_guard_due v ≡ Some dues.Unguard → NoneIsCompletedOn w v
     → Lowers setup w kind (Update (Volume (record v { meta = unguarded_meta pv_protection v.meta })) (Some v.meta.version)) 1
 
 abbrev pub ClaimGuardPays : Type 0
@@ -57,11 +57,11 @@ ClaimUnguardPays = (setup : Setup) (w : World) (kind : SeatKind) (c : ClaimData)
 
 -- reclaiming: phase Failed over Released, and the deletion
 abbrev pub FailedPays : Type 0
-FailedPays = (setup : Setup) (w : World) (kind : SeatKind) (v : VolumeData) (uid : Uid) → Stands w v → ref_uid v.claim_ref ≡ Some uid → v.phase ≡ volumes.Released → Lowers setup w kind (write_phase v volumes.Failed) 1
+FailedPays = (setup : Setup) (w : World) (kind : SeatKind) (v : VolumeData) (uid : Uid) → StandsVolume w v → ref_uid v.claim_ref ≡ Some uid → v.phase ≡ volumes.Released → Lowers setup w kind (set_phase v volumes.Failed) 1
 
 abbrev pub DeletePays : Type 0
 DeletePays =
-    (setup : Setup) (w : World) (kind : SeatKind) (v : VolumeData) (given : Option Uid) → Stands w v → reclaim_due v ≡ Some dues.Reclaim → NoneIsCompletedOn w v
+    (setup : Setup) (w : World) (kind : SeatKind) (v : VolumeData) (given : Option Uid) → StandsVolume w v → reclaim_due v ≡ Some dues.Reclaim → NoneIsCompletedOn w v
     → Lowers setup w kind (Delete (volume_key v.meta.name) given) 1
 
 -- a provisioner makes the volume of a claim that seeks one

@@ -9,7 +9,7 @@ use Rattle.call_types.specs.declared.reply.Reply.TheVariants.{Done, Left, Refuse
 use Rattle.binder_model.specs.Devices.{Devices, no_devices}
 use Rattle.binder_model.specs.Store.{first_moment}
 use Rattle.binder_model.specs.World.{World}
-use Rattle.settle_measure.specs.Small.{free, open_claim, taken}
+use Rattle.settle_measure.specs.Small.{free, open_claim, taken_volume}
 use Rattle.write_law.specs.Lasting.{IsBackFault, IsLastingOnDevices, IsLastingWrite}
 use Rattle.alike_law.specs.Alike.{AreAlike}
 
@@ -27,7 +27,7 @@ with_erased d = record d { stored = (record { id = record { driver = codes "d"; 
 pub record LastingExamples : Type 0 where
   -- another phase, a new reference, a new object, one that left
   pub phase : IsLastingWrite (Volume (free volumes.Pending) ∷ []) (Done (Volume (at_nine (free volumes.Available))))
-  pub reference : IsLastingWrite (Volume (free volumes.Available) ∷ []) (Done (Volume (at_nine (taken volumes.Available))))
+  pub reference : IsLastingWrite (Volume (free volumes.Available) ∷ []) (Done (Volume (at_nine (taken_volume volumes.Available))))
   pub new_object : IsLastingWrite [] (Done (Claim open_claim))
   pub gone : IsLastingWrite (Claim open_claim ∷ []) (Left (Claim open_claim))
   pub erased : IsLastingOnDevices (with_data no_devices) (with_erased no_devices)

@@ -28,7 +28,7 @@ use Rattle.worker_threads.proofs.RoundFacts.{AreBuilt, roles_built, round_grows}
 use Rattle.worker_threads.proofs.RunFacts.{still_role, turn_role}
 use Rattle.slot_law.proofs.Slots.{older}
 use Rattle.cost_law.specs.Costs.{calls_for}
-use Rattle.short_law.specs.Rounds.{RoundsAreShort, all_left, names_in, size_of}
+use Rattle.short_law.specs.Rounds.{RoundsAreShort, all_left, names_in, size_of_world}
 use Rattle.short_law.specs.Slots.{PassesReads, slot_cost, writes_since}
 use Rattle.cost_law.specs.Tasks.{under_left}
 use Rattle.event_law.proofs.Sizes.{call_grows}
@@ -40,7 +40,7 @@ abbrev pub agent_cost : Setup → List Entry → ℕ
 agent_cost setup h = total (calls_for seats.Agent) (world setup h).store.rows
 
 -- no actor's cost is more than an agent's
-cheaper : (kind : SeatKind) (o : Object) → calls_for kind o ≤ calls_for seats.Agent o
+pub cheaper : (kind : SeatKind) (o : Object) → calls_for kind o ≤ calls_for seats.Agent o
 cheaper kind (Class x) = omega arith
 cheaper kind (Node x) = omega arith
 cheaper kind (Volume v) = omega arith
@@ -53,7 +53,7 @@ cheaper seats.Scheduler (Pod p) = omega arith
 cheaper seats.ClaimProtect (Pod p) = omega arith
 cheaper seats.VolumeProtect (Pod p) = omega arith
 
-total_less : (f g : Object → ℕ) (rows : List Object) → ((o : Object) → g o ≤ f o) → total g rows ≤ total f rows
+pub total_less : (f g : Object → ℕ) (rows : List Object) → ((o : Object) → g o ≤ f o) → total g rows ≤ total f rows
 total_less f g [] each = omega arith
 total_less f g (o ∷ os) each = let a = each o in let b = total_less f g os each in omega (arith, a, b)
 
@@ -65,7 +65,7 @@ sized (Volume v) = omega arith
 sized (Claim c) = omega arith
 sized (Pod p) = omega arith
 
-total_sized : (rows : List Object) → total (calls_for seats.Agent) rows ≤ 3 * total (λ o. 1 + names_in o) rows
+pub total_sized : (rows : List Object) → total (calls_for seats.Agent) rows ≤ 3 * total (λ o. 1 + names_in o) rows
 total_sized [] = omega arith
 total_sized (o ∷ os) = let a = sized o in let b = total_sized os in omega (arith, a, b)
 
@@ -127,4 +127,4 @@ module _ (setup : Setup) (lets : Lets) (passes : PassesReads lets) (past : List 
 pub rounds_are_short : RoundsAreShort
 rounds_are_short setup lets ds after h past b left whole roles history passes round =
     let sized_all = total_sized (world setup h).store.rows in
-    rounds setup lets passes past left history (size_of (world setup h)) (world setup h).store.version ds h b after whole round (roles_built (roles_of ds) roles) (omega arith) (omega (arith, sized_all))
+    rounds setup lets passes past left history (size_of_world (world setup h)) (world setup h).store.version ds h b after whole round (roles_built (roles_of ds) roles) (omega arith) (omega (arith, sized_all))

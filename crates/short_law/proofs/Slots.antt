@@ -39,7 +39,7 @@ use Rattle.worker_core.specs.declared.turn.Outcome.TheVariants.{Lost, Told}
 use Rattle.worker_core.specs.declared.turn.Pass.{Pass}
 use Rattle.worker_core.specs.Absorbs.{given_told, is_passing, learned, lost_given, lost_to, lost_under, pass_after, read_told, task_told, told_to, woken}
 use Rattle.worker_core.specs.Memories.{Memory}
-use Rattle.worker_core.specs.Roles.{IsBuiltKind, kind_at, kinds_of}
+use Rattle.worker_core.specs.Roles.{IsBuiltKind, kind_in_order, kinds_of}
 use Rattle.worker_core.specs.Stands.{AnyIsUnderWay, StandsFor}
 use Rattle.worker_core.specs.States.{ActorState, agent_start, asked, call_in, call_under, given_call, read_of_kind, read_request, start_call, start_of}
 use Rattle.worker_core.specs.Turns.{IsTurn, TurnBy, first_unlisted, is_listed, passing, unlisted}
@@ -74,7 +74,7 @@ use Rattle.pass_law.proofs.Told.{calls_pay}
 use Rattle.cost_law.proofs.Works.{put_off_cost}
 use Rattle.event_law.specs.Ahead.{Point, cost_at, from_of, kind_cost, sum_over}
 use Rattle.event_law.specs.Telling.{told}
-use Rattle.pass_law.specs.Passes.{HasReached, IsGiven, first_cost, second_cost, wait_cost}
+use Rattle.pass_law.specs.Passes.{KindsHaveReached, IsCallGiven, first_cost, second_cost, wait_cost}
 use Rattle.cost_law.specs.Ends.{done_by, start_left, starts_left}
 
 -- a call of the start is one that is not held back
@@ -141,7 +141,7 @@ first_low : (setup : Setup) (h : List Entry) → base_of setup ≤ (world setup 
 first_low setup h = subst (λ es. base_of setup ≤ (world setup es).store.version) (nil_right h) (rises setup h [])
 
 -- what was reached, after one call
-module _ (setup : Setup) (seat base : ℕ) (x : ActorState) (request : Request) (reply : Reply) (h : List Entry) (given : IsGiven setup seat x request reply h) (begun : base ≤ (world setup h).store.version) where
+module _ (setup : Setup) (seat base : ℕ) (x : ActorState) (request : Request) (reply : Reply) (h : List Entry) (given : IsCallGiven setup seat x request reply h) (begun : base ≤ (world setup h).store.version) where
   light_of : WritesLight x.role.kind reply
   light_of = by (given_so x request given.ask)
     where
@@ -204,7 +204,7 @@ turn_of s given request turn = by s.memory.stale s.under (start_call s.role s.me
 -- how far the pass goes on with one call
 data PassOn (seat : ℕ) (x next : ActorState) (entries : List Entry) (version : ℕ) : Type 0 where
   Stands : next.pass.behind ≡ x.pass.behind → PassOn seat x next entries version
-  GoesOn : (kind : Kind) → kind_at x.role x.pass.behind ≡ Some kind → from_of seat entries kind ≡ Some version → next.pass.behind ≡ x.pass.behind + 1 → PassOn seat x next entries version
+  GoesOn : (kind : Kind) → kind_in_order x.role x.pass.behind ≡ Some kind → from_of seat entries kind ≡ Some version → next.pass.behind ≡ x.pass.behind + 1 → PassOn seat x next entries version
 
 -- past the first pass
 
@@ -213,7 +213,7 @@ module _ (setup : Setup) (lets : Lets) (passes : PassesReads lets) (seat : ℕ) 
   high = (world setup past).store.version
 
   -- a call that was given and told
-  given_at : (s given : ActorState) (h : List Entry) (request : Request) (reply : Reply) → IsBuiltKind s.role.kind → IsReady seat s h → IsTurn s given (Call request) → IsHistory setup (told_entry seat given request reply ∷ h) → IsGiven setup seat given request reply h
+  given_at : (s given : ActorState) (h : List Entry) (request : Request) (reply : Reply) → IsBuiltKind s.role.kind → IsReady seat s h → IsTurn s given (Call request) → IsHistory setup (told_entry seat given request reply ∷ h) → IsCallGiven setup seat given request reply h
   given_at s given h request reply built ready turn whole = record {
     built = subst (λ (r : Role). IsBuiltKind r.kind) (sym (turn_role s given (Call request) turn)) built;
     stands = turn_stands s given (Call request) (own seat h) ready.rows ready.stands.told turn;
@@ -224,7 +224,7 @@ module _ (setup : Setup) (lets : Lets) (passes : PassesReads lets) (seat : ℕ) 
     passes = λ kind from eg is. watches_follow s given (Call request) kind from turn eg (ap Call is);
   }
 
-  pub second_pass : (s : ActorState) (h : List Entry) (b : ℕ) → Runs lets seat after past left idle s h b → IsBuiltKind s.role.kind → Point setup s.role.kind base m (world setup past).store.version h → HasReached base seat s.role.kind h → KnowsBehind setup seat s.role s.pass h
+  pub second_pass : (s : ActorState) (h : List Entry) (b : ℕ) → Runs lets seat after past left idle s h b → IsBuiltKind s.role.kind → Point setup s.role.kind base m (world setup past).store.version h → KindsHaveReached base seat s.role.kind h → KnowsBehind setup seat s.role s.pass h
       → b ≤ left + second_cost setup seat s.role.kind m (world setup past).store.version s h
   second_pass s h b (IsSpent none state entries rest busy) built at reached knows = omega (arith, none)
   second_pass s h b (IsIdle some ready turn entries rest calm) built at reached knows = omega (arith, rest)
@@ -241,7 +241,7 @@ module _ (setup : Setup) (lets : Lets) (passes : PassesReads lets) (seat : ℕ) 
       whole : IsHistory setup (told_entry seat given request reply ∷ h)
       whole = run_older setup lets seat after past left idle next _ _ more history
 
-      g : IsGiven setup seat given request reply h
+      g : IsCallGiven setup seat given request reply h
       g = given_at s given h request reply built ready turn whole
 
       short : (world setup (told_entry seat given request reply ∷ h)).store.version ≤ (world setup past).store.version
@@ -259,17 +259,17 @@ module _ (setup : Setup) (lets : Lets) (passes : PassesReads lets) (seat : ℕ) 
       given_point : Point setup given.role.kind base m (world setup past).store.version h
       given_point = subst (λ k. Point setup k base m (world setup past).store.version h) (sym given_kind) at
 
-      given_reached : HasReached base seat given.role.kind h
-      given_reached = subst (λ k. HasReached base seat k h) (sym given_kind) reached
+      given_reached : KindsHaveReached base seat given.role.kind h
+      given_reached = subst (λ k. KindsHaveReached base seat k h) (sym given_kind) reached
 
       next_at : Point setup next.role.kind base m (world setup past).store.version (told_entry seat given request reply ∷ h)
       next_at = subst (λ k. Point setup k base m (world setup past).store.version (told_entry seat given request reply ∷ h)) (given_kind ∙ sym next_kind)
           (point_on setup given.role.kind base m (world setup past).store.version (told_entry seat given request reply) h given_point short (light_of setup seat base given request reply h g at.begun) (world_moves setup (told_entry seat given request reply) h whole.1))
 
-      next_reached : HasReached base seat next.role.kind (told_entry seat given request reply ∷ h)
+      next_reached : KindsHaveReached base seat next.role.kind (told_entry seat given request reply ∷ h)
       next_reached kind from f is = reached_on setup seat base given request reply h g at.begun kind from (λ v e. reached kind v (ap (λ k. follows k kind) (sym next_kind) ∙ f) e) is
   second_pass s h b (IsHeld given next request some ready turn held absorbs more) built at reached knows =
-      let ih = second_pass next h (b - 1) more next_built (subst (λ k. Point setup k base m (world setup past).store.version h) (sym next_kind) at) (subst (λ k. HasReached base seat k h) (sym next_kind) reached) (lost_knows setup seat given next request h (turned_knows setup seat s given (Call request) h turn knows) absorbs) in
+      let ih = second_pass next h (b - 1) more next_built (subst (λ k. Point setup k base m (world setup past).store.version h) (sym next_kind) at) (subst (λ k. KindsHaveReached base seat k h) (sym next_kind) reached) (lost_knows setup seat given next request h (turned_knows setup seat s given (Call request) h turn knows) absorbs) in
       let turned = turn_cost setup seat m (world setup past).store.version s given request h turn (λ over. sees setup seat s h before ready.stands.told knows over) ready.stands.queue.taken in
       let some_left = t.some in
       let under : under_left given.under ≡ task_left t.under.task = ap under_left t.there in
@@ -293,7 +293,7 @@ module _ (setup : Setup) (lets : Lets) (passes : PassesReads lets) (seat : ℕ) 
   -- the first pass
 
   abbrev ReachedBehind : Role → Pass → List Entry → Type 0
-  ReachedBehind role pass h = (place : ℕ) (kind : Kind) (from : ℕ) → place < pass.behind → kind_at role place ≡ Some kind → from_of seat h kind ≡ Some from → base ≤ from
+  ReachedBehind role pass h = (place : ℕ) (kind : Kind) (from : ℕ) → place < pass.behind → kind_in_order role place ≡ Some kind → from_of seat h kind ≡ Some from → base ≤ from
 
   -- what comes after the first pass costs so much beside its writes
   abbrev after_cost : ℕ
@@ -363,7 +363,7 @@ module _ (setup : Setup) (lets : Lets) (passes : PassesReads lets) (seat : ℕ) 
               let c = mul_less (m + 7) (((world setup past).store.version - from) / 513) (((world setup past).store.version - base) / 513) (div_less ((world setup past).store.version - from) ((world setup past).store.version - base) (omega (arith, r))) in
               omega (arith, a, c)
 
-  pass_on : (x : ActorState) (request : Request) (reply : Reply) (h : List Entry) (given : IsGiven setup seat x request reply h) (caches : AllKnown) → PassOn seat x (told_to x caches request reply) (told_entry seat x request reply ∷ h) (world setup h).store.version
+  pass_on : (x : ActorState) (request : Request) (reply : Reply) (h : List Entry) (given : IsCallGiven setup seat x request reply h) (caches : AllKnown) → PassOn seat x (told_to x caches request reply) (told_entry seat x request reply ∷ h) (world setup h).store.version
   pass_on x request reply h given caches = by (given_so x request given.ask)
     where
       is_read : (kind : Kind) → x.given ≡ Some (givens.Read kind) → told_to x caches request reply ≡ read_told (learned x caches request reply) kind request reply
@@ -399,7 +399,7 @@ module _ (setup : Setup) (lets : Lets) (passes : PassesReads lets) (seat : ℕ) 
       by (GivesStart eg) = Stands (ap (λ (y : ActorState). y.pass.behind) (ap (given_told (learned x caches request reply) request reply) eg))
       by (GivesRead kind eg) = read_by kind eg (read_called setup seat x request reply h given kind eg).reads
 
-  reached_all : (role : Role) (pass : Pass) (h : List Entry) → ReachedBehind role pass h → kind_at role pass.behind ≡ None → HasReached base seat role.kind h
+  reached_all : (role : Role) (pass : Pass) (h : List Entry) → ReachedBehind role pass h → kind_in_order role pass.behind ≡ None → KindsHaveReached base seat role.kind h
   reached_all role pass h behind over kind from f is =
       let p = placed role.kind kind f in
       let within = p.within in
@@ -423,7 +423,7 @@ module _ (setup : Setup) (lets : Lets) (passes : PassesReads lets) (seat : ℕ) 
       whole : IsHistory setup (told_entry seat given request reply ∷ h)
       whole = run_older setup lets seat after past left idle next _ _ more history
 
-      g : IsGiven setup seat given request reply h
+      g : IsCallGiven setup seat given request reply h
       g = given_at s given h request reply built ready turn whole
 
       short : (world setup (told_entry seat given request reply ∷ h)).store.version ≤ (world setup past).store.version
@@ -451,8 +451,8 @@ module _ (setup : Setup) (lets : Lets) (passes : PassesReads lets) (seat : ℕ) 
       next_behind : s.pass ≡ given.pass → ReachedBehind next.role next.pass (told_entry seat given request reply ∷ h)
       next_behind same place kind from lt there is = on (pass_on given request reply h g next.caches)
         where
-          there_before : kind_at s.role place ≡ Some kind
-          there_before = ap (λ (r : Role). kind_at r place) (sym (next_role ∙ given_role)) ∙ there
+          there_before : kind_in_order s.role place ≡ Some kind
+          there_before = ap (λ (r : Role). kind_in_order r place) (sym (next_role ∙ given_role)) ∙ there
 
           kept : place < s.pass.behind → base ≤ from
           kept before = reached_on setup seat base given request reply h g at.begun kind from (λ f e. behind place kind f before there_before e) is
@@ -468,7 +468,7 @@ module _ (setup : Setup) (lets : Lets) (passes : PassesReads lets) (seat : ℕ) 
           on (GoesOn k at_k reached_k goes) = elim (at_or_before place given.pass.behind (let n = next_is in omega (arith, lt, goes, n))) [
             | inl before ↦ let sb = same_behind in kept (omega (arith, before, sb))
             | inr here ↦
-                let k_is : Some k ≡ Some kind = sym at_k ∙ (ap (kind_at given.role) (sym here) ∙ (ap (λ (r : Role). kind_at r place) (sym next_role) ∙ there)) in
+                let k_is : Some k ≡ Some kind = sym at_k ∙ (ap (kind_in_order given.role) (sym here) ∙ (ap (λ (r : Role). kind_in_order r place) (sym next_role) ∙ there)) in
                 let v = one (world setup h).store.version from (sym reached_k ∙ (ap (from_of seat (told_entry seat given request reply ∷ h)) (one k kind k_is) ∙ is)) in
                 let begun = at.begun in
                 omega (arith, v, begun)

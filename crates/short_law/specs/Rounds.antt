@@ -19,8 +19,8 @@ names_in (Pod p) = length p.claims
 names_in o = 0
 
 -- how many objects there are, and how many claims the pods name, each pod's counted by itself
-abbrev pub size_of : World → ℕ
-size_of w = total (λ o. 1 + names_in o) w.store.rows
+abbrev pub size_of_world : World → ℕ
+size_of_world w = total (λ o. 1 + names_in o) w.store.rows
 
 -- how many calls the actors still make of what they have under way
 abbrev pub all_left : List Drainer → ℕ
@@ -35,4 +35,4 @@ round_cost left actors size writes = 20 * writes + left + actors * ((3 * size + 
 abbrev pub RoundsAreShort : Type 0
 RoundsAreShort =
     (setup : Setup) (lets : Lets) (ds after : List Drainer) (h past : List Entry) (b left : ℕ) (whole : Bool) → AreRoles (roles_of ds) → IsHistory setup past → PassesReads lets
-    → IsRound lets past left ds h b after whole → b ≤ left + round_cost (all_left ds) (length ds) (size_of (world setup h)) (writes_since setup h past)
+    → IsRound lets past left ds h b after whole → b ≤ left + round_cost (all_left ds) (length ds) (size_of_world (world setup h)) (writes_since setup h past)

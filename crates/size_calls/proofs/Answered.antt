@@ -51,7 +51,7 @@ use Rattle.safety_invariant.proofs.Came.{row_was}
 use Rattle.safety_invariant.proofs.KeptBindings.{carries_on}
 use Rattle.binder_machines.specs.declared.machine.Machine.{Machine}
 use Rattle.binder_machines.specs.declared.machine.Machine.TheVariants.{Frees, Binds, MarksBound, ReadsClaim, Releases, Unbinds, ReadsVolume, AssignsClass, Loses}
-use Rattle.binder_machines.specs.Evidence.{Keeps, ToldThis, ToldThisClaim}
+use Rattle.binder_machines.specs.Evidence.{MachineKeeps, ToldThis, ToldThisClaim}
 use Rattle.binder_machines.specs.Machines.{bind_call, call_of, claim_read, confirmed_for, machine_for, may_bind, moved, unbound_to, volume_read}
 use Rattle.size_calls.proofs.Decided.{MachineSuits, for_suits}
 use Rattle.binder_machines.proofs.Tests.{empty_is}
@@ -287,7 +287,7 @@ moved_suits (ReadsVolume c) next (replies.Refused refusals.NotFound) t e = confi
 moved_suits (ReadsVolume c) next (replies.Found o) t e = confirmed_suits c (claim_read c (Some o)) next e
 moved_suits machine next reply t e = none_some e
 
-tells_carrying : (machine : Machine) (e : Entry) (before : List Entry) → IsAnswered e before → Keeps machine before → call_of machine ≡ Some e.request → TellsCarrying machine e.reply
+tells_carrying : (machine : Machine) (e : Entry) (before : List Entry) → IsAnswered e before → MachineKeeps machine before → call_of machine ≡ Some e.request → TellsCarrying machine e.reply
 unfolding call_of
 tells_carrying (Binds v c) e before a kept call =
     let o = is_open v c e.request call in (
@@ -304,6 +304,6 @@ tells_carrying (AssignsClass c x) e before a kept call = tt
 tells_carrying (Loses c) e before a kept call = tt
 
 -- what an answer makes of a machine suits
-pub goes_on_suits : (machine next : Machine) (e : Entry) (before : List Entry) → IsAnswered e before → Keeps machine before → call_of machine ≡ Some e.request
+pub goes_on_suits : (machine next : Machine) (e : Entry) (before : List Entry) → IsAnswered e before → MachineKeeps machine before → call_of machine ≡ Some e.request
     → moved machine e.reply ≡ Some next → MachineSuits next
 goes_on_suits machine next e before a kept call is = moved_suits machine next e.reply (tells_carrying machine e before a kept call) is

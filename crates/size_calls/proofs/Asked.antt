@@ -19,7 +19,7 @@ use Rattle.model_laws.proofs.Identity.{placed_same}
 use Rattle.model_laws.proofs.Lists.{none_some, one}
 use Rattle.binder_machines.specs.declared.machine.Machine.{Machine}
 use Rattle.binder_machines.specs.declared.machine.Machine.TheVariants.{Frees, Binds, MarksBound, ReadsClaim, Releases, Unbinds, ReadsVolume, AssignsClass, Loses}
-use Rattle.binder_machines.specs.Evidence.{Keeps, ToldThis, ToldThisClaim}
+use Rattle.binder_machines.specs.Evidence.{MachineKeeps, ToldThis, ToldThisClaim}
 use Rattle.binder_machines.specs.Machines.{call_of, may_bind, phase_call, read_of, write_class, write_phase}
 use Rattle.size_law.specs.Fitting.{GivesSo, GivesTo, IsGiven, Suits}
 use Rattle.size_calls.proofs.Decided.{MachineSuits, SuitsOrHas}
@@ -94,7 +94,7 @@ read_gives : (x : Option Ref) (mine : List Entry) (r : Request) → read_of x �
 read_gives None mine r e = none_some e
 read_gives (Some ref) mine r e = answered mine _ r e tt
 
-pub call_gives : (machine : Machine) (mine : List Entry) (r : Request) → Keeps machine mine → MachineSuits machine → call_of machine ≡ Some r → GivesSo mine r
+pub call_gives : (machine : Machine) (mine : List Entry) (r : Request) → MachineKeeps machine mine → MachineSuits machine → call_of machine ≡ Some r → GivesSo mine r
 unfolding call_of
 call_gives (Frees v) mine r kept suits e = phase_gives v volumes.Available mine r e
 call_gives (Binds v c) mine r kept suits e = tested mine (may_bind v c) (next_write v c) r (λ is. binding_gives v c mine r kept.0 kept.1 suits is) e

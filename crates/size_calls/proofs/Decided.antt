@@ -20,7 +20,7 @@ use Rattle.binder_model.specs.BinderDue.{has_other_uid}
 use Rattle.binder_model.specs.BindWrites.{next_write}
 use Rattle.binder_model.specs.Matching.{covers, fits, eligible, has_match, is_selected, is_admitted_on, may_serve}
 use Rattle.binder_model.specs.ObjectKeys.{volume_key}
-use Rattle.volume_match.specs.Volumes.{as_volume}
+use Rattle.kube_types.specs.VolumeIndex.{as_volume}
 use Rattle.volume_sync.specs.VolumeDecision.{volume_decision}
 use Rattle.volume_sync.specs.declared.action.VolumeAction.{VolumeAction}
 use Rattle.volume_sync.specs.declared.action.VolumeAction.TheVariants as actions

@@ -28,7 +28,7 @@ use Rattle.worker_core.specs.declared.turn.Next.{Next}
 use Rattle.worker_core.specs.declared.turn.Next.TheVariants.{Call}
 use Rattle.worker_core.specs.declared.turn.Outcome.TheVariants.{Lost, Told}
 use Rattle.worker_core.specs.Absorbs.{absorbed, given_told, is_passing, learned, lost_given, lost_under, pass_after, task_told}
-use Rattle.worker_core.specs.Roles.{IsBuiltKind, kind_at, kinds_of}
+use Rattle.worker_core.specs.Roles.{IsBuiltKind, kind_in_order, kinds_of}
 use Rattle.worker_core.specs.Stands.{AreLicensed, StandsFor}
 use Rattle.worker_core.specs.States.{ActorState, asked, read_of_kind, read_request}
 use Rattle.worker_core.specs.Turns.{IsTurn, passing}
@@ -70,15 +70,15 @@ module _ (setup : Setup) (seat : ℕ) (role : Role) (pass : Pass) (h : List Entr
   kept place kind lt at = knowledge_stays setup e h seat kind history mine told (knows place kind lt at)
 
   watched : (kind : Kind) (from : ℕ) → e.request ≡ requests.Watch kind from → WatchesFrom kind (own seat (e ∷ h)) → (reply : Reply) → e.reply ≡ reply
-      → KnowsBehind setup seat role (pass_after pass (is_passing (kind_at role pass.behind) kind) (requests.Watch kind from) reply) (e ∷ h)
-  watched kind from asks starts (replies.Events events) answered = λ place k lt at. by place k at (is_passing (kind_at role pass.behind) kind) (length events.events == most_events) refl refl lt
+      → KnowsBehind setup seat role (pass_after pass (is_passing (kind_in_order role pass.behind) kind) (requests.Watch kind from) reply) (e ∷ h)
+  watched kind from asks starts (replies.Events events) answered = λ place k lt at. by place k at (is_passing (kind_in_order role pass.behind) kind) (length events.events == most_events) refl refl lt
     where
-      this_kind : (place : ℕ) (k : Kind) → kind_at role place ≡ Some k → place ≡ pass.behind → is_passing (kind_at role pass.behind) kind ≡ true → k ≡ kind
+      this_kind : (place : ℕ) (k : Kind) → kind_in_order role place ≡ Some k → place ≡ pass.behind → is_passing (kind_in_order role pass.behind) kind ≡ true → k ≡ kind
       this_kind place k at here passing_ =
-          let there : kind_at role pass.behind ≡ Some k = ap (kind_at role) (sym here) ∙ at in
+          let there : kind_in_order role pass.behind ≡ Some k = ap (kind_in_order role) (sym here) ∙ at in
           alike k kind (sym (ap (λ o. is_passing o kind) there) ∙ passing_)
 
-      by : (place : ℕ) (k : Kind) → kind_at role place ≡ Some k → (p full : Bool) → is_passing (kind_at role pass.behind) kind ≡ p → (length events.events == most_events) ≡ full
+      by : (place : ℕ) (k : Kind) → kind_in_order role place ≡ Some k → (p full : Bool) → is_passing (kind_in_order role pass.behind) kind ≡ p → (length events.events == most_events) ≡ full
           → place < (if p && not full then pass.behind + 1 else pass.behind) → KnowsKind setup (e ∷ h) seat k
       by place k at true false is_passing_ full lt = elim (at_or_before place pass.behind lt) [
         | inl before ↦ kept place k before at
@@ -90,12 +90,12 @@ module _ (setup : Setup) (seat : ℕ) (role : Role) (pass : Pass) (h : List Entr
 
   -- by what was given
   read : (caches : AllKnown) (kind : Kind) → e.request ≡ read_of_kind caches kind → ((from : ℕ) → e.request ≡ requests.Watch kind from → WatchesFrom kind (own seat (e ∷ h)))
-      → KnowsBehind setup seat role (pass_after pass (is_passing (kind_at role pass.behind) kind) e.request e.reply) (e ∷ h)
+      → KnowsBehind setup seat role (pass_after pass (is_passing (kind_in_order role pass.behind) kind) e.request e.reply) (e ∷ h)
   read caches kind is starts = by (ask_of (cache_of kind caches)) is
     where
-      by : (a : Ask) → e.request ≡ read_request kind a → KnowsBehind setup seat role (pass_after pass (is_passing (kind_at role pass.behind) kind) e.request e.reply) (e ∷ h)
-      by asks.List at = subst (λ r. KnowsBehind setup seat role (pass_after pass (is_passing (kind_at role pass.behind) kind) r e.reply) (e ∷ h)) (sym at) kept
-      by (asks.Watch from) at = subst (λ r. KnowsBehind setup seat role (pass_after pass (is_passing (kind_at role pass.behind) kind) r e.reply) (e ∷ h)) (sym at) (watched kind from at (starts from at) e.reply refl)
+      by : (a : Ask) → e.request ≡ read_request kind a → KnowsBehind setup seat role (pass_after pass (is_passing (kind_in_order role pass.behind) kind) e.request e.reply) (e ∷ h)
+      by asks.List at = subst (λ r. KnowsBehind setup seat role (pass_after pass (is_passing (kind_in_order role pass.behind) kind) r e.reply) (e ∷ h)) (sym at) kept
+      by (asks.Watch from) at = subst (λ r. KnowsBehind setup seat role (pass_after pass (is_passing (kind_in_order role pass.behind) kind) r e.reply) (e ∷ h)) (sym at) (watched kind from at (starts from at) e.reply refl)
 
 pass_of : ActorState → Pass
 pass_of s = s.pass

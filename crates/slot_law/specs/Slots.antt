@@ -19,7 +19,7 @@ use Rattle.worker_core.specs.declared.role.Role.{Role}
 use Rattle.worker_core.specs.declared.task.Under.{Under}
 use Rattle.worker_core.specs.declared.task.First.{First}
 use Rattle.worker_core.specs.Absorbs.{woken}
-use Rattle.worker_core.specs.Roles.{IsBuiltKind, kind_at}
+use Rattle.worker_core.specs.Roles.{IsBuiltKind, kind_in_order}
 use Rattle.worker_core.specs.States.{ActorState, waits}
 use Rattle.worker_core.specs.Tasks.{GivesCall, GivesNone, under_after}
 use Rattle.worker_core.specs.Turns.{passing}
@@ -35,7 +35,7 @@ SeesStore setup s h = (key : Key) → follows s.role.kind key.kind ≡ true → 
 
 -- the seat knows the kinds that the pass has behind it
 abbrev pub KnowsBehind : Setup → ℕ → Role → Pass → List Entry → Type 0
-KnowsBehind setup seat role pass h = (place : ℕ) (kind : Kind) → place < pass.behind → kind_at role place ≡ Some kind → KnowsKind setup h seat kind
+KnowsBehind setup seat role pass h = (place : ℕ) (kind : Kind) → place < pass.behind → kind_in_order role place ≡ Some kind → KnowsKind setup h seat kind
 
 -- wherever a slot comes to, its budget spent or not: past its pass the actor sees the store. So its decisions rest on the store
 abbrev pub PassedSeeTheStore : Type 0

@@ -3,7 +3,7 @@ use Rattle.std.proofs.Common.{◌≡◌, Bool, true, false, true≢false, ◌||�
 use Rattle.std.specs.List.{list_any}
 use Rattle.kube_types.specs.declared.key.Key.{Key}
 use Rattle.sync_queue.specs.declared.lanes.Stage.{Stage}
-use Rattle.sync_queue.specs.declared.lanes.Stage.TheVariants.{Waiting, Again, Parked}
+use Rattle.sync_queue.specs.declared.lanes.Stage.TheVariants.{Waiting, Again, Parked, Gone}
 use Rattle.sync_queue.specs.declared.lanes.Stage.TheVariants.{Taken as Begun}
 use Rattle.kube_types.specs.Keys.{same_key}
 use Rattle.sync_queue.specs.Work.{Work, AreOnce, StandsOnce, without_waiting, queued, put_aside, marked, unparked, released, begun}
@@ -18,6 +18,7 @@ taken_alone (Some Waiting) h = absurd (true≢false (sym h))
 taken_alone (Some Begun) h = (refl, refl)
 taken_alone (Some Again) h = (refl, refl)
 taken_alone (Some Parked) h = absurd (true≢false (sym h))
+taken_alone (Some Gone) h = absurd (true≢false (sym h))
 
 parked_alone : (x : Option Stage) → is_parked x ≡ true → (is_waiting x ≡ false) × (is_taken x ≡ false)
 parked_alone None h = absurd (true≢false (sym h))
@@ -25,6 +26,7 @@ parked_alone (Some Waiting) h = absurd (true≢false (sym h))
 parked_alone (Some Begun) h = absurd (true≢false (sym h))
 parked_alone (Some Again) h = absurd (true≢false (sym h))
 parked_alone (Some Parked) h = (refl, refl)
+parked_alone (Some Gone) h = absurd (true≢false (sym h))
 
 waiting_alone : (x : Option Stage) → is_waiting x ≡ true → (is_taken x ≡ false) × (is_parked x ≡ false)
 waiting_alone None h = absurd (true≢false (sym h))
@@ -32,6 +34,19 @@ waiting_alone (Some Waiting) h = (refl, refl)
 waiting_alone (Some Begun) h = absurd (true≢false (sym h))
 waiting_alone (Some Again) h = absurd (true≢false (sym h))
 waiting_alone (Some Parked) h = absurd (true≢false (sym h))
+waiting_alone (Some Gone) h = absurd (true≢false (sym h))
+
+-- a key that stands on no list
+pub record IsAway (x : Option Stage) : Type 0 where
+  pub waiting : is_waiting x ≡ false
+  pub taken : is_taken x ≡ false
+  pub parked : is_parked x ≡ false
+
+pub away_none : (x : Option Stage) → x ≡ None → IsAway x
+away_none x e = subst IsAway (sym e) (record { waiting = refl; taken = refl; parked = refl })
+
+pub away_gone : (x : Option Stage) → x ≡ Some Gone → IsAway x
+away_gone x e = subst IsAway (sym e) (record { waiting = refl; taken = refl; parked = refl })
 
 -- the lists are sound, and stand for this work
 pub record Moved (after : Key → Option Stage) (ws ts ps : List Key) (w : Work) : Type 0 where
@@ -39,15 +54,15 @@ pub record Moved (after : Key → Option Stage) (ws ts ps : List Key) (w : Work)
   pub work : work_of after ws ts ps ≡ w
 
 module _ (stage after : Key → Option Stage) (k : Key) (ws ts ps : List Key) (sound : AreLanes stage ws ts ps) where
-  pub admit-moved : IsSet stage k (Some Waiting) after → stage k ≡ None → (ws' : List Key) → ws' ≡ ws ++ k ∷ [] → Moved after ws' ts ps (queued k (work_of stage ws ts ps))
-  admit-moved set none ws' e =
+  pub admit-moved : IsSet stage k (Some Waiting) after → IsAway (stage k) → (ws' : List Key) → ws' ≡ ws ++ k ∷ [] → Moved after ws' ts ps (queued k (work_of stage ws ts ps))
+  admit-moved set away ws' e =
       let move : Moved after (ws ++ k ∷ []) ts ps (queued k (work_of stage ws ts ps)) = record {
         lanes = record {
-          waiting = lane-push stage after k (Some Waiting) set is_waiting ws (ap is_waiting none) refl sound.waiting;
-          taken = lane-kept stage after k (Some Waiting) set is_taken ts (ap is_taken none) sound.taken;
-          parked = lane-kept stage after k (Some Waiting) set is_parked ps (ap is_parked none) sound.parked;
+          waiting = lane-push stage after k (Some Waiting) set is_waiting ws away.waiting refl sound.waiting;
+          taken = lane-kept stage after k (Some Waiting) set is_taken ts away.taken sound.taken;
+          parked = lane-kept stage after k (Some Waiting) set is_parked ps away.parked sound.parked;
         };
-        work = ap (λ ms. record { waiting = ws ++ k ∷ []; taken = ms; parked = ps }) (marks-other stage after k (Some Waiting) set ts (sound.taken.says k ∙ ap is_taken none));
+        work = ap (λ ms. record { waiting = ws ++ k ∷ []; taken = ms; parked = ps }) (marks-other stage after k (Some Waiting) set ts (sound.taken.says k ∙ away.taken));
       } in
       subst (λ vs. Moved after vs ts ps (queued k (work_of stage ws ts ps))) (sym e) move
 
@@ -102,16 +117,16 @@ module _ (stage after : Key → Option Stage) (k : Key) (ws ts ps : List Key) (s
       } in
       subst (λ vs. Moved after ws vs ps' (put_aside k (released k (work_of stage ws ts ps)))) (sym e) (subst (λ vs. Moved after ws (without_waiting (same_key k) ts) vs (put_aside k (released k (work_of stage ws ts ps)))) (sym f) move)
 
-  pub release-moved : IsSet stage k None after → is_taken (stage k) ≡ true → (ts' : List Key) → ts' ≡ without_waiting (same_key k) ts → Moved after ws ts' ps (released k (work_of stage ws ts ps))
+  pub release-moved : IsSet stage k (Some Gone) after → is_taken (stage k) ≡ true → (ts' : List Key) → ts' ≡ without_waiting (same_key k) ts → Moved after ws ts' ps (released k (work_of stage ws ts ps))
   release-moved set at ts' e =
       let other = taken_alone (stage k) at in
       let move : Moved after ws (without_waiting (same_key k) ts) ps (released k (work_of stage ws ts ps)) = record {
         lanes = record {
-          waiting = lane-kept stage after k None set is_waiting ws other.0 sound.waiting;
-          taken = lane-drop stage after k None set is_taken ts refl sound.taken;
-          parked = lane-kept stage after k None set is_parked ps other.1 sound.parked;
+          waiting = lane-kept stage after k (Some Gone) set is_waiting ws other.0 sound.waiting;
+          taken = lane-drop stage after k (Some Gone) set is_taken ts refl sound.taken;
+          parked = lane-kept stage after k (Some Gone) set is_parked ps other.1 sound.parked;
         };
-        work = ap (λ ms. record { waiting = ws; taken = ms; parked = ps }) (marks-drop stage after k None set ts sound.taken.once);
+        work = ap (λ ms. record { waiting = ws; taken = ms; parked = ps }) (marks-drop stage after k (Some Gone) set ts sound.taken.once);
       } in
       subst (λ vs. Moved after ws vs ps (released k (work_of stage ws ts ps))) (sym e) move
 

@@ -1,10 +1,8 @@
 -- What stands at the place that a search finds.
-use Rattle.std.proofs.Common.{◌≡◌, ℕ, ◌+◌, ◌<◌, zero, suc, Bool, true, false, true≢false, not, cond, ◌||◌, List, [], ◌∷◌, length, take, Some, slice_get, position, refl, sym, ap, subst, ◌∙◌, arith}
-use Rattle.std.specs.List.{position_or_len, list_any}
-use Rattle.std.specs.Prelude.{remove, slice_index_or}
+use Rattle.std.proofs.Common.{◌≡◌, ℕ, ◌+◌, ◌<◌, suc, Bool, true, false, true≢false, not, cond, ◌||◌, List, [], ◌∷◌, length, Some, slice_get, position, refl, sym, subst, arith}
+use Rattle.std.specs.List.{position_or_len}
 use Rattle.std.specs.Map.{keys_of}
 use Rattle.indexmap.proofs.MapLemmas.{Found-position}
-use Rattle.sync_queue.specs.Work.{without_waiting}
 
 module _ {K X : Type 0} (t : K → Bool) where
   -- the entry at the place passes the test
@@ -30,12 +28,3 @@ module _ {K X : Type 0} (t : K → Bool) where
 pub or_false : (a b : Bool) → (a || b) ≡ false → (a ≡ false) × (b ≡ false)
 or_false true b h = absurd (true≢false h)
 or_false false b h = (refl, h)
-
-module _ {X : Type 0} (p : X → Bool) where
-  -- the item at the first place that passes is the one that `without_waiting` leaves out
-  pub remove-first : (xs : List X) (i : ℕ) → list_any p (take i xs) ≡ false → i < length xs → ((d : X) → p (slice_index_or xs i d) ≡ true) → remove xs i ≡ without_waiting p xs
-  remove-first [] i before within at = absurd (omega arith)
-  remove-first (x ∷ xs) zero before within at = sym (ap (λ b. cond b xs (x ∷ without_waiting p xs)) (at x))
-  remove-first (x ∷ xs) (suc i) before within at =
-      let h = or_false (p x) (list_any p (take i xs)) before in
-      ap (λ ys. x ∷ ys) (remove-first xs i h.1 (omega arith) at) ∙ sym (ap (λ b. cond b xs (x ∷ without_waiting p xs)) h.0)

@@ -1,5 +1,5 @@
 -- What each call does to the work, by the stage of its key.
-use Rattle.std.proofs.Common.{◌≡◌, ◌<◌, true, false, true≢false, cond, List, [], ◌∷◌, length, Option, Some, None, is_some, refl, sym, ap, ◌∙◌, append_assoc, append-nil, arith}
+use Rattle.std.proofs.Common.{◌≡◌, ◌<◌, Bool, true, false, true≢false, cond, List, [], ◌∷◌, length, Option, Some, None, is_some, refl, sym, ap, ◌∙◌, append_assoc, append-nil, arith}
 use Rattle.std.specs.Prelude.{if◌then◌else◌}
 use Rattle.kube_types.specs.declared.key.Key.{Key}
 use Rattle.sync_queue.specs.declared.lanes.Stage.{Stage}
@@ -16,13 +16,26 @@ module _ (stage : Key → Option Stage) (k : Key) (ws ts ps : List Key) (sound :
       let waiting = sound.waiting.says k ∙ ap is_waiting at in
       λ i. if taken i then marked k w else if waiting i then w else queued k (unparked k w)
 
-  pub finished-at : finished k (work_of stage ws ts ps) ≡ done_by (cond (is_taken s) (Some (is_again s)) None) k (work_of stage ws ts ps)
+  finished-at : finished k (work_of stage ws ts ps) ≡ done_by (cond (is_taken s) (Some (is_again s)) None) k (work_of stage ws ts ps)
   finished-at =
       ap (λ m. done_by m k (work_of stage ws ts ps)) (mark_of-marks stage k ts ∙ (ap (λ b. cond b (Some (is_again (stage k))) None) (sound.taken.says k) ∙ ap (λ x. cond (is_taken x) (Some (is_again x)) None) at))
 
-  pub put_off-at : put_off k (work_of stage ws ts ps) ≡ retry_by (cond (is_taken s) (Some (is_again s)) None) k (work_of stage ws ts ps)
+  -- a taken key, by whether it is marked, and any other key
+  pub finished-taken : (b : Bool) → is_taken s ≡ true → is_again s ≡ b → finished k (work_of stage ws ts ps) ≡ done_by (Some b) k (work_of stage ws ts ps)
+  finished-taken b taken again = finished-at ∙ (ap (λ x. done_by (cond x (Some (is_again s)) None) k (work_of stage ws ts ps)) taken ∙ ap (λ x. done_by (Some x) k (work_of stage ws ts ps)) again)
+
+  pub finished-other : is_taken s ≡ false → finished k (work_of stage ws ts ps) ≡ work_of stage ws ts ps
+  finished-other taken = finished-at ∙ ap (λ x. done_by (cond x (Some (is_again s)) None) k (work_of stage ws ts ps)) taken
+
+  put_off-at : put_off k (work_of stage ws ts ps) ≡ retry_by (cond (is_taken s) (Some (is_again s)) None) k (work_of stage ws ts ps)
   put_off-at =
       ap (λ m. retry_by m k (work_of stage ws ts ps)) (mark_of-marks stage k ts ∙ (ap (λ b. cond b (Some (is_again (stage k))) None) (sound.taken.says k) ∙ ap (λ x. cond (is_taken x) (Some (is_again x)) None) at))
+
+  pub put_off-taken : (b : Bool) → is_taken s ≡ true → is_again s ≡ b → put_off k (work_of stage ws ts ps) ≡ retry_by (Some b) k (work_of stage ws ts ps)
+  put_off-taken b taken again = put_off-at ∙ (ap (λ x. retry_by (cond x (Some (is_again s)) None) k (work_of stage ws ts ps)) taken ∙ ap (λ x. retry_by (Some x) k (work_of stage ws ts ps)) again)
+
+  pub put_off-other : is_taken s ≡ false → put_off k (work_of stage ws ts ps) ≡ work_of stage ws ts ps
+  put_off-other taken = put_off-at ∙ ap (λ x. retry_by (cond x (Some (is_again s)) None) k (work_of stage ws ts ps)) taken
 
   -- a key that is not parked
   pub unparked-none : is_parked s ≡ false → unparked k (work_of stage ws ts ps) ≡ work_of stage ws ts ps

@@ -1,18 +1,22 @@
-//! The parts of a queue: the map of stages, and the lists of keys.
+//! The parts of a queue: the map of stages, and the lists of places in it.
 
-ghost use Rattle.std.specs.Prelude.{◌≡◌, ◌+◌, ◌<◌, ◌≤◌, ◌++◌, [], ◌∷◌, Some, None, IsTrue, OnOk, OnErr, is_some, false, true, take, slice_index_or};
+ghost use Rattle.std.specs.Prelude.{◌≡◌, ◌+◌, ◌<◌, ◌≤◌, ◌++◌, [], ◌∷◌, Some, None, IfSome, IfNone, IsTrue, OnOk, OnErr, is_some, false, true, length, remove, slice_get};
 ghost use Rattle.kube_types.specs.declared.key.Key.{Key};
 ghost use Rattle.std.specs.List.{list_any};
+ghost use Rattle.std.specs.Option.{option_map};
 ghost use Rattle.std.specs.VecDeque.{deque_len, deque_capacity};
-ghost use Rattle.indexmap.specs.IndexMap.{get, ContainsKey};
+ghost use Rattle.indexmap.specs.IndexMap.{get, keys};
 ghost use Rattle.kube_types.specs.Keys.{same_key};
-ghost use Rattle.sync_queue.specs.Steps.Lanes.{woken_first, IsSet, IsSound, HasRoomForOne, is_taken, is_parked, stage_in, work_in};
+ghost use Rattle.sync_queue.specs.declared.lanes.Stage.TheVariants as stages;
+ghost use Rattle.sync_queue.specs.Steps.Lanes.{woken_first, IsSet, IsSound, HasRoomForOne, is_again, is_parked, is_taken, key_in, stage_in, taken_in, work_in};
+ghost use Rattle.sync_queue.specs.Steps.Places.{AreBelow, key_there, keys_at};
 ghost use Rattle.sync_queue.specs.Work.{without_waiting, no_work, queued, put_aside, marked, unparked, released, oldest_of, begun};
 
-use crate::slot::Slot;
+use crate::slot::{Asked, Slot};
 use indexmap::IndexMap;
-use kube_types::key::{Key, same_key};
-use plain_data::copies::{OutOfMemory, Plain};
+use kube_types::key::Key;
+use plain_data::copies::OutOfMemory;
+use plain_data::shared::Shared;
 use std::alloc::Global;
 use std::collections::VecDeque;
 
@@ -24,18 +28,20 @@ pub(crate) enum Stage {
     /// Taken, and added again since.
     Again,
     Parked,
+    /// On none: the key was let go.
+    Gone,
 }
 
-/// All keys of a queue. The map owns them.
-pub(crate) type Stages = IndexMap<Slot<'static>, Stage>;
+/// All keys that were added, and the stage of each. The map owns the keys, and none leaves its place.
+pub(crate) type Stages = IndexMap<Slot, Stage>;
 
-/// The keys of a queue: the stage of each, and the lists on which they stand. Each list has room
-/// for all keys, so that a key goes from one to another without memory.
+/// The keys of a queue: the stage of each, and the lists of their places in the map. Each list has room
+/// for all keys that stand on one, so that a key goes from one to another without memory.
 pub(crate) struct Lanes {
     pub stages: Stages,
-    pub waiting: VecDeque<Key>,
-    pub taken: VecDeque<Key>,
-    pub parked: VecDeque<Key>,
+    pub waiting: VecDeque<usize>,
+    pub taken: VecDeque<usize>,
+    pub parked: VecDeque<usize>,
 }
 
 impl Drop for Lanes {
@@ -66,6 +72,16 @@ impl Lanes {
         }
     }
 
+    /// The place of a key in the map, and its stage, in constant time.
+    pub(crate) fn find(&self, key: &Asked<'_>) -> Option<(usize, Stage)>
+        ensures stage { option_map (λ found. found.1) result ≡ stage_in self.now key.now }
+        ensures key { IfSome result (λ found. key_in self.now found.0 ≡ key.now) }
+        ensures within { IfSome result (λ found. found.0 < length (keys self.now.stages)) }
+    {
+        let place = self.stages.get_index_of(key)?;
+        Some((place, self.stages[place]))
+    }
+
     /// Makes each list have room for one key more.
     fn make_room(&mut self) -> Result<(), OutOfMemory>
         requires { IsSound self.old }
@@ -82,92 +98,140 @@ impl Lanes {
     }
 
     /// Puts a new key last on the waiting list.
-    pub(crate) fn admit(&mut self, alloc: Global, key: &Key) -> Result<(), OutOfMemory>
+    pub(crate) fn admit(&mut self, alloc: Global, key: &Asked<'_>) -> Result<(), OutOfMemory>
         requires sound { IsSound self.old }
         requires absent { stage_in self.old key.now ≡ None }
         ensures sound { IsSound self.new }
         ensures ok { OnOk result (work_in self.new ≡ queued key.now (work_in self.old)) }
         ensures err { OnErr result (work_in self.new ≡ work_in self.old) }
     {
-        let owned = Slot::own(key.copy(alloc)?);
-        let listed = key.copy(alloc)?;
+        let owned = Slot::new(alloc, key)?;
         self.make_room()?;
+        let place = self.stages.len();
         self.stages.insert(owned, Stage::Waiting)?;
-        put_last(&mut self.waiting, listed);
+        put_last(&mut self.waiting, place);
+        Ok(())
+    }
+
+    /// Puts a key that was let go last on the waiting list.
+    pub(crate) fn readmit(&mut self, place: usize) -> Result<(), OutOfMemory>
+        requires sound { IsSound self.old }
+        requires within { place < length (keys self.old.stages) }
+        requires gone { stage_in self.old (key_in self.old place) ≡ Some stages.Gone }
+        ensures sound { IsSound self.new }
+        ensures ok { OnOk result (work_in self.new ≡ queued (key_in self.old place) (work_in self.old)) }
+        ensures err { OnErr result (work_in self.new ≡ work_in self.old) }
+    {
+        self.make_room()?;
+        set_stage(&mut self.stages, place, Stage::Waiting);
+        put_last(&mut self.waiting, place);
         Ok(())
     }
 
     /// Marks a taken key, so that it comes again.
-    pub(crate) fn mark(&mut self, key: &Key)
+    pub(crate) fn mark(&mut self, place: usize)
         requires sound { IsSound self.old }
-        requires taken { is_taken (stage_in self.old key.now) ≡ true }
+        requires within { place < length (keys self.old.stages) }
+        requires taken { is_taken (stage_in self.old (key_in self.old place)) ≡ true }
         ensures sound { IsSound self.new }
-        ensures work { work_in self.new ≡ marked key.now (work_in self.old) }
+        ensures work { work_in self.new ≡ marked (key_in self.old place) (work_in self.old) }
     {
-        set_stage(&mut self.stages, key, Stage::Again);
+        set_stage(&mut self.stages, place, Stage::Again);
     }
 
     /// Puts a parked key last on the waiting list.
-    pub(crate) fn unpark(&mut self, key: &Key)
+    pub(crate) fn unpark(&mut self, key: &Asked<'_>)
         requires sound { IsSound self.old }
         requires parked { is_parked (stage_in self.old key.now) ≡ true }
         ensures sound { IsSound self.new }
         ensures work { work_in self.new ≡ queued key.now (unparked key.now (work_in self.old)) }
     {
-        let own = take_out(&mut self.parked, key);
-        set_stage(&mut self.stages, key, Stage::Waiting);
-        put_last(&mut self.waiting, own);
+        if let Some(at) = place_in(&self.stages, &self.parked, key) {
+            let place = take_out(&mut self.parked, at);
+            set_stage(&mut self.stages, place, Stage::Waiting);
+            put_last(&mut self.waiting, place);
+        }
+    }
+
+    /// Where a key stands among those that are taken, and whether it is marked.
+    pub(crate) fn taken_place(&self, key: &Asked<'_>) -> Option<(usize, bool)>
+        requires sound { IsSound self.now }
+        ensures within { IfSome result (λ found. found.0 < deque_len self.now.taken) }
+        ensures key { IfSome result (λ found. taken_in self.now found.0 ≡ key.now) }
+        ensures taken { is_some result ≡ is_taken (stage_in self.now key.now) }
+        ensures again { IfSome result (λ found. found.1 ≡ is_again (stage_in self.now key.now)) }
+    {
+        let at = place_in(&self.stages, &self.taken, key)?;
+        let place = self.taken[at];
+        Some((at, is_marked(self.stage(place))))
     }
 
     /// Puts a taken key last on the waiting list.
-    pub(crate) fn requeue(&mut self, key: &Key)
+    pub(crate) fn requeue(&mut self, at: usize)
         requires sound { IsSound self.old }
-        requires taken { is_taken (stage_in self.old key.now) ≡ true }
+        requires within { at < deque_len self.old.taken }
         ensures sound { IsSound self.new }
-        ensures work { work_in self.new ≡ queued key.now (released key.now (work_in self.old)) }
+        ensures work { work_in self.new ≡ queued (taken_in self.old at) (released (taken_in self.old at) (work_in self.old)) }
     {
-        let own = take_out(&mut self.taken, key);
-        set_stage(&mut self.stages, key, Stage::Waiting);
-        put_last(&mut self.waiting, own);
+        let place = take_out(&mut self.taken, at);
+        set_stage(&mut self.stages, place, Stage::Waiting);
+        put_last(&mut self.waiting, place);
     }
 
     /// Puts a taken key last on the parked list.
-    pub(crate) fn park(&mut self, key: &Key)
+    pub(crate) fn park(&mut self, at: usize)
         requires sound { IsSound self.old }
-        requires taken { is_taken (stage_in self.old key.now) ≡ true }
+        requires within { at < deque_len self.old.taken }
         ensures sound { IsSound self.new }
-        ensures work { work_in self.new ≡ put_aside key.now (released key.now (work_in self.old)) }
+        ensures work { work_in self.new ≡ put_aside (taken_in self.old at) (released (taken_in self.old at) (work_in self.old)) }
     {
-        let own = take_out(&mut self.taken, key);
-        set_stage(&mut self.stages, key, Stage::Parked);
-        put_last(&mut self.parked, own);
+        let place = take_out(&mut self.taken, at);
+        set_stage(&mut self.stages, place, Stage::Parked);
+        put_last(&mut self.parked, place);
     }
 
-    /// Drops a taken key.
-    pub(crate) fn release(&mut self, key: &Key)
+    /// Lets a taken key go.
+    pub(crate) fn release(&mut self, at: usize)
         requires sound { IsSound self.old }
-        requires taken { is_taken (stage_in self.old key.now) ≡ true }
+        requires within { at < deque_len self.old.taken }
         ensures sound { IsSound self.new }
-        ensures work { work_in self.new ≡ released key.now (work_in self.old) }
+        ensures work { work_in self.new ≡ released (taken_in self.old at) (work_in self.old) }
     {
-        drop(take_out(&mut self.taken, key));
-        forget(&mut self.stages, key);
+        let place = take_out(&mut self.taken, at);
+        set_stage(&mut self.stages, place, Stage::Gone);
     }
 
-    /// Takes the oldest waiting key.
-    pub(crate) fn begin(&mut self) -> bool
+    /// Takes the oldest waiting key, and answers its place in the map.
+    pub(crate) fn begin(&mut self) -> Option<usize>
         requires { IsSound self.old }
         ensures sound { IsSound self.new }
-        ensures some { result ≡ is_some (oldest_of (work_in self.old).waiting) }
+        ensures none { IfNone result (oldest_of (work_in self.old).waiting ≡ None) }
+        ensures key { IfSome result (λ place. oldest_of (work_in self.old).waiting ≡ Some (key_in self.new place)) }
+        ensures within { IfSome result (λ place. place < length (keys self.new.stages)) }
         ensures work { work_in self.new ≡ begun (work_in self.old) }
     {
-        match self.waiting.pop_front() {
-            None => false,
-            Some(own) => {
-                set_stage(&mut self.stages, &own, Stage::Taken);
-                put_last(&mut self.taken, own);
-                true
-            }
+        let place = self.waiting.pop_front()?;
+        set_stage(&mut self.stages, place, Stage::Taken);
+        put_last(&mut self.taken, place);
+        Some(place)
+    }
+
+    /// The key at a place of the map.
+    pub(crate) fn key(&self, place: usize) -> &Shared<Key>
+        requires { place < length (keys self.now.stages) }
+        ensures { result.now ≡ key_in self.now place }
+    {
+        key_at(&self.stages, place)
+    }
+
+    /// The stage of the key at a place of the map.
+    fn stage(&self, place: usize) -> Stage
+        requires { place < length (keys self.now.stages) }
+        ensures { stage_in self.now (key_in self.now place) ≡ Some result }
+    {
+        match self.stages.get_index(place) {
+            Some((_, stage)) => *stage,
+            None => unreachable!(),
         }
     }
 
@@ -180,45 +244,37 @@ impl Lanes {
     {
         match self.parked.pop_front() {
             None => false,
-            Some(first) => {
-                set_stage(&mut self.stages, &first, Stage::Waiting);
-                put_last(&mut self.waiting, first);
+            Some(place) => {
+                set_stage(&mut self.stages, place, Stage::Waiting);
+                put_last(&mut self.waiting, place);
                 true
             }
         }
     }
 }
 
-/// The stage of the key, in constant time.
-pub(crate) fn stage_of(stages: &Stages, key: &Key) -> Option<Stage>
-    ensures { result ≡ get same_key stages.now key.now }
+/// Whether this is the stage of a taken key that is marked.
+fn is_marked(stage: Stage) -> bool
+    ensures { result ≡ is_again (Some stage) }
 {
-    let place = stages.get_index_of(&Slot::lent(key))?;
-    Some(stages[place])
-}
-
-/// Gives a key that is there another stage, in constant time.
-pub(crate) fn set_stage(stages: &mut Stages, key: &Key, stage: Stage)
-    requires { ContainsKey same_key stages.old key.now }
-    ensures { IsSet (get same_key stages.old) key.now (Some stage) (get same_key stages.new) }
-{
-    if let Some(place) = stages.get_index_of(&Slot::lent(key)) {
-        stages[place] = stage;
+    match stage {
+        Stage::Again => true,
+        Stage::Waiting | Stage::Taken | Stage::Parked | Stage::Gone => false,
     }
 }
 
-/// Takes out a key, in constant time.
-pub(crate) fn forget(stages: &mut Stages, key: &Key)
-    requires { ContainsKey same_key stages.old key.now }
-    ensures { IsSet (get same_key stages.old) key.now None (get same_key stages.new) }
+/// Gives the key at a place another stage.
+fn set_stage(stages: &mut Stages, place: usize, stage: Stage)
+    requires { place < length (keys stages.old) }
+    ensures set { IsSet (get same_key stages.old) (key_there (keys stages.old) place) (Some stage) (get same_key stages.new) }
+    ensures keys { keys stages.new ≡ keys stages.old }
 {
-    if let Some(place) = stages.get_index_of(&Slot::lent(key)) {
-        stages.swap_remove_index(place);
-    }
+    let _ = stages.len();
+    stages[place] = stage;
 }
 
 /// Makes a list have room for this many keys. It makes twice that room, so that it does so seldom.
-fn grow(list: &mut VecDeque<Key>, room: usize) -> Result<(), OutOfMemory>
+fn grow(list: &mut VecDeque<usize>, room: usize) -> Result<(), OutOfMemory>
     requires { deque_len list.old < room }
     ensures items { list.new.items ≡ list.old.items }
     ensures len { deque_len list.new ≡ deque_len list.old }
@@ -231,39 +287,49 @@ fn grow(list: &mut VecDeque<Key>, room: usize) -> Result<(), OutOfMemory>
     Ok(())
 }
 
-/// Puts a key at the end of a list that has room.
-pub(crate) fn put_last(list: &mut VecDeque<Key>, key: Key)
+/// Puts a place at the end of a list that has room.
+pub(crate) fn put_last(list: &mut VecDeque<usize>, place: usize)
     requires { deque_len list.old < deque_capacity list.old }
-    ensures items { list.new.items ≡ list.old.items ++ key ∷ [] }
+    ensures items { list.new.items ≡ list.old.items ++ place ∷ [] }
     ensures len { deque_len list.new ≡ deque_len list.old + 1 }
     ensures capacity { deque_capacity list.new ≡ deque_capacity list.old }
 {
-    list.push_back(key).unwrap();
+    list.push_back(place).unwrap();
 }
 
-/// The first place of a key in a list that has it, in time that grows with the place.
-fn place_in(list: &VecDeque<Key>, key: &Key) -> usize
-    requires { IsTrue (list_any (same_key key.now) list.now.items) }
-    ensures within { result < deque_len list.now }
-    ensures before { list_any (same_key key.now) (take result list.now.items) ≡ false }
-    ensures at { (d : Key) → same_key key.now (slice_index_or list.now.items result d) ≡ true }
+/// Where a key stands first in a list, in time that grows with the place.
+pub(crate) fn place_in(stages: &Stages, list: &VecDeque<usize>, key: &Asked<'_>) -> Option<usize>
+    requires below { AreBelow (length (keys stages.now)) list.now.items }
+    ensures within { IfSome result (λ at. at < deque_len list.now) }
+    ensures key { IfSome result (λ at. key_there (keys_at (keys stages.now) list.now.items) at ≡ key.now) }
+    ensures none { IfNone result (list_any (same_key key.now) (keys_at (keys stages.now) list.now.items) ≡ false) }
 {
-    for i in 0..list.len() {
-        if same_key(key, &list[i]) {
-            return i;
+    for at in 0..list.len() {
+        if key.is(key_at(stages, list[at]).get()) {
+            return Some(at);
         }
     }
-    unreachable!()
+    None
 }
 
-/// Takes a key out of a list that has it, in time that grows with the length of the list.
-pub(crate) fn take_out(list: &mut VecDeque<Key>, key: &Key) -> Key
-    requires { IsTrue (list_any (same_key key.now) list.old.items) }
-    ensures key { result ≡ key.now }
-    ensures items { list.new.items ≡ without_waiting (same_key key.now) list.old.items }
+/// The key at a place of the map.
+fn key_at(stages: &Stages, place: usize) -> &Shared<Key>
+    requires { place < length (keys stages.now) }
+    ensures { result.now ≡ key_there (keys stages.now) place }
+{
+    match stages.get_index(place) {
+        Some((slot, _)) => slot.key(),
+        None => unreachable!(),
+    }
+}
+
+/// Takes out what stands there in a list, in time that grows with the place.
+pub(crate) fn take_out(list: &mut VecDeque<usize>, at: usize) -> usize
+    requires { at < deque_len list.old }
+    ensures place { slice_get list.old.items at ≡ Some result }
+    ensures items { list.new.items ≡ remove list.old.items at }
     ensures len { deque_len list.new + 1 ≡ deque_len list.old }
     ensures capacity { deque_capacity list.new ≡ deque_capacity list.old }
 {
-    let place = place_in(list, key);
-    list.remove(place).unwrap()
+    list.remove(at).unwrap()
 }

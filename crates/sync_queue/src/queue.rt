@@ -1,20 +1,24 @@
 //! The queue.
 
-ghost use Rattle.std.specs.Prelude.{◌≡◌, OnOk, OnErr, length};
+ghost use Rattle.std.specs.Prelude.{◌≡◌, IfOk, OnOk, OnErr, length};
+ghost use Rattle.kube_types.specs.Keys.{key_of};
 ghost use Rattle.std.specs.Borrow.{sem};
 ghost use Rattle.std.specs.Option.{option_copied};
 ghost use Rattle.sync_queue.specs.Work.{no_work, added, oldest_of, begun, finished, put_off, woken, StandsOnce};
 
-use crate::lanes::{Lanes, Stage, stage_of};
+use crate::lanes::{Lanes, Stage};
+use crate::slot::Asked;
 use kube_types::key::Key;
-use plain_data::copies::OutOfMemory;
+use kube_types::objects::Object;
+use plain_data::copies::{OutOfMemory, Plain};
+use plain_data::shared::Shared;
 use std::alloc::Global;
 use std::marker::Model;
 
 /// The keys that a controller has to look at, each once: those that wait, oldest first, those that
 /// are taken, and those that are parked until they are added or all are woken.
 ///
-/// Only `add` takes memory. A look-up is by hash, so what is called constant below is so on average.
+/// Only what adds takes memory. A look-up is by hash, so what is called constant below is so on average.
 pub struct Queue {
     alloc: Global,
     lanes: Lanes,
@@ -53,17 +57,34 @@ impl Queue {
 
     /// A waiting key stays where it is, a taken key is marked to come again, a parked or a new key
     /// goes last. It takes constant time, and for a parked key time that grows with the number of
-    /// parked keys; now and then room is made, in time that grows with the number of keys.
+    /// parked keys; now and then room is made, in time that grows with the number of keys. It takes
+    /// memory for a key that was never added before, and for such room.
     pub fn add(&mut self, key: &Key) -> Result<(), OutOfMemory>
         ensures ok { OnOk result (self.new ≡ added key.now self.old) }
         ensures err { OnErr result (self.new ≡ self.old) }
     {
-        match stage_of(&self.lanes.stages, key) {
+        self.add_asked(&Asked::of(key))
+    }
+
+    /// Adds the key of the object, as `add` does. No key is made where it was added before.
+    pub fn add_object(&mut self, object: &Object) -> Result<(), OutOfMemory>
+        ensures ok { OnOk result (self.new ≡ added (key_of object.now) self.old) }
+        ensures err { OnErr result (self.new ≡ self.old) }
+    {
+        self.add_asked(&Asked::of_object(object))
+    }
+
+    fn add_asked(&mut self, key: &Asked<'_>) -> Result<(), OutOfMemory>
+        ensures ok { OnOk result (self.new ≡ added key.now self.old) }
+        ensures err { OnErr result (self.new ≡ self.old) }
+    {
+        match self.lanes.find(key) {
             None => self.lanes.admit(self.alloc, key)?,
-            Some(Stage::Waiting) => return Ok(()),
-            Some(Stage::Taken) => self.lanes.mark(key),
-            Some(Stage::Again) => self.lanes.mark(key),
-            Some(Stage::Parked) => self.lanes.unpark(key),
+            Some((place, Stage::Gone)) => self.lanes.readmit(place)?,
+            Some((_, Stage::Waiting)) => return Ok(()),
+            Some((place, Stage::Taken)) => self.lanes.mark(place),
+            Some((place, Stage::Again)) => self.lanes.mark(place),
+            Some((_, Stage::Parked)) => self.lanes.unpark(key),
         }
         Ok(())
     }
@@ -73,10 +94,18 @@ impl Queue {
         ensures* after { sem 𝓛 (EndsWith self.entry (begun self.old)) }
         ensures oldest { option_copied result ≡ oldest_of self.old.waiting }
     {
-        if self.lanes.begin() {
-            self.lanes.taken.back()
-        } else {
-            None
+        let place = self.lanes.begin()?;
+        Some(self.lanes.key(place).get())
+    }
+
+    /// Takes the key that has waited longest as `take` does, and shares it, which takes no memory.
+    pub fn take_shared(&mut self) -> Result<Option<Shared<Key>>, OutOfMemory>
+        ensures after { self.new ≡ begun self.old }
+        ensures oldest { IfOk result (λ key. key ≡ oldest_of self.old.waiting) }
+    {
+        match self.lanes.begin() {
+            None => Ok(None),
+            Some(place) => Ok(Some(self.lanes.key(place).copy(self.alloc)?)),
         }
     }
 
@@ -86,11 +115,9 @@ impl Queue {
     pub fn done(&mut self, key: &Key)
         ensures { self.new ≡ finished key.now self.old }
     {
-        match stage_of(&self.lanes.stages, key) {
-            Some(Stage::Taken) => self.lanes.release(key),
-            Some(Stage::Again) => self.lanes.requeue(key),
-            Some(Stage::Waiting) => {}
-            Some(Stage::Parked) => {}
+        match self.lanes.taken_place(&Asked::of(key)) {
+            Some((at, false)) => self.lanes.release(at),
+            Some((at, true)) => self.lanes.requeue(at),
             None => {}
         }
     }
@@ -100,11 +127,9 @@ impl Queue {
     pub fn retry_later(&mut self, key: &Key)
         ensures { self.new ≡ put_off key.now self.old }
     {
-        match stage_of(&self.lanes.stages, key) {
-            Some(Stage::Taken) => self.lanes.park(key),
-            Some(Stage::Again) => self.lanes.requeue(key),
-            Some(Stage::Waiting) => {}
-            Some(Stage::Parked) => {}
+        match self.lanes.taken_place(&Asked::of(key)) {
+            Some((at, false)) => self.lanes.park(at),
+            Some((at, true)) => self.lanes.requeue(at),
             None => {}
         }
     }

@@ -10,6 +10,14 @@ use object_text::listing::read_list;
 use plain_data::copies::OutOfMemory;
 use std::alloc::Global;
 
+// Whether the call is one of a claim and a look-up with the other objects.
+fn is_among(call: &str) -> bool {
+    call.starts_with("best")
+        || call.starts_with("sized")
+        || call.starts_with("owned")
+        || call == "named"
+}
+
 fn with_claim(
     alloc: Global,
     call: &str,
@@ -18,7 +26,7 @@ fn with_claim(
 ) -> Result<String, OutOfMemory> {
     if call.starts_with("claim") {
         decisions::of_claim(alloc, call, claim, others)
-    } else if call.starts_with("best") || call == "named" {
+    } else if is_among(call) {
         choices::among(alloc, call, claim, others)
     } else {
         word(alloc, choices::single(call, claim, others))

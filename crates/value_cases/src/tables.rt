@@ -75,7 +75,15 @@ fn pair(alloc: Global, first: &str, second: &str) -> Result<String, OutOfMemory>
     }
 }
 
-fn picks(alloc: Global, table: &Table<2, 3>) -> Result<String, OutOfMemory> {
+// Two rows of two conditions.
+fn two(alloc: Global, first: &str, second: &str) -> Result<String, OutOfMemory> {
+    match Table::<2, 2>::new([row_of_two(first, 1), row_of_two(second, 2)]) {
+        Err(error) => of_two(alloc, error),
+        Ok(table) => picks(alloc, &table),
+    }
+}
+
+fn picks<const N: usize>(alloc: Global, table: &Table<2, N>) -> Result<String, OutOfMemory> {
     let first = table.pick([false, false]);
     let second = table.pick([false, true]);
     let third = table.pick([true, false]);
@@ -101,7 +109,13 @@ pub fn answer(alloc: Global, text: &str) -> Result<String, OutOfMemory> {
     let mut words = text.split(' ');
     match (words.next(), words.next(), words.next()) {
         (Some(row), None, _) => single(alloc, row),
-        (Some(first), Some(second), None) => pair(alloc, first, second),
+        (Some(first), Some(second), None) => {
+            if first.len() == 2 {
+                two(alloc, first, second)
+            } else {
+                pair(alloc, first, second)
+            }
+        }
         (Some(first), Some(second), Some(third)) => three(alloc, first, second, third),
         _ => word(alloc, "no rows"),
     }

@@ -1,5 +1,5 @@
 -- The first kind begins at once, and none begins after the last.
-use Rattle.std.proofs.Common.{ℕ, ◌<◌, List, length, get_or, arith}
+use Rattle.std.proofs.Common.{◌<◌, List, length, get_or, arith}
 use Rattle.kube_types.specs.declared.parts.Kind.{Kind}
 use Rattle.kube_types.specs.declared.parts.Kind.TheVariants as kinds
 use Rattle.kube_types.specs.declared.objects.Object.{Object}

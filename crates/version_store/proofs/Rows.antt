@@ -1,5 +1,5 @@
 -- A default class and a list, row by row.
-use Rattle.std.proofs.Common.{◌≡◌, ◌+◌, ◌<◌, ◌≤◌, ℕ, suc, Bool, true, false, List, [], ◌∷◌, Option, Some, None, refl, sym, arith, cond, if◌then◌else◌, length, drop, get_or, add-one, drop-cons}
+use Rattle.std.proofs.Common.{◌≡◌, ◌+◌, ◌<◌, ◌≤◌, ℕ, suc, Bool, true, false, List, [], ◌∷◌, Option, Some, None, refl, arith, cond, if◌then◌else◌, length, drop, get_or, add-one, drop-cons}
 use Rattle.plain_data.specs.Rows.{IsAfter}
 use Rattle.kube_types.specs.declared.parts.Kind.{Kind}
 use Rattle.kube_types.specs.declared.parts.Kind.TheVariants as kinds

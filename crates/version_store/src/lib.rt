@@ -1,13 +1,15 @@
 //! A store of objects, with a number for each write.
 //!
 //! Promises: `Store::call` answers each verb by the definition `outcome`, refusals in their order, and leaves exactly
-//! the store that it says; `answer` gives the same reply and changes nothing; out of memory, nothing has changed. Not
-//! said: that a controller may make the call; that is the licence's.
+//! the store that it says; `answer` gives the same reply and changes nothing; out of memory, nothing has changed. An
+//! index that the store shows to look-ups stands for its volumes. Not said: that it shows one, as memory may have run
+//! out; that a controller may make the call, which is the licence's.
 #![tactic(auto)]
 
 mod classes;
 mod edits;
 mod imports;
+mod indexed;
 mod metadata;
 pub mod outcome;
 mod starts;

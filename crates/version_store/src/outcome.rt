@@ -4,14 +4,16 @@ ghost use Rattle.std.specs.Prelude.{◌≡◌, ◌+◌, ◌^◌, ◌<◌, IfOk, 
 ghost use Rattle.kube_types.specs.Keys.{AreRows, key_of, put_row, without_row};
 ghost use Rattle.call_types.specs.declared.reply.Reply.TheVariants as replies;
 ghost use Rattle.binder_model.specs.Answers.{after, is_for_store, reply_of};
+ghost use Rattle.kept_index.specs.Keeping.{Keeps};
 ghost use Rattle.version_store.specs.Steps.Made.{outcome_of, state_of};
 
+use crate::indexed::{put_in, take_from};
 use call_types::reply::{Change, Reply};
 use call_types::request::Request;
+use kept_index::KeptIndex;
 use kube_types::copies::OutOfMemory;
 use kube_types::key::key_of;
 use kube_types::objects::{Object, Version};
-use kube_types::table::{put_in, take_out};
 use std::alloc::Global;
 
 /// What a request comes to: an answer that changes nothing, or one object that is written.
@@ -38,19 +40,21 @@ impl Drop for Made {
 fn store_row(
     alloc: Global,
     rows: &mut Vec<Object>,
+    index: &mut KeptIndex,
     version: &mut Version,
     object: Object,
 ) -> Result<Reply, OutOfMemory>
     requires rows { AreRows rows.old.items }
+    requires index { Keeps index.old rows.old.items }
     requires room { version.old + 1 < 2 ^ 62 }
     ensures reply { IfOk result (λ reply. reply ≡ replies.Done object) }
     ensures rows { OnOk result (rows.new.items ≡ put_row object rows.old.items) }
     ensures version { OnOk result (version.new ≡ version.old + 1) }
     ensures err { OnErr result ((rows.new.items ≡ rows.old.items) × (version.new ≡ version.old)) }
     ensures rising { AreRows rows.new.items }
+    ensures index { Keeps index.new rows.new.items }
 {
-    let key = key_of(alloc, &object)?;
-    let told = put_in(alloc, rows, &key, object)?;
+    let told = put_in(alloc, rows, index, object)?;
     *version += 1;
     Ok(Reply::Done(told))
 }
@@ -59,19 +63,22 @@ fn store_row(
 fn remove_row(
     alloc: Global,
     rows: &mut Vec<Object>,
+    index: &mut KeptIndex,
     version: &mut Version,
     object: Object,
 ) -> Result<Reply, OutOfMemory>
     requires rows { AreRows rows.old.items }
+    requires index { Keeps index.old rows.old.items }
     requires room { version.old + 1 < 2 ^ 62 }
     ensures reply { IfOk result (λ reply. reply ≡ replies.Left object) }
     ensures rows { OnOk result (rows.new.items ≡ without_row (key_of object) rows.old.items) }
     ensures version { OnOk result (version.new ≡ version.old + 1) }
     ensures err { OnErr result ((rows.new.items ≡ rows.old.items) × (version.new ≡ version.old)) }
     ensures rising { AreRows rows.new.items }
+    ensures index { Keeps index.new rows.new.items }
 {
     let key = key_of(alloc, &object)?;
-    let _ = take_out(rows, &key);
+    take_from(alloc, rows, index, &key);
     *version += 1;
     Ok(Reply::Left(object))
 }
@@ -95,19 +102,22 @@ impl Made {
         self,
         alloc: Global,
         rows: &mut Vec<Object>,
+        index: &mut KeptIndex,
         version: &mut Version,
     ) -> Result<Reply, OutOfMemory>
         requires rows { AreRows rows.old.items }
+        requires index { Keeps index.old rows.old.items }
         requires room { version.old + 1 < 2 ^ 62 }
         ensures state { OnOk result (state_of rows.new.items version.new ≡ after (state_of rows.old.items version.old) (outcome_of self)) }
         ensures reply { IfOk result (λ reply. reply ≡ reply_of (outcome_of self)) }
         ensures err { OnErr result ((rows.new.items ≡ rows.old.items) × (version.new ≡ version.old)) }
         ensures rising { AreRows rows.new.items }
+        ensures index { Keeps index.new rows.new.items }
     {
         match self {
             Made::Says(reply) => Ok(reply),
-            Made::Stores(_, object) => store_row(alloc, rows, version, object),
-            Made::Removes(object) => remove_row(alloc, rows, version, object),
+            Made::Stores(_, object) => store_row(alloc, rows, index, version, object),
+            Made::Removes(object) => remove_row(alloc, rows, index, version, object),
         }
     }
 }

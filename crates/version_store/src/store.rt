@@ -14,6 +14,7 @@ use crate::starts::{Starts, objects_of, starts_of};
 use crate::verbs::outcome;
 use call_types::reply::Reply;
 use call_types::request::{Request, SeatKind};
+use kept_index::KeptIndex;
 use kube_types::copies::OutOfMemory;
 use kube_types::key::Key;
 use kube_types::lookup::Lookup;
@@ -21,6 +22,7 @@ use kube_types::objects::{Object, Version};
 use kube_types::parts::Kind;
 use kube_types::table::row;
 use kube_types::text::Text;
+use kube_types::volume_index::VolumeIndex;
 use std::alloc::Global;
 use std::marker::Model;
 
@@ -30,6 +32,7 @@ pub struct Store {
     alloc: Global,
     rows: Vec<Object>,
     starts: Starts,
+    index: KeptIndex,
     version: Version,
 }
 
@@ -39,9 +42,11 @@ impl Drop for Store {
             alloc: _,
             rows,
             starts: _,
+            index,
             version: _,
         } = self;
         drop(rows);
+        drop(index);
     }
 }
 
@@ -53,7 +58,7 @@ impl Model for Store {
 
     ghost view = { λ s. record { rows = s.rows.items; version = s.version } };
 
-    ghost invariant = { λ s. AreKept s.rows.items s.starts };
+    ghost invariant = { λ s. AreKept s.rows.items s.starts s.index };
 }
 
 impl Store {
@@ -67,6 +72,7 @@ impl Store {
             alloc,
             rows,
             starts,
+            index: KeptIndex::new(alloc),
             version: 0,
         }
     }
@@ -77,10 +83,12 @@ impl Store {
     {
         let rows = rows_of_imports(alloc, imports)?;
         let starts = starts_of(&rows);
+        let index = KeptIndex::of(alloc, &rows)?;
         Ok(Store {
             alloc,
             rows,
             starts,
+            index,
             version: base_of(imports),
         })
     }
@@ -122,7 +130,12 @@ impl Store {
         ensures reply { IfOk result (λ reply. reply ≡ reply_of (outcome_of made)) }
         ensures err { OnErr result (self.new ≡ self.old) }
     {
-        let reply = made.write(self.alloc, &mut self.rows, &mut self.version);
+        let reply = made.write(
+            self.alloc,
+            &mut self.rows,
+            &mut self.index,
+            &mut self.version,
+        );
         self.starts = starts_of(&self.rows);
         reply
     }
@@ -209,5 +222,9 @@ impl Lookup for Store {
 
     fn row(&self, key: &Key) -> Option<&Object> {
         row(&self.rows, key)
+    }
+
+    fn volumes(&self) -> Option<&VolumeIndex> {
+        self.index.get()
     }
 }

@@ -111,7 +111,7 @@ fn create(
         return Ok(refuse_with(Refusal::Forbidden(rule)));
     }
     let lacks = lacks_node(alloc, object, rows)?;
-    if let Err(field) = check_new(alloc, lacks, object) {
+    if let Err(field) = check_new(alloc, lacks, object)? {
         return Ok(refuse_with(Refusal::Invalid(field)));
     }
     let made = created_object(alloc, default_class_name(rows), object, version + 1, moment)?;
@@ -140,7 +140,7 @@ fn update(
     if let Err(rule) = guard_on(kind, Some(old), new) {
         return Ok(refuse_with(Refusal::Forbidden(rule)));
     }
-    if let Err(field) = check_changed(alloc, old, new) {
+    if let Err(field) = check_changed(alloc, old, new)? {
         return Ok(refuse_with(Refusal::Invalid(field)));
     }
     Ok(write_outcome(updated_object(alloc, old, new, version + 1)?))
@@ -194,7 +194,7 @@ fn edit(
     if let Err(rule) = guard_on(kind, Some(old), &new) {
         return Ok(refuse_with(Refusal::Forbidden(rule)));
     }
-    if let Err(field) = check_changed(alloc, old, &new) {
+    if let Err(field) = check_changed(alloc, old, &new)? {
         return Ok(refuse_with(Refusal::Invalid(field)));
     }
     Ok(write_outcome(updated_object(alloc, old, &new, version + 1)?))

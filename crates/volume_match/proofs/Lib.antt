@@ -1,2 +1,5 @@
+pub mod Candidates
+pub mod Fitting
+pub mod IndexBest
 pub mod KindSearch
 pub mod Scans

@@ -16,9 +16,11 @@ use Rattle.kube_types.specs.declared.objects.Object.{Object}
 use Rattle.kube_types.specs.declared.objects.Object.TheVariants.{Class, Node, Volume, Claim, Pod}
 use Rattle.kube_types.specs.Keys.{rows_of}
 use Rattle.kube_types.specs.Bindings.{class_of_claim, class_of_volume, is_deleting, is_protected_volume}
-use Rattle.binder_model.specs.Matching.{IsBest, IsCandidate, covers, eligible, for_last, is_admitted_on, is_excluded, is_selected, match_cmp, may_serve, mode_count, only_own_passes}
+use Rattle.binder_model.specs.Matching.{IsBest, IsCandidate, covers, eligible, for_last, is_admitted_on, is_excluded, is_selected, match_cmp, may_serve, only_own_passes}
+use Rattle.kube_types.specs.Bindings.{mode_count}
 use Rattle.volume_match.specs.Steps.Scan.{IsBestBelow, comes_before, is_open, is_preferred, serves}
-use Rattle.volume_match.specs.Volumes.{as_volume, volume_at}
+use Rattle.kube_types.specs.VolumeIndex.{as_volume}
+use Rattle.volume_match.specs.Volumes.{volume_at}
 
 pub match_total : (c : ClaimData) → IsTotalOrder (match_cmp c)
 match_total c =

@@ -6,10 +6,10 @@ use Rattle.kube_types.specs.declared.objects.Object.{Object}
 use Rattle.kube_types.specs.declared.key.Key.{Key}
 use Rattle.kube_types.specs.Keys.{key_cmp, key_of}
 
-abbrev pub key_at : Kind → List ℕ → List ℕ → Key
-key_at kind namespace name = record { kind = kind; namespace = namespace; name = name }
+abbrev pub key_with_parts : Kind → List ℕ → List ℕ → Key
+key_with_parts kind namespace name = record { kind = kind; namespace = namespace; name = name }
 
 -- there is an object, and its key has these parts
 abbrev pub has_key_at : Kind → List ℕ → List ℕ → Option Object → Bool
 has_key_at kind namespace name None = false
-has_key_at kind namespace name (Some o) = is_eq (key_cmp (key_of o) (key_at kind namespace name))
+has_key_at kind namespace name (Some o) = is_eq (key_cmp (key_of o) (key_with_parts kind namespace name))

@@ -3,15 +3,16 @@
 ghost use Rattle.std.specs.Prelude.{◌≡◌, ◌+◌, ◌≤◌, ◌<◌, length};
 ghost use Rattle.std.specs.List.{list_any};
 ghost use Rattle.std.specs.Option.{option_copied};
-ghost use Rattle.binder_model.specs.Matching.{IsBest, count_one, for_last, is_excluded, match_cmp, mode_count};
+ghost use Rattle.binder_model.specs.Matching.{IsBest, for_last, is_excluded, match_cmp};
 ghost use Rattle.volume_match.specs.Steps.Scan.{IsBestBelow, is_open, is_preferred};
 ghost use Rattle.volume_match.specs.Volumes.{volume_at};
 
 use crate::eligible::{satisfies, serves};
-use kube_types::bindings::is_for;
+use crate::indexed::best_indexed;
+use kube_types::bindings::{is_for, mode_count};
 use kube_types::lookup::Lookup;
 use kube_types::objects::{Claim, Node, Object, Volume};
-use kube_types::parts::{Kind, Modes};
+use kube_types::parts::Kind;
 use std::cmp::Ordering;
 
 /// Places among the volumes.
@@ -46,10 +47,14 @@ pub fn best<L: Lookup>(
 ) -> Option<usize>
     ensures { IsBest (L.rows lookup.now) claim.now (option_copied node.entry) only_own excluded.now result }
 {
-    best_outside(lookup, claim, node, only_own, &excluded)
+    match lookup.volumes() {
+        Some(index) => best_indexed(index, lookup, claim, node, only_own, &excluded),
+        None => best_outside(lookup, claim, node, only_own, &excluded),
+    }
 }
 
-/// The same, where the places that are passed over are not a list.
+/// The same, where the places that are passed over are not a list. It looks at each volume once and does not go by the index:
+/// that would look up the place of each volume that is passed over.
 pub fn best_outside<L: Lookup, P: Places>(
     lookup: &L,
     claim: &Claim,
@@ -168,17 +173,4 @@ fn for_last(volume: &Volume, claim: &Claim) -> u8
     ensures { result ≡ for_last volume.now claim.now }
 {
     if is_for(volume, claim) { 0 } else { 1 }
-}
-
-fn mode_count(modes: Modes) -> u8
-    ensures { result ≡ mode_count modes }
-{
-    count_one(modes.rwo) + count_one(modes.rox) + count_one(modes.rwx) + count_one(modes.rwop)
-}
-
-fn count_one(is_set: bool) -> u8
-    ensures value { result ≡ count_one is_set }
-    ensures bound { result ≤ 1 }
-{
-    if is_set { 1 } else { 0 }
 }

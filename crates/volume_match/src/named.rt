@@ -4,7 +4,7 @@ ghost use Rattle.std.specs.Prelude.{◌≡◌, true, None, IfSome, IfNone, slice
 ghost use Rattle.std.specs.Option.{option_copied};
 ghost use Rattle.kube_types.specs.Keys.{row_at, rows_of};
 ghost use Rattle.binder_model.specs.Matching.{waits_for_pod};
-ghost use Rattle.volume_match.specs.Named.{key_at, has_key_at};
+ghost use Rattle.volume_match.specs.Named.{key_with_parts, has_key_at};
 ghost use Rattle.volume_match.specs.Steps.Search.{key_order_at};
 
 use kube_types::bindings::class_of_claim;
@@ -17,9 +17,9 @@ use std::cmp::Ordering;
 /// The place, among the objects of the kind, of the one with this namespace and name.
 pub fn place_named<L: Lookup>(lookup: &L, kind: Kind, namespace: &str, name: &str) -> Option<usize>
     ensures found { IfSome result (λ place. slice_get (rows_of kind (L.rows lookup.now)) place
-        ≡ row_at (key_at kind namespace.now name.now) (L.rows lookup.now)) }
+        ≡ row_at (key_with_parts kind namespace.now name.now) (L.rows lookup.now)) }
     ensures there { IfSome result (λ place. has_key_at kind namespace.now name.now (slice_get (rows_of kind (L.rows lookup.now)) place) ≡ true) }
-    ensures none { IfNone result (row_at (key_at kind namespace.now name.now) (L.rows lookup.now) ≡ None) }
+    ensures none { IfNone result (row_at (key_with_parts kind namespace.now name.now) (L.rows lookup.now) ≡ None) }
 {
     let mut low = 0;
     let mut high = lookup.count(kind);
@@ -42,7 +42,7 @@ pub fn row_named<'a, L: Lookup>(
     namespace: &str,
     name: &str,
 ) -> Option<&'a Object>
-    ensures { option_copied result ≡ row_at (key_at kind namespace.now name.now) (L.rows lookup.now) }
+    ensures { option_copied result ≡ row_at (key_with_parts kind namespace.now name.now) (L.rows lookup.now) }
 {
     match place_named(lookup, kind, namespace, name) {
         Some(place) => lookup.at(kind, place),
@@ -51,7 +51,12 @@ pub fn row_named<'a, L: Lookup>(
 }
 
 /// The order of the object's key and of the key of these parts; past the last object all is after.
-fn key_order(object: Option<&Object>, kind: Kind, namespace: &str, name: &str) -> Ordering
+pub(crate) fn key_order(
+    object: Option<&Object>,
+    kind: Kind,
+    namespace: &str,
+    name: &str,
+) -> Ordering
     ensures { result ≡ key_order_at kind namespace.now name.now (option_copied object.entry) }
 {
     match object {

@@ -13,7 +13,7 @@ use Rattle.volume_sync.specs.declared.action.VolumeAction.{VolumeAction}
 use Rattle.volume_sync.specs.declared.action.VolumeAction.TheVariants as actions
 use Rattle.volume_sync.specs.VolumeTable.{action_number, action_numbered, volume_rows}
 use Rattle.volume_sync.specs.VolumeDecision.{free_action, refers_by_uid, referred_action, seen_claim, volume_decision}
-use Rattle.volume_sync.specs.Steps.Conditions.{conditions_on, is_settled, names, names_none, volume_conditions}
+use Rattle.volume_sync.specs.Conditions.{conditions_on, is_settled, names, names_none, volume_conditions}
 use Rattle.volume_sync.proofs.Rows.{chosen, rows_say}
 
 numbered_back : (a : VolumeAction) → action_numbered (action_number a) ≡ a
@@ -25,7 +25,7 @@ numbered_back actions.Release = refl
 numbered_back actions.Unbind = refl
 numbered_back actions.QueueClaim = refl
 
-chosen_is : (v : VolumeData) (asked : Bool) (claim : Option ClaimData) → chosen (refers_by_uid v) (is_available v.phase) (is_ended v.phase) (is_some claim) asked (names_none claim) (names claim v) (is_settled v) (is_reclaimed v) ≡ (if not (refers_by_uid v) then free_action v else if is_ended v.phase then actions.Nothing else referred_action v asked claim)
+pub chosen_is : (v : VolumeData) (asked : Bool) (claim : Option ClaimData) → chosen (refers_by_uid v) (is_available v.phase) (is_ended v.phase) (is_some claim) asked (names_none claim) (names claim v) (is_settled v) (is_reclaimed v) ≡ (if not (refers_by_uid v) then free_action v else if is_ended v.phase then actions.Nothing else referred_action v asked claim)
 chosen_is v asked None = refl
 chosen_is v asked (Some c) = refl
 

@@ -1,4 +1,4 @@
-pub mod Steps
+pub mod Conditions
 pub mod VolumeDecision
 pub mod VolumeLaw
 pub mod VolumeTable

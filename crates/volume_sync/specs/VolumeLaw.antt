@@ -16,14 +16,14 @@ use Rattle.kube_types.specs.Lookups.{is_asked}
 use Rattle.volume_sync.specs.VolumeDecision.{live_claim, volume_decision}
 
 -- to read or to queue the claim is never due
-abbrev pub due_of : VolumeAction → Option Due
-due_of actions.Nothing = None
-due_of actions.ReadClaim = None
-due_of actions.Available = Some dues.Available
-due_of actions.Bound = Some dues.Bound
-due_of actions.Release = Some dues.Release
-due_of actions.Unbind = Some dues.Unbind
-due_of actions.QueueClaim = None
+abbrev pub due_of_action : VolumeAction → Option Due
+due_of_action actions.Nothing = None
+due_of_action actions.ReadClaim = None
+due_of_action actions.Available = Some dues.Available
+due_of_action actions.Bound = Some dues.Bound
+due_of_action actions.Release = Some dues.Release
+due_of_action actions.Unbind = Some dues.Unbind
+due_of_action actions.QueueClaim = None
 
 -- the claim was read by itself, and what was read is what the rows hold
 pub record ReadsRows (rows : List Object) (v : VolumeData) (live : Live) : Type 0 where
@@ -31,4 +31,4 @@ pub record ReadsRows (rows : List Object) (v : VolumeData) (live : Live) : Type 
   pub claim : (r : Ref) (uid : Uid) → v.claim_ref ≡ Some r → live_claim uid live ≡ claim_with uid (row_at (claim_key r.namespace r.name) rows)
 
 abbrev pub DecidesDue : Type 0
-DecidesDue = (rows : List Object) (v : VolumeData) (live : Live) → ReadsRows rows v live → due_of (volume_decision rows v live) ≡ volume_due rows v
+DecidesDue = (rows : List Object) (v : VolumeData) (live : Live) → ReadsRows rows v live → due_of_action (volume_decision rows v live) ≡ volume_due rows v

@@ -10,7 +10,7 @@ use Rattle.case_table.specs.Cases.{action_of}
 use Rattle.volume_sync.specs.declared.action.VolumeAction.{VolumeAction}
 use Rattle.volume_sync.specs.declared.action.VolumeAction.TheVariants as actions
 use Rattle.volume_sync.specs.VolumeDecision.{volume_decision}
-use Rattle.volume_sync.specs.Steps.Conditions.{volume_conditions}
+use Rattle.volume_sync.specs.Conditions.{volume_conditions}
 
 -- the number of an action in the table
 abbrev pub action_number : VolumeAction → ℕ

@@ -38,7 +38,7 @@ impl VolumeAction {
     }
 
     /// The action of a number of the table.
-    pub(crate) fn numbered(number: u8) -> VolumeAction
+    pub fn numbered(number: u8) -> VolumeAction
         ensures { result ≡ action_numbered number }
     {
         match number {

@@ -5,7 +5,7 @@ ghost use Rattle.std.specs.Option.{option_copied};
 ghost use Rattle.kube_types.specs.Bindings.{is_available};
 ghost use Rattle.binder_model.specs.BinderDue.{is_reclaimed};
 ghost use Rattle.volume_sync.specs.VolumeDecision.{refers_by_uid, volume_decision};
-ghost use Rattle.volume_sync.specs.Steps.Conditions.{is_settled, names, names_none, conditions_on};
+ghost use Rattle.volume_sync.specs.Conditions.{is_settled, names, names_none, conditions_on};
 
 use crate::action::VolumeAction;
 use crate::seen::seen_claim;
@@ -26,7 +26,7 @@ pub fn decide_volume<L: Lookup>(lookup: &L, volume: &Volume, live: Live) -> Volu
 }
 
 /// The conditions of the table, on the claim that is seen.
-fn conditions_on(volume: &Volume, asked: bool, claim: Option<&Claim>) -> [bool; 9]
+pub fn conditions_on(volume: &Volume, asked: bool, claim: Option<&Claim>) -> [bool; 9]
     ensures { result ≡ conditions_on volume.now asked (option_copied claim.entry) }
 {
     [

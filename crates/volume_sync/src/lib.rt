@@ -12,5 +12,6 @@ mod seen;
 mod table;
 
 pub use action::VolumeAction;
-pub use decision::decide_volume;
+pub use decision::{conditions_on, decide_volume};
+pub use seen::claim_with;
 pub use table::{volume_rows, volume_table};

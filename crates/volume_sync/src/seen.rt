@@ -59,8 +59,9 @@ fn live_claim<'a>(uid: Uid, live: Live<'a>) -> Option<&'a Claim>
     }
 }
 
+/// The claim, where it has the UID.
 #[tactic(auto, unfolding(binder_model::specs::BinderDue::claim_with))]
-fn claim_with<'a>(uid: Uid, object: Option<&'a Object>) -> Option<&'a Claim>
+pub fn claim_with<'a>(uid: Uid, object: Option<&'a Object>) -> Option<&'a Claim>
     ensures { option_copied result ≡ claim_with uid (option_copied object.entry) }
 {
     match object {

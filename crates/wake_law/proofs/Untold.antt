@@ -42,7 +42,7 @@ use Rattle.worker_core.specs.declared.turn.Outcome.TheVariants.{Lost, Told}
 use Rattle.worker_core.specs.declared.turn.Pass.{Pass}
 use Rattle.worker_core.specs.Absorbs.{given_told, is_passing, learned, lost_given, lost_to, lost_under, pass_after, task_told, told_to}
 use Rattle.worker_core.specs.Memories.{Memory}
-use Rattle.worker_core.specs.Roles.{IsBuiltKind, kind_at, kinds_of}
+use Rattle.worker_core.specs.Roles.{IsBuiltKind, kind_in_order, kinds_of}
 use Rattle.worker_core.specs.States.{ActorState, waits}
 use Rattle.worker_core.specs.Turns.{passing}
 use Rattle.worker_core.proofs.Answered.{gives_asked, passed}
@@ -66,7 +66,7 @@ use Rattle.event_law.specs.Ahead.{from_of}
 use Rattle.event_law.specs.Telling.{told}
 use Rattle.event_law.proofs.Calls.{Stays, gone_from, unread_from, watched_from, world_moves}
 use Rattle.event_law.proofs.Events.{told_or_later, told_so}
-use Rattle.pass_law.specs.Passes.{IsGiven}
+use Rattle.pass_law.specs.Passes.{IsCallGiven}
 use Rattle.wake_law.proofs.Wakes.{LastsWhereWaiting, StaysKept}
 use Rattle.pass_law.proofs.Given.{FindsGone, GivenSo, GivesRead, GivesStart, GivesTask, IsTold, Lists, Reads, from_same, given_so, read_called, start_called, task_called}
 
@@ -76,7 +76,7 @@ IsUntold setup seat h key = (from : ℕ) → from_of seat h key.kind ≡ Some fr
 
 -- nor is it behind the pass
 abbrev pub IsAhead : Role → Pass → Key → Type 0
-IsAhead role pass key = (place : ℕ) → place < pass.behind → kind_at role place ≡ Some key.kind → ⊥
+IsAhead role pass key = (place : ℕ) → place < pass.behind → kind_in_order role place ≡ Some key.kind → ⊥
 
 -- what stands in a world stands in one that is alike
 pub data Stands (w : World) (key : Key) : Type 0 where
@@ -179,7 +179,7 @@ data After (setup : Setup) (seat : ℕ) (next : ActorState) (entries : List Entr
   IsStill : IsUntold setup seat entries key → IsAhead next.role next.pass key → After setup seat next entries key
 
 -- one call
-module _ (setup : Setup) (seat : ℕ) (x : ActorState) (request : Request) (reply : Reply) (h : List Entry) (key : Key) (o : Object) (given : IsGiven setup seat x request reply h) (there : row_at key (world setup h).store.rows ≡ Some o) (still : IsUntold setup seat h key) (ahead : IsAhead x.role x.pass key) where
+module _ (setup : Setup) (seat : ℕ) (x : ActorState) (request : Request) (reply : Reply) (h : List Entry) (key : Key) (o : Object) (given : IsCallGiven setup seat x request reply h) (there : row_at key (world setup h).store.rows ≡ Some o) (still : IsUntold setup seat h key) (ahead : IsAhead x.role x.pass key) where
   -- a call that reads another kind, or none, leaves it untold
   other_call : reads_kind key.kind request ≡ false → IsUntold setup seat (told_entry seat x request reply ∷ h) key
   other_call unread from is =
@@ -203,7 +203,7 @@ module _ (setup : Setup) (seat : ℕ) (x : ActorState) (request : Request) (repl
   role_is caches = answer_role x caches request (Told reply)
 
   ahead_by : (next : ActorState) → next.role ≡ x.role → next.pass.behind ≡ x.pass.behind → IsAhead next.role next.pass key
-  ahead_by next role pass place lt at = ahead place (omega (arith, lt, pass)) (ap (λ (r : Role). kind_at r place) (sym role) ∙ at)
+  ahead_by next role pass place lt at = ahead place (omega (arith, lt, pass)) (ap (λ (r : Role). kind_in_order r place) (sym role) ∙ at)
 
   -- the key is among those that were read, and nothing is in work
   read_waits : (caches : AllKnown) (kind : Kind) → x.given ≡ Some (givens.Read kind) → x.under ≡ None → list_any (same_key key) (keys_in reply) ≡ true → waits key (told_to x caches request reply).work ≡ true
@@ -270,14 +270,14 @@ module _ (setup : Setup) (seat : ℕ) (x : ActorState) (request : Request) (repl
       behind = ap (λ (p : Pass). p.behind) (pass_is caches kind eg)
 
       -- the pass has gone on past the kind that was read
-      not_it : is_passing (passing x) kind ≡ true → kind_at x.role x.pass.behind ≡ Some key.kind → ⊥
+      not_it : is_passing (passing x) kind ≡ true → kind_in_order x.role x.pass.behind ≡ Some key.kind → ⊥
       not_it p at = true≢false (sym (sym (ap (λ k. is_passing k kind) at) ∙ p) ∙ ((same_kind-flip key.kind kind) ∙ other))
 
       further : ((pass_after x.pass (is_passing (passing x) kind) request reply).behind ≡ x.pass.behind) ⊎ ((is_passing (passing x) kind ≡ true) × ((pass_after x.pass (is_passing (passing x) kind) request reply).behind ≡ x.pass.behind + 1)) → IsAhead (told_to x caches request reply).role (told_to x caches request reply).pass key
       further (inl same) place lt at = ahead_by (told_to x caches request reply) (role_is caches) (behind ∙ same) place lt at
       further (inr on) place lt at = elim (at_or_before place x.pass.behind (let b = behind in let s = on.1 in omega (arith, lt, b, s))) [
-        | inl before ↦ ahead place before (ap (λ (r : Role). kind_at r place) (sym (role_is caches)) ∙ at)
-        | inr here ↦ not_it on.0 (ap (kind_at x.role) (sym here) ∙ (ap (λ (r : Role). kind_at r place) (sym (role_is caches)) ∙ at))
+        | inl before ↦ ahead place before (ap (λ (r : Role). kind_in_order r place) (sym (role_is caches)) ∙ at)
+        | inr here ↦ not_it on.0 (ap (kind_in_order x.role) (sym here) ∙ (ap (λ (r : Role). kind_in_order r place) (sym (role_is caches)) ∙ at))
       ]
 
   after_call : (caches : AllKnown) → After setup seat (told_to x caches request reply) (told_entry seat x request reply ∷ h) key
@@ -340,7 +340,7 @@ module _ (setup : Setup) (lets : Lets) (seat : ℕ) (role : Role) (start : List 
       knows_next : KnowsBehind setup seat next.role next.pass (told_entry seat given request reply ∷ h)
       knows_next = told_knows setup seat s given request reply h built_here ready turn whole knows next absorbs
 
-      g : IsGiven setup seat given request reply h
+      g : IsCallGiven setup seat given request reply h
       g = record {
         built = subst (λ (r : Role). IsBuiltKind r.kind) (sym given_role) built_here;
         stands = turn_stands s given (Call request) (own seat h) ready.rows ready.stands.told turn;

@@ -8,7 +8,7 @@ use Rattle.kube_types.specs.Keys.{is_of_kind}
 use Rattle.call_types.specs.declared.reply.Event.{Event}
 use Rattle.call_types.specs.declared.reply.Events.{Events}
 use Rattle.binder_model.specs.Watching.{window, most_events, oldest, is_later, told_events, last_version, reached_version}
-use Rattle.watch_log.specs.Kept.{Log, AreAll, StandsFor, AreLast, IsWindow, is_event_of, events_among}
+use Rattle.watch_log.specs.Kept.{Log, AreAll, LogStandsFor, AreLast, IsWindow, is_event_of, events_among}
 
 not_later : (a b : ℕ) → b ≤ a → nat_lt a b ≡ false
 not_later a b le = grind (arith, nat_tests)
@@ -53,11 +53,11 @@ within kind from base version es a old new =
     let part = after_among kind from version (version - from) (take window es) (last-take window version es l) split in
     part ∙ ap (filter (is_event_of kind)) (take-take (version - from) window es (omega (arith, old))) ∙ sym whole
 
-told_of_window : (kind : Kind) (from : ℕ) (log : Log) (es : List Event) → StandsFor log es → oldest log.base log.version ≤ from → from ≤ log.version → told_events kind from log.version log.events ≡ told_events kind from log.version es
+told_of_window : (kind : Kind) (from : ℕ) (log : Log) (es : List Event) → LogStandsFor log es → oldest log.base log.version ≤ from → from ≤ log.version → told_events kind from log.version log.events ≡ told_events kind from log.version es
 told_of_window kind from log es s old new =
     rw s.kept (ap (λ xs. record { events = take most_events (reverse xs); upto = reached_version log.version (take most_events (reverse xs)) }) (within kind from log.base log.version es s.all old new))
 
-pub told_of_window_answers : (kind : Kind) (from : ℕ) (log : Log) (told : Events) → told ≡ told_events kind from log.version log.events → oldest log.base log.version ≤ from → from ≤ log.version → (es : List Event) → StandsFor log es → told ≡ told_events kind from log.version es
+pub told_of_window_answers : (kind : Kind) (from : ℕ) (log : Log) (told : Events) → told ≡ told_events kind from log.version log.events → oldest log.base log.version ≤ from → from ≤ log.version → (es : List Event) → LogStandsFor log es → told ≡ told_events kind from log.version es
 told_of_window_answers kind from log told is old new es s = is ∙ told_of_window kind from log es s old new
 
 -- the answer by the newest events
@@ -87,7 +87,7 @@ base_below : (base version : ℕ) (es : List Event) → AreAll base version es �
 base_below base version [] a = omega (arith, a)
 base_below base version (e ∷ es) a = let below = a.0 in omega (arith, below)
 
-pub all_of_next : (old : Log) (e : Event) (items : List Event) (base room : ℕ) → base ≡ old.base → items ≡ take window (e ∷ old.events) → e.version ≡ old.version + 1 → (es : List Event) → StandsFor old es → StandsFor (record { base = base; version = e.version; events = items; room = room }) (e ∷ es)
+pub all_of_next : (old : Log) (e : Event) (items : List Event) (base room : ℕ) → base ≡ old.base → items ≡ take window (e ∷ old.events) → e.version ≡ old.version + 1 → (es : List Event) → LogStandsFor old es → LogStandsFor (record { base = base; version = e.version; events = items; room = room }) (e ∷ es)
 all_of_next old e items base room same are is es s =
     let begun = base_below old.base old.version es s.all in
     let before : e.version - 1 ≡ old.version = omega (arith, is) in

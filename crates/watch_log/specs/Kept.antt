@@ -24,7 +24,7 @@ AreAll base version [] = version ≡ base
 AreAll base version (e ∷ es) = (base < version) × (e.version ≡ version) × AreAll base (version - 1) es
 
 -- the log stands for these events: they are all that there were, and the newest of them are kept
-pub record StandsFor (log : Log) (events : List Event) : Type 0 where
+pub record LogStandsFor (log : Log) (events : List Event) : Type 0 where
   pub all : AreAll log.base log.version events
   pub kept : log.events ≡ take window events
 

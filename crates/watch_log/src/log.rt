@@ -5,7 +5,7 @@ ghost use Rattle.std.specs.VecDeque.{deque_len, deque_capacity};
 ghost use Rattle.call_types.specs.declared.reply.Event.{Event};
 ghost use Rattle.binder_model.specs.Watching.{window, most_events, oldest, told_events, reached_version};
 ghost use Rattle.watch_log.specs.declared.log.LogError.TheVariants.{Gone, Ahead, OutOfMemory as NoMemory};
-ghost use Rattle.watch_log.specs.Kept.{IsWindow, StandsFor, events_among, is_event_of};
+ghost use Rattle.watch_log.specs.Kept.{IsWindow, LogStandsFor, events_among, is_event_of};
 
 use call_types::reply::{Event, Events};
 use kube_types::copies::{OutOfMemory, Plain};
@@ -135,7 +135,7 @@ impl WatchLog {
         ensures base { result.base ≡ 0 }
         ensures version { result.version ≡ 0 }
         ensures events { result.events ≡ [] }
-        ensures all { StandsFor result [] }
+        ensures all { LogStandsFor result [] }
     {
         WatchLog::from_base(alloc, 0)
     }
@@ -145,7 +145,7 @@ impl WatchLog {
         ensures base { result.base ≡ base }
         ensures version { result.version ≡ base }
         ensures events { result.events ≡ [] }
-        ensures all { StandsFor result [] }
+        ensures all { LogStandsFor result [] }
     {
         WatchLog {
             alloc,
@@ -200,7 +200,7 @@ impl WatchLog {
         ensures version { self.new.version ≡ event.version }
         ensures events { self.new.events ≡ take window (event ∷ self.old.events) }
         ensures room { self.old.room ≤ self.new.room + 1 }
-        ensures all { (all : List Event) → StandsFor self.old all → StandsFor self.new (event ∷ all) }
+        ensures all { (all : List Event) → LogStandsFor self.old all → LogStandsFor self.new (event ∷ all) }
     {
         self.version = event.version;
         put_first(&mut self.events, event);
@@ -211,7 +211,7 @@ impl WatchLog {
         ensures gone { from < oldest self.now.base self.now.version → result ≡ Err (Gone (oldest self.now.base self.now.version)) }
         ensures ahead { self.now.version < from → result ≡ Err (Ahead self.now.version) }
         ensures told { IfOk result (λ told. told ≡ told_events kind from self.now.version self.now.events) }
-        ensures all { (all : List Event) → StandsFor self.now all → IfOk result (λ told. told ≡ told_events kind from self.now.version all) }
+        ensures all { (all : List Event) → LogStandsFor self.now all → IfOk result (λ told. told ≡ told_events kind from self.now.version all) }
         ensures memory { oldest self.now.base self.now.version ≤ from → from ≤ self.now.version → IfErr result (λ e. e ≡ NoMemory) }
     {
         let oldest = self.oldest();

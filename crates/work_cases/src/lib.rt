@@ -1,5 +1,5 @@
-//! Cases of work on a shared world: users of a script, one by one and at the same time, whole runs of scripts, and gates that are
-//! told of their calls.
+//! Cases of work on a shared world: users of a script, one by one and at the same time, whole runs of scripts, gates that are
+//! told of their calls, and one actor of each kind on one thread, with lost calls, new lives and nodes that another takes.
 //!
 //! It has tests alone, so no call and no promise. Only here is it seen that workers run side by side, and that a gate was
 //! told of each call: no promise says it. Not said: anything of other scripts and other interleavings.
@@ -8,8 +8,14 @@
 #[cfg(test)]
 mod gates;
 #[cfg(test)]
+mod lives;
+#[cfg(test)]
 mod runs;
 #[cfg(test)]
 mod scripts;
 #[cfg(test)]
+mod tables;
+#[cfg(test)]
 mod users;
+#[cfg(test)]
+mod works;

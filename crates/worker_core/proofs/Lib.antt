@@ -13,6 +13,7 @@ pub mod Owning
 pub mod PassRules
 pub mod Passes
 pub mod Quiet
+pub mod Resting
 pub mod Starts
 pub mod Turned
 pub mod Turning

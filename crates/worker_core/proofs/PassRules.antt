@@ -21,7 +21,7 @@ use Rattle.worker_core.specs.declared.turn.Next.TheVariants as nexts
 use Rattle.worker_core.specs.declared.turn.Outcome.TheVariants as outcomes
 use Rattle.worker_core.specs.declared.turn.Pass.{Pass}
 use Rattle.worker_core.specs.Absorbs.{absorbed, given_told, is_none_of, is_passing, learned, lost_given, lost_under, pass_after, task_told, woken}
-use Rattle.worker_core.specs.Roles.{kind_at, kinds_of}
+use Rattle.worker_core.specs.Roles.{kind_in_order, kinds_of}
 use Rattle.worker_core.specs.Rules.{BroughtEvent, EventsAreBrought, PassesBegin, PassesGoOn, WatchesFollowThePass, WokenIsBusy}
 use Rattle.worker_core.specs.States.{ActorState, call_in, read_of_kind, read_request, start_call}
 use Rattle.worker_core.specs.Turns.{AfterKeys, IsTurn, TurnBy, first_unlisted, is_listed, passing, unlisted}
@@ -180,5 +180,5 @@ idle_passes s new answer turn fresh passes idle = by s.memory.stale s.under (sta
     by false None None None (Some kind) es ep t = no_call _ t.call
     by false None None None None es ep t = true≢false (sym passes ∙ ap is_some ep)
 
-pub woken_busy : (s : ActorState) → is_some (kind_at s.role 0) ≡ true → WokenIsBusy (woken s)
+pub woken_busy : (s : ActorState) → is_some (kind_in_order s.role 0) ≡ true → WokenIsBusy (woken s)
 woken_busy s some new answer turn fresh = idle_passes (woken s) new answer turn fresh some

@@ -14,7 +14,7 @@ use Rattle.binder_model.specs.Watching.{most_events}
 use Rattle.worker_core.specs.declared.role.Role.{Role}
 use Rattle.worker_core.specs.declared.turn.Pass.{Pass}
 use Rattle.worker_core.specs.Absorbs.{is_none_of, is_passing, pass_after}
-use Rattle.worker_core.specs.Roles.{IsBuiltKind, kind_at}
+use Rattle.worker_core.specs.Roles.{IsBuiltKind, kind_in_order}
 use Rattle.binder_machines.specs.KindLaw.{reads_kind}
 use Rattle.worker_core.specs.Stands.{AreLicensed, HasNoNews, IsEmptyWatch, PassStands}
 use Rattle.worker_core.proofs.Quiet.{alike, itself, quiet_listed, quiet_now, quiet_on, unread}
@@ -63,20 +63,20 @@ module _ (role : Role) (pass : Pass) (mine : List Entry) (e : Entry) (stands : P
         by true same = quiet_now k mine e (ap (λ t. t && reads_kind k e.request) told ∙ (ap (reads_kind k) is ∙ same)) empty
         by false same = quiet_on k mine e (unread k e (ap (reads_kind k) is ∙ same)) (others same)
 
-    pub watch_pass : (reply : Reply) → e.reply ≡ reply → PassStands role (pass_after pass (is_passing (kind_at role pass.behind) kind) (requests.Watch kind from) reply) (e ∷ mine)
+    pub watch_pass : (reply : Reply) → e.reply ≡ reply → PassStands role (pass_after pass (is_passing (kind_in_order role pass.behind) kind) (requests.Watch kind from) reply) (e ∷ mine)
     watch_pass (replies.Events events) answered = λ quiet place k lt at.
         let parts = or_false pass.event (not (is_none_of events.events)) quiet in
         let empty = none_of events.events (not_false _ parts.1) in
         let watch : IsEmptyWatch e.request e.reply = subst (λ r. IsEmptyWatch r e.reply) (sym is) (subst (λ r. IsEmptyWatch (requests.Watch kind from) r) (sym answered) empty) in
-        quiet_at k watch (by parts.0 place k at (is_passing (kind_at role pass.behind) kind) (length events.events == most_events) refl lt)
+        quiet_at k watch (by parts.0 place k at (is_passing (kind_in_order role pass.behind) kind) (length events.events == most_events) refl lt)
       where
-        other_kind : (place : ℕ) (k : Kind) → kind_at role place ≡ Some k → place ≡ pass.behind → is_passing (kind_at role pass.behind) kind ≡ true → same_kind kind k ≡ false → ⊥
+        other_kind : (place : ℕ) (k : Kind) → kind_in_order role place ≡ Some k → place ≡ pass.behind → is_passing (kind_in_order role pass.behind) kind ≡ true → same_kind kind k ≡ false → ⊥
         other_kind place k at own passing other =
-            let here : kind_at role pass.behind ≡ Some k = ap (kind_at role) (sym own) ∙ at in
+            let here : kind_in_order role pass.behind ≡ Some k = ap (kind_in_order role) (sym own) ∙ at in
             let same : same_kind k kind ≡ true = sym (ap (λ o. is_passing o kind) here) ∙ passing in
             true≢false (sym (itself kind) ∙ (ap (λ x. same_kind kind x) (sym (alike k kind same)) ∙ other))
 
-        by : pass.event ≡ false → (place : ℕ) (k : Kind) → kind_at role place ≡ Some k → (p full : Bool) → is_passing (kind_at role pass.behind) kind ≡ p → place < (if p && not full then pass.behind + 1 else pass.behind) → same_kind kind k ≡ false → HasNoNews k mine
+        by : pass.event ≡ false → (place : ℕ) (k : Kind) → kind_in_order role place ≡ Some k → (p full : Bool) → is_passing (kind_in_order role pass.behind) kind ≡ p → place < (if p && not full then pass.behind + 1 else pass.behind) → same_kind kind k ≡ false → HasNoNews k mine
         by quiet place k at true false passing lt other =
             elim (at_or_before place pass.behind lt) [ inl before ↦ stands quiet place k before at | inr own ↦ absurd (other_kind place k at own passing other) ]
         by quiet place k at true true passing lt other = stands quiet place k lt at

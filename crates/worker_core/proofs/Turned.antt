@@ -8,7 +8,7 @@ use Rattle.worker_core.specs.declared.task.Under.{Under}
 use Rattle.worker_core.specs.declared.turn.Given.TheVariants as givens
 use Rattle.worker_core.specs.declared.turn.Next.{Next}
 use Rattle.worker_core.specs.declared.turn.Next.TheVariants as nexts
-use Rattle.worker_core.specs.Roles.{kind_at}
+use Rattle.worker_core.specs.Roles.{kind_in_order}
 use Rattle.worker_core.specs.States.{ActorState}
 use Rattle.worker_core.specs.Turns.{Decides, DecidesKeys, GivesRead}
 
@@ -29,7 +29,7 @@ module _ (s : ActorState) (work : Work) (under : Option Under) (d : Decides s.ro
     then_ = record { call = ap (λ r. nexts.Call r) is; state = refl };
   }
 
-  pub pass_begins : (new : ActorState) (answer : Next) (kind : Kind) → under ≡ None → s.pass.event ≡ true → kind_at s.role 0 ≡ Some kind
+  pub pass_begins : (new : ActorState) (answer : Next) (kind : Kind) → under ≡ None → s.pass.event ≡ true → kind_in_order s.role 0 ≡ Some kind
       → GivesRead (record s { work = work; pass = record { behind = 0; event = false } }) new answer kind → DecidesKeys s new answer
   pass_begins new answer kind none brought first read = record {
     work = work;

@@ -17,7 +17,7 @@ use Rattle.worker_core.specs.declared.turn.Given.{Given}
 use Rattle.worker_core.specs.declared.turn.Given.TheVariants as givens
 use Rattle.worker_core.specs.declared.turn.Next.{Next}
 use Rattle.worker_core.specs.Memories.{Memory, memory_of}
-use Rattle.worker_core.specs.Roles.{kind_at, kinds_of}
+use Rattle.worker_core.specs.Roles.{kind_in_order, kinds_of}
 use Rattle.worker_core.specs.Stands.{AnyIsUnderWay, Begun, GivenStands, StandsFor}
 use Rattle.worker_core.specs.States.{ActorState, start_call}
 use Rattle.worker_core.specs.Tasks.{GivesCall}
@@ -66,7 +66,7 @@ given_stands s mine given stands fits = record { caches = stands.caches; under_w
 pub turn_stands : (s new : ActorState) (answer : Next) (mine : List Entry) → AreRows (all_objects s.caches) → StandsFor s mine → IsTurn s new answer → StandsFor new mine
 turn_stands s new answer mine order stands = by s.memory.stale s.under (start_call s.role s.memory) (unlisted s) (passing s) refl refl refl refl
   where
-    follows_at : (place : ℕ) (kind : Kind) → kind_at s.role place ≡ Some kind → follows s.role.kind kind ≡ true
+    follows_at : (place : ℕ) (kind : Kind) → kind_in_order s.role place ≡ Some kind → follows s.role.kind kind ≡ true
     follows_at place kind at = at_follows s.role.kind (kinds_of s.role.kind) place kind (kinds_follow s.role.kind) at
 
     keys : (w : Work) (under : Option Under) → AnyIsUnderWay s.role under mine → s.under ≡ None → start_call s.role s.memory ≡ None → AfterKeys s new answer w under → StandsFor new mine

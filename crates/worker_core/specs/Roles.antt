@@ -29,5 +29,5 @@ IsBuiltKind seats.VolumeProtect = ⊤
 IsBuiltKind seats.Agent = ⊤
 
 -- the kind at a place of this order
-abbrev pub kind_at : Role → ℕ → Option Kind
-kind_at role place = slice_get (kinds_of role.kind) place
+abbrev pub kind_in_order : Role → ℕ → Option Kind
+kind_in_order role place = slice_get (kinds_of role.kind) place

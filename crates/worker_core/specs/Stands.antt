@@ -29,7 +29,7 @@ use Rattle.worker_core.specs.declared.turn.Next.{Next}
 use Rattle.worker_core.specs.declared.turn.Next.TheVariants as nexts
 use Rattle.worker_core.specs.declared.turn.Pass.{Pass}
 use Rattle.worker_core.specs.Memories.{Memory, memory_of, no_memory}
-use Rattle.worker_core.specs.Roles.{kind_at, kinds_of}
+use Rattle.worker_core.specs.Roles.{kind_in_order, kinds_of}
 use Rattle.worker_core.specs.States.{ActorState, start_call}
 use Rattle.worker_core.specs.Tasks.{GivesCall, under_after}
 use Rattle.worker_core.specs.Turns.{first_unlisted}
@@ -59,7 +59,7 @@ HasNoNews kind (e ∷ mine) = by (e.told && reads_kind kind e.request) (HasNoNew
 
 -- where the pass had no event, the kinds that it has behind it have no news
 abbrev pub PassStands : Role → Pass → List Entry → Type 0
-PassStands role pass mine = pass.event ≡ false → (place : ℕ) (kind : Kind) → place < pass.behind → kind_at role place ≡ Some kind → HasNoNews kind mine
+PassStands role pass mine = pass.event ≡ false → (place : ℕ) (kind : Kind) → place < pass.behind → kind_in_order role place ≡ Some kind → HasNoNews kind mine
 
 -- each entry is one of the kind, and was licensed after those before it
 abbrev pub AreLicensed : SeatKind → List Entry → Type 0

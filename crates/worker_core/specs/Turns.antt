@@ -16,7 +16,7 @@ use Rattle.worker_core.specs.declared.turn.Given.TheVariants as givens
 use Rattle.worker_core.specs.declared.turn.Next.{Next}
 use Rattle.worker_core.specs.declared.turn.Next.TheVariants as nexts
 use Rattle.worker_core.specs.Memories.{Memory}
-use Rattle.worker_core.specs.Roles.{kind_at, kinds_of}
+use Rattle.worker_core.specs.Roles.{kind_in_order, kinds_of}
 use Rattle.worker_core.specs.States.{ActorState, read_of_kind, start_call}
 use Rattle.worker_core.specs.Tasks.{GivesCall, GivesNone}
 
@@ -48,7 +48,7 @@ unlisted s = first_unlisted s.caches (kinds_of s.role.kind)
 
 -- the kind that the pass under way watches next, or none where no pass is under way
 abbrev pub passing : ActorState → Option Kind
-passing s = kind_at s.role s.pass.behind
+passing s = kind_in_order s.role s.pass.behind
 
 -- the turns
 
@@ -77,7 +77,7 @@ pub record BeginsUnder (old new : ActorState) (answer : Next) (w : Work) (u : Un
 pub record BeginsPass (old new : ActorState) (answer : Next) (w : Work) : Type 0 where
   pub brought : old.pass.event ≡ true
   pub kind : Kind
-  pub first : kind_at old.role 0 ≡ Some kind
+  pub first : kind_in_order old.role 0 ≡ Some kind
   pub call : answer ≡ nexts.Call (read_of_kind old.caches kind)
   pub state : new ≡ record old { work = w; pass = record { behind = 0; event = false }; given = Some (givens.Read kind) }
 

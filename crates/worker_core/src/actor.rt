@@ -105,11 +105,12 @@ impl Actor {
         requires { IsBuiltKind role.kind }
         ensures { IsNew role result }
     {
-        let behind = kinds_of(role.kind).len();
+        let kind = role.kind;
+        let behind = kinds_of(kind).len();
         Actor {
             alloc,
             role,
-            caches: Caches::new(alloc),
+            caches: new_caches(alloc, kind),
             queue: Queue::new(alloc),
             pass: Pass {
                 behind,
@@ -360,7 +361,7 @@ impl Actor {
         ensures { OnOk result (self.new ≡ woken self.old) }
     {
         let kinds = kinds_of(self.role.kind);
-        add_cached(self.alloc, &mut self.queue, &self.caches, kinds)?;
+        add_cached(&mut self.queue, &self.caches, kinds)?;
         self.pass = Pass {
             behind: 0,
             event: false,
@@ -379,7 +380,7 @@ impl Actor {
     fn clear(&mut self)
         ensures { IsNew self.old.role self.new }
     {
-        self.caches = Caches::new(self.alloc);
+        self.caches = new_caches(self.alloc, self.role.kind);
         self.queue = Queue::new(self.alloc);
         self.pass = Pass {
             behind: kinds_of(self.role.kind).len(),
@@ -388,5 +389,17 @@ impl Actor {
         self.memory = Remembered::new(self.alloc);
         self.under = None;
         self.given = None;
+    }
+}
+
+/// Caches that were told nothing. Those of an actor that chooses volumes keep an index of them.
+fn new_caches(alloc: Global, kind: SeatKind) -> Caches
+    ensures { AllStandFor result [] }
+{
+    match kind {
+        SeatKind::Binder | SeatKind::Ops | SeatKind::Scheduler => Caches::with_index(alloc),
+        SeatKind::ClaimProtect | SeatKind::VolumeProtect | SeatKind::Agent | SeatKind::User => {
+            Caches::new(alloc)
+        }
     }
 }

@@ -26,7 +26,7 @@ use Rattle.model_laws.proofs.Versions.{NextOf, outcome_next}
 use Rattle.device_model.specs.Kept.{State as DeviceState, is_for_devices}
 use Rattle.watch_log.specs.declared.log.LogError.{LogError}
 use Rattle.watch_log.specs.declared.log.LogError.TheVariants.{Gone, Ahead, OutOfMemory as NoMemory}
-use Rattle.watch_log.specs.Kept.{Log, StandsFor}
+use Rattle.watch_log.specs.Kept.{Log, LogStandsFor}
 use Rattle.world_core.specs.declared.parts.Parts.{Parts}
 use Rattle.world_core.specs.Moves.{AreOf, MayMove, made_of, event_of, with_event, version_after, Logs, IsAnswered}
 
@@ -261,7 +261,7 @@ moved_store setup old new w kind request o may is m a =
       devices = m.devices ∙ a.devices;
       base = m.base ∙ a.base;
       version = m.version ∙ next ∙ ap (λ s. (after s o).version) a.store;
-      log = subst (StandsFor new.log) (sym (logged o w.log)) (m.log w.log a.log);
+      log = subst (LogStandsFor new.log) (sym (logged o w.log)) (m.log w.log a.log);
     }
 
 store_reply : (o : Outcome) → reply_to (OnStore o) ≡ reply_of o
@@ -321,7 +321,7 @@ served setup w kind of from le ge = rw (lt_false w.store.version from le, lt_fal
 pub record LogAnswers (log : Log) (of : Kind) (from : ℕ) (r : Result EventsData LogError) : Type 0 where
   pub gone : from < oldest log.base log.version → r ≡ Err (Gone (oldest log.base log.version))
   pub ahead : log.version < from → r ≡ Err (Ahead log.version)
-  pub all : (all : List Event) → StandsFor log all → IfOk r (λ told. told ≡ told_events of from log.version all)
+  pub all : (all : List Event) → LogStandsFor log all → IfOk r (λ told. told ≡ told_events of from log.version all)
   pub memory : oldest log.base log.version ≤ from → from ≤ log.version → IfErr r (λ e. e ≡ NoMemory)
 
 oldest_now : (setup : Setup) (old : Parts) (w : World) → AreOf setup old w → oldest old.log.base old.log.version ≡ oldest (base setup) w.store.version

@@ -15,7 +15,7 @@ use Rattle.binder_model.specs.World.{World, base, first_world, world}
 use Rattle.binder_model.specs.Promises.{most_entries}
 use Rattle.model_laws.proofs.Imported.{pass_base}
 use Rattle.model_laws.proofs.Stood.{few_writes}
-use Rattle.watch_log.specs.Kept.{Log, AreAll, StandsFor}
+use Rattle.watch_log.specs.Kept.{Log, AreAll, LogStandsFor}
 use Rattle.world_core.specs.declared.parts.Parts.{Parts}
 use Rattle.world_core.specs.Moves.{AreOf, MayMove, AreAsBefore, IsAnswered}
 use Rattle.world_core.specs.Kept.{IsKept}
@@ -38,7 +38,7 @@ may_move setup past parts k =
 
 -- want of memory
 
-same_log : (old new : Log) (all : List Event) → new.base ≡ old.base → new.version ≡ old.version → new.events ≡ old.events → StandsFor old all → StandsFor new all
+same_log : (old new : Log) (all : List Event) → new.base ≡ old.base → new.version ≡ old.version → new.events ≡ old.events → LogStandsFor old all → LogStandsFor new all
 same_log old new all base version events s = record {
   all = subst (λ b. AreAll b new.version all) (sym base) (subst (λ v. AreAll old.base v all) (sym version) s.all);
   kept = events ∙ s.kept;
@@ -65,7 +65,7 @@ kept_as_before setup past old new b k = record {
 -- the beginning
 
 pub first_parts : (setup : Setup) (parts : Parts) → parts.store ≡ record { rows = rows_of_imports setup.imports setup.imports; version = base_of setup.imports }
-    → parts.log.base ≡ parts.store.version → parts.log.version ≡ parts.store.version → StandsFor parts.log []
+    → parts.log.base ≡ parts.store.version → parts.log.version ≡ parts.store.version → LogStandsFor parts.log []
     → parts.devices ≡ record { setup = record { pools = setup.pools; faults = setup.faults; imports = [] }; devices = no_devices }
     → parts.moment ≡ first_moment → AreOf setup parts (first_world setup)
 first_parts setup parts store base version log devices moment = record {

@@ -10,7 +10,7 @@ use Rattle.call_types.specs.declared.reply.Reply.{Reply}
 use Rattle.binder_model.specs.Answers.{Outcome, Says, Stores, Removes, outcome}
 use Rattle.binder_model.specs.Devices.{epoch_of}
 use Rattle.binder_model.specs.World.{World, base, stale_epoch, effect, reply_to, world_after}
-use Rattle.watch_log.specs.Kept.{Log, StandsFor}
+use Rattle.watch_log.specs.Kept.{Log, LogStandsFor}
 use Rattle.world_core.specs.declared.parts.Parts.{Parts}
 
 -- the parts are those of this world. The log keeps the newest of its events, and the devices have no use for imports
@@ -20,7 +20,7 @@ pub record AreOf (setup : Setup) (parts : Parts) (w : World) : Type 0 where
   pub devices : parts.devices ≡ record { setup = record { pools = setup.pools; faults = setup.faults; imports = [] }; devices = w.devices }
   pub base : parts.log.base ≡ base setup
   pub version : parts.log.version ≡ w.store.version
-  pub log : StandsFor parts.log w.log
+  pub log : LogStandsFor parts.log w.log
 
 -- no number is used up, and the log has reached the store's version
 pub record MayMove (parts : Parts) : Type 0 where
@@ -59,7 +59,7 @@ version_after (Some e) version = e.version
 
 -- the log is one event longer, if there is one
 abbrev pub Logs : Log → Log → Option Event → Type 0
-Logs old new event = (all : List Event) → StandsFor old all → StandsFor new (with_event event all)
+Logs old new event = (all : List Event) → LogStandsFor old all → LogStandsFor new (with_event event all)
 
 -- the call has moved the parts from the world that they were of to the world after it, and the reply and its copy are
 -- that world's

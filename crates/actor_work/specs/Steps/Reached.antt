@@ -6,7 +6,7 @@ use Rattle.actor_turns.specs.declared.player.Player.{Player}
 use Rattle.actor_turns.specs.Steps.Playing.{IsLife, Plays}
 
 -- the actor plays; and where it was woken, with calls left of those up to the end, it has made none since
-pub record HasReached (end : ℕ) (woken : Bool) (x : Player) (past : List Entry) : Type 0 where
+pub record HasPlayedTo (end : ℕ) (woken : Bool) (x : Player) (past : List Entry) : Type 0 where
   pub told : ℕ → List Entry
   pub plays : Plays x past told
   pub rests : woken ≡ true → x.made < end → (seat : ℕ) → x.seat ≤ seat → IsLife x.part seat → told seat ≡ own seat past

@@ -18,7 +18,7 @@ rule_of true (Ok u) = None
 rule_of true (Err rule) = Some (Licence rule)
 
 -- these entries, which are a run, are those of the world and of the seats
-pub record Stands (a : Auditor) (setup : Setup) (past : List Entry) : Type 0 where
+pub record AuditorStands (a : Auditor) (setup : Setup) (past : List Entry) : Type 0 where
   pub begun : a.world.setup ≡ setup
   pub passed : a.world.past ≡ past
   pub owned : AreOwn a.seats past
@@ -26,5 +26,5 @@ pub record Stands (a : Auditor) (setup : Setup) (past : List Entry) : Type 0 whe
 
 -- the next entry stands too, or breaks by the rule
 abbrev pub Judges : Option AuditRule → Auditor → Setup → List Entry → Entry → Type 0
-Judges None a setup past e = Stands a setup (e ∷ past)
+Judges None a setup past e = AuditorStands a setup (e ∷ past)
 Judges (Some rule) a setup past e = Breaks setup past e rule

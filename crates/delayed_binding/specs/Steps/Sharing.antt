@@ -58,7 +58,7 @@ pub record TakesBest (rows : List Object) (node : NodeData) (c : ClaimData) (bef
   pub binds_are : after.binds ≡ before.binds ++ pair_of c (volume_at rows place)
   pub provisions_are : after.provisions ≡ before.provisions
 
-pub record IsLeft (rows : List Object) (node : NodeData) (c : ClaimData) (before after : Held) : Type 0 where
+pub record IsLeftToProvision (rows : List Object) (node : NodeData) (c : ClaimData) (before after : Held) : Type 0 where
   pub none : IsBest rows c (Some node) false before.taken None
   pub can : can_provision rows c ≡ true
   pub after_is : after ≡ record before { provisions = before.provisions ++ key_of (Claim c) ∷ [] }
@@ -67,6 +67,6 @@ pub record IsUnserved (rows : List Object) (node : NodeData) (c : ClaimData) (be
   pub none : IsBest rows c (Some node) false before.taken None
   pub cannot : can_provision rows c ≡ false
 
-abbrev pub IsGiven : List Object → NodeData → ClaimData → Held → Held → Bool → Type 0
-IsGiven rows node c before after true = TakesBest rows node c before after ⊎ IsLeft rows node c before after
-IsGiven rows node c before after false = IsUnserved rows node c before
+abbrev pub IsServedAs : List Object → NodeData → ClaimData → Held → Held → Bool → Type 0
+IsServedAs rows node c before after true = TakesBest rows node c before after ⊎ IsLeftToProvision rows node c before after
+IsServedAs rows node c before after false = IsUnserved rows node c before

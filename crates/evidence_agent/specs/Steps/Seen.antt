@@ -20,8 +20,8 @@ use Rattle.binder_model.specs.Reading.{FoundNaming}
 use Rattle.evidence_agent.specs.declared.pods.ToldPod.{ToldPod}
 use Rattle.evidence_places.specs.Steps.Since.{Above, IsPodList, IsQuietBehind, Since, StandsAt, gets, mounts, takes, tells_unmounted}
 
-abbrev pub key_at : Kind → List ℕ → List ℕ → Key
-key_at kind namespace name = record { kind = kind; namespace = namespace; name = name }
+abbrev pub key_with_parts : Kind → List ℕ → List ℕ → Key
+key_with_parts kind namespace name = record { kind = kind; namespace = namespace; name = name }
 
 -- the last epoch of the node was told at the place, and is this one
 pub record IsTakenAt (mine : List Entry) (node : List ℕ) (epoch place : ℕ) : Type 0 where

@@ -29,14 +29,14 @@ come_new keys uids [] = true
 come_new keys uids (o ∷ os) = is_new keys uids o && come_new (keys ++ key_of o ∷ []) (uids ++ uid_number o ∷ []) os
 
 -- the object at the place, if any
-abbrev pub object_at : Option ℕ → List Object → Option Object
-object_at None os = None
-object_at (Some place) os = slice_get os place
+abbrev pub placed_object : Option ℕ → List Object → Option Object
+placed_object None os = None
+placed_object (Some place) os = slice_get os place
 
 -- the object whose UID is this one: that at its place among the UIDs
 abbrev pub referred : List ℕ → List Object → Option Uid → Option Object
 referred uids os None = None
-referred uids os (Some uid) = object_at (position (nat_eq uid.0) uids) os
+referred uids os (Some uid) = placed_object (position (nat_eq uid.0) uids) os
 
 -- the first is a volume that refers to the second wrongly, or has ended for it too early
 abbrev pub clash : Object → Object → Bool

@@ -3,14 +3,14 @@ use Rattle.std.proofs.Common.{refl, sym, inl, inr, true≢false}
 use Rattle.std.specs.Prelude.{ℕ, ◌==◌, List, [], ◌∷◌, Bool, Option, bytes_eq, codes, unwrap_or}
 use Rattle.call_types.specs.declared.request.SeatKind.TheVariants as seats
 use Rattle.node_agent.specs.declared.step.AgentStep.TheVariants as steps
-use Rattle.node_agent.specs.Evidence.{MayRead}
+use Rattle.node_agent.specs.Evidence.{MayReadForPod}
 use Rattle.model_examples.specs.Samples.{entry_of, node_1, p, seat_of, takes, tells_pod}
 use Rattle.model_examples.proofs.Tellings.{differ, neither}
 use Rattle.model_laws.proofs.Lists.{none_some}
 use Rattle.machine_examples.specs.Guard.AgentEvidences.{AgentEvidenceExamples}
 use Rattle.machine_examples.specs.Guard.AgentMoves.{on_p}
 
-standing : MayRead (on_p steps.Done) (seat_of seats.Agent (tells_pod p ∷ takes node_1 1 ∷ []))
+standing : MayReadForPod (on_p steps.Done) (seat_of seats.Agent (tells_pod p ∷ takes node_1 1 ∷ []))
 standing = record {
   current = refl;
   recent = [];

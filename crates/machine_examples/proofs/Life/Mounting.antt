@@ -34,7 +34,7 @@ use Rattle.worker_core.specs.Tasks.{GivesCall, IsAgentFirst, IsDecision, agent_f
 use Rattle.worker_core.proofs.Begins.{begins}
 use Rattle.worker_core.proofs.KeyMoves.{is_key}
 use Rattle.attention_law.specs.Diligence.{AreFourWatches, Call, IsAskedFor, IsDiligent, IsKeyDue, IsQuiet, Shows, WasAskedSince, entries, watches}
-use Rattle.attention_law.specs.Played.{Begins, Gives, IsPlayed, LostAfter, LostBefore, Told, Wakes}
+use Rattle.attention_law.specs.Played.{Begins, PlaysCall, IsPlayed, LostAfter, LostBefore, Told, Wakes}
 use Rattle.attention_law.specs.Showing.{IsDiligentInOrder, IsDueInOrder}
 use Rattle.attention_law.proofs.Dues.{asked_no_watch}
 use Rattle.attention_law.proofs.Following.{played_is_diligent, same_role, stands_now}
@@ -222,7 +222,7 @@ module _ (role : Role) where
   abbrev stale_in : Memory → Bool
   stale_in m = m.stale
 
-  fresh_then : (s new : ActorState) (calls : List Call) (request : Request) (outcome : Outcome) → IsPlayed role s calls → Gives s new request outcome (entries calls) → (memory_of role (entries calls)).stale ≡ false
+  fresh_then : (s new : ActorState) (calls : List Call) (request : Request) (outcome : Outcome) → IsPlayed role s calls → PlaysCall s new request outcome (entries calls) → (memory_of role (entries calls)).stale ≡ false
   fresh_then s new calls request outcome played gives =
       let own : memory_of s.role (entries calls) ≡ memory_of role (entries calls) = ap (λ r. memory_of r (entries calls)) (same_role role s calls played) in
       ap stale_in (sym ((stands_now role s calls played).memory ∙ own)) ∙ calls_fresh s gives.turned request gives.turns.turn

@@ -4,11 +4,11 @@ use Rattle.std.specs.Prelude.{List, [], ◌∷◌}
 use Rattle.call_types.specs.declared.request.SeatKind.TheVariants as seats
 use Rattle.binder_machines.specs.declared.machine.Machine.{Machine}
 use Rattle.binder_machines.specs.declared.machine.Machine.TheVariants.{Binds, Releases}
-use Rattle.binder_machines.specs.Evidence.{Keeps}
+use Rattle.binder_machines.specs.Evidence.{MachineKeeps}
 use Rattle.model_examples.specs.Samples.{Exchange, a, c, finds_none, key_c, seat_of, taken_a, tells_both, tells_volume}
 
 abbrev pub After : List Exchange → Machine → Type 0
-After xs machine = Keeps machine (seat_of seats.Binder xs)
+After xs machine = MachineKeeps machine (seat_of seats.Binder xs)
 
 pub record EvidenceExamples : Type 0 where
   pub binds_what_was_told : After (tells_both c a) (Binds a c)

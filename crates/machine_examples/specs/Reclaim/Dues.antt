@@ -9,14 +9,14 @@ use Rattle.call_types.specs.declared.setup.Setup.{Setup}
 use Rattle.reclaim_ops.specs.declared.provision.ProvisionOp.{ProvisionOp}
 use Rattle.reclaim_ops.specs.declared.provision.ProvisionStep.TheVariants as steps
 use Rattle.reclaim_ops.specs.BeginLaw.{lists_or_watches}
-use Rattle.reclaim_ops.specs.DueLaw.{due_of}
+use Rattle.reclaim_ops.specs.DueLaw.{due_of_provision}
 use Rattle.model_examples.specs.DueActions.{far_setup, pool_setup, small_setup, with_rows}
 use Rattle.model_examples.specs.Samples.{id_a, key_a, zone}
 use Rattle.machine_examples.specs.Reclaim.ProvisionMoves.{at_once, on_node}
 
 -- in a world without objects whose pools are these
 abbrev pub DueIn : Setup → Option ProvisionOp → Option Due → Type 0
-DueIn setup op action = due_of setup (with_rows []) op ≡ action
+DueIn setup op action = due_of_provision setup (with_rows []) op ≡ action
 
 pub record DueExamples : Type 0 where
   pub provision_where_a_pool_fits : DueIn pool_setup (Some (at_once (steps.Provisions None))) (Some dues.Provision)

@@ -28,7 +28,7 @@ use Rattle.script_runs.specs.declared.stage.Stage.{Stage}
 use Rattle.script_runs.specs.Examples.{script_of}
 use Rattle.script_runs.specs.Parts.{drain_roles, drain_seat, drain_seats}
 use Rattle.script_runs.specs.Replays.{EndsAs, IsDrain, IsReplay, Progress, first_progress}
-use Rattle.script_runs.specs.Steps.Standing.{Stands}
+use Rattle.script_runs.specs.Steps.Standing.{StageStands}
 use Rattle.run_examples.specs.Replay.Calls.{reads}
 use Rattle.run_examples.specs.Replay.Replays.{empty_script}
 
@@ -72,7 +72,7 @@ pub record DrainExamples : Type 0 where
 -- the actors of a drain of a script with a node, made for no node: the agent lacks
 pub record ActorExamples : Type 0 where
   pub no_drain_without_its_agent : (before after : Progress) (d : IsDrain all_pass node_script None before after) → AreNew (drain_seat node_script) [] d.drainers → ⊥
-  pub no_stage_without_it : (p : Progress) (s : Stage) → AreNew (drain_seat node_script) [] s.drainers → Stands node_script None p s → ⊥
+  pub no_stage_without_it : (p : Progress) (s : Stage) → AreNew (drain_seat node_script) [] s.drainers → StageStands node_script None p s → ⊥
   pub with_it_they_are_its_actors : (ds : List Drainer) → AreNew (drain_seat node_script) node_script.node_names ds → (seats_of ds ≡ drain_seats node_script) × (roles_of ds ≡ drain_roles node_script)
 
 -- ---- drains that do something else than rounds of all controllers in their order

@@ -109,7 +109,7 @@ abbrev pub IsBudget : Option ℕ → ℕ → Type 0
 IsBudget (Some given) budget = budget ≡ given
 IsBudget None budget = budget ≤ most_budget
 
-pub record Stands (script : Script) (option : Option ℕ) (p : Progress) (s : Stage) : Type 0 where
+pub record StageStands (script : Script) (option : Option ℕ) (p : Progress) (s : Stage) : Type 0 where
   pub past : s.world.past ≡ p.past
   pub setup : s.world.setup ≡ script.setup
   pub parts : parts_in s.players.items ≡ all_parts script
@@ -128,7 +128,7 @@ pub record Stands (script : Script) (option : Option ℕ) (p : Progress) (s : St
 
 pub record SomeStands (script : Script) (option : Option ℕ) (s : Stage) : Type 0 where
   pub progress : Progress
-  pub stands : Stands script option progress s
+  pub stands : StageStands script option progress s
 
 -- no player has made more calls
 abbrev pub MadeAtMost : ℕ → Stage → Type 0
@@ -138,17 +138,17 @@ MadeAtMost most s = EachPlayer (λ x. x.made ≤ most) s.players.items
 pub record Leads (script : Script) (option : Option ℕ) (Moves : Progress → Progress → Type 0) (before : Progress) (s : Stage) : Type 0 where
   pub after : Progress
   pub move : Moves before after
-  pub stands : Stands script option after s
+  pub stands : StageStands script option after s
 
 -- a move of this kind was made
 abbrev pub HasMoved : Script → Option ℕ → (Progress → Progress → Type 0) → Stage → Stage → Type 0
-HasMoved script option Moves old new = (p : Progress) → Stands script option p old → Leads script option Moves p new
+HasMoved script option Moves old new = (p : Progress) → StageStands script option p old → Leads script option Moves p new
 
 -- the last drain was made, and so all drains ended
 pub record Ended (script : Script) (option : Option ℕ) (before : Progress) (s : Stage) (ending : Drained) : Type 0 where
   pub after : Progress
   pub move : IsDrain all_pass script option before after
-  pub stands : Stands script option after s
+  pub stands : StageStands script option after s
   pub ends : EndsAs script.setup after ending
 
 abbrev pub with_made : ℕ → Drained → Drained
@@ -158,5 +158,5 @@ with_made made (Spent before key due) = Spent made key due
 -- the lines before a place are done
 pub record SoFar (script : Script) (option : Option ℕ) (place : ℕ) (s : Stage) : Type 0 where
   pub progress : Progress
-  pub stands : Stands script option progress s
+  pub stands : StageStands script option progress s
   pub moves : (end : Progress) → AreMoves script option end (drop place script.lines) progress → AreMoves script option end script.lines (first_progress option)

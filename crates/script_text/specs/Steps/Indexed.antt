@@ -13,7 +13,7 @@ use Rattle.script_text.specs.declared.script.Meaning.{Meaning}
 use Rattle.script_text.specs.declared.script.Meaning.TheVariants as meanings
 use Rattle.script_text.specs.declared.index.Index.{Index}
 use Rattle.script_text.specs.declared.progress.Progress.{Progress}
-use Rattle.script_lines.specs.Answers.{Fails}
+use Rattle.script_lines.specs.Answers.{MemberFails}
 use Rattle.script_text.specs.Said.{Said, has_begun, agents_of, objects_of, losses_of, restarts_of, calls_of}
 use Rattle.script_text.specs.Steps.Numbers.{numbers_at}
 
@@ -46,7 +46,7 @@ AreFaults ns = IsRising nat_cmp (λ n. n) ns
 abbrev pub said_by : Progress → Said
 said_by p = record { pools = p.pools; sizes = p.sizes; faults = p.faults.items; imports = p.imports; lines = p.lines; numbers = p.numbers }
 
-pub record Stands (p : Progress) : Type 0 where
+pub record ProgressStands (p : Progress) : Type 0 where
   pub faults : AreFaults p.faults.items
   pub index : IsIndex p.index p.imports p.lines
 
@@ -59,5 +59,5 @@ CanTake lines (meanings.Line line) = ⊤
 
 -- the progress is this, unless the line is refused
 abbrev pub Takes : Result Unit LineError → Progress → Result Said Reason → Type 0
-Takes (Ok u) p answer = Stands p × (answer ≡ Ok (said_by p))
-Takes (Err e) p answer = Fails e answer
+Takes (Ok u) p answer = ProgressStands p × (answer ≡ Ok (said_by p))
+Takes (Err e) p answer = MemberFails e answer

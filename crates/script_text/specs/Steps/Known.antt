@@ -10,7 +10,7 @@ use Rattle.script_text.specs.declared.reading.Known.{Known}
 use Rattle.script_lines.specs.Answers.{ScriptFails}
 use Rattle.script_text.specs.Said.{Said}
 use Rattle.script_text.specs.Grammar.{agents_in}
-use Rattle.script_text.specs.Steps.Indexed.{Stands, said_by}
+use Rattle.script_text.specs.Steps.Indexed.{ProgressStands, said_by}
 
 abbrev pub IsKnown : Known → List (List ℕ) → Type 0
 IsKnown known lines = known.found ≡ true → known.agents ≡ agents_in lines
@@ -25,5 +25,5 @@ abbrev pub IfNamed : Verb → Type 0 → Type 0
 IfNamed verb holds = names_actor verb ≡ true → holds
 
 abbrev pub SaidGives : Result Progress ScriptError → Result Said BadLine → Type 0
-SaidGives (Ok p) answer = Stands p × (answer ≡ Ok (said_by p))
+SaidGives (Ok p) answer = ProgressStands p × (answer ≡ Ok (said_by p))
 SaidGives (Err e) answer = ScriptFails e answer

@@ -1,16 +1,8 @@
--- The first object of a list for which something is due, and what a read told. For the proofs alone.
+-- The first object of a list for which something is due. For the proofs alone.
 use Rattle.std.specs.Prelude.{◌≡◌, ◌⊎◌, List, [], ◌∷◌, Option, Some, None}
 use Rattle.kube_types.specs.declared.names.Due.{Due}
 use Rattle.kube_types.specs.declared.objects.Object.{Object}
-use Rattle.kube_types.specs.declared.lookup.Live.{Live}
-use Rattle.kube_types.specs.declared.lookup.Live.TheVariants.{NotAsked, Absent, Present}
 use Rattle.settle_check.specs.declared.first.FirstDue.{FirstDue}
-
--- the object that a read told
-abbrev pub object_read : Live → Option Object
-object_read NotAsked = None
-object_read Absent = None
-object_read (Present o) = Some o.now
 
 abbrev pub first_pair : Option FirstDue → Option (Object × Due)
 first_pair None = None

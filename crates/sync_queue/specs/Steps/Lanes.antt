@@ -1,14 +1,15 @@
 -- How the map of stages and the three lists of keys go together: choices of this project, which no public clause names.
-use Rattle.std.specs.Prelude.{◌≡◌, ℕ, ◌+◌, ◌≤◌, Bool, true, false, List, [], ◌∷◌, ◌++◌, Option, None, Some, map, if◌then◌else◌}
+use Rattle.std.specs.Prelude.{◌≡◌, ℕ, ◌+◌, ◌≤◌, Bool, true, false, List, [], ◌∷◌, ◌++◌, Option, None, Some, map, length, if◌then◌else◌}
 use Rattle.std.specs.List.{list_any}
 use Rattle.kube_types.specs.declared.key.Key.{Key}
 use Rattle.std.specs.VecDeque.{deque_len, deque_capacity}
-use Rattle.indexmap.specs.IndexMap.{get}
+use Rattle.indexmap.specs.IndexMap.{get, keys}
 use Rattle.sync_queue.specs.declared.lanes.Lanes.{Lanes}
 use Rattle.sync_queue.specs.declared.lanes.Stage.{Stage}
-use Rattle.sync_queue.specs.declared.lanes.Stage.TheVariants.{Waiting, Taken, Again, Parked}
+use Rattle.sync_queue.specs.declared.lanes.Stage.TheVariants.{Waiting, Taken, Again, Parked, Gone}
 use Rattle.kube_types.specs.Keys.{same_key}
 use Rattle.sync_queue.specs.Work.{Work, AreOnce}
+use Rattle.sync_queue.specs.Steps.Places.{AreBelow, key_there, keys_at}
 use Rattle.sync_queue.specs.Work.{Taken as TakenKey}
 
 -- tests of a key's stage, None where the map has no such key
@@ -18,6 +19,7 @@ is_waiting (Some Waiting) = true
 is_waiting (Some Taken) = false
 is_waiting (Some Again) = false
 is_waiting (Some Parked) = false
+is_waiting (Some Gone) = false
 
 abbrev pub is_taken : Option Stage → Bool
 is_taken None = false
@@ -25,6 +27,7 @@ is_taken (Some Waiting) = false
 is_taken (Some Taken) = true
 is_taken (Some Again) = true
 is_taken (Some Parked) = false
+is_taken (Some Gone) = false
 
 abbrev pub is_again : Option Stage → Bool
 is_again None = false
@@ -32,6 +35,7 @@ is_again (Some Waiting) = false
 is_again (Some Taken) = false
 is_again (Some Again) = true
 is_again (Some Parked) = false
+is_again (Some Gone) = false
 
 abbrev pub is_parked : Option Stage → Bool
 is_parked None = false
@@ -39,6 +43,7 @@ is_parked (Some Waiting) = false
 is_parked (Some Taken) = false
 is_parked (Some Again) = false
 is_parked (Some Parked) = true
+is_parked (Some Gone) = false
 
 -- the list has the keys whose stage passes the test, each once
 pub record IsLane (test : Option Stage → Bool) (stage : Key → Option Stage) (ks : List Key) : Type 0 where
@@ -82,13 +87,32 @@ pub record HaveRoom (w t p a b c : ℕ) : Type 0 where
 abbrev pub stage_in : Lanes → Key → Option Stage
 stage_in l = get same_key l.stages
 
+-- the key at a place of the map
+abbrev pub key_in : Lanes → ℕ → Key
+key_in l place = key_there (keys l.stages) place
+
+-- the keys of a list of places
+abbrev pub keys_in : Lanes → List ℕ → List Key
+keys_in l places = keys_at (keys l.stages) places
+
+-- the key that stands there among those that are taken
+abbrev pub taken_in : Lanes → ℕ → Key
+taken_in l at = key_there (keys_in l l.taken.items) at
+
 -- the work that the map and the lists stand for
 abbrev pub work_in : Lanes → Work
-work_in l = work_of (stage_in l) l.waiting.items l.taken.items l.parked.items
+work_in l = work_of (stage_in l) (keys_in l l.waiting.items) (keys_in l l.taken.items) (keys_in l l.parked.items)
+
+-- the places on the lists are those of keys
+pub record AreKeys (l : Lanes) : Type 0 where
+  pub waiting : AreBelow (length (keys l.stages)) l.waiting.items
+  pub taken : AreBelow (length (keys l.stages)) l.taken.items
+  pub parked : AreBelow (length (keys l.stages)) l.parked.items
 
 -- each key stands on the list of its stage, and has room on the others
 pub record IsSound (l : Lanes) : Type 0 where
-  pub lanes : AreLanes (stage_in l) l.waiting.items l.taken.items l.parked.items
+  pub lanes : AreLanes (stage_in l) (keys_in l l.waiting.items) (keys_in l l.taken.items) (keys_in l l.parked.items)
+  pub places : AreKeys l
   pub room : HaveRoom (deque_len l.waiting) (deque_len l.taken) (deque_len l.parked) (deque_capacity l.waiting) (deque_capacity l.taken) (deque_capacity l.parked)
 
 -- each list has room for one key more than there are

@@ -1,14 +1,17 @@
 //! Which volume serves a claim.
 
 use crate::words::{flag, table_of, word};
+use kube_types::bindings::class_of_claim;
 use kube_types::lookup::Lookup;
 use kube_types::objects::{Claim, Node, Object, Volume};
 use kube_types::parts::Kind;
 use kube_types::table::Table;
 use label_rules::{admits, selects};
 use plain_data::copies::OutOfMemory;
+use plain_data::text::Text;
 use std::alloc::Global;
 use volume_match::{best, covers, fits, place_named, row_named, satisfies};
+use volume_places::{volume_by_size, volume_for};
 
 /// The name of the volume at a place, or `none`.
 pub fn name_at<L: Lookup>(
@@ -81,6 +84,35 @@ fn named_in(alloc: Global, table: &Table, claim: &Claim) -> Result<String, OutOf
     }
 }
 
+fn place_word(alloc: Global, place: Option<usize>) -> Result<String, OutOfMemory> {
+    match place {
+        None => word(alloc, "none"),
+        Some(place) => Ok(format!(in alloc; "{place}")?),
+    }
+}
+
+// Where the volume of this number stands among those of the claim's class and volume mode.
+fn sized_in(
+    alloc: Global,
+    table: &Table,
+    claim: &Claim,
+    nth: usize,
+) -> Result<String, OutOfMemory> {
+    let class = Text::new(alloc, class_of_claim(claim))?;
+    place_word(alloc, volume_by_size(table, claim.block, &class, nth))
+}
+
+// Where the volume of this number stands among those that refer to the claim.
+fn owned_in(
+    alloc: Global,
+    table: &Table,
+    claim: &Claim,
+    nth: usize,
+) -> Result<String, OutOfMemory> {
+    let (namespace, name) = (&claim.meta.namespace, &claim.meta.name);
+    place_word(alloc, volume_for(table, namespace, name, nth))
+}
+
 /// What a call answers of a claim and a look-up with the other objects.
 pub fn among(
     alloc: Global,
@@ -98,6 +130,13 @@ pub fn among(
         "best-but-2-0-1" => best_in(alloc, &table, claim, false, &[2, 0, 1]),
         "best-own-but-2" => best_in(alloc, &table, claim, true, &[2]),
         "named" => named_in(alloc, &table, claim),
+        "sized-0" => sized_in(alloc, &table, claim, 0),
+        "sized-1" => sized_in(alloc, &table, claim, 1),
+        "sized-2" => sized_in(alloc, &table, claim, 2),
+        "sized-3" => sized_in(alloc, &table, claim, 3),
+        "owned-0" => owned_in(alloc, &table, claim, 0),
+        "owned-1" => owned_in(alloc, &table, claim, 1),
+        "owned-2" => owned_in(alloc, &table, claim, 2),
         _ => word(alloc, "no such call"),
     }
 }

@@ -1,7 +1,9 @@
 -- Where the objects of each kind begin among rows, as the store keeps it. A choice of this project.
-use Rattle.std.specs.Prelude.{ℕ, ◌≤◌, List, length}
+use Rattle.std.specs.Prelude.{ℕ, ◌≤◌, List, Option, length}
 use Rattle.kube_types.specs.declared.objects.Object.{Object}
 use Rattle.kube_types.specs.Keys.{AreRows, IsKindStart}
+use Rattle.kube_types.specs.VolumeIndex.{Index}
+use Rattle.kept_index.specs.Keeping.{Keeps}
 use Rattle.version_store.specs.declared.starts.Starts.{Starts}
 
 -- the objects of earlier kinds stand before this place, and those of this kind and of later ones from it on
@@ -15,7 +17,8 @@ pub record AreStarts (rows : List Object) (s : Starts) : Type 0 where
   pub claims : BeginsAt 3 rows s.claims
   pub pods : BeginsAt 4 rows s.pods
 
--- the rows of the store are in order, and it knows where each kind begins
-pub record AreKept (rows : List Object) (s : Starts) : Type 0 where
+-- the rows of the store are in order, it knows where each kind begins, and where it has an index, that stands for the volumes among them
+pub record AreKept (rows : List Object) (s : Starts) (i : Option Index) : Type 0 where
   pub order : AreRows rows
   pub starts : AreStarts rows s
+  pub index : Keeps i rows

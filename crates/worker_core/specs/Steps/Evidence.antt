@@ -3,7 +3,7 @@ use Rattle.std.specs.Prelude.{List}
 use Rattle.call_types.specs.declared.entry.Entry.{Entry}
 use Rattle.call_types.specs.declared.request.SeatKind.{SeatKind}
 use Rattle.call_types.specs.declared.request.SeatKind.TheVariants as seats
-use Rattle.binder_machines.specs.Evidence.{Keeps}
+use Rattle.binder_machines.specs.Evidence.{MachineKeeps}
 use Rattle.node_agent.specs.Evidence.{AgentKeeps}
 use Rattle.pod_scheduler.specs.Evidence.{ScheduleKeeps}
 use Rattle.protect_sync.specs.Evidence.{ClaimKeeps, VolumeKeeps}
@@ -12,7 +12,7 @@ use Rattle.worker_core.specs.declared.task.Task.{Task}
 use Rattle.worker_core.specs.declared.task.Task.TheVariants as tasks
 
 abbrev pub TaskKeeps : Task → List Entry → Type 0
-TaskKeeps (tasks.Binder machine) mine = Keeps machine mine
+TaskKeeps (tasks.Binder machine) mine = MachineKeeps machine mine
 TaskKeeps (tasks.ClaimProtect op) mine = ClaimKeeps op mine
 TaskKeeps (tasks.VolumeProtect op) mine = VolumeKeeps op mine
 TaskKeeps (tasks.Agent op) mine = AgentKeeps op mine

@@ -6,7 +6,7 @@ use Rattle.actor_turns.specs.declared.part.Part.{Part}
 use Rattle.actor_turns.specs.declared.player.Player.{Player}
 use Rattle.actor_turns.specs.Calls.{NoCalls}
 use Rattle.actor_turns.specs.Steps.Playing.{HasTurned, IsLife}
-use Rattle.actor_work.specs.Steps.Reached.{HasReached}
+use Rattle.actor_work.specs.Steps.Reached.{HasPlayedTo}
 use Rattle.actor_work.specs.Working.{HasWorked}
 use Rattle.actor_work.proofs.Working.{calls_on, smaller, some_lives, turn_made, turn_reached, turn_stale, worked_lives}
 use Rattle.actor_work.proofs.turns.turns.Goals as goal
@@ -114,7 +114,7 @@ returns-then-is_stuck-clause-whole g c =
     let calls = (c.args.player.now.made + c.args.calls) - old.made in
     let r = c.in_ok-turn.ensures in
     let stuck = c.is_stuck.ensures.stuck c.if-is_stuck.true in
-    let reached = subst (λ (w : Bool). HasReached (c.args.player.now.made + c.args.calls) w old before) stuck.0 i.reached in
+    let reached = subst (λ (w : Bool). HasPlayedTo (c.args.player.now.made + c.args.calls) w old before) stuck.0 i.reached in
     let t = turned (g.W.Answers.lets c.loop-player.desk) calls reached.told before after old new i.passes (r.turned reached.told reached.plays) in
     let kind : c.kind-kind.result ≡ old.part.kind = c.kind-kind.ensures.kind ∙ c.requires.plays.plays.kind ∙ ap (λ (p : Part). p.kind) (sym i.part) in
     let stale = turn_stale (c.args.player.now.made + c.args.calls) before after old new reached (ap (λ (p : Part). p.named) i.part ∙ c.requires.named) (subst IsBuiltKind kind c.kind-kind.ensures.built) c.loop-player-test.true stuck.1 t in

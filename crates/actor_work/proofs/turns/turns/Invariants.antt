@@ -5,7 +5,7 @@ use Rattle.seat_calls.specs.Answered.{all_pass}
 use Rattle.worker_core.specs.declared.role.Role.{Role}
 use Rattle.actor_turns.specs.Calls.{AreCalls}
 use Rattle.actor_turns.specs.Steps.Living.{Lives}
-use Rattle.actor_work.specs.Steps.Reached.{HasReached}
+use Rattle.actor_work.specs.Steps.Reached.{HasPlayedTo}
 use Rattle.actor_work.specs.Working.{SomeLives}
 use Rattle.actor_work.proofs.turns.turns.Given as goal
 
@@ -21,7 +21,7 @@ invariant-loop-player g l = record {
   orders : (seat : ℕ) → g.W.Answers.orders l.desk seat → g.W.Answers.orders l.initial.desk seat;
   lent : g.W.Answers.lent l.desk ≡ g.W.Answers.lent l.initial.desk;
   calls : AreCalls all_pass l.initial.player.held l.initial.player.part (g.W.Answers.past l.desk) (l.initial.player.made + 1) (l.player.made - l.initial.player.made) (g.W.Answers.past l.initial.desk);
-  reached : HasReached l.end l.woken l.player (g.W.Answers.past l.desk);
+  reached : HasPlayedTo l.end l.woken l.player (g.W.Answers.past l.desk);
   lived : (role : Role) (idle : ℕ → List Call) → Lives role l.initial.player (g.W.Answers.past l.initial.desk) idle → SomeLives role l.player (g.W.Answers.past l.desk);
   actors : AreByActors (g.W.Answers.past l.initial.desk) → AreByActors (g.W.Answers.past l.desk);
 }

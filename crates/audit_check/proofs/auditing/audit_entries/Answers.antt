@@ -2,7 +2,7 @@ use Rattle.std.proofs.Common.{◌<◌, ◌∷◌, Option, length, reverse, take,
 use Rattle.call_types.specs.declared.entry.Entry.{Entry}
 use Rattle.audit_check.specs.declared.verdict.AuditRule.{AuditRule}
 use Rattle.audit_check.specs.Verdicts.{Breaks}
-use Rattle.audit_check.specs.Steps.Judged.{Judges, Stands}
+use Rattle.audit_check.specs.Steps.Judged.{Judges, AuditorStands}
 use Rattle.audit_check.proofs.Breaks.{first_break}
 use Rattle.audit_check.proofs.Judged.{next_stands}
 use Rattle.audit_check.proofs.auditing.audit_entries.Goals as goal
@@ -24,5 +24,5 @@ loop-i-preserved c =
     let judged : Judges c.in_ok-rule.field-0 c.judge.new.self c.args.setup.now past c.index-entries-i.result =
     c.in_ok-rule.ensures c.args.setup.now past c.loop-i.invariant in
     next_stands c.judge.new.self c.args.setup.now c.args.entries.now c.loop-i.i c.index-entries-i.result within
-    (subst (λ (e : Entry). Stands c.judge.new.self c.args.setup.now (e ∷ past)) c.index-entries-i.is
+    (subst (λ (e : Entry). AuditorStands c.judge.new.self c.args.setup.now (e ∷ past)) c.index-entries-i.is
     (subst (λ (rule : Option AuditRule). Judges rule c.judge.new.self c.args.setup.now past c.index-entries-i.result) c.in_default.is judged))

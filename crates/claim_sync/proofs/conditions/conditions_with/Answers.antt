@@ -1,4 +1,4 @@
-use Rattle.claim_sync.specs.Steps.Conditions.{conditions_on}
+use Rattle.claim_sync.specs.Conditions.{conditions_on}
 use Rattle.claim_sync.proofs.conditions.conditions_with.Goals as goal
 
 pub returns : goal.returns

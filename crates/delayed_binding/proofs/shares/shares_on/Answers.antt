@@ -1,6 +1,6 @@
 use Rattle.std.proofs.Common.{◌+◌, drop, length, refl, subst, sym, take}
 use Rattle.std.proofs.lemmas.Option.{slice_get_read}
-use Rattle.delayed_binding.specs.Steps.Sharing.{HaveNoShares, IsGiven, IsSharedOut, held_by}
+use Rattle.delayed_binding.specs.Steps.Sharing.{HaveNoShares, IsServedAs, IsSharedOut, held_by}
 use Rattle.delayed_binding.proofs.Placing.{split_at, take_next}
 use Rattle.delayed_binding.proofs.Sharing.{not_shared, shared_more}
 use Rattle.delayed_binding.proofs.shares.shares_on.Goals as goal
@@ -13,7 +13,7 @@ returns-then-not-branch-clause-none g c =
     let i = c.loop-claim.claim-index in
     let x = c.claim-item.result in
     let at = slice_get_read cs (length cs) i x refl c.loop-claim-test.true c.claim-item.is in
-    let given = subst (IsGiven rows n x (held_by c.loop-claim.shares) (held_by c.give.new.self)) c.if-not-branch.true c.in_ok-give.ensures in
+    let given = subst (IsServedAs rows n x (held_by c.loop-claim.shares) (held_by c.give.new.self)) c.if-not-branch.true c.in_ok-give.ensures in
     subst (HaveNoShares rows n) (split_at cs i x at) (not_shared rows n c.set_aside.ensures.order (take i cs) (held_by c.loop-claim.shares) c.loop-claim.invariant x (drop (i + 1) cs) given)
 
 pub loop-claim-preserved : goal.loop-claim-preserved
@@ -24,5 +24,5 @@ loop-claim-preserved g c =
     let i = c.loop-claim.claim-index in
     let x = c.claim-item.result in
     let at = slice_get_read cs (length cs) i x refl c.loop-claim-test.true c.claim-item.is in
-    let given = subst (IsGiven rows n x (held_by c.loop-claim.shares) (held_by c.give.new.self)) c.if-not-branch.false c.in_ok-give.ensures in
+    let given = subst (IsServedAs rows n x (held_by c.loop-claim.shares) (held_by c.give.new.self)) c.if-not-branch.false c.in_ok-give.ensures in
     subst (λ xs. IsSharedOut rows n xs (held_by c.give.new.self)) (sym (take_next cs i x at)) (shared_more rows n (take i cs) (held_by c.loop-claim.shares) (held_by c.give.new.self) c.loop-claim.invariant x given)

@@ -1,4 +1,4 @@
-use Rattle.std.proofs.Common.{◌≡◌, ◌+◌, ◌-◌, ◌≤◌, arith, sym, length}
+use Rattle.std.proofs.Common.{◌≡◌, ◌+◌, ◌-◌, arith, sym}
 use Rattle.kube_types.specs.Keys.{kind_index, kind_of}
 use Rattle.kube_types.proofs.KindRows.{ordered, between}
 use Rattle.kube_types.proofs.table.between_starts.Goals as goal

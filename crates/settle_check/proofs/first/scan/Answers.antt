@@ -10,8 +10,8 @@ use Rattle.settle_check.specs.Steps.Scan.{IsFirstIn}
 use Rattle.settle_check.proofs.Scanned.{ends_at, goes_on, stands_at}
 use Rattle.settle_check.proofs.first.scan.Goals as goal
 
-pub object_due-requires : goal.object_due-requires
-object_due-requires c =
+pub object_due-requires-clause-stands : goal.object_due-requires-clause-stands
+object_due-requires-clause-stands c =
     let w = c.args.world.now in
     let items = c.objects-objects.result.now in
     let o = c.object-item.result in

@@ -1,7 +1,7 @@
 use Rattle.std.proofs.Common.{◌≡◌, ◌+◌, ◌-◌, ◌/◌, ◌<◌, ◌≤◌, length, subst, arith}
 use Rattle.kube_types.specs.Keys.{key_cmp, key_of, rows_of}
 use Rattle.plain_data.proofs.RowFacts.{Parted, parted_greater, parted_less}
-use Rattle.volume_match.specs.Named.{key_at}
+use Rattle.volume_match.specs.Named.{key_with_parts}
 use Rattle.volume_match.proofs.KindSearch.{no_row, order_seen, order_there, row_there}
 use Rattle.volume_match.proofs.named.place_named.Goals as goal
 
@@ -28,4 +28,4 @@ pub returns-clause-none : goal.returns-clause-none
 returns-clause-none g c =
     let p = c.loop-low.invariant in
     let same : c.loop-low.high ≡ c.loop-low.low = omega (arith, p.order) in
-    no_row c.args.kind c.args.namespace.now c.args.name.now _ _ c.count-high.ensures.order (subst (λ high. Parted (λ o. key_cmp (key_of o) (key_at c.args.kind c.args.namespace.now c.args.name.now)) (rows_of c.args.kind (g.L.Lookup.rows c.args.lookup.now)) c.loop-low.low high) same p)
+    no_row c.args.kind c.args.namespace.now c.args.name.now _ _ c.count-high.ensures.order (subst (λ high. Parted (λ o. key_cmp (key_of o) (key_with_parts c.args.kind c.args.namespace.now c.args.name.now)) (rows_of c.args.kind (g.L.Lookup.rows c.args.lookup.now)) c.loop-low.low high) same p)

@@ -1,4 +1,4 @@
-use Rattle.volume_sync.specs.Steps.Conditions.{conditions_on}
+use Rattle.volume_sync.specs.Conditions.{conditions_on}
 use Rattle.volume_sync.proofs.decision.conditions_on.Goals as goal
 
 pub returns : goal.returns

@@ -1,31 +1,25 @@
-use Rattle.std.proofs.Common.{Some, None, sym, ap, ◌∙◌}
-use Rattle.sync_queue.specs.declared.lanes.Stage.TheVariants.{Waiting, Taken, Again, Parked}
-use Rattle.sync_queue.specs.Steps.Lanes.{stage_in}
-use Rattle.sync_queue.specs.Work.{put_off}
-use Rattle.sync_queue.proofs.Steps.{put_off-at}
+use Rattle.std.proofs.Common.{true, false, refl, sym, ap, ◌∙◌}
+use Rattle.sync_queue.specs.Steps.Lanes.{keys_in, stage_in, work_in}
+use Rattle.sync_queue.specs.Work.{put_aside, put_off, queued, released}
+use Rattle.sync_queue.proofs.Steps.{put_off-other, put_off-taken}
 use Rattle.sync_queue.proofs.queue.Queue.retry_later.Goals as goal
 
-pub returns-in-Some-Taken : goal.returns-in-Some-Taken
-returns-in-Some-Taken c =
+pub returns-in-Some-default-false : goal.returns-in-Some-default-false
+returns-in-Some-default-false c =
     let l = c.self.inside.lanes in
-    c.park.ensures.work ∙ (sym (put_off-at (stage_in l) c.args.key.now l.waiting.items l.taken.items l.parked.items c.self.invariant.lanes (Some Taken) (sym c.stage_of.ensures ∙ (c.in-Some-Taken.is ∙ ap Some c.in-Some-Taken.field-0-is))) ∙ ap (put_off c.args.key.now) c.self.view_is)
+    let k = c.of.result in
+    let e = c.in-Some-default-false in
+    c.park.ensures.work ∙ (ap (λ j. put_aside j (released j (work_in l))) e.ensures.key ∙ (sym (put_off-taken (stage_in l) k (keys_in l l.waiting.items) (keys_in l l.taken.items) (keys_in l l.parked.items) c.self.invariant.lanes (stage_in l k) refl false (sym e.ensures.taken) (sym e.ensures.again ∙ e.field-0-1-test)) ∙ (ap (put_off k) c.self.view_is ∙ ap (λ j. put_off j c.args.self.now) c.of.ensures)))
 
-pub returns-in-Some-Again : goal.returns-in-Some-Again
-returns-in-Some-Again c =
+pub returns-in-Some-default-true : goal.returns-in-Some-default-true
+returns-in-Some-default-true c =
     let l = c.self.inside.lanes in
-    c.requeue.ensures.work ∙ (sym (put_off-at (stage_in l) c.args.key.now l.waiting.items l.taken.items l.parked.items c.self.invariant.lanes (Some Again) (sym c.stage_of.ensures ∙ (c.in-Some-Again.is ∙ ap Some c.in-Some-Again.field-0-is))) ∙ ap (put_off c.args.key.now) c.self.view_is)
-
-pub returns-in-Some-Waiting : goal.returns-in-Some-Waiting
-returns-in-Some-Waiting c =
-    let l = c.self.inside.lanes in
-    sym c.self.view_is ∙ (sym (put_off-at (stage_in l) c.args.key.now l.waiting.items l.taken.items l.parked.items c.self.invariant.lanes (Some Waiting) (sym c.stage_of.ensures ∙ (c.in-Some-Waiting.is ∙ ap Some c.in-Some-Waiting.field-0-is))) ∙ ap (put_off c.args.key.now) c.self.view_is)
-
-pub returns-in-Some-Parked : goal.returns-in-Some-Parked
-returns-in-Some-Parked c =
-    let l = c.self.inside.lanes in
-    sym c.self.view_is ∙ (sym (put_off-at (stage_in l) c.args.key.now l.waiting.items l.taken.items l.parked.items c.self.invariant.lanes (Some Parked) (sym c.stage_of.ensures ∙ (c.in-Some-Parked.is ∙ ap Some c.in-Some-Parked.field-0-is))) ∙ ap (put_off c.args.key.now) c.self.view_is)
+    let k = c.of.result in
+    let e = c.in-Some-default-true in
+    c.requeue.ensures.work ∙ (ap (λ j. queued j (released j (work_in l))) e.ensures.key ∙ (sym (put_off-taken (stage_in l) k (keys_in l l.waiting.items) (keys_in l l.taken.items) (keys_in l l.parked.items) c.self.invariant.lanes (stage_in l k) refl true (sym e.ensures.taken) (sym e.ensures.again ∙ e.field-0-1-test)) ∙ (ap (put_off k) c.self.view_is ∙ ap (λ j. put_off j c.args.self.now) c.of.ensures)))
 
 pub returns-in-None : goal.returns-in-None
 returns-in-None c =
     let l = c.self.inside.lanes in
-    sym c.self.view_is ∙ (sym (put_off-at (stage_in l) c.args.key.now l.waiting.items l.taken.items l.parked.items c.self.invariant.lanes (None) (sym c.stage_of.ensures ∙ c.in-None.is)) ∙ ap (put_off c.args.key.now) c.self.view_is)
+    let k = c.of.result in
+    sym c.self.view_is ∙ (sym (put_off-other (stage_in l) k (keys_in l l.waiting.items) (keys_in l l.taken.items) (keys_in l l.parked.items) c.self.invariant.lanes (stage_in l k) refl (sym c.in-None.ensures.taken)) ∙ (ap (put_off k) c.self.view_is ∙ ap (λ j. put_off j c.args.self.now) c.of.ensures))

@@ -1,0 +1,4 @@
+pub mod Growth
+pub mod Made
+pub mod Sizes
+pub mod Sums

@@ -1,0 +1,9 @@
+pub mod Apart
+pub mod Asking
+pub mod Drained
+pub mod Moves
+pub mod Naming
+pub mod Remembering
+pub mod Silent
+pub mod Threaded
+pub mod Working

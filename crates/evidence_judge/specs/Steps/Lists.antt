@@ -1,0 +1,22 @@
+-- For proofs alone: the versions of the lists with which a seat follows the kinds.
+use Rattle.std.specs.Prelude.{ℕ, ◌≡◌, List, Option, Some, None}
+use Rattle.kube_types.specs.declared.parts.Kind.{Kind}
+use Rattle.kube_types.specs.declared.parts.Kind.TheVariants as kinds
+use Rattle.call_types.specs.declared.entry.Entry.{Entry}
+use Rattle.binder_model.specs.Reading.{Following, Unlisted, ListedAt, following_of}
+use Rattle.evidence_judge.specs.declared.lists.Lists.{Lists}
+
+-- of the list, where there is one
+abbrev pub list_version : Following → Option ℕ
+list_version Unlisted = None
+list_version (ListedAt version reached) = Some version
+
+abbrev pub version_in : Lists → Kind → Option ℕ
+version_in x kinds.StorageClass = x.classes
+version_in x kinds.Node = x.nodes
+version_in x kinds.PersistentVolume = x.volumes
+version_in x kinds.PersistentVolumeClaim = x.claims
+version_in x kinds.Pod = x.pods
+
+abbrev pub AreListsOf : Lists → List Entry → Type 0
+AreListsOf x mine = (kind : Kind) → version_in x kind ≡ list_version (following_of mine kind)

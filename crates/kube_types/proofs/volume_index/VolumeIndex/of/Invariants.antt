@@ -1,0 +1,10 @@
+use Rattle.std.proofs.Common.{◌≤◌, length, drop}
+use Rattle.kube_types.specs.VolumeIndex.{StandsFor, volumes_in}
+use Rattle.kube_types.proofs.volume_index.VolumeIndex.of.Given as goal
+
+-- the index stands for the volumes from the place on
+abbrev pub invariant-loop-left : goal.invariant-loop-left
+invariant-loop-left l = StandsFor l.index (volumes_in (drop l.left l.rows)) × (l.left ≤ length l.rows)
+
+abbrev pub decreases-loop-left : goal.decreases-loop-left
+decreases-loop-left l = l.left

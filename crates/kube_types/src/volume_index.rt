@@ -1,0 +1,139 @@
+//! The index: volumes that are put in, replaced and taken out.
+
+ghost use Rattle.std.specs.Prelude.{◌≡◌, List, [], ◌∷◌, IfOk, OnOk, OnErr, Some, true};
+ghost use Rattle.std.specs.List.{Contains};
+ghost use Rattle.std.specs.Option.{option_copied};
+ghost use Rattle.kube_types.specs.declared.objects.Volume.{Volume};
+ghost use Rattle.kube_types.specs.declared.objects.Object.{Object};
+ghost use Rattle.kube_types.specs.Keys.{AreRows};
+ghost use Rattle.kube_types.specs.VolumeOrders.{AreInOrder, by_owner, by_size};
+ghost use Rattle.kube_types.specs.VolumeIndex.{as_volume, AreApart, IsNew, StandsFor, others, same_name, volumes_in};
+
+use crate::copies::OutOfMemory;
+use crate::objects::{Object, Volume};
+use crate::shared::Shared;
+use crate::volume_lists::{leave_free, leave_owned, put_free, put_owned, take_free, take_owned};
+use std::alloc::Global;
+use std::marker::Model;
+
+/// An index of volumes: those that are free, in the order of class, volume mode, number of access modes and bytes; and those
+/// that refer to a claim, by its namespace and name. A volume that is neither has no place in it. It shares the volumes.
+pub struct VolumeIndex {
+    free: Vec<Shared<Volume>>,
+    owned: Vec<Shared<Volume>>,
+}
+
+impl Drop for VolumeIndex {
+    fn drop(self) {
+        let VolumeIndex { free, owned } = self;
+        drop(free);
+        drop(owned);
+    }
+}
+
+impl Model for VolumeIndex {
+    ghost use Rattle.kube_types.specs.VolumeIndex.{Index};
+    ghost use Rattle.kube_types.specs.Steps.IndexEdits.{IsOrdered};
+
+    ghost Value = { Index };
+
+    ghost view = { λ i. record { free = i.free.items; owned = i.owned.items } };
+
+    ghost invariant = { λ i. IsOrdered (record { free = i.free.items; owned = i.owned.items }) };
+}
+
+/// The volume that the object is, if it is one.
+fn volume_of(object: &Object) -> Option<&Shared<Volume>>
+    ensures { option_copied result ≡ as_volume (Some object.now) }
+{
+    match object {
+        Object::Volume(volume) => Some(volume),
+        _ => None,
+    }
+}
+
+impl VolumeIndex {
+    /// The free volumes, in the order of class, volume mode, number of access modes, bytes and name.
+    pub fn free(&self) -> &[Shared<Volume>]
+        ensures list { result.now ≡ self.now.free }
+        ensures order { AreInOrder by_size result.now }
+    {
+        &self.free
+    }
+
+    /// The volumes that refer to a claim, in the order of its namespace and name, and then as claims prefer them.
+    pub fn owned(&self) -> &[Shared<Volume>]
+        ensures list { result.now ≡ self.now.owned }
+        ensures order { AreInOrder by_owner result.now }
+    {
+        &self.owned
+    }
+
+    /// An index of no volumes. It takes no memory.
+    pub fn new(alloc: Global) -> VolumeIndex
+        ensures { StandsFor result [] }
+    {
+        VolumeIndex {
+            free: Vec::new(alloc),
+            owned: Vec::new(alloc),
+        }
+    }
+
+    /// An index of the volumes among rows in order.
+    pub fn of(alloc: Global, rows: &[Object]) -> Result<VolumeIndex, OutOfMemory>
+        requires { AreRows rows.now }
+        ensures { IfOk result (λ index. StandsFor index (volumes_in rows.now)) }
+    {
+        let mut index = VolumeIndex::new(alloc);
+        let mut left = rows.len();
+        while left > 0 {
+            left -= 1;
+            index.add(alloc, &rows[left])?;
+        }
+        Ok(index)
+    }
+
+    /// Puts in the object that stands before these rows, if it is a volume.
+    fn add(&mut self, alloc: Global, object: &Object) -> Result<(), OutOfMemory>
+        ensures { OnOk result ((rows : List Object) → AreRows (object.now ∷ rows) → StandsFor self.old (volumes_in rows) → StandsFor self.new (volumes_in (object.now ∷ rows))) }
+    {
+        match volume_of(object) {
+            None => Ok(()),
+            Some(volume) => self.insert(alloc, volume),
+        }
+    }
+
+    /// Puts in a volume whose name no volume of the index has.
+    pub fn insert(&mut self, alloc: Global, volume: &Shared<Volume>) -> Result<(), OutOfMemory>
+        ensures ok { OnOk result ((volumes : List Volume) → IsNew volume.now volumes → StandsFor self.old volumes → StandsFor self.new (volume.now ∷ volumes)) }
+        ensures err { OnErr result (self.new ≡ self.old) }
+    {
+        put_free(alloc, &mut self.free, volume)?;
+        put_owned(alloc, &mut self.owned, volume)
+    }
+
+    /// Takes out a volume, which is given as it was put in.
+    pub fn remove(&mut self, volume: &Shared<Volume>)
+        ensures { (volumes : List Volume) → AreApart volumes → Contains volumes volume.now → StandsFor self.old volumes → StandsFor self.new (others volume.now volumes) }
+    {
+        take_free(&mut self.free, volume);
+        take_owned(&mut self.owned, volume)
+    }
+
+    /// Puts a volume in the place of an earlier one of its name, which is given as it was put in.
+    pub fn replace(
+        &mut self,
+        alloc: Global,
+        before: &Shared<Volume>,
+        after: &Shared<Volume>,
+    ) -> Result<(), OutOfMemory>
+        ensures ok { OnOk result ((volumes : List Volume) → AreApart volumes → Contains volumes before.now → same_name before.now after.now ≡ true → StandsFor self.old volumes → StandsFor self.new (after.now ∷ others before.now volumes)) }
+        ensures err { OnErr result (self.new ≡ self.old) }
+    {
+        put_free(alloc, &mut self.free, after)?;
+        put_owned(alloc, &mut self.owned, after)?;
+        leave_free(&mut self.free, before, after);
+        leave_owned(&mut self.owned, before, after);
+        Ok(())
+    }
+}

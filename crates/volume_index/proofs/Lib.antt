@@ -1,9 +1,0 @@
-pub mod Best
-pub mod Candidates
-pub mod Fitting
-pub mod Held
-pub mod Named
-pub mod Orders
-pub mod Rows
-pub mod Stands
-pub mod Starts

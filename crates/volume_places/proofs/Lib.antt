@@ -1,0 +1,4 @@
+pub mod Alike
+pub mod Counts
+pub mod Nexts
+pub mod Owned
