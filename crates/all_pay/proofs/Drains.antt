@@ -4,13 +4,14 @@ use Rattle.call_types.specs.declared.entry.Entry.{Entry}
 use Rattle.call_types.specs.declared.setup.Setup.{Setup}
 use Rattle.binder_model.specs.Promises.{IsRunOf}
 use Rattle.worker_threads.specs.declared.drainers.Drainer.{Drainer}
+use Rattle.worker_threads.specs.Drainers.{AreAtRest}
 use Rattle.worker_threads.specs.Rounds.{Drains, Goes, IsSpent, Lets, NothingDue}
 use Rattle.worker_threads.proofs.DrainFacts.{drains_grow}
 use Rattle.worker_threads.proofs.RoundFacts.{round_part}
 use Rattle.paid_law.specs.Pays.{HavePaid}
 use Rattle.paid_law.proofs.Entries.{none_paid, then_paid}
 use Rattle.paid_law.proofs.Slots.{older_run}
-use Rattle.settle_law.specs.Settling.{AreAtRest, MayDrain}
+use Rattle.settle_law.specs.Settling.{MayDrain}
 use Rattle.settle_law.proofs.Leaving.{rounds_leave_drainers}
 use Rattle.all_pay.specs.All.{DrainsPay, ImportsAllow}
 use Rattle.all_pay.proofs.Rounds.{pays_off, round_paid}

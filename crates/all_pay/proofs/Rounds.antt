@@ -8,13 +8,12 @@ use Rattle.model_laws.proofs.Growing.{runs_are_histories}
 use Rattle.model_laws.proofs.Lists.{none_some, one}
 use Rattle.worker_core.specs.Roles.{IsBuiltKind}
 use Rattle.worker_threads.specs.declared.drainers.Drainer.{Drainer}
-use Rattle.worker_threads.specs.Drainers.{AreRoles, roles_of}
+use Rattle.worker_threads.specs.Drainers.{AreAtRest, AreRoles, roles_of}
 use Rattle.worker_threads.specs.Rounds.{IsRound, Lets}
 use Rattle.worker_threads.proofs.RoundFacts.{AreBuilt, roles_built}
 use Rattle.paid_law.specs.Pays.{HavePaid, IsPayer}
 use Rattle.paid_law.proofs.Entries.{paid_is_less}
 use Rattle.paid_law.proofs.Rounds.{rounds_of_payers_pay}
-use Rattle.settle_law.specs.Settling.{AreAtRest}
 use Rattle.all_pay.specs.All.{ImportsAllow, PaysOff, RoundsOfActorsPay}
 use Rattle.all_pay.proofs.Actors.{actors_pay}
 

@@ -27,8 +27,10 @@ use Rattle.drain_law.proofs.Moves.{replayed_drains_last}
 use Rattle.drain_law.proofs.Threaded.{threaded_drains_last}
 use Rattle.drain_law.proofs.Working.{threaded_pods_are_on_named}
 use Rattle.printable_law.specs.Laws.{HasOneHistory}
-use Rattle.printable_replays.proofs.Replays.{replay_texts_have_one}
-use Rattle.printable_replays.proofs.Threads.{thread_texts_have_one}
+use Rattle.printable_replays.proofs.Replays.{replay_texts_have_one, replayed_run}
+use Rattle.printable_replays.proofs.Threads.{made_by_threads, thread_texts_have_one}
+use Rattle.replay_settles.specs.Settling.{IsGivenScript}
+use Rattle.replay_settles.proofs.Settling.{last_drains_settle, threaded_drains_settle}
 use Rattle.binder_console.specs.declared.commands.Task.{Task}
 use Rattle.binder_console.specs.declared.commands.Task.TheVariants.{Replay, Run as RunTask, Gen}
 use Rattle.binder_console.specs.Outcomes.{Answers, IsAnswer, answer_ended}
@@ -65,7 +67,15 @@ promised script budget past ending is p = record {
   enough = actors_give_enough script.setup past p.of p.actors;
   lasting = replayed_drains_last script budget past ending (script_readable script is) p.of p.diligent.calls;
   named = replayed_pods_are_on_named script budget past ending is.nodes p.run p.diligent.calls;
+  settling = λ may. ap status_of (last_drains_settle script budget past ending given p.diligent.calls may).is;
 }
+  where
+    given : IsGivenScript script past
+    given = record {
+      readable = script_readable script is;
+      names = is.nodes;
+      given = replayed_run script budget past ending (record { script_given = is; replay = p.calls; run = p.run; short = p.of.short });
+    }
 
 has_one : (script : Script) (budget : Option ℕ) (past : List Entry) (ending : Drained) (text : List ℕ)
     → IsScript script → IsPlayed script budget script.setup past ending → length past < most_entries → text ≡ replay_text script.setup past ending → HasOneHistory text script.setup (reverse past)
@@ -134,6 +144,13 @@ run_has_one script workers calls budget past ending text is p short printed =
     subst (λ (t : List ℕ). HasOneHistory t script.setup (reverse past)) (sym printed)
     (thread_texts_have_one script workers calls budget past ending finals (record { script_given = is; calls_are = p.calls_are; run = p.run; short = short }))
 
+given_of_threads : (script : Script) (workers calls : ℕ) (budget : Option ℕ) (past : List Entry) (ending : Drained) → IsScript script → IsRanOnThreads script workers calls budget script.setup past ending → IsGivenScript script past
+given_of_threads script workers calls budget past ending is p = record {
+  readable = script_readable script is;
+  names = is.nodes;
+  given = made_by_threads script workers calls budget past ending (record { script_given = is; calls_are = p.calls_are; run = p.run; short = p.of.short });
+}
+
 pub run_answers : (script : Script) (workers calls : ℕ) (budget : Option ℕ) (setup : Setup) (past : List Entry) (ending : Drained) (input text : List ℕ)
     → script_of input ≡ Ok script → IsRanOnThreads script workers calls budget setup past ending → length past < most_entries → text ≡ replay_text setup past ending
     → IsAnswer (RunTask workers calls budget) input (answer_ended ending text)
@@ -152,6 +169,7 @@ run_answers script workers calls budget setup past ending input text read ran sh
         enough = actors_give_enough script.setup past p.of p.actors;
         lasting = threaded_drains_last script workers calls budget past ending p.of p.calls_are;
         named = threaded_pods_are_on_named script workers calls budget past ending (read_is_script input script read).nodes p.run p.calls_are;
+        settling = λ allows. ap status_of (threaded_drains_settle script workers calls budget past ending (given_of_threads script workers calls budget past ending (read_is_script input script read) p) p.calls_are allows).is;
       };
       printed = same;
       alone = run_has_one script workers calls budget past ending text (read_is_script input script read) p short same;

@@ -24,6 +24,7 @@ use Rattle.script_gen.specs.Generated.{generated}
 use Rattle.size_law.specs.Enough.{GetEnoughThroughout}
 use Rattle.drain_law.specs.Lasting.{DrainsLast, ThreadedDrainLasts}
 use Rattle.drain_law.specs.Naming.{ArePodsOnNamedThroughout}
+use Rattle.replay_settles.specs.Settling.{AllowsSettling, LastDrainMaySettle}
 use Rattle.binder_console.specs.declared.status.Status.{Status}
 use Rattle.binder_console.specs.declared.status.Status.TheVariants.{Done, Unsettled}
 
@@ -68,6 +69,10 @@ pub record IsPromised (script : Script) (budget : Option ℕ) (past : List Entry
   pub lasting : DrainsLast script budget past ending calls
   -- at every point each pod that a node runs is on a node that the script names, so its drains have an agent of that node
   pub named : ArePodsOnNamedThroughout script past
+  -- where its last drain may settle it does, so the status is 0: 3 does not come. It may where no claim was imported as Lost and no class
+  -- that ever stood both binds late and provisions, and where, as the drain begins, the world is small, the stated budget is left for
+  -- it, and no agent of the drains is stale
+  pub settling : LastDrainMaySettle script budget past ending calls → status_of ending ≡ Done
 
 -- The input is a script, and the text is that of one history from the script's setup, of which all is promised. The status
 -- says how the last drain ended.
@@ -101,6 +106,8 @@ pub record IsPromisedOfThreads (script : Script) (workers calls : ℕ) (budget :
   -- so it is of each whole round of its drain
   pub lasting : ThreadedDrainLasts script workers calls budget past ending calls_are
   pub named : ArePodsOnNamedThroughout script past
+  -- and its drain settles under the same premises, but that of stale agents: it has none
+  pub settling : AllowsSettling script.setup calls_are.worked past calls_are.last.budget → status_of ending ≡ Done
 
 -- The input is a script, and the text is that of one history from the script's setup, of which all is promised. The status
 -- says how the drain ended.

@@ -15,7 +15,7 @@ use Rattle.settle_measure.specs.Measure.{total}
 use Rattle.worker_core.specs.Absorbs.{woken}
 use Rattle.worker_core.specs.Roles.{IsBuiltKind}
 use Rattle.worker_threads.specs.declared.drainers.Drainer.{Drainer}
-use Rattle.worker_threads.specs.Drainers.{AreRoles, roles_of}
+use Rattle.worker_threads.specs.Drainers.{AreAtRest, AreRoles, roles_of}
 use Rattle.worker_threads.specs.Rounds.{Ends, IsRound, Lets, Runs, Turns}
 use Rattle.worker_threads.proofs.RoundFacts.{AreBuilt, roles_built, round_grows}
 use Rattle.worker_threads.proofs.RunFacts.{run_grows}
@@ -29,7 +29,7 @@ use Rattle.paid_law.proofs.Slots.{older_run}
 use Rattle.write_count.proofs.Rounds.{rounds_write_little}
 use Rattle.write_count.proofs.Runs.{silent_run}
 use Rattle.write_count.proofs.Slots.{counted}
-use Rattle.call_count.specs.Rounds.{ArePaying, AreResting, CallsAreBounded, CallsAreFew, CallsArePaid, RoundsAddLittle, RoundsAddNoPod, most_size, most_writes}
+use Rattle.call_count.specs.Rounds.{ArePaying, CallsAreBounded, CallsAreFew, CallsArePaid, RoundsAddLittle, RoundsAddNoPod, most_size, most_writes}
 use Rattle.call_count.proofs.Growth.{AreGiven, given_few, given_first, pods_few}
 use Rattle.call_count.proofs.Made.{slot_given}
 use Rattle.call_count.proofs.Sizes.{writes_are_few}
@@ -69,7 +69,7 @@ module _ (setup : Setup) (lets : Lets) (past : List Entry) (left : ℕ) (run : I
   middle_run ds h b after whole round = let g = round_grows lets past left ds h b after whole round in older_run setup g.longer.added h (subst (IsRunOf setup) g.longer.are run)
 
   -- each new object is the volume of a claim that stood
-  pub round_given : (first : List Object) (ds : List Drainer) (h : List Entry) (b : ℕ) (after : List Drainer) (whole : Bool) → IsRound lets past left ds h b after whole → AreBuilt (roles_of ds) → AreResting ds → AreGiven first (world setup h).store.rows → AreGiven first (world setup past).store.rows
+  pub round_given : (first : List Object) (ds : List Drainer) (h : List Entry) (b : ℕ) (after : List Drainer) (whole : Bool) → IsRound lets past left ds h b after whole → AreBuilt (roles_of ds) → AreAtRest ds → AreGiven first (world setup h).store.rows → AreGiven first (world setup past).store.rows
   round_given first _ h b _ _ (Ends entries rest) built rests given = subst (λ es. AreGiven first (world setup es).store.rows) (sym entries) given
   round_given first _ h b _ _ (Turns {ds = ds} {after = after} {whole = whole} d ran middle rest idle seat runs more) built rests given =
       let here = middle_run ds middle rest after whole more in
@@ -98,7 +98,7 @@ module _ (setup : Setup) (lets : Lets) (past : List Entry) (left : ℕ) (run : I
             let part = slot_part (total (calls_for d.actor.role.kind) (world setup h).store.rows) (most_size (world setup start)) (writes_since setup h middle) all few (light h d given) in
             omega (arith, short, free, part)
 
-    pub sum : (all : ℕ) (ds : List Drainer) (h : List Entry) (b : ℕ) (after : List Drainer) (whole : Bool) → IsRound lets past left ds h b after whole → AreBuilt (roles_of ds) → AreResting ds → writes_since setup h past ≤ all → AreGiven (world setup start).store.rows (world setup h).store.rows
+    pub sum : (all : ℕ) (ds : List Drainer) (h : List Entry) (b : ℕ) (after : List Drainer) (whole : Bool) → IsRound lets past left ds h b after whole → AreBuilt (roles_of ds) → AreAtRest ds → writes_since setup h past ≤ all → AreGiven (world setup start).store.rows (world setup h).store.rows
         → b ≤ left + (23 * writes_since setup h past + length ds * (3 * most_size (world setup start) + 62) + 5 * ((3 * most_size (world setup start) + 3 * all + 7) * (writes_since setup h past / 513)))
     sum all _ h b _ _ (Ends entries rest) built rests few given = omega (arith, rest)
     sum all _ h b _ _ (Turns {ds = ds} {after = after} {whole = whole} d ran middle rest idle seat runs more) built rests few given =
@@ -116,7 +116,7 @@ module _ (setup : Setup) (lets : Lets) (past : List Entry) (left : ℕ) (run : I
         omega (arith, later, first, split, sweeps, whole_, actors)
 
 -- a round of these, from the world with which it begins on
-all_given : (setup : Setup) (lets : Lets) (ds after : List Drainer) (h past : List Entry) (b left : ℕ) (whole : Bool) → AreRoles (roles_of ds) → AreResting ds → IsRunOf setup past → IsRound lets past left ds h b after whole → AreGiven (world setup h).store.rows (world setup past).store.rows
+all_given : (setup : Setup) (lets : Lets) (ds after : List Drainer) (h past : List Entry) (b left : ℕ) (whole : Bool) → AreRoles (roles_of ds) → AreAtRest ds → IsRunOf setup past → IsRound lets past left ds h b after whole → AreGiven (world setup h).store.rows (world setup past).store.rows
 all_given setup lets ds after h past b left whole roles rests run round = round_given setup lets past left run (world setup h).store.rows ds h b after whole round (roles_built (roles_of ds) roles) rests (given_first (world setup h).store.rows)
 
 pub rounds_add_little : RoundsAddLittle
@@ -137,7 +137,7 @@ pub swept_more : (size few many : ℕ) → few ≤ many → (3 * size + 3 * few 
 swept_more size few many le = mul-le (3 * size + 3 * few + 7) (few / 513) (3 * size + 3 * many + 7) (many / 513) (omega (arith, le)) (div_less few many le)
 
 -- payers rest
-resting : (setup : Setup) (ds : List Drainer) → ArePaying setup ds → AreResting ds
+resting : (setup : Setup) (ds : List Drainer) → ArePaying setup ds → AreAtRest ds
 resting setup ds payers place d at = (payers place d at).rests
 
 pub calls_are_bounded : CallsAreBounded

@@ -1,6 +1,6 @@
 -- How many writes and calls a round makes, by what its world has and has still to do.
 -- A choice of this project.
-use Rattle.std.specs.Prelude.{ℕ, ◌≡◌, ◌≤◌, ◌+◌, ◌*◌, ◌/◌, Bool, false, List, Some, None, length, slice_get}
+use Rattle.std.specs.Prelude.{ℕ, ◌≡◌, ◌≤◌, ◌+◌, ◌*◌, ◌/◌, Bool, List, Some, length, slice_get}
 use Rattle.kube_types.specs.declared.objects.Object.{Object}
 use Rattle.kube_types.specs.declared.objects.Object.TheVariants.{Pod}
 use Rattle.kube_types.specs.Keys.{AreRows}
@@ -10,17 +10,13 @@ use Rattle.binder_model.specs.Promises.{IsRunOf}
 use Rattle.binder_model.specs.World.{World, world}
 use Rattle.settle_measure.specs.Measure.{claims_in, faults_left, total}
 use Rattle.worker_threads.specs.declared.drainers.Drainer.{Drainer}
-use Rattle.worker_threads.specs.Drainers.{AreRoles, roles_of}
+use Rattle.worker_threads.specs.Drainers.{AreAtRest, AreRoles, roles_of}
 use Rattle.worker_threads.specs.Rounds.{IsRound, Lets}
 use Rattle.short_law.specs.Rounds.{size_of_world}
 use Rattle.short_law.specs.Slots.{PassesReads, writes_since}
 use Rattle.scheduler_writes.specs.Pods.{pods_writes}
 use Rattle.write_count.specs.Counts.{AnnotationsAreInOrder, nodes_in, to_write}
 use Rattle.paid_law.specs.Pays.{IsPayer}
-
--- none of these has anything under way, unless it was told that its epoch is stale
-abbrev pub AreResting : List Drainer → Type 0
-AreResting ds = (place : ℕ) (d : Drainer) → slice_get ds place ≡ Some d → d.actor.memory.stale ≡ false → d.actor.under ≡ None
 
 -- each pays, and has nothing under way
 abbrev pub ArePaying : Setup → List Drainer → Type 0
@@ -31,7 +27,7 @@ ArePaying setup ds = (place : ℕ) (d : Drainer) → slice_get ds place ≡ Some
 -- a round adds no more objects than there are claims: each new one is the volume of a claim that stood when it began
 abbrev pub RoundsAddLittle : Type 0
 RoundsAddLittle =
-    (setup : Setup) (lets : Lets) (ds after : List Drainer) (h past : List Entry) (b left : ℕ) (whole : Bool) → AreRoles (roles_of ds) → AreResting ds → IsRunOf setup past → IsRound lets past left ds h b after whole
+    (setup : Setup) (lets : Lets) (ds after : List Drainer) (h past : List Entry) (b left : ℕ) (whole : Bool) → AreRoles (roles_of ds) → AreAtRest ds → IsRunOf setup past → IsRound lets past left ds h b after whole
     → size_of_world (world setup past) ≤ size_of_world (world setup h) + claims_in (world setup h).store.rows
 
 -- the objects and the names of claims, with the volumes that may be made
@@ -49,7 +45,7 @@ pods_size w = total pod_size w.store.rows
 -- it adds no pod
 abbrev pub RoundsAddNoPod : Type 0
 RoundsAddNoPod =
-    (setup : Setup) (lets : Lets) (ds after : List Drainer) (h past : List Entry) (b left : ℕ) (whole : Bool) → AreRoles (roles_of ds) → AreResting ds → IsRunOf setup past → IsRound lets past left ds h b after whole
+    (setup : Setup) (lets : Lets) (ds after : List Drainer) (h past : List Entry) (b left : ℕ) (whole : Bool) → AreRoles (roles_of ds) → AreAtRest ds → IsRunOf setup past → IsRound lets past left ds h b after whole
     → pods_size (world setup past) ≤ pods_size (world setup h)
 
 -- ---- writes
@@ -79,7 +75,7 @@ idle_calls actors size writes = actors * (3 * size + 62) + 5 * ((3 * size + 3 * 
 -- each write costs 23 calls at most, whichever actor makes it
 abbrev pub CallsAreFew : Type 0
 CallsAreFew =
-    (setup : Setup) (lets : Lets) (ds after : List Drainer) (h past : List Entry) (b left : ℕ) (whole : Bool) → AreRoles (roles_of ds) → AreResting ds → IsRunOf setup past → PassesReads lets → IsRound lets past left ds h b after whole
+    (setup : Setup) (lets : Lets) (ds after : List Drainer) (h past : List Entry) (b left : ℕ) (whole : Bool) → AreRoles (roles_of ds) → AreAtRest ds → IsRunOf setup past → PassesReads lets → IsRound lets past left ds h b after whole
     → b ≤ left + (23 * writes_since setup h past + idle_calls (length ds) (most_size (world setup h)) (writes_since setup h past))
 
 -- so by the size of the world, by what there is to do and by the nodes

@@ -1,10 +1,12 @@
 pub mod Allowed
 pub mod Bests
+pub mod Carrying
 pub mod Dues
 pub mod Fitting
 pub mod Known
 pub mod Marking
 pub mod Nth
+pub mod Passing
 pub mod Placing
 pub mod Rounds
 pub mod Scanning

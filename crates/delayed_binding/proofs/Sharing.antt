@@ -1,17 +1,20 @@
 -- Claims get their shares one by one, and there is one way to share.
-use Rattle.std.proofs.Common.{ℕ, ◌≡◌, ◌∙◌, true, false, true≢false, ◌||◌, ◌==◌, List, [], ◌∷◌, ◌++◌, Some, None, inl, inr, refl, sym, ap, subst, append_assoc}
+use Rattle.std.proofs.Common.{ℕ, zero, suc, ◌≡◌, ◌∙◌, true, false, true≢false, ◌||◌, ◌==◌, List, [], ◌∷◌, ◌++◌, Some, None, inl, inr, refl, sym, ap, subst, append_assoc}
+use Rattle.std.specs.Prelude.{Bool, slice_get}
+use Rattle.std.specs.Bool.{OnTrue}
 use Rattle.kube_types.specs.declared.key.Key.{Key}
 use Rattle.kube_types.specs.declared.objects.Claim.{Claim as ClaimData}
 use Rattle.kube_types.specs.declared.objects.Node.{Node as NodeData}
+use Rattle.kube_types.specs.declared.objects.Volume.{Volume as VolumeData}
 use Rattle.kube_types.specs.declared.objects.Object.{Object}
 use Rattle.kube_types.specs.declared.objects.Object.TheVariants.{Claim}
 use Rattle.kube_types.specs.Keys.{AreRows, key_of}
 use Rattle.binder_model.specs.Choice.{AreShares, IsProvisioned, Share, TakesVolume, can_provision}
-use Rattle.binder_model.specs.Matching.{IsBest, is_excluded}
+use Rattle.binder_model.specs.Matching.{IsBest, IsCandidate, is_excluded}
 use Rattle.volume_match.specs.Volumes.{volume_at}
-use Rattle.model_laws.proofs.Lists.{one}
+use Rattle.model_laws.proofs.Lists.{none_some, one}
 use Rattle.delayed_binding.specs.Choices.{binds_of, pair_of, provisions_of, set_aside}
-use Rattle.delayed_binding.specs.Steps.Sharing.{AreSame, HaveNoShares, Held, IsServedAs, IsLeftToProvision, IsSharedOut, IsUnserved, TakesBest, taken_by}
+use Rattle.delayed_binding.specs.Steps.Sharing.{AreSame, HaveNoShares, Held, IsServedAs, IsLeftToProvision, IsSharedOut, IsUnserved, TakesBest, nothing_held, taken_by}
 use Rattle.delayed_binding.proofs.Bests.{AreSetAside, aside_more, best_same, one_best, set_aside_is}
 
 -- one share more
@@ -109,6 +112,24 @@ module _ (rows : List Object) (n : NodeData) where
 
     pub shared_more : IsServedAs rows n c held after true → IsSharedOut rows n (cs ++ c ∷ []) after
     shared_more g = elim g [ inl t ↦ shared_taken t | inr t ↦ shared_provisioned t ]
+
+  -- what is a candidate where places are excluded is one where none are
+  freed : (c : ClaimData) (taken : List ℕ) (place : ℕ) (v : VolumeData) → IsCandidate rows c (Some n) false taken place v → IsCandidate rows c (Some n) false [] place v
+  freed c taken place v k = record { there = k.there; open_to = refl; own = k.own; eligible = k.eligible }
+
+  -- a claim for which the node has nothing, even where all is left, gets no share
+  no_share : (cs : List ClaimData) (i : ℕ) (c : ClaimData) → slice_get cs i ≡ Some c → IsUnserved rows n c nothing_held → (taken : List ℕ) (shares : List Share) → AreShares rows n taken cs shares → ⊥
+  no_share [] i c at u taken shares are = none_some at
+  no_share (d ∷ ds) i c at u taken [] are = are
+  no_share (d ∷ ds) zero c at u taken (TakesVolume p ∷ shares) are =
+      u.none p are.0.volume (freed c taken p are.0.volume (subst (λ e. IsCandidate rows e (Some n) false taken p are.0.volume) (one d c at) are.0.candidate))
+  no_share (d ∷ ds) zero c at u taken (IsProvisioned ∷ shares) are = true≢false (sym (subst (λ e. can_provision rows e ≡ true) (one d c at) are.1) ∙ u.cannot)
+  no_share (d ∷ ds) (suc i) c at u taken (TakesVolume p ∷ shares) are = no_share ds i c at u (p ∷ taken) shares are.1
+  no_share (d ∷ ds) (suc i) c at u taken (IsProvisioned ∷ shares) are = no_share ds i c at u taken shares are.2
+
+  pub unserved_none : (cs : List ClaimData) (i : ℕ) (c : ClaimData) → slice_get cs i ≡ Some c → (b : Bool) → OnTrue b (IsUnserved rows n c nothing_held) → OnTrue b (HaveNoShares rows n cs)
+  unserved_none cs i c at true u = λ shares are. no_share cs i c at u (set_aside rows) shares are
+  unserved_none cs i c at false u = tt
 
   module _ (order : AreRows rows) where
     -- two ways to share begin alike

@@ -15,6 +15,7 @@ use kube_types::copies::{OutOfMemory, Plain};
 use kube_types::key::Key;
 use kube_types::lookup::Lookup;
 use kube_types::objects::{Claim, Node, Pod};
+use kube_types::shared::Shared;
 use kube_types::text::Text;
 use plain_data::items::Items;
 use std::alloc::Global;
@@ -76,7 +77,7 @@ pub fn choose<L: Lookup>(
 fn chosen_with<L: Lookup>(
     alloc: Global,
     lookup: &L,
-    claims: &[Claim],
+    claims: &[Shared<Claim>],
     last: Option<&Text>,
 ) -> Result<Choice, OutOfMemory>
     ensures { IfOk result (λ choice. IsChoiceAt (stage_with (L.rows lookup.now) claims.now) (L.rows lookup.now) claims.now (option_copied last.entry) choice) }
@@ -91,7 +92,11 @@ fn chosen_with<L: Lookup>(
 }
 
 /// The first node that the volumes of all claims admit.
-fn assigned<L: Lookup>(alloc: Global, lookup: &L, claims: &[Claim]) -> Result<Choice, OutOfMemory>
+fn assigned<L: Lookup>(
+    alloc: Global,
+    lookup: &L,
+    claims: &[Shared<Claim>],
+) -> Result<Choice, OutOfMemory>
     ensures { IfOk result (λ choice. IsChoiceAt IsCompleted (L.rows lookup.now) claims.now None choice) }
 {
     match first_admitted(lookup, claims) {
@@ -105,7 +110,7 @@ fn assigned<L: Lookup>(alloc: Global, lookup: &L, claims: &[Claim]) -> Result<Ch
 fn prepared<L: Lookup>(
     alloc: Global,
     lookup: &L,
-    claims: &[Claim],
+    claims: &[Shared<Claim>],
     last: Option<&Text>,
 ) -> Result<Choice, OutOfMemory>
     ensures { IfOk result (λ choice. IsChoiceAt IsSearching (L.rows lookup.now) claims.now (option_copied last.entry) choice) }
@@ -122,8 +127,8 @@ fn prepared<L: Lookup>(
 fn prepared_else<L: Lookup>(
     alloc: Global,
     lookup: &L,
-    claims: &[Claim],
-    others: &[Claim],
+    claims: &[Shared<Claim>],
+    others: &[Shared<Claim>],
     last: Option<&Text>,
 ) -> Result<Choice, OutOfMemory>
     requires others { others.now ≡ others_in (L.rows lookup.now) claims.now }

@@ -12,11 +12,26 @@ use kube_types::copies::{OutOfMemory, Plain};
 use kube_types::lookup::Lookup;
 use kube_types::objects::{Claim, Object, Pod};
 use kube_types::parts::Kind;
+use kube_types::shared::Shared;
 use std::alloc::Global;
 use volume_match::{row_named, waits_for_pod};
 
 /// The claim with this name.
 pub fn claim_named<'a, L: Lookup>(lookup: &'a L, namespace: &str, name: &str) -> Option<&'a Claim>
+    ensures { option_copied result ≡ claim_named (L.rows lookup.now) namespace.now name.now }
+{
+    match shared_named(lookup, namespace, name) {
+        Some(claim) => Some(claim.get()),
+        None => None,
+    }
+}
+
+/// The same, as the look-up holds it.
+fn shared_named<'a, L: Lookup>(
+    lookup: &'a L,
+    namespace: &str,
+    name: &str,
+) -> Option<&'a Shared<Claim>>
     ensures { option_copied result ≡ claim_named (L.rows lookup.now) namespace.now name.now }
 {
     match row_named(lookup, Kind::PersistentVolumeClaim, namespace, name) {
@@ -46,31 +61,31 @@ fn is_missing(claim: Option<&Claim>) -> bool
     }
 }
 
-/// The claims of the pod, in order.
+/// The claims of the pod, in order. They are shared with the look-up, and not copied.
 pub(crate) fn claims_of<L: Lookup>(
     alloc: Global,
     lookup: &L,
     pod: &Pod,
-) -> Result<Vec<Claim>, OutOfMemory>
+) -> Result<Vec<Shared<Claim>>, OutOfMemory>
     ensures { IfOk result (λ claims. claims.items ≡ claims_of (L.rows lookup.now) pod.now) }
 {
     let mut claims = Vec::new(alloc);
     for name in pod.claims.as_slice() {
-        if let Some(claim) = claim_named(lookup, pod.meta.namespace.as_str(), name.as_str()) {
+        if let Some(claim) = shared_named(lookup, pod.meta.namespace.as_str(), name.as_str()) {
             claims.push(claim.copy(alloc)?)?;
         }
     }
     Ok(claims)
 }
 
-pub(crate) fn are_completed(claims: &[Claim]) -> bool
+pub(crate) fn are_completed(claims: &[Shared<Claim>]) -> bool
     ensures { result ≡ list_all is_completed claims.now }
 {
     claims.iter().all(|claim| is_completed(claim))
 }
 
 /// Whether one of the claims is served by the binder and the provisioner alone.
-pub(crate) fn is_one_served_elsewhere<L: Lookup>(lookup: &L, claims: &[Claim]) -> bool
+pub(crate) fn is_one_served_elsewhere<L: Lookup>(lookup: &L, claims: &[Shared<Claim>]) -> bool
     ensures { result ≡ list_any (is_served_elsewhere (L.rows lookup.now)) claims.now }
 {
     claims
@@ -79,7 +94,7 @@ pub(crate) fn is_one_served_elsewhere<L: Lookup>(lookup: &L, claims: &[Claim]) -
 }
 
 /// Whether each of the claims is completed, or a volume or a node was chosen for it.
-pub(crate) fn are_under_way<L: Lookup>(lookup: &L, claims: &[Claim]) -> bool
+pub(crate) fn are_under_way<L: Lookup>(lookup: &L, claims: &[Shared<Claim>]) -> bool
     ensures { result ≡ list_all (is_under_way (L.rows lookup.now)) claims.now }
 {
     claims.iter().all(|claim| is_under_way(lookup, claim))

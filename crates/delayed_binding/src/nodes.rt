@@ -10,6 +10,7 @@ use kube_types::bindings::is_empty;
 use kube_types::lookup::Lookup;
 use kube_types::objects::{Claim, Node, Object};
 use kube_types::parts::Kind;
+use kube_types::shared::Shared;
 use kube_types::text::Text;
 
 /// The node at a place among the nodes, where it stands in no namespace.
@@ -60,7 +61,11 @@ pub(crate) fn node_in_turn<'a, L: Lookup>(
 }
 
 /// The node at a place, where the volumes of all claims admit it.
-fn admitted_at<'a, L: Lookup>(lookup: &'a L, claims: &[Claim], place: usize) -> Option<&'a Node>
+fn admitted_at<'a, L: Lookup>(
+    lookup: &'a L,
+    claims: &[Shared<Claim>],
+    place: usize,
+) -> Option<&'a Node>
     ensures { IsNodeAt (L.rows lookup.now) (AreAdmitted (L.rows lookup.now) claims.now) place (option_copied result) }
 {
     match node_at(lookup, place) {
@@ -76,7 +81,10 @@ fn admitted_at<'a, L: Lookup>(lookup: &'a L, claims: &[Claim], place: usize) -> 
 }
 
 /// The first node that the volumes of all claims admit.
-pub(crate) fn first_admitted<'a, L: Lookup>(lookup: &'a L, claims: &[Claim]) -> Option<&'a Node>
+pub(crate) fn first_admitted<'a, L: Lookup>(
+    lookup: &'a L,
+    claims: &[Shared<Claim>],
+) -> Option<&'a Node>
     ensures { IsFirstOrNone (L.rows lookup.now) (AreAdmitted (L.rows lookup.now) claims.now) (option_copied result) }
 {
     for place in 0..lookup.count(Kind::Node) {

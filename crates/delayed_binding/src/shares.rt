@@ -1,17 +1,19 @@
 //! What a node gives to the claims of a pod.
 
-ghost use Rattle.std.specs.Prelude.{◌≡◌, [], ◌∷◌, ◌++◌, IfOk, OnOk, IfSome, IfNone};
+ghost use Rattle.std.specs.Prelude.{◌≡◌, [], ◌∷◌, ◌++◌, false, Some, IfOk, OnOk, IfSome, IfNone};
 ghost use Rattle.std.specs.Bool.{OnTrue};
 ghost use Rattle.std.specs.Option.{option_copied};
 ghost use Rattle.kube_types.specs.Bindings.{class_of_claim};
 ghost use Rattle.kube_types.specs.Keys.{AreRows, key_of, row_at};
 ghost use Rattle.kube_types.specs.declared.objects.Object.TheVariants.{Claim as ClaimObject};
 ghost use Rattle.binder_model.specs.Choice.{can_provision, claim_cmp, class_provisions, insert_claim, is_other};
+ghost use Rattle.binder_model.specs.Matching.{IsBest};
 ghost use Rattle.binder_model.specs.ObjectKeys.{class_key};
+ghost use Rattle.volume_match.specs.Passing.{IsFoundThere, found_place};
 ghost use Rattle.volume_match.specs.Volumes.{volume_at};
 ghost use Rattle.delayed_binding.specs.Choices.{IsPreparedOn, others_in, pair_of};
 ghost use Rattle.delayed_binding.specs.Steps.Scans.{IsFirstInTurn, IsPreparedIf};
-ghost use Rattle.delayed_binding.specs.Steps.Sharing.{AreSame, HaveNoShares, IsServedAs, IsSharedOut, held_by, place_in};
+ghost use Rattle.delayed_binding.specs.Steps.Sharing.{ArePassed, ArePassedIn, AreSame, HaveNoShares, IsIndexOf, IsPassedToo, IsServedAs, IsSharedOut, IsUnserved, held_by, nothing_held, place_in};
 
 use crate::choice::Choice;
 use crate::marks::Marks;
@@ -23,24 +25,26 @@ use kube_types::key::Key;
 use kube_types::lookup::Lookup;
 use kube_types::objects::{Claim, Meta, Node, Object, Volume};
 use kube_types::parts::Kind;
+use kube_types::shared::Shared;
 use kube_types::text::Text;
+use kube_types::volume_index::VolumeIndex;
 use plain_data::items::Items;
 use std::alloc::Global;
 use std::cmp::Ordering;
-use volume_match::{best_outside, row_named};
+use volume_match::{Found, best, best_outside, best_passing, row_named};
 
 /// The claims that are neither completed nor carried by a volume, by rising size and name.
 pub(crate) fn others_in<L: Lookup>(
     alloc: Global,
     lookup: &L,
-    claims: &[Claim],
-) -> Result<Vec<Claim>, OutOfMemory>
+    claims: &[Shared<Claim>],
+) -> Result<Vec<Shared<Claim>>, OutOfMemory>
     ensures { IfOk result (λ others. others.items ≡ others_in (L.rows lookup.now) claims.now) }
 {
     let mut others = Vec::new(alloc);
     for place in (0..claims.len()).rev() {
         let claim = &claims[place];
-        if is_other(lookup, claim) {
+        if is_other(lookup, claim.get()) {
             insert_claim(alloc, claim, &mut others)?;
         }
     }
@@ -48,10 +52,14 @@ pub(crate) fn others_in<L: Lookup>(
 }
 
 /// Puts the claim before those that it does not come after.
-fn insert_claim(alloc: Global, claim: &Claim, claims: &mut Vec<Claim>) -> Result<(), OutOfMemory>
+fn insert_claim(
+    alloc: Global,
+    claim: &Shared<Claim>,
+    claims: &mut Vec<Shared<Claim>>,
+) -> Result<(), OutOfMemory>
     ensures { OnOk result (claims.new.items ≡ insert_claim claim.now claims.old.items) }
 {
-    let place = place_in(claim, claims);
+    let place = place_in(claim.get(), claims);
     claims.insert(place, claim.copy(alloc)?)?;
     Ok(())
 }
@@ -63,7 +71,7 @@ fn is_other<L: Lookup>(lookup: &L, claim: &Claim) -> bool
 }
 
 /// How many of the claims, at the front, the claim comes after.
-fn place_in(claim: &Claim, claims: &[Claim]) -> usize
+fn place_in(claim: &Claim, claims: &[Shared<Claim>]) -> usize
     ensures { result ≡ place_in claim.now claims.now }
 {
     for (place, other) in claims.iter().enumerate() {
@@ -84,10 +92,12 @@ fn compare(left: &Claim, right: &Claim) -> Ordering
         .then(left.meta.name.as_str().cmp(right.meta.name.as_str()))
 }
 
-/// What claims get on a node, and the places of the volumes that are taken or set aside.
+/// What claims get on a node, the places of the volumes that are taken or set aside, and, of those that are taken, the places
+/// among the free volumes of the index.
 #[derive(Debug, Drop)]
 struct Shares {
     taken: Marks,
+    passed: Marks,
     binds: Vec<(Key, Key)>,
     provisions: Vec<Key>,
 }
@@ -99,34 +109,44 @@ impl Shares {
         &mut self,
         alloc: Global,
         lookup: &L,
+        index: Option<&VolumeIndex>,
         node: &Node,
         claim: &Claim,
     ) -> Result<bool, OutOfMemory>
-        ensures { IfOk result (λ given. IsServedAs (L.rows lookup.now) node.now claim.now (held_by self.old) (held_by self.new) given) }
+        requires order { AreRows (L.rows lookup.now) }
+        requires index { IsIndexOf (L.rows lookup.now) (option_copied index) }
+        requires passed { ArePassed (L.rows lookup.now) (option_copied index) self.now }
+        ensures given { IfOk result (λ given. IsServedAs (L.rows lookup.now) node.now claim.now (held_by self.old) (held_by self.new) given) }
+        ensures passed { OnOk result (ArePassed (L.rows lookup.now) (option_copied index.entry) self.new) }
     {
-        match best_outside(lookup, claim, Some(node), false, &self.taken) {
-            Some(place) => {
-                self.take(alloc, lookup, claim, place)?;
+        match best_left(lookup, index, node, claim, &self.taken, &self.passed) {
+            Some(found) => {
+                self.take(alloc, lookup, claim, &found)?;
                 Ok(true)
             }
             None => self.provision(alloc, lookup, claim),
         }
     }
 
-    /// The claim takes the volume at this place.
+    /// The claim takes the volume that was found.
     fn take<L: Lookup>(
         &mut self,
         alloc: Global,
         lookup: &L,
         claim: &Claim,
-        place: usize,
+        found: &Found,
     ) -> Result<(), OutOfMemory>
-        ensures taken { OnOk result (AreSame self.new.taken (place ∷ self.old.taken)) }
-        ensures binds { OnOk result (self.new.binds.items ≡ self.old.binds.items ++ pair_of claim.now (volume_at (L.rows lookup.now) place)) }
+        ensures taken { OnOk result (AreSame self.new.taken (found.now.place ∷ self.old.taken)) }
+        ensures passed { OnOk result (IsPassedToo found.now.free self.old.passed self.new.passed) }
+        ensures binds { OnOk result (self.new.binds.items ≡ self.old.binds.items ++ pair_of claim.now (volume_at (L.rows lookup.now) found.now.place)) }
         ensures provisions { OnOk result (self.new.provisions.items ≡ self.old.provisions.items) }
     {
-        self.bind(alloc, claim, volume_at(lookup, place))?;
-        self.taken.put(place)
+        self.bind(alloc, claim, volume_at(lookup, found.place))?;
+        self.taken.put(found.place)?;
+        match found.free {
+            None => Ok(()),
+            Some(place) => self.passed.put(place),
+        }
     }
 
     fn bind(
@@ -136,6 +156,7 @@ impl Shares {
         volume: Option<&Volume>,
     ) -> Result<(), OutOfMemory>
         ensures taken { OnOk result (self.new.taken ≡ self.old.taken) }
+        ensures passed { OnOk result (self.new.passed ≡ self.old.passed) }
         ensures binds { OnOk result (self.new.binds.items ≡ self.old.binds.items ++ pair_of claim.now (option_copied volume.entry)) }
         ensures provisions { OnOk result (self.new.provisions.items ≡ self.old.provisions.items) }
     {
@@ -159,6 +180,7 @@ impl Shares {
     ) -> Result<bool, OutOfMemory>
         ensures can { IfOk result (λ given. given ≡ can_provision (L.rows lookup.now) claim.now) }
         ensures taken { OnOk result (self.new.taken ≡ self.old.taken) }
+        ensures passed { OnOk result (self.new.passed ≡ self.old.passed) }
         ensures binds { OnOk result (self.new.binds.items ≡ self.old.binds.items) }
         ensures provisions { IfOk result (λ given. OnTrue given (self.new.provisions.items ≡ self.old.provisions.items ++ key_of (ClaimObject claim.now) ∷ [])) }
     {
@@ -168,6 +190,29 @@ impl Shares {
         let key = key_with(alloc, Kind::PersistentVolumeClaim, &claim.meta)?;
         self.provisions.push(key)?;
         Ok(true)
+    }
+}
+
+/// The best volume that is left for the claim on the node: by the index, where there is one.
+fn best_left<L: Lookup>(
+    lookup: &L,
+    index: Option<&VolumeIndex>,
+    node: &Node,
+    claim: &Claim,
+    taken: &Marks,
+    passed: &Marks,
+) -> Option<Found>
+    requires index { IsIndexOf (L.rows lookup.now) (option_copied index) }
+    requires passed { ArePassedIn (L.rows lookup.now) (option_copied index) passed.now taken.now }
+    ensures best { IsBest (L.rows lookup.now) claim.now (Some node.now) false taken.now (found_place result) }
+    ensures there { IfSome (option_copied index.entry) (λ i. IsFoundThere (L.rows lookup.now) i.free result) }
+{
+    match index {
+        Some(index) => best_passing(index, lookup, claim, Some(node), false, taken, passed),
+        None => match best_outside(lookup, claim, Some(node), false, taken) {
+            None => None,
+            Some(place) => Some(Found { place, free: None }),
+        },
     }
 }
 
@@ -197,23 +242,45 @@ fn class_provisions<L: Lookup>(lookup: &L, claim: &Claim) -> bool
     }
 }
 
+/// Whether the node has no volume for the claim, even where all are left, and the claim cannot be provisioned.
+fn is_unserved<L: Lookup>(lookup: &L, node: &Node, claim: &Claim) -> bool
+    ensures { OnTrue result (IsUnserved (L.rows lookup.now) node.now claim.now nothing_held) }
+{
+    !can_provision(lookup, claim) && best(lookup, claim, Some(node), false, &[]).is_none()
+}
+
+/// Whether the last of the claims is so, which is the largest. It is the first to find none, and is asked before anything is
+/// given to the others.
+fn is_last_unserved<L: Lookup>(lookup: &L, node: &Node, claims: &[Shared<Claim>]) -> bool
+    ensures { OnTrue result (HaveNoShares (L.rows lookup.now) node.now claims.now) }
+{
+    let count = claims.len();
+    if count == 0 {
+        return false;
+    }
+    is_unserved(lookup, node, claims[count - 1].get())
+}
+
 /// What the claims get on the node, each the best volume that is left or its own provisioning.
 fn shares_on<L: Lookup>(
     alloc: Global,
     lookup: &L,
     node: &Node,
-    claims: &[Claim],
+    claims: &[Shared<Claim>],
 ) -> Result<Option<Shares>, OutOfMemory>
     ensures some { IfOk result (λ found. IfSome found (λ shares. IsSharedOut (L.rows lookup.now) node.now claims.now (held_by shares))) }
     ensures none { IfOk result (λ found. IfNone found (HaveNoShares (L.rows lookup.now) node.now claims.now)) }
 {
+    // The index is asked for once: the places among its free volumes are those of this one.
+    let index = lookup.volumes();
     let mut shares = Shares {
         taken: set_aside(alloc, lookup)?,
+        passed: Marks::new(alloc),
         binds: Vec::new(alloc),
         provisions: Vec::new(alloc),
     };
     for claim in claims {
-        if !shares.give(alloc, lookup, node, claim)? {
+        if !shares.give(alloc, lookup, index, node, claim.get())? {
             return Ok(None);
         }
     }
@@ -225,12 +292,15 @@ pub(crate) fn prepared_on<L: Lookup>(
     alloc: Global,
     lookup: &L,
     node: &Node,
-    claims: &[Claim],
-    others: &[Claim],
+    claims: &[Shared<Claim>],
+    others: &[Shared<Claim>],
 ) -> Result<Option<Choice>, OutOfMemory>
     requires { others.now ≡ others_in (L.rows lookup.now) claims.now }
     ensures { IfOk result (λ found. IsPreparedOn (L.rows lookup.now) claims.now node.now found) }
 {
+    if is_last_unserved(lookup, node, others) {
+        return Ok(None);
+    }
     if !all_fixed_admit(lookup, node, claims) {
         return Ok(None);
     }
@@ -248,8 +318,8 @@ pub(crate) fn prepared_on<L: Lookup>(
 fn prepared_at<L: Lookup>(
     alloc: Global,
     lookup: &L,
-    claims: &[Claim],
-    others: &[Claim],
+    claims: &[Shared<Claim>],
+    others: &[Shared<Claim>],
     node: Option<&Node>,
 ) -> Result<Option<Choice>, OutOfMemory>
     requires { others.now ≡ others_in (L.rows lookup.now) claims.now }
@@ -266,8 +336,8 @@ fn prepared_at<L: Lookup>(
 pub(crate) fn first_in_turn<L: Lookup>(
     alloc: Global,
     lookup: &L,
-    claims: &[Claim],
-    others: &[Claim],
+    claims: &[Shared<Claim>],
+    others: &[Shared<Claim>],
     last: Option<&Text>,
     past: bool,
 ) -> Result<Option<Choice>, OutOfMemory>

@@ -1,13 +1,14 @@
 //! The volumes of the look-up, and which nodes they admit.
 
 ghost use Rattle.std.specs.Prelude.{◌≡◌, ◌∷◌, if◌then◌else◌, IfOk, OnOk};
-ghost use Rattle.std.specs.List.{list_all};
+ghost use Rattle.std.specs.List.{list_all, list_any};
 ghost use Rattle.std.specs.Option.{option_copied};
+ghost use Rattle.kube_types.specs.Bindings.{carries};
 ghost use Rattle.kube_types.specs.Keys.{AreRows};
 ghost use Rattle.binder_model.specs.Choice.{admits_if_carrying, fixed_admit, has_carrier, volume_admits};
 ghost use Rattle.volume_match.specs.Volumes.{volume_at};
 ghost use Rattle.delayed_binding.specs.Choices.{set_aside};
-ghost use Rattle.delayed_binding.specs.Steps.Places.{admits_at, carries_at, is_in_namespace};
+ghost use Rattle.delayed_binding.specs.Steps.Places.{admits_at, admits_unless_other, carries_at, is_in_namespace};
 ghost use Rattle.delayed_binding.specs.Steps.Sharing.{AreSame};
 
 use crate::marks::Marks;
@@ -17,9 +18,10 @@ use kube_types::key::meta_of;
 use kube_types::lookup::Lookup;
 use kube_types::objects::{Claim, Node, Object, Volume};
 use kube_types::parts::Kind;
+use kube_types::shared::Shared;
 use label_rules::admits;
 use std::alloc::Global;
-use volume_match::row_named;
+use volume_match::{referring_to, row_named};
 
 /// The volume at a place among the volumes.
 pub(crate) fn volume_at<L: Lookup>(lookup: &L, place: usize) -> Option<&Volume>
@@ -31,8 +33,30 @@ pub(crate) fn volume_at<L: Lookup>(lookup: &L, place: usize) -> Option<&Volume>
     }
 }
 
-/// Whether a volume carries the claim.
+/// Whether a volume carries the claim: by the index of the look-up, where it shows one.
 pub(crate) fn has_carrier<L: Lookup>(lookup: &L, claim: &Claim) -> bool
+    ensures { result ≡ has_carrier (L.rows lookup.now) claim.now }
+{
+    match lookup.volumes() {
+        Some(index) => is_carried(referring_to(index, claim), claim),
+        None => is_carried_at_all(lookup, claim),
+    }
+}
+
+/// Whether one of the volumes carries the claim.
+fn is_carried(volumes: &[Shared<Volume>], claim: &Claim) -> bool
+    ensures { result ≡ list_any (λ v. carries v claim.now) volumes.now }
+{
+    for volume in volumes {
+        if carries(volume.get(), claim) {
+            return true;
+        }
+    }
+    false
+}
+
+/// Whether a volume carries the claim, by a look at each.
+fn is_carried_at_all<L: Lookup>(lookup: &L, claim: &Claim) -> bool
     ensures { result ≡ has_carrier (L.rows lookup.now) claim.now }
 {
     for place in 0..lookup.count(Kind::PersistentVolume) {
@@ -53,8 +77,30 @@ fn carries_at<L: Lookup>(lookup: &L, claim: &Claim, place: usize) -> bool
     }
 }
 
-/// Whether each volume that carries the claim admits the node.
+/// Whether each volume that carries the claim admits the node: by the index of the look-up, where it shows one.
 fn carriers_admit<L: Lookup>(lookup: &L, node: &Node, claim: &Claim) -> bool
+    ensures { result ≡ list_all (admits_if_carrying node.now claim.now) (L.rows lookup.now) }
+{
+    match lookup.volumes() {
+        Some(index) => those_admit(referring_to(index, claim), node, claim),
+        None => all_admit(lookup, node, claim),
+    }
+}
+
+/// Whether each of the volumes that carries the claim admits the node.
+fn those_admit(volumes: &[Shared<Volume>], node: &Node, claim: &Claim) -> bool
+    ensures { result ≡ list_all (admits_unless_other node.now claim.now) volumes.now }
+{
+    for volume in volumes {
+        if !admits_unless_other(volume.get(), node, claim) {
+            return false;
+        }
+    }
+    true
+}
+
+/// Whether each volume that carries the claim admits the node, by a look at each.
+fn all_admit<L: Lookup>(lookup: &L, node: &Node, claim: &Claim) -> bool
     ensures { result ≡ list_all (admits_if_carrying node.now claim.now) (L.rows lookup.now) }
 {
     for place in 0..lookup.count(Kind::PersistentVolume) {
@@ -71,10 +117,15 @@ fn admits_at<L: Lookup>(lookup: &L, node: &Node, claim: &Claim, place: usize) ->
 {
     match volume_at(lookup, place) {
         None => true,
-        Some(volume) => {
-            !carries(volume, claim) || admits(volume.terms.as_ref(), &node.meta.labels)
-        }
+        Some(volume) => admits_unless_other(volume, node, claim),
     }
+}
+
+/// Whether the volume does not carry the claim, or admits the node.
+fn admits_unless_other(volume: &Volume, node: &Node, claim: &Claim) -> bool
+    ensures { result ≡ admits_unless_other node.now claim.now volume.now }
+{
+    !carries(volume, claim) || admits(volume.terms.as_ref(), &node.meta.labels)
 }
 
 /// Whether the volume that the claim names is there and admits the node.
@@ -93,7 +144,7 @@ fn volume_admits<L: Lookup>(lookup: &L, node: &Node, claim: &Claim) -> bool
 }
 
 /// Whether the volumes that the claims name are there and admit the node.
-pub(crate) fn are_admitted<L: Lookup>(lookup: &L, node: &Node, claims: &[Claim]) -> bool
+pub(crate) fn are_admitted<L: Lookup>(lookup: &L, node: &Node, claims: &[Shared<Claim>]) -> bool
     ensures { result ≡ list_all (volume_admits (L.rows lookup.now) node.now) claims.now }
 {
     claims
@@ -110,10 +161,15 @@ fn fixed_admit<L: Lookup>(lookup: &L, node: &Node, claim: &Claim) -> bool
 }
 
 /// Whether the volumes that are fixed for the claims admit the node.
-pub(crate) fn all_fixed_admit<L: Lookup>(lookup: &L, node: &Node, claims: &[Claim]) -> bool
+pub(crate) fn all_fixed_admit<L: Lookup>(lookup: &L, node: &Node, claims: &[Shared<Claim>]) -> bool
     ensures { result ≡ list_all (fixed_admit (L.rows lookup.now) node.now) claims.now }
 {
-    claims.iter().all(|claim| fixed_admit(lookup, node, claim))
+    for claim in claims {
+        if !fixed_admit(lookup, node, claim.get()) {
+            return false;
+        }
+    }
+    true
 }
 
 /// The places of the volumes that stand in a namespace, which no claim takes.

@@ -8,11 +8,12 @@ use Rattle.binder_model.specs.Promises.{IsRunOf}
 use Rattle.binder_model.specs.World.{World, world}
 use Rattle.settle_measure.specs.Measure.{claims_in, faults_left, work_left}
 use Rattle.worker_threads.specs.declared.drainers.Drainer.{Drainer}
+use Rattle.worker_threads.specs.Drainers.{AreAtRest}
 use Rattle.worker_threads.specs.Rounds.{Drains, Lets}
 use Rattle.short_law.specs.Rounds.{size_of_world}
 use Rattle.short_law.specs.Slots.{PassesReads}
 use Rattle.write_count.specs.Counts.{AnnotationsAreInOrder, to_write}
-use Rattle.settle_law.specs.Settling.{AreAtRest, MayDrain}
+use Rattle.settle_law.specs.Settling.{MayDrain}
 use Rattle.all_pay.specs.All.{ImportsAllow}
 use Rattle.call_count.specs.Rounds.{most_size, pods_size}
 use Rattle.drain_count.specs.Drains.{rounds_in}

@@ -12,14 +12,14 @@ use Rattle.binder_model.specs.World.{world}
 use Rattle.model_laws.proofs.Histories.{rows_stand_in_order}
 use Rattle.settle_measure.specs.Measure.{total}
 use Rattle.worker_threads.specs.declared.drainers.Drainer.{Drainer}
-use Rattle.worker_threads.specs.Drainers.{roles_of}
+use Rattle.worker_threads.specs.Drainers.{AreAtRest, roles_of}
 use Rattle.worker_threads.specs.Rounds.{Drains, Goes, IsRound, IsSpent, Lets, NothingDue}
 use Rattle.worker_threads.proofs.DrainFacts.{drains_grow}
 use Rattle.worker_threads.proofs.RoundFacts.{roles_built, round_grows, round_part, round_seats, same_length}
 use Rattle.short_law.specs.Slots.{PassesReads, writes_since}
 use Rattle.scheduler_writes.specs.Pods.{pod_writes, pods_writes}
 use Rattle.paid_law.proofs.Slots.{older_run}
-use Rattle.settle_law.specs.Settling.{AreAtRest, MayDrain}
+use Rattle.settle_law.specs.Settling.{MayDrain}
 use Rattle.settle_law.proofs.Leaving.{rounds_leave_drainers}
 use Rattle.all_pay.specs.All.{ImportsAllow}
 use Rattle.all_pay.proofs.Drains.{none_left}

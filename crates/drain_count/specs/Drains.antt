@@ -7,12 +7,12 @@ use Rattle.binder_model.specs.Due.{IsSettled}
 use Rattle.binder_model.specs.Promises.{IsRunOf}
 use Rattle.binder_model.specs.World.{world}
 use Rattle.worker_threads.specs.declared.drainers.Drainer.{Drainer}
-use Rattle.worker_threads.specs.Drainers.{AreRoles, roles_of}
+use Rattle.worker_threads.specs.Drainers.{AreAtRest, AreRoles, roles_of}
 use Rattle.worker_threads.specs.Rounds.{Drains, Goes, IsRound, IsSpent, Lets, NothingDue}
 use Rattle.short_law.specs.Slots.{PassesReads, writes_since}
 use Rattle.scheduler_writes.specs.Pods.{pods_writes}
 use Rattle.write_count.specs.Counts.{to_write}
-use Rattle.settle_law.specs.Settling.{AreAtRest, MayDrain}
+use Rattle.settle_law.specs.Settling.{MayDrain}
 use Rattle.all_pay.specs.All.{ImportsAllow}
 use Rattle.call_count.specs.Rounds.{idle_calls, most_size, most_writes, pods_size}
 

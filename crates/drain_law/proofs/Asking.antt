@@ -96,7 +96,7 @@ module _ (script : Script) (option : Option ℕ) (P : Entry → Type 0) where
       first_makes zero user request at = makes 0 user request (ap (λ ls. slice_get ls 0) are ∙ at)
       first_makes (suc place) user request at = none_some at
 
-  pub replay_asked : (past : List Entry) (ending : Drained) → Makes script.lines → IsReplay script option past ending → Asked past
+  replay_asked : (past : List Entry) (ending : Drained) → Makes script.lines → IsReplay script option past ending → Asked past
   replay_asked past ending makes replay =
       subst Asked (sym replay.history)
       (same_asked replay.lines_done replay.end (drain_users replay.lines_done replay.end replay.last)
@@ -105,7 +105,7 @@ module _ (script : Script) (option : Option ℕ) (P : Entry → Type 0) where
 -- ---- the nodes that entries ask to create
 
 -- a node that the entry asks to create is one that a line creates
-abbrev pub AsksNamed : List Line → Entry → Type 0
+abbrev AsksNamed : List Line → Entry → Type 0
 AsksNamed lines e = (node : List ℕ) → CreatesNode node e.request → SomeOf (λ line. created_node line ≡ Some node) lines
 
 pub created_by_line : (user : ℕ) (request : Request) (node : List ℕ) → CreatesNode node request → created_node (Call user request) ≡ Some node
@@ -168,9 +168,16 @@ module _ (script : Script) (past : List Entry) (names : NamesItsNodes script) (r
   given_later newer h are node (inl import) = inl import
   given_later newer h are node (inr created) = inr (subst (SomeOf (λ e. CreatesNode node e.request)) (sym are) (some_right (λ e. CreatesNode node e.request) newer h created))
 
+  -- a node that was given before is one that the script names
+  pub given_before : (newer h : List Entry) → past ≡ newer ++ h → (node : List ℕ) → WasGiven script.setup h node → SomeOf (λ n. n ≡ node) script.node_names
+  given_before newer h are node given = given_named node (given_later newer h are node given)
+
   pub pods_named : (newer h : List Entry) → past ≡ newer ++ h → ArePodsOnNamed script h
-  pods_named newer h are key p there scheduled = given_named p.node (given_later newer h are p.node (pods_are_on_given_nodes script.setup h key p there scheduled))
+  pods_named newer h are key p there scheduled = given_before newer h are p.node (pods_are_on_given_nodes script.setup h key p there scheduled)
+
+pub replay_creates : (script : Script) (option : Option ℕ) (past : List Entry) (ending : Drained) → IsReplay script option past ending → UsersCreateLines script.lines past
+replay_creates script option past ending replay node some =
+    asked_named script.lines node (users_of past) (replay_asked script option (AsksNamed script.lines) past ending (lines_make script.lines) replay) some
 
 pub replayed_pods_are_on_named : ReplayedPodsAreOnNamed
-replayed_pods_are_on_named script option past ending names run replay =
-    pods_named script past names run (λ node some. asked_named script.lines node (users_of past) (replay_asked script option (AsksNamed script.lines) past ending (lines_make script.lines) replay) some)
+replayed_pods_are_on_named script option past ending names run replay = pods_named script past names run (replay_creates script option past ending replay)

@@ -32,21 +32,21 @@ module _ (script : Script) (first : ℕ) (option : Option ℕ) (before after : P
   remember : Remember d.drainers before.past
   remember place x there = (d.stand.each place x there).told.memory
 
-  silent : OnlyOvertakenAreSilent script.setup d.drainers before.past
-  silent =
+  pub silent_ones : OnlyOvertakenAreSilent script.setup d.drainers before.past
+  silent_ones =
       as_drainers script.setup d.drainers before.past remember
       (subst (λ (roles : List Role). OnlyOvertakenSeats script.setup (seats_of d.drainers) roles before.past) (sym d.roles)
       (subst (λ (seats : List ℕ). OnlyOvertakenSeats script.setup seats (drain_roles script) before.past) (sym d.seats) only))
 
-  may : MayDrain script.setup before.past d.drainers
-  may = record {
+  pub may_begin : MayDrain script.setup before.past d.drainers
+  may_begin = record {
     run = let g = drains_grow all_pass script.setup d.ran d.past _ d.drainers before.past _ d.rounds in run_of_older script.setup g.longer.added before.past d.past g.longer.are run_there;
     seats = subst AreSeats (sym d.seats) (seats_differ first script.node_names);
     stand = d.stand;
   }
 
   pub drain_lasts : DrainLasts script first option before after d
-  drain_lasts = drained_rounds_last script.setup d.drainers d.ran before.past d.past (d.budget - before.drained) (d.budget - (before.drained + d.made)) may silent run_there d.rounds
+  drain_lasts = drained_rounds_last script.setup d.drainers d.ran before.past d.past (d.budget - before.drained) (d.budget - (before.drained + d.made)) may_begin silent_ones run_there d.rounds
 
   -- and the next drain may begin so
   pub drain_keeps : AreSilentIfOvertaken script first after.past
@@ -59,7 +59,7 @@ module _ (script : Script) (first : ℕ) (option : Option ℕ) (before after : P
       kept : Remember d.ran d.past × OnlyOvertakenAreSilent script.setup d.ran d.past
       kept =
           drains_keep script.setup (seats_for first script.node_names) (seats_apart first script.node_names) (seats_differ first script.node_names) d.ran d.past (d.budget - (before.drained + d.made)) run_there
-          d.drainers before.past (d.budget - before.drained) d.seats d.rounds remember silent
+          d.drainers before.past (d.budget - before.drained) d.seats d.rounds remember silent_ones
 
       seats_are : seats_of d.ran ≡ seats_for first script.node_names
       seats_are = drains_seats all_pass script.setup d.ran d.past _ d.drainers before.past _ d.rounds ∙ d.seats

@@ -6,6 +6,7 @@ use Rattle.call_types.specs.declared.request.SeatKind.{SeatKind}
 use Rattle.binder_model.specs.Promises.{IsRunOf}
 use Rattle.binder_model.specs.Told.{own}
 use Rattle.model_laws.proofs.Evidence.{own_other}
+use Rattle.world_core.specs.declared.drained.Drained.{Drained}
 use Rattle.worker_threads.specs.Longer.{IsOneOf}
 use Rattle.worker_threads.specs.Rounds.{all_pass}
 use Rattle.worker_threads.proofs.DrainFacts.{drains_grow}
@@ -24,13 +25,13 @@ use Rattle.actor_turns.specs.Steps.Playing.{IsLife}
 use Rattle.actor_turns.proofs.Lives.{seat_within}
 use Rattle.script_runs.specs.Limits.{IsKnown, IsReadable}
 use Rattle.script_runs.specs.Parts.{all_actors, all_lives, drain_roles, drain_seat, drain_seats, is_named, part_of, role_of}
-use Rattle.script_runs.specs.Replays.{AreMoves, IsMove, IsTurnLine, MoreMoves, NoMoves, Progress, first_progress}
+use Rattle.script_runs.specs.Replays.{AreMoves, IsMove, IsReplay, IsTurnLine, MoreMoves, NoMoves, Progress, first_progress}
 use Rattle.script_runs.specs.Steps.Standing.{all_parts, place_of, seat_of_drains}
 use Rattle.script_runs.proofs.Casting.{drains_after, in_order, known_at, named_at, part_of_actor, within_at}
 use Rattle.script_runs.proofs.Orders.{life_between}
 use Rattle.script_runs.proofs.Staging.{after_first}
 use Rattle.script_runs.proofs.Staying.{IsGrown, calls_grow}
-use Rattle.drain_law.specs.Lasting.{MoveLasts, MovesLast, ReplayedDrainsLast}
+use Rattle.drain_law.specs.Lasting.{DrainsLast, MoveLasts, MovesLast, ReplayedDrainsLast}
 use Rattle.drain_law.proofs.Drained.{AreSilentIfOvertaken, drain_keeps, drain_lasts}
 use Rattle.drain_law.proofs.Silent.{on_others}
 
@@ -89,7 +90,7 @@ module _ (script : Script) (option : Option ℕ) (readable : IsReadable script) 
   after_users lives seat low = omega (arith, low)
 
   -- the seat is none of a user's
-  no_user : (user : ℕ) → user < 5 → (seat : ℕ) → IsOneOf (drain_seats script) seat → seat ≢ user
+  pub no_user : (user : ℕ) → user < 5 → (seat : ℕ) → IsOneOf (drain_seats script) seat → seat ≢ user
   no_user user few seat among is = let high = after_users (all_lives (all_actors script) script.lines) seat (after_first (drain_seat script) script.node_names seat among) in absurd (omega (arith, few, is, high))
 
   -- and none of a life
@@ -100,7 +101,7 @@ module _ (script : Script) (option : Option ℕ) (readable : IsReadable script) 
       let last = drains_after script in
       absurd (omega (arith, low, high, last))
 
-  turn_others : (actor : Actor) (calls : ℕ) (now next : Progress) → is_named (actor_word actor) script.lines ≡ true → IsKnown script.node_names actor → IsTurnLine all_pass [] (role_of actor) (part_of script actor) calls now next
+  pub turn_others : (actor : Actor) (calls : ℕ) (now next : Progress) → is_named (actor_word actor) script.lines ≡ true → IsKnown script.node_names actor → IsTurnLine all_pass [] (role_of actor) (part_of script actor) calls now next
       → (seat : ℕ) → IsOneOf (drain_seats script) seat → own seat next.past ≡ own seat now.past
   turn_others actor calls now next named known (inl all) seat among = subst (λ (p : Progress). own seat p.past ≡ own seat now.past) (sym all.is) (calls_others (part_of script actor) all.past seat named (no_life actor known seat among) _ _ now.past all.made)
   turn_others actor calls now next named known (inr few) seat among = subst (λ (p : Progress). own seat p.past ≡ own seat now.past) (sym few.is) (calls_others (part_of script actor) few.past seat named (no_life actor known seat among) _ _ now.past few.made)
@@ -134,16 +135,21 @@ module _ (script : Script) (option : Option ℕ) (readable : IsReadable script) 
 none_yet : (script : Script) (first : ℕ) → AreSilentIfOvertaken script first []
 none_yet script first place seat node at_seat at_role silent = absurd (true≢false (sym silent))
 
+module _ (script : Script) (option : Option ℕ) (past : List Entry) (ending : Drained) (readable : IsReadable script) (run : IsRunOf script.setup past) (replay : IsReplay script option past ending) where
+  run_at_end : IsRunOf script.setup replay.end.past
+  run_at_end = subst (IsRunOf script.setup) replay.history run
+
+  before : MovesLast script option replay.lines_done script.lines (first_progress option) replay.moves × AreSilentIfOvertaken script (drain_seat script) replay.lines_done.past
+  before =
+      let grown = move_grows script option Drain replay.lines_done replay.end replay.last in
+      all_moves script option readable replay.lines_done (run_of_older script.setup grown.newer replay.lines_done.past replay.end.past grown.are run_at_end)
+      script.lines (first_progress option) (λ place line at. (place, at)) replay.moves (none_yet script (drain_seat script))
+
+  pub lines_silence_the_overtaken : AreSilentIfOvertaken script (drain_seat script) replay.lines_done.past
+  lines_silence_the_overtaken = before.1
+
+  each_lasts : DrainsLast script option past ending replay
+  each_lasts = record { of_lines = before.0; of_last = drain_lasts script (drain_seat script) option replay.lines_done replay.end replay.last run_at_end before.1 }
+
 pub replayed_drains_last : ReplayedDrainsLast
-replayed_drains_last script option past ending readable run replay = record { of_lines = before.0; of_last = drain_lasts script (drain_seat script) option replay.lines_done replay.end replay.last run_at_end before.1 }
-  where
-    run_at_end : IsRunOf script.setup replay.end.past
-    run_at_end = subst (IsRunOf script.setup) replay.history run
-
-    grown : IsGrown replay.lines_done.past replay.end.past
-    grown = move_grows script option Drain replay.lines_done replay.end replay.last
-
-    before : MovesLast script option replay.lines_done script.lines (first_progress option) replay.moves × AreSilentIfOvertaken script (drain_seat script) replay.lines_done.past
-    before =
-        all_moves script option readable replay.lines_done (run_of_older script.setup grown.newer replay.lines_done.past replay.end.past grown.are run_at_end)
-        script.lines (first_progress option) (λ place line at. (place, at)) replay.moves (none_yet script (drain_seat script))
+replayed_drains_last = each_lasts

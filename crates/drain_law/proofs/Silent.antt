@@ -28,10 +28,10 @@ use Rattle.drain_law.proofs.Remembering.{Remember, round_remembers}
 abbrev pub OnlyOvertakenSeats : Setup → List ℕ → List Role → List Entry → Type 0
 OnlyOvertakenSeats setup seats roles past = (place seat : ℕ) (node : List ℕ) → slice_get seats place ≡ Some seat → slice_get roles place ≡ Some (agent_of node) → (memory_of (agent_of node) (own seat past)).stale ≡ true → WasOvertaken setup past node seat
 
-seat_there : (ds : List Drainer) (place : ℕ) (d : Drainer) → slice_get ds place ≡ Some d → slice_get (seats_of ds) place ≡ Some d.seat
+pub seat_there : (ds : List Drainer) (place : ℕ) (d : Drainer) → slice_get ds place ≡ Some d → slice_get (seats_of ds) place ≡ Some d.seat
 seat_there ds place d there = get_mapped (λ (x : Drainer). x.seat) ds place ∙ ap (option_map (λ (x : Drainer). x.seat)) there
 
-role_there : (ds : List Drainer) (place : ℕ) (d : Drainer) → slice_get ds place ≡ Some d → slice_get (roles_of ds) place ≡ Some d.actor.role
+pub role_there : (ds : List Drainer) (place : ℕ) (d : Drainer) → slice_get ds place ≡ Some d → slice_get (roles_of ds) place ≡ Some d.actor.role
 role_there ds place d there = get_mapped (λ (x : Drainer). x.actor.role) ds place ∙ ap (option_map (λ (x : Drainer). x.actor.role)) there
 
 -- of actors that remember what was told there the two are the same

@@ -15,7 +15,7 @@ use Rattle.drain_law.proofs.Apart.{one_at}
 use Rattle.drain_law.proofs.Drained.{AreSilentIfOvertaken, drain_lasts}
 
 -- no seat of the drain has an entry when it begins
-silent_first : (script : Script) (workers calls : ℕ) (worked : List Entry) → IsThreadedWork script workers calls worked → AreSilentIfOvertaken script (drain_seat workers script) worked
+pub silent_first : (script : Script) (workers calls : ℕ) (worked : List Entry) → IsThreadedWork script workers calls worked → AreSilentIfOvertaken script (drain_seat workers script) worked
 silent_first script workers calls worked work place seat node at_seat at_role silent = absurd (true≢false (sym silent ∙ ap (λ es. (memory_of (agent_of node) es).stale) none))
   where
     none : own seat worked ≡ []

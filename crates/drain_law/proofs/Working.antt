@@ -1,5 +1,5 @@
 -- In a run on threads users ask what lines say, and no other than a user has an entry of theirs.
-use Rattle.std.proofs.Common.{◌≡◌, ◌∙◌, ℕ, ◌≤◌, ◌<◌, List, [], ◌∷◌, map, reverse, cond, Bool, true, false, true≢false, Some, inl, inr, refl, sym, ap, subst, arith}
+use Rattle.std.proofs.Common.{◌≡◌, ◌∙◌, ℕ, ◌≤◌, ◌<◌, List, [], ◌∷◌, map, reverse, cond, Bool, true, false, true≢false, Option, Some, inl, inr, refl, sym, ap, subst, arith}
 use Rattle.std.specs.Prelude.{◌==◌, ◌⊎◌, if◌then◌else◌}
 use Rattle.std.proofs.lemmas.Bool.{cases_lt}
 use Rattle.std.proofs.lemmas.List.{reverse-reverse}
@@ -10,6 +10,7 @@ use Rattle.binder_model.specs.Answers.{is_user}
 use Rattle.binder_model.specs.Told.{SomeOf, own}
 use Rattle.model_laws.proofs.Evidence.{own_mine}
 use Rattle.model_laws.proofs.Lists.{some_filter, some_or, some_reverse}
+use Rattle.world_core.specs.declared.drained.Drained.{Drained}
 use Rattle.worker_threads.specs.Longer.{users_of}
 use Rattle.worker_threads.specs.Rounds.{all_pass}
 use Rattle.node_law.specs.Nodes.{CreatesNode}
@@ -21,11 +22,11 @@ use Rattle.script_text.specs.Said.{created_node}
 use Rattle.shared_work.specs.Lines.{AreOfLines, asked_by, asked_if, asked_in, call_of, user_call}
 use Rattle.script_runs.proofs.Casting.{actor_built}
 use Rattle.script_runs.proofs.Draining.{drains_at_come_to}
-use Rattle.script_threads.specs.Runs.{progress_after}
+use Rattle.script_threads.specs.Runs.{IsRun, progress_after}
 use Rattle.script_threads.specs.Started.{EachStarted, after_lives, drain_seat, seat_after, started, started_part}
 use Rattle.script_threads.specs.Threads.{HasMadeCalls, IsThreadedWork}
 use Rattle.drain_law.specs.Naming.{ThreadedPodsAreOnNamed}
-use Rattle.drain_law.proofs.Asking.{UserCreates, calls_users, created_by_line, pods_named}
+use Rattle.drain_law.proofs.Asking.{UserCreates, UsersCreateLines, calls_users, created_by_line, pods_named}
 
 -- ---- an entry is one of its seat
 
@@ -143,9 +144,11 @@ module _ (script : Script) (workers calls : ℕ) (worked : List Entry) (work : I
   work_named : SomeOf (UserCreates node) worked → SomeOf (λ line. created_node line ≡ Some node) script.lines
   work_named some = let at = some_own (UserCreates node) worked some in at_seat at.seat at.some (cases_lt 0 at.seat) (cases_lt at.seat 5) (cases_lt at.seat (drain_seat workers script))
 
-pub threaded_pods_are_on_named : ThreadedPodsAreOnNamed
-threaded_pods_are_on_named script workers calls option past ending names run r =
-    pods_named script past names run (λ node some. work_named script workers calls r.worked r.work node (some_filter (UserCreates node) (λ e. is_user e.kind) r.worked (subst (SomeOf (UserCreates node)) same some)))
+pub run_creates : (script : Script) (workers calls : ℕ) (option : Option ℕ) (past : List Entry) (ending : Drained) → IsRun script workers calls option past ending → UsersCreateLines script.lines past
+run_creates script workers calls option past ending r node some = work_named script workers calls r.worked r.work node (some_filter (UserCreates node) (λ e. is_user e.kind) r.worked (subst (SomeOf (UserCreates node)) same some))
   where
     same : users_of past ≡ users_of r.worked
     same = ap users_of r.history ∙ (drains_at_come_to all_pass script (drain_seat workers script) option (progress_after r.worked option) r.end r.last).users
+
+pub threaded_pods_are_on_named : ThreadedPodsAreOnNamed
+threaded_pods_are_on_named script workers calls option past ending names run r = pods_named script past names run (run_creates script workers calls option past ending r)

@@ -155,7 +155,7 @@ asked (e ∷ past) seats users =
     let asks = first_asks e past users in
     All-cons IsAskedGiven e past (record { seat = All-head HasSeat e past seats; request = asks.0 }) (asked past (All-tail HasSeat e past seats) asks.1)
 
-replayed_run : (script : Script) (budget : Option ℕ) (past : List Entry) (ending : Drained) → IsReplayedRun script budget past ending → IsGivenRun script.setup past
+pub replayed_run : (script : Script) (budget : Option ℕ) (past : List Entry) (ending : Drained) → IsReplayedRun script budget past ending → IsGivenRun script.setup past
 replayed_run script budget past ending h =
     let fine = replay_fine script budget past ending h.script_given h.replay in
     record { setup_given = script_setups_give script h.script_given; short = h.short; asked = asked past fine.seats fine.users; run = h.run }

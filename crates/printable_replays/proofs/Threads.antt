@@ -252,7 +252,7 @@ module _ (script : Script) (is : IsScript script) (workers : ℕ) where
       (drain_fine script (drain_seat workers script) budget (progress_after run.worked budget) run.end is high run.last
       (fine_of run.worked (work_given calls run.worked run.work)))
 
-made_by_threads : (script : Script) (workers calls : ℕ) (budget : Option ℕ) (past : List Entry) (ending : Drained) → IsMadeByThreads script workers calls budget past ending → IsGivenRun script.setup past
+pub made_by_threads : (script : Script) (workers calls : ℕ) (budget : Option ℕ) (past : List Entry) (ending : Drained) → IsMadeByThreads script workers calls budget past ending → IsGivenRun script.setup past
 made_by_threads script workers calls budget past ending h =
     let fine = threads_fine script h.script_given workers calls budget past ending h.calls_are in
     record { setup_given = script_setups_give script h.script_given; short = h.short; asked = asked past fine.seats fine.users; run = h.run }

@@ -1,3 +1,4 @@
-pub mod Aside
+pub mod Awake
+pub mod Drain
+pub mod Names
 pub mod Settling
-pub mod Unused

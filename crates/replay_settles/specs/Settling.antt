@@ -1,57 +1,91 @@
--- When the last drain of a replay ends settled.
+-- When the last drain of a script ends settled.
 -- A choice of this project.
-use Rattle.std.specs.Prelude.{ℕ, ◌≡◌, ◌≤◌, ◌-◌, List, Option, Some, slice_get}
+use Rattle.std.specs.Prelude.{ℕ, ◌≡◌, ◌≤◌, ◌-◌, Bool, true, false, List, [], ◌∷◌, Option, Some, slice_get, ⊤}
 use Rattle.call_types.specs.declared.entry.Entry.{Entry}
+use Rattle.call_types.specs.declared.setup.Setup.{Setup}
 use Rattle.binder_model.specs.Due.{IsSettled}
+use Rattle.binder_model.specs.Promises.{IsRunOf}
 use Rattle.binder_model.specs.World.{world}
+use Rattle.epoch_law.specs.Epochs.{IsCurrent}
 use Rattle.settle_measure.specs.Measure.{faults_left}
 use Rattle.world_core.specs.declared.drained.Drained.{Drained}
 use Rattle.world_core.specs.declared.drained.Drained.TheVariants.{Settled}
-use Rattle.worker_threads.specs.Drainers.{HaveNoEntries}
+use Rattle.worker_threads.specs.Drainers.{agent_of, seats_for}
 use Rattle.short_law.specs.Rounds.{size_of_world}
 use Rattle.paid_law.specs.Guards.{NoneWasLost}
 use Rattle.drain_budget.specs.Budget.{IsSmallWorld, enough_calls}
 use Rattle.round_count.specs.Settling.{NoneProvisionsLate}
 use Rattle.printable_law.specs.Laws.{IsGivenRun}
-use Rattle.script_text.specs.declared.script.Line.TheVariants.{Drain}
+use Rattle.script_lines.specs.declared.actors.Actor.TheVariants.{Agent}
+use Rattle.script_text.specs.declared.script.Line.{Line}
+use Rattle.script_text.specs.declared.script.Line.TheVariants.{Drain, Turn}
 use Rattle.script_text.specs.declared.script.Script.{Script}
 use Rattle.script_runs.specs.Limits.{IsReadable}
-use Rattle.script_runs.specs.Parts.{drain_seats}
+use Rattle.script_runs.specs.Parts.{drain_roles, drain_seat}
 use Rattle.script_runs.specs.Replays.{IsReplay}
+use Rattle.script_threads.specs.Runs.{IsRun}
 use Rattle.drain_law.specs.Naming.{NamesItsNodes}
 
--- a script that the reader gives and that names its nodes, and a run of it that a text can give. No claim was imported as Lost, and no
--- class that ever stood both binds late and provisions
-pub record MayEndSettled (script : Script) (past : List Entry) : Type 0 where
+-- ---- what a drain needs
+
+-- no claim was imported as Lost, and no class that ever stood both binds late and provisions. Where the last drain begins the world is
+-- small, and so many calls are the stated budget for it
+pub record AllowsSettling (setup : Setup) (before past : List Entry) (calls : ℕ) : Type 0 where
+  pub none_lost : NoneWasLost setup
+  pub none_late : NoneProvisionsLate setup past
+  pub small : IsSmallWorld setup (world setup before)
+  pub enough : enough_calls (size_of_world (world setup before)) (faults_left setup (world setup before).devices) ≤ calls
+
+-- no agent of the drains, whose first seat is this one, is stale here: it was told no epoch of its node, or the one that the node has
+abbrev pub NoAgentIsStale : Script → ℕ → List Entry → Type 0
+NoAgentIsStale script first past =
+    (place seat : ℕ) (node : List ℕ) → slice_get (seats_for first script.node_names) place ≡ Some seat → slice_get (drain_roles script) place ≡ Some (agent_of node) → IsCurrent script.setup past node seat
+
+-- the last drain of the replay begins so, with what earlier drains have left of the budget
+pub record LastDrainMaySettle (script : Script) (option : Option ℕ) (past : List Entry) (ending : Drained) (replay : IsReplay script option past ending) : Type 0 where
+  pub allows : AllowsSettling script.setup replay.lines_done.past past (replay.last.budget - replay.lines_done.drained)
+  pub awake : NoAgentIsStale script (drain_seat script) replay.lines_done.past
+
+-- ---- the sentences
+
+-- a script that the reader gives and that names its nodes, and a run of it that a text can give
+pub record IsGivenScript (script : Script) (past : List Entry) : Type 0 where
   pub readable : IsReadable script
   pub names : NamesItsNodes script
   pub given : IsGivenRun script.setup past
-  pub none_lost : NoneWasLost script.setup
-  pub late : NoneProvisionsLate script.setup past
 
--- here the world is small, and so many calls are the stated budget for it
-pub record HasStatedBudget (script : Script) (past : List Entry) (calls : ℕ) : Type 0 where
-  pub small : IsSmallWorld script.setup (world script.setup past)
-  pub enough : enough_calls (size_of_world (world script.setup past)) (faults_left script.setup (world script.setup past).devices) ≤ calls
-
--- nothing is due at the end, and the replay ends as a settled one
+-- nothing is due at the end, and the ending says so
 pub record EndsSettled (script : Script) (past : List Entry) (ending : Drained) : Type 0 where
   pub settled : IsSettled script.setup (world script.setup past)
   pub made : ℕ
   pub is : ending ≡ Settled made
 
--- where the actors of the drains have made no call before the last drain, and what is left of the budget is the stated one
 abbrev pub LastDrainsSettle : Type 0
-LastDrainsSettle =
-    (script : Script) (option : Option ℕ) (past : List Entry) (ending : Drained) → MayEndSettled script past → (replay : IsReplay script option past ending) → HaveNoEntries (drain_seats script) replay.lines_done.past
-    → HasStatedBudget script replay.lines_done.past (replay.last.budget - replay.lines_done.drained) → EndsSettled script past ending
+LastDrainsSettle = (script : Script) (option : Option ℕ) (past : List Entry) (ending : Drained) → IsGivenScript script past → (replay : IsReplay script option past ending) → LastDrainMaySettle script option past ending replay → EndsSettled script past ending
 
--- no line drains: the drain after the lines is the only one
-abbrev pub DrainsOnce : Script → Type 0
-DrainsOnce script = (place : ℕ) → slice_get script.lines place ≡ Some Drain → ⊥
+-- the line makes calls of an agent
+abbrev pub turns_agent : Line → Bool
+turns_agent (Turn (Agent node) calls) = true
+turns_agent line = false
 
--- so it is where no line drains, and the budget that was given is the stated one
-abbrev pub OnlyDrainsSettle : Type 0
-OnlyDrainsSettle =
-    (script : Script) (budget : ℕ) (past : List Entry) (ending : Drained) → MayEndSettled script past → DrainsOnce script → (replay : IsReplay script (Some budget) past ending)
-    → HasStatedBudget script replay.lines_done.past budget → EndsSettled script past ending
+-- none of these lines does
+abbrev pub TurnNoAgent : List Line → Type 0
+TurnNoAgent [] = ⊤
+TurnNoAgent (line ∷ lines) = (turns_agent line ≡ false) × TurnNoAgent lines
+
+-- no line behind the first that drains does
+abbrev pub LeaveAgents : List Line → Type 0
+LeaveAgents [] = ⊤
+LeaveAgents (Drain ∷ lines) = TurnNoAgent lines
+LeaveAgents (line ∷ lines) = LeaveAgents lines
+
+-- then no agent of the drains is stale as the last one begins
+abbrev pub LeftAgentsAreAwake : Type 0
+LeftAgentsAreAwake =
+    (script : Script) (option : Option ℕ) (past : List Entry) (ending : Drained) → IsReadable script → IsRunOf script.setup past → LeaveAgents script.lines → (replay : IsReplay script option past ending)
+    → NoAgentIsStale script (drain_seat script) replay.lines_done.past
+
+-- nor is one of the drain with which a run on threads ends
+abbrev pub ThreadedDrainsSettle : Type 0
+ThreadedDrainsSettle =
+    (script : Script) (workers calls : ℕ) (option : Option ℕ) (past : List Entry) (ending : Drained) → IsGivenScript script past → (r : IsRun script workers calls option past ending) → AllowsSettling script.setup r.worked past r.last.budget → EndsSettled script past ending

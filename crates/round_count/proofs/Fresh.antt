@@ -1,6 +1,6 @@
 -- New drainers, with an agent for each node that was given, may settle.
-use Rattle.std.proofs.Common.{◌≡◌, ◌∙◌, ◌+◌, ℕ, zero, suc, List, [], ◌∷◌, true, false, true≢false, Option, Some, None, refl, sym, ap, subst, arith}
-use Rattle.std.specs.Prelude.{option_map, slice_get, ⊤}
+use Rattle.std.proofs.Common.{◌≡◌, ◌∙◌, ◌+◌, ℕ, zero, suc, List, false, true≢false, Option, Some, None, refl, sym, ap, subst, arith}
+use Rattle.std.specs.Prelude.{option_map, slice_get}
 use Rattle.call_types.specs.declared.entry.Entry.{Entry}
 use Rattle.call_types.specs.declared.request.SeatKind.{SeatKind}
 use Rattle.call_types.specs.declared.request.SeatKind.TheVariants as seats
@@ -9,35 +9,15 @@ use Rattle.binder_model.specs.Promises.{IsRunOf}
 use Rattle.model_laws.proofs.Lists.{none_some, one}
 use Rattle.worker_core.specs.declared.role.Role.{Role}
 use Rattle.worker_threads.specs.declared.drainers.Drainer.{Drainer}
-use Rattle.worker_threads.specs.Drainers.{AreNew, AreNewAgents, AreStanding, agent_of, of_kind, roles_for, roles_of}
+use Rattle.worker_threads.specs.Drainers.{AreStanding, agent_of, of_kind, roles_for}
 use Rattle.worker_threads.proofs.NewFacts.{new_differ, new_roles_for, new_stand}
+use Rattle.worker_threads.proofs.Resting.{new_rest}
 use Rattle.alike_law.proofs.Rows.{get_mapped}
 use Rattle.settle_law.proofs.Fresh.{fresh_drainers_serve}
 use Rattle.settle_law.proofs.Rounds.{is_agent}
 use Rattle.round_count.specs.Rounds.{AreNodesApart, MaySettle}
 use Rattle.round_count.specs.Settling.{AreFresh, NewDrainsSettle}
 use Rattle.round_count.proofs.Settling.{static_drains_settle}
-
--- ---- none has anything under way
-
-abbrev AllRest : List Drainer → Type 0
-AllRest [] = ⊤
-AllRest (d ∷ ds) = (d.actor.under ≡ None) × AllRest ds
-
-rests_at : (ds : List Drainer) → AllRest ds → (place : ℕ) (d : Drainer) → slice_get ds place ≡ Some d → d.actor.under ≡ None
-rests_at [] rest place d at = none_some at
-rests_at (x ∷ ds) rest zero d at = ap (λ (y : Drainer). y.actor.under) (sym (one x d at)) ∙ rest.0
-rests_at (x ∷ ds) rest (suc place) d at = rests_at ds rest.1 place d at
-
-agents_rest : (seat : ℕ) (nodes : List (List ℕ)) (ds : List Drainer) → AreNewAgents seat nodes ds → AllRest ds
-agents_rest seat [] ds none = subst AllRest (sym none) tt
-agents_rest seat (node ∷ nodes) [] none = absurd none
-agents_rest seat (node ∷ nodes) (x ∷ ds) new = (new.0.is_new.under, agents_rest (seat + 1) nodes ds new.1)
-
-all_rest : (first : ℕ) (nodes : List (List ℕ)) (ds : List Drainer) → AreNew first nodes ds → AllRest ds
-all_rest first nodes ds new =
-    let agents = agents_rest (first + 5) nodes new.agents new.agents_are in
-    subst AllRest (sym new.are) (new.scheduler_is.is_new.under, (new.ops_is.is_new.under, (new.binder_is.is_new.under, (new.claims_is.is_new.under, (new.volumes_is.is_new.under, agents)))))
 
 -- ---- no two are agents of one node
 
@@ -65,25 +45,25 @@ behind nodes (suc (suc (suc (suc (suc place))))) node e = record { place = place
     by None is = none_some (sym (ap (option_map agent_of) is) ∙ there)
     by (Some n) is = is ∙ ap (λ (r : Role). Some r.node) (one (agent_of n) (agent_of node) (sym (ap (option_map agent_of) is) ∙ there))
 
-module _ (setup : Setup) (first : ℕ) (nodes : List (List ℕ)) (ds : List Drainer) (h : List Entry) (fresh : AreFresh setup first nodes ds h) where
-  apart : AreNodesApart (roles_of ds)
-  apart i j node one_ other =
-      let a = behind nodes i node (sym (ap (λ roles. slice_get roles i) (new_roles_for first nodes ds fresh.new)) ∙ one_) in
-      let b = behind nodes j node (sym (ap (λ roles. slice_get roles j) (new_roles_for first nodes ds fresh.new)) ∙ other) in
-      let same = fresh.differ a.place b.place node a.at b.at in
-      let x = a.is in
-      let y = b.is in
-      omega (arith, same, x, y)
+pub agents_apart : (nodes : List (List ℕ)) → ((i j : ℕ) (node : List ℕ) → slice_get nodes i ≡ Some node → slice_get nodes j ≡ Some node → i ≡ j) → AreNodesApart (roles_for nodes)
+agents_apart nodes differ i j node one_ other =
+    let a = behind nodes i node one_ in
+    let b = behind nodes j node other in
+    let same = differ a.place b.place node a.at b.at in
+    let x = a.is in
+    let y = b.is in
+    omega (arith, same, x, y)
 
+module _ (setup : Setup) (first : ℕ) (nodes : List (List ℕ)) (ds : List Drainer) (h : List Entry) (fresh : AreFresh setup first nodes ds h) where
   abbrev stand : AreStanding ds h
   stand = record { each = (new_stand first nodes ds fresh.new h fresh.none).each; roles = record { nodes = nodes; are = new_roles_for first nodes ds fresh.new } }
 
   may_settle : IsRunOf setup h → MaySettle setup ds h
   may_settle run = record {
     may = record { run = run; seats = new_differ first nodes ds fresh.new; stand = stand };
-    rests = λ place d at awake. rests_at ds (all_rest first nodes ds fresh.new) place d at;
+    rests = new_rest first nodes ds fresh.new;
     only = (fresh_drainers_serve setup ds h stand fresh.none).0;
-    apart = apart;
+    apart = subst AreNodesApart (sym (new_roles_for first nodes ds fresh.new)) (agents_apart nodes fresh.differ);
     served = λ node given. (fresh_drainers_serve setup ds h stand fresh.none).1 node (fresh.given node given);
   }
 

@@ -1,6 +1,6 @@
 -- How the rounds of a drain are counted by what is left to do and by the nodes that are still to be tried: what tries must be for that.
 -- A choice of this project.
-use Rattle.std.specs.Prelude.{ℕ, ◌≡◌, ◌≢◌, ◌⊎◌, ◌≤◌, ◌+◌, Bool, true, false, not, List, Option, Some}
+use Rattle.std.specs.Prelude.{ℕ, ◌≡◌, ◌≢◌, ◌⊎◌, ◌≤◌, ◌+◌, Bool, true, false, not, List, Option, Some, length}
 use Rattle.kube_types.specs.declared.key.Key.{Key}
 use Rattle.kube_types.specs.declared.names.Due.{Due}
 use Rattle.kube_types.specs.declared.objects.Claim.{Claim as ClaimData}
@@ -46,22 +46,31 @@ SharesWell w =
     (first second : Key) (namespace name : List ℕ) (c : ClaimData) → WaitingPodNames w first namespace name → WaitingPodNames w second namespace name → first ≢ second → claim_named w.store.rows namespace name ≡ Some c
     → (is_completed c ≡ true) ⊎ (is_immediate (row_at (class_key (class_of_claim c)) w.store.rows) ≡ true)
 
--- the tries that are left, by the drainers and the entries, never more than nine: a whole round that begins with something due and leaves as
--- much to do tries one node less. It leaves the claims shared so
-pub record AreTries (setup : Setup) (tries : List Drainer → List Entry → ℕ) : Type 0 where
-  pub few : (ds : List Drainer) (h : List Entry) → tries ds h ≤ 9
-  pub shares : (ds after : List Drainer) (h past : List Entry) (b left : ℕ) → MaySettle setup ds h → IsRunOf setup past → IsRound all_pass past left ds h b after true → SharesWell (world setup h) → SharesWell (world setup past)
-  pub fall : (ds after : List Drainer) (h past : List Entry) (b left : ℕ) (first : Key × Due) → MaySettle setup ds h → SharesWell (world setup h) → IsRunOf setup past → IsFirstDue setup (world setup h) (Some first)
-      → IsRound all_pass past left ds h b after true → work_left setup (world setup past) ≡ work_left setup (world setup h) → tries after past + 1 ≤ tries ds h
+-- whole rounds, one after the other, from these drainers and entries on: each begins with something due and leaves as much to do
+pub data AreQuiet (setup : Setup) (ds : List Drainer) (h : List Entry) : ℕ → List Drainer → List Entry → Type 0 where
+  NoRound : {rounds : ℕ} {after : List Drainer} {past : List Entry} → rounds ≡ 0 → after ≡ ds → past ≡ h → AreQuiet setup ds h rounds after past
+  OneMore : {rounds : ℕ} {after : List Drainer} {past : List Entry} (before : ℕ) (between : List Drainer) (middle : List Entry) (b left : ℕ) (first : Key × Due) → rounds ≡ before + 1 → AreQuiet setup ds h before between middle → IsFirstDue setup (world setup middle) (Some first)
+      → IsRound all_pass past left between middle b after true → work_left setup (world setup past) ≡ work_left setup (world setup middle) → AreQuiet setup ds h rounds after past
 
--- then a drain makes no more rounds than one and the measure
+-- from here on no more than so many come after one another
+abbrev pub AreFew : Setup → List Drainer → List Entry → ℕ → Type 0
+AreFew setup ds h most = (after : List Drainer) (past : List Entry) (rounds : ℕ) → IsRunOf setup past → AreAlwaysInOrder setup past → AreQuiet setup ds h rounds after past → rounds ≤ most
+
+-- such rounds are few, where claims are shared well: since each tries one node less, there are no more than ten where a drain begins, and nine
+-- behind a whole round of it. A round leaves the claims shared so
+pub record AreTries (setup : Setup) : Type 0 where
+  pub first : (ds : List Drainer) (h : List Entry) → ImportsAllow setup → MaySettle setup ds h → length ds ≤ 13 → SharesWell (world setup h) → AreFew setup ds h 10
+  pub next : (ds after : List Drainer) (h past : List Entry) (b left : ℕ) → ImportsAllow setup → MaySettle setup ds h → length ds ≤ 13 → IsRunOf setup past → IsRound all_pass past left ds h b after true → SharesWell (world setup past) → AreFew setup after past 9
+  pub shares : (ds after : List Drainer) (h past : List Entry) (b left : ℕ) → MaySettle setup ds h → IsRunOf setup past → IsRound all_pass past left ds h b after true → SharesWell (world setup h) → SharesWell (world setup past)
+
+-- then a drain makes no more rounds than one and the measure, with ten nodes to be tried
 abbrev pub RoundsAreMeasured : Type 0
 RoundsAreMeasured =
-    (setup : Setup) (tries : List Drainer → List Entry → ℕ) → AreTries setup tries → (ds after : List Drainer) (h past : List Entry) (b left : ℕ) → ImportsAllow setup → MaySettle setup ds h → SharesWell (world setup h) → IsRunOf setup past
-    → (drained : Drains all_pass setup after past left ds h b) → rounds_in all_pass setup after past left ds h b drained ≤ 1 + measure (work_left setup (world setup h)) (tries ds h)
+    (setup : Setup) → AreTries setup → (ds after : List Drainer) (h past : List Entry) (b left : ℕ) → ImportsAllow setup → MaySettle setup ds h → length ds ≤ 13 → SharesWell (world setup h) → IsRunOf setup past → AreAlwaysInOrder setup past
+    → (drained : Drains all_pass setup after past left ds h b) → rounds_in all_pass setup after past left ds h b drained ≤ 1 + measure (work_left setup (world setup h)) 10
 
--- and ends settled with the stated budget
+-- and ends settled
 abbrev pub MeasuredDrainsSettle : Type 0
 MeasuredDrainsSettle =
-    (setup : Setup) (tries : List Drainer → List Entry → ℕ) → AreTries setup tries → (ds after : List Drainer) (h past : List Entry) (b left : ℕ) → ImportsAllow setup → MaySettle setup ds h → SharesWell (world setup h) → HasBudget setup ds h b → IsRunOf setup past
-    → AreAlwaysInOrder setup past → Drains all_pass setup after past left ds h b → IsSettled setup (world setup past)
+    (setup : Setup) → AreTries setup → (ds after : List Drainer) (h past : List Entry) (b left : ℕ) → ImportsAllow setup → MaySettle setup ds h → SharesWell (world setup h) → HasBudget setup ds h b → IsRunOf setup past → AreAlwaysInOrder setup past
+    → Drains all_pass setup after past left ds h b → IsSettled setup (world setup past)

@@ -13,13 +13,13 @@ use Rattle.binder_model.specs.World.{world}
 use Rattle.worker_core.specs.declared.role.Role.{Role}
 use Rattle.worker_core.specs.Roles.{IsBuiltKind}
 use Rattle.worker_threads.specs.declared.drainers.Drainer.{Drainer}
-use Rattle.worker_threads.specs.Drainers.{AreRoles, agent_of, roles_of}
+use Rattle.worker_threads.specs.Drainers.{AreAtRest, AreRoles, agent_of, roles_of}
 use Rattle.worker_threads.specs.Rounds.{Drains, IsRound, Lets, all_pass}
 use Rattle.write_law.specs.Lasting.{HasLasting}
 use Rattle.epoch_law.specs.Silent.{OnlyOvertakenAreSilent}
 use Rattle.node_law.specs.Nodes.{WasGiven}
 use Rattle.settle_law.specs.Rounds.{HasCurrent}
-use Rattle.settle_law.specs.Settling.{AreAtRest, MayDrain}
+use Rattle.settle_law.specs.Settling.{MayDrain}
 use Rattle.paid_law.specs.Pays.{AllPay}
 use Rattle.all_pay.specs.All.{ImportsAllow}
 use Rattle.write_count.specs.Counts.{to_write}

@@ -6,10 +6,11 @@
 //! begins with an agent for each pod that a node runs (`rounds_serve_nodes`), so with something due it has an entry that
 //! lasts. Where it selects few nodes, it ends settled with the stated budget (`few_selections_settle`); and it selects none
 //! where no class that ever stood both binds late and provisions (`static_drains_settle`, and `new_drains_settle` of new
-//! drainers). For worlds with such classes it is said what is missing: tries that fall in each whole round which leaves as
-//! much to do (`AreTries`); with them the rounds are one and the measure at most (`rounds_are_measured`), and a drain ends
-//! settled (`measured_drains_settle`). Not said: that there are such tries; that the annotations of claims are in order,
-//! which is a premise, and for `given_drains` to say.
+//! drainers). For worlds with such classes it is said what is missing: that whole rounds after one another that leave as
+//! much to do are few, ten where a drain begins and nine behind a whole round (`AreTries`). With that the rounds are at most
+//! one and ten for each thing left to do (`rounds_are_measured`), and a drain ends settled (`measured_drains_settle`). Not
+//! said: that such rounds are few; that the annotations of claims are in order, which is a premise, and for `given_drains`
+//! to say.
 #![tactic(auto)]
 
 ghost use Rattle.round_count.specs.Measured.{MeasuredDrainsSettle, RoundsAreMeasured};
@@ -46,7 +47,7 @@ pub fn new_drains_settle()
     ensures { NewDrainsSettle }
 {}
 
-/// With tries that fall in quiet rounds a drain makes no more rounds than one and the measure.
+/// Where quiet rounds are few, a drain makes no more rounds than one and ten for each thing left to do.
 pub fn rounds_are_measured()
     ensures { RoundsAreMeasured }
 {}

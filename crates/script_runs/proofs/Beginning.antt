@@ -28,6 +28,7 @@ use Rattle.script_runs.specs.Steps.Settled.{IsNoted}
 use Rattle.script_runs.specs.Steps.Standing.{AreNewPlayers, EachWithRole, Ended, HasAdded, HasMoved, IsBudget, SoFar, StageStands, actors_for, agents_for, end_of, part_from, parts_from, parts_in, seat_past, with_made, workers_of}
 use Rattle.actor_turns.proofs.Lived.{new_lives}
 use Rattle.actor_turns.proofs.Turning.{new_plays}
+use Rattle.worker_threads.proofs.Resting.{new_rest}
 
 -- ---- the beginning
 
@@ -142,6 +143,7 @@ begins script option s first past setup added are seat stand drained budget unse
       drainers = subst (AreStanding s.drainers) (sym past) (stand [] (none_yet (seats_of s.drainers)));
       seats = new_seats script first s.drainers are seat;
       roles = new_roles_for first script.node_names s.drainers are;
+      rests = λ given is unspent. new_rest first script.node_names s.drainers are;
       drained = drained;
       budget = budget;
       few = omega (arith, drained);

@@ -1,5 +1,5 @@
 -- What the moves of a script leave standing.
-use Rattle.std.proofs.Common.{◌≡◌, ◌≢◌, ◌⊎◌, ℕ, ◌<◌, ◌≤◌, ◌+◌, ◌-◌, zero, suc, List, [], ◌∷◌, ◌++◌, length, set, Bool, true, false, Option, Some, inl, inr, refl, sym, ◌∙◌, ap, subst, arith, if◌then◌else◌}
+use Rattle.std.proofs.Common.{◌≡◌, ◌≢◌, ◌⊎◌, ℕ, ◌<◌, ◌≤◌, ◌+◌, ◌-◌, zero, suc, List, [], ◌∷◌, ◌++◌, length, set, Bool, true, false, Option, Some, None, inl, inr, refl, sym, ◌∙◌, ap, subst, arith, if◌then◌else◌}
 use Rattle.std.specs.Prelude.{◌==◌, bytes_eq, slice_get}
 use Rattle.std.proofs.lemmas.Bool.Decides.{Decides-eqb}
 use Rattle.std.proofs.lemmas.Slice.Eq.{bytes_eq-Decides}
@@ -12,7 +12,7 @@ use Rattle.binder_model.specs.Told.{own}
 use Rattle.model_laws.proofs.Evidence.{own_other}
 use Rattle.model_laws.proofs.Lists.{none_some, one}
 use Rattle.worker_threads.specs.declared.drainers.Drainer.{Drainer}
-use Rattle.worker_threads.specs.Drainers.{AreStanding, StandsWhole, roles_of, seats_for, seats_from, seats_of}
+use Rattle.worker_threads.specs.Drainers.{AreAtRest, AreStanding, StandsWhole, roles_of, seats_for, seats_from, seats_of}
 use Rattle.worker_threads.specs.Longer.{IsOneOf}
 use Rattle.worker_threads.specs.Rounds.{Drains, all_pass}
 use Rattle.script_text.specs.declared.script.Script.{Script}
@@ -38,6 +38,7 @@ use Rattle.script_runs.specs.Steps.Standing.{HasMoved, IsBudget, Leads, StageSta
 use Rattle.script_runs.proofs.Casting.{in_order, names_differ, names_in}
 use Rattle.actor_turns.proofs.Lived.{all_needed, lives_on}
 use Rattle.actor_turns.proofs.Lives.{seat_within}
+use Rattle.worker_threads.proofs.Resting.{drains_rest}
 use Rattle.script_runs.proofs.Staying.{IsGrown, calls_grow, stays_noted}
 use Rattle.script_runs.proofs.Orders.{get_set_other, get_set_same, life_between, one_owner, other_name, part_at_place, parts_set}
 use Rattle.worker_threads.proofs.RoundFacts.{same_or_not}
@@ -134,6 +135,7 @@ module _ (script : Script) (option : Option ℕ) (user : ℕ) (request : Request
       drainers = subst (λ ds. AreStanding ds new.world.past) (sym drainers) (drainers_on old.drainers old.world.past new.world.past (λ seat own. others seat (drains_above seat (subst (λ ss. IsOneOf ss seat) stands.seats own))) stands.drainers);
       seats = subst (λ ds. seats_of ds ≡ drain_seats script) (sym drainers) stands.seats;
       roles = subst (λ ds. roles_of ds ≡ drain_roles script) (sym drainers) stands.roles;
+      rests = λ given is unspent. subst AreAtRest (sym drainers) (stands.rests given is (omega (arith, drained, unspent)));
       drained = drained ∙ stands.drained;
       budget = budget ∙ stands.budget;
       few = let a = stands.few in omega (arith, a, drained, budget);
@@ -222,6 +224,7 @@ module _ (script : Script) (option : Option ℕ) (old new : Stage) (place : ℕ)
     drainers = subst (λ ds. AreStanding ds new.world.past) (sym played.drainers) (drainers_on old.drainers old.world.past new.world.past (λ seat own. others seat (not_drains seat (subst (λ ss. IsOneOf ss seat) stands.seats own))) stands.drainers);
     seats = subst (λ ds. seats_of ds ≡ drain_seats script) (sym played.drainers) stands.seats;
     roles = subst (λ ds. roles_of ds ≡ drain_roles script) (sym played.drainers) stands.roles;
+    rests = λ given is unspent. let d = played.drained in subst AreAtRest (sym played.drainers) (stands.rests given is (omega (arith, d, unspent)));
     drained = played.drained ∙ stands.drained;
     budget = played.budget ∙ stands.budget;
     few = let a = stands.few in let d = played.drained in let b = played.budget in omega (arith, a, d, b);
@@ -366,6 +369,11 @@ pub record HasDrained (script : Script) (option : Option ℕ) (old new : Stage) 
   pub most : IsBudget option new.budget
   pub settled : IsNoted new.world.setup new.world.past new.settled
 
+-- a budget that was given is the budget
+given_budget : (option : Option ℕ) (given budget : ℕ) → option ≡ Some given → IsBudget option budget → budget ≡ given
+given_budget (Some x) given budget is most = most ∙ one x given is
+given_budget None given budget is most = none_some is
+
 pub drain_moved : (script : Script) (option : Option ℕ) (old new : Stage) (made : ℕ) → drain_seat script ≡ seat_of_drains script → HasDrained script option old new made → HasMoved script option (IsDrain all_pass script option) old new
 drain_moved script option old new made last d p stands = record {
   after = record p { past = new.world.past; drained = p.drained + made; budget = new.budget };
@@ -379,6 +387,7 @@ drain_moved script option old new made last d p stands = record {
     seats = stands.seats;
     roles = stands.roles;
     stand = subst (AreStanding old.drainers) stands.past stands.drainers;
+    rests = λ given is unspent. let e = stands.drained in stands.rests given is (omega (arith, e, unspent));
     few = let f = d.few in let r = d.room in let e = stands.drained in omega (arith, f, r, e);
     rounds = rounds;
     is = refl;
@@ -398,6 +407,7 @@ drain_moved script option old new made last d p stands = record {
     drainers = d.standing;
     seats = d.seats ∙ stands.seats;
     roles = d.roles ∙ stands.roles;
+    rests = rests;
     drained = d.drained ∙ ap (λ n. n + made) stands.drained;
     budget = refl;
     few = let f = d.few in let r = d.room in let e = d.drained in omega (arith, f, r, e);
@@ -414,6 +424,12 @@ drain_moved script option old new made last d p stands = record {
         (subst (λ n. Drains all_pass script.setup new.drainers new.world.past (new.budget - (p.drained + made)) old.drainers old.world.past n) at_first
         (subst (λ n. Drains all_pass script.setup new.drainers new.world.past n old.drainers old.world.past (new.budget - old.drained)) rest
         (subst (λ s. Drains all_pass s new.drainers new.world.past (new.budget - old.drained - made) old.drainers old.world.past (new.budget - old.drained)) stands.setup d.rounds)))
+
+    rests : (given : ℕ) → option ≡ Some given → new.drained < given → AreAtRest new.drainers
+    rests given is unspent =
+        let all = given_budget option given new.budget is d.most in
+        let made_is = d.drained in
+        drains_rest all_pass old.world.setup new.drainers new.world.past (new.budget - old.drained - made) old.drainers old.world.past (new.budget - old.drained) d.rounds (omega (arith, all, made_is, unspent)) (stands.rests given is (omega (arith, made_is, unspent)))
 
     below : (place : ℕ) (x : Player) → slice_get old.players.items place ≡ Some x → (s : ℕ) → IsLife x.part s → IsOneOf (drain_seats script) s → ⊥
     below place x there s life own =

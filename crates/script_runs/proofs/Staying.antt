@@ -33,8 +33,8 @@ use Rattle.script_runs.specs.Steps.Settled.{IsNoted, WasSettled, calls_device, i
 
 -- ---- one call that devices do not answer leaves them
 
-record KeepsDevices (w : World) (x : Effect) : Type 0 where
-  keeps : (world_after w x).devices ≡ w.devices
+pub record KeepsDevices (w : World) (x : Effect) : Type 0 where
+  pub keeps : (world_after w x).devices ≡ w.devices
 
 test : {w : World} (b : Bool) (x y : Effect) → KeepsDevices w x → KeepsDevices w y → KeepsDevices w (if b then x else y)
 test true x y kx ky = kx
@@ -64,7 +64,7 @@ is_user _ request is not_there = absurd (true≢false (sym is ∙ not_there))
 asked : (w : World) (kind : SeatKind) (request : Request) (a : Option DeviceAnswer) → is_for_devices request ≡ true → is_answered_there kind request ≡ false → KeepsDevices w (on_devices w kind request a)
 asked w kind request a is not_there = subst (λ k. KeepsDevices w (on_devices w k request a)) (sym (is_user kind request is not_there)) (of_user w request a)
 
-keeps_devices : (setup : Setup) (w : World) (kind : SeatKind) (request : Request) → is_answered_there kind request ≡ false → KeepsDevices w (effect setup w kind request)
+pub keeps_devices : (setup : Setup) (w : World) (kind : SeatKind) (request : Request) → is_answered_there kind request ≡ false → KeepsDevices w (effect setup w kind request)
 unfolding effect set_time watch device_answer
 keeps_devices setup w kind (requests.SetTime at) there = test (is_time at) (SetsMoment _) (OnStore _) (on_moment w _) (on_store w _)
 keeps_devices setup w kind (requests.Watch k from) there =

@@ -15,7 +15,7 @@ use Rattle.world_core.specs.declared.drained.Drained.{Drained}
 use Rattle.world_core.specs.declared.drained.Drained.TheVariants.{Settled, Spent}
 use Rattle.binder_model.specs.Due.{IsFirstDue, IsSettled}
 use Rattle.worker_threads.specs.declared.drainers.Drainer.{Drainer}
-use Rattle.worker_threads.specs.Drainers.{AreStanding, roles_of, seats_for, seats_of}
+use Rattle.worker_threads.specs.Drainers.{AreAtRest, AreStanding, roles_of, seats_for, seats_of}
 use Rattle.worker_threads.specs.Rounds.{Drains, Lets, all_pass}
 use Rattle.script_text.specs.declared.script.Line.{Line}
 use Rattle.script_text.specs.declared.script.Line.TheVariants.{Call, Lose, Restart, Turn, Drain}
@@ -81,7 +81,8 @@ IsTurnLine lets held role part calls before after = MakesAll lets held role part
 
 -- the budget is raised; then come rounds of the drain's actors while something is due and calls are left, and nothing else. Their
 -- seats, from the first one on, and their roles are those of new ones (`AreNew`), and never change; at first each stands for the
--- entries of its seat. What it has made are calls: one that is held back leaves no entry. `DrainAtComesTo` says what follows
+-- entries of its seat, and as long as a budget that was given is not spent, they are at rest. What it has made are calls: one that is
+-- held back leaves no entry. `DrainAtComesTo` says what follows
 pub record IsDrainAt (lets : Lets) (script : Script) (first : ℕ) (option : Option ℕ) (before after : Progress) : Type 0 where
   pub past : List Entry
   pub made : ℕ
@@ -92,6 +93,7 @@ pub record IsDrainAt (lets : Lets) (script : Script) (first : ℕ) (option : Opt
   pub seats : seats_of drainers ≡ seats_for first script.node_names
   pub roles : roles_of drainers ≡ drain_roles script
   pub stand : AreStanding drainers before.past
+  pub rests : (given : ℕ) → option ≡ Some given → before.drained < given → AreAtRest drainers
   pub few : before.drained + made ≤ budget
   pub rounds : Drains lets script.setup ran past (budget - (before.drained + made)) drainers before.past (budget - before.drained)
   pub is : after ≡ record before { past = past; drained = before.drained + made; budget = budget }

@@ -4,7 +4,8 @@
 //! each line does to the history, so whose calls it has, and how it ends. A turn that gives fewer calls than its line
 //! says leaves no key that the life was told of, and that was due since, without a call. No turn watches a kind in
 //! vain, and an agent that was told StaleEpoch asks nothing more in that life. A drain is rounds of all controllers in
-//! their order, as `worker_threads` says, and nothing else; its clients and their kinds never change.
+//! their order, as `worker_threads` says, and nothing else; its clients and their kinds never change, and as long as a
+//! budget that was given is not spent, none of them has anything under way when a drain begins.
 //! `drains::drains_come_to` has what follows. The history is a run, and safe at every
 //! point. Each life of each actor that a turn line names is diligent (`specs/Diligent`), and each request of a binder
 //! or a scheduler was given by an actor. What a script says of one actor is `parts::part_from` (`specs/Parts`):

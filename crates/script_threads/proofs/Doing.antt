@@ -25,6 +25,7 @@ use Rattle.shared_work.specs.Lines.{AreOfLines}
 use Rattle.script_runs.specs.Budget.{first_budget, raised}
 use Rattle.script_runs.specs.Parts.{first_actor_seat}
 use Rattle.script_runs.specs.Replays.{EndsAs, Progress}
+use Rattle.worker_threads.proofs.Resting.{new_rest}
 use Rattle.script_runs.proofs.Staging.{after_first}
 use Rattle.script_threads.specs.Runs.{IsRun, progress_after}
 use Rattle.script_threads.specs.Started.{EachStarted, after_lives, drain_seat, seat_after, started, started_part}
@@ -132,6 +133,7 @@ module _ (script : Script) (workers calls first : ℕ) (option : Option ℕ) (be
       seats = new_seats_for first script.node_names old drained.new ∙ ap (λ n. seats_for n script.node_names) is;
       roles = new_roles_for first script.node_names old drained.new;
       stand = drained.stand;
+      rests = λ given is unspent. new_rest first script.node_names old drained.new;
       few = let few = drained.few in omega (arith, few);
       rounds = rounds;
       is = refl;

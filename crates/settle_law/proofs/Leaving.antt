@@ -1,10 +1,9 @@
 -- A whole round leaves its drainers so that the next may begin with them.
-use Rattle.std.proofs.Common.{◌≡◌, ◌∙◌, ℕ, zero, suc, List, [], ◌∷◌, Bool, true, false, true≢false, Some, None, inl, inr, refl, sym, ap, subst, arith}
+use Rattle.std.proofs.Common.{◌≡◌, ℕ, zero, suc, List, [], ◌∷◌, Bool, true, false, true≢false, Some, inl, inr, refl, sym, ap, subst, arith}
 use Rattle.std.specs.Prelude.{slice_get}
 use Rattle.call_types.specs.declared.entry.Entry.{Entry}
 use Rattle.binder_model.specs.Told.{own}
 use Rattle.model_laws.proofs.Lists.{none_some, one}
-use Rattle.attention_law.proofs.Turned.{idle_rests}
 use Rattle.worker_core.specs.declared.turn.Next.TheVariants.{Idle}
 use Rattle.worker_core.specs.Absorbs.{woken}
 use Rattle.worker_core.specs.States.{ActorState}
@@ -15,10 +14,11 @@ use Rattle.worker_threads.specs.Longer.{HasGrown, IsOneOf}
 use Rattle.worker_threads.specs.Rounds.{Asks, Ends, IsHeld, IsIdle, IsRound, IsSpent, Lets, Runs, Turns}
 use Rattle.worker_threads.proofs.Entries.{grown_others}
 use Rattle.worker_threads.proofs.RoundFacts.{both, round_grows, round_roles, round_seats}
-use Rattle.worker_threads.proofs.RunFacts.{turn_memory, turned_whole}
-use Rattle.settle_law.specs.Settling.{AreAtRest, RoundsLeaveDrainers}
+use Rattle.worker_threads.proofs.Resting.{round_rests}
+use Rattle.worker_threads.proofs.RunFacts.{turned_whole}
+use Rattle.settle_law.specs.Settling.{RoundsLeaveDrainers}
 
--- an actor that was run until it was idle stands whole for the entries of its seat, and has nothing under way
+-- an actor that was run until it was idle stands whole for the entries of its seat
 module _ (lets : Lets) (seat : ℕ) (after : ActorState) (past : List Entry) (left : ℕ) where
   run_whole : (s : ActorState) (h : List Entry) (b : ℕ) → Runs lets seat after past left true s h b → StandsWhole after (own seat past)
   run_whole s h b (IsSpent none state entries rest busy) = absurd (true≢false busy)
@@ -26,12 +26,6 @@ module _ (lets : Lets) (seat : ℕ) (after : ActorState) (past : List Entry) (le
       subst (λ es. StandsWhole after (own seat es)) (sym entries) (turned_whole s after Idle (own seat h) turn (turn_stands s after Idle (own seat h) ready.rows ready.stands.told turn) ready.stands)
   run_whole s h b (Asks given next request reply some ready turn passes absorbs more) = run_whole _ _ _ more
   run_whole s h b (IsHeld given next request some ready turn held absorbs more) = run_whole _ _ _ more
-
-  run_rests : (s : ActorState) (h : List Entry) (b : ℕ) → Runs lets seat after past left true s h b → after.memory.stale ≡ false → after.under ≡ None
-  run_rests s h b (IsSpent none state entries rest busy) fresh = absurd (true≢false busy)
-  run_rests s h b (IsIdle some ready turn entries rest calm) fresh = (idle_rests s after turn (ap (λ m. m.stale) (sym (turn_memory s after Idle turn)) ∙ fresh)).none
-  run_rests s h b (Asks given next request reply some ready turn passes absorbs more) fresh = run_rests _ _ _ more fresh
-  run_rests s h b (IsHeld given next request some ready turn held absorbs more) fresh = run_rests _ _ _ more fresh
 
 -- none of these stands twice
 abbrev Differ : List ℕ → Type 0
@@ -67,14 +61,6 @@ module _ (lets : Lets) (past : List Entry) (left : ℕ) where
       at_end = subst (StandsWhole ran.actor) (sym (grown_others (seats_of ds) middle past grown d.seat (not_again d.seat (seats_of ds) differ))) (run_whole lets d.seat ran.actor middle rest (woken d.actor) h b idle_run)
   round_stands _ h b _ _ (Turns {ds = ds} {after = after} {whole = whole} d ran middle rest idle seat run more) is_whole differ (suc place) x there =
       round_stands ds middle rest after whole more (both idle whole is_whole).1 (others_differ d.seat (seats_of ds) differ) place x there
-
-  round_rests : (ds : List Drainer) (h : List Entry) (b : ℕ) (after : List Drainer) (whole : Bool) → IsRound lets past left ds h b after whole → whole ≡ true → AreAtRest after
-  round_rests _ h b _ _ (Ends entries rest) is_whole place x there fresh = none_some there
-  round_rests _ h b _ _ (Turns {ds = ds} {after = after} {whole = whole} d ran middle rest idle seat run more) is_whole zero x there fresh =
-      let same : ran ≡ x = one ran x there in
-      let idle_run = subst (λ i. Runs lets d.seat ran.actor middle rest i (woken d.actor) h b) (both idle whole is_whole).0 run in
-      ap (λ (y : Drainer). y.actor.under) (sym same) ∙ run_rests lets d.seat ran.actor middle rest (woken d.actor) h b idle_run (ap (λ (y : Drainer). y.actor.memory.stale) same ∙ fresh)
-  round_rests _ h b _ _ (Turns {ds = ds} {after = after} {whole = whole} d ran middle rest idle seat run more) is_whole (suc place) x there fresh = round_rests ds middle rest after whole more (both idle whole is_whole).1 place x there fresh
 
 pub rounds_leave_drainers : RoundsLeaveDrainers
 rounds_leave_drainers setup lets ds after h past b left may run round =

@@ -1,6 +1,6 @@
 -- When a drain ends settled, over any choice of which requests reach the world.
 -- A choice of this project.
-use Rattle.std.specs.Prelude.{ℕ, ◌≤◌, ◌<◌, ◌+◌, Bool, true, false, List, Some, None, slice_get, ◌≡◌}
+use Rattle.std.specs.Prelude.{ℕ, ◌≤◌, ◌<◌, ◌+◌, Bool, true, List, Some}
 use Rattle.kube_types.specs.declared.key.Key.{Key}
 use Rattle.kube_types.specs.declared.names.Due.{Due}
 use Rattle.call_types.specs.declared.entry.Entry.{Entry}
@@ -9,7 +9,7 @@ use Rattle.binder_model.specs.Due.{IsFirstDue, IsSettled}
 use Rattle.binder_model.specs.Promises.{IsRunOf}
 use Rattle.binder_model.specs.World.{world}
 use Rattle.worker_threads.specs.declared.drainers.Drainer.{Drainer}
-use Rattle.worker_threads.specs.Drainers.{AreSeats, AreStanding, seats_of}
+use Rattle.worker_threads.specs.Drainers.{AreAtRest, AreSeats, AreStanding, seats_of}
 use Rattle.worker_threads.specs.Rounds.{Drains, IsRound, Lets}
 
 -- a drain of these may begin here
@@ -17,10 +17,6 @@ pub record MayDrain (setup : Setup) (past : List Entry) (ds : List Drainer) : Ty
   pub run : IsRunOf setup past
   pub seats : AreSeats (seats_of ds)
   pub stand : AreStanding ds past
-
--- none of these has anything under way, unless it is an agent that is silent, since its node was taken by another
-abbrev pub AreAtRest : List Drainer → Type 0
-AreAtRest ds = (place : ℕ) (d : Drainer) → slice_get ds place ≡ Some d → d.actor.memory.stale ≡ false → d.actor.under ≡ None
 
 -- a whole round leaves its drainers so that the next may begin with them
 abbrev pub RoundsLeaveDrainers : Type 0

@@ -1,7 +1,6 @@
 -- The examples of whole runs compute.
 use Rattle.std.proofs.Common.{◌≡◌, ◌⊎◌, ℕ, ◌+◌, ◌≤◌, ◌<◌, List, [], ◌∷◌, ◌++◌, length, None, inl, inr, refl, sym, ◌∙◌, ap, subst, arith}
 use Rattle.std.specs.Prelude.{codes}
-use Rattle.kube_types.specs.declared.parts.Kind.TheVariants.{Node, PersistentVolume, Pod}
 use Rattle.call_types.specs.declared.entry.Entry.{Entry}
 use Rattle.call_types.specs.declared.request.SeatKind.TheVariants as seats
 use Rattle.binder_model.specs.Answers.{after, list, outcome}
@@ -18,10 +17,9 @@ use Rattle.worker_threads.proofs.NewFacts.{new_roles_for, new_seats_for, new_sta
 use Rattle.script_runs.specs.Budget.{raised}
 use Rattle.script_runs.specs.Drains.{DrainAtComesTo}
 use Rattle.script_runs.specs.Examples.{scheduler_1}
-use Rattle.script_runs.specs.Replays.{Progress}
 use Rattle.script_runs.proofs.Draining.{drains_at_come_to}
+use Rattle.worker_threads.proofs.Resting.{new_rest}
 use Rattle.script_runs.proofs.Staging.{after_first}
-use Rattle.script_threads.specs.Examples.{asks, entry}
 use Rattle.script_threads.specs.Runs.{progress_after}
 use Rattle.thread_examples.specs.Runs.{IsSmallRun, RunExamples, both, with_scheduler}
 use Rattle.thread_examples.specs.Works.{small}
@@ -108,6 +106,7 @@ run_cases = record {
       seats = new_seats_for 11 one_node (drainers 11 (codes "n1")) (drainers_new 11 (codes "n1"));
       roles = new_roles_for 11 one_node (drainers 11 (codes "n1")) (drainers_new 11 (codes "n1"));
       stand = new_stand 11 one_node (drainers 11 (codes "n1")) (drainers_new 11 (codes "n1")) both (refl, (refl, (refl, (refl, (refl, (refl, tt))))));
+      rests = λ given is unspent. new_rest 11 one_node (drainers 11 (codes "n1")) (drainers_new 11 (codes "n1"));
       few = omega arith;
       rounds = NothingDue nothing_due refl refl refl;
       is = refl;

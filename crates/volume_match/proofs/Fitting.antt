@@ -131,6 +131,10 @@ module _ (c : ClaimData) (on : Option NodeData) where
       ((bytes_eq-Decides r.namespace c.meta.namespace).1 (ap (λ (w : Owner). w.namespace) is))
       ((bytes_eq-Decides r.name c.meta.name).1 (ap (λ (w : Owner). w.name) is))
 
+  pub referring_owned : (r : Option Ref) → ref_is_to c r ≡ true → is_some r ≡ true
+  referring_owned None e = absurd (true≢false (sym e))
+  referring_owned (Some r) e = refl
+
   for_names : (r : Option Ref) → refers_for r c ≡ true → ref_is_to c r ≡ true
   for_names None e = absurd (true≢false (sym e))
   for_names (Some r) e = (both_true (ref_is_to c (Some r)) (uid_fits r.uid c) e).0
@@ -150,15 +154,19 @@ module _ (c : ClaimData) (on : Option NodeData) where
       let name : a.name ≡ b.name = exact_bytes _ _ p.1 in
       λ i. record { namespace = namespace i; name = name i }
 
-  -- after a volume that refers to a later claim no eligible volume stands
-  pub after_owner : (v u : VolumeData) → is_owned v ≡ true → is_owned u ≡ true → is_lt (owner_cmp (owner_of v) the_owner) ≡ false → ref_is_to c v.claim_ref ≡ false → is_gt (owner_cmp (owner_of v) (owner_of u)) ≡ false → eligible u c on ≡ true → ⊥
-  after_owner v u owned owned_too ge other le e =
-      by (owner_cmp (owner_of v) the_owner) refl ge (ap (λ w. is_gt (owner_cmp (owner_of v) w)) (sym (owner_is u e owned_too)) ∙ le)
+  -- after a volume that refers to a later claim none stands that refers to this one
+  pub past_owner : (v u : VolumeData) → is_owned v ≡ true → is_lt (owner_cmp (owner_of v) the_owner) ≡ false → ref_is_to c v.claim_ref ≡ false → owner_of u ≡ the_owner → is_gt (owner_cmp (owner_of v) (owner_of u)) ≡ false → ⊥
+  past_owner v u owned ge other is le =
+      by (owner_cmp (owner_of v) the_owner) refl ge (ap (λ w. is_gt (owner_cmp (owner_of v) w)) (sym is) ∙ le)
     where
       by : (r : Ordering) → owner_cmp (owner_of v) the_owner ≡ r → is_lt r ≡ false → is_gt (owner_cmp (owner_of v) the_owner) ≡ false → ⊥
       by Less is ge le = true≢false ge
       by Equal is ge le = true≢false (sym (owner_named v.claim_ref owned (exact_owner (owner_of v) the_owner is)) ∙ other)
       by Greater is ge le = true≢false (sym (ap is_gt is) ∙ le)
+
+  -- so no eligible one either
+  pub after_owner : (v u : VolumeData) → is_owned v ≡ true → is_owned u ≡ true → is_lt (owner_cmp (owner_of v) the_owner) ≡ false → ref_is_to c v.claim_ref ≡ false → is_gt (owner_cmp (owner_of v) (owner_of u)) ≡ false → eligible u c on ≡ true → ⊥
+  after_owner v u owned owned_too ge other le e = past_owner v u owned ge other (owner_is u e owned_too) le
 
 -- two sizes of one class and volume mode
 grouped : (a b : Size) → a.class ≡ b.class → a.block ≡ b.block → group_cmp a b ≡ Equal

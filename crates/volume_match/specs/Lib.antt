@@ -1,3 +1,4 @@
 pub mod Named
+pub mod Passing
 pub mod Steps
 pub mod Volumes

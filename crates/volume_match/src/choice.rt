@@ -53,8 +53,7 @@ pub fn best<L: Lookup>(
     }
 }
 
-/// The same, where the places that are passed over are not a list. It looks at each volume once and does not go by the index:
-/// that would look up the place of each volume that is passed over.
+/// The same, where the places that are passed over are not a list, without an index: it looks at each volume once.
 pub fn best_outside<L: Lookup, P: Places>(
     lookup: &L,
     claim: &Claim,

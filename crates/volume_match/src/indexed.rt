@@ -9,19 +9,30 @@ ghost use Rattle.kube_types.specs.Keys.{AreRows, rows_of};
 ghost use Rattle.binder_model.specs.Matching.{IsBest, IsCandidate, eligible, only_own_passes};
 ghost use Rattle.kube_types.specs.VolumeIndex.{StandsFor, is_free, is_owned, volumes_in};
 ghost use Rattle.kube_types.specs.VolumeOrders.{AreInOrder, by_owner, by_size};
-ghost use Rattle.kube_types.specs.IndexPlaces.{IsOwnerStart, IsSizeStart};
-ghost use Rattle.volume_match.specs.Steps.Choices.{AreOf, IsBestOf, IsUnfit, claim_owner, is_grouped, ref_is_to, wanted};
+ghost use Rattle.kube_types.specs.IndexPlaces.{IsSizeStart};
+ghost use Rattle.volume_match.specs.Passing.{IsFoundThere, PassedAreExcluded, found_place};
+ghost use Rattle.volume_match.specs.Steps.Choices.{AreOf, IsBestOf, IsUnfit, is_grouped, wanted};
 
 use crate::choice::Places;
 use crate::eligible::satisfies;
 use crate::near::place_near;
-use kube_types::bindings::{class_of_claim, class_of_volume, is_for, mode_count, names_claim};
+use crate::referring::{is_named, own_start};
+use kube_types::bindings::{class_of_claim, class_of_volume, is_for, mode_count};
 use kube_types::lookup::Lookup;
 use kube_types::objects::{Claim, Node, Volume};
 use kube_types::parts::Kind;
 use kube_types::shared::Shared;
 use kube_types::volume_index::VolumeIndex;
-use kube_types::volume_order::{OwnerFrom, SizeFrom, owner_start, size_start};
+use kube_types::volume_order::{SizeFrom, size_start};
+
+/// A volume that was found by an index.
+#[derive(Clone, Copy, Debug)]
+pub struct Found {
+    /// Its place among the volumes of the look-up.
+    pub place: usize,
+    /// Its place among the free volumes of the index, where it was found there.
+    pub free: Option<usize>,
+}
 
 /// Whether the claim may take the volume, wherever it stands.
 fn may_take(claim: &Claim, node: Option<&Node>, only_own: bool, volume: &Volume) -> bool
@@ -72,29 +83,6 @@ fn open_place<L: Lookup, P: Places>(
             }
         }
     }
-}
-
-/// Whether the volume's reference has the namespace and the name of the claim.
-fn is_named(volume: &Volume, claim: &Claim) -> bool
-    ensures { result ≡ ref_is_to claim.now volume.now.claim_ref }
-{
-    match &volume.claim_ref {
-        None => false,
-        Some(reference) => names_claim(reference, claim),
-    }
-}
-
-/// Where the volumes begin that refer to the claim or to later ones.
-fn own_start(owned: &[Shared<Volume>], claim: &Claim) -> usize
-    requires { AreInOrder by_owner owned.now }
-    ensures bound { result ≤ length owned.now }
-    ensures start { IsOwnerStart (claim_owner claim.now) owned.now result }
-{
-    let owner = OwnerFrom {
-        namespace: claim.meta.namespace.as_str(),
-        name: claim.meta.name.as_str(),
-    };
-    owner_start(owned, &owner)
 }
 
 /// The place of the best of the volumes that refer to the claim.
@@ -166,33 +154,80 @@ fn next_place(free: &[Shared<Volume>], claim: &Claim, place: usize) -> usize
     }
 }
 
-/// The place of the best of the free volumes. Those that are too small are passed over all at once.
-fn best_free<L: Lookup, P: Places>(
+/// The best of the free volumes. Those that are passed are not looked at, and those that are too small are passed over all at
+/// once.
+fn best_free<L: Lookup, P: Places, Q: Places>(
     free: &[Shared<Volume>],
     lookup: &L,
     claim: &Claim,
     node: Option<&Node>,
     excluded: &P,
-) -> Option<usize>
+    passed: &Q,
+) -> Option<Found>
     requires order { AreRows (L.rows lookup.now) }
     requires free { AreInOrder by_size free.now }
     requires held { AreOf is_free (volumes_in (L.rows lookup.now)) free.now }
-    ensures { IsBestOf (L.rows lookup.now) claim.now (option_copied node.entry) false (P.places excluded.now) free.now result }
+    requires passed { PassedAreExcluded (L.rows lookup.now) free.now (Q.places passed.now) (P.places excluded.now) }
+    ensures best { IsBestOf (L.rows lookup.now) claim.now (option_copied node.entry) false (P.places excluded.now) free.now (found_place result) }
+    ensures there { IsFoundThere (L.rows lookup.now) free.now result }
 {
     let start = fitting_start(free, claim, 0);
     let mut place = start;
-    let mut near = 0;
+    let mut near = start;
     while place < free.len() {
+        if passed.hold(place) {
+            place += 1;
+            near = near.saturating_add(1);
+            continue;
+        }
         let volume = free[place].get();
         if !is_grouped(volume, claim) {
             return None;
         }
         match open_place(lookup, claim, node, false, excluded, volume, &mut near) {
-            Some(at) => return Some(at),
+            Some(at) => {
+                return Some(Found {
+                    place: at,
+                    free: Some(place),
+                });
+            }
             None => place = next_place(free, claim, place),
         }
     }
     None
+}
+
+/// The best eligible volume, where the index stands for the volumes of the look-up. Places in `excluded` are passed over; so
+/// are, before anything of the volume there is looked at, those places among the free volumes of the index that are in `passed`.
+pub fn best_passing<L: Lookup, P: Places, Q: Places>(
+    index: &VolumeIndex,
+    lookup: &L,
+    claim: &Claim,
+    node: Option<&Node>,
+    only_own: bool,
+    excluded: &P,
+    passed: &Q,
+) -> Option<Found>
+    requires stands { StandsFor index.now (volumes_in (L.rows lookup.now)) }
+    requires passed { PassedAreExcluded (L.rows lookup.now) index.now.free (Q.places passed.now) (P.places excluded.now) }
+    ensures best { IsBest (L.rows lookup.now) claim.now (option_copied node.entry) only_own (P.places excluded.now) (found_place result) }
+    ensures there { IsFoundThere (L.rows lookup.now) index.now.free result }
+{
+    // How many volumes there are is not asked: the call tells that the rows of the look-up are in order.
+    let _ = lookup.count(Kind::PersistentVolume);
+    match best_owned(index.owned(), lookup, claim, node, only_own, excluded) {
+        Some(at) => Some(Found {
+            place: at,
+            free: None,
+        }),
+        None => {
+            if only_own {
+                None
+            } else {
+                best_free(index.free(), lookup, claim, node, excluded, passed)
+            }
+        }
+    }
 }
 
 /// The place, among the volumes of the look-up, of the best eligible volume, where the index stands for these volumes.
@@ -207,16 +242,9 @@ pub(crate) fn best_indexed<L: Lookup, P: Places>(
     requires { StandsFor index.now (volumes_in (L.rows lookup.now)) }
     ensures { IsBest (L.rows lookup.now) claim.now (option_copied node.entry) only_own (P.places excluded.now) result }
 {
-    // How many volumes there are is not asked: the call tells that the rows of the look-up are in order.
-    let _ = lookup.count(Kind::PersistentVolume);
-    match best_owned(index.owned(), lookup, claim, node, only_own, excluded) {
-        Some(at) => Some(at),
-        None => {
-            if only_own {
-                None
-            } else {
-                best_free(index.free(), lookup, claim, node, excluded)
-            }
-        }
+    let passed: &[usize] = &[];
+    match best_passing(index, lookup, claim, node, only_own, excluded, &passed) {
+        None => None,
+        Some(found) => Some(found.place),
     }
 }

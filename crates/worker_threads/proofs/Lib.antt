@@ -3,3 +3,4 @@ pub mod RunFacts
 pub mod RoundFacts
 pub mod DrainFacts
 pub mod NewFacts
+pub mod Resting

@@ -1,6 +1,6 @@
 -- The actors of a drain: their seats and roles, and that each stands for its seat's entries.
 -- A choice of this project.
-use Rattle.std.specs.Prelude.{ℕ, ◌≡◌, ◌<◌, ◌+◌, List, [], ◌∷◌, ◌++◌, Some, length, map, slice_get, ⊤}
+use Rattle.std.specs.Prelude.{ℕ, ◌≡◌, ◌<◌, ◌+◌, false, List, [], ◌∷◌, ◌++◌, None, Some, length, map, slice_get, ⊤}
 use Rattle.call_types.specs.declared.entry.Entry.{Entry}
 use Rattle.call_types.specs.declared.request.SeatKind.{SeatKind}
 use Rattle.call_types.specs.declared.request.SeatKind.TheVariants as seats
@@ -73,6 +73,10 @@ IsIdleNow d past = MayBeIdle d.actor.role d.actor.memory (own d.seat past)
 
 abbrev pub AreIdle : List Drainer → List Entry → Type 0
 AreIdle ds past = (place : ℕ) (d : Drainer) → slice_get ds place ≡ Some d → IsIdleNow d past
+
+-- none of these has anything under way, unless it is an agent that is silent, since its node was taken by another
+abbrev pub AreAtRest : List Drainer → Type 0
+AreAtRest ds = (place : ℕ) (d : Drainer) → slice_get ds place ≡ Some d → d.actor.memory.stale ≡ false → d.actor.under ≡ None
 
 -- none of these seats has an entry
 abbrev pub HaveNoEntries : List ℕ → List Entry → Type 0

@@ -13,10 +13,14 @@ abbrev pub carries_at : ClaimData → Option VolumeData → Bool
 carries_at c None = false
 carries_at c (Some v) = carries v c
 
--- it does not carry the claim, or it admits the node
+-- the volume does not carry the claim, or it admits the node
+abbrev pub admits_unless_other : NodeData → ClaimData → VolumeData → Bool
+admits_unless_other n c v = not (carries v c) || admits v.terms n.meta.labels
+
+-- so does the volume there, if there is one
 abbrev pub admits_at : NodeData → ClaimData → Option VolumeData → Bool
 admits_at n c None = true
-admits_at n c (Some v) = not (carries v c) || admits v.terms n.meta.labels
+admits_at n c (Some v) = admits_unless_other n c v
 
 abbrev pub is_in_namespace : Option Object → Bool
 is_in_namespace None = false

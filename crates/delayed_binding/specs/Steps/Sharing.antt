@@ -1,5 +1,5 @@
 -- How the claims that are not fixed are put in order and get their shares one by one. A choice of this project.
-use Rattle.std.specs.Prelude.{ℕ, suc, ◌≡◌, ◌⊎◌, Bool, true, false, List, [], ◌∷◌, ◌++◌, Some, None, if◌then◌else◌}
+use Rattle.std.specs.Prelude.{ℕ, suc, ◌≡◌, ◌⊎◌, Bool, true, false, List, [], ◌∷◌, ◌++◌, Option, Some, None, IfSome, if◌then◌else◌}
 use Rattle.std.specs.Ordering.{is_gt}
 use Rattle.kube_types.specs.declared.key.Key.{Key}
 use Rattle.kube_types.specs.declared.objects.Claim.{Claim as ClaimData}
@@ -7,8 +7,10 @@ use Rattle.kube_types.specs.declared.objects.Node.{Node as NodeData}
 use Rattle.kube_types.specs.declared.objects.Object.{Object}
 use Rattle.kube_types.specs.declared.objects.Object.TheVariants.{Claim}
 use Rattle.kube_types.specs.Keys.{key_of}
+use Rattle.kube_types.specs.VolumeIndex.{Index, StandsFor, volumes_in}
 use Rattle.binder_model.specs.Choice.{AreShares, IsProvisioned, Share, TakesVolume, can_provision, claim_cmp}
 use Rattle.binder_model.specs.Matching.{IsBest, is_excluded}
+use Rattle.volume_match.specs.Passing.{PassedAreExcluded}
 use Rattle.volume_match.specs.Volumes.{volume_at}
 use Rattle.delayed_binding.specs.declared.shares.Shares.{Shares}
 use Rattle.delayed_binding.specs.Choices.{binds_of, pair_of, provisions_of, set_aside}
@@ -36,6 +38,26 @@ pub record Held : Type 0 where
 
 abbrev pub held_by : Shares → Held
 held_by s = record { taken = s.taken; binds = s.binds.items; provisions = s.provisions.items }
+
+-- nothing is taken, set aside or prepared
+abbrev pub nothing_held : Held
+nothing_held = record { taken = []; binds = []; provisions = [] }
+
+-- the index, where there is one, stands for the volumes of the rows
+abbrev pub IsIndexOf : List Object → Option Index → Type 0
+IsIndexOf rows index = IfSome index (λ i. StandsFor i (volumes_in rows))
+
+-- what is passed in the index, where there is one, is taken
+abbrev pub ArePassedIn : List Object → Option Index → List ℕ → List ℕ → Type 0
+ArePassedIn rows index passed taken = IfSome index (λ i. PassedAreExcluded rows i.free passed taken)
+
+abbrev pub ArePassed : List Object → Option Index → Shares → Type 0
+ArePassed rows index shares = ArePassedIn rows index shares.passed shares.taken
+
+-- this place is passed too, if there is one
+abbrev pub IsPassedToo : Option ℕ → List ℕ → List ℕ → Type 0
+IsPassedToo None before after = after ≡ before
+IsPassedToo (Some place) before after = AreSame after (place ∷ before)
 
 -- once these claims have their shares
 pub record IsSharedOut (rows : List Object) (node : NodeData) (claims : List ClaimData) (held : Held) : Type 0 where

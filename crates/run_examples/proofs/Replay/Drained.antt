@@ -1,5 +1,5 @@
 -- The examples of drains compute.
-use Rattle.std.proofs.Common.{◌≡◌, ◌≢◌, ◌≤◌, ℕ, ◌+◌, List, [], ◌∷◌, ◌++◌, Bool, true, false, true≢false, Option, Some, None, ◌⊎◌, inl, inr, refl, sym, ◌∙◌, ap, subst, arith}
+use Rattle.std.proofs.Common.{◌≡◌, ◌≢◌, ℕ, ◌+◌, List, [], ◌∷◌, ◌++◌, Bool, true, false, true≢false, Option, Some, None, ◌⊎◌, inl, inr, refl, sym, ◌∙◌, ap, subst, arith}
 use Rattle.std.specs.Prelude.{is_none}
 use Rattle.std.specs.declared.cmp.Ordering.{Ordering}
 use Rattle.std.specs.declared.cmp.Ordering.TheVariants.{Less}
@@ -32,12 +32,12 @@ use Rattle.worker_threads.specs.Rounds.{IsSpent, NothingDue, all_pass}
 use Rattle.script_text.specs.declared.script.Script.{Script}
 use Rattle.script_runs.specs.Drains.{DrainComesTo}
 use Rattle.script_runs.specs.Parts.{drain_seat}
-use Rattle.script_runs.specs.Replays.{IsDrain, NoMoves, Progress, first_progress}
+use Rattle.script_runs.specs.Replays.{IsDrain, NoMoves, first_progress}
 use Rattle.script_runs.proofs.Draining.{drains_come_to}
 use Rattle.run_examples.specs.Replay.Calls.{reads}
 use Rattle.run_examples.specs.Replay.Drains.{DrainExamples, Drains, SpentExamples, begins_with, node_script, volume_script}
 use Rattle.run_examples.specs.Replay.Replays.{empty_script}
-use Rattle.run_examples.proofs.Replay.Drainers.{drainers_of, drainers_roles, drainers_seats, drainers_stand}
+use Rattle.run_examples.proofs.Replay.Drainers.{drainers_of, drainers_rest, drainers_roles, drainers_seats, drainers_stand}
 use Rattle.run_examples.proofs.Replay.Firsts.{ends_so, first_call}
 use Rattle.run_examples.proofs.Replay.Replayed.{nothing_due}
 use Rattle.run_examples.proofs.Replay.Scheduled.{one_call_drain}
@@ -154,6 +154,7 @@ no_need = record {
   seats = drainers_seats empty_script;
   roles = drainers_roles empty_script;
   stand = drainers_stand empty_script [] (refl, (refl, (refl, (refl, (refl, tt)))));
+  rests = λ given is unspent. drainers_rest empty_script;
   few = omega arith;
   rounds = NothingDue nothing_due refl refl refl;
   is = refl;
@@ -193,6 +194,7 @@ spent_drain script first due = record {
   seats = drainers_seats script;
   roles = drainers_roles script;
   stand = drainers_stand script [] (none_at (seats_of (drainers_of script)));
+  rests = λ given is unspent. drainers_rest script;
   few = omega arith;
   rounds = IsSpent first due refl refl refl refl;
   is = refl;

@@ -1,30 +1,24 @@
 -- New actors of a drain, and that they stand where their seats have no entries.
-use Rattle.std.proofs.Common.{◌≡◌, ℕ, ◌+◌, List, [], ◌∷◌, length, true, false, true≢false, Option, Some, None, refl, sym, ◌∙◌, ap, subst, arith}
-use Rattle.kube_types.specs.declared.key.Key.{Key}
+use Rattle.std.proofs.Common.{◌≡◌, ℕ, ◌+◌, List, [], ◌∷◌, refl, arith}
 use Rattle.kube_types.specs.declared.parts.Kind.{Kind}
 use Rattle.kube_types.specs.declared.parts.Kind.TheVariants as kinds
-use Rattle.kube_types.specs.Keys.{AreRows}
 use Rattle.call_types.specs.declared.entry.Entry.{Entry}
 use Rattle.call_types.specs.declared.request.SeatKind.{SeatKind}
 use Rattle.call_types.specs.declared.request.SeatKind.TheVariants as seats
-use Rattle.binder_model.specs.Told.{newest}
-use Rattle.informer_cache.specs.Cache.{Known, CacheStandsFor, known_of, kind_known}
-use Rattle.informer_cache.specs.All.{AllKnown, AllStandFor, all_objects, cache_of}
-use Rattle.sync_queue.specs.Work.{no_work}
+use Rattle.informer_cache.specs.Cache.{CacheStandsFor, kind_known}
+use Rattle.informer_cache.specs.All.{AllStandFor, cache_of}
 use Rattle.worker_core.specs.declared.role.Role.{Role}
 use Rattle.worker_core.specs.Absorbs.{woken}
-use Rattle.worker_core.specs.Memories.{no_memory}
-use Rattle.worker_core.specs.Roles.{kinds_of}
 use Rattle.worker_core.specs.Stands.{IsNew, StandsFor}
 use Rattle.worker_core.specs.States.{ActorState}
 use Rattle.worker_core.proofs.Begins.{begins}
 use Rattle.attention_law.proofs.Kept.{new_queues, wakes_queues}
 use Rattle.worker_threads.specs.declared.drainers.Drainer.{Drainer}
-use Rattle.worker_threads.specs.Drainers.{AreNew, AreNewAgents, AreStanding, HaveNoEntries, IsNewAt, StandsWhole, agent_of, of_kind, roles_of, seats_of}
-use Rattle.worker_threads.specs.Rounds.{IsReady}
+use Rattle.worker_threads.specs.Drainers.{AreAtRest, AreNew, AreNewAgents, AreStanding, HaveNoEntries, IsNewAt, StandsWhole, agent_of, of_kind, roles_of, seats_of}
 use Rattle.worker_threads.proofs.NewFacts.{new_roles_for, new_seats_for, new_stand}
 use Rattle.script_text.specs.declared.script.Script.{Script}
 use Rattle.script_runs.specs.Parts.{drain_roles, drain_seat, drain_seats}
+use Rattle.worker_threads.proofs.Resting.{new_rest}
 use Rattle.run_examples.specs.Replay.Runs.{begun_as, knows_nothing, no_caches}
 
 -- ---- caches that know nothing
@@ -122,3 +116,6 @@ drainers_roles script = new_roles_for (drain_seat script) script.node_names (dra
 
 pub drainers_stand : (script : Script) (past : List Entry) → HaveNoEntries (seats_of (drainers_of script)) past → AreStanding (drainers_of script) past
 drainers_stand script past none = new_stand (drain_seat script) script.node_names (drainers_of script) (drainers_new (drain_seat script) script.node_names) past none
+
+pub drainers_rest : (script : Script) → AreAtRest (drainers_of script)
+drainers_rest script = new_rest (drain_seat script) script.node_names (drainers_of script) (drainers_new (drain_seat script) script.node_names)

@@ -27,7 +27,7 @@ use Rattle.script_runs.specs.Replays.{AreMoves, IsDrain, IsMove, IsReplay, IsTur
 use Rattle.run_examples.specs.Replay.Calls.{reads, some_key, told_calls}
 use Rattle.run_examples.specs.Replay.Replays.{EmptyExamples, TurnExamples, UserExamples, empty_script, turn_script, user_reads, user_script}
 use Rattle.script_runs.proofs.Draining.{calls_leave_entries, drains_come_to}
-use Rattle.run_examples.proofs.Replay.Drainers.{drainers_of, drainers_roles, drainers_seats, drainers_stand}
+use Rattle.run_examples.proofs.Replay.Drainers.{drainers_of, drainers_rest, drainers_roles, drainers_seats, drainers_stand}
 use Rattle.run_examples.proofs.Replay.Firsts.{no_lines}
 use Rattle.run_examples.proofs.Replay.Brought.{only_life, silent_binder}
 use Rattle.run_examples.proofs.Replay.Counted.{LeavesOne, end_cases, none_left, one_call}
@@ -50,6 +50,7 @@ settled_replay script past made moves budget settled none = record {
     seats = drainers_seats script;
     roles = drainers_roles script;
     stand = drainers_stand script past none;
+    rests = λ given is unspent. drainers_rest script;
     few = omega arith;
     rounds = NothingDue settled refl refl refl;
     is = refl;

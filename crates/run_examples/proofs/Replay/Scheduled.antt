@@ -1,5 +1,5 @@
 -- A drain of one call: its scheduler lists the volumes, and the budget is spent.
-use Rattle.std.proofs.Common.{◌≡◌, ◌<◌, ℕ, ◌+◌, ◌-◌, List, [], ◌∷◌, Bool, true, false, Option, Some, None, refl, sym, ap, subst, arith}
+use Rattle.std.proofs.Common.{◌≡◌, ℕ, ◌+◌, List, [], ◌∷◌, Bool, true, false, Some, refl, sym, subst, arith}
 use Rattle.std.specs.Prelude.{map}
 use Rattle.kube_types.specs.declared.key.Key.{Key}
 use Rattle.kube_types.specs.declared.names.Due.{Due}
@@ -16,12 +16,12 @@ use Rattle.worker_core.specs.States.{ActorState}
 use Rattle.worker_core.specs.Turns.{IsTurn}
 use Rattle.worker_threads.specs.declared.drainers.Drainer.{Drainer}
 use Rattle.worker_threads.specs.Drainers.{HaveNoEntries, StandsWhole, of_kind, seats_of}
-use Rattle.worker_threads.specs.Rounds.{Asks, Drains, Ends, Goes, IsReady, IsRound, IsSpent, Runs, Turns, all_pass}
+use Rattle.worker_threads.specs.Rounds.{Asks, Ends, Goes, IsReady, IsRound, IsSpent, Runs, Turns, all_pass}
 use Rattle.script_text.specs.declared.script.Script.{Script}
 use Rattle.script_runs.specs.Parts.{drain_seat}
-use Rattle.script_runs.specs.Replays.{IsDrain, Progress, first_progress}
+use Rattle.script_runs.specs.Replays.{IsDrain, first_progress}
 use Rattle.run_examples.specs.Replay.Runs.{giving_scheduler, list_volumes, no_caches, woken_scheduler}
-use Rattle.run_examples.proofs.Replay.Drainers.{agents_at, at_seat, drainers_of, drainers_roles, drainers_seats, drainers_stand, woken_whole}
+use Rattle.run_examples.proofs.Replay.Drainers.{agents_at, at_seat, drainers_of, drainers_rest, drainers_roles, drainers_seats, drainers_stand, woken_whole}
 
 -- the actors that come after the budget was spent are woken alone
 
@@ -78,6 +78,7 @@ module _ (script : Script) (h : List Entry) (reply : Reply) (none : HaveNoEntrie
     seats = drainers_seats script;
     roles = drainers_roles script;
     stand = drainers_stand script h none;
+    rests = λ given is unspent. drainers_rest script;
     few = omega arith;
     rounds = Goes first due (omega arith) (ran ∷ map woke others) (call_at (drain_seat script + 2) reply ∷ h) 0 false round (IsSpent second still refl refl refl refl);
     is = refl;

@@ -8,6 +8,7 @@ use Rattle.kube_types.specs.VolumeOrders.{name_cmp, size_cmp, size_of}
 use Rattle.volume_match.specs.Steps.Choices.{is_grouped, wanted}
 use Rattle.volume_match.proofs.Candidates.{alike_itself, at_place, first_best, none_left, none_more, upto_at}
 use Rattle.volume_match.proofs.Fitting.{after_group, before_size, prefers_free}
+use Rattle.volume_match.proofs.Passed.{stands_at}
 use Rattle.kube_types.proofs.VolumeOrders.{by_size_total, first_no_greater, size_total}
 use Rattle.volume_match.proofs.indexed.best_free.Goals as goal
 
@@ -43,8 +44,8 @@ loop-place-smaller g c =
     let next = c.next_place-place.ensures in
     omega (arith, next.more, next.bound)
 
-pub returns-then-not-is_grouped : goal.returns-then-not-is_grouped
-returns-then-not-is_grouped g c =
+pub returns-then-not-is_grouped-clause-best : goal.returns-then-not-is_grouped-clause-best
+returns-then-not-is_grouped-clause-best g c =
     let lt : c.loop-place.place < length c.args.free.now = omega arith in
     let claim = c.args.claim.now in
     let v = c.get-volume.result.now in
@@ -57,8 +58,8 @@ returns-then-not-is_grouped g c =
     (λ w x e. first_no_greater (size_cmp (size_of w) (size_of x)) (name_cmp w x) e) (λ w. ap is_gt (tied_itself size_total (size_of w))))
     q.eligible)
 
-pub returns-in-Some : goal.returns-in-Some
-returns-in-Some g c =
+pub returns-in-Some-clause-best : goal.returns-in-Some-clause-best
+returns-in-Some-clause-best g c =
     let lt : c.loop-place.place < length c.args.free.now = omega arith in
     let claim = c.args.claim.now in
     let on = option_copied c.args.node in
@@ -67,8 +68,15 @@ returns-in-Some g c =
     first_best (g.L.Lookup.rows c.args.lookup.now) claim on false (g.P.Places.places c.args.excluded.now) by_size_total is_free (prefers_free claim on) (alike_itself claim)
     c.args.free.now c.loop-place.place c.in-Some.at v c.requires.free c.requires.held lt at c.loop-place.invariant.0 c.in-Some.ensures.some
 
-pub returns : goal.returns
-returns g c =
+pub returns-in-Some-clause-there : goal.returns-in-Some-clause-there
+returns-in-Some-clause-there g c =
+    let lt : c.loop-place.place < length c.args.free.now = omega arith in
+    let v = c.get-volume.result.now in
+    let at = at_place c.args.free.now c.loop-place.place v c.index-free-place.result c.get-volume.ensures c.index-free-place.is in
+    stands_at (g.L.Lookup.rows c.args.lookup.now) c.args.free.now c.loop-place.place c.in-Some.at v lt at c.in-Some.ensures.some.there
+
+pub returns-clause-best : goal.returns-clause-best
+returns-clause-best g c =
     let end : length c.args.free.now ≤ c.loop-place.place = omega arith in
     none_left (g.L.Lookup.rows c.args.lookup.now) c.args.claim.now (option_copied c.args.node) false (g.P.Places.places c.args.excluded.now) c.args.free.now c.loop-place.place c.loop-place.invariant.0
     (λ k u le within too place q. absurd (omega (arith, end, le, within)))
