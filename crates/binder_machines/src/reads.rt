@@ -27,6 +27,10 @@ impl Lookup for NoRows {
         0
     }
 
+    fn of_kind(&self, _kind: Kind) -> &[Object] {
+        &[]
+    }
+
     fn at(&self, _kind: Kind, _place: usize) -> Option<&Object> {
         None
     }

@@ -1,7 +1,9 @@
+pub mod Alike
 pub mod Allowed
 pub mod Bests
 pub mod Carrying
 pub mod Dues
+pub mod Enough
 pub mod Fitting
 pub mod Known
 pub mod Marking

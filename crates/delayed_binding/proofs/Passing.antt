@@ -9,10 +9,11 @@ use Rattle.kube_types.specs.declared.objects.Object.TheVariants.{Volume}
 use Rattle.kube_types.specs.Keys.{AreRows, is_of_kind, key_of, rows_of}
 use Rattle.kube_types.specs.VolumeIndex.{Index}
 use Rattle.kube_types.proofs.KeyOrder.{key_cmp_total}
+use Rattle.kube_types.proofs.RowPlaces.{rising_filter}
 use Rattle.binder_model.specs.Matching.{is_excluded}
 use Rattle.volume_match.specs.declared.indexed.Found.{Found}
 use Rattle.volume_match.specs.Passing.{IsFoundThere, PassedAreExcluded, StandsAt}
-use Rattle.volume_match.proofs.Candidates.{one_place, rising_filter}
+use Rattle.volume_match.proofs.Candidates.{one_place}
 use Rattle.volume_match.proofs.Passed.{none_passed}
 use Rattle.delayed_binding.specs.Steps.Sharing.{ArePassedIn, AreSame, IsPassedToo}
 

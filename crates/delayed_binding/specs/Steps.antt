@@ -1,3 +1,5 @@
+pub mod Alike
+pub mod Counts
 pub mod Marks
 pub mod Nth
 pub mod Places

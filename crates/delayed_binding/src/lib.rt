@@ -11,6 +11,7 @@
 
 mod choice;
 mod claims;
+mod counts;
 pub mod laws;
 mod marks;
 mod nodes;

@@ -12,13 +12,15 @@ ghost use Rattle.binder_model.specs.ObjectKeys.{class_key};
 ghost use Rattle.volume_match.specs.Passing.{IsFoundThere, found_place};
 ghost use Rattle.volume_match.specs.Volumes.{volume_at};
 ghost use Rattle.delayed_binding.specs.Choices.{IsPreparedOn, others_in, pair_of};
-ghost use Rattle.delayed_binding.specs.Steps.Scans.{IsFirstInTurn, IsPreparedIf};
+ghost use Rattle.delayed_binding.specs.Steps.Alike.{HasRefused, IsBarred, IsGivenOn, IsLikeOne, IsOpenNode};
+ghost use Rattle.delayed_binding.specs.Steps.Scans.{IsFirstInTurn};
 ghost use Rattle.delayed_binding.specs.Steps.Sharing.{ArePassed, ArePassedIn, AreSame, HaveNoShares, IsIndexOf, IsPassedToo, IsServedAs, IsSharedOut, IsUnserved, held_by, nothing_held, place_in};
 
 use crate::choice::Choice;
+use crate::counts::{all_ask_like, are_fewer};
 use crate::marks::Marks;
 use crate::nodes::node_in_turn;
-use crate::volumes::{all_fixed_admit, has_carrier, set_aside, volume_at};
+use crate::volumes::{all_fixed_admit, are_alike, has_carrier, set_aside, volume_at};
 use kube_types::bindings::{NO_PROVISIONER, class_of_claim, is_completed};
 use kube_types::copies::{OutOfMemory, Plain};
 use kube_types::key::Key;
@@ -287,6 +289,39 @@ fn shares_on<L: Lookup>(
     Ok(Some(shares))
 }
 
+/// What the node gives to the claims, where it has something for each.
+fn given_on<L: Lookup>(
+    alloc: Global,
+    lookup: &L,
+    node: &Node,
+    claims: &[Shared<Claim>],
+) -> Result<Option<Choice>, OutOfMemory>
+    ensures { IfOk result (λ found. IsGivenOn (L.rows lookup.now) claims.now node.now found) }
+{
+    match shares_on(alloc, lookup, node, claims)? {
+        None => Ok(None),
+        Some(shares) => Ok(Some(Choice::Prepare {
+            node: node.meta.name.copy(alloc)?,
+            binds: Items::from_vec(shares.binds),
+            provisions: Items::from_vec(shares.provisions),
+        })),
+    }
+}
+
+/// Whether it is seen before anything is given that the node does not serve all claims: by the last of the others, or by the
+/// volumes that are fixed.
+fn is_barred<L: Lookup>(
+    lookup: &L,
+    node: &Node,
+    claims: &[Shared<Claim>],
+    others: &[Shared<Claim>],
+) -> bool
+    requires { others.now ≡ others_in (L.rows lookup.now) claims.now }
+    ensures { IsBarred (L.rows lookup.now) claims.now node.now result }
+{
+    is_last_unserved(lookup, node, others) || !all_fixed_admit(lookup, node, claims)
+}
+
 /// What is prepared on the node, where it serves all claims.
 pub(crate) fn prepared_on<L: Lookup>(
     alloc: Global,
@@ -298,36 +333,73 @@ pub(crate) fn prepared_on<L: Lookup>(
     requires { others.now ≡ others_in (L.rows lookup.now) claims.now }
     ensures { IfOk result (λ found. IsPreparedOn (L.rows lookup.now) claims.now node.now found) }
 {
-    if is_last_unserved(lookup, node, others) {
+    if is_barred(lookup, node, claims, others) {
         return Ok(None);
     }
-    if !all_fixed_admit(lookup, node, claims) {
-        return Ok(None);
-    }
-    match shares_on(alloc, lookup, node, others)? {
-        None => Ok(None),
-        Some(shares) => Ok(Some(Choice::Prepare {
-            node: node.meta.name.copy(alloc)?,
-            binds: Items::from_vec(shares.binds),
-            provisions: Items::from_vec(shares.provisions),
-        })),
+    given_on(alloc, lookup, node, others)
+}
+
+/// Whether each volume admits the node and the one that was refused alike. Then this one has no more for the claims than that.
+fn is_like_refused<L: Lookup>(lookup: &L, refused: Option<&Node>, node: &Node) -> bool
+    ensures { OnTrue result (IsLikeOne (L.rows lookup.now) (option_copied refused.entry) node.now) }
+{
+    match refused {
+        None => false,
+        Some(refused) => are_alike(lookup, refused, node),
     }
 }
 
-/// What is prepared on the node at a place, where it is in turn and serves all claims.
-fn prepared_at<L: Lookup>(
-    alloc: Global,
+/// Whether the claims are all of the class of this one, which provisions none, and as large, and the node may give fewer volumes
+/// to such claims.
+fn has_too_few_of<L: Lookup>(lookup: &L, node: &Node, one: &Claim, claims: &[Shared<Claim>]) -> bool
+    ensures { OnTrue result (HaveNoShares (L.rows lookup.now) node.now claims.now) }
+{
+    if class_provisions(lookup, one) {
+        return false;
+    }
+    if !all_ask_like(one, claims) {
+        return false;
+    }
+    are_fewer(lookup, one, node, claims.len())
+}
+
+/// Whether the claims are all of one class, which provisions none, and the node may give fewer volumes to such as the smallest.
+fn has_too_few<L: Lookup>(lookup: &L, node: &Node, claims: &[Shared<Claim>]) -> bool
+    ensures { OnTrue result (HaveNoShares (L.rows lookup.now) node.now claims.now) }
+{
+    match claims.get(0) {
+        None => false,
+        Some(one) => has_too_few_of(lookup, node, one.get(), claims),
+    }
+}
+
+/// The node, where nothing tells yet that it does not serve all claims. The one that was refused had nothing for one of the
+/// others.
+fn open_node<'a, L: Lookup>(
     lookup: &L,
     claims: &[Shared<Claim>],
     others: &[Shared<Claim>],
-    node: Option<&Node>,
-) -> Result<Option<Choice>, OutOfMemory>
-    requires { others.now ≡ others_in (L.rows lookup.now) claims.now }
-    ensures { IfOk result (λ found. IsPreparedIf (L.rows lookup.now) claims.now (option_copied node.entry) found) }
+    refused: Option<&Node>,
+    node: Option<&'a Node>,
+) -> Option<&'a Node>
+    requires others { others.now ≡ others_in (L.rows lookup.now) claims.now }
+    requires refused { HasRefused (L.rows lookup.now) others.now (option_copied refused) }
+    ensures { IsOpenNode (L.rows lookup.now) claims.now (option_copied node.entry) (option_copied result) }
 {
     match node {
-        None => Ok(None),
-        Some(node) => prepared_on(alloc, lookup, node, claims, others),
+        None => None,
+        Some(node) => {
+            if is_barred(lookup, node, claims, others) {
+                return None;
+            }
+            if is_like_refused(lookup, refused, node) {
+                return None;
+            }
+            if has_too_few(lookup, node, others) {
+                return None;
+            }
+            Some(node)
+        }
     }
 }
 
@@ -345,10 +417,14 @@ pub(crate) fn first_in_turn<L: Lookup>(
     ensures found { IfOk result (λ found. IsFirstInTurn (L.rows lookup.now) claims.now (option_copied last.entry) past found) }
     ensures order { AreRows (L.rows lookup.now) }
 {
+    let mut refused: Option<&Node> = None;
     for place in 0..lookup.count(Kind::Node) {
         let node = node_in_turn(lookup, last, past, place);
-        if let Some(choice) = prepared_at(alloc, lookup, claims, others, node)? {
-            return Ok(Some(choice));
+        if let Some(node) = open_node(lookup, claims, others, refused, node) {
+            if let Some(choice) = given_on(alloc, lookup, node, others)? {
+                return Ok(Some(choice));
+            }
+            refused = Some(node);
         }
     }
     Ok(None)

@@ -1,6 +1,7 @@
 //! The volumes of the look-up, and which nodes they admit.
 
 ghost use Rattle.std.specs.Prelude.{◌≡◌, ◌∷◌, if◌then◌else◌, IfOk, OnOk};
+ghost use Rattle.std.specs.Bool.{OnTrue};
 ghost use Rattle.std.specs.List.{list_all, list_any};
 ghost use Rattle.std.specs.Option.{option_copied};
 ghost use Rattle.kube_types.specs.Bindings.{carries};
@@ -8,6 +9,7 @@ ghost use Rattle.kube_types.specs.Keys.{AreRows};
 ghost use Rattle.binder_model.specs.Choice.{admits_if_carrying, fixed_admit, has_carrier, volume_admits};
 ghost use Rattle.volume_match.specs.Volumes.{volume_at};
 ghost use Rattle.delayed_binding.specs.Choices.{set_aside};
+ghost use Rattle.delayed_binding.specs.Steps.Alike.{AreAlike, admits_alike, alike_at};
 ghost use Rattle.delayed_binding.specs.Steps.Places.{admits_at, admits_unless_other, carries_at, is_in_namespace};
 ghost use Rattle.delayed_binding.specs.Steps.Sharing.{AreSame};
 
@@ -166,6 +168,36 @@ pub(crate) fn all_fixed_admit<L: Lookup>(lookup: &L, node: &Node, claims: &[Shar
 {
     for claim in claims {
         if !fixed_admit(lookup, node, claim.get()) {
+            return false;
+        }
+    }
+    true
+}
+
+/// Whether the volume admits both nodes or neither.
+fn admits_alike(volume: &Volume, one: &Node, other: &Node) -> bool
+    ensures { result ≡ admits_alike one.now other.now volume.now }
+{
+    let terms = volume.terms.as_ref();
+    admits(terms, &one.meta.labels) == admits(terms, &other.meta.labels)
+}
+
+/// Whether the volume at the place, if there is one, admits both nodes or neither.
+fn alike_at<L: Lookup>(lookup: &L, one: &Node, other: &Node, place: usize) -> bool
+    ensures { result ≡ alike_at one.now other.now (volume_at (L.rows lookup.now) place) }
+{
+    match volume_at(lookup, place) {
+        None => true,
+        Some(volume) => admits_alike(volume, one, other),
+    }
+}
+
+/// Whether each volume admits both nodes or neither, by a look at each.
+pub(crate) fn are_alike<L: Lookup>(lookup: &L, one: &Node, other: &Node) -> bool
+    ensures { OnTrue result (AreAlike (L.rows lookup.now) one.now other.now) }
+{
+    for place in 0..lookup.count(Kind::PersistentVolume) {
+        if !alike_at(lookup, one, other, place) {
             return false;
         }
     }

@@ -1,24 +1,21 @@
 -- A drain costs little beside its rounds: its writes, and what is swept after many of them, are paid by what its rounds leave less to do.
-use Rattle.std.proofs.Common.{◌≡◌, ◌∙◌, ℕ, zero, suc, ◌+◌, ◌*◌, ◌≤◌, List, [], ◌∷◌, ◌++◌, length, true, false, refl, ap, subst, arith, if◌then◌else◌, Bool}
+use Rattle.std.proofs.Common.{◌≡◌, ◌∙◌, ℕ, zero, suc, ◌+◌, ◌*◌, ◌≤◌, List, ◌∷◌, ◌++◌, length, true, false, refl, ap, subst, arith, if◌then◌else◌, Bool}
 use Rattle.std.specs.Prelude.{◌/◌}
 use Rattle.std.proofs.Math.Nat.{mul-add}
 use Rattle.std.proofs.lemmas.Nat.{div-add-mod'}
-use Rattle.kube_types.specs.declared.objects.Object.{Object}
-use Rattle.kube_types.specs.declared.objects.Object.TheVariants.{Class, Node, Volume, Claim, Pod}
-use Rattle.kube_types.specs.Bindings.{is_scheduled}
 use Rattle.call_types.specs.declared.entry.Entry.{Entry}
 use Rattle.call_types.specs.declared.setup.Setup.{Setup}
 use Rattle.binder_model.specs.Promises.{IsRunOf}
 use Rattle.binder_model.specs.World.{world}
 use Rattle.model_laws.proofs.Histories.{rows_stand_in_order}
-use Rattle.settle_measure.specs.Measure.{claims_in, total, work_left}
+use Rattle.settle_measure.specs.Measure.{claims_in, work_left}
 use Rattle.worker_threads.specs.declared.drainers.Drainer.{Drainer}
 use Rattle.worker_threads.specs.Drainers.{AreAtRest, roles_of}
 use Rattle.worker_threads.specs.Rounds.{Drains, Goes, IsRound, IsSpent, Lets, NothingDue}
 use Rattle.worker_threads.proofs.DrainFacts.{drains_grow}
 use Rattle.worker_threads.proofs.RoundFacts.{roles_built, round_part, round_seats, same_length}
 use Rattle.short_law.specs.Slots.{PassesReads, writes_since}
-use Rattle.scheduler_writes.specs.Pods.{pod_writes, pods_writes}
+use Rattle.scheduler_writes.specs.Pods.{pods_writes}
 use Rattle.paid_law.proofs.Slots.{older_run}
 use Rattle.settle_law.specs.Settling.{MayDrain}
 use Rattle.settle_law.proofs.Leaving.{rounds_leave_drainers}
@@ -27,25 +24,13 @@ use Rattle.all_pay.proofs.Rounds.{payer_at, rounds_pay}
 use Rattle.write_count.specs.Counts.{nodes_in, to_write}
 use Rattle.write_count.proofs.Ordered.{nodes_are_few}
 use Rattle.write_count.proofs.Rounds.{rounds_write_little}
-use Rattle.call_count.specs.Rounds.{most_size, pod_size, pods_size}
+use Rattle.call_count.specs.Rounds.{most_size, pods_size}
 use Rattle.call_count.proofs.Growth.{AreGiven, given_first, pods_few}
 use Rattle.call_count.proofs.Sums.{round_given, sum}
-use Rattle.drain_count.specs.Drains.{rounds_in}
+use Rattle.drain_budget.specs.Drains.{rounds_in}
 use Rattle.drain_budget.specs.Budget.{AreAlwaysInOrder, DrainsCostLittle, round_calls, round_writes}
 use Rattle.drain_budget.proofs.Claims.{claims_few}
-
--- what a scheduler may write is no more than the pods and the claims that they name
-writes_few : (rows : List Object) → total pod_writes rows ≤ total pod_size rows
-writes_few [] = omega arith
-writes_few (Class x ∷ os) = let rest = writes_few os in omega (arith, rest)
-writes_few (Node x ∷ os) = let rest = writes_few os in omega (arith, rest)
-writes_few (Volume x ∷ os) = let rest = writes_few os in omega (arith, rest)
-writes_few (Claim x ∷ os) = let rest = writes_few os in omega (arith, rest)
-writes_few (Pod p ∷ os) = by (is_scheduled p) (writes_few os)
-  where
-    by : (b : Bool) → total pod_writes os ≤ total pod_size os → (if b then 0 else 1 + length p.claims) + total pod_writes os ≤ 1 + length p.claims + total pod_size os
-    by true rest = omega (arith, rest)
-    by false rest = omega (arith, rest)
+use Rattle.drain_budget.proofs.Drains.{writes_few}
 
 -- a sweep pays for what is written though no work is done
 rarely : (sweeps writes before now most : ℕ) → 513 * sweeps ≤ writes → writes + now ≤ before + most → now ≤ before → 513 * sweeps + now ≤ before + most * sweeps

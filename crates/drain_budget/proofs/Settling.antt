@@ -1,30 +1,22 @@
 -- A drain of few rounds ends settled with the stated budget.
-use Rattle.std.proofs.Common.{◌≡◌, ◌∙◌, ◌⊎◌, ℕ, ◌+◌, ◌*◌, ◌≤◌, List, length, inl, inr, sym, subst, arith}
-use Rattle.call_types.specs.declared.entry.Entry.{Entry}
+use Rattle.std.proofs.Common.{◌≡◌, ◌∙◌, ◌⊎◌, ◌+◌, ◌*◌, ◌≤◌, length, inl, inr, arith}
 use Rattle.call_types.specs.declared.setup.Setup.{Setup}
 use Rattle.binder_model.specs.Due.{IsSettled}
 use Rattle.binder_model.specs.World.{World, world}
 use Rattle.model_laws.proofs.Histories.{rows_stand_in_order}
 use Rattle.settle_measure.specs.Measure.{claims_in, faults_left, work_left}
 use Rattle.settle_measure.proofs.Bounds.{left_is_bounded}
-use Rattle.worker_threads.specs.declared.drainers.Drainer.{Drainer}
-use Rattle.worker_threads.specs.Rounds.{Drains, Goes, IsSpent, Lets, NothingDue}
 use Rattle.worker_threads.proofs.DrainFacts.{drains_grow}
 use Rattle.short_law.specs.Rounds.{size_of_world}
 use Rattle.write_count.specs.Counts.{nodes_in}
 use Rattle.write_count.proofs.Ordered.{nodes_are_few}
 use Rattle.call_count.specs.Rounds.{pods_size}
-use Rattle.drain_count.specs.Drains.{rounds_in}
+use Rattle.drain_budget.specs.Drains.{rounds_in}
 use Rattle.drain_budget.specs.Budget.{FewRoundsSettle}
 use Rattle.drain_budget.proofs.Amounts.{budget_is_enough}
 use Rattle.drain_budget.proofs.Claims.{counted_sizes, pods_and_claims}
 use Rattle.drain_budget.proofs.Costs.{drains_cost_little}
-
--- a drain ends settled, or with no call left
-pub ends_so : (setup : Setup) (lets : Lets) (after : List Drainer) (past : List Entry) (left : ℕ) (ds : List Drainer) (h : List Entry) (b : ℕ) → Drains lets setup after past left ds h b → IsSettled setup (world setup past) ⊎ (left ≡ 0)
-ends_so setup lets after past left ds h b (NothingDue settled same entries rest) = inl (subst (λ es. IsSettled setup (world setup es)) (sym entries) settled)
-ends_so setup lets after past left ds h b (IsSpent first due none same entries rest) = inr (rest ∙ none)
-ends_so setup lets after past left ds h b (Goes first due some between middle rest whole round drained) = ends_so setup lets after past left between middle rest drained
+use Rattle.drain_budget.proofs.Drains.{ends_so}
 
 -- what is to be done, by the claims and by the size
 work_few : (setup : Setup) (w : World) → work_left setup w ≤ 8 * claims_in w.store.rows + 10 * size_of_world w + faults_left setup w.devices

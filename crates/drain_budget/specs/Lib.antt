@@ -1,1 +1,6 @@
 pub mod Budget
+pub mod Drains
+pub mod Measured
+pub mod Rounds
+pub mod Selections
+pub mod ShortRounds

@@ -229,6 +229,11 @@ impl Lookup for Caches {
         self.objects(kind).len()
     }
 
+    fn of_kind(&self, kind: Kind) -> &[Object] {
+        self.stand_together();
+        self.objects(kind)
+    }
+
     fn at(&self, kind: Kind, place: usize) -> Option<&Object> {
         self.stand_together();
         self.objects(kind).get(place)

@@ -1,5 +1,5 @@
 -- What a list holds after an edit.
-use Rattle.std.proofs.Common.{ℕ, zero, suc, ◌≡◌, ◌<◌, ◌⊎◌, inl, inr, Bool, true, false, true≢false, List, [], ◌∷◌, length, arith, ◌∙◌, refl, sym, ap, cond, filter, if◌then◌else◌}
+use Rattle.std.proofs.Common.{ℕ, zero, suc, ◌≡◌, ◌<◌, ◌⊎◌, inl, inr, Bool, true, false, true≢false, List, [], ◌∷◌, length, arith, ◌∙◌, refl, sym, ap, cond, filter, if◌then◌else◌, Some, slice_get}
 use Rattle.std.specs.List.{Contains}
 use Rattle.std.specs.Prelude.{slice_index_or}
 use Rattle.std.specs.Cmp.{IsTotalOrder}
@@ -7,6 +7,7 @@ use Rattle.std.specs.declared.cmp.Ordering.{Ordering}
 use Rattle.std.specs.declared.cmp.Ordering.TheVariants.{Less, Equal, Greater}
 use Rattle.std.specs.Ordering.{is_eq, is_lt, match_ordering}
 use Rattle.std.proofs.lemmas.Cmp.{alike_right}
+use Rattle.std.proofs.lemmas.Option.{get_or_from_slice_get, slice_get_within}
 use Rattle.plain_data.specs.Rows.{IsAfter, IsRising, put, without}
 
 module _ {X : Type 0} where
@@ -26,6 +27,10 @@ module _ {X : Type 0} where
 
   pub nothing : (u : X) → Contains [] u → ⊥
   nothing u c = let lt = c.1 in absurd (omega arith)
+
+  -- what stands at a place is held
+  pub held_at : (xs : List X) (k : ℕ) (x : X) → slice_get xs k ≡ Some x → Contains xs x
+  held_at xs k x e = (k, slice_get_within xs k x e, get_or_from_slice_get xs k x x e)
 
   -- what passes a test, and nothing else, is held after it
   pub held_filter : (p : X → Bool) (u : X) (xs : List X) → Contains (filter p xs) u → Contains xs u × (p u ≡ true)

@@ -40,6 +40,14 @@ module _ {K X : Type 0} {cmp : K → K → Ordering} (o : IsTotalOrder cmp) (key
       by true rest = (a.0, rest)
       by false rest = rest
 
+  pub rising_filter : (p : X → Bool) (xs : List X) → IsRising cmp key xs → IsRising cmp key (filter p xs)
+  rising_filter p [] r = tt
+  rising_filter p (y ∷ ys) r = by (p y) (rising_filter p ys r.1)
+    where
+      by : (b : Bool) → IsRising cmp key (filter p ys) → IsRising cmp key (cond b (y ∷ filter p ys) (filter p ys))
+      by true rest = (after_filter p y ys r.0, rest)
+      by false rest = rest
+
   later : (y x : X) (ys : List X) (place : ℕ) → IsAfter cmp key y ys → slice_get ys place ≡ Some x → cmp (key y) (key x) ≡ Less
   later y x [] place a h = absurd cc
   later y x (z ∷ zs) zero a h = subst (λ w. cmp (key y) (key w) ≡ Less) (some_is z x h) a.0

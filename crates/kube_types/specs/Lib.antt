@@ -9,4 +9,5 @@ pub mod Steps
 pub mod Uids
 pub mod VolumeIndex
 pub mod VolumeOrders
+pub mod VolumePlaces
 pub mod Words

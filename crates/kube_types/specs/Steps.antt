@@ -1,2 +1,3 @@
 pub mod IndexEdits
 pub mod Scan
+pub mod VolumePlaces

@@ -5,12 +5,15 @@ ghost use Rattle.std.specs.Option.{option_copied};
 ghost use Rattle.kube_types.specs.Keys.{AreRows, row_at, rows_of};
 ghost use Rattle.kube_types.specs.Lookups.{is_asked, is_present};
 ghost use Rattle.kube_types.specs.VolumeIndex.{StandsFor, volumes_in};
+ghost use Rattle.kube_types.specs.VolumePlaces.{IsNth, has_size, is_of_claim};
 ghost use Rattle.kube_types.specs.declared.objects.Object.{Object};
 
 use crate::key::Key;
 use crate::objects::Object;
 use crate::parts::Kind;
+use crate::text::Text;
 use crate::volume_index::VolumeIndex;
+use crate::volume_places::{nth_by_size, nth_for};
 
 /// Objects that can be looked up. `rows` are all of them, in the order of their keys.
 pub trait Lookup {
@@ -19,6 +22,11 @@ pub trait Lookup {
     /// How many objects of the kind there are.
     fn count(&self, kind: Kind) -> usize
         ensures count { result ≡ length (rows_of kind (rows self.now)) }
+        ensures order { AreRows (rows self.now) };
+
+    /// The objects of the kind, in the order of namespace and name.
+    fn of_kind(&self, kind: Kind) -> &[Object]
+        ensures objects { result.now ≡ rows_of kind (rows self.now) }
         ensures order { AreRows (rows self.now) };
 
     /// The object at a place, from 0, among those of the kind in the order of namespace and name.
@@ -34,6 +42,28 @@ pub trait Lookup {
     /// An index of the volumes, where one is kept: it saves looking at all of them.
     fn volumes(&self) -> Option<&VolumeIndex>
         ensures { IfSome (option_copied result) (λ index. StandsFor index (volumes_in (rows self.now))) };
+
+    /// The place of the volume of this number, from 0, among those of the volume mode and the class: by number of access
+    /// modes, bytes and name. None where there are not so many. Each volume is looked at once for each number up to this one.
+    fn volume_by_size(&self, block: bool, class: &Text, nth: usize) -> Option<usize>
+        ensures { IsNth (has_size block class.now) (rows self.now) nth result }
+    {
+        nth_by_size(self.of_kind(Kind::PersistentVolume), block, class, nth)
+    }
+
+    /// The place of the volume of this number, from 0, among those that refer to the claim, whatever its UID: by the index
+    /// where one is kept. None where there are not so many.
+    fn volume_for(&self, namespace: &Text, name: &Text, nth: usize) -> Option<usize>
+        ensures { IsNth (is_of_claim namespace.now name.now) (rows self.now) nth result }
+    {
+        nth_for(
+            self.of_kind(Kind::PersistentVolume),
+            self.volumes(),
+            namespace,
+            name,
+            nth,
+        )
+    }
 }
 
 /// What is known of an object that was read by itself.

@@ -215,6 +215,10 @@ impl Lookup for Table {
         count_of_kind(&self.rows, kind)
     }
 
+    fn of_kind(&self, kind: Kind) -> &[Object] {
+        of_kind(&self.rows, kind)
+    }
+
     fn at(&self, kind: Kind, place: usize) -> Option<&Object> {
         at_of_kind(&self.rows, kind, place)
     }

@@ -145,7 +145,7 @@ pub(crate) fn compare_by_size(left: &Volume, right: &Volume) -> Ordering
 }
 
 /// The order of volumes that a claim prefers alike otherwise: by number of modes, then bytes, then name.
-fn compare_need(left: &Volume, right: &Volume) -> Ordering
+pub(crate) fn compare_need(left: &Volume, right: &Volume) -> Ordering
     ensures { result ≡ need_cmp left.now right.now }
 {
     let order = mode_count(left.modes)

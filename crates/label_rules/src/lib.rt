@@ -4,7 +4,7 @@
 //! terms; both take no memory. Not said: that a selector was valid where it was made.
 #![tactic(auto)]
 
-ghost use Rattle.std.specs.Prelude.{◌≡◌};
+ghost use Rattle.std.specs.Prelude.{◌≡◌, bytes_eq};
 ghost use Rattle.std.specs.List.{list_all, list_any};
 ghost use Rattle.std.specs.Option.{option_copied};
 ghost use Rattle.plain_data.specs.Pairs.{ArePairs, text_cmp};
@@ -19,6 +19,9 @@ use std::cmp::Ordering;
 
 /// With more labels than this for each wanted pair, the pairs are sought one by one, by halves.
 const LABELS_A_PAIR: usize = 8;
+
+/// A text of fewer bytes is compared byte by byte, which costs less than by words.
+const WORD: usize = 8;
 
 /// Whether the selector selects an object with these labels. The empty selector selects each object.
 pub fn selects(selector: &Selector, labels: &Pairs) -> bool
@@ -75,11 +78,24 @@ fn has_each(labels: &Pairs, wanted: &Pairs) -> bool
     true
 }
 
+/// Whether the two texts are the same.
+#[inline(always)]
+fn is_same(one: &Text, other: &Text) -> bool
+    ensures { result ≡ bytes_eq one.now other.now }
+{
+    let (one, other) = (one.as_str(), other.as_str());
+    if other.len() < WORD {
+        return one.as_bytes() == other.as_bytes();
+    }
+    one == other
+}
+
 /// The order of the two keys. Whether they are the same is asked first: it costs less.
+#[inline(always)]
 fn key_order(label: &Text, wanted: &Text) -> Ordering
     ensures { result ≡ text_cmp label.now wanted.now }
 {
-    if label.is(wanted.as_str()) {
+    if is_same(label, wanted) {
         return Ordering::Equal;
     }
     label.as_str().cmp(wanted.as_str())
@@ -98,7 +114,7 @@ fn stand_among(labels: &[(Text, Text)], wanted: &[(Text, Text)]) -> bool
             [pair, rest @ ..] => match key_order(&label.0, &pair.0) {
                 Ordering::Less => {}
                 Ordering::Equal => {
-                    if !pair.1.is(label.1.as_str()) {
+                    if !is_same(&pair.1, &label.1) {
                         return false;
                     }
                     left = rest;

@@ -1,5 +1,5 @@
 -- A drain of a script ends settled with the stated budget.
-use Rattle.std.proofs.Common.{◌≡◌, ◌∙◌, ℕ, ◌≤◌, ◌-◌, ◌+◌, suc, List, [], ◌∷◌, length, Bool, true, false, Option, Some, None, inl, inr, refl, sym, ap, subst, arith, if◌then◌else◌}
+use Rattle.std.proofs.Common.{◌≡◌, ◌∙◌, ℕ, ◌≤◌, ◌-◌, ◌+◌, suc, ◌⊎◌, List, [], ◌∷◌, length, Bool, true, false, Option, Some, None, inl, inr, refl, sym, ap, subst, arith, if◌then◌else◌}
 use Rattle.std.specs.Prelude.{nat_lt, option_map, slice_get}
 use Rattle.std.proofs.lemmas.Bool.{ltb-false}
 use Rattle.std.proofs.lemmas.List.{length-map}
@@ -18,12 +18,15 @@ use Rattle.settle_law.specs.Rounds.{HasCurrent}
 use Rattle.settle_law.proofs.Rounds.{HasRole, role_at}
 use Rattle.settle_measure.specs.Measure.{faults_left}
 use Rattle.short_law.specs.Rounds.{size_of_world}
-use Rattle.drain_budget.specs.Budget.{enough_calls}
-use Rattle.round_count.specs.Rounds.{AreNodesApart, MaySettle}
-use Rattle.round_count.specs.Settling.{NoneProvisionsLate}
-use Rattle.round_count.proofs.Settling.{static_drains_settle}
+use Rattle.all_pay.specs.All.{ImportsAllow}
+use Rattle.drain_budget.specs.Budget.{AreAlwaysInOrder, enough_calls}
+use Rattle.drain_budget.specs.Rounds.{AreNodesApart, MaySettle}
+use Rattle.drain_budget.specs.Measured.{SharesWell}
+use Rattle.drain_budget.specs.Selections.{HasBudget, NoneProvisionsLate}
+use Rattle.drain_budget.proofs.Selections.{static_drains_settle}
+use Rattle.tries_law.proofs.Trying.{shared_drains_settle}
 use Rattle.printable_law.specs.Laws.{IsGivenRun}
-use Rattle.given_drains.proofs.Given.{given_imports_fit, given_runs_stay_in_order}
+use Rattle.replay_settles.proofs.Given.{given_imports_fit, given_runs_stay_in_order}
 use Rattle.script_text.specs.declared.script.Script.{Script}
 use Rattle.script_runs.specs.Budget.{at_most, faults_ahead, most_budget, raise_for, raised, size_of_all}
 use Rattle.script_runs.specs.Limits.{IsReadable}
@@ -107,12 +110,7 @@ module _ (script : Script) (first : ℕ) (option : Option ℕ) (before after : P
             (ap (λ roles. slice_get roles (suc (suc (suc (suc (suc p.0)))))) d.roles ∙ (get_mapped agent_of script.node_names p.0 ∙ ap (option_map agent_of) p.1))
 
     pub drain_settles : AllowsSettling script.setup before.past after.past (d.budget - before.drained) → IsSettled script.setup (world script.setup after.past)
-    drain_settles allows =
-        subst (λ h. IsSettled script.setup (world script.setup h)) (sym past_is)
-        (static_drains_settle script.setup d.drainers d.ran before.past d.past (d.budget - before.drained) (d.budget - (before.drained + d.made))
-        (record { none_lost = allows.none_lost; uids = given_imports_fit script.setup given.setup_given }) may_settle
-        (record { small = allows.small; few = few; enough = allows.enough }) (subst (IsRunOf script.setup) past_is run)
-        (given_runs_stay_in_order script.setup d.past (subst (IsGivenRun script.setup) past_is given)) (subst (NoneProvisionsLate script.setup) past_is allows.none_late) d.rounds)
+    drain_settles allows = subst (λ h. IsSettled script.setup (world script.setup h)) (sym past_is) (by allows.shared)
       where
         may_settle : MaySettle script.setup d.drainers before.past
         may_settle = record {
@@ -122,3 +120,22 @@ module _ (script : Script) (first : ℕ) (option : Option ℕ) (before after : P
           apart = subst AreNodesApart (sym d.roles) (nodes_apart script.node_names readable.order);
           served = served;
         }
+
+        allow : ImportsAllow script.setup
+        allow = record { none_lost = allows.none_lost; uids = given_imports_fit script.setup given.setup_given }
+
+        has : HasBudget script.setup d.drainers before.past (d.budget - before.drained)
+        has = record { small = allows.small; few = few; enough = allows.enough }
+
+        at_end : IsRunOf script.setup d.past
+        at_end = subst (IsRunOf script.setup) past_is run
+
+        order : AreAlwaysInOrder script.setup d.past
+        order = given_runs_stay_in_order script.setup d.past (subst (IsGivenRun script.setup) past_is given)
+
+        by : SharesWell (world script.setup before.past) ⊎ NoneProvisionsLate script.setup after.past → IsSettled script.setup (world script.setup d.past)
+        by (inl shared) =
+            shared_drains_settle script.setup d.drainers d.ran before.past d.past (d.budget - before.drained) (d.budget - (before.drained + d.made)) allow may_settle shared has at_end order d.rounds
+        by (inr none_late) =
+            static_drains_settle script.setup d.drainers d.ran before.past d.past (d.budget - before.drained) (d.budget - (before.drained + d.made)) allow may_settle has at_end order
+            (subst (NoneProvisionsLate script.setup) past_is none_late) d.rounds

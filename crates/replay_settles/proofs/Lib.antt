@@ -1,4 +1,6 @@
 pub mod Awake
 pub mod Drain
+pub mod Drains
+pub mod Given
 pub mod Names
 pub mod Settling

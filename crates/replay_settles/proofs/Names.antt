@@ -8,8 +8,8 @@ use Rattle.plain_data.specs.Rows.{IsAfter}
 use Rattle.model_laws.proofs.Lists.{none_some, one}
 use Rattle.worker_threads.specs.Drainers.{roles_for}
 use Rattle.script_runs.specs.Limits.{NamesAreInOrder}
-use Rattle.round_count.specs.Rounds.{AreNodesApart}
-use Rattle.round_count.proofs.Fresh.{agents_apart}
+use Rattle.drain_budget.specs.Rounds.{AreNodesApart}
+use Rattle.drain_budget.proofs.Fresh.{agents_apart}
 
 after_at : (name other : List ℕ) (names : List (List ℕ)) (place : ℕ) → IsAfter text_cmp (λ (n : List ℕ). n) name names → slice_get names place ≡ Some other → text_cmp name other ≡ Less
 after_at name other [] place after at = none_some at

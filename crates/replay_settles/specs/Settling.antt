@@ -1,6 +1,6 @@
 -- When the last drain of a script ends settled.
 -- A choice of this project.
-use Rattle.std.specs.Prelude.{ℕ, ◌≡◌, ◌≤◌, ◌-◌, Bool, true, false, List, [], ◌∷◌, Option, Some, slice_get, ⊤}
+use Rattle.std.specs.Prelude.{ℕ, ◌≡◌, ◌⊎◌, ◌≤◌, ◌-◌, Bool, true, false, List, [], ◌∷◌, Option, Some, slice_get, ⊤}
 use Rattle.call_types.specs.declared.entry.Entry.{Entry}
 use Rattle.call_types.specs.declared.setup.Setup.{Setup}
 use Rattle.binder_model.specs.Due.{IsSettled}
@@ -14,7 +14,8 @@ use Rattle.worker_threads.specs.Drainers.{agent_of, seats_for}
 use Rattle.short_law.specs.Rounds.{size_of_world}
 use Rattle.paid_law.specs.Guards.{NoneWasLost}
 use Rattle.drain_budget.specs.Budget.{IsSmallWorld, enough_calls}
-use Rattle.round_count.specs.Settling.{NoneProvisionsLate}
+use Rattle.drain_budget.specs.Measured.{SharesWell}
+use Rattle.drain_budget.specs.Selections.{NoneProvisionsLate}
 use Rattle.printable_law.specs.Laws.{IsGivenRun}
 use Rattle.script_lines.specs.declared.actors.Actor.TheVariants.{Agent}
 use Rattle.script_text.specs.declared.script.Line.{Line}
@@ -28,11 +29,11 @@ use Rattle.drain_law.specs.Naming.{NamesItsNodes}
 
 -- ---- what a drain needs
 
--- no claim was imported as Lost, and no class that ever stood both binds late and provisions. Where the last drain begins the world is
--- small, and so many calls are the stated budget for it
+-- no claim was imported as Lost. Where the last drain begins, each claim that two pods without a node name is completed or of a class that binds at once, or
+-- else no class that ever stood both binds late and provisions; the world is small there, and so many calls are the stated budget for it
 pub record AllowsSettling (setup : Setup) (before past : List Entry) (calls : ℕ) : Type 0 where
   pub none_lost : NoneWasLost setup
-  pub none_late : NoneProvisionsLate setup past
+  pub shared : SharesWell (world setup before) ⊎ NoneProvisionsLate setup past
   pub small : IsSmallWorld setup (world setup before)
   pub enough : enough_calls (size_of_world (world setup before)) (faults_left setup (world setup before).devices) ≤ calls
 

@@ -26,9 +26,9 @@ use Rattle.worker_threads.specs.Drainers.{agent_of, seats_for}
 use Rattle.epoch_law.specs.Epochs.{IsCurrent}
 use Rattle.settle_law.proofs.Rounds.{is_agent}
 use Rattle.script_runs.specs.Parts.{drain_roles}
-use Rattle.round_count.specs.Measured.{WaitingPodNames, is_immediate}
-use Rattle.volume_places.specs.Places.{count_before, has_size, those_in}
-use Rattle.settling_examples.specs.Ending.{AgentExamples, AllowanceExamples, BudgetExamples, ClassExamples, NamingExamples, NumberExamples, SharingExamples, class_of, faults_upto, one_node, pod_on, script_naming, setup_with, shared_rows, takes, three_volumes, world_with}
+use Rattle.kube_types.specs.VolumePlaces.{count_before, has_size, those_in}
+use Rattle.drain_budget.specs.Measured.{SharesWell, WaitingPodNames, is_immediate}
+use Rattle.settling_examples.specs.Ending.{AgentExamples, AllowanceExamples, BudgetExamples, CallExamples, ClassExamples, LineExamples, NamingExamples, NumberExamples, SharingExamples, class_of, faults_upto, one_node, pod_on, script_naming, setup_with, shared_rows, takes, three_volumes, world_with}
 
 abbrev is_agent_role : Role → Bool
 is_agent_role r = is_agent r.kind
@@ -177,14 +177,45 @@ agent_examples = record {
   overtaken = λ none. let same : 1 ≡ 2 = none 5 10 (codes "n") refl refl 1 refl in omega (arith, same);
 }
 
+-- ---- calls
+
+pub call_examples : CallExamples
+call_examples = record { nothing = refl; pair = refl; fault = refl; named = refl }
+
+-- ---- lines
+
+pub line_examples : LineExamples
+line_examples = record {
+  before_it = (refl, tt);
+  no_drain = tt;
+  behind_it = λ left. true≢false left.0;
+  between = λ left. true≢false left.0;
+}
+
 -- ---- allowances
 
 pub allowance_examples : AllowanceExamples
+unfolding imported_object leaves
 allowance_examples = record {
-  enough = record { none_lost = λ uid. refl; none_late = λ class stood late. none_some stood; small = omega arith; enough = omega arith };
+  enough = record { none_lost = λ uid. refl; shared = inr (λ class stood late. none_some stood); small = omega arith; enough = omega arith };
   too_little = λ a. let much = a.enough in omega (arith, much);
   with_a_fault = λ a. let much = a.enough in omega (arith, much);
+  late = record { none_lost = λ uid. refl; shared = inl none_waits; small = omega arith; enough = omega arith };
+  badly_shared = λ a. elim a.shared [
+    | inl shares ↦ elim (shares (key_named (codes "p")) (key_named (codes "q")) (codes "ns") (codes "c") _ (record { pod = _; there = refl; waits = refl; same = refl; names = inl refl })
+        (record { pod = _; there = refl; waits = refl; same = refl; names = inl refl }) two_keys refl) [
+          | inl done ↦ true≢false (sym done)
+          | inr at_once ↦ true≢false (sym at_once)
+        ]
+    | inr none ↦ true≢false (none (record (class_of true (codes "d")) { meta = imported_meta (class_of true (codes "d")).meta }) refl refl)
+  ];
 }
+  where
+    none_waits : SharesWell (world (setup_with [] (Class (class_of true (codes "d")) ∷ [])) [])
+    none_waits first second namespace name c a b differ e = elim (found_stands first (Pod a.pod) (world (setup_with [] (Class (class_of true (codes "d")) ∷ [])) []).store.rows a.there) [
+      | inl is ↦ cc
+      | inr more ↦ elim more [ ]
+    ]
 
 -- ---- numbers
 

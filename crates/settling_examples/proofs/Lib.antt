@@ -1,2 +1,4 @@
 pub mod Ending
 pub mod Lasting
+pub mod Near
+pub mod Rounds

@@ -1,5 +1,5 @@
--- The stated budget and the worlds that are small, the classes and shared claims of drains that end, the nodes and the agents of a
--- script, and the number of a volume: small cases.
+-- The stated budget and the worlds that are small, the classes and shared claims of drains that end, the nodes, the agents and the
+-- turn lines of a script, and the number of a volume: small cases.
 -- A choice of this project.
 use Rattle.std.specs.Prelude.{ℕ, ◌≡◌, zero, suc, Bool, true, false, List, [], ◌∷◌, Option, Some, None, codes}
 use Rattle.kube_types.specs.declared.parts.Policy.TheVariants as policies
@@ -18,14 +18,18 @@ use Rattle.call_types.specs.declared.setup.Setup.{Setup}
 use Rattle.binder_model.specs.Devices.{no_devices}
 use Rattle.binder_model.specs.Store.{first_moment}
 use Rattle.binder_model.specs.World.{World}
+use Rattle.script_lines.specs.declared.actors.Actor.TheVariants.{Agent}
+use Rattle.script_text.specs.declared.script.Line.{Line}
+use Rattle.script_text.specs.declared.script.Line.TheVariants.{Drain, Turn}
 use Rattle.script_text.specs.declared.script.Script.{Script}
 use Rattle.settle_measure.specs.Small.{completed, meta, open_claim, volume_of}
 use Rattle.drain_budget.specs.Budget.{IsSmallWorld, enough_calls}
-use Rattle.round_count.specs.Measured.{SharesWell}
-use Rattle.round_count.specs.Settling.{NoneProvisionsLate}
+use Rattle.drain_budget.specs.ShortRounds.{stated_calls}
+use Rattle.drain_budget.specs.Measured.{SharesWell}
+use Rattle.drain_budget.specs.Selections.{NoneProvisionsLate}
 use Rattle.drain_law.specs.Naming.{ArePodsOnNamed}
-use Rattle.volume_places.specs.Places.{IsNth, has_size}
-use Rattle.replay_settles.specs.Settling.{AllowsSettling, NoAgentIsStale}
+use Rattle.kube_types.specs.VolumePlaces.{IsNth, has_size}
+use Rattle.replay_settles.specs.Settling.{AllowsSettling, LeaveAgents, NoAgentIsStale}
 
 -- a world of these objects
 abbrev pub world_with : List Object → World
@@ -34,6 +38,10 @@ world_with rows = record { store = record { rows = rows; version = 9 }; moment =
 -- a setup that imports these objects, with these faults planned
 abbrev pub setup_with : List ℕ → List Object → Setup
 setup_with faults imports = record { pools = []; faults = faults; imports = imports }
+
+-- a pod of this name, on this node or none, that names the claim
+abbrev pub pod_on : List ℕ → List ℕ → PodData
+pod_on name node = record { meta = meta (codes "ns") name 5 []; claims = codes "c" ∷ []; node = node; extra = [] }
 
 -- ---- the budget
 
@@ -51,6 +59,16 @@ pub record BudgetExamples : Type 0 where
   pub few : IsSmallWorld (setup_with (faults_upto 508) []) (world_with (Claim open_claim ∷ Claim open_claim ∷ []))
   pub many : IsSmallWorld (setup_with (faults_upto 509) []) (world_with (Claim open_claim ∷ Claim open_claim ∷ [])) → ⊥
 
+-- ---- the calls of a round
+
+pub record CallExamples : Type 0 where
+  -- 256 for each of 16 where nothing stands, for each of 18 where two objects do, and for one more where a planned fault is ahead
+  pub nothing : stated_calls (setup_with [] []) (world_with []) ≡ 4096
+  pub pair : stated_calls (setup_with [] []) (world_with (Claim open_claim ∷ Claim open_claim ∷ [])) ≡ 4608
+  pub fault : stated_calls (setup_with (1 ∷ []) []) (world_with (Claim open_claim ∷ Claim open_claim ∷ [])) ≡ 4864
+  -- a pod counts as one, and for each claim that it names
+  pub named : stated_calls (setup_with [] []) (world_with (Pod (pod_on (codes "p") []) ∷ [])) ≡ 4608
+
 -- ---- classes, and claims that pods share
 
 -- a class with this binding mode and this provisioner
@@ -63,10 +81,6 @@ pub record ClassExamples : Type 0 where
   pub at_once : NoneProvisionsLate (setup_with [] (Class (class_of false (codes "d")) ∷ [])) []
   -- but not a class that provisions for a pod
   pub late : NoneProvisionsLate (setup_with [] (Class (class_of true (codes "d")) ∷ [])) [] → ⊥
-
--- a pod of this name, on this node or none, that names the claim
-abbrev pub pod_on : List ℕ → List ℕ → PodData
-pod_on name node = record { meta = meta (codes "ns") name 5 []; claims = codes "c" ∷ []; node = node; extra = [] }
 
 -- a class that waits for a pod or not, the claim, and two pods that name it, of which one is on this node or on none
 abbrev pub shared_rows : Bool → ClaimData → List ℕ → List Object
@@ -110,6 +124,20 @@ pub record AgentExamples : Type 0 where
   -- but not where another took the node after it
   pub overtaken : NoAgentIsStale one_node 5 (takes 4 2 ∷ takes 10 1 ∷ []) → ⊥
 
+-- ---- the turn lines of agents
+
+-- a call of the agent of the node n
+abbrev pub agent_turn : Line
+agent_turn = Turn (Agent (codes "n")) 1
+
+pub record LineExamples : Type 0 where
+  -- an agent has its turn before the first drain, or no line drains
+  pub before_it : LeaveAgents (agent_turn ∷ Drain ∷ Drain ∷ [])
+  pub no_drain : LeaveAgents (agent_turn ∷ [])
+  -- but not behind the first drain, whether or not another drain follows
+  pub behind_it : LeaveAgents (Drain ∷ agent_turn ∷ []) → ⊥
+  pub between : LeaveAgents (Drain ∷ agent_turn ∷ Drain ∷ []) → ⊥
+
 -- ---- what a drain needs to end settled
 
 pub record AllowanceExamples : Type 0 where
@@ -118,6 +146,9 @@ pub record AllowanceExamples : Type 0 where
   pub too_little : AllowsSettling (setup_with [] []) [] [] 4194303 → ⊥
   -- nor is it enough where a planned fault is ahead
   pub with_a_fault : AllowsSettling (setup_with (1 ∷ []) []) [] [] 4194304 → ⊥
+  -- a class may wait for a pod and provision, but no two pods that wait may then share an open claim of it
+  pub late : AllowsSettling (setup_with [] (Class (class_of true (codes "d")) ∷ [])) [] [] 4734976
+  pub badly_shared : AllowsSettling (setup_with [] (shared_rows true open_claim [])) [] [] 10000000 → ⊥
 
 -- ---- the number of a volume
 

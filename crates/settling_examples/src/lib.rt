@@ -1,11 +1,13 @@
-//! Computed examples of what lasts, of worlds that are alike, and of what a drain that ends is asked for.
+//! Computed examples of what lasts, of worlds that are alike or near, and of what a drain that ends is asked for.
 //!
 //! Promises: the cases of each function here, from `lasting_examples` on: it has nothing to do, and its contract has
 //! them. Not said: anything of other cases.
 #![tactic(auto)]
 
-ghost use Rattle.settling_examples.specs.Ending.{AgentExamples, AllowanceExamples, BudgetExamples, ClassExamples, NamingExamples, NumberExamples, SharingExamples};
+ghost use Rattle.settling_examples.specs.Ending.{AgentExamples, AllowanceExamples, BudgetExamples, CallExamples, ClassExamples, LineExamples, NamingExamples, NumberExamples, SharingExamples};
 ghost use Rattle.settling_examples.specs.Lasting.{AlikeExamples, LastingExamples};
+ghost use Rattle.settling_examples.specs.Near.{NearExamples};
+ghost use Rattle.settling_examples.specs.Rounds.{RoundExamples};
 
 /// Writes and calls that last, and some that do not.
 pub fn lasting_examples()
@@ -17,9 +19,24 @@ pub fn alike_examples()
     ensures { AlikeExamples }
 {}
 
+/// Worlds that are near, and some that are not.
+pub fn near_examples()
+    ensures { NearExamples }
+{}
+
 /// Stated budgets, and worlds that are small, and one that is not.
 pub fn budget_examples()
     ensures { BudgetExamples }
+{}
+
+/// How many calls a round may make, by what stands.
+pub fn call_examples()
+    ensures { CallExamples }
+{}
+
+/// Rounds that make no more calls, and one that makes one too many.
+pub fn round_examples()
+    ensures { RoundExamples }
 {}
 
 /// Classes of which none binds late and provisions, and one that does.
@@ -40,6 +57,11 @@ pub fn naming_examples()
 /// Agents of drains of which none is stale, and one that is.
 pub fn agent_examples()
     ensures { AgentExamples }
+{}
+
+/// Lines behind whose first drain no agent has a turn, and some behind which one has.
+pub fn line_examples()
+    ensures { LineExamples }
 {}
 
 /// Worlds and budgets with which a drain may end settled, and two with which it need not.

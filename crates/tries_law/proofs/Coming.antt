@@ -43,12 +43,12 @@ use Rattle.paid_law.proofs.Calls.{list_never, mounts_never, take_never, watch_ne
 use Rattle.tries_law.specs.Coming.{IsCallOf, IsDecidedIn, LastingAreDecided}
 
 -- what leads on leads on by one call more
-leads_on : (setup : Setup) (seat : ℕ) (kind : SeatKind) {h g : List Entry} {u v : Under} (next : Under) → Leads setup seat kind h u g v → under_after v (reply_to (effect setup (world setup g) kind v.call)) ≡ Some next → Leads setup seat kind h u (own_entry setup seat kind g v.call ∷ g) next
+pub leads_on : (setup : Setup) (seat : ℕ) (kind : SeatKind) {h g : List Entry} {u v : Under} (next : Under) → Leads setup seat kind h u g v → under_after v (reply_to (effect setup (world setup g) kind v.call)) ≡ Some next → Leads setup seat kind h u (own_entry setup seat kind g v.call ∷ g) next
 leads_on setup seat kind next Here follows = On next follows Here
 leads_on setup seat kind next (On n goes more) follows = On n goes (leads_on setup seat kind next more follows)
 
 -- what was decided gives a call
-decides_gives : (role : Role) (memory : Memory) (rows : List Object) (after : Work) (under : Option Under) (u : Under) (w : Work) → Decides role memory rows after under w → under ≡ Some u → GivesCall role memory rows u
+pub decides_gives : (role : Role) (memory : Memory) (rows : List Object) (after : Work) (under : Option Under) (u : Under) (w : Work) → Decides role memory rows after under w → under ≡ Some u → GivesCall role memory rows u
 decides_gives role memory rows after under u w (Nothing empty same none) e = none_some (sym none ∙ e)
 decides_gives role memory rows after under u w (Begins v old gives same some) e = subst (GivesCall role memory rows) (one v u (sym some ∙ e)) gives
 decides_gives role memory rows after under u w (Drops k first old none rest) e = decides_gives role memory rows after under u _ rest e

@@ -3,6 +3,7 @@ use Rattle.std.proofs.Common.{◌≡◌, ◌≢◌, ◌∙◌, ◌⊎◌, ℕ, �
 use Rattle.std.specs.Prelude.{is_some}
 use Rattle.kube_types.specs.declared.key.Key.{Key}
 use Rattle.kube_types.specs.declared.names.Due.{Due}
+use Rattle.kube_types.specs.declared.names.Due.TheVariants as dues
 use Rattle.kube_types.specs.declared.objects.Claim.{Claim as ClaimData}
 use Rattle.kube_types.specs.declared.objects.Object.{Object}
 use Rattle.kube_types.specs.declared.objects.Object.TheVariants.{Claim, Pod}
@@ -11,7 +12,7 @@ use Rattle.kube_types.specs.Keys.{row_at}
 use Rattle.call_types.specs.declared.entry.Entry.{Entry}
 use Rattle.call_types.specs.declared.request.SeatKind.TheVariants as seats
 use Rattle.call_types.specs.declared.setup.Setup.{Setup}
-use Rattle.binder_model.specs.Due.{claim_guard_due, or_due}
+use Rattle.binder_model.specs.Due.{claim_guard_due, or_due, provision_due}
 use Rattle.binder_model.specs.BinderDue.{claim_due}
 use Rattle.binder_model.specs.Promises.{IsRunOf}
 use Rattle.binder_model.specs.World.{effect, world}
@@ -32,7 +33,7 @@ use Rattle.drain_budget.specs.Budget.{AreAlwaysInOrder}
 use Rattle.near_law.proofs.Near.{claim_near, near_provisions}
 use Rattle.tries_law.specs.Deciding.{IsWithin}
 use Rattle.tries_law.specs.Quiet.{AreCached, IsQuietRound, OnlyPrepares}
-use Rattle.tries_law.specs.Taking.{HasDue, HasNone, IsGiven, IsWritten, TakenWereGiven}
+use Rattle.tries_law.specs.Taking.{HasNone, IsGiven, IsWritten, TakenWereGiven}
 use Rattle.tries_law.proofs.Coming.{lasting_are_decided}
 use Rattle.tries_law.proofs.Moving.{one_node_so}
 use Rattle.tries_law.proofs.Parts.{HasParts, parts_of}
@@ -90,10 +91,10 @@ abbrev is_pod : Object → Bool
 is_pod (Pod p) = true
 is_pod o = false
 
-none_due : (setup : Setup) (h : List Entry) (key : Key) (c : ClaimData) → OnlyPrepares setup (world setup h) → row_at key (world setup h).store.rows ≡ Some (Claim c) → HasDue setup (world setup h) c → ⊥
-none_due setup h key c only there due =
-    let z = some_due (claim_guard_due (world setup h).store.rows c) (claim_due (world setup h).store.rows c) due.action in
-    let p = only key (Claim c) z.0 there (z.1 ∙ ap (λ y. or_due (claim_guard_due (world setup h).store.rows c) (or_due (claim_due (world setup h).store.rows c) y)) (sym due.due)) in
+pub none_due : (setup : Setup) (h : List Entry) (key : Key) (c : ClaimData) (action : Due) → OnlyPrepares setup (world setup h) → row_at key (world setup h).store.rows ≡ Some (Claim c) → provision_due setup (world setup h) c ≡ Some action → ⊥
+none_due setup h key c action only there due =
+    let z = some_due (claim_guard_due (world setup h).store.rows c) (claim_due (world setup h).store.rows c) action in
+    let p = only key (Claim c) z.0 there (z.1 ∙ ap (λ y. or_due (claim_guard_due (world setup h).store.rows c) (or_due (claim_due (world setup h).store.rows c) y)) (sym due)) in
     true≢false (sym (ap is_pod p.is))
 
 -- ---- a quiet round
@@ -126,7 +127,7 @@ module _ (setup : Setup) (ds after : List Drainer) (h past : List Entry) (b left
   kind = ap (λ (r : Role). r.kind) p.scheduler
 
   -- where it has a node there ops takes it back, so something was due
-  was_due : has_key selected_node behind.claim.meta.annotations ≡ true → HasDue setup (world setup middle) behind.claim
+  was_due : has_key selected_node behind.claim.meta.annotations ≡ true → provision_due setup (world setup middle) behind.claim ≡ Some dues.ClearNode
   was_due had =
       let alike = tail_alike setup ds after h past b left q p in
       let s = stands_alike setup p.second.middle past key (Claim d) alike is in
@@ -142,8 +143,8 @@ module _ (setup : Setup) (ds after : List Drainer) (h past : List Entry) (b left
 
   other : has_key selected_node behind.claim.meta.annotations ≡ true → content_of (Claim before.claim) ≢ content_of (Claim behind.claim)
   other had same =
-      let due = was_due had in
-      none_due setup h key before.claim only before.there (record { action = due.action; due = near_provisions setup (world setup h) (world setup middle) before.claim behind.claim (near_first setup ds after h past b left q p cached) same ∙ due.due })
+      none_due setup h key before.claim dues.ClearNode only before.there
+      (near_provisions setup (world setup h) (world setup middle) before.claim behind.claim (near_first setup ds after h past b left q p cached) same ∙ was_due had)
 
   stands_at : (x : List Entry) → IsWithin h x middle → StandsThere setup key x
   stands_at x w =

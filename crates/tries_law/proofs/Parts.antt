@@ -28,7 +28,7 @@ pub record HasSlot (lets : Lets) (past : List Entry) (left : ℕ) (ds : List Dra
   pub runs : Runs lets drainer.seat ran.actor middle rest true (woken drainer.actor) h b
   pub round : IsRound lets past left behind middle rest later true
 
-abbrev IsAny : List Role → Type 0
+abbrev pub IsAny : List Role → Type 0
 IsAny [] = ⊥
 IsAny (role ∷ roles) = ⊤
 
@@ -59,11 +59,11 @@ pub record HasParts (lets : Lets) (past : List Entry) (left : ℕ) (ds : List Dr
   pub ops : second.drainer.actor.role ≡ of_kind seats.Ops
   pub others : roles_of second.behind ≡ roles_behind nodes
 
-abbrev role_or : Role → List Role → Role
+abbrev pub role_or : Role → List Role → Role
 role_or r [] = r
 role_or r (role ∷ roles) = role
 
-abbrev rest_of_roles : List Role → List Role
+abbrev pub rest_of_roles : List Role → List Role
 rest_of_roles [] = []
 rest_of_roles (role ∷ roles) = roles
 

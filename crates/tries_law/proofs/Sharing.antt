@@ -56,7 +56,7 @@ use Rattle.paid_law.proofs.Slots.{older_run}
 use Rattle.write_count.proofs.Nodes.{IsMoved}
 use Rattle.write_count.proofs.Runs.{IsCalled, run_moves}
 use Rattle.write_count.proofs.Slots.{ComesTo, Leaves, Wrote, comes_to}
-use Rattle.round_count.specs.Measured.{SharesWell, WaitingPodNames, is_immediate}
+use Rattle.drain_budget.specs.Measured.{SharesWell, WaitingPodNames, is_immediate}
 use Rattle.tries_law.specs.Sharing.{KeepsSharing, RoundsShareWell, StoodOpen, WaitedSo}
 use Rattle.tries_law.proofs.Moving.{Rewrites, rewrites}
 use Rattle.tries_law.proofs.Standing.{creates, makes, no_edit}

@@ -1,10 +1,9 @@
--- A claim from which ops takes a node back had something due when the slot began.
+-- A claim from which ops takes a node back was to lose it when the slot began.
 use Rattle.std.proofs.Common.{◌≡◌, ◌≢◌, ◌∙◌, ◌⊎◌, ℕ, ◌≤◌, List, [], ◌∷◌, ◌++◌, append_assoc, Bool, true, false, true≢false, Option, Some, None, inl, inr, refl, sym, ap, subst, if◌then◌else◌}
 use Rattle.std.specs.Prelude.{is_some, ⊤}
 use Rattle.plain_data.specs.Pairs.{Pair}
 use Rattle.kube_types.specs.declared.key.Key.{Key}
 use Rattle.kube_types.specs.declared.uid.Uid.{Uid}
-use Rattle.kube_types.specs.declared.names.Due.{Due}
 use Rattle.kube_types.specs.declared.names.Due.TheVariants as dues
 use Rattle.kube_types.specs.declared.objects.Class.{Class as ClassData}
 use Rattle.kube_types.specs.declared.objects.Claim.{Claim as ClaimData}
@@ -56,7 +55,7 @@ use Rattle.near_law.proofs.Near.{claim_near, near_provisions}
 use Rattle.tries_law.specs.Coming.{IsCallOf}
 use Rattle.tries_law.specs.Deciding.{IsWithin}
 use Rattle.tries_law.specs.Moving.{MovesNodes, StoodSo}
-use Rattle.tries_law.specs.Taking.{HasDue, TakenWereDue}
+use Rattle.tries_law.specs.Taking.{TakenWereDue}
 use Rattle.tries_law.proofs.Coming.{lasting_are_decided}
 use Rattle.tries_law.proofs.Leading.{HasMore, goes_on, leads_keep, leads_more}
 use Rattle.tries_law.proofs.Moving.{one_node_so}
@@ -113,8 +112,7 @@ is_asking (steps.Provisions labels) = true
 is_asking step = false
 
 record IsTaken (setup : Setup) (h : List Entry) (op : ProvisionOp) : Type 0 where
-  action : Due
-  due : due_at setup (world setup h) op op.step ≡ Some action
+  due : due_at setup (world setup h) op op.step ≡ Some dues.ClearNode
   has : HasNode op.claim
 
 module _ (setup : Setup) (seat : ℕ) (kind : SeatKind) (controller : is_user kind ≡ false) (h : List Entry) (c : ClaimData) (uid : Uid) (x : ClassData) where
@@ -128,7 +126,6 @@ module _ (setup : Setup) (seat : ℕ) (kind : SeatKind) (controller : is_user ki
 
     lacking : is_served setup (world setup h).devices c uid x labels ≡ false → x.delayed ≡ true → IsTaken setup h (at_step c uid x (steps.Provisions labels))
     lacking served late = record {
-      action = dues.ClearNode;
       due = λ i. if served i then provision_if_new (world setup h).store.rows uid else if late i then Some dues.ClearNode else None;
       has = elim chosen [ inl any ↦ absurd (true≢false (sym late ∙ any.0)) | inr has ↦ has ];
     }
@@ -156,7 +153,6 @@ module _ (setup : Setup) (seat : ℕ) (kind : SeatKind) (controller : is_user ki
   unfolding provision_call
   by_step (steps.Provisions labels) u v g chosen task call leads clear = asks labels chosen u task g v (sym (one _ u.call call)) leads clear
   by_step steps.ClearsNode u v g chosen task call leads clear = record {
-    action = dues.ClearNode;
     due = refl;
     has = elim chosen [ inl any ↦ absurd (true≢false (sym (ap is_asking any.1))) | inr has ↦ has ];
   }
@@ -165,7 +161,7 @@ module _ (setup : Setup) (seat : ℕ) (kind : SeatKind) (controller : is_user ki
   by_step steps.Parked u v g chosen task call leads clear = none_some call
 
 record WasTaken (setup : Setup) (h : List Entry) (c : ClaimData) : Type 0 where
-  due : HasDue setup (world setup h) c
+  due : provision_due setup (world setup h) c ≡ Some dues.ClearNode
   has : HasNode c
 
 -- of the claim as the store has it
@@ -179,7 +175,7 @@ was_taken setup seat kind h g c op u v controller on task call leads clear = by 
     by (BeginsOne uid x step e chosen) =
         let task_is : u.task ≡ tasks.Provision (at_step c uid x step) = task ∙ ap tasks.Provision (sym (one (at_step c uid x step) op (sym e ∙ on))) in
         let t = by_step setup seat kind controller h c uid x step u v g chosen task_is (sym (ap task_call task_is) ∙ call) leads clear in
-        record { due = record { action = t.action; due = sym (begins_what_is_due setup (world setup h) c) ∙ (ap (due_of_provision setup (world setup h)) e ∙ t.due) }; has = t.has }
+        record { due = sym (begins_what_is_due setup (world setup h) c) ∙ (ap (due_of_provision setup (world setup h)) e ∙ t.due); has = t.has }
 
 -- ---- the entry that takes it back
 
@@ -226,6 +222,9 @@ module _ (setup : Setup) (key : Key) (h past : List Entry) (at : (x : List Entry
 module _ (setup : Setup) (seat : ℕ) (old after : ActorState) (h past : List Entry) (b left : ℕ) (idle : Bool) (key : Key) (c d : ClaimData) (kind : old.role.kind ≡ seats.Ops) (run : IsRunOf setup past) (order : AreAlwaysInOrder setup past) (under : old.under ≡ None)
     (runs : Runs all_pass seat after past left idle (woken old) h b) (paid : HavePaid setup h past) (le : work_left setup (world setup h) ≤ work_left setup (world setup past)) (was : row_at key (world setup h).store.rows ≡ Some (Claim c)) (is : row_at key (world setup past).store.rows ≡ Some (Claim d))
     (had : has_key selected_node c.meta.annotations ≡ true) (none : has_key selected_node d.meta.annotations ≡ false) where
+  abbrev ToLose : Type 0
+  ToLose = provision_due setup (world setup h) c ≡ Some dues.ClearNode
+
   kinds : HaveKind seats.Ops h past
   kinds = run_kinds all_pass seat seats.Ops after past left idle (woken old) h b runs kind
 
@@ -295,16 +294,16 @@ module _ (setup : Setup) (seat : ℕ) (old after : ActorState) (h past : List En
     there_now : row_at key (world setup called.decided.point).store.rows ≡ Some (Claim x)
     there_now = ap (λ k. row_at k (world setup called.decided.point).store.rows) (sym same_key ∙ row_at_key called.decided.first.key (Claim x) (world setup called.decided.point).store.rows there) ∙ there
 
-    then_due : WasTaken setup called.decided.point x → HasDue setup (world setup h) c
+    then_due : WasTaken setup called.decided.point x → ToLose
     then_due t = by (moved.claims key x there_now)
       where
-        by : StoodSo (world setup h) key x ⊎ (has_key selected_node x.meta.annotations ≡ false) → HasDue setup (world setup h) c
+        by : StoodSo (world setup h) key x ⊎ (has_key selected_node x.meta.annotations ≡ false) → ToLose
         by (inl s) =
-            let due_then = near_provisions setup (world setup h) (world setup called.decided.point) s.claim x moved.near s.same ∙ t.due.due in
-            record { action = t.due.action; due = ap (provision_due setup (world setup h)) (ap (claim_in c) (sym was ∙ s.there)) ∙ due_then }
+            let due_then = near_provisions setup (world setup h) (world setup called.decided.point) s.claim x moved.near s.same ∙ t.due in
+            ap (provision_due setup (world setup h)) (ap (claim_in c) (sym was ∙ s.there)) ∙ due_then
         by (inr lacks) = absurd (true≢false (sym t.has ∙ lacks))
 
-  on_claim : (x : ClaimData) → row_at called.decided.first.key (world setup called.decided.point).store.rows ≡ Some (Claim x) → HasDue setup (world setup h) c
+  on_claim : (x : ClaimData) → row_at called.decided.first.key (world setup called.decided.point).store.rows ≡ Some (Claim x) → ToLose
   on_claim x there =
       let i = called.decided in
       let f = begins_on setup seat old.role kind i.first.key i.state i.point i.sees i.first refl i.gives x there in
@@ -315,14 +314,14 @@ module _ (setup : Setup) (seat : ℕ) (old after : ActorState) (h past : List En
         | inr clear ↦ then_due x there clear.1 (was_taken setup seat old.role.kind i.point g x f.0 i.first called.under (ap is_user kind) f.1.0 f.1.1 i.gives.call i.leads clear.1)
       ]
 
-  on_volume : (v : VolumeData) → row_at called.decided.first.key (world setup called.decided.point).store.rows ≡ Some (Volume v) → HasDue setup (world setup h) c
+  on_volume : (v : VolumeData) → row_at called.decided.first.key (world setup called.decided.point).store.rows ≡ Some (Volume v) → ToLose
   on_volume v there =
       let i = called.decided in
       let begun_ = erases_it setup seat old.role kind i.first.key i.state i.point i.sees i.first refl i.gives v there in
       worthless (erases_worth called.under (leads_keep setup seat old.role.kind ErasesIt erases_on i.leads begun_))
 
-  was_due : HasDue setup (world setup h) c
-  was_due =
+  to_lose : ToLose
+  to_lose =
       let i = called.decided in
       elim (decides_on setup seat old.role kind i.first.key i.state i.point i.sees i.first refl i.gives) [
         | inl x ↦ on_claim x.0 x.1
@@ -330,4 +329,4 @@ module _ (setup : Setup) (seat : ℕ) (old after : ActorState) (h past : List En
       ]
 
 pub taken_were_due : TakenWereDue
-taken_were_due setup seat old after h past b left idle key c d kind run order under runs paid le was is had none = was_due setup seat old after h past b left idle key c d kind run order under runs paid le was is had none
+taken_were_due setup seat old after h past b left idle key c d kind run order under runs paid le was is had none = to_lose setup seat old after h past b left idle key c d kind run order under runs paid le was is had none

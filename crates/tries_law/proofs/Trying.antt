@@ -1,4 +1,4 @@
--- Rounds that leave as much to do are few, where each tries one node less.
+-- Rounds that leave as much to do are few, since each tries one node less.
 use Rattle.std.proofs.Common.{◌≡◌, ◌∙◌, ◌⊎◌, ℕ, zero, suc, ◌+◌, ◌≤◌, List, [], ◌∷◌, ◌++◌, append_assoc, true, false, Option, Some, inl, inr, refl, sym, ap, subst, arith}
 use Rattle.std.specs.Prelude.{length, option_map, slice_get}
 use Rattle.kube_types.specs.declared.key.Key.{Key}
@@ -39,15 +39,19 @@ use Rattle.paid_law.proofs.Slots.{older_run}
 use Rattle.all_pay.specs.All.{ImportsAllow}
 use Rattle.all_pay.proofs.Rounds.{round_paid}
 use Rattle.drain_budget.specs.Budget.{AreAlwaysInOrder}
-use Rattle.round_count.specs.Measured.{AreFew, AreQuiet, NoRound, OneMore, SharesWell}
-use Rattle.round_count.specs.Rounds.{MaySettle}
-use Rattle.round_count.proofs.Counting.{settles_next}
-use Rattle.round_count.proofs.Measured.{measured_drains_settle}
+use Rattle.drain_budget.specs.Measured.{AreFew, AreQuiet, NoRound, OneMore, SharesWell}
+use Rattle.drain_budget.specs.Rounds.{MaySettle}
+use Rattle.drain_budget.proofs.Counting.{settles_next}
 use Rattle.near_law.specs.Near.{AreNear}
 use Rattle.near_law.proofs.Near.{back_near, near_prepares, near_tries, pod_near, prepare_due, waiting_due}
 use Rattle.tries_law.specs.Deciding.{IsWithin}
 use Rattle.tries_law.specs.Quiet.{AreCached, IsQuietRound, OnlyPrepares}
-use Rattle.tries_law.specs.Trying.{IsTried, SearchesGoOn, SharedDrainsFollow, TriesFollow, WaitingAreTried, WasTried}
+use Rattle.tries_law.specs.Waiting.{IsTried, WaitingAreTried, WasTried}
+use Rattle.tries_law.specs.Going.{SearchesGoOn}
+use Rattle.tries_law.specs.Trying.{QuietRoundsAreFew, SharedDrainsSettle}
+use Rattle.tries_law.proofs.Waiting.{waiting_are_tried}
+use Rattle.drain_budget.proofs.Measured.{measured_drains_settle}
+use Rattle.tries_law.proofs.Going.{searches_go_on}
 use Rattle.tries_law.proofs.Caching.{rounds_cache}
 use Rattle.tries_law.proofs.Counting.{all_in_turn, at_most, few_nodes, mapped_length, one_tried, roles_have, tries_there, turn_length}
 use Rattle.tries_law.proofs.Moving.{in_order_before}
@@ -142,12 +146,9 @@ record HasTried (setup : Setup) (after : List Drainer) (past : List Entry) (key 
   quiet : IsQuietRound setup ds after h past b left
   cached : AreCached setup ds h
   only : OnlyPrepares setup (world setup h)
-  shares : SharesWell (world setup h)
-  from : Option (List ℕ)
-  node : NodeData
-  tried : IsTried setup ds h past key from node
+  was : WasTried setup ds after h past b left key
   tries : ℕ
-  are : TriesLeft setup (world setup past) p (Some node.meta.name) tries
+  are : TriesLeft setup (world setup past) p (Some was.node.meta.name) tries
   few : tries + rounds ≤ 9
 
 -- how far the rounds have come
@@ -174,7 +175,7 @@ module _ (waiting : WaitingAreTried) (go_on : SearchesGoOn) (setup : Setup) (all
         same_or_more (suc zero) = inl (omega arith)
         same_or_more (suc (suc n)) = inr (omega arith)
 
-        done : (t : WasTried setup ds h past key) (k : ℕ) → TriesLeft setup (world setup t.tried.point) t.tried.pod t.from k → k + before ≤ 9 → ⊥
+        done : (t : WasTried setup ds after h past b left key) (k : ℕ) → TriesLeft setup (world setup t.tried.point) t.tried.pod t.from k → k + before ≤ 9 → ⊥
         done t k tries few =
             let o = one_behind setup ds after h past b left quiet key p t.from t.node k there open_ due t.tried tries in
             let less = o.less in
@@ -186,17 +187,14 @@ module _ (waiting : WaitingAreTried) (go_on : SearchesGoOn) (setup : Setup) (all
               quiet = quiet;
               cached = gone.cached;
               only = gone.only some;
-              shares = gone.shares;
-              from = t.from;
-              node = t.node;
-              tried = t.tried;
+              was = t;
               tries = o.tries;
               are = o.are;
               few = omega (arith, less, few);
             })
 
         -- the first time each node may be left
-        first_time : before ≤ 1 → (t : WasTried setup ds h past key) (k : ℕ) → TriesLeft setup (world setup t.tried.point) t.tried.pod t.from k → ⊥
+        first_time : before ≤ 1 → (t : WasTried setup ds after h past b left key) (k : ℕ) → TriesLeft setup (world setup t.tried.point) t.tried.pod t.from k → ⊥
         first_time low t k tries =
             let most = tries_are_few setup (world setup t.tried.point) t.tried.pod (in_turn t.from (nodes_of (world setup t.tried.point).store.rows)) k tries in
             let turn = turn_length t.from (nodes_of (world setup t.tried.point).store.rows) in
@@ -204,14 +202,14 @@ module _ (waiting : WaitingAreTried) (go_on : SearchesGoOn) (setup : Setup) (all
             let nodes = nodes_few setup ds h gone.may gone.small in
             done t k tries (omega (arith, most, turn, there_, nodes, low))
 
-        by : (before ≤ 1) ⊎ (2 ≤ before) → WasTried setup ds h past key → ⊥
+        by : (before ≤ 1) ⊎ (2 ≤ before) → WasTried setup ds after h past b left key → ⊥
         by (inl low) t = tries_there setup (world setup t.tried.point) t.tried.pod (in_turn t.from (nodes_of (world setup t.tried.point).store.rows)) (first_time low t)
         by (inr high) t = gone.tried high key t.pod t.there t.waits t.due (λ was.
-            let behind : t.from ≡ Some was.node.meta.name = go_on setup was.ds ds after was.h h past was.b was.left b left key t.pod was.from t.from was.node t.node was.quiet quiet was.cached was.only was.shares t.there t.waits t.due was.tried t.tried in
+            let behind : t.from ≡ Some was.was.node.meta.name = go_on setup was.ds ds after was.h h past was.b was.left b left key t.pod was.quiet quiet was.cached was.only gone.cached t.there t.waits t.due was.was t in
             let near = point_near setup ds after h past b left quiet t.tried.point t.tried.within in
             let n = pod_near (world setup h) (world setup t.tried.point) key t.tried.pod near t.tried.stands in
             let pod : content_of (Pod t.pod) ≡ content_of (Pod t.tried.pod) = ap content_of (one (Pod t.pod) (Pod n.pod) (sym t.there ∙ n.there)) ∙ n.same in
-            let tries = near_tries setup (world setup h) (world setup t.tried.point) t.pod t.tried.pod (Some was.node.meta.name) was.tries near pod was.are in
+            let tries = near_tries setup (world setup h) (world setup t.tried.point) t.pod t.tried.pod (Some was.was.node.meta.name) was.tries near pod was.are in
             let few = was.few in
             done t was.tries (subst (λ f. TriesLeft setup (world setup t.tried.point) t.tried.pod f was.tries) (sym behind) tries) (omega (arith, few)))
 
@@ -259,8 +257,8 @@ module _ (waiting : WaitingAreTried) (go_on : SearchesGoOn) (setup : Setup) (all
             let prepare = subst (λ (x : Object × Due). IsDue setup (world setup middle) x.0 (Some x.1)) (λ i. (o.is i, o.prepares i)) due.due in
             let can = (prepare_due setup (world setup middle) o.pod (step_of (world setup middle).store.rows o.pod) (waiting_due setup (world setup middle) o.pod (Some dues.Prepare) o.waits prepare)).1 in
             gone.tried high first.0 o.pod there o.waits prepare (λ was.
-            let in_turn_ = all_in_turn (Some was.node.meta.name) can.node (nodes_of (world setup middle).store.rows) (in_nodes can.node (world setup middle).store.rows (found_stands (node_key can.node.meta.name) (Node can.node) (world setup middle).store.rows can.there)) in
-            let some = one_tried setup (world setup middle) o.pod (in_turn (Some was.node.meta.name) (nodes_of (world setup middle).store.rows)) can.node was.tries in_turn_ (record { shares = can.shares; serves = can.serves; given_is = can.given }) was.are in
+            let in_turn_ = all_in_turn (Some was.was.node.meta.name) can.node (nodes_of (world setup middle).store.rows) (in_nodes can.node (world setup middle).store.rows (found_stands (node_key can.node.meta.name) (Node can.node) (world setup middle).store.rows can.there)) in
+            let some = one_tried setup (world setup middle) o.pod (in_turn (Some was.was.node.meta.name) (nodes_of (world setup middle).store.rows)) can.node was.tries in_turn_ (record { shares = can.shares; serves = can.serves; given_is = can.given }) was.are in
             let few = was.few in
             more (omega (arith, some, few, count)))
 
@@ -336,12 +334,12 @@ module _ (waiting : WaitingAreTried) (go_on : SearchesGoOn) (setup : Setup) (all
           let count = f.count in
           omega (arith, few, count)
 
-pub tries_follow : TriesFollow
-tries_follow waiting go_on setup = record {
-  first = λ ds h allow at small shares. from_start waiting go_on setup allow ds h at small shares;
-  next = λ ds after h past b left allow at small run round shares. behind_round waiting go_on setup allow ds after h past b left at small run round shares;
+pub quiet_rounds_are_few : QuietRoundsAreFew
+quiet_rounds_are_few setup = record {
+  first = λ ds h allow at small shares. from_start waiting_are_tried searches_go_on setup allow ds h at small shares;
+  next = λ ds after h past b left allow at small run round shares. behind_round waiting_are_tried searches_go_on setup allow ds after h past b left at small run round shares;
   shares = λ ds after h past b left at run round shares. rounds_share_well setup all_pass ds after h past b left true at.may.stand.roles run round shares;
 }
 
-pub shared_drains_follow : SharedDrainsFollow
-shared_drains_follow waiting go_on setup ds after h past b left allow at shares has run order drained = measured_drains_settle setup (tries_follow waiting go_on setup) ds after h past b left allow at shares has run order drained
+pub shared_drains_settle : SharedDrainsSettle
+shared_drains_settle setup ds after h past b left allow at shares has run order drained = measured_drains_settle setup (quiet_rounds_are_few setup) ds after h past b left allow at shares has run order drained

@@ -1,7 +1,9 @@
 pub mod Coming
 pub mod Deciding
+pub mod Going
 pub mod Moving
 pub mod Quiet
 pub mod Sharing
 pub mod Taking
 pub mod Trying
+pub mod Waiting

@@ -24,7 +24,7 @@ use Rattle.worker_threads.specs.declared.drainers.Drainer.{Drainer}
 use Rattle.worker_threads.specs.Rounds.{IsRound, all_pass}
 use Rattle.all_pay.specs.All.{ImportsAllow}
 use Rattle.drain_budget.specs.Budget.{AreAlwaysInOrder}
-use Rattle.round_count.specs.Rounds.{MaySettle}
+use Rattle.drain_budget.specs.Rounds.{MaySettle}
 use Rattle.near_law.specs.Near.{AreNear}
 
 -- such an actor decides keys of this kind

@@ -15,7 +15,7 @@ use Rattle.binder_model.specs.World.{World, world}
 use Rattle.worker_threads.specs.declared.drainers.Drainer.{Drainer}
 use Rattle.worker_threads.specs.Drainers.{AreRoles, roles_of}
 use Rattle.worker_threads.specs.Rounds.{IsRound, Lets}
-use Rattle.round_count.specs.Measured.{SharesWell}
+use Rattle.drain_budget.specs.Measured.{SharesWell}
 
 -- the pod waited there too, with the same claims
 pub record WaitedSo (w : World) (key : Key) (p : PodData) : Type 0 where

@@ -1,8 +1,8 @@
--- A claim from which ops takes a node back in a slot had something due when the slot began, with the node that it had then.
+-- A claim from which ops takes a node back in a slot was to lose it when the slot began.
 -- Source: `rescheduleProvisioning` of `pv_controller.go`, which takes a node that cannot serve the claim back.
 use Rattle.std.specs.Prelude.{ℕ, ◌≡◌, ◌≢◌, ◌⊎◌, ◌≤◌, ◌++◌, ◌∷◌, Bool, true, false, List, None, Some, slice_get}
 use Rattle.kube_types.specs.declared.key.Key.{Key}
-use Rattle.kube_types.specs.declared.names.Due.{Due}
+use Rattle.kube_types.specs.declared.names.Due.TheVariants as dues
 use Rattle.kube_types.specs.declared.objects.Claim.{Claim as ClaimData}
 use Rattle.kube_types.specs.declared.objects.Object.TheVariants.{Claim}
 use Rattle.kube_types.specs.Bindings.{has_key, selected_node}
@@ -12,7 +12,7 @@ use Rattle.call_types.specs.declared.request.SeatKind.TheVariants as seats
 use Rattle.call_types.specs.declared.setup.Setup.{Setup}
 use Rattle.binder_model.specs.Due.{provision_due}
 use Rattle.binder_model.specs.Promises.{IsRunOf}
-use Rattle.binder_model.specs.World.{World, world}
+use Rattle.binder_model.specs.World.{world}
 use Rattle.settle_measure.specs.Measure.{work_left}
 use Rattle.worker_core.specs.Absorbs.{woken}
 use Rattle.worker_core.specs.States.{ActorState}
@@ -25,17 +25,12 @@ use Rattle.tries_law.specs.Coming.{IsCallOf}
 use Rattle.tries_law.specs.Deciding.{IsWithin}
 use Rattle.tries_law.specs.Quiet.{AreCached, IsQuietRound, OnlyPrepares}
 
--- the provisioner has something to do for the claim
-pub record HasDue (setup : Setup) (w : World) (c : ClaimData) : Type 0 where
-  pub action : Due
-  pub due : provision_due setup w c ≡ Some action
-
--- so it is with each claim that has a node when a slot of ops begins at rest, and none when it ends, where it leaves as much to do
+-- ClearNode is due for each claim that has a node when a slot of ops begins at rest, and none when it ends, where it leaves as much to do
 abbrev pub TakenWereDue : Type 0
 TakenWereDue =
     (setup : Setup) (seat : ℕ) (old after : ActorState) (h past : List Entry) (b left : ℕ) (idle : Bool) (key : Key) (c d : ClaimData) → old.role.kind ≡ seats.Ops → IsRunOf setup past → AreAlwaysInOrder setup past → old.under ≡ None
     → Runs all_pass seat after past left idle (woken old) h b → HavePaid setup h past → work_left setup (world setup h) ≤ work_left setup (world setup past) → row_at key (world setup h).store.rows ≡ Some (Claim c) → row_at key (world setup past).store.rows ≡ Some (Claim d)
-    → has_key selected_node c.meta.annotations ≡ true → has_key selected_node d.meta.annotations ≡ false → HasDue setup (world setup h) c
+    → has_key selected_node c.meta.annotations ≡ true → has_key selected_node d.meta.annotations ≡ false → provision_due setup (world setup h) c ≡ Some dues.ClearNode
 
 -- the first actor of the round, in its slot up to here
 pub record IsFirstSlot (ds : List Drainer) (h middle : List Entry) (first : Drainer) : Type 0 where

@@ -216,6 +216,10 @@ impl Lookup for Store {
         self.of_kind(kind).len()
     }
 
+    fn of_kind(&self, kind: Kind) -> &[Object] {
+        objects_of(&self.rows, self.starts, kind)
+    }
+
     fn at(&self, kind: Kind, place: usize) -> Option<&Object> {
         self.of_kind(kind).get(place)
     }

@@ -1,5 +1,5 @@
 -- Candidates among rows, and the best of those that a list of an index holds.
-use Rattle.std.proofs.Common.{ℕ, zero, suc, ◌≡◌, ◌≢◌, ◌≤◌, ◌<◌, ◌+◌, ◌⊎◌, inl, inr, Bool, true, false, true≢false, List, [], ◌∷◌, length, get_or, filter, cond, Option, Some, None, IfSome, IfNone, slice_get, arith, ◌∙◌, refl, sym, ap, subst}
+use Rattle.std.proofs.Common.{ℕ, zero, suc, ◌≡◌, ◌≢◌, ◌≤◌, ◌<◌, ◌+◌, ◌⊎◌, inl, inr, Bool, true, false, true≢false, List, [], ◌∷◌, length, get_or, Option, Some, None, IfSome, IfNone, slice_get, arith, ◌∙◌, refl, sym, ap, subst}
 use Rattle.std.specs.List.{AllWithin, Contains}
 use Rattle.std.specs.Cmp.{IsTotalOrder}
 use Rattle.std.specs.declared.cmp.Ordering.{Ordering}
@@ -23,8 +23,9 @@ use Rattle.binder_model.specs.Matching.{IsCandidate, eligible, match_cmp}
 use Rattle.kube_types.specs.VolumeIndex.{volumes_in}
 use Rattle.kube_types.specs.VolumeOrders.{AreInOrder}
 use Rattle.volume_match.specs.Steps.Choices.{AreOf, HasNone, IsBestOfAt, IsUnfit}
-use Rattle.kube_types.proofs.HeldValues.{after_has, held_filter, nothing, split}
+use Rattle.kube_types.proofs.HeldValues.{after_has, held_at, held_filter, nothing, split}
 use Rattle.kube_types.proofs.IndexRows.{held_volume, volume_held}
+use Rattle.kube_types.proofs.RowPlaces.{rising_filter}
 
 pub below_or_from : (k n : ℕ) → (k < n) ⊎ (n ≤ k)
 below_or_from zero zero = inr (omega arith)
@@ -39,9 +40,6 @@ module _ {X : Type 0} where
   -- what was read at a place stands there
   pub at_place : (xs : List X) (i : ℕ) (v r : X) → v ≡ r → r ≡ get_or xs i r → v ≡ get_or xs i v
   at_place xs i v r e is = e ∙ is ∙ ap (get_or xs i) (sym e)
-
-  pub held_at : (xs : List X) (k : ℕ) (x : X) → slice_get xs k ≡ Some x → Contains xs x
-  held_at xs k x e = (k, slice_get_within xs k x e, get_or_from_slice_get xs k x x e)
 
 module _ {K X : Type 0} {cmp : K → K → Ordering} (o : IsTotalOrder cmp) (key : X → K) where
   -- what rows hold is found under its key
@@ -64,22 +62,6 @@ module _ {K X : Type 0} {cmp : K → K → Ordering} (o : IsTotalOrder cmp) (key
   rows_at (y ∷ ys) zero (suc j) d r lt within = after_at y ys j d r.0 (omega arith)
   rows_at (y ∷ ys) (suc i) zero d r lt within = absurd (omega arith)
   rows_at (y ∷ ys) (suc i) (suc j) d r lt within = rows_at ys i j d r.1 (omega arith) (omega arith)
-
-  after_filter : (p : X → Bool) (y : X) (xs : List X) → IsAfter cmp key y xs → IsAfter cmp key y (filter p xs)
-  after_filter p y [] a = tt
-  after_filter p y (z ∷ zs) a = by (p z) (after_filter p y zs a.1)
-    where
-      by : (b : Bool) → IsAfter cmp key y (filter p zs) → IsAfter cmp key y (cond b (z ∷ filter p zs) (filter p zs))
-      by true rest = (a.0, rest)
-      by false rest = rest
-
-  pub rising_filter : (p : X → Bool) (xs : List X) → IsRising cmp key xs → IsRising cmp key (filter p xs)
-  rising_filter p [] r = tt
-  rising_filter p (y ∷ ys) r = by (p y) (rising_filter p ys r.1)
-    where
-      by : (b : Bool) → IsRising cmp key (filter p ys) → IsRising cmp key (cond b (y ∷ filter p ys) (filter p ys))
-      by true rest = (after_filter p y ys r.0, rest)
-      by false rest = rest
 
   -- a row has one place
   less_itself : (x : X) → cmp (key x) (key x) ≡ Less → ⊥

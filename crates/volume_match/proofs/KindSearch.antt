@@ -1,36 +1,17 @@
 -- What a search by halves finds among the objects of a kind.
-use Rattle.std.proofs.Common.{ℕ, ◌≡◌, ◌<◌, Bool, true, false, List, [], ◌∷◌, length, cond, filter, Option, Some, None, Err, slice_get, get_or, refl, sym, ◌∙◌, ap}
+use Rattle.std.proofs.Common.{ℕ, ◌≡◌, ◌<◌, true, List, length, Option, Some, None, Err, slice_get, get_or, refl, sym, ◌∙◌, ap}
 use Rattle.std.specs.declared.cmp.Ordering.{Ordering}
 use Rattle.std.specs.declared.cmp.Ordering.TheVariants.{Equal}
 use Rattle.std.specs.Ordering.{is_eq}
 use Rattle.std.proofs.lemmas.Option.{slice_get-get_or}
-use Rattle.plain_data.specs.Rows.{IsAfter, IsRising}
 use Rattle.plain_data.proofs.RowFacts.{Parted, find_gap, searched}
 use Rattle.kube_types.specs.declared.parts.Kind.{Kind}
 use Rattle.kube_types.specs.declared.objects.Object.{Object}
 use Rattle.kube_types.specs.Keys.{AreRows, is_of_kind, key_cmp, key_of, row_at, rows_of}
 use Rattle.kube_types.proofs.KeyOrder.{equal_keys, key_cmp_total}
-use Rattle.kube_types.proofs.RowPlaces.{row_at_place, row_of_kind}
+use Rattle.kube_types.proofs.RowPlaces.{rising_filter, row_at_place, row_of_kind}
 use Rattle.volume_match.specs.Named.{has_key_at, key_with_parts}
 use Rattle.volume_match.specs.Steps.Search.{key_order_at}
-
--- what is chosen from rows in order is in order
-module _ {K X : Type 0} (cmp : K → K → Ordering) (key : X → K) (p : X → Bool) where
-  after_filter : (y : X) (xs : List X) → IsAfter cmp key y xs → IsAfter cmp key y (filter p xs)
-  after_filter y [] a = tt
-  after_filter y (z ∷ zs) a = by (p z) (after_filter y zs a.1)
-    where
-      by : (b : Bool) → IsAfter cmp key y (filter p zs) → IsAfter cmp key y (cond b (z ∷ filter p zs) (filter p zs))
-      by true rest = (a.0, rest)
-      by false rest = rest
-
-  rising_filter : (xs : List X) → IsRising cmp key xs → IsRising cmp key (filter p xs)
-  rising_filter [] r = tt
-  rising_filter (y ∷ ys) r = by (p y) (rising_filter ys r.1)
-    where
-      by : (b : Bool) → IsRising cmp key (filter p ys) → IsRising cmp key (cond b (y ∷ filter p ys) (filter p ys))
-      by true rest = (after_filter y ys r.0, rest)
-      by false rest = rest
 
 module _ (kind : Kind) (namespace name : List ℕ) where
   -- what a look at a place said of the object there
@@ -56,6 +37,6 @@ module _ (kind : Kind) (namespace name : List ℕ) where
   -- where nothing is left between what is before the key and what is after it, there is no row of it
   pub no_row : (rows : List Object) (i : ℕ) → AreRows rows → Parted (λ o. key_cmp (key_of o) (key_with_parts kind namespace name)) (rows_of kind rows) i i → row_at (key_with_parts kind namespace name) rows ≡ None
   no_row rows i order p =
-      let rising = rising_filter key_cmp key_of (is_of_kind kind) rows order in
+      let rising = rising_filter key_cmp_total key_of (is_of_kind kind) rows order in
       let place = searched key_cmp_total key_of (key_with_parts kind namespace name) (rows_of kind rows) (Err i) rising p.range (λ rise. (p.less rise, p.greater rise)) in
       row_of_kind (key_with_parts kind namespace name) rows ∙ find_gap key_cmp_total key_of (key_with_parts kind namespace name) (rows_of kind rows) i rising place.gap

@@ -27,6 +27,10 @@ impl<'a> Lookup for Near<'a> {
         self.caches.count(kind)
     }
 
+    fn of_kind(&self, kind: Kind) -> &[Object] {
+        self.caches.of_kind(kind)
+    }
+
     fn at(&self, kind: Kind, place: usize) -> Option<&Object> {
         self.caches.at(kind, place)
     }

@@ -38,16 +38,6 @@ abbrev pub IsFirstOrNone : List Object → (NodeData → Type 0) → Option Node
 IsFirstOrNone rows P (Some n) = IsFirstNode rows None P n
 IsFirstOrNone rows P None = HasNoNode rows P
 
--- what is prepared on a node that may be there or not
-pub record IsPreparedThere (rows : List Object) (claims : List ClaimData) (node : Option NodeData) (choice : Choice) : Type 0 where
-  pub on : NodeData
-  pub is : node ≡ Some on
-  pub preparing : IsPreparing rows claims on choice
-
-abbrev pub IsPreparedIf : List Object → List ClaimData → Option NodeData → Option Choice → Type 0
-IsPreparedIf rows claims node (Some choice) = IsPreparedThere rows claims node choice
-IsPreparedIf rows claims node None = (n : NodeData) → node ≡ Some n → ServesClaims rows claims n → ⊥
-
 -- a node of the turn that serves the claims
 pub record ServesInTurn (rows : List Object) (claims : List ClaimData) (last : Option (List ℕ)) (past : Bool) (n : NodeData) : Type 0 where
   pub turn : is_past last n ≡ past

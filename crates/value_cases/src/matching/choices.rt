@@ -11,7 +11,6 @@ use plain_data::copies::OutOfMemory;
 use plain_data::text::Text;
 use std::alloc::Global;
 use volume_match::{best, covers, fits, place_named, row_named, satisfies};
-use volume_places::{volume_by_size, volume_for};
 
 /// The name of the volume at a place, or `none`.
 pub fn name_at<L: Lookup>(
@@ -99,7 +98,7 @@ fn sized_in(
     nth: usize,
 ) -> Result<String, OutOfMemory> {
     let class = Text::new(alloc, class_of_claim(claim))?;
-    place_word(alloc, volume_by_size(table, claim.block, &class, nth))
+    place_word(alloc, table.volume_by_size(claim.block, &class, nth))
 }
 
 // Where the volume of this number stands among those that refer to the claim.
@@ -110,7 +109,7 @@ fn owned_in(
     nth: usize,
 ) -> Result<String, OutOfMemory> {
     let (namespace, name) = (&claim.meta.namespace, &claim.meta.name);
-    place_word(alloc, volume_for(table, namespace, name, nth))
+    place_word(alloc, table.volume_for(namespace, name, nth))
 }
 
 /// What a call answers of a claim and a look-up with the other objects.

@@ -1,0 +1,124 @@
+-- Rounds are short: the stated number, by the sizes of the world with which a round begins.
+use Rattle.std.proofs.Common.{◌≡◌, ℕ, ◌+◌, ◌*◌, ◌≤◌, List, [], ◌∷◌, length, true, false, refl, subst, arith, if◌then◌else◌}
+use Rattle.std.specs.Prelude.{◌/◌}
+use Rattle.std.proofs.lemmas.Nat.{div-add-mod', mul-le}
+use Rattle.kube_types.specs.declared.objects.Object.{Object}
+use Rattle.kube_types.specs.declared.objects.Object.TheVariants.{Class, Node, Volume, Claim, Pod}
+use Rattle.call_types.specs.declared.entry.Entry.{Entry}
+use Rattle.call_types.specs.declared.setup.Setup.{Setup}
+use Rattle.binder_model.specs.Promises.{IsRunOf}
+use Rattle.binder_model.specs.World.{world}
+use Rattle.model_laws.proofs.Histories.{rows_stand_in_order}
+use Rattle.settle_measure.specs.Measure.{claims_in, faults_left, pods_in, total, volumes_in}
+use Rattle.settle_measure.proofs.Bounds.{left_is_bounded}
+use Rattle.worker_threads.specs.declared.drainers.Drainer.{Drainer}
+use Rattle.worker_threads.specs.Drainers.{AreAtRest}
+use Rattle.worker_threads.specs.Rounds.{Drains, Goes, IsSpent, Lets, NothingDue}
+use Rattle.worker_threads.proofs.DrainFacts.{drains_grow}
+use Rattle.worker_threads.proofs.RoundFacts.{round_part, round_seats, same_length}
+use Rattle.short_law.specs.Rounds.{names_in}
+use Rattle.short_law.specs.Slots.{PassesReads, writes_since}
+use Rattle.paid_law.proofs.Slots.{older_run}
+use Rattle.write_count.specs.Counts.{AnnotationsAreInOrder}
+use Rattle.write_count.proofs.Ordered.{nodes_are_few}
+use Rattle.write_count.proofs.Rounds.{rounds_write_little}
+use Rattle.call_count.specs.Rounds.{pod_size}
+use Rattle.settle_law.specs.Settling.{MayDrain}
+use Rattle.settle_law.proofs.Leaving.{rounds_leave_drainers}
+use Rattle.all_pay.specs.All.{ImportsAllow}
+use Rattle.all_pay.proofs.Rounds.{payer_at}
+use Rattle.drain_budget.specs.Budget.{AreAlwaysInOrder}
+use Rattle.drain_budget.specs.ShortRounds.{DrainedRoundsAreShort, EachLaterRoundIsShort, EachRoundIsShort, LaterRoundsAreShort, RoundsAreShort}
+use Rattle.drain_budget.proofs.Rounds.{rounds_cost_less}
+use Rattle.drain_budget.proofs.Drains.{writes_few}
+
+-- ---- numbers
+
+-- claims, volumes, pods and the claims that these name are among what is counted
+sizes : (rows : List Object) → claims_in rows + volumes_in rows + total pod_size rows ≤ total (λ o. 1 + names_in o) rows
+sizes [] = omega arith
+sizes (Class x ∷ os) = let rest = sizes os in omega (arith, rest)
+sizes (Node x ∷ os) = let rest = sizes os in omega (arith, rest)
+sizes (Volume x ∷ os) = let rest = sizes os in omega (arith, rest)
+sizes (Claim x ∷ os) = let rest = sizes os in omega (arith, rest)
+sizes (Pod x ∷ os) = let rest = sizes os in omega (arith, rest)
+
+pods_few : (rows : List Object) → pods_in rows ≤ total pod_size rows
+pods_few [] = omega arith
+pods_few (Class x ∷ os) = let rest = pods_few os in omega (arith, rest)
+pods_few (Node x ∷ os) = let rest = pods_few os in omega (arith, rest)
+pods_few (Volume x ∷ os) = let rest = pods_few os in omega (arith, rest)
+pods_few (Claim x ∷ os) = let rest = pods_few os in omega (arith, rest)
+pods_few (Pod x ∷ os) = let rest = pods_few os in omega (arith, rest)
+
+-- nine calls for each write, what the actors follow, and what is listed again after 513 writes
+stated : (size claims volumes pods pod_count faults writes actors : ℕ) → claims + volumes + pods ≤ size → pod_count ≤ pods → size ≤ 300 → actors ≤ 13 → writes ≤ 19 * claims + 10 * volumes + 4 * pod_count + 2 * pods + faults
+    → 9 * writes + (12 * size + 12 * claims + actors * (3 * pods + 62)) + (3 * size + 3 * claims + 35) * (writes / 513) ≤ 256 * (size + faults + 16)
+stated size claims volumes pods pod_count faults writes actors counted pods_less small few written =
+    let each = mul-le actors (3 * pods + 62) 13 (3 * pods + 62) few (omega arith) in
+    let swept = mul-le (3 * size + 3 * claims + 35) (writes / 513) 1835 (writes / 513) (omega (arith, counted, small)) (omega arith) in
+    let whole = div-add-mod' writes 513 in
+    omega (arith, each, swept, whole, counted, pods_less, small, written)
+
+-- ---- rounds
+
+pub rounds_are_short : RoundsAreShort
+rounds_are_short setup lets ds after h past b left whole allow roles rests run passes round few order size =
+    let counts = sizes (world setup h).store.rows in
+    let pods = pods_few (world setup h).store.rows in
+    let scheduled = writes_few (world setup h).store.rows in
+    let calls = rounds_cost_less setup lets ds after h past b left whole roles rests run passes round in
+    let paid = rounds_write_little setup lets ds after h past b left whole roles run round (payer_at setup allow ds roles rests) (omega (arith, scheduled, counts, size)) in
+    let most = left_is_bounded (world setup h).store.rows (world setup h).devices in
+    let nodes = nodes_are_few (world setup h) (rows_stand_in_order setup h) order in
+    let number = stated (total (λ o. 1 + names_in o) (world setup h).store.rows) (claims_in (world setup h).store.rows) (volumes_in (world setup h).store.rows) (total pod_size (world setup h).store.rows) (pods_in (world setup h).store.rows) (faults_left setup (world setup h).devices) (writes_since setup h past) (length ds) counts pods size few
+    (omega (arith, paid, most, nodes, scheduled)) in
+    omega (arith, calls, number)
+
+-- ---- drains
+
+-- no further round comes where no call is left
+none_more : (lets : Lets) (setup : Setup) (after : List Drainer) (past : List Entry) (left : ℕ) (ds : List Drainer) (h : List Entry) (b : ℕ) → b ≡ 0 → (drained : Drains lets setup after past left ds h b) → EachRoundIsShort lets setup after past left ds h b drained
+none_more lets setup after past left ds h b none (NothingDue settled same entries rest) = tt
+none_more lets setup after past left ds h b none (IsSpent first due empty same entries rest) = tt
+none_more lets setup after past left ds h b none (Goes first due some between middle rest whole round more) = absurd (omega (arith, none, some))
+
+module _ (setup : Setup) (lets : Lets) (after : List Drainer) (past : List Entry) (left : ℕ) (allow : ImportsAllow setup) (run : IsRunOf setup past) (passes : PassesReads lets) (order : AreAlwaysInOrder setup past) where
+  middle_run : (ds : List Drainer) (h : List Entry) (b : ℕ) → Drains lets setup after past left ds h b → IsRunOf setup h
+  middle_run ds h b drained = let g = drains_grow lets setup after past left ds h b drained in older_run setup g.longer.added h (subst (IsRunOf setup) g.longer.are run)
+
+  -- annotations are in order wherever a round begins
+  order_at : (ds : List Drainer) (h : List Entry) (b : ℕ) → Drains lets setup after past left ds h b → AnnotationsAreInOrder (world setup h)
+  order_at ds h b drained = let g = drains_grow lets setup after past left ds h b drained in order g.longer.added h g.longer.are
+
+  each_short : (ds : List Drainer) (h : List Entry) (b : ℕ) → MayDrain setup h ds → AreAtRest ds → length ds ≤ 13 → (drained : Drains lets setup after past left ds h b) → EachRoundIsShort lets setup after past left ds h b drained
+  each_short ds h b may rests few (NothingDue settled same entries rest) = tt
+  each_short ds h b may rests few (IsSpent first due none same entries rest) = tt
+  each_short ds h b may rests few (Goes first due some between middle rest true round more) =
+      let here = middle_run between middle rest more in
+      let leaves = rounds_leave_drainers setup lets ds between h middle b rest may here round in
+      let many = same_length between ds (round_seats lets middle rest ds h b between true round) in (
+        λ small. rounds_are_short setup lets ds between h middle b rest true allow may.stand.roles rests here passes round few (order_at ds h b (Goes first due some between middle rest true round more)) small,
+        each_short between middle rest leaves.0 leaves.1 (omega (arith, many, few)) more,
+      )
+  each_short ds h b may rests few (Goes first due some between middle rest false round more) =
+      let here = middle_run between middle rest more in (
+        λ small. rounds_are_short setup lets ds between h middle b rest false allow may.stand.roles rests here passes round few (order_at ds h b (Goes first due some between middle rest false round more)) small,
+        none_more lets setup after past left between middle rest (round_part lets middle rest ds h b between false round refl) more,
+      )
+
+  -- a whole round leaves nothing under way
+  each_later : (ds : List Drainer) (h : List Entry) (b : ℕ) → MayDrain setup h ds → length ds ≤ 13 → (drained : Drains lets setup after past left ds h b) → EachLaterRoundIsShort lets setup after past left ds h b drained
+  each_later ds h b may few (NothingDue settled same entries rest) = tt
+  each_later ds h b may few (IsSpent first due none same entries rest) = tt
+  each_later ds h b may few (Goes first due some between middle rest true round more) =
+      let leaves = rounds_leave_drainers setup lets ds between h middle b rest may (middle_run between middle rest more) round in
+      let many = same_length between ds (round_seats lets middle rest ds h b between true round) in
+      each_short between middle rest leaves.0 leaves.1 (omega (arith, many, few)) more
+  each_later ds h b may few (Goes first due some between middle rest false round more) = none_more lets setup after past left between middle rest (round_part lets middle rest ds h b between false round refl) more
+
+pub drained_rounds_are_short : DrainedRoundsAreShort
+drained_rounds_are_short setup lets ds after h past b left allow may rests run passes order few drained = each_short setup lets after past left allow run passes order ds h b may rests few drained
+
+pub later_rounds_are_short : LaterRoundsAreShort
+later_rounds_are_short setup lets ds after h past b left allow may run passes order few drained = each_later setup lets after past left allow run passes order ds h b may few drained

@@ -1,0 +1,6 @@
+use Rattle.drain_budget.proofs.Rounds.{rounds_cost_less}
+use Rattle.drain_budget.proofs.rounds_cost_less.Goals as goal
+
+-- it costs no more than its writes and what its actors follow
+pub returns : goal.returns
+returns c = rounds_cost_less

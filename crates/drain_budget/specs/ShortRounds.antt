@@ -1,0 +1,71 @@
+-- How many calls a round makes at most: the stated number.
+-- A choice of this project.
+use Rattle.std.specs.Prelude.{ℕ, ◌≤◌, ◌+◌, ◌*◌, ◌/◌, Bool, List, length, ⊤}
+use Rattle.call_types.specs.declared.entry.Entry.{Entry}
+use Rattle.call_types.specs.declared.setup.Setup.{Setup}
+use Rattle.binder_model.specs.Promises.{IsRunOf}
+use Rattle.binder_model.specs.World.{World, world}
+use Rattle.settle_measure.specs.Measure.{claims_in, faults_left}
+use Rattle.worker_threads.specs.declared.drainers.Drainer.{Drainer}
+use Rattle.worker_threads.specs.Drainers.{AreAtRest, AreRoles, roles_of}
+use Rattle.worker_threads.specs.Rounds.{Drains, Goes, IsRound, IsSpent, Lets, NothingDue}
+use Rattle.short_law.specs.Rounds.{size_of_world}
+use Rattle.short_law.specs.Slots.{PassesReads, writes_since}
+use Rattle.write_count.specs.Counts.{AnnotationsAreInOrder}
+use Rattle.call_count.specs.Rounds.{pods_size}
+use Rattle.settle_law.specs.Settling.{MayDrain}
+use Rattle.all_pay.specs.All.{ImportsAllow}
+use Rattle.drain_budget.specs.Budget.{AreAlwaysInOrder}
+
+-- ---- by the writes of the round
+
+-- how many calls so many actors make at most, by what stood when the round began and by the writes of the round. Each write costs nine. Of
+-- the rest an object and a claim that is named cost three for each of the four actors that follow their kind, pods three for every actor; a
+-- claim as much again for the volume that may be made for it; and after each 513 writes of an actor the kinds that it follows may be listed
+-- again, each once
+abbrev pub less_calls : ℕ → ℕ → ℕ → ℕ → ℕ → ℕ
+less_calls actors size claims pods writes = 9 * writes + (12 * size + 12 * claims + actors * (3 * pods + 62)) + (3 * size + 3 * claims + 35) * (writes / 513)
+
+-- of a round of the actors of a drain that begins with nothing under way, in a world of any size
+abbrev pub RoundsCostLess : Type 0
+RoundsCostLess =
+    (setup : Setup) (lets : Lets) (ds after : List Drainer) (h past : List Entry) (b left : ℕ) (whole : Bool) → AreRoles (roles_of ds) → AreAtRest ds → IsRunOf setup past → PassesReads lets → IsRound lets past left ds h b after whole
+    → b ≤ left + less_calls (length ds) (size_of_world (world setup h)) (claims_in (world setup h).store.rows) (pods_size (world setup h)) (writes_since setup h past)
+
+-- ---- by the sizes
+
+-- 256 for each object, each claim that a pod names, each planned fault that is ahead, and 16 more
+abbrev pub stated_calls : Setup → World → ℕ
+stated_calls setup w = 256 * (size_of_world w + faults_left setup w.devices + 16)
+
+-- a round of at most 13 actors, those of a drain with at most eight agents, that begins with at most 300 objects and claims that are named,
+-- whatever the number of planned faults
+abbrev pub RoundsAreShort : Type 0
+RoundsAreShort =
+    (setup : Setup) (lets : Lets) (ds after : List Drainer) (h past : List Entry) (b left : ℕ) (whole : Bool) → ImportsAllow setup → AreRoles (roles_of ds) → AreAtRest ds → IsRunOf setup past → PassesReads lets → IsRound lets past left ds h b after whole
+    → length ds ≤ 13 → AnnotationsAreInOrder (world setup h) → size_of_world (world setup h) ≤ 300 → b ≤ left + stated_calls setup (world setup h)
+
+-- ---- drains
+
+-- each round of the drain that begins so is short
+abbrev pub EachRoundIsShort : (lets : Lets) (setup : Setup) (after : List Drainer) (past : List Entry) (left : ℕ) (ds : List Drainer) (h : List Entry) (b : ℕ) → Drains lets setup after past left ds h b → Type 0
+EachRoundIsShort lets setup after past left ds h b (NothingDue settled same entries rest) = ⊤
+EachRoundIsShort lets setup after past left ds h b (IsSpent first due none same entries rest) = ⊤
+EachRoundIsShort lets setup after past left ds h b (Goes first due some between middle rest whole round more) =
+    (size_of_world (world setup h) ≤ 300 → b ≤ rest + stated_calls setup (world setup h)) × EachRoundIsShort lets setup after past left between middle rest more
+
+abbrev pub DrainedRoundsAreShort : Type 0
+DrainedRoundsAreShort =
+    (setup : Setup) (lets : Lets) (ds after : List Drainer) (h past : List Entry) (b left : ℕ) → ImportsAllow setup → MayDrain setup h ds → AreAtRest ds → IsRunOf setup past → PassesReads lets → AreAlwaysInOrder setup past → length ds ≤ 13
+    → (drained : Drains lets setup after past left ds h b) → EachRoundIsShort lets setup after past left ds h b drained
+
+-- and whatever the actors have under way as the drain begins, each round behind the first is
+abbrev pub EachLaterRoundIsShort : (lets : Lets) (setup : Setup) (after : List Drainer) (past : List Entry) (left : ℕ) (ds : List Drainer) (h : List Entry) (b : ℕ) → Drains lets setup after past left ds h b → Type 0
+EachLaterRoundIsShort lets setup after past left ds h b (NothingDue settled same entries rest) = ⊤
+EachLaterRoundIsShort lets setup after past left ds h b (IsSpent first due none same entries rest) = ⊤
+EachLaterRoundIsShort lets setup after past left ds h b (Goes first due some between middle rest whole round more) = EachRoundIsShort lets setup after past left between middle rest more
+
+abbrev pub LaterRoundsAreShort : Type 0
+LaterRoundsAreShort =
+    (setup : Setup) (lets : Lets) (ds after : List Drainer) (h past : List Entry) (b left : ℕ) → ImportsAllow setup → MayDrain setup h ds → IsRunOf setup past → PassesReads lets → AreAlwaysInOrder setup past → length ds ≤ 13
+    → (drained : Drains lets setup after past left ds h b) → EachLaterRoundIsShort lets setup after past left ds h b drained

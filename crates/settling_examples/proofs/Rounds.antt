@@ -1,0 +1,10 @@
+-- Rounds that make few calls, computed.
+use Rattle.std.proofs.Common.{arith}
+use Rattle.settling_examples.specs.Rounds.{RoundExamples}
+
+pub round_examples : RoundExamples
+round_examples = record {
+  few = λ g rest. ((λ small. omega (arith, g.two, g.none)), rest);
+  one_more = λ g short. let most = short.0 (omega (arith, g.two)) in omega (arith, most, g.two, g.none);
+  later = λ g rest. rest;
+}

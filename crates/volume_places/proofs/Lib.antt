@@ -1,4 +1,0 @@
-pub mod Alike
-pub mod Counts
-pub mod Nexts
-pub mod Owned
