@@ -1,6 +1,6 @@
 //! Lines of histories that are read, and printed again: a call, a blank and a text, in which `;;` stands for a line feed.
 
-use crate::words::{bytes_of, letters, with_feeds, with_marks, word};
+use crate::texts::words::{bytes_of, letters, with_feeds, with_marks, word};
 use history_read::errors::HistoryError;
 use history_read::reading::read_history;
 use history_read::refusals::refusal_line;

@@ -1,6 +1,6 @@
 //! Lines of scripts that are read, and printed again: a call, a blank and a text, in which `;;` stands for a line feed.
 
-use crate::words::{bytes_of, letters, replaced, with_feeds, with_marks, word};
+use crate::texts::words::{bytes_of, letters, replaced, with_feeds, with_marks, word};
 use plain_data::copies::OutOfMemory;
 use sample_objects::lines::split;
 use sample_objects::words::number;

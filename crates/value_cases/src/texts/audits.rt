@@ -6,8 +6,8 @@
 
 mod history;
 
-pub use crate::audits::history::Told;
-use crate::words::word;
+pub use crate::texts::audits::history::Told;
+use crate::texts::words::word;
 use plain_data::copies::OutOfMemory;
 use sample_objects::lines::{request, split};
 use sample_objects::words::{number, seat};

@@ -1,6 +1,6 @@
 //! Lines of generated scripts: a seed, a blank, and `lines`, `again` or the number of a line.
 
-use crate::words::word;
+use crate::texts::words::word;
 use plain_data::copies::OutOfMemory;
 use plain_data::text::Bytes;
 use sample_objects::lines::split;
