@@ -93,6 +93,11 @@ extra_from (Some d) = members_unless (has_float d) d
 unfoldable pub extra_members : List ℕ → Members
 extra_members kept = extra_from (read kept)
 
+-- the text that is kept for members: that of their object, empty where there are none
+abbrev pub extra_text : Members → List ℕ
+extra_text no_members = []
+extra_text (member k d ms) = compact_text (object (member k d ms))
+
 -- members as their names and the texts of their values
 abbrev pub member_texts : Members → List Pair
 member_texts no_members = []

@@ -1,6 +1,6 @@
 //! Members that come in any order, each as its name and the text of its value.
 
-ghost use Rattle.std.specs.Prelude.{◌≡◌, [], OnOk, IfOk, IfErr, length, false};
+ghost use Rattle.std.specs.Prelude.{◌≡◌, [], OnOk, IfOk, IfErr, IfSome, length, false};
 ghost use Rattle.std.specs.List.Sorted.{IsSearchInRange};
 ghost use Rattle.serde_json.specs.View.{view, members_view};
 ghost use Rattle.serde_json.specs.Written.{members_have_float, has_float, compact_text};
@@ -9,8 +9,10 @@ ghost use Rattle.json_text.specs.Members.{extra_members, member_texts, then_text
 ghost use Rattle.json_text.specs.Writing.{written, with_texts, with_filled_texts, opened, closed};
 ghost use Rattle.json_text.specs.Trees.{members_in};
 ghost use Rattle.json_text.specs.Canonical.{IsCanonical};
+ghost use Rattle.json_text.specs.Splitting.{RowsThen};
 
 use crate::floats::holds_float;
+use crate::splitting::{LEVELS, after_byte, split_member};
 use crate::tree::{NoTree, Tree, value_text};
 use crate::writing::JsonText;
 use plain_data::copies::OutOfMemory;
@@ -125,6 +127,49 @@ fn texts_of(alloc: Global, map: &Map<String, Value>) -> Result<Vec<Row>, OutOfMe
     Ok(rows)
 }
 
+fn row_of(alloc: Global, name: &[u8], text: &[u8]) -> Result<Option<Row>, OutOfMemory>
+    ensures { IfOk result (λ o. IfSome o (λ row. row ≡ (name.now, text.now))) }
+{
+    match str::from_utf8(name) {
+        Ok(name) => {
+            let name = Text::new(alloc, name)?;
+            let text = Bytes::new(alloc, text)?;
+            Ok(Some(Row { name, text }))
+        }
+        Err(_) => Ok(None),
+    }
+}
+
+/// The members behind the opening bracket of a text, where it is canonical and taken apart as it stands.
+#[tactic(auto, using(crate::proofs::CanonicalParts::rows_end, crate::proofs::CanonicalParts::rows_more))]
+fn split_rows(alloc: Global, text: &[u8]) -> Result<Option<Vec<Row>>, OutOfMemory>
+    ensures { IfOk result (λ o. IfSome o (λ rows. RowsThen LEVELS false [] rows.items [] text.now)) }
+{
+    let mut rows = Vec::new(alloc);
+    let mut left = text;
+    let mut later = false;
+    let mut last = &text[..0];
+    for _ in 0..text.len() {
+        if let Some(rest) = after_byte(left, b'}') {
+            if rest.is_empty() {
+                return Ok(Some(rows));
+            }
+            return Ok(None);
+        }
+        let Some((name, value, rest)) = split_member(left, later, last, LEVELS) else {
+            return Ok(None);
+        };
+        let Some(row) = row_of(alloc, name, value)? else {
+            return Ok(None);
+        };
+        rows.push(row)?;
+        left = rest;
+        later = true;
+        last = name;
+    }
+    Ok(None)
+}
+
 impl MemberTexts {
     /// No members. It takes no memory.
     pub fn new(alloc: Global) -> MemberTexts
@@ -149,9 +194,9 @@ impl MemberTexts {
         }
     }
 
-    /// The members of the object that a kept text is.
+    /// The members of the object that a kept text is, by its tree.
     #[tactic(auto, using(crate::proofs::MemberTexts::read_canonical), unfolding(crate::specs::Members::extra_members))]
-    pub fn kept(alloc: Global, text: &str) -> Result<MemberTexts, OutOfMemory>
+    fn of_tree(alloc: Global, text: &str) -> Result<MemberTexts, OutOfMemory>
         ensures { IfOk result (λ m. m ≡ member_texts (extra_members text.now)) }
     {
         match Tree::read(alloc, text) {
@@ -164,6 +209,34 @@ impl MemberTexts {
             }
             Err(NoTree::NotJson) => Ok(MemberTexts::new(alloc)),
             Err(NoTree::OutOfMemory) => Err(OutOfMemory),
+        }
+    }
+
+    /// The members of the object that a kept text is, if it is taken apart as it stands.
+    #[tactic(auto, using(crate::proofs::CanonicalParts::rows_kept, crate::proofs::CanonicalParts::rows_rise))]
+    fn split(alloc: Global, text: &str) -> Result<Option<MemberTexts>, OutOfMemory>
+        ensures { IfOk result (λ o. IfSome o (λ m. m ≡ member_texts (extra_members text.now))) }
+    {
+        let Some(behind) = after_byte(text.as_bytes(), b'{') else {
+            return Ok(None);
+        };
+        match split_rows(alloc, behind)? {
+            Some(rows) => Ok(Some(MemberTexts { rows })),
+            None => Ok(None),
+        }
+    }
+
+    /// The members of the object that a kept text is.
+    #[tactic(auto, using(crate::proofs::CanonicalParts::no_rows))]
+    pub fn kept(alloc: Global, text: &str) -> Result<MemberTexts, OutOfMemory>
+        ensures { IfOk result (λ m. m ≡ member_texts (extra_members text.now)) }
+    {
+        if text.is_empty() {
+            return Ok(MemberTexts::new(alloc));
+        }
+        match MemberTexts::split(alloc, text)? {
+            Some(members) => Ok(members),
+            None => MemberTexts::of_tree(alloc, text),
         }
     }
 

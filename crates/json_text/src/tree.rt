@@ -43,19 +43,6 @@ impl Drop for Tree {
 }
 
 impl Tree {
-    pub(crate) fn of_value(value: Value) -> Tree
-        ensures { tree_data result ≡ view value }
-    {
-        Tree { value }
-    }
-
-    pub(crate) fn into_value(self) -> Value
-        ensures { view result ≡ tree_data self }
-    {
-        let Tree { value } = self;
-        value
-    }
-
     /// The value of a text (RFC 8259). Of a name that stands twice in an object, the last member counts.
     pub fn read(alloc: Global, text: &str) -> Result<Tree, NoTree>
         ensures ok { IfOk result (λ t. read text.now ≡ Some (tree_data t)) }
@@ -79,31 +66,5 @@ impl Tree {
         ensures { view result.now ≡ tree_data self.now }
     {
         &self.value
-    }
-
-    /// A copy of a value.
-    pub fn copy(value: &Value) -> Result<Tree, OutOfMemory>
-        ensures { IfOk result (λ t. tree_data t ≡ view value.now) }
-    {
-        Ok(Tree {
-            value: value.clone()?,
-        })
-    }
-
-    /// The compact text: no blanks, members in the order of their names' bytes.
-    pub fn print(&self, alloc: Global) -> Result<Bytes, OutOfMemory>
-        ensures text { IfOk result (λ b. has_float (tree_data self.now) ≡ false
-            → b ≡ compact_text (tree_data self.now)) }
-    {
-        value_text(alloc, &self.value)
-    }
-
-    /// The same, as a text.
-    pub fn print_text(&self, alloc: Global) -> Result<Text, OutOfMemory>
-        ensures text { IfOk result (λ b. has_float (tree_data self.now) ≡ false
-            → b ≡ compact_text (tree_data self.now)) }
-    {
-        let text = self.value.to_string(alloc)?;
-        Text::new(alloc, text.as_str())
     }
 }

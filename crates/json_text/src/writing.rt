@@ -1,6 +1,7 @@
 //! Compact JSON text that grows by values, with no tree.
 
 ghost use Rattle.std.specs.Prelude.{◌≡◌, [], false, IfOk, OnOk};
+ghost use Rattle.std.specs.Fmt.{signed_decimal};
 ghost use Rattle.json.specs.Print.{quoted};
 ghost use Rattle.serde_json.specs.Data.{boolean, number, unsigned, string};
 ghost use Rattle.json_text.specs.Writing.{written, after_comma, text_of, line_ended, with_text, with_key, with_value, opened, closed};
@@ -77,6 +78,14 @@ impl JsonText {
     /// Puts a number at the end.
     pub fn number(&mut self, n: u64) -> Result<(), OutOfMemory>
         ensures ok { OnOk result (written self.new ≡ with_value (number (unsigned n)) (written self.old)) }
+    {
+        let mut buffer = Buffer::new();
+        self.raw(buffer.format(n).as_bytes())
+    }
+
+    /// Puts a number that may be below 0 at the end.
+    pub(crate) fn signed(&mut self, n: i64) -> Result<(), OutOfMemory>
+        ensures ok { OnOk result (written self.new ≡ with_text (signed_decimal n) (written self.old)) }
     {
         let mut buffer = Buffer::new();
         self.raw(buffer.format(n).as_bytes())

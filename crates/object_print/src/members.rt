@@ -124,12 +124,15 @@ pub fn write_list<T: AsJson>(out: &mut JsonText, items: &[T]) -> Result<(), OutO
     out.end_array()
 }
 
+/// The first room for the text of a member, which most fit.
+const ROOM: usize = 128;
+
 /// The text of a value alone.
 #[tactic(auto, using(json_text::proofs::Closing::alone))]
 pub fn print<T: AsJson>(alloc: Global, value: &T) -> Result<Bytes, OutOfMemory>
     ensures { IfOk result (λ b. b ≡ compact_text (T.json value.now)) }
 {
-    let mut out = JsonText::new(alloc);
+    let mut out = JsonText::with_room(alloc, ROOM)?;
     value.write(&mut out)?;
     Ok(out.into_bytes())
 }
@@ -138,7 +141,7 @@ pub fn print<T: AsJson>(alloc: Global, value: &T) -> Result<Bytes, OutOfMemory>
 fn print_text(alloc: Global, text: &str) -> Result<Bytes, OutOfMemory>
     ensures { IfOk result (λ b. b ≡ compact_text (string text.now)) }
 {
-    let mut out = JsonText::new(alloc);
+    let mut out = JsonText::with_room(alloc, text.len() + 2)?;
     out.text(text)?;
     Ok(out.into_bytes())
 }
@@ -147,7 +150,7 @@ fn print_text(alloc: Global, text: &str) -> Result<Bytes, OutOfMemory>
 fn print_list<T: AsJson>(alloc: Global, items: &[T]) -> Result<Bytes, OutOfMemory>
     ensures { IfOk result (λ b. b ≡ compact_text (array_data T.json items.now)) }
 {
-    let mut out = JsonText::new(alloc);
+    let mut out = JsonText::with_room(alloc, ROOM)?;
     write_list(&mut out, items)?;
     Ok(out.into_bytes())
 }

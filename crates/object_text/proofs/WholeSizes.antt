@@ -1,5 +1,6 @@
 -- The text of a value whose numbers are all whole has exactly the bytes that are counted.
-use Rattle.std.proofs.Common.{◌≡◌, ℕ, ◌+◌, Bool, true, false, ◌||◌, length, true≢false, refl, arith}
+use Rattle.std.proofs.Common.{◌≡◌, ℕ, suc, ◌+◌, List, [], ◌∷◌, ◌++◌, Bool, true, false, ◌||◌, length, length-append, true≢false, refl, ap, arith}
+use Rattle.json.specs.Print.{escape, quoted}
 use Rattle.serde_json.specs.Data.{unsigned, negative, float, Data, null, boolean, number, string, array, object, Items, no_items, item, Members, no_members, member}
 use Rattle.serde_json.specs.Written.{has_float, items_have_float, members_have_float, compact_text}
 use Rattle.object_text.specs.Sizes.{float_bytes, items_float_bytes, members_float_bytes, least_bytes}
@@ -32,3 +33,9 @@ mutual
 
 pub least_whole : (d : Data) → has_float d ≡ false → least_bytes d ≡ length (compact_text d)
 least_whole d h = let none : float_bytes d ≡ 0 = no_bytes d h in omega (arith, none)
+
+-- a text that stands between quotes as it is
+pub plain_bytes : (text : List ℕ) → escape text ≡ text → length (quoted text) ≡ length text + 2
+plain_bytes text e =
+    let whole : length (quoted text) ≡ suc (length (text ++ 34 ∷ [])) = ap (λ s. suc (length (s ++ 34 ∷ []))) e in
+    omega (arith, length-append text (34 ∷ []))

@@ -1,9 +1,9 @@
 -- The members that are kept as they are: those of a spec, or of a class itself, that no reader knows.
 -- A choice of this project: they are one compact text, empty where there are none.
-use Rattle.std.specs.Prelude.{ℕ, List, [], Bool, false, ◌||◌, Option, Some, None, codes, bytes_eq}
-use Rattle.serde_json.specs.Data.{Data, object, Members, no_members, member}
-use Rattle.serde_json.specs.Written.{compact_text}
+use Rattle.std.specs.Prelude.{ℕ, List, Bool, false, ◌||◌, Option, Some, None, codes, bytes_eq}
+use Rattle.serde_json.specs.Data.{Data, Members, no_members}
 use Rattle.json_text.specs.Trees.{members_in, others}
+pub use Rattle.json_text.specs.Members.{extra_text}
 use Rattle.kube_types.specs.declared.parts.SourceKind.{SourceKind}
 use Rattle.kube_types.specs.Words.{source_word}
 use Rattle.object_text.specs.declared.extra.Listed.{Listed}
@@ -32,10 +32,6 @@ is_listed_member listed.Claim k = is_claim_member k
 is_listed_member listed.Class k = is_class_member k
 is_listed_member listed.Pod k = bytes_eq k (codes "nodeName")
 is_listed_member listed.Node k = false
-
-abbrev pub extra_text : Members → List ℕ
-extra_text no_members = []
-extra_text (member k d ms) = compact_text (object (member k d ms))
 
 abbrev pub place_members : Option Data → Members
 place_members None = no_members

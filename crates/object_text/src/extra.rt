@@ -1,14 +1,12 @@
 //! The members that are kept as they are.
 
-ghost use Rattle.std.specs.Prelude.{◌≡◌, IfOk, false, map, option_map};
+ghost use Rattle.std.specs.Prelude.{◌≡◌, IfOk, map, option_map};
 ghost use Rattle.serde_json.specs.View.{view};
-ghost use Rattle.serde_json.specs.Written.{has_float};
-ghost use Rattle.json_text.specs.Trees.{members_in, others};
-ghost use Rattle.object_text.specs.ExtraMembers.{is_volume_member, is_claim_member, is_class_member, is_listed_member, extra_text, extra_at};
+ghost use Rattle.object_text.specs.ExtraMembers.{is_volume_member, is_claim_member, is_class_member, is_listed_member, extra_at};
 ghost use Rattle.object_text.specs.Steps.Among.{is_one_of};
 ghost use Rattle.object_text.specs.Steps.Whole.{IsWholePlace};
 
-use json_text::build::{Fields, KnownNames};
+use json_text::others::{KnownNames, others_text};
 use kube_types::copies::OutOfMemory;
 use kube_types::parts::SourceKind;
 use kube_types::text::Text;
@@ -96,19 +94,6 @@ impl KnownNames for Listed {
     }
 }
 
-#[tactic(auto, using(crate::proofs::WholeParts::others_whole))]
-fn extra_of(alloc: Global, listed: Listed, value: &Value) -> Result<Text, OutOfMemory>
-    requires { has_float (view value.now) ≡ false }
-    ensures { IfOk result (λ t. t ≡ extra_text (others (is_listed_member listed) (members_in (view value.now)))) }
-{
-    let fields = Fields::others(alloc, &listed, value)?;
-    if fields.is_empty() {
-        Text::new(alloc, "")
-    } else {
-        fields.into_tree().print_text(alloc)
-    }
-}
-
 /// The text of the members that are not listed, empty where there are none.
 #[tactic(auto, unfolding(crate::specs::ExtraMembers::extra_at))]
 pub fn extra_at(alloc: Global, listed: Listed, place: Option<&Value>) -> Result<Text, OutOfMemory>
@@ -116,7 +101,7 @@ pub fn extra_at(alloc: Global, listed: Listed, place: Option<&Value>) -> Result<
     ensures { IfOk result (λ t. t ≡ extra_at listed (option_map (λ v. view v.now) place.entry)) }
 {
     match place {
-        Some(value) => extra_of(alloc, listed, value),
+        Some(value) => others_text(alloc, &listed, value),
         None => Text::new(alloc, ""),
     }
 }

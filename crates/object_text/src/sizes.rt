@@ -8,6 +8,7 @@ ghost use Rattle.serde_json.specs.Written.{comma_if};
 ghost use Rattle.object_text.specs.Sizes.{least_bytes, least_items, least_members, Leaves};
 
 use itoa::Buffer;
+use json_text::quote::needs_no_escape;
 use serde_json::{Map, Number, Value};
 
 fn without(room: usize, bytes: usize) -> Option<usize>
@@ -54,7 +55,7 @@ fn width(byte: u8) -> usize
     }
 }
 
-fn after_text(text: &str, room: usize) -> Option<usize>
+fn after_escaped(text: &str, room: usize) -> Option<usize>
     ensures { Leaves (length (quoted text.now)) room result }
 {
     let mut left = without(room, 2)?;
@@ -62,6 +63,17 @@ fn after_text(text: &str, room: usize) -> Option<usize>
         left = without(left, width(*byte))?;
     }
     Some(left)
+}
+
+#[tactic(auto, using(crate::proofs::WholeSizes::plain_bytes))]
+fn after_text(text: &str, room: usize) -> Option<usize>
+    ensures { Leaves (length (quoted text.now)) room result }
+{
+    if needs_no_escape(text.as_bytes()) {
+        without(without(room, 2)?, text.len())
+    } else {
+        after_escaped(text, room)
+    }
 }
 
 fn after_number(value: &Number, room: usize) -> Option<usize>

@@ -5,4 +5,4 @@ use Rattle.json_text.proofs.Closing.{alone}
 use Rattle.object_print.proofs.members.print_list.Goals as goal
 
 pub returns : goal.returns
-returns g c = c.into_bytes.ensures ∙ alone (written c.write_list.new.out) (array_data g.T.AsJson.json c.args.items.now) (rw c.new-out.ensures at c.in_ok-write_list.ensures.ok)
+returns g c = c.into_bytes.ensures ∙ alone (written c.write_list.new.out) (array_data g.T.AsJson.json c.args.items.now) (rw c.in_ok-out.ensures at c.in_ok-write_list.ensures.ok)

@@ -5,4 +5,4 @@ use Rattle.json_text.proofs.Closing.{alone}
 use Rattle.object_print.proofs.members.print_text.Goals as goal
 
 pub returns : goal.returns
-returns c = c.into_bytes.ensures ∙ alone (written c.text.new.self) (string c.args.text.now) (rw c.new-out.ensures at c.in_ok-text.ensures.ok)
+returns c = c.into_bytes.ensures ∙ alone (written c.text.new.self) (string c.args.text.now) (rw c.in_ok-out.ensures at c.in_ok-text.ensures.ok)
