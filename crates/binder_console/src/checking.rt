@@ -1,6 +1,6 @@
 //! The check of a manifest or of a list of manifests.
 
-ghost use Rattle.std.specs.Prelude.{◌≡◌, Err, IfOk, string_bytes};
+ghost use Rattle.std.specs.Prelude.{◌≡◌, [], Err, IfOk, string_bytes};
 ghost use Rattle.object_text.specs.Listing.{list_of};
 ghost use Rattle.binder_console.specs.Checks.{with_member_word, reason_text, refusal_line, check_text, refusal_text, ChecksList, IfRefused};
 
@@ -14,22 +14,25 @@ use piece_print::pieces::PieceText;
 use plain_data::copies::OutOfMemory;
 use std::alloc::Global;
 
-fn print_objects(alloc: Global, objects: &[Object]) -> Result<PieceText, OutOfMemory>
+fn print_objects(alloc: Global, lines: Lines, objects: &[Object]) -> Result<PieceText, OutOfMemory>
+    requires { lines ≡ [] }
     ensures { IfOk result (λ text. text ≡ check_text objects.now) }
 {
-    let mut lines = Lines::new(alloc);
+    let mut lines = lines;
     push_objects(&mut lines, objects)?;
     Ok(PieceText::of(alloc, lines.into_bytes()))
 }
 
-/// The canonical line of each object, or the first refusal.
+/// The canonical line of each object, or the first refusal. Room for the lines is taken before the input is read: what is
+/// read leaves many small pieces of memory free, which the allocator would look through for a large one.
 #[tactic(auto, using(crate::proofs::Refusals::refused_is))]
 pub fn checked(alloc: Global, input: &[u8]) -> Result<PieceText, CheckError>
     ensures ok { IfOk result (λ text. ChecksList input.now text) }
     ensures refused { IfRefused result (λ e. list_of input.now ≡ Err e) }
 {
+    let lines = Lines::with_room(alloc, input.len())?;
     match read_list(alloc, input) {
-        Ok(objects) => Ok(print_objects(alloc, objects.as_slice())?),
+        Ok(objects) => Ok(print_objects(alloc, lines, objects.as_slice())?),
         Err(error) => {
             if error.reason == ObjectError::OutOfMemory {
                 Err(CheckError::OutOfMemory)

@@ -44,6 +44,15 @@ impl Lines {
         }
     }
 
+    /// No lines, with room for so many bytes at once.
+    pub fn with_room(alloc: Global, room: usize) -> Result<Lines, OutOfMemory>
+        ensures { IfOk result (λ lines. lines ≡ []) }
+    {
+        Ok(Lines {
+            out: JsonText::with_room(alloc, room)?,
+        })
+    }
+
     /// Puts a line at the end, and a line feed.
     #[tactic(auto, using(crate::proofs::LineLists::ends_text))]
     pub fn push(&mut self, line: &[u8]) -> Result<(), OutOfMemory>
