@@ -1,5 +1,5 @@
 -- A drain costs little beside its rounds: its writes, and what is swept after many of them, are paid by what its rounds leave less to do.
-use Rattle.std.proofs.Common.{◌≡◌, ◌∙◌, ℕ, zero, suc, ◌+◌, ◌*◌, ◌≤◌, List, ◌∷◌, ◌++◌, length, true, false, refl, ap, subst, arith, if◌then◌else◌, Bool}
+use Rattle.std.proofs.Common.{◌≡◌, ◌∙◌, ℕ, zero, suc, ◌+◌, ◌*◌, ◌≤◌, List, ◌++◌, length, true, false, refl, ap, subst, arith, Bool}
 use Rattle.std.specs.Prelude.{◌/◌}
 use Rattle.std.proofs.Math.Nat.{mul-add}
 use Rattle.std.proofs.lemmas.Nat.{div-add-mod'}

@@ -16,6 +16,7 @@ pub mod Serving
 pub mod Settling
 pub mod Short
 pub mod Slots
+pub mod Stages
 pub mod Static
 pub mod Turns
 pub mod Writes

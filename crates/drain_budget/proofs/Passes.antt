@@ -1,6 +1,6 @@
 -- Past the first pass, each call whose answer is told lowers what is still to come.
 use Rattle.std.proofs.Common.{◌≡◌, ◌∙◌, ◌⊎◌, ℕ, ◌+◌, ◌*◌, ◌-◌, ◌≤◌, ◌<◌, List, [], ◌∷◌, length, Bool, true, false, Option, Some, None, inl, inr, refl, sym, ap, subst, arith, if◌then◌else◌}
-use Rattle.std.specs.Prelude.{◌/◌, ◌==◌, ◌&&◌, ◌||◌, is_some, map, not}
+use Rattle.std.specs.Prelude.{◌==◌, ◌&&◌, ◌||◌, is_some, map, nat_lt, not}
 use Rattle.std.proofs.lemmas.Bool.Decides.{nat_tests}
 use Rattle.kube_types.specs.declared.key.Key.{Key}
 use Rattle.kube_types.specs.declared.parts.Kind.{Kind}
@@ -22,7 +22,7 @@ use Rattle.binder_model.specs.World.{base as base_of, world}
 use Rattle.informer_cache.specs.All.{AllKnown}
 use Rattle.informer_cache.specs.Cache.{keys_in}
 use Rattle.model_laws.proofs.Histories.{rows_stand_in_order}
-use Rattle.model_laws.proofs.Lists.{IsIn}
+use Rattle.model_laws.proofs.Lists.{IsIn, none_some}
 use Rattle.sync_queue.specs.Work.{AreOnce, Work, added}
 use Rattle.worker_core.specs.declared.role.Role.{Role}
 use Rattle.worker_core.specs.declared.task.Under.{Under}
@@ -43,23 +43,22 @@ use Rattle.event_law.proofs.Points.{taken_once}
 use Rattle.cost_law.proofs.Works.{added_cost, finished_cost, put_off_cost}
 use Rattle.std.proofs.lemmas.Option.{slice_get_within}
 use Rattle.call_types.specs.declared.reply.Events.{Events as EventsData}
-use Rattle.model_laws.proofs.Uids.{rises}
 use Rattle.model_laws.proofs.Watched.{logs}
 use Rattle.worker_core.specs.Absorbs.{is_none_of, told_to}
 use Rattle.worker_threads.specs.Rounds.{told_entry}
-use Rattle.event_law.proofs.Calls.{Stays, gone_from, listed_from, unread_from, watched_from, world_moves}
+use Rattle.event_law.proofs.Calls.{Stays, Wrote, gone_from, listed_from, unread_from, watched_from, world_moves}
 use Rattle.event_law.proofs.Events.{none_pending, told_so}
 use Rattle.pass_law.proofs.Told.{told_after, within_five}
-use Rattle.pass_law.proofs.Given.{FindsGone, GivenSo, GivesRead, GivesStart, GivesTask, IsTold, Lists, ReadCalled, Reads, given_so, read_called, start_called, task_called}
-use Rattle.event_law.proofs.Sums.{div_falls, div_less, mul_falls, mul_less, sum_falls}
+use Rattle.pass_law.proofs.Given.{FindsGone, IsTold, Lists, ReadCalled, Reads, read_called, start_called, task_called}
+use Rattle.event_law.proofs.Sums.{sum_falls, sum_less}
 use Rattle.cost_law.proofs.Tasks.{done_few}
-use Rattle.event_law.specs.Ahead.{Point, from_of, pass_cost}
-use Rattle.cost_law.specs.Ends.{start_left}
+use Rattle.event_law.specs.Ahead.{Point, from_of, pass_cost, sum_over}
+use Rattle.cost_law.specs.Ends.{done_by, start_left}
 use Rattle.event_law.specs.Telling.{told}
 use Rattle.pass_law.specs.Passes.{KindsHaveReached, IsCallGiven}
 use Rattle.call_count.proofs.Growth.{AreGiven}
-use Rattle.drain_budget.proofs.Calls.{call_pays, kind_left, kinds_left, slot_left}
-use Rattle.drain_budget.proofs.RoundCosts.{cost_in, cost_light, listed_few, most}
+use Rattle.drain_budget.proofs.Calls.{AtKeys, IsLess, call_pays, few_on, kind_left, kinds_left, low_on, rest_left, slot_left, told_cost_or}
+use Rattle.drain_budget.proofs.RoundCosts.{cost_in, cost_light, listed_few, most, work_less}
 
 -- the answers
 
@@ -119,55 +118,102 @@ pass_less role pass kind from events at = by (length events.events == most_event
     by false e = let a = is false e in let b = less pass.event events.events in inr (e, omega (arith, a, b))
 
 -- a call that reads leaves the world, and so what the other kinds may cost
-kind_still : (setup : Setup) (m high : ℕ) (e : Entry) (h : List Entry) (k : Kind) (x : Option ℕ) → Stays (world setup h) (world setup (e ∷ h)) e.request e.reply → kind_left m high (world setup (e ∷ h)) k x ≡ kind_left m high (world setup h) k x
-kind_still setup m high e h k None stays = ap (λ n. (m + 1) + (m + 7) * ((high - n) / 513)) stays.version
-kind_still setup m high e h k (Some from) stays = ap (λ l. 8 * pending k from l + (m + 7) * ((high - from) / 513)) stays.log
+kind_still : (setup : Setup) (keys : ℕ) (e : Entry) (h : List Entry) (k : Kind) (x : Option ℕ) → Stays (world setup h) (world setup (e ∷ h)) e.request e.reply → kind_left keys (world setup (e ∷ h)) k x ≡ kind_left keys (world setup h) k x
+kind_still setup keys e h k None stays = refl
+kind_still setup keys e h k (Some from) stays =
+    ap (λ n. told_cost_or (nat_lt (from + 512) n) keys (pending k from (world setup (e ∷ h)).log)) stays.version ∙ ap (λ l. told_cost_or (nat_lt (from + 512) (world setup h).store.version) keys (pending k from l)) stays.log
 
 module _ (setup : Setup) (first : List Object) (seat base m high : ℕ) (x : ActorState) (request : Request) (reply : Reply) (h : List Entry) (given : IsCallGiven setup seat x request reply h) (at : Point setup x.role.kind base m high h)
     (begins : base_of setup ≤ base) (reached : KindsHaveReached base seat x.role.kind h) (short : (world setup (told_entry seat x request reply ∷ h)).store.version ≤ high) (order : AreRows first) (so : AreGiven first (world setup h).store.rows)
     (falls : (key : Key) → cost_in x.role.kind first (world setup (told_entry seat x request reply ∷ h)).store.rows key ≤ cost_in x.role.kind first (world setup h).store.rows key) where
-  abbrev entry : Entry
-  entry = told_entry seat x request reply
+  moves : Stays (world setup h) (world setup (told_entry seat x request reply ∷ h)) request reply ⊎ Wrote (world setup h) (world setup (told_entry seat x request reply ∷ h)) reply
+  moves = world_moves setup (told_entry seat x request reply) h given.history.1
 
+  -- ---- while keys are decided
+
+  module _ (read : ℕ) (over : passing x ≡ None) (kinds : (kind : Kind) → IsIn kind (kinds_of x.role.kind) → from_of seat h kind ≡ Some read) (low : read ≤ (world setup h).store.version)
+      (few : sum_over (λ k. pending k read (world setup h).log) (kinds_of x.role.kind) ≤ (world setup h).store.version - read) where
+    unread_kinds : ((kind : Kind) → reads_kind kind request ≡ false) → (kind : Kind) → IsIn kind (kinds_of x.role.kind) → from_of seat (told_entry seat x request reply ∷ h) kind ≡ Some read
+    unread_kinds unread kind i = unread_from seat (told_entry seat x request reply) h refl refl kind (unread kind) ∙ kinds kind i
+
+    pays : 9 * (high - (world setup (told_entry seat x request reply ∷ h)).store.version) + work_cost (cost_in x.role.kind first (world setup (told_entry seat x request reply ∷ h)).store.rows) x.work + 8 * ((world setup (told_entry seat x request reply ∷ h)).store.version - read) + done_by request reply
+        ≤ 9 * (high - (world setup h).store.version) + work_cost (cost_in x.role.kind first (world setup h).store.rows) x.work + 8 * ((world setup h).store.version - read)
+    pays = call_pays setup first x.role.kind high read (told_entry seat x request reply) h short low falls x.work (done_few request reply) moves
+
+    low_after : read ≤ (world setup (told_entry seat x request reply ∷ h)).store.version
+    low_after = low_on setup first x.role.kind high read (told_entry seat x request reply) h short low falls moves
+
+    few_after : sum_over (λ k. pending k read (world setup (told_entry seat x request reply ∷ h)).log) (kinds_of x.role.kind) ≤ (world setup (told_entry seat x request reply ∷ h)).store.version - read
+    few_after = few_on setup first x.role.kind high read (told_entry seat x request reply) h short low falls moves few
+
+    pub task_pays : (caches : AllKnown) → x.given ≡ Some givens.Task → IsLess setup first seat high (told_to x caches request reply) (told_entry seat x request reply ∷ h) 1 (slot_left setup first seat high x h (AtKeys read over kinds low few))
+    task_pays caches eg =
+        let t = task_called setup seat x request reply h given eg in
+        let is : told_to x caches request reply ≡ task_told (learned x caches request reply) reply (Some t.under) = ap (given_told (learned x caches request reply) request reply) eg ∙ ap (task_told (learned x caches request reply) reply) t.there in
+        let less = pays in
+        let goes = t.goes in
+        let start = t.start in
+        let work = ended_cost (cost_in x.role.kind first (world setup (told_entry seat x request reply ∷ h)).store.rows) t.under reply x.work in
+        let under : under_left x.under ≡ task_left t.under.task = ap under_left t.there in
+        subst (λ y. IsLess setup first seat high y (told_entry seat x request reply ∷ h) 1 (slot_left setup first seat high x h (AtKeys read over kinds low few))) (sym is)
+        (record { stage = AtKeys read over (unread_kinds t.unread) low_after few_after; less = omega (arith, less, goes, start, work, under) })
+
+    pub start_pays : (caches : AllKnown) → x.given ≡ Some givens.Start → IsLess setup first seat high (told_to x caches request reply) (told_entry seat x request reply ∷ h) 1 (slot_left setup first seat high x h (AtKeys read over kinds low few))
+    start_pays caches eg =
+        let t = start_called setup seat x request reply h given eg in
+        let is : told_to x caches request reply ≡ learned x caches request reply = ap (given_told (learned x caches request reply) request reply) eg in
+        let less = pays in
+        let fewer = t.less in
+        subst (λ y. IsLess setup first seat high y (told_entry seat x request reply ∷ h) 1 (slot_left setup first seat high x h (AtKeys read over kinds low few))) (sym is)
+        (record { stage = AtKeys read over (unread_kinds t.unread) low_after few_after; less = omega (arith, less, fewer) })
+
+    -- no kind is read there
+    pub none_read : (kind : Kind) → x.given ≡ Some (givens.Read kind) → ⊥
+    none_read kind eg = by (read_called setup seat x request reply h given kind eg).reads
+      where
+        by : Reads setup seat x kind request reply h → ⊥
+        by (Lists none asks answered) = none_some (sym none ∙ kinds kind (read_called setup seat x request reply h given kind eg).followed)
+        by (FindsGone from gone some passes asks old answered) = none_some (sym over ∙ passes)
+        by (IsTold from some passes asks low_ within answered) = none_some (sym over ∙ passes)
+
+  -- ---- in a pass
+
+  -- what is under way, the kinds and the pass
   abbrev cost : ActorState → List Entry → ℕ
-  cost y es = slot_left setup first seat x.role.kind high y es
+  cost y es = rest_left first x.role.kind (world setup es) y + (kinds_left setup first seat x.role.kind es + pass_cost y.pass)
 
-  task_pays : (caches : AllKnown) → x.given ≡ Some givens.Task → cost (told_to x caches request reply) (told_entry seat x request reply ∷ h) + 1 ≤ cost x h
-  task_pays caches eg =
-      let t = task_called setup seat x request reply h given eg in
-      let is : told_to x caches request reply ≡ task_told (learned x caches request reply) reply (Some t.under) = ap (given_told (learned x caches request reply) request reply) eg ∙ ap (task_told (learned x caches request reply) reply) t.there in
-      let pays = call_pays setup first x.role.kind high (told_entry seat x request reply) h short seat refl refl t.unread falls x.work (done_few request reply) (world_moves setup (told_entry seat x request reply) h given.history.1) in
-      let goes = t.goes in
-      let start = t.start in
-      let work = ended_cost (cost_in x.role.kind first (world setup (told_entry seat x request reply ∷ h)).store.rows) t.under reply x.work in
-      let under : under_left x.under ≡ task_left t.under.task = ap under_left t.there in
-      subst (λ y. cost y (told_entry seat x request reply ∷ h) + 1 ≤ cost x h) (sym is) (omega (arith, pays, goes, start, work, under))
-
-  start_pays : (caches : AllKnown) → x.given ≡ Some givens.Start → cost (told_to x caches request reply) (told_entry seat x request reply ∷ h) + 1 ≤ cost x h
-  start_pays caches eg =
+  pub start_falls : (caches : AllKnown) → x.given ≡ Some givens.Start → Stays (world setup h) (world setup (told_entry seat x request reply ∷ h)) request reply → cost (told_to x caches request reply) (told_entry seat x request reply ∷ h) + 1 ≤ cost x h
+  start_falls caches eg stays =
       let t = start_called setup seat x request reply h given eg in
       let is : told_to x caches request reply ≡ learned x caches request reply = ap (given_told (learned x caches request reply) request reply) eg in
-      let pays = call_pays setup first x.role.kind high (told_entry seat x request reply) h short seat refl refl t.unread falls x.work (done_few request reply) (world_moves setup (told_entry seat x request reply) h given.history.1) in
+      let work = work_less (cost_in x.role.kind first (world setup h).store.rows) (cost_in x.role.kind first (world setup (told_entry seat x request reply ∷ h)).store.rows) x.work falls in
+      let kinds = sum_less (λ k. kind_left (most first k) (world setup h) k (from_of seat h k)) (λ k. kind_left (most first k) (world setup (told_entry seat x request reply ∷ h)) k (from_of seat (told_entry seat x request reply ∷ h) k)) (kinds_of x.role.kind) (λ k. each k (t.unread k)) in
       let less = t.less in
-      subst (λ y. cost y (told_entry seat x request reply ∷ h) + 1 ≤ cost x h) (sym is) (omega (arith, pays, less))
+      subst (λ y. cost y (told_entry seat x request reply ∷ h) + 1 ≤ cost x h) (sym is) (omega (arith, work, kinds, less))
+    where
+      each : (k : Kind) → reads_kind k request ≡ false → kind_left (most first k) (world setup (told_entry seat x request reply ∷ h)) k (from_of seat (told_entry seat x request reply ∷ h) k) ≤ kind_left (most first k) (world setup h) k (from_of seat h k)
+      each k unread =
+          let a = kind_still setup (most first k) (told_entry seat x request reply) h k (from_of seat (told_entry seat x request reply ∷ h) k) stays in
+          let b = ap (kind_left (most first k) (world setup h) k) (unread_from seat (told_entry seat x request reply) h refl refl k unread) in
+          omega (arith, a, b)
 
   -- a list, or a watch
   read_sum : (kind : Kind) (n : ℕ) → Stays (world setup h) (world setup (told_entry seat x request reply ∷ h)) request reply → IsIn kind (kinds_of x.role.kind) → ((k : Kind) → same_kind kind k ≡ false → reads_kind k request ≡ false)
-      → kind_left (most first kind) high (world setup h) kind (from_of seat (told_entry seat x request reply ∷ h) kind) + n ≤ kind_left (most first kind) high (world setup h) kind (from_of seat h kind)
-      → kinds_left setup first seat x.role.kind high (told_entry seat x request reply ∷ h) + n ≤ kinds_left setup first seat x.role.kind high h
-  read_sum kind n stays i unread own = sum_falls (λ k. kind_left (most first k) high (world setup h) k (from_of seat h k)) (λ k. kind_left (most first k) high (world setup (told_entry seat x request reply ∷ h)) k (from_of seat (told_entry seat x request reply ∷ h) k)) n kind (kinds_of x.role.kind) others mine i
+      → kind_left (most first kind) (world setup h) kind (from_of seat (told_entry seat x request reply ∷ h) kind) + n ≤ kind_left (most first kind) (world setup h) kind (from_of seat h kind)
+      → kinds_left setup first seat x.role.kind (told_entry seat x request reply ∷ h) + n ≤ kinds_left setup first seat x.role.kind h
+  read_sum kind n stays i unread own = sum_falls (λ k. kind_left (most first k) (world setup h) k (from_of seat h k)) (λ k. kind_left (most first k) (world setup (told_entry seat x request reply ∷ h)) k (from_of seat (told_entry seat x request reply ∷ h) k)) n kind (kinds_of x.role.kind) others mine i
     where
-      others : (k : Kind) → same_kind kind k ≡ false → kind_left (most first k) high (world setup (told_entry seat x request reply ∷ h)) k (from_of seat (told_entry seat x request reply ∷ h) k) ≤ kind_left (most first k) high (world setup h) k (from_of seat h k)
+      others : (k : Kind) → same_kind kind k ≡ false → kind_left (most first k) (world setup (told_entry seat x request reply ∷ h)) k (from_of seat (told_entry seat x request reply ∷ h) k) ≤ kind_left (most first k) (world setup h) k (from_of seat h k)
       others k other =
-          let a = kind_still setup (most first k) high (told_entry seat x request reply) h k (from_of seat (told_entry seat x request reply ∷ h) k) stays in
-          let b = ap (kind_left (most first k) high (world setup h) k) (unread_from seat (told_entry seat x request reply) h refl refl k (unread k other)) in
+          let a = kind_still setup (most first k) (told_entry seat x request reply) h k (from_of seat (told_entry seat x request reply ∷ h) k) stays in
+          let b = ap (kind_left (most first k) (world setup h) k) (unread_from seat (told_entry seat x request reply) h refl refl k (unread k other)) in
           omega (arith, a, b)
 
-      mine : kind_left (most first kind) high (world setup (told_entry seat x request reply ∷ h)) kind (from_of seat (told_entry seat x request reply ∷ h) kind) + n ≤ kind_left (most first kind) high (world setup h) kind (from_of seat h kind)
-      mine = let a = kind_still setup (most first kind) high (told_entry seat x request reply) h kind (from_of seat (told_entry seat x request reply ∷ h) kind) stays in omega (arith, a, own)
+      mine : kind_left (most first kind) (world setup (told_entry seat x request reply ∷ h)) kind (from_of seat (told_entry seat x request reply ∷ h) kind) + n ≤ kind_left (most first kind) (world setup h) kind (from_of seat h kind)
+      mine = let a = kind_still setup (most first kind) (told_entry seat x request reply) h kind (from_of seat (told_entry seat x request reply ∷ h) kind) stays in omega (arith, a, own)
 
-  read_pays : (caches : AllKnown) (kind : Kind) → x.given ≡ Some (givens.Read kind) → cost (told_to x caches request reply) (told_entry seat x request reply ∷ h) + 1 ≤ cost x h
-  read_pays caches kind eg = subst (λ y. cost y (told_entry seat x request reply ∷ h) + 1 ≤ cost x h) (sym is) (by r.reads)
+  pub read_falls : (caches : AllKnown) (kind : Kind) → x.given ≡ Some (givens.Read kind) → cost (told_to x caches request reply) (told_entry seat x request reply ∷ h) + 1 ≤ cost x h
+  read_falls caches kind eg = subst (λ y. cost y (told_entry seat x request reply ∷ h) + 1 ≤ cost x h) (sym is) (by r.reads)
     where
       is : told_to x caches request reply ≡ read_told (learned x caches request reply) kind request reply
       is = ap (given_told (learned x caches request reply) request reply) eg
@@ -187,9 +233,6 @@ module _ (setup : Setup) (first : List Object) (seat base m high : ℕ) (x : Act
       followed : IsIn kind (kinds_of x.role.kind)
       followed = (read_called setup seat x request reply h given kind eg).followed
 
-      version : 9 * (high - (world setup (told_entry seat x request reply ∷ h)).store.version) ≡ 9 * (high - (world setup h).store.version)
-      version = ap (λ n. 9 * (high - n)) (read_called setup seat x request reply h given kind eg).stays.version
-
       -- the keys that were told
       keys : keys_cost (cost_in x.role.kind first (world setup h).store.rows) (keys_in reply) ≡ keys_cost (cost_in x.role.kind first (world setup (told_entry seat x request reply ∷ h)).store.rows) (keys_in reply)
       keys = ap (λ rows. keys_cost (cost_in x.role.kind first rows) (keys_in reply)) (sym (read_called setup seat x request reply h given kind eg).stays.rows)
@@ -201,13 +244,11 @@ module _ (setup : Setup) (first : List Object) (seat base m high : ℕ) (x : Act
       added_keys = all_added_cost (cost_in x.role.kind first (world setup (told_entry seat x request reply ∷ h)).store.rows) (keys_in reply) x.work (taken_once x.work given.queue.once)
 
       -- so much of the kind, and of the pass, pays for the keys
-      paid : (n a b : ℕ) → kinds_left setup first seat x.role.kind high (told_entry seat x request reply ∷ h) + n ≤ kinds_left setup first seat x.role.kind high h
+      paid : (n a b : ℕ) → kinds_left setup first seat x.role.kind (told_entry seat x request reply ∷ h) + n ≤ kinds_left setup first seat x.role.kind h
           → keys_cost (cost_in x.role.kind first (world setup h).store.rows) (keys_in reply) ≤ a
           → pass_cost (pass_after x.pass (is_passing (passing x) kind) request reply) + 1 ≤ pass_cost x.pass + b → a + b ≤ n
           → cost (read_told (learned x caches request reply) kind request reply) (told_entry seat x request reply ∷ h) + 1 ≤ cost x h
-      paid n a b sum few pass enough =
-          let s = start in let v = version in let k = keys in let w = waiting in let more = added_keys in
-          omega (arith, s, v, k, w, more, sum, few, pass, enough)
+      paid n a b sum few pass enough = let s = start in let k = keys in let w = waiting in let more = added_keys in omega (arith, s, k, w, more, sum, few, pass, enough)
 
       unread_list : (k : Kind) → request ≡ requests.List kind None → same_kind kind k ≡ false → reads_kind k request ≡ false
       unread_list k e other = ap (reads_kind k) e ∙ other
@@ -215,12 +256,17 @@ module _ (setup : Setup) (first : List Object) (seat base m high : ℕ) (x : Act
       unread_watch : (k : Kind) (from : ℕ) → request ≡ requests.Watch kind from → same_kind kind k ≡ false → reads_kind k request ≡ false
       unread_watch k from e other = ap (reads_kind k) e ∙ other
 
+      -- its events are kept
+      kept_from : (from : ℕ) → (world setup h).store.version ≤ from + 512 → kind_left (most first kind) (world setup h) kind (Some from) ≡ 8 * pending kind from (world setup h).log
+      kept_from from near = let no : nat_lt (from + 512) (world setup h).store.version ≡ false = grind (arith, nat_tests, near) in ap (λ b. told_cost_or b (most first kind) (pending kind from (world setup h).log)) no
+
       by : Reads setup seat x kind request reply h → cost (read_told (learned x caches request reply) kind request reply) (told_entry seat x request reply ∷ h) + 1 ≤ cost x h
       by (Lists none asks answered) =
           let now = listed_from seat (told_entry seat x request reply) h refl refl kind (rows_of kind (world setup h).store.rows) (world setup h).store.version asks answered in
           let pend = none_pending kind (world setup h).store.version (world setup h).store.version (world setup h).log (omega arith) (logs setup h 0) in
-          let before : kind_left (most first kind) high (world setup h) kind (from_of seat h kind) ≡ (most first kind + 1) + (most first kind + 7) * ((high - (world setup h).store.version) / 513) = ap (kind_left (most first kind) high (world setup h) kind) none in
-          let after : kind_left (most first kind) high (world setup h) kind (from_of seat (told_entry seat x request reply ∷ h) kind) ≡ 8 * pending kind (world setup h).store.version (world setup h).log + (most first kind + 7) * ((high - (world setup h).store.version) / 513) = ap (kind_left (most first kind) high (world setup h) kind) now in
+          let before : kind_left (most first kind) (world setup h) kind (from_of seat h kind) ≡ most first kind + 1 = ap (kind_left (most first kind) (world setup h) kind) none in
+          let after : kind_left (most first kind) (world setup h) kind (from_of seat (told_entry seat x request reply ∷ h) kind) ≡ 8 * pending kind (world setup h).store.version (world setup h).log =
+          ap (kind_left (most first kind) (world setup h) kind) now ∙ kept_from (world setup h).store.version (omega arith) in
           let sum = read_sum kind (most first kind + 1) stays followed (λ k other. unread_list k asks other) (omega (arith, pend, before, after)) in
           let all = listed_few x.role.kind first (world setup h).store.rows order (rows_stand_in_order setup h) so kind in
           let few : keys_cost (cost_in x.role.kind first (world setup h).store.rows) (keys_in reply) ≡ keys_cost (cost_in x.role.kind first (world setup h).store.rows) (map key_of (rows_of kind (world setup h).store.rows)) = ap (λ a. keys_cost (cost_in x.role.kind first (world setup h).store.rows) (keys_in a)) answered in
@@ -229,11 +275,11 @@ module _ (setup : Setup) (first : List Object) (seat base m high : ℕ) (x : Act
       by (FindsGone from gone some passes asks old answered) =
           let now = gone_from seat (told_entry seat x request reply) h refl refl kind from gone asks answered in
           let low = reached kind from follows_it some in
-          let far : (high - (world setup h).store.version) + 513 ≤ high - from = (let up = rises setup (told_entry seat x request reply ∷ []) h in omega (arith, old, low, begins, short, up)) in
-          let falls = mul_falls (most first kind + 7) ((high - (world setup h).store.version) / 513) ((high - from) / 513) (div_falls (high - (world setup h).store.version) (high - from) far) in
-          let before : kind_left (most first kind) high (world setup h) kind (from_of seat h kind) ≡ 8 * pending kind from (world setup h).log + (most first kind + 7) * ((high - from) / 513) = ap (kind_left (most first kind) high (world setup h) kind) some in
-          let after : kind_left (most first kind) high (world setup h) kind (from_of seat (told_entry seat x request reply ∷ h) kind) ≡ (most first kind + 1) + (most first kind + 7) * ((high - (world setup h).store.version) / 513) = ap (kind_left (most first kind) high (world setup h) kind) now in
-          let sum = read_sum kind 6 stays followed (λ k other. unread_watch k from asks other) (omega (arith, falls, before, after)) in
+          let far : from + 512 < (world setup h).store.version = omega (arith, old, low, begins) in
+          let is_gone : nat_lt (from + 512) (world setup h).store.version ≡ true = grind (arith, nat_tests, far) in
+          let before : kind_left (most first kind) (world setup h) kind (from_of seat h kind) ≡ most first kind + 7 = ap (kind_left (most first kind) (world setup h) kind) some ∙ ap (λ b. told_cost_or b (most first kind) (pending kind from (world setup h).log)) is_gone in
+          let after : kind_left (most first kind) (world setup h) kind (from_of seat (told_entry seat x request reply ∷ h) kind) ≡ most first kind + 1 = ap (kind_left (most first kind) (world setup h) kind) now in
+          let sum = read_sum kind 6 stays followed (λ k other. unread_watch k from asks other) (omega (arith, before, after)) in
           let few : keys_cost (cost_in x.role.kind first (world setup h).store.rows) (keys_in reply) ≡ 0 = ap (λ a. keys_cost (cost_in x.role.kind first (world setup h).store.rows) (keys_in a)) answered in
           let pass : pass_cost (pass_after x.pass (is_passing (passing x) kind) request reply) ≡ (5 - x.pass.behind) + 5 = ap (λ q. pass_cost (pass_after x.pass (is_passing (passing x) kind) q reply)) asks ∙ ap (λ a. pass_cost (pass_after x.pass (is_passing (passing x) kind) (requests.Watch kind from) a)) answered in
           paid 6 0 6 sum (omega (arith, few)) (omega (arith, pass)) (omega arith)
@@ -247,11 +293,12 @@ module _ (setup : Setup) (first : List Object) (seat base m high : ℕ) (x : Act
               let so = told_so setup h kind from full low e in
               let now = watched_from seat (told_entry seat x request reply) h refl refl kind from from (world setup h).store.version (world setup h).log asks answered some in
               let up : from ≤ (told_events kind from (world setup h).store.version (world setup h).log).upto = not_below full so.reached so.whole in
-              let less = mul_less (most first kind + 7) ((high - (told_events kind from (world setup h).store.version (world setup h).log).upto) / 513) ((high - from) / 513) (div_less (high - (told_events kind from (world setup h).store.version (world setup h).log).upto) (high - from) (omega (arith, up))) in
-              let before : kind_left (most first kind) high (world setup h) kind (from_of seat h kind) ≡ 8 * pending kind from (world setup h).log + (most first kind + 7) * ((high - from) / 513) = ap (kind_left (most first kind) high (world setup h) kind) some in
-              let after : kind_left (most first kind) high (world setup h) kind (from_of seat (told_entry seat x request reply ∷ h) kind) ≡ 8 * pending kind (told_events kind from (world setup h).store.version (world setup h).log).upto (world setup h).log + (most first kind + 7) * ((high - (told_events kind from (world setup h).store.version (world setup h).log).upto) / 513) = ap (kind_left (most first kind) high (world setup h) kind) now in
+              let near : (world setup h).store.version ≤ from + 512 = omega (arith, within) in
+              let before : kind_left (most first kind) (world setup h) kind (from_of seat h kind) ≡ 8 * pending kind from (world setup h).log = ap (kind_left (most first kind) (world setup h) kind) some ∙ kept_from from near in
+              let after : kind_left (most first kind) (world setup h) kind (from_of seat (told_entry seat x request reply ∷ h) kind) ≡ 8 * pending kind (told_events kind from (world setup h).store.version (world setup h).log).upto (world setup h).log =
+              ap (kind_left (most first kind) (world setup h) kind) now ∙ kept_from (told_events kind from (world setup h).store.version (world setup h).log).upto (omega (arith, near, up)) in
               let fewer = so.fewer in
-              let sum = read_sum kind (8 * length (told kind from (world setup h).log)) stays followed (λ k other. unread_watch k from asks other) (omega (arith, less, before, after, fewer)) in
+              let sum = read_sum kind (8 * length (told kind from (world setup h).log)) stays followed (λ k other. unread_watch k from asks other) (omega (arith, before, after, fewer)) in
               let light = told_cost (cost_in x.role.kind first (world setup h).store.rows) (told kind from (world setup h).log) (λ y i. cost_light x.role.kind first (world setup h).store.rows (key_of y.object) (at.light y (told_after kind from (world setup h).log y i).0 (after_base (told_after kind from (world setup h).log y i).1))) in
               let few : keys_cost (cost_in x.role.kind first (world setup h).store.rows) (keys_in reply) ≡ keys_cost (cost_in x.role.kind first (world setup h).store.rows) (map (λ (y : Event). key_of y.object) (told kind from (world setup h).log)) = ap (λ a. keys_cost (cost_in x.role.kind first (world setup h).store.rows) (keys_in a)) answered in
               let pass_is : pass_cost (pass_after x.pass (is_passing (passing x) kind) request reply) ≡ pass_cost (pass_after x.pass (is_passing (passing x) kind) (requests.Watch kind from) (replies.Events (told_events kind from (world setup h).store.version (world setup h).log))) =
@@ -276,11 +323,3 @@ module _ (setup : Setup) (first : List Object) (seat base m high : ℕ) (x : Act
                   → from ≤ (told_events kind from (world setup h).store.version (world setup h).log).upto
               not_below true reaches whole = let r = reaches refl in omega (arith, r)
               not_below false reaches whole = let r = whole refl in omega (arith, r, low)
-
-  pub calls_pay : (caches : AllKnown) → cost (told_to x caches request reply) (told_entry seat x request reply ∷ h) + 1 ≤ cost x h
-  calls_pay caches = by (given_so x request given.ask)
-    where
-      by : GivenSo x → cost (told_to x caches request reply) (told_entry seat x request reply ∷ h) + 1 ≤ cost x h
-      by (GivesTask e) = task_pays caches e
-      by (GivesStart e) = start_pays caches e
-      by (GivesRead kind e) = read_pays caches kind e

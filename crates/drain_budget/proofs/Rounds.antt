@@ -1,5 +1,5 @@
 -- A round makes few calls beside its writes: the sum of its slots.
-use Rattle.std.proofs.Common.{◌≡◌, ℕ, suc, ◌+◌, ◌*◌, ◌≤◌, List, [], ◌∷◌, length, Bool, true, false, None, refl, ap, subst, arith}
+use Rattle.std.proofs.Common.{◌≡◌, ℕ, suc, ◌+◌, ◌*◌, ◌-◌, ◌≤◌, List, [], ◌∷◌, length, Bool, true, false, None, refl, ap, subst, arith}
 use Rattle.std.specs.Prelude.{◌/◌, map}
 use Rattle.std.proofs.Math.Nat.{add-mul}
 use Rattle.std.proofs.lemmas.Nat.{mul-le}
@@ -34,7 +34,8 @@ use Rattle.call_count.specs.Rounds.{pod_size}
 use Rattle.call_count.proofs.Growth.{AreGiven, given_first, made_few, made_keys}
 use Rattle.call_count.proofs.Made.{slot_given}
 use Rattle.call_count.proofs.Sums.{one_more, swept}
-use Rattle.drain_budget.specs.ShortRounds.{RoundsCostLess}
+use Rattle.drain_budget.specs.ShortRounds.{RoundsCostLess, sweep_calls}
+use Rattle.drain_budget.proofs.Calls.{sweep_cost, sweep_is}
 use Rattle.drain_budget.proofs.RoundCosts.{by_kinds, most, picked, weight}
 use Rattle.drain_budget.proofs.Slots.{slots_cost_less}
 
@@ -43,13 +44,6 @@ use Rattle.drain_budget.proofs.Slots.{slots_cost_less}
 -- what all kinds may cost when they are listed again
 abbrev all_kinds : List Object → ℕ
 all_kinds first = sum_over (λ k. most first k + 7) (kinds_of seats.Scheduler)
-
-times : (f : Kind → ℕ) (q : ℕ) (ks : List Kind) → sum_over (λ k. f k * q) ks ≡ sum_over f ks * q
-times f q [] = omega arith
-times f q (k ∷ ks) =
-    let rest = times f q ks in
-    let split = add-mul (f k) (sum_over f ks) q in
-    omega (arith, rest, split)
 
 -- a scheduler follows all kinds
 fewer_kinds : (f : Kind → ℕ) (kind : SeatKind) → sum_over f (kinds_of kind) ≤ sum_over f (kinds_of seats.Scheduler)
@@ -61,12 +55,20 @@ fewer_kinds f seats.ClaimProtect = omega arith
 fewer_kinds f seats.VolumeProtect = omega arith
 fewer_kinds f seats.Agent = omega arith
 
-sweeps_few : (first : List Object) (kind : SeatKind) (q : ℕ) → sum_over (λ k. (most first k + 7) * q) (kinds_of kind) ≤ all_kinds first * q
+-- what a sweep of them costs beyond the calls that the writes before it have left
+sweep_all : List Object → ℕ
+sweep_all first = all_kinds first - 8 * 513
+
+sweep_all_is : (first : List Object) → sweep_all first ≡ all_kinds first - 8 * 513
+unfolding sweep_all
+sweep_all_is first = refl
+
+sweeps_few : (first : List Object) (kind : SeatKind) (q : ℕ) → sweep_cost first kind * q ≤ sweep_all first * q
 sweeps_few first kind q =
-    let is = times (λ k. most first k + 7) q (kinds_of kind) in
+    let own = sweep_is first kind in
+    let all = sweep_all_is first in
     let fewer = fewer_kinds (λ k. most first k + 7) kind in
-    let p = mul-le (sum_over (λ k. most first k + 7) (kinds_of kind)) q (all_kinds first) q fewer (omega arith) in
-    omega (arith, is, p)
+    mul-le (sweep_cost first kind) q (sweep_all first) q (omega (arith, own, all, fewer)) (omega arith)
 
 -- what the objects cost the actors of these roles, and their passes
 abbrev idle_of : List Object → List Role → ℕ
@@ -84,11 +86,11 @@ module _ (setup : Setup) (lets : Lets) (past : List Entry) (left : ℕ) (run : I
 
   slot : (d ran : Drainer) (h middle : List Entry) (b rest : ℕ) (idle : Bool) → IsRunOf setup middle → IsBuiltKind d.actor.role.kind → (d.actor.memory.stale ≡ false → d.actor.under ≡ None) → Runs lets d.seat ran.actor middle rest idle (woken d.actor) h b
       → AreGiven (world setup start).store.rows (world setup h).store.rows
-      → b ≤ rest + (9 * writes_since setup h middle + (sum_over (most (world setup start).store.rows) (kinds_of d.actor.role.kind) + 62) + all_kinds (world setup start).store.rows * (writes_since setup h middle / 513))
+      → b ≤ rest + (9 * writes_since setup h middle + (sum_over (most (world setup start).store.rows) (kinds_of d.actor.role.kind) + 62) + sweep_all (world setup start).store.rows * (writes_since setup h middle / 513))
   slot d ran h middle b rest idle here built rests runs given = by d.actor.memory.stale refl
     where
       by : (stale : Bool) → d.actor.memory.stale ≡ stale
-          → b ≤ rest + (9 * writes_since setup h middle + (sum_over (most (world setup start).store.rows) (kinds_of d.actor.role.kind) + 62) + all_kinds (world setup start).store.rows * (writes_since setup h middle / 513))
+          → b ≤ rest + (9 * writes_since setup h middle + (sum_over (most (world setup start).store.rows) (kinds_of d.actor.role.kind) + 62) + sweep_all (world setup start).store.rows * (writes_since setup h middle / 513))
       by true e = let same = (silent_run setup lets d.seat ran.actor middle rest idle here (woken d.actor) h b runs e).1 in omega (arith, same)
       by false e =
           let less = slots_cost_less setup lets d.seat d.actor ran.actor h middle b rest idle (world setup start).store.rows built here passes (rests e) (rows_stand_in_order setup start) given runs in
@@ -96,7 +98,7 @@ module _ (setup : Setup) (lets : Lets) (past : List Entry) (left : ℕ) (run : I
           omega (arith, less, few)
 
   sum : (ds : List Drainer) (h : List Entry) (b : ℕ) (after : List Drainer) (whole : Bool) → IsRound lets past left ds h b after whole → AreBuilt (roles_of ds) → AreAtRest ds → AreGiven (world setup start).store.rows (world setup h).store.rows
-      → b ≤ left + (9 * writes_since setup h past + idle_of (world setup start).store.rows (roles_of ds) + all_kinds (world setup start).store.rows * (writes_since setup h past / 513))
+      → b ≤ left + (9 * writes_since setup h past + idle_of (world setup start).store.rows (roles_of ds) + sweep_all (world setup start).store.rows * (writes_since setup h past / 513))
   sum _ h b _ _ (Ends entries rest) built rests given = omega (arith, rest)
   sum _ h b _ _ (Turns {ds = ds} {after = after} {whole = whole} d ran middle rest idle seat runs more) built rests given =
       let here = middle_run ds middle rest after whole more in
@@ -107,8 +109,8 @@ module _ (setup : Setup) (lets : Lets) (past : List Entry) (left : ℕ) (run : I
       let split : writes_since setup h past ≡ writes_since setup h middle + writes_since setup middle past = omega (arith, m, n) in
       let later = sum ds middle rest after whole more built.1 (λ place x at. rests (suc place) x at) (slot_given setup lets d.seat d.actor ran.actor h middle b rest idle (world setup start).store.rows here built.0 (rests 0 d refl) runs given) in
       let now = slot d ran h middle b rest idle here built.0 (rests 0 d refl) runs given in
-      let sweeps = swept (all_kinds (world setup start).store.rows) (writes_since setup h middle) (writes_since setup middle past) in
-      let whole_ = ap (λ k. all_kinds (world setup start).store.rows * (k / 513)) split in
+      let sweeps = swept (sweep_all (world setup start).store.rows) (writes_since setup h middle) (writes_since setup middle past) in
+      let whole_ = ap (λ k. sweep_all (world setup start).store.rows * (k / 513)) split in
       omega (arith, later, now, split, sweeps, whole_)
 
 -- ---- by the sizes
@@ -166,8 +168,9 @@ idle_few first claims pods made few nodes =
     let split = add-mul 5 (length nodes) (3 * pods + 62) in
     omega (arith, agents, all, made, each, split)
 
-all_few : (first : List Object) (claims : ℕ) → length (made_keys first) ≤ claims → all_kinds first ≤ 3 * total (λ o. 1 + names_in o) first + 3 * claims + 35
-all_few first claims made = let all = picked_all first in omega (arith, all, made)
+all_few : (first : List Object) (claims : ℕ) → length (made_keys first) ≤ claims → sweep_all first ≤ sweep_calls (total (λ o. 1 + names_in o) first) claims
+unfolding sweep_calls
+all_few first claims made = let all = picked_all first in let is = sweep_all_is first in omega (arith, all, made, is)
 
 pub rounds_cost_less : RoundsCostLess
 rounds_cost_less setup lets ds after h past b left whole roles rests run passes round =
@@ -177,5 +180,5 @@ rounds_cost_less setup lets ds after h past b left whole roles rests run passes 
     let are = ap (idle_of (world setup h).store.rows) roles.are in
     let many : length ds ≡ 5 + length roles.nodes = (let a = lengths ds in let c = ap (λ (rs : List Role). length rs) roles.are in let d = nodes_many roles.nodes in omega (arith, a, c, d)) in
     let actors = ap (λ n. n * (3 * total pod_size (world setup h).store.rows + 62)) many in
-    let sweep = mul-le (all_kinds (world setup h).store.rows) (writes_since setup h past / 513) _ (writes_since setup h past / 513) (all_few (world setup h).store.rows _ made) (omega arith) in
+    let sweep = mul-le (sweep_all (world setup h).store.rows) (writes_since setup h past / 513) _ (writes_since setup h past / 513) (all_few (world setup h).store.rows _ made) (omega arith) in
     omega (arith, all, idle, are, actors, sweep)

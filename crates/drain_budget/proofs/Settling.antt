@@ -1,5 +1,5 @@
 -- A drain of few rounds ends settled with the stated budget.
-use Rattle.std.proofs.Common.{◌≡◌, ◌∙◌, ◌⊎◌, ◌+◌, ◌*◌, ◌≤◌, length, inl, inr, arith}
+use Rattle.std.proofs.Common.{◌≡◌, ◌⊎◌, ◌+◌, ◌*◌, ◌≤◌, length, inl, inr, arith}
 use Rattle.call_types.specs.declared.setup.Setup.{Setup}
 use Rattle.binder_model.specs.Due.{IsSettled}
 use Rattle.binder_model.specs.World.{World, world}

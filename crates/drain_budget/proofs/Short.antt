@@ -1,5 +1,5 @@
 -- Rounds are short: the stated number, by the sizes of the world with which a round begins.
-use Rattle.std.proofs.Common.{◌≡◌, ℕ, ◌+◌, ◌*◌, ◌≤◌, List, [], ◌∷◌, length, true, false, refl, subst, arith, if◌then◌else◌}
+use Rattle.std.proofs.Common.{◌≡◌, ℕ, ◌+◌, ◌*◌, ◌≤◌, List, [], ◌∷◌, length, true, false, refl, subst, arith}
 use Rattle.std.specs.Prelude.{◌/◌}
 use Rattle.std.proofs.lemmas.Nat.{div-add-mod', mul-le}
 use Rattle.kube_types.specs.declared.objects.Object.{Object}
@@ -28,7 +28,7 @@ use Rattle.settle_law.proofs.Leaving.{rounds_leave_drainers}
 use Rattle.all_pay.specs.All.{ImportsAllow}
 use Rattle.all_pay.proofs.Rounds.{payer_at}
 use Rattle.drain_budget.specs.Budget.{AreAlwaysInOrder}
-use Rattle.drain_budget.specs.ShortRounds.{DrainedRoundsAreShort, EachLaterRoundIsShort, EachRoundIsShort, LaterRoundsAreShort, RoundsAreShort}
+use Rattle.drain_budget.specs.ShortRounds.{DrainedRoundsAreShort, EachLaterRoundIsShort, EachRoundIsShort, LaterRoundsAreShort, RoundsAreShort, SmallWorldsHaveShortRounds, sweep_calls}
 use Rattle.drain_budget.proofs.Rounds.{rounds_cost_less}
 use Rattle.drain_budget.proofs.Drains.{writes_few}
 
@@ -51,24 +51,37 @@ pods_few (Volume x ∷ os) = let rest = pods_few os in omega (arith, rest)
 pods_few (Claim x ∷ os) = let rest = pods_few os in omega (arith, rest)
 pods_few (Pod x ∷ os) = let rest = pods_few os in omega (arith, rest)
 
+-- what is listed again costs little in a world of 960
+swept_few : (size claims : ℕ) → claims ≤ size → size ≤ 960 → sweep_calls size claims ≤ 1691
+unfolding sweep_calls
+swept_few size claims counted small = omega (arith, counted, small)
+
 -- nine calls for each write, what the actors follow, and what is listed again after 513 writes
-stated : (size claims volumes pods pod_count faults writes actors : ℕ) → claims + volumes + pods ≤ size → pod_count ≤ pods → size ≤ 300 → actors ≤ 13 → writes ≤ 19 * claims + 10 * volumes + 4 * pod_count + 2 * pods + faults
-    → 9 * writes + (12 * size + 12 * claims + actors * (3 * pods + 62)) + (3 * size + 3 * claims + 35) * (writes / 513) ≤ 256 * (size + faults + 16)
+stated : (size claims volumes pods pod_count faults writes actors : ℕ) → claims + volumes + pods ≤ size → pod_count ≤ pods → size ≤ 960 → actors ≤ 13 → writes ≤ 19 * claims + 10 * volumes + 4 * pod_count + 2 * pods + faults
+    → 9 * writes + (12 * size + 12 * claims + actors * (3 * pods + 62)) + sweep_calls size claims * (writes / 513) ≤ 256 * (size + faults + 16)
 stated size claims volumes pods pod_count faults writes actors counted pods_less small few written =
     let each = mul-le actors (3 * pods + 62) 13 (3 * pods + 62) few (omega arith) in
-    let swept = mul-le (3 * size + 3 * claims + 35) (writes / 513) 1835 (writes / 513) (omega (arith, counted, small)) (omega arith) in
+    let swept = mul-le (sweep_calls size claims) (writes / 513) 1691 (writes / 513) (swept_few size claims (omega (arith, counted)) small) (omega arith) in
     let whole = div-add-mod' writes 513 in
     omega (arith, each, swept, whole, counted, pods_less, small, written)
+
+-- what a scheduler may write is among what is counted
+pub small_worlds_have_short_rounds : SmallWorldsHaveShortRounds
+small_worlds_have_short_rounds w small =
+    let counts = sizes w.store.rows in
+    let scheduled = writes_few w.store.rows in
+    record { size = omega (arith, small); scheduled = omega (arith, counts, scheduled, small) }
 
 -- ---- rounds
 
 pub rounds_are_short : RoundsAreShort
-rounds_are_short setup lets ds after h past b left whole allow roles rests run passes round few order size =
+rounds_are_short setup lets ds after h past b left whole allow roles rests run passes round few order short =
     let counts = sizes (world setup h).store.rows in
     let pods = pods_few (world setup h).store.rows in
     let scheduled = writes_few (world setup h).store.rows in
     let calls = rounds_cost_less setup lets ds after h past b left whole roles rests run passes round in
-    let paid = rounds_write_little setup lets ds after h past b left whole roles run round (payer_at setup allow ds roles rests) (omega (arith, scheduled, counts, size)) in
+    let paid = rounds_write_little setup lets ds after h past b left whole roles run round (payer_at setup allow ds roles rests) short.scheduled in
+    let size = short.size in
     let most = left_is_bounded (world setup h).store.rows (world setup h).devices in
     let nodes = nodes_are_few (world setup h) (rows_stand_in_order setup h) order in
     let number = stated (total (λ o. 1 + names_in o) (world setup h).store.rows) (claims_in (world setup h).store.rows) (volumes_in (world setup h).store.rows) (total pod_size (world setup h).store.rows) (pods_in (world setup h).store.rows) (faults_left setup (world setup h).devices) (writes_since setup h past) (length ds) counts pods size few

@@ -1,8 +1,7 @@
 -- A slot that begins with nothing under way makes few calls: its first pass writes nothing, and past it each call lowers what is still to come.
-use Rattle.std.proofs.Common.{◌≡◌, ◌∙◌, ◌⊎◌, ℕ, suc, ◌+◌, ◌*◌, ◌-◌, ◌≤◌, ◌<◌, List, [], ◌∷◌, length, Bool, true, false, true≢false, Option, Some, None, inl, inr, refl, sym, ap, subst, arith, if◌then◌else◌}
-use Rattle.std.specs.Prelude.{◌/◌, ◌==◌, is_some, map, nat_lt, not, option_map, slice_get}
+use Rattle.std.proofs.Common.{◌≡◌, ◌∙◌, ◌⊎◌, ℕ, ◌+◌, ◌*◌, ◌-◌, ◌≤◌, ◌<◌, List, [], ◌∷◌, length, Bool, true, false, true≢false, Option, Some, None, inl, inr, refl, sym, ap, subst, arith, if◌then◌else◌}
+use Rattle.std.specs.Prelude.{◌/◌, ◌==◌, is_some, map, nat_lt, not, option_map}
 use Rattle.std.proofs.lemmas.Bool.Decides.{nat_tests}
-use Rattle.std.proofs.lemmas.Option.{slice_get_within}
 use Rattle.kube_types.specs.declared.key.Key.{Key}
 use Rattle.kube_types.specs.declared.parts.Kind.{Kind}
 use Rattle.kube_types.specs.Keys.{same_kind}
@@ -16,13 +15,13 @@ use Rattle.call_types.specs.declared.request.SeatKind.{SeatKind}
 use Rattle.call_types.specs.declared.request.SeatKind.TheVariants as seats
 use Rattle.call_types.specs.declared.setup.Setup.{Setup}
 use Rattle.binder_machines.specs.KindLaw.{reads_kind}
-use Rattle.binder_model.specs.Reading.{follows, following_of}
+use Rattle.binder_model.specs.Reading.{follows}
 use Rattle.binder_model.specs.Told.{own}
 use Rattle.binder_model.specs.Watching.{most_events, told_events}
 use Rattle.informer_cache.specs.declared.cache.Ask.{Ask}
 use Rattle.informer_cache.specs.declared.cache.Ask.TheVariants as asks
 use Rattle.informer_cache.specs.All.{AllKnown, cache_of}
-use Rattle.informer_cache.specs.Cache.{ask_of, watch_from}
+use Rattle.informer_cache.specs.Cache.{ask_of}
 use Rattle.model_laws.proofs.Histories.{rows_stand_in_order}
 use Rattle.model_laws.proofs.Lists.{IsIn, none_some, one}
 use Rattle.model_laws.proofs.Uids.{rises}
@@ -41,7 +40,7 @@ use Rattle.worker_core.specs.Memories.{Memory}
 use Rattle.worker_core.specs.Roles.{IsBuiltKind, kind_in_order, kinds_of}
 use Rattle.worker_core.specs.Stands.{AnyIsUnderWay, StandsFor}
 use Rattle.worker_core.specs.States.{ActorState, agent_start, asked, call_in, call_under, given_call, read_of_kind, read_request, start_call, start_of}
-use Rattle.worker_core.specs.Turns.{IsTurn, TurnBy, first_unlisted, is_listed, passing, unlisted}
+use Rattle.worker_core.specs.Turns.{IsTurn, TurnBy, passing, unlisted}
 use Rattle.worker_core.proofs.Answered.{gives_asked, passed}
 use Rattle.worker_core.proofs.ByKind.{placed}
 use Rattle.worker_core.proofs.Machines.{under_calls}
@@ -58,13 +57,13 @@ use Rattle.slot_law.proofs.Slots.{nothing_behind, run_older}
 use Rattle.cost_law.specs.Costs.{again_cost, calls_for}
 use Rattle.event_law.specs.Counts.{pending}
 use Rattle.cost_law.specs.Tasks.{task_left, under_left}
-use Rattle.event_law.proofs.Calls.{gone_from, listed_from, unread_from, watched_from}
+use Rattle.event_law.proofs.Calls.{Stays, gone_from, listed_from, unread_from, watched_from}
 use Rattle.event_law.proofs.Events.{none_pending, told_so}
 use Rattle.pass_law.proofs.First.{at_most, nil_right, first_calls_pay, wait_few}
 use Rattle.pass_law.proofs.Given.{FindsGone, GivenSo, GivesRead, GivesStart, GivesTask, IsTold, Lists, Reads, given_so, read_called, start_called, task_called}
 use Rattle.event_law.proofs.Points.{WritesLight, point_on, waiting_once}
 use Rattle.event_law.proofs.Calls.{world_moves}
-use Rattle.event_law.proofs.Sums.{div_less, mul_less, of_each}
+use Rattle.event_law.proofs.Sums.{of_each}
 use Rattle.cost_law.proofs.Tasks.{under_goes}
 use Rattle.cost_law.proofs.Works.{put_off_cost}
 use Rattle.event_law.specs.Telling.{told}
@@ -76,16 +75,17 @@ use Rattle.kube_types.specs.Keys.{AreRows}
 use Rattle.model_laws.proofs.Growing.{runs_are_histories}
 use Rattle.short_law.specs.Slots.{PassesReads, is_own_read, writes_since}
 use Rattle.short_law.proofs.Slots.{later}
-use Rattle.event_law.specs.Ahead.{Point, from_of, sum_over}
+use Rattle.event_law.specs.Ahead.{Point, from_of, pass_cost, sum_over}
 use Rattle.pass_law.specs.Passes.{IsCallGiven, KindsHaveReached, first_cost, wait_cost}
 use Rattle.write_count.proofs.Runs.{IsCalled, called_at, run_at}
 use Rattle.call_count.proofs.Growth.{AreGiven}
 use Rattle.call_count.proofs.Made.{IsOrdered, NothingUnder}
-use Rattle.drain_budget.proofs.Calls.{kind_left, slot_left}
+use Rattle.drain_budget.proofs.Calls.{AtKeys, InPass, IsLess, Stage, kinds_left, rest_left, slot_left, sweep_cost}
 use Rattle.drain_budget.proofs.RoundCosts.{CallMoves, cost_falls, cost_in, most, waiting_few}
 use Rattle.drain_budget.proofs.Made.{call_moves, given_on, lost_ordered, reads_stay, told_ordered, turned_ordered}
-use Rattle.drain_budget.proofs.Passes.{calls_pay}
-use Rattle.drain_budget.proofs.Turns.{turn_cost}
+use Rattle.drain_budget.proofs.Passes.{none_read, read_falls, start_falls, start_pays, task_pays}
+use Rattle.drain_budget.proofs.Stages.{all_read, nothing_told}
+use Rattle.drain_budget.proofs.Turns.{turn_costs}
 
 -- a call of the start is one that is not held back
 start_is_read : (kind : SeatKind) (node : List ℕ) (m : Memory) (request : Request) → start_of kind node m ≡ Some request → is_own_read request ≡ true
@@ -250,159 +250,9 @@ module _ (setup : Setup) (lets : Lets) (passes : PassesReads lets) (seat : ℕ) 
     passes = λ kind from eg is. watches_follow s given (Call request) kind from turn eg (ap Call is);
   }
 
-  second_pass : (s : ActorState) (h : List Entry) (b : ℕ) → Runs lets seat after past left idle s h b → IsBuiltKind s.role.kind → Point setup s.role.kind base m (world setup past).store.version h → KindsHaveReached base seat s.role.kind h → KnowsBehind setup seat s.role s.pass h
-      → IsOrdered s → AreGiven first (world setup h).store.rows → b ≤ left + slot_left setup first seat s.role.kind (world setup past).store.version s h
-  second_pass s h b (IsSpent none state entries rest busy) built at reached knows ordered so = omega (arith, none)
-  second_pass s h b (IsIdle some ready turn entries rest calm) built at reached knows ordered so = omega (arith, rest)
-  second_pass s h b (Asks given next request reply some ready turn lets_it absorbs more) built at reached knows ordered so =
-      let ih = second_pass next (told_entry seat given request reply ∷ h) (b - 1) more next_built next_at next_reached (told_knows setup seat s given request reply h built ready turn whole knows next absorbs)
-      (subst IsOrdered (sym absorbs) (told_ordered setup seat given request reply h called next.caches turned)) (given_on setup first h (world setup (told_entry seat given request reply ∷ h)).store.rows moves so) in
-      let kept = turn_cost setup first seat (world setup past).store.version s given request h so turn (λ over. sees setup seat s h whole.0 ready.stands.told knows over) ready.stands.queue.taken in
-      let pays = calls_pay setup first seat base m (world setup past).store.version given request reply h g given_point begins given_reached short order so
-      (cost_falls given.role.kind first (world setup h).store.rows (world setup (told_entry seat given request reply ∷ h)).store.rows (rows_stand_in_order setup h) moves) next.caches in
-      let same = ap (λ k. slot_left setup first seat k (world setup past).store.version next (told_entry seat given request reply ∷ h)) next_kind in
-      let was = ap (λ k. slot_left setup first seat k (world setup past).store.version given h) given_kind in
-      let became = ap (λ y. slot_left setup first seat given.role.kind (world setup past).store.version y (told_entry seat given request reply ∷ h)) absorbs in
-      let back = ap (λ k. slot_left setup first seat k (world setup past).store.version next (told_entry seat given request reply ∷ h)) given_kind in
-      omega (arith, ih, kept, pays, same, was, became, back, some)
-    where
-      whole_run : IsRunOf setup (told_entry seat given request reply ∷ h)
-      whole_run = run_at setup lets seat after past left idle run next (told_entry seat given request reply ∷ h) (b - 1) more
-
-      whole : IsHistory setup (told_entry seat given request reply ∷ h)
-      whole = runs_are_histories setup (told_entry seat given request reply ∷ h) (run_at setup lets seat after past left idle run next (told_entry seat given request reply ∷ h) (b - 1) more).run
-
-      g : IsCallGiven setup seat given request reply h
-      g = given_at s given h request reply built ready turn whole
-
-      called : IsCalled setup seat given request reply h
-      called = called_at setup lets seat after past left idle run s given h request reply built ready turn (run_at setup lets seat after past left idle run next (told_entry seat given request reply ∷ h) (b - 1) more)
-
-      turned : IsOrdered given
-      turned = turned_ordered s given request turn ordered
-
-      moves : CallMoves (world setup h).store.rows (world setup (told_entry seat given request reply ∷ h)).store.rows
-      moves = call_moves setup seat given request reply h called (subst (λ (r : Role). IsBuiltKind r.kind) (sym (turn_role s given (Call request) turn)) built) (turned_knows setup seat s given (Call request) h turn knows) turned
-
-      short : (world setup (told_entry seat given request reply ∷ h)).store.version ≤ (world setup past).store.version
-      short = later setup lets seat after past left idle next _ _ more
-
-      given_kind : given.role.kind ≡ s.role.kind
-      given_kind = ap (λ (r : Role). r.kind) (turn_role s given (Call request) turn)
-
-      next_kind : next.role.kind ≡ s.role.kind
-      next_kind = ap (λ (r : Role). r.kind) (still_role s given next (Call request) request (Told reply) turn absorbs)
-
-      next_built : IsBuiltKind next.role.kind
-      next_built = subst IsBuiltKind (sym next_kind) built
-
-      given_point : Point setup given.role.kind base m (world setup past).store.version h
-      given_point = subst (λ k. Point setup k base m (world setup past).store.version h) (sym given_kind) at
-
-      given_reached : KindsHaveReached base seat given.role.kind h
-      given_reached = subst (λ k. KindsHaveReached base seat k h) (sym given_kind) reached
-
-      next_at : Point setup next.role.kind base m (world setup past).store.version (told_entry seat given request reply ∷ h)
-      next_at = subst (λ k. Point setup k base m (world setup past).store.version (told_entry seat given request reply ∷ h)) (given_kind ∙ sym next_kind)
-          (point_on setup given.role.kind base m (world setup past).store.version (told_entry seat given request reply) h given_point short (light_of setup seat base given request reply h g at.begun) (world_moves setup (told_entry seat given request reply) h whole.1))
-
-      next_reached : KindsHaveReached base seat next.role.kind (told_entry seat given request reply ∷ h)
-      next_reached kind from f is = reached_on setup seat base given request reply h g at.begun kind from (λ v e. reached kind v (ap (λ k. follows k kind) (sym next_kind) ∙ f) e) is
-  second_pass s h b (IsHeld given next request some ready turn held absorbs more) built at reached knows ordered so =
-      let ih = second_pass next h (b - 1) more next_built (subst (λ k. Point setup k base m (world setup past).store.version h) (sym next_kind) at) (subst (λ k. KindsHaveReached base seat k h) (sym next_kind) reached) (lost_knows setup seat given next request h (turned_knows setup seat s given (Call request) h turn knows) absorbs)
-      (subst IsOrdered (sym absorbs) (lost_ordered given (turned_ordered s given request turn ordered))) so in
-      let kept = turn_cost setup first seat (world setup past).store.version s given request h so turn (λ over. sees setup seat s h before ready.stands.told knows over) ready.stands.queue.taken in
-      let some_left = t.some in
-      let under : under_left given.under ≡ task_left t.under.task = ap under_left t.there in
-      let work = put_off_cost (cost_in s.role.kind first (world setup h).store.rows) t.under.key given.work in
-      let same = ap (λ k. slot_left setup first seat k (world setup past).store.version next h) next_kind in
-      let became = ap (λ y. slot_left setup first seat s.role.kind (world setup past).store.version y h) (absorbs ∙ t.is) in
-      omega (arith, ih, kept, some_left, under, work, same, became, some)
-    where
-      before : IsHistory setup h
-      before = run_older setup lets seat after past left idle next _ _ more (runs_are_histories setup past run.run)
-
-      next_kind : next.role.kind ≡ s.role.kind
-      next_kind = ap (λ (r : Role). r.kind) (still_role s given next (Call request) request Lost turn absorbs)
-
-      next_built : IsBuiltKind next.role.kind
-      next_built = subst IsBuiltKind (sym next_kind) built
-
-      t : HeldTask given
-      t = held_called given (own seat h) request (turn_stands s given (Call request) (own seat h) ready.rows ready.stands.told turn) (sym (gives_asked s given (Call request) turn)) (held_task lets given request h passes (sym (gives_asked s given (Call request) turn)) held)
-
-  -- the first pass
-
-  abbrev ReachedBehind : Role → Pass → List Entry → Type 0
-  ReachedBehind role pass h = (place : ℕ) (kind : Kind) (from : ℕ) → place < pass.behind → kind_in_order role place ≡ Some kind → from_of seat h kind ≡ Some from → base ≤ from
-
-  -- the lists of the kinds after each 513 writes
-  abbrev sweeps : SeatKind → ℕ
-  sweeps kind = sum_over (λ k. (most first k + 7) * (((world setup past).store.version - base) / 513)) (kinds_of kind)
-
-  -- what comes after the first pass
-  abbrev after_cost : SeatKind → ℕ
-  after_cost kind = 9 * ((world setup past).store.version - base) + (sum_over (most first) (kinds_of kind) + (sum_over (λ k. (most first k + 7) * (((world setup past).store.version - base) / 513)) (kinds_of kind) + 5))
-
-  -- nothing is written in it
-  abbrev cost_first : ActorState → List Entry → ℕ
-  cost_first s h = first_cost setup seat s.role.kind base base s h
-
-  no_again : (f : Key → ℕ) (ts : List Taken) → map key_in ts ≡ [] → again_cost f ts ≡ 0
-  no_again f [] e = refl
-  no_again f (t ∷ ts) e = none_some (sym (ap oldest_of e))
-
-  listed_in : (c : AllKnown) (ks : List Kind) (kind : Kind) → first_unlisted c ks ≡ None → IsIn kind ks → is_listed c kind ≡ true
-  listed_in c [] kind none i = absurd i
-  listed_in c (k ∷ ks) kind none i = by (is_listed c k) refl none i (listed_in c ks kind)
-    where
-      by : (b : Bool) → is_listed c k ≡ b → (if b then first_unlisted c ks else Some k) ≡ None → IsIn kind (k ∷ ks) → (first_unlisted c ks ≡ None → IsIn kind ks → is_listed c kind ≡ true) → is_listed c kind ≡ true
-      by false e n i rest = none_some (sym n)
-      by true e n (inl is) rest = subst (λ x. is_listed c x ≡ true) is e
-      by true e n (inr more) rest = rest n more
-
-  place_in : (ks : List Kind) (kind : Kind) → IsIn kind ks → (place : ℕ) × (slice_get ks place ≡ Some kind)
-  place_in [] kind i = absurd i
-  place_in (k ∷ ks) kind (inl is) = (0, ap Some is)
-  place_in (k ∷ ks) kind (inr i) = let p = place_in ks kind i in (suc p.0, p.1)
-
-  -- past the pass the first cost covers what is still to come
-  covered : (s : ActorState) (h : List Entry) → IsReady seat s h → (world setup h).store.version ≡ base → ReachedBehind s.role s.pass h → AreGiven first (world setup h).store.rows → s.under ≡ None → unlisted s ≡ None → passing s ≡ None
-      → slot_left setup first seat s.role.kind (world setup past).store.version s h ≤ cost_first s h + after_cost s.role.kind
-  covered s h ready version behind so none listed over =
-      let taken : taken_keys s.work ≡ [] = ready.stands.queue.taken ∙ ap under_keys none in
-      let again = no_again (cost_in s.role.kind first (world setup h).store.rows) s.work.taken taken in
-      let waiting = waiting_few s.role.kind first (world setup h).store.rows order (rows_stand_in_order setup h) so s.work.waiting (waiting_once s.work ready.stands.queue.once) in
-      let sum = sum_each (λ k. (most first k + 7) * (((world setup past).store.version - base) / 513)) (λ k. kind_left (most first k) (world setup past).store.version (world setup h) k (from_of seat h k)) (kinds_of s.role.kind) each in
-      let under = ap under_left none in
-      let event = at_most_five s.pass.event in
-      let writes : 9 * ((world setup past).store.version - (world setup h).store.version) ≡ 9 * ((world setup past).store.version - base) = ap (λ n. 9 * ((world setup past).store.version - n)) version in
-      omega (arith, again, waiting, sum, under, event, writes)
-    where
-      at_most_five : (e : Bool) → (if e then 5 else 0) ≤ 5
-      at_most_five true = omega arith
-      at_most_five false = omega arith
-
-      reach : (k : Kind) (from : ℕ) → IsIn k (kinds_of s.role.kind) → from_of seat h k ≡ Some from → base ≤ from
-      reach k from i is =
-          let p = place_in (kinds_of s.role.kind) k i in
-          let lt = slice_get_within (kinds_of s.role.kind) p.0 k p.1 in
-          let all = passed (kinds_of s.role.kind) s.pass.behind over in
-          behind p.0 k from (omega (arith, lt, all)) p.1 is
-
-      each : (k : Kind) → IsIn k (kinds_of s.role.kind) → kind_left (most first k) (world setup past).store.version (world setup h) k (from_of seat h k) ≤ (most first k + 7) * (((world setup past).store.version - base) / 513)
-      each k i = by (from_of seat h k) refl
-        where
-          by : (x : Option ℕ) → from_of seat h k ≡ x → kind_left (most first k) (world setup past).store.version (world setup h) k x ≤ (most first k + 7) * (((world setup past).store.version - base) / 513)
-          by None e =
-              let known : is_some (cache_of k s.caches).from ≡ true = listed_in s.caches (kinds_of s.role.kind) k listed i in
-              let c = (ready.stands.told.caches.each k).from ∙ (ap (λ x. watch_from (following_of (own seat h) x)) (ready.stands.told.caches.kinds k) ∙ e) in
-              absurd (true≢false (sym known ∙ ap is_some c))
-          by (Some from) e =
-              let r = reach k from i e in
-              let a = none_pending k from (world setup h).store.version (world setup h).log (omega (arith, r, version)) (logs setup h 0) in
-              let c = mul_less (most first k + 7) (((world setup past).store.version - from) / 513) (((world setup past).store.version - base) / 513) (div_less ((world setup past).store.version - from) ((world setup past).store.version - base) (omega (arith, r))) in
-              omega (arith, a, c)
+  -- the kinds behind the pass have reached a version
+  abbrev ReachedBehind : ℕ → Role → Pass → List Entry → Type 0
+  ReachedBehind reached role pass h = (place : ℕ) (kind : Kind) (from : ℕ) → place < pass.behind → kind_in_order role place ≡ Some kind → from_of seat h kind ≡ Some from → reached ≤ from
 
   pass_on : (x : ActorState) (request : Request) (reply : Reply) (h : List Entry) (given : IsCallGiven setup seat x request reply h) (caches : AllKnown) → PassOn seat x (told_to x caches request reply) (told_entry seat x request reply ∷ h) (world setup h).store.version
   pass_on x request reply h given caches = by (given_so x request given.ask)
@@ -440,13 +290,6 @@ module _ (setup : Setup) (lets : Lets) (passes : PassesReads lets) (seat : ℕ) 
       by (GivesStart eg) = Stands (ap (λ (y : ActorState). y.pass.behind) (ap (given_told (learned x caches request reply) request reply) eg))
       by (GivesRead kind eg) = read_by kind eg (read_called setup seat x request reply h given kind eg).reads
 
-  reached_all : (role : Role) (pass : Pass) (h : List Entry) → ReachedBehind role pass h → kind_in_order role pass.behind ≡ None → KindsHaveReached base seat role.kind h
-  reached_all role pass h behind over kind from f is =
-      let p = placed role.kind kind f in
-      let within = p.within in
-      let all = passed (kinds_of role.kind) pass.behind over in
-      behind p.place kind from (omega (arith, within, all)) p.at is
-
   at_or_before : (i n : ℕ) → i < n + 1 → (i < n) ⊎ (i ≡ n)
   at_or_before i n lt = by (nat_lt i n) refl
     where
@@ -454,7 +297,229 @@ module _ (setup : Setup) (lets : Lets) (passes : PassesReads lets) (seat : ℕ) 
       by true e = inl (grind (arith, nat_tests))
       by false e = inr (grind (arith, nat_tests))
 
-  first_pass : (s : ActorState) (h : List Entry) (b : ℕ) → Runs lets seat after past left idle s h b → IsBuiltKind s.role.kind → s.under ≡ None → (world setup h).store.version ≡ base → Point setup s.role.kind base m (world setup past).store.version h → ReachedBehind s.role s.pass h → KnowsBehind setup seat s.role s.pass h
+  -- and those behind it after one call have too
+  behind_on : (version : ℕ) (x : ActorState) (request : Request) (reply : Reply) (h : List Entry) → IsCallGiven setup seat x request reply h → version ≤ (world setup h).store.version → ReachedBehind version x.role x.pass h → (caches : AllKnown)
+      → ReachedBehind version (told_to x caches request reply).role (told_to x caches request reply).pass (told_entry seat x request reply ∷ h)
+  behind_on version x request reply h given begun behind caches place kind from lt there is = on (pass_on x request reply h given caches)
+    where
+      role : (told_to x caches request reply).role ≡ x.role
+      role = answer_role x caches request (Told reply)
+
+      there_before : kind_in_order x.role place ≡ Some kind
+      there_before = ap (λ (r : Role). kind_in_order r place) (sym role) ∙ there
+
+      kept : place < x.pass.behind → version ≤ from
+      kept before = reached_on setup seat version x request reply h given begun kind from (λ f e. behind place kind f before there_before e) is
+
+      on : PassOn seat x (told_to x caches request reply) (told_entry seat x request reply ∷ h) (world setup h).store.version → version ≤ from
+      on (Stands stays) = kept (omega (arith, lt, stays))
+      on (GoesOn k at_k reached_k goes) = elim (at_or_before place x.pass.behind (omega (arith, lt, goes))) [
+        | inl before ↦ kept before
+        | inr here ↦
+            let k_is : Some k ≡ Some kind = sym at_k ∙ (ap (kind_in_order x.role) (sym here) ∙ there_before) in
+            let v = one (world setup h).store.version from (sym reached_k ∙ (ap (from_of seat (told_entry seat x request reply ∷ h)) (one k kind k_is) ∙ is)) in
+            omega (arith, v, begun)
+      ]
+
+  -- a call that was answered, and what the slot may still cost behind it
+  module _ (x : ActorState) (request : Request) (reply : Reply) (h : List Entry) (given : IsCallGiven setup seat x request reply h) (at : Point setup x.role.kind base m high h) (reached : KindsHaveReached base seat x.role.kind h)
+      (short : (world setup (told_entry seat x request reply ∷ h)).store.version ≤ high) (so : AreGiven first (world setup h).store.rows)
+      (falls : (key : Key) → cost_in x.role.kind first (world setup (told_entry seat x request reply ∷ h)).store.rows key ≤ cost_in x.role.kind first (world setup h).store.rows key) where
+    -- in a pass nothing is written
+    module _ (none : x.under ≡ None) (behind : ReachedBehind (world setup h).store.version x.role x.pass h) where
+      version : (world setup (told_entry seat x request reply ∷ h)).store.version ≡ (world setup h).store.version
+      version = (reads_stay setup seat x request reply h (own_read x request none given.ask)).0
+
+      stays : Stays (world setup h) (world setup (told_entry seat x request reply ∷ h)) request reply
+      stays = elim (world_moves setup (told_entry seat x request reply) h given.history.1) [
+        | inl still ↦ still
+        | inr wrote ↦ (let more = wrote.version in let same = version in absurd (omega (arith, more, same)))
+      ]
+
+      falls_by : (caches : AllKnown) → GivenSo x → rest_left first x.role.kind (world setup (told_entry seat x request reply ∷ h)) (told_to x caches request reply)
+          + (kinds_left setup first seat x.role.kind (told_entry seat x request reply ∷ h) + pass_cost (told_to x caches request reply).pass) + 1
+          ≤ rest_left first x.role.kind (world setup h) x + (kinds_left setup first seat x.role.kind h + pass_cost x.pass)
+      falls_by caches (GivesTask e) = none_some (sym none ∙ (task_called setup seat x request reply h given e).there)
+      falls_by caches (GivesStart e) = start_falls setup first seat base m high x request reply h given at begins reached short order so falls caches e stays
+      falls_by caches (GivesRead kind e) = read_falls setup first seat base m high x request reply h given at begins reached short order so falls caches kind e
+
+      pass_pays : (caches : AllKnown) → IsLess setup first seat high (told_to x caches request reply) (told_entry seat x request reply ∷ h) 1 (slot_left setup first seat high x h (InPass none behind))
+      pass_pays caches = record {
+        stage = InPass (none_told x request reply caches none given.ask) goes_on;
+        less = omega (arith, fewer, same, rest, kinds, sweeps);
+      }
+        where
+          role : (told_to x caches request reply).role ≡ x.role
+          role = answer_role x caches request (Told reply)
+
+          same : (world setup (told_entry seat x request reply ∷ h)).store.version ≡ (world setup h).store.version
+          same = version
+
+          fewer : rest_left first x.role.kind (world setup (told_entry seat x request reply ∷ h)) (told_to x caches request reply)
+              + (kinds_left setup first seat x.role.kind (told_entry seat x request reply ∷ h) + pass_cost (told_to x caches request reply).pass) + 1
+              ≤ rest_left first x.role.kind (world setup h) x + (kinds_left setup first seat x.role.kind h + pass_cost x.pass)
+          fewer = falls_by caches (given_so x request given.ask)
+
+          rest : rest_left first (told_to x caches request reply).role.kind (world setup (told_entry seat x request reply ∷ h)) (told_to x caches request reply) ≡ rest_left first x.role.kind (world setup (told_entry seat x request reply ∷ h)) (told_to x caches request reply)
+          rest = ap (λ (r : Role). rest_left first r.kind (world setup (told_entry seat x request reply ∷ h)) (told_to x caches request reply)) role
+
+          kinds : kinds_left setup first seat (told_to x caches request reply).role.kind (told_entry seat x request reply ∷ h) ≡ kinds_left setup first seat x.role.kind (told_entry seat x request reply ∷ h)
+          kinds = ap (λ (r : Role). kinds_left setup first seat r.kind (told_entry seat x request reply ∷ h)) role
+
+          sweeps : sweep_cost first (told_to x caches request reply).role.kind * ((high - (world setup (told_entry seat x request reply ∷ h)).store.version) / 513) ≡ sweep_cost first x.role.kind * ((high - (world setup h).store.version) / 513)
+          sweeps = ap (λ (r : Role). sweep_cost first r.kind * ((high - (world setup (told_entry seat x request reply ∷ h)).store.version) / 513)) role ∙ ap (λ n. sweep_cost first x.role.kind * ((high - n) / 513)) version
+
+          goes_on : ReachedBehind (world setup (told_entry seat x request reply ∷ h)).store.version (told_to x caches request reply).role (told_to x caches request reply).pass (told_entry seat x request reply ∷ h)
+          goes_on place kind from lt there is = let reaches = behind_on (world setup h).store.version x request reply h given (omega arith) behind caches place kind from lt there is in omega (arith, reaches, same)
+
+    calls_pay : (caches : AllKnown) (stage : Stage setup seat x h) → IsLess setup first seat high (told_to x caches request reply) (told_entry seat x request reply ∷ h) 1 (slot_left setup first seat high x h stage)
+    calls_pay caches (InPass none behind) = pass_pays none behind caches
+    calls_pay caches (AtKeys read over kinds low few) = by (given_so x request given.ask)
+      where
+        by : GivenSo x → IsLess setup first seat high (told_to x caches request reply) (told_entry seat x request reply ∷ h) 1 (slot_left setup first seat high x h (AtKeys read over kinds low few))
+        by (GivesTask e) = task_pays setup first seat base m high x request reply h given at begins reached short order so falls read over kinds low few caches e
+        by (GivesStart e) = start_pays setup first seat base m high x request reply h given at begins reached short order so falls read over kinds low few caches e
+        by (GivesRead kind e) = absurd (none_read setup first seat base m high x request reply h given at begins reached short order so falls read over kinds low few kind e)
+
+  -- a call that is held back is a task's
+  held_pays : (x : ActorState) (h : List Entry) → HeldTask x → (stage : Stage setup seat x h) → IsLess setup first seat high (lost_to x) h 1 (slot_left setup first seat high x h stage)
+  held_pays x h t (InPass none behind) = none_some (sym none ∙ t.there)
+  held_pays x h t (AtKeys read over kinds low few) =
+      let some_left = t.some in
+      let under : under_left x.under ≡ task_left t.under.task = ap under_left t.there in
+      let work = put_off_cost (cost_in x.role.kind first (world setup h).store.rows) t.under.key x.work in
+      subst (λ y. IsLess setup first seat high y h 1 (slot_left setup first seat high x h (AtKeys read over kinds low few))) (sym t.is) (record { stage = AtKeys read over kinds low few; less = omega (arith, some_left, under, work) })
+
+  second_pass : (s : ActorState) (h : List Entry) (b : ℕ) → Runs lets seat after past left idle s h b → IsBuiltKind s.role.kind → Point setup s.role.kind base m (world setup past).store.version h → KindsHaveReached base seat s.role.kind h → KnowsBehind setup seat s.role s.pass h
+      → IsOrdered s → AreGiven first (world setup h).store.rows → (stage : Stage setup seat s h) → b ≤ left + slot_left setup first seat (world setup past).store.version s h stage
+  second_pass s h b (IsSpent none state entries rest busy) built at reached knows ordered so stage = omega (arith, none)
+  second_pass s h b (IsIdle some ready turn entries rest calm) built at reached knows ordered so stage = omega (arith, rest)
+  second_pass s h b (Asks given next request reply some ready turn lets_it absorbs more) built at reached knows ordered so stage =
+      let kept = turn_costs setup first seat (world setup past).store.version s given request h so high_enough ready built whole.0 turn (λ over. sees setup seat s h whole.0 ready.stands.told knows over) stage in
+      let told = calls_pay given request reply h g given_point given_reached short so (cost_falls given.role.kind first (world setup h).store.rows (world setup (told_entry seat given request reply ∷ h)).store.rows (rows_stand_in_order setup h) moves) next.caches kept.stage in
+      let less = subst (λ y. IsLess setup first seat (world setup past).store.version y (told_entry seat given request reply ∷ h) 1 (slot_left setup first seat (world setup past).store.version given h kept.stage)) (sym absorbs) told in
+      let ih = second_pass next (told_entry seat given request reply ∷ h) (b - 1) more next_built next_at next_reached (told_knows setup seat s given request reply h built ready turn whole knows next absorbs)
+      (subst IsOrdered (sym absorbs) (told_ordered setup seat given request reply h called next.caches turned)) (given_on setup first h (world setup (told_entry seat given request reply ∷ h)).store.rows moves so) less.stage in
+      let now = kept.less in
+      let then_ = less.less in
+      omega (arith, ih, now, then_, some)
+    where
+      whole_run : IsRunOf setup (told_entry seat given request reply ∷ h)
+      whole_run = run_at setup lets seat after past left idle run next (told_entry seat given request reply ∷ h) (b - 1) more
+
+      whole : IsHistory setup (told_entry seat given request reply ∷ h)
+      whole = runs_are_histories setup (told_entry seat given request reply ∷ h) (run_at setup lets seat after past left idle run next (told_entry seat given request reply ∷ h) (b - 1) more).run
+
+      g : IsCallGiven setup seat given request reply h
+      g = given_at s given h request reply built ready turn whole
+
+      called : IsCalled setup seat given request reply h
+      called = called_at setup lets seat after past left idle run s given h request reply built ready turn (run_at setup lets seat after past left idle run next (told_entry seat given request reply ∷ h) (b - 1) more)
+
+      turned : IsOrdered given
+      turned = turned_ordered s given request turn ordered
+
+      moves : CallMoves (world setup h).store.rows (world setup (told_entry seat given request reply ∷ h)).store.rows
+      moves = call_moves setup seat given request reply h called (subst (λ (r : Role). IsBuiltKind r.kind) (sym (turn_role s given (Call request) turn)) built) (turned_knows setup seat s given (Call request) h turn knows) turned
+
+      short : (world setup (told_entry seat given request reply ∷ h)).store.version ≤ (world setup past).store.version
+      short = later setup lets seat after past left idle next _ _ more
+
+      high_enough : (world setup h).store.version ≤ (world setup past).store.version
+      high_enough = let up = rises setup (told_entry seat given request reply ∷ []) h in let to = short in omega (arith, up, to)
+
+      given_kind : given.role.kind ≡ s.role.kind
+      given_kind = ap (λ (r : Role). r.kind) (turn_role s given (Call request) turn)
+
+      next_kind : next.role.kind ≡ s.role.kind
+      next_kind = ap (λ (r : Role). r.kind) (still_role s given next (Call request) request (Told reply) turn absorbs)
+
+      next_built : IsBuiltKind next.role.kind
+      next_built = subst IsBuiltKind (sym next_kind) built
+
+      given_point : Point setup given.role.kind base m (world setup past).store.version h
+      given_point = subst (λ k. Point setup k base m (world setup past).store.version h) (sym given_kind) at
+
+      given_reached : KindsHaveReached base seat given.role.kind h
+      given_reached = subst (λ k. KindsHaveReached base seat k h) (sym given_kind) reached
+
+      next_at : Point setup next.role.kind base m (world setup past).store.version (told_entry seat given request reply ∷ h)
+      next_at = subst (λ k. Point setup k base m (world setup past).store.version (told_entry seat given request reply ∷ h)) (given_kind ∙ sym next_kind)
+          (point_on setup given.role.kind base m (world setup past).store.version (told_entry seat given request reply) h given_point short (light_of setup seat base given request reply h g at.begun) (world_moves setup (told_entry seat given request reply) h whole.1))
+
+      next_reached : KindsHaveReached base seat next.role.kind (told_entry seat given request reply ∷ h)
+      next_reached kind from f is = reached_on setup seat base given request reply h g at.begun kind from (λ v e. reached kind v (ap (λ k. follows k kind) (sym next_kind) ∙ f) e) is
+  second_pass s h b (IsHeld given next request some ready turn held absorbs more) built at reached knows ordered so stage =
+      let kept = turn_costs setup first seat (world setup past).store.version s given request h so short ready built before turn (λ over. sees setup seat s h before ready.stands.told knows over) stage in
+      let lost = held_pays given h t kept.stage in
+      let less = subst (λ y. IsLess setup first seat (world setup past).store.version y h 1 (slot_left setup first seat (world setup past).store.version given h kept.stage)) (sym absorbs) lost in
+      let ih = second_pass next h (b - 1) more next_built (subst (λ k. Point setup k base m (world setup past).store.version h) (sym next_kind) at) (subst (λ k. KindsHaveReached base seat k h) (sym next_kind) reached) (lost_knows setup seat given next request h (turned_knows setup seat s given (Call request) h turn knows) absorbs)
+      (subst IsOrdered (sym absorbs) (lost_ordered given (turned_ordered s given request turn ordered))) so less.stage in
+      let now = kept.less in
+      let then_ = less.less in
+      omega (arith, ih, now, then_, some)
+    where
+      before : IsHistory setup h
+      before = run_older setup lets seat after past left idle next _ _ more (runs_are_histories setup past run.run)
+
+      short : (world setup h).store.version ≤ (world setup past).store.version
+      short = later setup lets seat after past left idle next _ _ more
+
+      next_kind : next.role.kind ≡ s.role.kind
+      next_kind = ap (λ (r : Role). r.kind) (still_role s given next (Call request) request Lost turn absorbs)
+
+      next_built : IsBuiltKind next.role.kind
+      next_built = subst IsBuiltKind (sym next_kind) built
+
+      t : HeldTask given
+      t = held_called given (own seat h) request (turn_stands s given (Call request) (own seat h) ready.rows ready.stands.told turn) (sym (gives_asked s given (Call request) turn)) (held_task lets given request h passes (sym (gives_asked s given (Call request) turn)) held)
+
+  -- the first pass
+
+  -- what comes after the first pass
+  abbrev after_cost : SeatKind → ℕ
+  after_cost kind = 9 * ((world setup past).store.version - base) + (sum_over (most first) (kinds_of kind) + (sweep_cost first kind * (((world setup past).store.version - base) / 513) + 5))
+
+  -- nothing is written in it
+  abbrev cost_first : ActorState → List Entry → ℕ
+  cost_first s h = first_cost setup seat s.role.kind base base s h
+
+  no_again : (f : Key → ℕ) (ts : List Taken) → map key_in ts ≡ [] → again_cost f ts ≡ 0
+  no_again f [] e = refl
+  no_again f (t ∷ ts) e = none_some (sym (ap oldest_of e))
+
+  -- past the pass the first cost covers what is still to come
+  covered : (s : ActorState) (h : List Entry) → IsReady seat s h → IsBuiltKind s.role.kind → IsHistory setup h → (world setup h).store.version ≡ base → ReachedBehind base s.role s.pass h → AreGiven first (world setup h).store.rows → s.under ≡ None → unlisted s ≡ None → passing s ≡ None
+      → IsLess setup first seat (world setup past).store.version s h 0 (cost_first s h + after_cost s.role.kind)
+  covered s h ready built history version behind so none listed over =
+      let taken : taken_keys s.work ≡ [] = ready.stands.queue.taken ∙ ap under_keys none in
+      let again = no_again (cost_in s.role.kind first (world setup h).store.rows) s.work.taken taken in
+      let waiting = waiting_few s.role.kind first (world setup h).store.rows order (rows_stand_in_order setup h) so s.work.waiting (waiting_once s.work ready.stands.queue.once) in
+      let under = ap under_left none in
+      let event = at_most_five s.pass.event in
+      let writes : 9 * ((world setup past).store.version - (world setup h).store.version) ≡ 9 * ((world setup past).store.version - base) = ap (λ n. 9 * ((world setup past).store.version - n)) version in
+      let sweeps : sweep_cost first s.role.kind * (((world setup past).store.version - (world setup h).store.version) / 513) ≡ sweep_cost first s.role.kind * (((world setup past).store.version - base) / 513) = ap (λ n. sweep_cost first s.role.kind * (((world setup past).store.version - n) / 513)) version in
+      let told = nothing_told setup seat s h ready built history reached listed over in
+      record {
+        stage = AtKeys (world setup h).store.version over (all_read setup seat s h ready built history reached listed over) (omega arith) (omega (arith, told));
+        less = omega (arith, again, waiting, under, event, writes, sweeps);
+      }
+    where
+      at_most_five : (e : Bool) → (if e then 5 else 0) ≤ 5
+      at_most_five true = omega arith
+      at_most_five false = omega arith
+
+      reached : ReachedBehind (world setup h).store.version s.role s.pass h
+      reached place kind from lt there is = let r = behind place kind from lt there is in omega (arith, r, version)
+
+  reached_all : (role : Role) (pass : Pass) (h : List Entry) → ReachedBehind base role pass h → kind_in_order role pass.behind ≡ None → KindsHaveReached base seat role.kind h
+  reached_all role pass h behind over kind from f is =
+      let p = placed role.kind kind f in
+      let within = p.within in
+      let all = passed (kinds_of role.kind) pass.behind over in
+      behind p.place kind from (omega (arith, within, all)) p.at is
+
+  first_pass : (s : ActorState) (h : List Entry) (b : ℕ) → Runs lets seat after past left idle s h b → IsBuiltKind s.role.kind → s.under ≡ None → (world setup h).store.version ≡ base → Point setup s.role.kind base m (world setup past).store.version h → ReachedBehind base s.role s.pass h → KnowsBehind setup seat s.role s.pass h
       → AreGiven first (world setup h).store.rows → b ≤ left + (cost_first s h + after_cost s.role.kind)
   first_pass s h b (IsSpent none state entries rest busy) built rests version at behind knows so = omega (arith, none)
   first_pass s h b (IsIdle some ready turn entries rest calm) built rests version at behind knows so = omega (arith, rest)
@@ -489,40 +554,19 @@ module _ (setup : Setup) (lets : Lets) (passes : PassesReads lets) (seat : ℕ) 
       next_at = subst (λ k. Point setup k base m (world setup past).store.version (told_entry seat given request reply ∷ h)) (sym next_kind)
           (point_on setup given.role.kind base m (world setup past).store.version (told_entry seat given request reply) h given_point short (light_of setup seat base given request reply h g at.begun) (world_moves setup (told_entry seat given request reply) h whole.1))
 
-      next_behind : s.pass ≡ given.pass → ReachedBehind next.role next.pass (told_entry seat given request reply ∷ h)
-      next_behind same place kind from lt there is = on (pass_on given request reply h g next.caches)
-        where
-          there_before : kind_in_order s.role place ≡ Some kind
-          there_before = ap (λ (r : Role). kind_in_order r place) (sym (next_role ∙ given_role)) ∙ there
-
-          kept : place < s.pass.behind → base ≤ from
-          kept before = reached_on setup seat base given request reply h g at.begun kind from (λ f e. behind place kind f before there_before e) is
-
-          next_is : next.pass.behind ≡ (told_to given next.caches request reply).pass.behind
-          next_is = ap (λ (y : ActorState). y.pass.behind) absorbs
-
-          same_behind : s.pass.behind ≡ given.pass.behind
-          same_behind = ap (λ (p : Pass). p.behind) same
-
-          on : PassOn seat given (told_to given next.caches request reply) (told_entry seat given request reply ∷ h) (world setup h).store.version → base ≤ from
-          on (Stands stays) = let n = next_is in let sb = same_behind in kept (omega (arith, lt, stays, n, sb))
-          on (GoesOn k at_k reached_k goes) = elim (at_or_before place given.pass.behind (let n = next_is in omega (arith, lt, goes, n))) [
-            | inl before ↦ let sb = same_behind in kept (omega (arith, before, sb))
-            | inr here ↦
-                let k_is : Some k ≡ Some kind = sym at_k ∙ (ap (kind_in_order given.role) (sym here) ∙ (ap (λ (r : Role). kind_in_order r place) (sym next_role) ∙ there)) in
-                let v = one (world setup h).store.version from (sym reached_k ∙ (ap (from_of seat (told_entry seat given request reply ∷ h)) (one k kind k_is) ∙ is)) in
-                let begun = at.begun in
-                omega (arith, v, begun)
-          ]
+      next_behind : s.pass ≡ given.pass → ReachedBehind base next.role next.pass (told_entry seat given request reply ∷ h)
+      next_behind same = subst (λ (y : ActorState). ReachedBehind base y.role y.pass (told_entry seat given request reply ∷ h)) (sym absorbs)
+          (behind_on base given request reply h g at.begun (subst (λ (r : Role). ReachedBehind base r given.pass h) (sym given_role) (subst (λ p. ReachedBehind base s.role p h) same behind)) next.caches)
 
       by : TurnOf s given
-          → (IsBuiltKind next.role.kind → next.under ≡ None → (world setup (told_entry seat given request reply ∷ h)).store.version ≡ base → Point setup next.role.kind base m (world setup past).store.version (told_entry seat given request reply ∷ h) → ReachedBehind next.role next.pass (told_entry seat given request reply ∷ h)
+          → (IsBuiltKind next.role.kind → next.under ≡ None → (world setup (told_entry seat given request reply ∷ h)).store.version ≡ base → Point setup next.role.kind base m (world setup past).store.version (told_entry seat given request reply ∷ h) → ReachedBehind base next.role next.pass (told_entry seat given request reply ∷ h)
           → KnowsBehind setup seat next.role next.pass (told_entry seat given request reply ∷ h) → AreGiven first (world setup (told_entry seat given request reply ∷ h)).store.rows → b - 1 ≤ left + (cost_first next (told_entry seat given request reply ∷ h) + after_cost next.role.kind))
           → b ≤ left + (cost_first s h + after_cost s.role.kind)
       by (IsPast eu el ep) more_of =
-          let second = second_pass s h b (Asks given next request reply some ready turn lets_it absorbs more) built at (reached_all s.role s.pass h behind ep) knows (NothingUnder eu) so in
-          let c = covered s h ready version behind so eu el ep in
-          omega (arith, second, c)
+          let c = covered s h ready built whole.0 version behind so eu el ep in
+          let second = second_pass s h b (Asks given next request reply some ready turn lets_it absorbs more) built at (reached_all s.role s.pass h behind ep) knows (NothingUnder eu) so c.stage in
+          let less = c.less in
+          omega (arith, second, less)
       by (IsBefore gg e) more_of =
           let given_none : given.under ≡ None = ap (λ (y : ActorState). y.under) e ∙ rests in
           let ask = sym (gives_asked s given (Call request) turn) in
@@ -539,11 +583,15 @@ module _ (setup : Setup) (lets : Lets) (passes : PassesReads lets) (seat : ℕ) 
           omega (arith, ih, pays, same, became, was, turned, later_, some)
   first_pass s h b (IsHeld given next request some ready turn held absorbs more) built rests version at behind knows so = by (turn_of s given request turn)
     where
+      before : IsHistory setup h
+      before = run_older setup lets seat after past left idle next _ _ more (runs_are_histories setup past run.run)
+
       by : TurnOf s given → b ≤ left + (cost_first s h + after_cost s.role.kind)
       by (IsPast eu el ep) =
-          let second = second_pass s h b (IsHeld given next request some ready turn held absorbs more) built at (reached_all s.role s.pass h behind ep) knows (NothingUnder eu) so in
-          let c = covered s h ready version behind so eu el ep in
-          omega (arith, second, c)
+          let c = covered s h ready built before version behind so eu el ep in
+          let second = second_pass s h b (IsHeld given next request some ready turn held absorbs more) built at (reached_all s.role s.pass h behind ep) knows (NothingUnder eu) so c.stage in
+          let less = c.less in
+          omega (arith, second, less)
       by (IsBefore gg e) =
           let given_none : given.under ≡ None = ap (λ (y : ActorState). y.under) e ∙ rests in
           let own = own_read given request given_none (sym (gives_asked s given (Call request) turn)) in
@@ -565,7 +613,7 @@ start_few role m = by m.stale
 
 -- how many calls a slot makes at most, by the objects with which its round began and by its writes
 abbrev pub slot_most : List Object → SeatKind → ℕ → ℕ
-slot_most first kind writes = 9 * writes + (sum_over (most first) (kinds_of kind) + (sum_over (λ k. (most first k + 7) * (writes / 513)) (kinds_of kind) + 62))
+slot_most first kind writes = 9 * writes + (sum_over (most first) (kinds_of kind) + (sweep_cost first kind * (writes / 513) + 62))
 
 pub slots_cost_less : (setup : Setup) (lets : Lets) (seat : ℕ) (old after : ActorState) (h past : List Entry) (b left : ℕ) (idle : Bool) (first : List Object) → IsBuiltKind old.role.kind → IsRunOf setup past → PassesReads lets → old.under ≡ None → AreRows first
     → AreGiven first (world setup h).store.rows → Runs lets seat after past left idle (woken old) h b → b ≤ left + slot_most first old.role.kind (writes_since setup h past)

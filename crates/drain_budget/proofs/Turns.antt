@@ -1,4 +1,5 @@
--- Past its first pass a turn of an actor leaves what is still to come as it is: a decision begins no more than was reckoned for its key.
+-- Past its first pass a turn of an actor costs nothing: a decision begins no more than was reckoned for its key, and a new pass is paid for by the
+-- writes since the last one.
 use Rattle.std.proofs.Common.{◌≡◌, ◌∙◌, ℕ, ◌+◌, ◌-◌, ◌≤◌, List, [], ◌∷◌, Bool, true, false, Option, Some, None, inl, inr, refl, sym, ap, subst, arith, if◌then◌else◌}
 use Rattle.std.specs.Prelude.{map}
 use Rattle.kube_types.specs.declared.key.Key.{Key}
@@ -10,7 +11,7 @@ use Rattle.call_types.specs.declared.entry.Entry.{Entry}
 use Rattle.call_types.specs.declared.request.Request.{Request}
 use Rattle.call_types.specs.declared.setup.Setup.{Setup}
 use Rattle.binder_model.specs.Reading.{follows}
-use Rattle.binder_model.specs.World.{world}
+use Rattle.binder_model.specs.World.{IsHistory, world}
 use Rattle.informer_cache.specs.All.{all_objects}
 use Rattle.model_laws.proofs.Lists.{none_some}
 use Rattle.sync_queue.specs.Work.{AreOnce, Taken, Work, added, begun, oldest_of}
@@ -18,14 +19,17 @@ use Rattle.worker_core.specs.declared.role.Role.{Role}
 use Rattle.worker_core.specs.declared.task.First.{First}
 use Rattle.worker_core.specs.declared.task.First.TheVariants as firsts
 use Rattle.worker_core.specs.declared.task.Under.{Under}
+use Rattle.worker_core.specs.declared.turn.Given.{Given}
 use Rattle.worker_core.specs.declared.turn.Given.TheVariants as givens
 use Rattle.worker_core.specs.declared.turn.Next.TheVariants.{Call}
 use Rattle.worker_core.specs.Memories.{Memory}
+use Rattle.worker_core.specs.Roles.{IsBuiltKind}
 use Rattle.worker_core.specs.States.{ActorState, call_in, start_call}
 use Rattle.worker_core.specs.Tasks.{GivesNone}
 use Rattle.worker_core.specs.Turns.{AfterKeys, Begins, Decides, Drops, IsTurn, Nothing, TurnBy, dropped, passing, unlisted}
 use Rattle.attention_law.specs.Queues.{taken_keys, under_keys}
 use Rattle.attention_law.proofs.Queues.{added_taken, begun_taken, finished_taken}
+use Rattle.worker_threads.specs.Rounds.{IsReady}
 use Rattle.slot_law.specs.Slots.{SeesStore}
 use Rattle.cost_law.specs.Costs.{calls_for, work_cost}
 use Rattle.cost_law.specs.Tasks.{under_left}
@@ -34,8 +38,9 @@ use Rattle.cost_law.proofs.Works.{added_cost, begun_cost, finished_cost}
 use Rattle.event_law.specs.Ahead.{pass_cost}
 use Rattle.worker_core.proofs.Machines.{queued_kinds}
 use Rattle.call_count.proofs.Growth.{AreGiven}
-use Rattle.drain_budget.proofs.Calls.{slot_left}
+use Rattle.drain_budget.proofs.Calls.{AtKeys, InPass, IsLess, Stage, kinds_ahead, slot_left}
 use Rattle.drain_budget.proofs.RoundCosts.{cost_in, covers, queued_cost}
+use Rattle.drain_budget.proofs.Stages.{IsAtKeys, keys_of, pass_begins}
 
 -- the turns
 
@@ -84,34 +89,40 @@ module _ (role : Role) (memory : Memory) (rows : List Object) (first stored : Li
       let b = decided_cost after under _ rest (dropped_none what key w old e) in
       omega (arith, a, b)
 
--- a turn that gives a call leaves the rest as it is
-pub turn_cost : (setup : Setup) (first : List Object) (seat high : ℕ) (s given : ActorState) (request : Request) (h : List Entry) → AreGiven first (world setup h).store.rows → IsTurn s given (Call request) → (passing s ≡ None → SeesStore setup s h) → taken_keys s.work ≡ under_keys s.under
-    → slot_left setup first seat s.role.kind high given h ≤ slot_left setup first seat s.role.kind high s h
-turn_cost setup first seat high s given request h so turn exact own_taken = by s.memory.stale s.under (start_call s.role s.memory) (unlisted s) (passing s) refl refl turn
+-- a turn that gives a call costs nothing: it decides keys, or begins a pass
+pub turn_costs : (setup : Setup) (first : List Object) (seat high : ℕ) (s given : ActorState) (request : Request) (h : List Entry) → AreGiven first (world setup h).store.rows → (world setup h).store.version ≤ high → IsReady seat s h → IsBuiltKind s.role.kind → IsHistory setup h
+    → IsTurn s given (Call request) → (passing s ≡ None → SeesStore setup s h) → (stage : Stage setup seat s h) → IsLess setup first seat high given h 0 (slot_left setup first seat high s h stage)
+turn_costs setup first seat high s given request h so short ready built history turn exact stage = by s.memory.stale s.under (start_call s.role s.memory) (unlisted s) (passing s) refl refl refl turn
   where
-    cost : ActorState → ℕ
-    cost x = slot_left setup first seat s.role.kind high x h
+    same : (x : ActorState) → given ≡ x → IsLess setup first seat high x h 0 (slot_left setup first seat high s h stage) → IsLess setup first seat high given h 0 (slot_left setup first seat high s h stage)
+    same x e less = subst (λ y. IsLess setup first seat high y h 0 (slot_left setup first seat high s h stage)) (sym e) less
 
-    same : (x : ActorState) → given ≡ x → cost x ≤ cost s → cost given ≤ cost s
-    same x e le = subst (λ y. cost y ≤ cost s) (sym e) le
+    -- what is given changes nothing
+    still : (g : Option Given) (x : Stage setup seat s h) → IsLess setup first seat high (record s { given = g }) h 0 (slot_left setup first seat high s h x)
+    still g (InPass none behind) = record { stage = InPass none behind; less = omega arith }
+    still g (AtKeys read over kinds low few) = record { stage = AtKeys read over kinds low few; less = omega arith }
 
-    keys : (w : Work) (under : Option Under) → s.under ≡ None → passing s ≡ None → Decides s.role s.memory (all_objects s.caches) w under s.work → AfterKeys s given (Call request) w under → cost given ≤ cost s
-    keys w (Some u) eu ep d b =
-        let none : taken_keys s.work ≡ [] = own_taken ∙ ap under_keys eu in
+    keys : (w : Work) (under : Option Under) → s.under ≡ None → IsAtKeys setup first seat high s h (kinds_ahead setup first seat high s h stage) → Decides s.role s.memory (all_objects s.caches) w under s.work → passing s ≡ None → AfterKeys s given (Call request) w under
+        → IsLess setup first seat high given h 0 (slot_left setup first seat high s h stage)
+    keys w (Some u) eu at d ep b =
+        let none : taken_keys s.work ≡ [] = ready.stands.queue.taken ∙ ap under_keys eu in
         let c = decided_cost s.role s.memory (all_objects s.caches) first (world setup h).store.rows so (exact ep) w (Some u) s.work d none in
         let z = ap under_left eu in
-        same (record s { work = w; under = Some u; given = Some givens.Task }) b.state (omega (arith, c, z))
-    keys w None eu ep d (inl b) =
-        let none : taken_keys s.work ≡ [] = own_taken ∙ ap under_keys eu in
+        let less = at.less in
+        same (record s { work = w; under = Some u; given = Some givens.Task }) b.state (record { stage = AtKeys at.read at.over at.kinds at.low at.few; less = omega (arith, c, z, less) })
+    keys w None eu at d ep (inl b) =
+        let none : taken_keys s.work ≡ [] = ready.stands.queue.taken ∙ ap under_keys eu in
         let c = decided_cost s.role s.memory (all_objects s.caches) first (world setup h).store.rows so (exact ep) w None s.work d none in
         let brought : pass_cost s.pass ≡ (5 - s.pass.behind) + 5 = ap (λ e. (5 - s.pass.behind) + (if e then 5 else 0)) b.brought in
-        same (record s { work = w; pass = record { behind = 0; event = false }; given = Some (givens.Read b.kind) }) b.state (omega (arith, c, brought))
-    keys w None eu ep d (inr b) = none_some (sym (ap call_in b.idle))
+        let begins = pass_begins setup first seat high s h (kinds_ahead setup first seat high s h stage) short at in
+        let z = ap under_left eu in
+        same (record s { work = w; pass = record { behind = 0; event = false }; given = Some (givens.Read b.kind) }) b.state (record { stage = InPass eu (λ place kind from lt. absurd (omega (arith, lt))); less = omega (arith, c, brought, begins, z) })
+    keys w None eu at d ep (inr b) = none_some (sym (ap call_in b.idle))
 
-    by : (stale : Bool) (u : Option Under) (start : Option Request) (l p : Option Kind) → s.under ≡ u → passing s ≡ p → TurnBy s given (Call request) stale u start l p → cost given ≤ cost s
-    by true u start l p eu ep t = none_some (sym (ap call_in t.idle))
-    by false (Some u) start l p eu ep t = same (record s { given = Some givens.Task }) t.state (omega arith)
-    by false None (Some r) l p eu ep t = same (record s { given = Some givens.Start }) t.state (omega arith)
-    by false None None (Some k) p eu ep t = same (record s { given = Some (givens.Read k) }) t.state (omega arith)
-    by false None None None (Some k) eu ep t = same (record s { given = Some (givens.Read k) }) t.state (omega arith)
-    by false None None None None eu ep t = keys t.work t.under eu ep t.decides t.then_
+    by : (stale : Bool) (u : Option Under) (start : Option Request) (l p : Option Kind) → s.under ≡ u → unlisted s ≡ l → passing s ≡ p → TurnBy s given (Call request) stale u start l p → IsLess setup first seat high given h 0 (slot_left setup first seat high s h stage)
+    by true u start l p eu el ep t = none_some (sym (ap call_in t.idle))
+    by false (Some u) start l p eu el ep t = same (record s { given = Some givens.Task }) t.state (still (Some givens.Task) stage)
+    by false None (Some r) l p eu el ep t = same (record s { given = Some givens.Start }) t.state (still (Some givens.Start) stage)
+    by false None None (Some k) p eu el ep t = same (record s { given = Some (givens.Read k) }) t.state (still (Some (givens.Read k)) stage)
+    by false None None None (Some k) eu el ep t = same (record s { given = Some (givens.Read k) }) t.state (still (Some (givens.Read k)) stage)
+    by false None None None None eu el ep t = keys t.work t.under eu (keys_of setup first seat high s h ready built history el ep stage) t.decides ep t.then_

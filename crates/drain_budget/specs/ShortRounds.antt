@@ -1,6 +1,6 @@
 -- How many calls a round makes at most: the stated number.
 -- A choice of this project.
-use Rattle.std.specs.Prelude.{ℕ, ◌≤◌, ◌+◌, ◌*◌, ◌/◌, Bool, List, length, ⊤}
+use Rattle.std.specs.Prelude.{ℕ, ◌≤◌, ◌+◌, ◌*◌, ◌-◌, ◌/◌, Bool, List, length, ⊤}
 use Rattle.call_types.specs.declared.entry.Entry.{Entry}
 use Rattle.call_types.specs.declared.setup.Setup.{Setup}
 use Rattle.binder_model.specs.Promises.{IsRunOf}
@@ -11,6 +11,7 @@ use Rattle.worker_threads.specs.Drainers.{AreAtRest, AreRoles, roles_of}
 use Rattle.worker_threads.specs.Rounds.{Drains, Goes, IsRound, IsSpent, Lets, NothingDue}
 use Rattle.short_law.specs.Rounds.{size_of_world}
 use Rattle.short_law.specs.Slots.{PassesReads, writes_since}
+use Rattle.scheduler_writes.specs.Pods.{pods_writes}
 use Rattle.write_count.specs.Counts.{AnnotationsAreInOrder}
 use Rattle.call_count.specs.Rounds.{pods_size}
 use Rattle.settle_law.specs.Settling.{MayDrain}
@@ -19,12 +20,17 @@ use Rattle.drain_budget.specs.Budget.{AreAlwaysInOrder}
 
 -- ---- by the writes of the round
 
+-- how many calls a sweep costs at most beyond those that the writes before it have left: the kinds that an actor follows are listed again where it
+-- made 513 writes since it read them, and each of these has eight calls left for its event, which is never told. The objects that are listed cost
+-- three calls for each object and each claim that is named, as much again for the volume that may be made for a claim, and seven for each kind
+unfoldable pub sweep_calls : ℕ → ℕ → ℕ
+sweep_calls size claims = (3 * size + 3 * claims + 35) - 8 * 513
+
 -- how many calls so many actors make at most, by what stood when the round began and by the writes of the round. Each write costs nine. Of
 -- the rest an object and a claim that is named cost three for each of the four actors that follow their kind, pods three for every actor; a
--- claim as much again for the volume that may be made for it; and after each 513 writes of an actor the kinds that it follows may be listed
--- again, each once
+-- claim as much again for the volume that may be made for it; and after each 513 writes of an actor there may be a sweep
 abbrev pub less_calls : ℕ → ℕ → ℕ → ℕ → ℕ → ℕ
-less_calls actors size claims pods writes = 9 * writes + (12 * size + 12 * claims + actors * (3 * pods + 62)) + (3 * size + 3 * claims + 35) * (writes / 513)
+less_calls actors size claims pods writes = 9 * writes + (12 * size + 12 * claims + actors * (3 * pods + 62)) + sweep_calls size claims * (writes / 513)
 
 -- of a round of the actors of a drain that begins with nothing under way, in a world of any size
 abbrev pub RoundsCostLess : Type 0
@@ -38,12 +44,21 @@ RoundsCostLess =
 abbrev pub stated_calls : Setup → World → ℕ
 stated_calls setup w = 256 * (size_of_world w + faults_left setup w.devices + 16)
 
--- a round of at most 13 actors, those of a drain with at most eight agents, that begins with at most 300 objects and claims that are named,
--- whatever the number of planned faults
+-- a world whose rounds are short: it has at most 960 objects and claims that pods name, and a scheduler writes at most 512 times, once for each pod
+-- that no node runs and for each claim that such a pod names
+pub record HasShortRounds (w : World) : Type 0 where
+  pub size : size_of_world w ≤ 960
+  pub scheduled : pods_writes w ≤ 512
+
+-- such is each with at most 512 objects and claims that pods name
+abbrev pub SmallWorldsHaveShortRounds : Type 0
+SmallWorldsHaveShortRounds = (w : World) → size_of_world w ≤ 512 → HasShortRounds w
+
+-- a round of at most 13 actors, those of a drain with at most eight agents, that begins with such a world, whatever the number of planned faults
 abbrev pub RoundsAreShort : Type 0
 RoundsAreShort =
     (setup : Setup) (lets : Lets) (ds after : List Drainer) (h past : List Entry) (b left : ℕ) (whole : Bool) → ImportsAllow setup → AreRoles (roles_of ds) → AreAtRest ds → IsRunOf setup past → PassesReads lets → IsRound lets past left ds h b after whole
-    → length ds ≤ 13 → AnnotationsAreInOrder (world setup h) → size_of_world (world setup h) ≤ 300 → b ≤ left + stated_calls setup (world setup h)
+    → length ds ≤ 13 → AnnotationsAreInOrder (world setup h) → HasShortRounds (world setup h) → b ≤ left + stated_calls setup (world setup h)
 
 -- ---- drains
 
@@ -52,7 +67,7 @@ abbrev pub EachRoundIsShort : (lets : Lets) (setup : Setup) (after : List Draine
 EachRoundIsShort lets setup after past left ds h b (NothingDue settled same entries rest) = ⊤
 EachRoundIsShort lets setup after past left ds h b (IsSpent first due none same entries rest) = ⊤
 EachRoundIsShort lets setup after past left ds h b (Goes first due some between middle rest whole round more) =
-    (size_of_world (world setup h) ≤ 300 → b ≤ rest + stated_calls setup (world setup h)) × EachRoundIsShort lets setup after past left between middle rest more
+    (HasShortRounds (world setup h) → b ≤ rest + stated_calls setup (world setup h)) × EachRoundIsShort lets setup after past left between middle rest more
 
 abbrev pub DrainedRoundsAreShort : Type 0
 DrainedRoundsAreShort =

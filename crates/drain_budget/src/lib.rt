@@ -22,8 +22,10 @@
 //! thing left to do (`rounds_are_measured`), and a drain ends settled (`measured_drains_settle`).
 //!
 //! Rounds are short: a round that begins with nothing under way makes no more calls than nine for each write, what the
-//! objects with which it began cost the actors that follow their kinds, and after each 513 writes these kinds again
-//! (`rounds_cost_less`). So where it begins with at most 300 objects and claims that pods name, it makes at most 256
+//! objects with which it began cost the actors that follow their kinds, and after each 513 writes what these kinds cost
+//! when they are listed again, beyond the eight calls that each of the 513 has left (`rounds_cost_less`). So where it
+//! begins with at most 960 objects and claims that pods name, and a scheduler may write at most 512 times in it
+//! (`HasShortRounds`), as where it begins with at most 512 (`small_worlds_have_short_rounds`), it makes at most 256
 //! calls for each of these, for each planned fault that is ahead, and for 16 more (`rounds_are_short`); and so does each
 //! such round of a drain (`drained_rounds_are_short`), and each but the first where the drain begins with something
 //! under way (`later_rounds_are_short`).
@@ -41,7 +43,7 @@ ghost use Rattle.drain_budget.specs.Drains.{DrainsAreShort, DrainsMakeFewCalls, 
 ghost use Rattle.drain_budget.specs.Measured.{MeasuredDrainsSettle, RoundsAreMeasured};
 ghost use Rattle.drain_budget.specs.Rounds.{PaidEntriesLower, RoundsAreCounted, RoundsServeNodes};
 ghost use Rattle.drain_budget.specs.Selections.{FewSelectionsSettle, NewDrainsSettle, StaticDrainsSettle};
-ghost use Rattle.drain_budget.specs.ShortRounds.{DrainedRoundsAreShort, LaterRoundsAreShort, RoundsAreShort, RoundsCostLess};
+ghost use Rattle.drain_budget.specs.ShortRounds.{DrainedRoundsAreShort, LaterRoundsAreShort, RoundsAreShort, RoundsCostLess, SmallWorldsHaveShortRounds};
 
 /// A round of the actors of a drain does few writes and makes few calls.
 pub fn rounds_are_bounded()
@@ -123,7 +125,12 @@ pub fn rounds_cost_less()
     ensures { RoundsCostLess }
 {}
 
-/// So it makes no more than the stated number.
+/// Small worlds have short rounds.
+pub fn small_worlds_have_short_rounds()
+    ensures { SmallWorldsHaveShortRounds }
+{}
+
+/// So a round makes no more than the stated number.
 pub fn rounds_are_short()
     ensures { RoundsAreShort }
 {}
