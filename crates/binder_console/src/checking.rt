@@ -7,24 +7,33 @@ ghost use Rattle.binder_console.specs.Checks.{with_member_word, reason_text, ref
 use crate::errors::CheckError;
 use crate::printing::print_line;
 use history_text::lines::{Lines, push_objects};
+use kube_types::items::Items;
 use kube_types::objects::Object;
 use object_text::errors::{ListError, Member, ObjectError};
 use object_text::listing::read_list;
 use piece_print::pieces::PieceText;
 use plain_data::copies::OutOfMemory;
 use std::alloc::Global;
+use std::mem::forget;
 
-fn print_objects(alloc: Global, lines: Lines, objects: &[Object]) -> Result<PieceText, OutOfMemory>
+/// The lines of the objects, whose memory is not given back: a program ends with a check.
+fn print_objects(
+    alloc: Global,
+    lines: Lines,
+    objects: Items<Object>,
+) -> Result<PieceText, OutOfMemory>
     requires { lines ≡ [] }
-    ensures { IfOk result (λ text. text ≡ check_text objects.now) }
+    ensures { IfOk result (λ text. text ≡ check_text objects) }
 {
     let mut lines = lines;
-    push_objects(&mut lines, objects)?;
+    push_objects(&mut lines, objects.as_slice())?;
+    forget(objects);
     Ok(PieceText::of(alloc, lines.into_bytes()))
 }
 
-/// The canonical line of each object, or the first refusal. Room for the lines is taken before the input is read: what is
-/// read leaves many small pieces of memory free, which the allocator would look through for a large one.
+/// The canonical line of each object, or the first refusal. Room for the lines is taken before the input is read, which
+/// leaves many small pieces of free memory that an allocator would join for a large one. The memory of the objects is not
+/// given back.
 #[tactic(auto, using(crate::proofs::Refusals::refused_is))]
 pub fn checked(alloc: Global, input: &[u8]) -> Result<PieceText, CheckError>
     ensures ok { IfOk result (λ text. ChecksList input.now text) }
@@ -32,7 +41,7 @@ pub fn checked(alloc: Global, input: &[u8]) -> Result<PieceText, CheckError>
 {
     let lines = Lines::with_room(alloc, input.len())?;
     match read_list(alloc, input) {
-        Ok(objects) => Ok(print_objects(alloc, lines, objects.as_slice())?),
+        Ok(objects) => Ok(print_objects(alloc, lines, objects)?),
         Err(error) => {
             if error.reason == ObjectError::OutOfMemory {
                 Err(CheckError::OutOfMemory)
