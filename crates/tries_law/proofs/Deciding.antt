@@ -46,12 +46,12 @@ use Rattle.tries_law.specs.Deciding.{CachedAreDecided, IsActedOn, IsWithin, Reac
 
 -- ---- a key that stops waiting in a turn
 
-data Stopped (role : Role) (memory : Memory) (rows : List Object) (under : Option Under) (key : Key) : Type 0 where
+pub data Stopped (role : Role) (memory : Memory) (rows : List Object) (under : Option Under) (key : Key) : Type 0 where
   Called : (u : Under) → under ≡ Some u → u.key ≡ key → GivesCall role memory rows u → Stopped role memory rows under key
   NotCalled : (first : First) → GivesNone role memory rows key first → Stopped role memory rows under key
 
 module _ (role : Role) (memory : Memory) (rows : List Object) (after : Work) (under : Option Under) (key : Key) where
-  decides_stops : (w : Work) → Decides role memory rows after under w → waits key w ≡ true → waits key after ≡ false → Stopped role memory rows under key
+  pub decides_stops : (w : Work) → Decides role memory rows after under w → waits key w ≡ true → waits key after ≡ false → Stopped role memory rows under key
   decides_stops w (Nothing empty same none) e f = absurd (true≢false (sym e ∙ sym (ap (waits key) same) ∙ f))
   decides_stops w (Begins u old gives same some) e f = elim (begun_waits u.key key w old e) [
     | inl own ↦ Called u some own gives
@@ -62,11 +62,11 @@ module _ (role : Role) (memory : Memory) (rows : List Object) (after : Work) (un
     | inr more ↦ decides_stops _ rest more f
   ]
 
-data StopsBy (s new : ActorState) (answer : Next) (key : Key) : Type 0 where
+pub data StopsBy (s new : ActorState) (answer : Next) (key : Key) : Type 0 where
   ByCall : (u : Under) → passing s ≡ None → new.under ≡ Some u → new.given ≡ Some givens.Task → answer ≡ Call u.call → u.key ≡ key → GivesCall s.role s.memory (all_objects s.caches) u → StopsBy s new answer key
   ByNone : (first : First) → passing s ≡ None → GivesNone s.role s.memory (all_objects s.caches) key first → StopsBy s new answer key
 
-stops_by : (s new : ActorState) (answer : Next) (key : Key) → IsTurn s new answer → waits key s.work ≡ true → waits key new.work ≡ false → StopsBy s new answer key
+pub stops_by : (s new : ActorState) (answer : Next) (key : Key) → IsTurn s new answer → waits key s.work ≡ true → waits key new.work ≡ false → StopsBy s new answer key
 stops_by s new answer key turn waiting stopped = by s.memory.stale s.under (start_call s.role s.memory) (unlisted s) (passing s) refl turn
   where
     no_change : {G : Type 0} → new.work ≡ s.work → G
@@ -100,12 +100,12 @@ stops_by s new answer key turn waiting stopped = by s.memory.stale s.under (star
     by false None None None None over t = keys t.work t.under over t.decides t.then_
 
 -- what is under way is asked next
-record AsksUnder (s new : ActorState) (answer : Next) (u : Under) : Type 0 where
-  under : new.under ≡ Some u
-  given : new.given ≡ Some givens.Task
-  call : answer ≡ Call u.call
+pub record AsksUnder (s new : ActorState) (answer : Next) (u : Under) : Type 0 where
+  pub under : new.under ≡ Some u
+  pub given : new.given ≡ Some givens.Task
+  pub call : answer ≡ Call u.call
 
-asks_under : (s new : ActorState) (answer : Next) (u : Under) → IsTurn s new answer → s.memory.stale ≡ false → s.under ≡ Some u → AsksUnder s new answer u
+pub asks_under : (s new : ActorState) (answer : Next) (u : Under) → IsTurn s new answer → s.memory.stale ≡ false → s.under ≡ Some u → AsksUnder s new answer u
 asks_under s new answer u turn awake under = by s.memory.stale s.under refl refl turn
   where
     by : (stale : Bool) (x : Option Under) → s.memory.stale ≡ stale → s.under ≡ x → TurnBy s new answer stale x (start_call s.role s.memory) (unlisted s) (passing s) → AsksUnder s new answer u
@@ -266,7 +266,7 @@ module _ (setup : Setup) (lets : Lets) (seat : ℕ) (role : Role) (key : Key) (b
       by false stopped rest = held_so (stops_by s given (Call request) key turn waiting stopped)
 
 -- the actor stands when the slot begins
-ready_at : (lets : Lets) (seat : ℕ) (s after : ActorState) (h past : List Entry) (b left : ℕ) → Runs lets seat after past left true s h b → IsReady seat s h
+pub ready_at : (lets : Lets) (seat : ℕ) (s after : ActorState) (h past : List Entry) (b left : ℕ) → Runs lets seat after past left true s h b → IsReady seat s h
 ready_at lets seat s after h past b left (IsSpent none state entries rest busy) = absurd (true≢false busy)
 ready_at lets seat s after h past b left (IsIdle some ready turn entries rest calm) = ready
 ready_at lets seat s after h past b left (Asks given next request reply some ready turn passes absorbs more) = ready

@@ -1,5 +1,5 @@
 -- Behind the scheduler's slot of a quiet round: what it remembers of the claims that it wrote.
-use Rattle.std.proofs.Common.{◌≡◌, ◌≢◌, ◌∙◌, ℕ, suc, ◌-◌, List, [], ◌∷◌, ◌++◌, append_assoc, Bool, true, false, true≢false, Some, inl, inr, refl, sym, ap, subst, arith}
+use Rattle.std.proofs.Common.{◌≡◌, ◌∙◌, ℕ, suc, ◌-◌, List, [], ◌∷◌, ◌++◌, append_assoc, Bool, true, false, true≢false, Some, inl, inr, refl, sym, ap, subst, arith}
 use Rattle.std.proofs.lemmas.List.{append_cancel_right}
 use Rattle.std.specs.Prelude.{is_some, slice_get}
 use Rattle.kube_types.specs.declared.key.Key.{Key}

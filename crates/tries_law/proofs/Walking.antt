@@ -20,16 +20,13 @@ use Rattle.worker_core.specs.declared.task.First.{First}
 use Rattle.worker_core.specs.declared.task.Under.{Under}
 use Rattle.worker_core.specs.declared.turn.Given.{Given}
 use Rattle.worker_core.specs.declared.turn.Given.TheVariants as givens
-use Rattle.worker_core.specs.declared.turn.Next.{Next}
 use Rattle.worker_core.specs.declared.turn.Next.TheVariants.{Call, Idle}
 use Rattle.worker_core.specs.declared.turn.Outcome.TheVariants.{Told}
 use Rattle.worker_core.specs.Absorbs.{absorbed, given_told, learned, woken}
-use Rattle.worker_core.specs.Memories.{Memory}
 use Rattle.worker_core.specs.Roles.{IsBuiltKind}
 use Rattle.worker_core.specs.States.{ActorState, call_in, start_call, waits, read_of_kind, read_request, start_of}
 use Rattle.worker_core.specs.Tasks.{GivesCall, GivesNone, under_after}
-use Rattle.worker_core.specs.Turns.{AfterKeys, Begins, Decides, Drops, IsTurn, Nothing, TurnBy, passing, unlisted}
-use Rattle.worker_core.proofs.KeyMoves.{begun_waits, dropped_waits}
+use Rattle.worker_core.specs.Turns.{AfterKeys, Decides, IsTurn, TurnBy, passing, unlisted}
 use Rattle.worker_core.proofs.KeysKept.{answers_keep_keys}
 use Rattle.attention_law.proofs.Turned.{calls_fresh, idle_rests}
 use Rattle.binder_model.specs.Reading.{follows}
@@ -55,77 +52,7 @@ use Rattle.write_count.proofs.Slots.{ComesTo, Leaves, Wrote, comes_to}
 use Rattle.slot_law.specs.Would.{Here}
 use Rattle.tries_law.specs.Coming.{IsCallOf, IsDecidedIn}
 use Rattle.tries_law.proofs.Coming.{decides_gives, leads_on}
-
--- ---- a key that stops waiting in a turn
-
-data Stopped (role : Role) (memory : Memory) (rows : List Object) (under : Option Under) (key : Key) : Type 0 where
-  Called : (u : Under) → under ≡ Some u → u.key ≡ key → GivesCall role memory rows u → Stopped role memory rows under key
-  NotCalled : (first : First) → GivesNone role memory rows key first → Stopped role memory rows under key
-
-module _ (role : Role) (memory : Memory) (rows : List Object) (after : Work) (under : Option Under) (key : Key) where
-  decides_stops : (w : Work) → Decides role memory rows after under w → waits key w ≡ true → waits key after ≡ false → Stopped role memory rows under key
-  decides_stops w (Nothing empty same none) e f = absurd (true≢false (sym e ∙ sym (ap (waits key) same) ∙ f))
-  decides_stops w (Begins u old gives same some) e f = elim (begun_waits u.key key w old e) [
-    | inl own ↦ Called u some own gives
-    | inr more ↦ absurd (true≢false (sym more ∙ sym (ap (waits key) same) ∙ f))
-  ]
-  decides_stops w (Drops k first old none rest) e f = elim (dropped_waits first k key w old e) [
-    | inl own ↦ NotCalled first (subst (λ j. GivesNone role memory rows j first) own none)
-    | inr more ↦ decides_stops _ rest more f
-  ]
-
-data StopsBy (s new : ActorState) (answer : Next) (key : Key) : Type 0 where
-  ByCall : (u : Under) → passing s ≡ None → new.under ≡ Some u → new.given ≡ Some givens.Task → answer ≡ Call u.call → u.key ≡ key → GivesCall s.role s.memory (all_objects s.caches) u → StopsBy s new answer key
-  ByNone : (first : First) → passing s ≡ None → GivesNone s.role s.memory (all_objects s.caches) key first → StopsBy s new answer key
-
-stops_by : (s new : ActorState) (answer : Next) (key : Key) → IsTurn s new answer → waits key s.work ≡ true → waits key new.work ≡ false → StopsBy s new answer key
-stops_by s new answer key turn waiting stopped = by s.memory.stale s.under (start_call s.role s.memory) (unlisted s) (passing s) refl turn
-  where
-    no_change : {G : Type 0} → new.work ≡ s.work → G
-    no_change same = absurd (true≢false (sym waiting ∙ (ap (waits key) (sym same) ∙ stopped)))
-
-    keys : (w : Work) (under : Option Under) → passing s ≡ None → Decides s.role s.memory (all_objects s.caches) w under s.work → AfterKeys s new answer w under → StopsBy s new answer key
-    keys w (Some u) over d b = found (decides_stops s.role s.memory (all_objects s.caches) w (Some u) key s.work d waiting (sym (ap (λ (x : ActorState). waits key x.work) b.state) ∙ stopped))
-      where
-        found : Stopped s.role s.memory (all_objects s.caches) (Some u) key → StopsBy s new answer key
-        found (Called v same own gives) =
-            let is : u ≡ v = one u v same in
-            ByCall v over (ap (λ (x : ActorState). x.under) b.state ∙ ap Some is) (ap (λ (x : ActorState). x.given) b.state) (b.call ∙ ap (λ (x : Under). Call x.call) is) own gives
-        found (NotCalled first none) = ByNone first over none
-    keys w None over d (inl b) = found (decides_stops s.role s.memory (all_objects s.caches) w None key s.work d waiting (sym (ap (λ (x : ActorState). waits key x.work) b.state) ∙ stopped))
-      where
-        found : Stopped s.role s.memory (all_objects s.caches) None key → StopsBy s new answer key
-        found (Called v same own gives) = none_some same
-        found (NotCalled first none) = ByNone first over none
-    keys w None over d (inr b) = found (decides_stops s.role s.memory (all_objects s.caches) w None key s.work d waiting (sym (ap (λ (x : ActorState). waits key x.work) b.state) ∙ stopped))
-      where
-        found : Stopped s.role s.memory (all_objects s.caches) None key → StopsBy s new answer key
-        found (Called v same own gives) = none_some same
-        found (NotCalled first none) = ByNone first over none
-
-    by : (stale : Bool) (u : Option Under) (start : Option Request) (l p : Option Kind) → passing s ≡ p → TurnBy s new answer stale u start l p → StopsBy s new answer key
-    by true u start l p over t = no_change (ap (λ (x : ActorState). x.work) t.state)
-    by false (Some u) start l p over t = no_change (ap (λ (x : ActorState). x.work) t.state)
-    by false None (Some request) l p over t = no_change (ap (λ (x : ActorState). x.work) t.state)
-    by false None None (Some kind) p over t = no_change (ap (λ (x : ActorState). x.work) t.state)
-    by false None None None (Some kind) over t = no_change (ap (λ (x : ActorState). x.work) t.state)
-    by false None None None None over t = keys t.work t.under over t.decides t.then_
-
--- what is under way is asked next
-record AsksUnder (s new : ActorState) (answer : Next) (u : Under) : Type 0 where
-  under : new.under ≡ Some u
-  given : new.given ≡ Some givens.Task
-  call : answer ≡ Call u.call
-
-asks_under : (s new : ActorState) (answer : Next) (u : Under) → IsTurn s new answer → s.memory.stale ≡ false → s.under ≡ Some u → AsksUnder s new answer u
-asks_under s new answer u turn awake under = by s.memory.stale s.under refl refl turn
-  where
-    by : (stale : Bool) (x : Option Under) → s.memory.stale ≡ stale → s.under ≡ x → TurnBy s new answer stale x (start_call s.role s.memory) (unlisted s) (passing s) → AsksUnder s new answer u
-    by true x es ex t = absurd (true≢false (sym es ∙ awake))
-    by false None es ex t = none_some (sym ex ∙ under)
-    by false (Some v) es ex t =
-        let is : v ≡ u = one v u (sym ex ∙ under) in
-        record { under = ap (λ (x : ActorState). x.under) t.state ∙ under; given = ap (λ (x : ActorState). x.given) t.state; call = t.call ∙ ap (λ (x : Under). Call x.call) is }
+use Rattle.tries_law.proofs.Deciding.{ByCall, ByNone, Called, NotCalled, Stopped, StopsBy, asks_under, decides_stops, ready_at, stops_by}
 
 -- ---- the calls of a slot of the scheduler, by the key for which they are made
 
@@ -400,18 +327,11 @@ module _ (setup : Setup) (seat : ℕ) (role : Role) (kind : role.kind ≡ seats.
 
 -- ---- a key that the actor had cached waits once it is woken
 
--- the actor stands when the slot begins
-ready_at : (seat : ℕ) (s after : ActorState) (h past : List Entry) (b left : ℕ) → Runs all_pass seat after past left true s h b → IsReady seat s h
-ready_at seat s after h past b left (IsSpent none state entries rest busy) = absurd (true≢false busy)
-ready_at seat s after h past b left (IsIdle some ready turn entries rest calm) = ready
-ready_at seat s after h past b left (Asks given next request reply some ready turn passes absorbs more) = ready
-ready_at seat s after h past b left (IsHeld given next request some ready turn held absorbs more) = absurd (true≢false held)
-
 pub cached_waits : (seat : ℕ) (key : Key) (o : Object) (old after : ActorState) (h past : List Entry) (b left : ℕ) → old.under ≡ None → follows old.role.kind key.kind ≡ true → row_at key (all_objects old.caches) ≡ Some o → Runs all_pass seat after past left true (woken old) h b → waits key (woken old).work ≡ true
 cached_waits seat key o old after h past b left idle followed cached run = by (come_by old (own seat h) key o ready.stands.told.caches followed cached)
   where
     ready : IsReady seat (woken old) h
-    ready = ready_at seat (woken old) after h past b left run
+    ready = ready_at all_pass seat (woken old) after h past b left run
 
     none_taken : (ts : List Taken) → map key_in ts ≡ [] → mark_of key ts ≡ Some true → waits key (woken old).work ≡ true
     none_taken [] e m = none_some m
