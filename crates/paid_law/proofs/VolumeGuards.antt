@@ -1,5 +1,5 @@
 -- Volume protection pays.
-use Rattle.std.proofs.Common.{◌≡◌, ◌∙◌, ℕ, List, [], ◌∷◌, Bool, true, false, true≢false, Option, Some, None, refl, sym, ap, subst}
+use Rattle.std.proofs.Common.{◌≡◌, ◌∙◌, ℕ, List, Bool, true, false, true≢false, Option, Some, None, refl, sym, ap, subst}
 use Rattle.std.specs.Prelude.{◌&&◌}
 use Rattle.kube_types.specs.declared.key.Key.{Key}
 use Rattle.kube_types.specs.declared.names.Due.{Due}
@@ -7,7 +7,7 @@ use Rattle.kube_types.specs.declared.names.Due.TheVariants as dues
 use Rattle.kube_types.specs.declared.objects.Volume.{Volume as VolumeData}
 use Rattle.kube_types.specs.declared.objects.Object.{Object}
 use Rattle.kube_types.specs.declared.objects.Object.TheVariants.{Class, Node, Volume, Claim, Pod}
-use Rattle.kube_types.specs.Bindings.{carries, is_bound, is_deleting, is_protected_volume}
+use Rattle.kube_types.specs.Bindings.{is_bound, is_deleting, is_protected_volume}
 use Rattle.kube_types.specs.Keys.{key_of, row_at}
 use Rattle.kube_types.proofs.KeyOrder.{row_at_key}
 use Rattle.call_types.specs.declared.entry.Entry.{Entry}
@@ -20,7 +20,6 @@ use Rattle.binder_model.specs.Due.{guard_due, volume_guard_due}
 use Rattle.binder_model.specs.ObjectKeys.{volume_key}
 use Rattle.binder_model.specs.Promises.{IsRunOf}
 use Rattle.binder_model.specs.Reading.{follows}
-use Rattle.binder_model.specs.Safe.{AreBindings, Safe}
 use Rattle.binder_model.specs.Store.{has_no_names, leaves}
 use Rattle.binder_model.specs.World.{world}
 use Rattle.informer_cache.specs.All.{all_objects}
@@ -31,9 +30,7 @@ use Rattle.protect_sync.specs.VolumeGuards.{guarded_volume, unguarded_volume, vo
 use Rattle.protect_sync.specs.declared.volumes.VolumeGuardStep.{VolumeGuardStep}
 use Rattle.protect_sync.specs.declared.volumes.VolumeGuardStep.TheVariants as steps
 use Rattle.safety_invariant.proofs.KeptBindings.{unguarded}
-use Rattle.safety_law.proofs.Law.{run_implies_safe}
 use Rattle.settle_measure.specs.Lowers.{StandsVolume}
-use Rattle.settle_upkeep.specs.Pays.{NoneIsCompletedOn}
 use Rattle.settle_upkeep.proofs.Guards.{volume_guard_pays, volume_unguard_pays}
 use Rattle.worker_core.specs.declared.role.Role.{Role}
 use Rattle.worker_core.specs.declared.task.First.{First}
@@ -47,7 +44,7 @@ use Rattle.write_law.specs.Writes.{IsStored}
 use Rattle.write_law.proofs.Fitting.{no_namespace}
 use Rattle.slot_law.specs.Slots.{IsDecisionPoint}
 use Rattle.due_law.proofs.Deciding.{stored}
-use Rattle.paid_law.specs.Guards.{NoneWasLost, VolumeGuardsPay}
+use Rattle.paid_law.specs.Guards.{VolumeGuardsPay}
 use Rattle.paid_law.specs.Pays.{EachPays, WillPay}
 use Rattle.paid_law.proofs.Calls.{lowering_pays}
 
@@ -65,27 +62,6 @@ guarding true true true = Rests refl
 guarding true false needed = Rests refl
 guarding false true needed = Rests refl
 guarding false false needed = Adds refl refl refl
-
--- ---- no completed claim is on a volume that is not Bound
-
-bindings_of : (setup : Setup) (h : List Entry) → Safe setup h → AreBindings setup h
-bindings_of setup [] safe = safe
-bindings_of setup (e ∷ past) safe = safe.0.bindings
-
-module _ (setup : Setup) (found : NoneWasLost setup) (h : List Entry) (run : IsRunOf setup h) (v : VolumeData) (there : row_at (volume_key v.meta.name) (world setup h).store.rows ≡ Some (Volume v)) (own_key : key_of (Volume v) ≡ volume_key v.meta.name) where
-  abbrev volume_in : VolumeData → Option Object → VolumeData
-  volume_in x (Some (Volume y)) = y
-  volume_in x o = x
-
-  none_on : is_bound v.phase ≡ false → NoneIsCompletedOn (world setup h) v
-  none_on unbound c stands completed named = by (carries v c) refl
-    where
-      by : (b : Bool) → carries v c ≡ b → carries v c ≡ false
-      by false e = e
-      by true e =
-          let b = (bindings_of setup h (run_implies_safe setup h run)).bound (key_of (Claim c)) c stands (record { completed = completed; found = λ lost. absurd (true≢false (sym lost ∙ found c.meta.uid)) }) in
-          let same : v ≡ b.volume = ap (volume_in v) (sym there ∙ (ap (λ k. row_at k (world setup h).store.rows) (sym own_key ∙ named) ∙ b.there)) in
-          absurd (true≢false (sym b.bound ∙ (ap (λ (x : VolumeData). is_bound x.phase) (sym same) ∙ unbound)))
 
 -- ---- the machine has one call
 
@@ -108,7 +84,7 @@ abbrev is_drop : First → Bool
 is_drop firsts.Drops = true
 is_drop first = false
 
-module _ (setup : Setup) (seat : ℕ) (role : Role) (kind : role.kind ≡ seats.VolumeProtect) (found : NoneWasLost setup) (s : ActorState) (h : List Entry) (u : Under) (run : IsRunOf setup h) (p : IsDecisionPoint setup seat role h s h) (gives : GivesCall s.role s.memory (all_objects s.caches) u) where
+module _ (setup : Setup) (seat : ℕ) (role : Role) (kind : role.kind ≡ seats.VolumeProtect) (s : ActorState) (h : List Entry) (u : Under) (run : IsRunOf setup h) (p : IsDecisionPoint setup seat role h s h) (gives : GivesCall s.role s.memory (all_objects s.caches) u) where
   s_kind : s.role.kind ≡ seats.VolumeProtect
   s_kind = ap (λ (r : Role). r.kind) p.role_is ∙ kind
 
@@ -163,7 +139,7 @@ module _ (setup : Setup) (seat : ℕ) (role : Role) (kind : role.kind ≡ seats.
         (EachPays (lowering_pays setup (world setup h) seats.VolumeProtect (volume_write_over v (guarded_volume v)) refl (volume_guard_pays setup (world setup h) seats.VolumeProtect v (stands (stays_new staying)) e)) (λ next is. none_some (sym (ends u.key v steps.Adds (volume_write_over v (guarded_volume v)) _) ∙ is)))
     of_guarding (Drops deleting guarded_ free e) =
         will steps.Drops (volume_write_over v (unguarded_volume v)) (begun _ e) refl
-        (EachPays (lowering_pays setup (world setup h) seats.VolumeProtect (volume_write_over v (unguarded_volume v)) refl (volume_unguard_pays setup (world setup h) seats.VolumeProtect v (stands (stays_guarded guarded_)) e (none_on setup found h run v at_key own_key free)))
+        (EachPays (lowering_pays setup (world setup h) seats.VolumeProtect (volume_write_over v (unguarded_volume v)) refl (volume_unguard_pays setup (world setup h) seats.VolumeProtect v (stands (stays_guarded guarded_)) e))
         (λ next is. none_some (sym (ends u.key v steps.Drops (volume_write_over v (unguarded_volume v)) _) ∙ is)))
     of_guarding (Rests e) = not_dropped (begun _ e)
 
@@ -176,4 +152,4 @@ module _ (setup : Setup) (seat : ℕ) (role : Role) (kind : role.kind ≡ seats.
   by_row (Some (Pod x)) e = not_dropped (decided ∙ ap (λ x. volume_guard_first (volume_guard_begins x)) e)
 
 pub volume_guards_pay : VolumeGuardsPay
-volume_guards_pay setup seat role kind found s h u run p gives = subst (λ k. WillPay setup seat k h u) (sym kind) (by_row setup seat role kind found s h u run p gives (row_at u.key (all_objects s.caches)) refl)
+volume_guards_pay setup seat role kind s h u run p gives = subst (λ k. WillPay setup seat k h u) (sym kind) (by_row setup seat role kind s h u run p gives (row_at u.key (all_objects s.caches)) refl)
