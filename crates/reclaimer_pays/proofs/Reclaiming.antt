@@ -10,7 +10,7 @@ use Rattle.kube_types.specs.declared.uid.Uid.{Uid}
 use Rattle.kube_types.specs.declared.objects.Volume.{Volume as VolumeData}
 use Rattle.kube_types.specs.declared.objects.Object.{Object}
 use Rattle.kube_types.specs.declared.objects.Object.TheVariants.{Class, Node, Volume, Claim, Pod}
-use Rattle.kube_types.specs.Bindings.{carries, is_delete, is_deleting, is_ended, ref_uid}
+use Rattle.kube_types.specs.Bindings.{is_delete, is_deleting, is_ended, ref_uid}
 use Rattle.kube_types.specs.Keys.{AreRows, key_of, row_at}
 use Rattle.kube_types.specs.Sources.{data_id_of}
 use Rattle.kube_types.proofs.KeyOrder.{row_at_key}
@@ -41,14 +41,7 @@ use Rattle.reclaim_ops.specs.declared.erase.EraseStep.TheVariants as steps
 use Rattle.reclaim_ops.specs.declared.provision.ProvisionOp.{ProvisionOp}
 use Rattle.reclaim_ops.specs.Decisions.{claim_begins, volume_begins, volume_for}
 use Rattle.reclaim_ops.specs.Erasures.{at_known, erase_call, erase_moved, fail_call, key_of_volume}
-use Rattle.safety_invariant.specs.Invariant.{Invariant}
-use Rattle.safety_invariant.proofs.Carried.{carried}
-use Rattle.safety_invariant.proofs.Known.{invariant_of}
-use Rattle.safety_law.proofs.FirstWorld.{first_world_is_good}
-use Rattle.safety_law.proofs.Law.{room_for}
-use Rattle.safety_law.proofs.Runs.{run_good}
 use Rattle.settle_measure.specs.Lowers.{StandsVolume}
-use Rattle.settle_upkeep.specs.Pays.{NoneIsCompletedOn}
 use Rattle.settle_upkeep.proofs.Guards.{delete_pays, failed_pays}
 use Rattle.worker_core.specs.declared.role.Role.{Role}
 use Rattle.worker_core.specs.declared.task.First.{First}
@@ -96,7 +89,6 @@ record IsReclaimed (w : World) (v : VolumeData) : Type 0 where
   there : row_at (volume_key v.meta.name) w.store.rows ≡ Some (Volume v)
   own_key : key_of_volume v ≡ volume_key v.meta.name
   due : reclaim_due v ≡ Some dues.Reclaim
-  none : NoneIsCompletedOn w v
 
 -- ---- its machine
 
@@ -219,7 +211,7 @@ module _ (setup : Setup) (seat : ℕ) (key : Key) (v : VolumeData) where
 
   deletes_pay : (h : List Entry) → IsReclaimed (world setup h) v → (uid : Uid) → WillPay setup seat seats.Ops h (at key v (steps.Deletes uid) (delete_of v uid))
   deletes_pay h r uid =
-      EachPays (subst (λ k. Pays setup (world setup h) seats.Ops (requests.Delete k (Some uid))) (sym r.own_key) (lowering_pays setup (world setup h) seats.Ops (requests.Delete (volume_key v.meta.name) (Some uid)) refl (delete_pays setup (world setup h) seats.Ops v (Some uid) (stands (world setup h) r) r.due r.none)))
+      EachPays (subst (λ k. Pays setup (world setup h) seats.Ops (requests.Delete k (Some uid))) (sym r.own_key) (lowering_pays setup (world setup h) seats.Ops (requests.Delete (volume_key v.meta.name) (Some uid)) refl (delete_pays setup (world setup h) seats.Ops v (Some uid) (stands (world setup h) r) r.due)))
       (λ next e. none_some (sym (delete_ends key v uid (delete_of v uid) _) ∙ e))
 
   fail_pays : (w : World) → IsReclaimed w v → (phase : VolumePhase) → v.phase ≡ phase → is_ended phase ≡ true → Pays setup w seats.Ops (fail_call v)
@@ -245,7 +237,6 @@ module _ (setup : Setup) (seat : ℕ) (key : Key) (v : VolumeData) where
     there = ap (λ (st : State). row_at (volume_key v.meta.name) st.rows) same ∙ r.there;
     own_key = r.own_key;
     due = r.due;
-    none = λ c at_c completed named. r.none c (ap (λ (st : State). row_at (key_of (Claim c)) st.rows) (sym same) ∙ at_c) completed named;
   }
 
   erases_pay : (h : List Entry) → IsReclaimed (world setup h) v → IsErasable (world setup h) v → (uid : Uid) → WillPay setup seat seats.Ops h (at key v (steps.Erases uid) (erase_of v))
@@ -274,28 +265,12 @@ module _ (setup : Setup) (seat : ℕ) (key : Key) (v : VolumeData) where
 
 -- ---- in a run
 
--- the claim of an ended volume is gone, or names another
-none_on : (setup : Setup) (h : List Entry) (v : VolumeData) → Invariant setup h → row_at (volume_key v.meta.name) (world setup h).store.rows ≡ Some (Volume v) → key_of_volume v ≡ volume_key v.meta.name → is_ended v.phase ≡ true → NoneIsCompletedOn (world setup h) v
-none_on setup h v inv there own_key ended c stands completed named = by (carries v c) refl
-  where
-    by : (b : Bool) → carries v c ≡ b → carries v c ≡ false
-    by false e = e
-    by true e =
-        let x = carried v c e in
-        let other = (inv.released (volume_key v.meta.name) v x.reference x.uid there ended x.refers (key_of (Claim c)) c stands x.its).other in
-        absurd (other (ap (λ (k : Key). k.name) (sym named ∙ own_key)))
-
 -- claims have data of their own names
 own_names : (setup : Setup) (h : List Entry) → IsRunOf setup h → UidsFit setup → HaveOwnNames (world setup h).store.rows
 own_names setup h run fit c e u v sc se cu eu same =
     let fits = rows_fit setup h run.imports run.short fit in
     let uid : u ≡ v = names_apart u v (fits (key_of (Claim c)) (Claim c) u sc cu) (fits (key_of (Claim e)) (Claim e) v se eu) same in
     one_uid_one_key setup h run.imports run.short (Claim c) (Claim e) v (stood setup h (Claim c) sc) (stood setup h (Claim e) se) (cu ∙ ap Some uid) eu
-
-invariant : (setup : Setup) (h : List Entry) → IsRunOf setup h → Invariant setup h
-invariant setup h run =
-    let start = first_world_is_good setup run.imports in
-    invariant_of setup h (run_good setup start.invariant h (room_for setup start h run.short) run.run)
 
 -- ---- a decision
 
@@ -329,7 +304,7 @@ module _ (setup : Setup) (seat : ℕ) (role : Role) (kind : role.kind ≡ seats.
       let own_key : key_of_volume v ≡ volume_key v.meta.name = rw (no_namespace v st.valid) refl in
       let at_key : row_at (volume_key v.meta.name) (world setup h).store.rows ≡ Some (Volume v) = ap (λ k. row_at k (world setup h).store.rows) (sym own_key) ∙ st.there in
       let ended = ended_so v due in
-      let r : IsReclaimed (world setup h) v = record { order = rows_stand_in_order setup h; there = at_key; own_key = own_key; due = due; none = none_on setup h v (invariant setup h run) at_key own_key ended.ended } in
+      let r : IsReclaimed (world setup h) v = record { order = rows_stand_in_order setup h; there = at_key; own_key = own_key; due = due } in
       let x : IsErasable (world setup h) v = record { order = rows_stand_in_order setup h; there = st.there; staying = ended.staying; names = own_names setup h run fit; most = length h; short = run.short; few = data_are_few setup h } in
       let whole : u.task ≡ tasks.Erase (record { volume = v; step = steps.ReadsVolume }) = task ∙ ap (λ o. tasks.Erase o) same in
       let call : u.call ≡ get_call v = one u.call (get_call v) (sym gives.call ∙ ap task_call whole) in
