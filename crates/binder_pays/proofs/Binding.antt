@@ -188,7 +188,7 @@ module _ (setup : Setup) (seat : ℕ) (key : Key) where
 
       writes : shows_bound c v ≡ false → PaysFrom setup seat key h (machines.Binds v c) (write_claim_status v c)
       writes open_ =
-          write_pays setup seat key h (machines.Binds v c) (write_claim_status v c) refl (status_pays setup (world setup h) seats.Binder v c sc completed there carried open_)
+          write_pays setup seat key h (machines.Binds v c) (write_claim_status v c) refl (status_pays setup (world setup h) seats.Binder v c sc completed there carried bound open_)
           (claim_next h v c (shown_claim h v c) (write_claim_status v c) (claim_stated setup (world setup h) seats.Binder c claims.Bound v.modes (Some v.amount) (Some c.meta.version) sc.there)
           (λ put. shown_ends (with_own setup seat h (write_claim_status v c)) v (shown_claim h v c) (carries_alike v c (shown_claim h v c) refl refl refl ∙ carried) bound (completed_so v (shown_claim h v c) completed named) shows))
 
@@ -205,7 +205,7 @@ module _ (setup : Setup) (seat : ℕ) (key : Key) where
     where
       writes : PaysFrom setup seat key h (machines.Binds v c) (write_completion v c)
       writes =
-          write_pays setup seat key h (machines.Binds v c) (write_completion v c) refl (completion_pays setup (world setup h) seats.Binder v c s sc carried open_.0 open_.1)
+          write_pays setup seat key h (machines.Binds v c) (write_completion v c) refl (completion_pays setup (world setup h) seats.Binder v c s sc carried bound open_.0 open_.1)
           (claim_next h v c (done_claim h v c) (write_completion v c) (claim_updated setup (world setup h) seats.Binder c (completed_with c v) (Some c.meta.version) (ap (λ k. row_at k (world setup h).store.rows) (done_key v c 0) ∙ sc.there))
           (λ put. fourth (with_own setup seat h (write_completion v c)) v (done_claim h v c) (same_volume setup seat h (write_completion v c) c (done_claim h v c) sc put v s) (new_claim setup seat h (write_completion v c) c (done_claim h v c) sc put refl) (done_carried v c (next_version h) ∙ carried) bound (done_completed v c (next_version h)) (done_named v c (next_version h))))
 
