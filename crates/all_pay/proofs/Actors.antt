@@ -21,7 +21,7 @@ module _ (setup : Setup) (seat : ℕ) (role : Role) (allow : ImportsAllow setup)
   by_kind seats.Ops is built = ops_pay setup seat role is allow.uids
   by_kind seats.Scheduler is built = scheduling_pays setup seat role is
   by_kind seats.ClaimProtect is built = claim_guards_pay setup seat role is
-  by_kind seats.VolumeProtect is built = volume_guards_pay setup seat role is allow.none_lost
+  by_kind seats.VolumeProtect is built = volume_guards_pay setup seat role is
   by_kind seats.Agent is built = agents_pay setup seat role is
 
 pub actors_pay : ActorsPay

@@ -9,14 +9,12 @@ use Rattle.worker_core.specs.Roles.{IsBuiltKind}
 use Rattle.worker_threads.specs.declared.drainers.Drainer.{Drainer}
 use Rattle.worker_threads.specs.Drainers.{AreAtRest, AreNew, AreRoles, HaveNoEntries, roles_of, seats_of}
 use Rattle.worker_threads.specs.Rounds.{Drains, IsRound, Lets}
-use Rattle.paid_law.specs.Guards.{NoneWasLost}
 use Rattle.paid_law.specs.Pays.{DecisionsPay, HasFallen, HavePaid}
 use Rattle.reclaimer_pays.specs.Reclaiming.{UidsFit}
 use Rattle.settle_law.specs.Settling.{MayDrain}
 
--- no claim came into the world as Lost, and each import has a UID of 128 bits
+-- each import has a UID of 128 bits
 pub record ImportsAllow (setup : Setup) : Type 0 where
-  pub none_lost : NoneWasLost setup
   pub uids : UidsFit setup
 
 -- each of the entries that came since pays, so what the world has still to do never rose, and fell where one of them lasts that is
