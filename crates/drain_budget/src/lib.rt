@@ -30,7 +30,7 @@
 //! such round of a drain (`drained_rounds_are_short`), and each but the first where the drain begins with something
 //! under way (`later_rounds_are_short`).
 //!
-//! Premises: no claim was imported as Lost, and UIDs of imports have 128 bits, but for the calls by writes; the pods and
+//! Premises: UIDs of imports have 128 bits, but for the calls by writes; the pods and
 //! the claims that they name are no more than 512, where writes are bounded; for calls no list or watch of a whole kind
 //! and no call of an agent's start is held back; for the budget twice the size and the planned faults are together no
 //! more than 512, and the annotations of claims are in order in each world of the history. An agent that was told that
