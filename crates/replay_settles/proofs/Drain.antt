@@ -122,7 +122,7 @@ module _ (script : Script) (first : ℕ) (option : Option ℕ) (before after : P
         }
 
         allow : ImportsAllow script.setup
-        allow = record { none_lost = allows.none_lost; uids = given_imports_fit script.setup given.setup_given }
+        allow = record { uids = given_imports_fit script.setup given.setup_given }
 
         has : HasBudget script.setup d.drainers before.past (d.budget - before.drained)
         has = record { small = allows.small; few = few; enough = allows.enough }

@@ -10,7 +10,6 @@ use Rattle.worker_threads.specs.Rounds.{all_pass}
 use Rattle.worker_threads.proofs.DrainFacts.{drains_grow}
 use Rattle.settle_law.specs.Settling.{MayDrain}
 use Rattle.settle_law.proofs.Paying.{run_of_older}
-use Rattle.paid_law.specs.Guards.{NoneWasLost}
 use Rattle.all_pay.specs.All.{ImportsAllow}
 use Rattle.drain_budget.specs.Budget.{AreAlwaysInOrder}
 use Rattle.drain_budget.proofs.Short.{drained_rounds_are_short, later_rounds_are_short}
@@ -38,8 +37,8 @@ older_order setup newer h past are order more older same = order (newer ++ more)
 run_of_given : (setup : Setup) (past : List Entry) → IsGivenRun setup past → IsRunOf setup past
 run_of_given setup past given = record { imports = given.setup_given.passing; short = given.short; run = given.run }
 
-imports_allow : (setup : Setup) (past : List Entry) → IsGivenRun setup past → NoneWasLost setup → ImportsAllow setup
-imports_allow setup past given none_lost = record { none_lost = none_lost; uids = given_imports_fit setup given.setup_given }
+imports_allow : (setup : Setup) (past : List Entry) → IsGivenRun setup past → ImportsAllow setup
+imports_allow setup past given = record { uids = given_imports_fit setup given.setup_given }
 
 -- ---- a drain
 
@@ -95,14 +94,14 @@ module _ (script : Script) (option : Option ℕ) (readable : IsReadable script) 
 -- ---- replays, and runs on threads
 
 pub replayed_drains_are_short : ReplayedDrainsAreShort
-replayed_drains_are_short script option past ending readable given none_lost replay = record {
+replayed_drains_are_short script option past ending readable given replay = record {
   of_lines = moves_are_short script option readable allow replay.lines_done script.lines (first_progress option) (run_of_older script.setup grown.newer replay.lines_done.past replay.end.past grown.are run)
       (older_order script.setup grown.newer replay.lines_done.past replay.end.past grown.are order) replay.moves;
   of_last = drain_is_short script (drain_seat script) option replay.lines_done replay.end replay.last readable allow run order;
 }
   where
     allow : ImportsAllow script.setup
-    allow = imports_allow script.setup past given none_lost
+    allow = imports_allow script.setup past given
 
     run : IsRunOf script.setup replay.end.past
     run = subst (IsRunOf script.setup) replay.history (run_of_given script.setup past given)
@@ -114,6 +113,6 @@ replayed_drains_are_short script option past ending readable given none_lost rep
     grown = move_grows script option Drain replay.lines_done replay.end replay.last
 
 pub threaded_drains_are_short : ThreadedDrainsAreShort
-threaded_drains_are_short script workers calls option past ending readable given none_lost r =
-    drain_is_short script (threads_drain_seat workers script) option (progress_after r.worked option) r.end r.last readable (imports_allow script.setup past given none_lost) (subst (IsRunOf script.setup) r.history (run_of_given script.setup past given))
+threaded_drains_are_short script workers calls option past ending readable given r =
+    drain_is_short script (threads_drain_seat workers script) option (progress_after r.worked option) r.end r.last readable (imports_allow script.setup past given) (subst (IsRunOf script.setup) r.history (run_of_given script.setup past given))
     (subst (AreAlwaysInOrder script.setup) r.history (given_runs_stay_in_order script.setup past given))

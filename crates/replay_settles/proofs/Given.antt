@@ -55,8 +55,8 @@ pub given_imports_fit : GivenImportsFit
 given_imports_fit setup is o uid among has = subst (λ (x : Option Uid). IfSome x IsUid) has (uid_fits o (one_of_all IsGivenObject setup.imports o is.imports among))
 
 pub given_drains_settle : GivenDrainsSettle
-given_drains_settle setup first nodes ds after h past b left given none fresh has late drained =
+given_drains_settle setup first nodes ds after h past b left given fresh has late drained =
     let run : IsRunOf setup past = record { imports = given.setup_given.passing; short = given.short; run = given.run } in
     let g = drains_grow all_pass setup after past left ds h b drained in
     let here = older_run setup g.longer.added h (subst (IsRunOf setup) g.longer.are run) in
-    new_drains_settle setup first nodes ds after h past b left (record { none_lost = none; uids = given_imports_fit setup given.setup_given }) here fresh has run (given_runs_stay_in_order setup past given) late drained
+    new_drains_settle setup first nodes ds after h past b left (record { uids = given_imports_fit setup given.setup_given }) here fresh has run (given_runs_stay_in_order setup past given) late drained

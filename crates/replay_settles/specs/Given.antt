@@ -9,7 +9,6 @@ use Rattle.history_laws.specs.Given.{IsSetup}
 use Rattle.printable_law.specs.Laws.{IsGivenRun}
 use Rattle.worker_threads.specs.declared.drainers.Drainer.{Drainer}
 use Rattle.worker_threads.specs.Rounds.{Drains, all_pass}
-use Rattle.paid_law.specs.Guards.{NoneWasLost}
 use Rattle.reclaimer_pays.specs.Reclaiming.{UidsFit}
 use Rattle.drain_budget.specs.Budget.{AreAlwaysInOrder}
 use Rattle.drain_budget.specs.Selections.{AreFresh, HasBudget, NoneProvisionsLate}
@@ -23,5 +22,5 @@ GivenImportsFit = (setup : Setup) → IsSetup setup → UidsFit setup
 -- a drain of new drainers, with an agent for each node that was given, and the stated budget
 abbrev pub GivenDrainsSettle : Type 0
 GivenDrainsSettle =
-    (setup : Setup) (first : ℕ) (nodes : List (List ℕ)) (ds after : List Drainer) (h past : List Entry) (b left : ℕ) → IsGivenRun setup past → NoneWasLost setup → AreFresh setup first nodes ds h → HasBudget setup ds h b
+    (setup : Setup) (first : ℕ) (nodes : List (List ℕ)) (ds after : List Drainer) (h past : List Entry) (b left : ℕ) → IsGivenRun setup past → AreFresh setup first nodes ds h → HasBudget setup ds h b
     → NoneProvisionsLate setup past → Drains all_pass setup after past left ds h b → IsSettled setup (world setup past)

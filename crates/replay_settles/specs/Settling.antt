@@ -12,7 +12,6 @@ use Rattle.world_core.specs.declared.drained.Drained.{Drained}
 use Rattle.world_core.specs.declared.drained.Drained.TheVariants.{Settled}
 use Rattle.worker_threads.specs.Drainers.{agent_of, seats_for}
 use Rattle.short_law.specs.Rounds.{size_of_world}
-use Rattle.paid_law.specs.Guards.{NoneWasLost}
 use Rattle.drain_budget.specs.Budget.{IsSmallWorld, enough_calls}
 use Rattle.drain_budget.specs.Measured.{SharesWell}
 use Rattle.drain_budget.specs.Selections.{NoneProvisionsLate}
@@ -29,10 +28,9 @@ use Rattle.drain_law.specs.Naming.{NamesItsNodes}
 
 -- ---- what a drain needs
 
--- no claim was imported as Lost. Where the last drain begins, each claim that two pods without a node name is completed or of a class that binds at once, or
+-- where the last drain begins, each claim that two pods without a node name is completed or of a class that binds at once, or
 -- else no class that ever stood both binds late and provisions; the world is small there, and so many calls are the stated budget for it
 pub record AllowsSettling (setup : Setup) (before past : List Entry) (calls : ℕ) : Type 0 where
-  pub none_lost : NoneWasLost setup
   pub shared : SharesWell (world setup before) ⊎ NoneProvisionsLate setup past
   pub small : IsSmallWorld setup (world setup before)
   pub enough : enough_calls (size_of_world (world setup before)) (faults_left setup (world setup before).devices) ≤ calls

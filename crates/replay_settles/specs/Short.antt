@@ -5,7 +5,6 @@ use Rattle.call_types.specs.declared.entry.Entry.{Entry}
 use Rattle.world_core.specs.declared.drained.Drained.{Drained}
 use Rattle.worker_threads.specs.Drainers.{AreAtRest}
 use Rattle.worker_threads.specs.Rounds.{all_pass}
-use Rattle.paid_law.specs.Guards.{NoneWasLost}
 use Rattle.drain_budget.specs.ShortRounds.{EachLaterRoundIsShort, EachRoundIsShort}
 use Rattle.printable_law.specs.Laws.{IsGivenRun}
 use Rattle.script_text.specs.declared.script.Line.{Line}
@@ -42,10 +41,10 @@ pub record DrainsAreShort (script : Script) (option : Option ℕ) (past : List E
   pub of_lines : MovesAreShort script option replay.lines_done script.lines (first_progress option) replay.moves
   pub of_last : DrainIsShort script (drain_seat script) option replay.lines_done replay.end replay.last
 
--- in each replay that a text can give, where no claim was imported as Lost
+-- in each replay that a text can give
 abbrev pub ReplayedDrainsAreShort : Type 0
 ReplayedDrainsAreShort =
-    (script : Script) (option : Option ℕ) (past : List Entry) (ending : Drained) → IsReadable script → IsGivenRun script.setup past → NoneWasLost script.setup → (replay : IsReplay script option past ending) → DrainsAreShort script option past ending replay
+    (script : Script) (option : Option ℕ) (past : List Entry) (ending : Drained) → IsReadable script → IsGivenRun script.setup past → (replay : IsReplay script option past ending) → DrainsAreShort script option past ending replay
 
 -- so of the drain with which a run on threads ends
 abbrev pub ThreadedDrainIsShort : (script : Script) (workers calls : ℕ) (option : Option ℕ) (past : List Entry) (ending : Drained) → IsRun script workers calls option past ending → Type 0
@@ -54,5 +53,5 @@ ThreadedDrainIsShort script workers calls option past ending r = DrainIsShort sc
 -- in each run on threads that a text can give
 abbrev pub ThreadedDrainsAreShort : Type 0
 ThreadedDrainsAreShort =
-    (script : Script) (workers calls : ℕ) (option : Option ℕ) (past : List Entry) (ending : Drained) → IsReadable script → IsGivenRun script.setup past → NoneWasLost script.setup → (r : IsRun script workers calls option past ending)
+    (script : Script) (workers calls : ℕ) (option : Option ℕ) (past : List Entry) (ending : Drained) → IsReadable script → IsGivenRun script.setup past → (r : IsRun script workers calls option past ending)
     → ThreadedDrainIsShort script workers calls option past ending r

@@ -1,9 +1,8 @@
 //! The last drain of a script ends settled with the stated budget, and the rounds of its drains are short.
 //!
-//! Promises: the last drain of a replay ends settled, and the replay says so (`last_drains_settle`), where no claim was
-//! imported as Lost, and where, as the drain begins, claims are shared well, its world is small, what earlier drains have
-//! left of the budget is the stated one, and no agent of the drains is stale: none was told an epoch of its node but the
-//! one that the node has. Claims are shared well where each claim that two pods without a node name is completed or of a
+//! Promises: the last drain of a replay ends settled, and the replay says so (`last_drains_settle`), where, as the drain
+//! begins, claims are shared well, its world is small, what earlier drains have left of the budget is the stated one, and
+//! no agent of the drains is stale: none was told an epoch of its node but the one that the node has. Claims are shared well where each claim that two pods without a node name is completed or of a
 //! class that binds at once. In place of this it serves that no class that ever stood both binds late and provisions.
 //! None is stale where no turn line names an agent behind the first line that drains (`left_agents_are_awake`); nor is
 //! one of the drain with which a run on threads ends, which ends settled under the same premises
@@ -13,14 +12,13 @@
 //! Of such a replay each round of each of its drains that begins with at most 960 objects and claims that pods name, of
 //! which at most 512 are pods without a node and claims that these name (`HasShortRounds` of `drain_budget`), makes at
 //! most 256 calls for each of them, for each planned fault that is ahead, and for 16 more (`replayed_drains_are_short`);
-//! and so does each such round of the drain with which a run on threads ends (`threaded_drains_are_short`). Premise: no
-//! claim was imported as Lost. The first round of a drain only where its actors begin it with nothing under way, as they
-//! do where a budget was given and is not spent.
+//! and so does each such round of the drain with which a run on threads ends (`threaded_drains_are_short`). The first
+//! round of a drain only where its actors begin it with nothing under way, as they do where a budget was given and is not
+//! spent.
 //!
 //! It rests on what a text can give: the annotations of claims are in order in each world of such a run
 //! (`given_runs_stay_in_order`), and the UIDs of its imports have 128 bits (`given_imports_fit`). So a drain of new
-//! drainers in it ends settled, where no claim was imported as Lost and no class binds late and provisions
-//! (`given_drains_settle`). Not said: anything of a drain with the budget of a replay to which none was given, which is
+//! drainers in it ends settled, where no class binds late and provisions (`given_drains_settle`). Not said: anything of a drain with the budget of a replay to which none was given, which is
 //! never as much as the stated one; nor of rounds that begin with more objects.
 #![tactic(auto)]
 
