@@ -68,7 +68,7 @@ promised script budget past ending is p = record {
   enough = actors_give_enough script.setup past p.of p.actors;
   lasting = replayed_drains_last script budget past ending (script_readable script is) p.of p.diligent.calls;
   named = replayed_pods_are_on_named script budget past ending is.nodes p.run p.diligent.calls;
-  short = λ none. replayed_drains_are_short script budget past ending given.readable given.given none p.diligent.calls;
+  short = replayed_drains_are_short script budget past ending given.readable given.given p.diligent.calls;
   settling = λ may. ap status_of (last_drains_settle script budget past ending given p.diligent.calls may).is;
 }
   where
@@ -171,9 +171,9 @@ run_answers script workers calls budget setup past ending input text read ran sh
         enough = actors_give_enough script.setup past p.of p.actors;
         lasting = threaded_drains_last script workers calls budget past ending p.of p.calls_are;
         named = threaded_pods_are_on_named script workers calls budget past ending (read_is_script input script read).nodes p.run p.calls_are;
-        short = λ none. threaded_drains_are_short script workers calls budget past ending
+        short = threaded_drains_are_short script workers calls budget past ending
             (given_of_threads script workers calls budget past ending (read_is_script input script read) p).readable
-            (given_of_threads script workers calls budget past ending (read_is_script input script read) p).given none p.calls_are;
+            (given_of_threads script workers calls budget past ending (read_is_script input script read) p).given p.calls_are;
         settling = λ allows. ap status_of (threaded_drains_settle script workers calls budget past ending (given_of_threads script workers calls budget past ending (read_is_script input script read) p) p.calls_are allows).is;
       };
       printed = same;

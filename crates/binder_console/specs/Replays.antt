@@ -22,7 +22,6 @@ use Rattle.script_threads.specs.Runs.{IsRun}
 use Rattle.printable_law.specs.Laws.{HasOneHistory}
 use Rattle.script_gen.specs.Generated.{generated}
 use Rattle.size_law.specs.Enough.{GetEnoughThroughout}
-use Rattle.paid_law.specs.Guards.{NoneWasLost}
 use Rattle.drain_law.specs.Lasting.{DrainsLast, ThreadedDrainLasts}
 use Rattle.drain_law.specs.Naming.{ArePodsOnNamedThroughout}
 use Rattle.replay_settles.specs.Settling.{AllowsSettling, LastDrainMaySettle}
@@ -71,14 +70,13 @@ pub record IsPromised (script : Script) (budget : Option ℕ) (past : List Entry
   pub lasting : DrainsLast script budget past ending calls
   -- at every point each pod that a node runs is on a node that the script names, so its drains have an agent of that node
   pub named : ArePodsOnNamedThroughout script past
-  -- where no claim was imported as Lost, each round of a drain makes at most 256 calls for each object and each claim that a pod names, for
-  -- each planned fault that is ahead, and for 16 more, if the world in which it begins is one that has short rounds (`HasShortRounds` of
-  -- `drain_budget`), as each with at most 512 objects and claims that pods name: each but the first of a drain, and this too where it begins
-  -- with nothing under way
-  pub short : NoneWasLost script.setup → DrainsAreShort script budget past ending calls
-  -- where its last drain may settle it does, so the status is 0: 3 does not come. It may where no claim was imported as Lost, and where, as
-  -- the drain begins, claims are shared well (or no class that ever stood both binds late and provisions), the world is small, the stated
-  -- budget is left for it, and no agent of the drains is stale
+  -- each round of a drain makes at most 256 calls for each object and each claim that a pod names, for each planned fault that is ahead, and
+  -- for 16 more, if the world in which it begins is one that has short rounds (`HasShortRounds` of `drain_budget`), as each with at most 512
+  -- objects and claims that pods name: each but the first of a drain, and this too where it begins with nothing under way
+  pub short : DrainsAreShort script budget past ending calls
+  -- where its last drain may settle it does, so the status is 0: 3 does not come. It may where, as the drain begins, claims are shared well
+  -- (or no class that ever stood both binds late and provisions), the world is small, the stated budget is left for it, and no agent of the
+  -- drains is stale
   pub settling : LastDrainMaySettle script budget past ending calls → status_of ending ≡ Done
 
 -- The input is a script, and the text is that of one history from the script's setup, of which all is promised. The status
@@ -113,7 +111,7 @@ pub record IsPromisedOfThreads (script : Script) (workers calls : ℕ) (budget :
   -- so it is of each whole round of its drain
   pub lasting : ThreadedDrainLasts script workers calls budget past ending calls_are
   pub named : ArePodsOnNamedThroughout script past
-  pub short : NoneWasLost script.setup → ThreadedDrainIsShort script workers calls budget past ending calls_are
+  pub short : ThreadedDrainIsShort script workers calls budget past ending calls_are
   -- and its drain settles under the same premises, but that of stale agents: it has none
   pub settling : AllowsSettling script.setup calls_are.worked past calls_are.last.budget → status_of ending ≡ Done
 

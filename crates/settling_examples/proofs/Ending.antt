@@ -197,10 +197,10 @@ line_examples = record {
 pub allowance_examples : AllowanceExamples
 unfolding imported_object leaves
 allowance_examples = record {
-  enough = record { none_lost = λ uid. refl; shared = inr (λ class stood late. none_some stood); small = omega arith; enough = omega arith };
+  enough = record { shared = inr (λ class stood late. none_some stood); small = omega arith; enough = omega arith };
   too_little = λ a. let much = a.enough in omega (arith, much);
   with_a_fault = λ a. let much = a.enough in omega (arith, much);
-  late = record { none_lost = λ uid. refl; shared = inl none_waits; small = omega arith; enough = omega arith };
+  late = record { shared = inl none_waits; small = omega arith; enough = omega arith };
   badly_shared = λ a. elim a.shared [
     | inl shares ↦ elim (shares (key_named (codes "p")) (key_named (codes "q")) (codes "ns") (codes "c") _ (record { pod = _; there = refl; waits = refl; same = refl; names = inl refl })
         (record { pod = _; there = refl; waits = refl; same = refl; names = inl refl }) two_keys refl) [
