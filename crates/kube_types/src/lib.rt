@@ -1,7 +1,7 @@
 //! The objects of the store: volumes, claims, classes, pods and nodes, with their keys and ids.
 //!
 //! Promises: each type is copied and compared as a value (`copies::Plain`). The words of bindings (completed, for,
-//! carries, protected) are those of the definitions (`bindings`). `Uid::from_serial` gives two numbers two ids, and
+//! carries, protected, uses) are those of the definitions (`bindings`). `Uid::from_serial` gives two numbers two ids, and
 //! the text of an id gives it back (`uid`). A printed word names the value that has it, and nothing else (`words`).
 //! Rows in the order of their keys are found, put and taken by key (`table`). A `Lookup` is a list of objects in that
 //! order, no key twice. Its `volume_by_size` and `volume_for` give the place of the volume before which so many of the wanted

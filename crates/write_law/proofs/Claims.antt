@@ -17,7 +17,7 @@ use Rattle.kube_types.specs.declared.objects.Meta.{Meta}
 use Rattle.kube_types.specs.declared.objects.Claim.{Claim as ClaimData}
 use Rattle.kube_types.specs.declared.objects.Object.{Object}
 use Rattle.kube_types.specs.declared.objects.Object.TheVariants.{Claim}
-use Rattle.kube_types.specs.Bindings.{beta_class, bind_completed, bound_by_controller, has_key, has_name, is_completed, is_deleting, is_empty, is_lost, is_protected_claim, pvc_protection, selected_node, yes}
+use Rattle.kube_types.specs.Bindings.{beta_class, bind_completed, bound_by_controller, has_key, has_name, is_completed, is_deleting, is_empty, is_lost, is_protected_claim, pvc_protection, selected_node, yes, uses}
 use Rattle.kube_types.specs.Keys.{key_of, meta_of, row_at}
 use Rattle.call_types.specs.declared.request.NewStatus.TheVariants as statuses
 use Rattle.call_types.specs.declared.request.Request.TheVariants.{UpdateStatus}
@@ -26,7 +26,7 @@ use Rattle.call_types.specs.declared.setup.Setup.{Setup}
 use Rattle.binder_model.specs.Answers.{is_user, with_status}
 use Rattle.binder_model.specs.BindWrites.{annotated_meta, annotated_meta_if, completed_with, shows_bound}
 use Rattle.binder_model.specs.Fields.{adds_finalizer, has_twice, keeps_class, may_get_class}
-use Rattle.binder_model.specs.GuardLicence.{guarded_meta, unguarded_meta, uses}
+use Rattle.binder_model.specs.GuardLicence.{guarded_meta, unguarded_meta}
 use Rattle.binder_model.specs.ObjectKeys.{claim_key}
 use Rattle.binder_model.specs.Same.{same_amount, same_modes, same_option}
 use Rattle.binder_model.specs.Store.{at_version, updated_object, with_meta, with_status_of}
