@@ -1,7 +1,6 @@
 -- The volumes of an index that have a volume mode and a class.
 use Rattle.std.proofs.Common.{ℕ, ◌≡◌, ◌<◌, ◌≤◌, Bool, true, false, true≢false, bytes_eq, List, length, arith, ◌∙◌, refl, sym, ap}
 use Rattle.std.specs.Bool.{beq}
-use Rattle.std.specs.List.{Contains}
 use Rattle.std.specs.declared.cmp.Ordering.{Ordering}
 use Rattle.std.specs.declared.cmp.Ordering.TheVariants.{Less, Equal, Greater}
 use Rattle.std.specs.Ordering.{is_eq, is_lt, nat_cmp, ordering_then}
