@@ -15,7 +15,7 @@ use Rattle.worker_core.specs.declared.role.Role.{Role}
 use Rattle.worker_core.specs.declared.turn.Pass.{Pass}
 use Rattle.worker_core.specs.Absorbs.{is_none_of, is_passing, pass_after}
 use Rattle.worker_core.specs.Roles.{IsBuiltKind, kind_in_order}
-use Rattle.binder_machines.specs.KindLaw.{reads_kind}
+use Rattle.call_types.specs.Kinds.{reads_kind}
 use Rattle.worker_core.specs.Stands.{AreLicensed, HasNoNews, IsEmptyWatch, PassStands}
 use Rattle.worker_core.proofs.Quiet.{alike, itself, quiet_listed, quiet_now, quiet_on, unread}
 
