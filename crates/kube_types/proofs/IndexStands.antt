@@ -6,6 +6,7 @@ use Rattle.std.specs.declared.cmp.Ordering.{Ordering}
 use Rattle.std.specs.declared.cmp.Ordering.TheVariants.{Less, Equal, Greater}
 use Rattle.std.specs.Ordering.{is_eq, ordering_reverse}
 use Rattle.std.proofs.lemmas.Cmp.{tied_itself}
+use Rattle.std.proofs.lemmas.Bool.{false_from_ne_true, not-true, not_from_false}
 use Rattle.plain_data.specs.Rows.{put, without}
 use Rattle.kube_types.specs.declared.objects.Volume.{Volume as VolumeData}
 use Rattle.kube_types.specs.declared.objects.Object.TheVariants.{Volume}
@@ -18,22 +19,10 @@ use Rattle.kube_types.specs.Steps.IndexEdits.{IsOrdered, put_if, without_if, wit
 use Rattle.kube_types.proofs.VolumeOrders.{by_owner_total, by_size_total, owners_alike, sizes_alike}
 use Rattle.kube_types.proofs.HeldValues.{filter_held, held_filter, held_put, held_without, here, put_held, put_there, split, there, without_held}
 
-negated : (b : Bool) → b ≡ false → not b ≡ true
-negated true e = absurd (true≢false e)
-negated false e = refl
-
-affirmed : (b : Bool) → not b ≡ true → b ≡ false
-affirmed true e = absurd (true≢false (sym e))
-affirmed false e = refl
-
-fails : (b : Bool) → (b ≡ true → ⊥) → b ≡ false
-fails true h = absurd (h refl)
-fails false h = refl
-
 module _ {cmp : VolumeData → VolumeData → Ordering} (o : IsTotalOrder cmp) (alike : (v u : VolumeData) → is_eq (cmp v u) ≡ true → same_name v u ≡ true) (test : VolumeData → Bool) where
   -- volumes of other names stand elsewhere in the order
   apart : (v u : VolumeData) → same_name v u ≡ false → is_eq (cmp v u) ≡ false
-  apart v u e = fails (is_eq (cmp v u)) (λ t. true≢false (sym (alike v u t) ∙ e))
+  apart v u e = false_from_ne_true (is_eq (cmp v u)) (λ t. true≢false (sym (alike v u t) ∙ e))
 
   pub put_stands : (v : VolumeData) (vs xs : List VolumeData) → AreInOrder cmp xs → IsNew v vs → HoldsThose test vs xs → HoldsThose test (v ∷ vs) (put_if cmp test v xs)
   put_stands v vs xs order new h = by (test v) refl
@@ -59,13 +48,13 @@ module _ {cmp : VolumeData → VolumeData → Ordering} (o : IsTotalOrder cmp) (
     where
       -- what is held and is not the volume has another name
       named_apart : (u : VolumeData) → Contains vs u → (u ≡ v → ⊥) → same_name u v ≡ false
-      named_apart u c differs = fails (same_name u v) (λ t. differs (one u v c held t))
+      named_apart u c differs = false_from_ne_true (same_name u v) (λ t. differs (one u v c held t))
 
       left : (u : VolumeData) → Contains vs u → same_name u v ≡ false → Contains (others v vs) u
-      left u c e = filter_held (λ w. not (same_name w v)) u vs c (negated (same_name u v) e)
+      left u c e = filter_held (λ w. not (same_name w v)) u vs c (not_from_false (same_name u v) e)
 
       was : (u : VolumeData) → Contains (others v vs) u → Contains vs u × (same_name u v ≡ false)
-      was u c = let p = held_filter (λ w. not (same_name w v)) u vs c in (p.0, affirmed (same_name u v) p.1)
+      was u c = let p = held_filter (λ w. not (same_name w v)) u vs c in (p.0, not-true (same_name u v) p.1)
 
       to : (u : VolumeData) → Contains xs u × (is_eq (cmp u v) ≡ false) → Contains (others v vs) u × (test u ≡ true)
       to u c = let old = (h u).0 c.0 in
@@ -82,19 +71,19 @@ module _ {cmp : VolumeData → VolumeData → Ordering} (o : IsTotalOrder cmp) (
     where
       -- what has another name than the earlier one has another than the later one
       other_too : (u : VolumeData) → same_name u v ≡ false → same_name u w ≡ false
-      other_too u e = fails (same_name u w) (λ t.
+      other_too u e = false_from_ne_true (same_name u w) (λ t.
           let same_vw = (same_key-Decides (key_of (Volume v)) (key_of (Volume w))).0 name in
           let same_uw = (same_key-Decides (key_of (Volume u)) (key_of (Volume w))).0 t in
           true≢false (sym ((same_key-Decides (key_of (Volume u)) (key_of (Volume v))).1 (same_uw ∙ sym same_vw)) ∙ e))
 
       named_apart : (u : VolumeData) → Contains vs u → (u ≡ v → ⊥) → same_name u v ≡ false
-      named_apart u c differs = fails (same_name u v) (λ t. differs (one u v c held t))
+      named_apart u c differs = false_from_ne_true (same_name u v) (λ t. differs (one u v c held t))
 
       kept : (u : VolumeData) → Contains vs u → same_name u v ≡ false → Contains (w ∷ others v vs) u
-      kept u c e = there w u (others v vs) (filter_held (λ x. not (same_name x v)) u vs c (negated (same_name u v) e))
+      kept u c e = there w u (others v vs) (filter_held (λ x. not (same_name x v)) u vs c (not_from_false (same_name u v) e))
 
       was : (u : VolumeData) → Contains (others v vs) u → Contains vs u × (same_name u v ≡ false)
-      was u c = let p = held_filter (λ x. not (same_name x v)) u vs c in (p.0, affirmed (same_name u v) p.1)
+      was u c = let p = held_filter (λ x. not (same_name x v)) u vs c in (p.0, not-true (same_name u v) p.1)
 
       tied : (u : VolumeData) (x : VolumeData) → is_eq (cmp u x) ≡ false → u ≡ x → ⊥
       tied u x e is = true≢false (sym (ap is_eq (tied_itself o x)) ∙ ap (λ y. is_eq (cmp y x)) (sym is) ∙ e)

@@ -3,6 +3,7 @@ use Rattle.std.proofs.Common.{ℕ, ◌≡◌, ◌≢◌, ◌+◌, ◌≤◌, Boo
 use Rattle.std.specs.List.{Contains}
 use Rattle.std.specs.declared.cmp.Ordering.TheVariants.{Greater}
 use Rattle.std.proofs.lemmas.Option.{slice_get-get_or, slice_get_within}
+use Rattle.std.proofs.lemmas.Bool.{and_from, and_parts}
 use Rattle.plain_data.specs.Rows.{IsAfter, IsRising}
 use Rattle.kube_types.specs.declared.parts.Kind.TheVariants as kinds
 use Rattle.kube_types.specs.declared.objects.Volume.{Volume as VolumeData}
@@ -36,14 +37,6 @@ as_volume_some (Some (Pod y)) x e = cc
 none_is : (x : VolumeData) → None ≡ Some x → ⊥
 none_is x e = cc
 
-pub both_true : (a b : Bool) → (a && b) ≡ true → (a ≡ true) × (b ≡ true)
-both_true true b e = (refl, e)
-both_true false b e = absurd (true≢false (sym e))
-
-pub all_true : (a b : Bool) → a ≡ true → b ≡ true → (a && b) ≡ true
-all_true true b e f = f
-all_true false b e f = absurd (true≢false (sym e))
-
 -- ---- one look at a place
 
 module _ (test : VolumeData → Bool) (os : List Object) (other : Option VolumeData) (place : ℕ) (before : Option ℕ) where
@@ -52,7 +45,7 @@ module _ (test : VolumeData → Bool) (os : List Object) (other : Option VolumeD
 
   candidate : (v : VolumeData) → as_volume (slice_get os place) ≡ Some v → (test v && is_behind other v) ≡ true → IsBehindAt test os other place v
   candidate v at wanted =
-      let parts = both_true (test v) (is_behind other v) wanted in
+      let parts = and_parts (test v) (is_behind other v) wanted in
       record { there = as_volume_some _ v at; passes = parts.0; behind = parts.1 }
 
   -- no volume stands at the place
@@ -64,7 +57,7 @@ module _ (test : VolumeData → Bool) (os : List Object) (other : Option VolumeD
   unwanted v at refused first = scans.passed_over need_total one place before (λ x c. none x c (some_volume x v (sym c.there ∙ as_volume_some _ v at))) first
     where
       none : (x : VolumeData) → IsBehindAt test os other place x → x ≡ v → ⊥
-      none x c is = true≢false (sym (all_true (test x) (is_behind other x) c.passes c.behind) ∙ ap (λ w. test w && is_behind other w) is ∙ refused)
+      none x c is = true≢false (sym (and_from (test x) (is_behind other x) c.passes c.behind) ∙ ap (λ w. test w && is_behind other w) is ∙ refused)
 
   -- it is wanted, and comes before the first one
   pub first_now : (v : VolumeData) → as_volume (slice_get os place) ≡ Some v → (test v && is_behind other v) ≡ true → is_before_place os v before ≡ true → IsNextVolumeBelow test os other place before → IsNextVolumeBelow test os other (place + 1) (Some place)

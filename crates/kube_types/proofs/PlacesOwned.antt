@@ -10,6 +10,7 @@ use Rattle.std.proofs.lemmas.Cmp.{tied_itself}
 use Rattle.std.proofs.lemmas.Map.Lookups.{exact_bytes}
 use Rattle.std.proofs.lemmas.Option.{slice_get-get_or, slice_get_past}
 use Rattle.std.proofs.lemmas.Slice.Eq.{bytes_eq-Decides}
+use Rattle.std.proofs.lemmas.Bool.{and_from, and_parts}
 use Rattle.plain_data.specs.Pairs.{text_cmp}
 use Rattle.plain_data.proofs.RowFacts.{find_at, find_gap, searched}
 use Rattle.kube_types.specs.declared.objects.Ref.{Ref}
@@ -31,7 +32,7 @@ use Rattle.kube_types.specs.Steps.VolumePlaces.{AreOwned, IsPlaceOf, IsVolumeAt}
 use Rattle.kube_types.specs.VolumePlaces.{IsNth, count_before, is_of_claim, refers_to, those_in}
 use Rattle.kube_types.proofs.PlacesAlike.{same_length}
 use Rattle.kube_types.proofs.PlacesCounted.{count_none, key_of_volume}
-use Rattle.kube_types.proofs.PlacesBehind.{all_true, both_true, numbered, those_rise}
+use Rattle.kube_types.proofs.PlacesBehind.{numbered, those_rise}
 
 module _ {X : Type 0} where
   -- one more that passes both tests
@@ -78,7 +79,7 @@ module _ (namespace name : List ℕ) where
   ref_owner : (r : Option Ref) → refers_to namespace name r ≡ true → owner_in r ≡ owner
   ref_owner None e = absurd (true≢false (sym e))
   ref_owner (Some r) e =
-      let p = both_true (bytes_eq r.namespace namespace) (bytes_eq r.name name) e in
+      let p = and_parts (bytes_eq r.namespace namespace) (bytes_eq r.name name) e in
       let a = (bytes_eq-Decides r.namespace namespace).0 p.0 in
       let b = (bytes_eq-Decides r.name name).0 p.1 in
       λ i. record { namespace = a i; name = b i }
@@ -86,7 +87,7 @@ module _ (namespace name : List ℕ) where
   owner_ref : (r : Option Ref) → is_some r ≡ true → owner_in r ≡ owner → refers_to namespace name r ≡ true
   owner_ref None e is = absurd (true≢false (sym e))
   owner_ref (Some r) e is =
-      all_true (bytes_eq r.namespace namespace) (bytes_eq r.name name)
+      and_from (bytes_eq r.namespace namespace) (bytes_eq r.name name)
       ((bytes_eq-Decides r.namespace namespace).1 (ap (λ (w : Owner). w.namespace) is))
       ((bytes_eq-Decides r.name name).1 (ap (λ (w : Owner). w.name) is))
 
