@@ -2,7 +2,7 @@
 use Rattle.std.proofs.Common.{◌≡◌, ◌∙◌, ◌⊎◌, ℕ, ◌+◌, ◌≤◌, List, [], ◌∷◌, ◌++◌, Bool, true, false, true≢false, Option, Some, None, inl, inr, refl, sym, ap, subst, arith}
 use Rattle.std.specs.Prelude.{bytes_eq, cond, not, ◌&&◌, ◌||◌, is_some}
 use Rattle.std.specs.List.{list_any}
-use Rattle.std.proofs.lemmas.Bool.{and_parts}
+use Rattle.std.proofs.lemmas.Bool.{and_parts, and_left, and_right}
 use Rattle.std.proofs.lemmas.Slice.Eq.{bytes_eq-Decides}
 use Rattle.kube_types.specs.declared.names.Due.{Due}
 use Rattle.kube_types.specs.declared.names.Due.TheVariants as dues
@@ -153,25 +153,17 @@ module _ (setup : Setup) (w : World) (kind : SeatKind) (v : VolumeData) (s : Sta
         omega (arith, was, now);
   }
 
-never_and : (a b : Bool) → b ≡ false → (a && b) ≡ false
-never_and true b e = e
-never_and false b e = refl
-
-and_never : (a b : Bool) → a ≡ false → (a && b) ≡ false
-and_never true b e = absurd (true≢false e)
-and_never false b e = refl
-
 deleting_holds : (v : VolumeData) → is_deleting v.meta ≡ true → (c : ClaimData) → holds v c ≡ false
-deleting_holds v e c = and_never (carries v c && not (is_deleting v.meta)) (not (is_ended v.phase)) (never_and (carries v c) (not (is_deleting v.meta)) (ap not e))
+deleting_holds v e c = and_left (carries v c && not (is_deleting v.meta)) (not (is_ended v.phase)) (and_right (carries v c) (not (is_deleting v.meta)) (ap not e))
 
 deleting_offers : (v : VolumeData) → is_deleting v.meta ≡ true → (c : ClaimData) → offers v c ≡ false
-deleting_offers v e c = never_and (carries v c) (is_fit v c && not (is_ended v.phase)) (and_never (is_fit v c) (not (is_ended v.phase)) (rw e refl))
+deleting_offers v e c = and_right (carries v c) (is_fit v c && not (is_ended v.phase)) (and_left (is_fit v c) (not (is_ended v.phase)) (rw e refl))
 
 ended_holds : (v : VolumeData) → is_ended v.phase ≡ true → (c : ClaimData) → holds v c ≡ false
-ended_holds v e c = never_and (carries v c && not (is_deleting v.meta)) (not (is_ended v.phase)) (ap not e)
+ended_holds v e c = and_right (carries v c && not (is_deleting v.meta)) (not (is_ended v.phase)) (ap not e)
 
 ended_offers : (v : VolumeData) → is_ended v.phase ≡ true → (c : ClaimData) → offers v c ≡ false
-ended_offers v e c = never_and (carries v c) (is_fit v c && not (is_ended v.phase)) (never_and (is_fit v c) (not (is_ended v.phase)) (ap not e))
+ended_offers v e c = and_right (carries v c) (is_fit v c && not (is_ended v.phase)) (and_right (is_fit v c) (not (is_ended v.phase)) (ap not e))
 
 -- nothing is lost where nothing was held
 useless_safe : (v new : VolumeData) (c : ClaimData) → holds v c ≡ false → offers v c ≡ false → completed_left c (Some (Volume new)) ≤ completed_left c (Some (Volume v)) → Harmless v new c
