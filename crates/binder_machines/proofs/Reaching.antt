@@ -16,7 +16,7 @@ use Rattle.kube_types.specs.Keys.{key_of, row_at}
 use Rattle.kube_types.specs.Bindings.{carries, is_bound, is_empty, is_ended, is_protected_volume}
 use Rattle.kube_types.proofs.KeyOrder.{row_at_key}
 use Rattle.call_types.specs.declared.request.Request.{Request}
-use Rattle.call_types.proofs.Kinds.{ReadsNone, call_reads_none}
+use Rattle.call_types.proofs.WholeKinds.{ReadsNone, call_reads_none}
 use Rattle.binder_model.specs.BindWrites.{claim_write, is_completed_with, next_write, shows_bound, write_bound, write_claim_status, write_completion, write_reference}
 use Rattle.claim_sync.specs.ClaimDecision.{claim_decision}
 use Rattle.claim_sync.specs.declared.action.ClaimStep.{ClaimStep}

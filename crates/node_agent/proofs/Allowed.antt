@@ -10,7 +10,7 @@ use Rattle.call_types.specs.declared.entry.Entry.{Entry}
 use Rattle.call_types.specs.declared.request.Request.{Request}
 use Rattle.call_types.specs.declared.request.Request.TheVariants as requests
 use Rattle.call_types.specs.declared.request.SeatKind.TheVariants.{Agent}
-use Rattle.call_types.proofs.Kinds.{ReadsNone, call_reads_none, reads_no_kind}
+use Rattle.call_types.proofs.WholeKinds.{ReadsNone, call_reads_none, reads_no_kind}
 use Rattle.binder_model.specs.AgentLicence.{AreReadReady, MayFinish, last_epoch}
 use Rattle.call_types.specs.declared.request.SeatKind.TheVariants as seats
 use Rattle.binder_model.specs.Licence.{AreOfKind, Licensed, RowAllows}

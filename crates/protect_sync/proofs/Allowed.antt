@@ -13,7 +13,7 @@ use Rattle.call_types.specs.declared.entry.Entry.{Entry}
 use Rattle.call_types.specs.declared.request.Request.{Request}
 use Rattle.call_types.specs.declared.request.Request.TheVariants.{List as ListOf}
 use Rattle.call_types.specs.declared.request.SeatKind.TheVariants.{ClaimProtect, VolumeProtect}
-use Rattle.call_types.proofs.Kinds.{ReadsNone, call_reads_none, reads_no_kind}
+use Rattle.call_types.proofs.WholeKinds.{ReadsNone, call_reads_none, reads_no_kind}
 use Rattle.binder_model.specs.At.{IsWrittenAt}
 use Rattle.binder_model.specs.Edits.{without_name}
 use Rattle.binder_model.specs.GuardLicence.{MayUnguardClaim, MayUnguardVolume}

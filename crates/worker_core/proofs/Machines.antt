@@ -35,7 +35,7 @@ use Rattle.pod_scheduler.proofs.Begun.{decisions_keep}
 use Rattle.pod_scheduler.proofs.Moves.{evidence_goes_on}
 use Rattle.protect_sync.specs.declared.claims.ClaimGuardOp.{ClaimGuardOp}
 use Rattle.protect_sync.specs.declared.volumes.VolumeGuardOp.{VolumeGuardOp}
-use Rattle.call_types.proofs.Kinds.{no_read}
+use Rattle.call_types.proofs.WholeKinds.{no_read}
 use Rattle.protect_sync.specs.ClaimGuards.{claim_moved}
 use Rattle.protect_sync.specs.Decisions.{claim_guard_begins, volume_guard_begins}
 use Rattle.protect_sync.specs.VolumeGuards.{volume_moved}
