@@ -13,7 +13,7 @@ use Rattle.kube_types.specs.declared.objects.Claim.{Claim as ClaimData}
 use Rattle.kube_types.specs.declared.objects.Volume.{Volume as VolumeData}
 use Rattle.kube_types.specs.declared.objects.Object.{Object}
 use Rattle.kube_types.specs.declared.objects.Object.TheVariants.{Class, Node, Volume, Claim, Pod}
-use Rattle.kube_types.specs.Bindings.{bind_completed, bound_by_controller, yes, is_completed, is_deleting, is_empty, is_protected_claim, carries}
+use Rattle.kube_types.specs.Bindings.{bind_completed, bound_by_controller, yes, is_completed, is_deleting, is_empty, is_protected_claim, is_bound, carries}
 use Rattle.kube_types.specs.Keys.{key_of, put_row, row_at}
 use Rattle.call_types.specs.declared.request.NewStatus.TheVariants as statuses
 use Rattle.call_types.specs.declared.request.Request.TheVariants.{Update, UpdateStatus}
@@ -32,6 +32,7 @@ use Rattle.settle_binding.specs.Pays.{CompletionPays, LostPays, StatusPays}
 use Rattle.settle_measure.specs.Lowers.{Lowers, StandsClaim}
 use Rattle.settle_measure.proofs.Aside.{claim_put}
 use Rattle.settle_measure.proofs.Entries.{Put, Took, came}
+use Rattle.settle_measure.proofs.Others.{bound_left}
 use Rattle.settle_measure.proofs.Words.{carries_alike, value_put}
 
 -- the claim as an update writes it
@@ -119,13 +120,13 @@ at_most_one : (b : Bool) → unless b 1 ≤ 1
 at_most_one true = omega arith
 at_most_one false = omega arith
 
-completed_weight : (w : World) (b : Bool) (c : ClaimData) (v : VolumeData) (n : ℕ) → row_at (volume_key v.meta.name) w.store.rows ≡ Some (Volume v) → carries v c ≡ true → is_completed c ≡ false → is_deleting c.meta ≡ false
+completed_weight : (w : World) (b : Bool) (c : ClaimData) (v : VolumeData) (n : ℕ) → row_at (volume_key v.meta.name) w.store.rows ≡ Some (Volume v) → carries v c ≡ true → is_bound v.phase ≡ true → is_completed c ≡ false → is_deleting c.meta ≡ false
     → claim_left w.store.rows w.devices (completed_as b c v n) + 1 ≤ claim_left w.store.rows w.devices c
-completed_weight w b c v n there carried open_ staying =
+completed_weight w b c v n there carried bound open_ staying =
     let done = completed_now b c v n in
     let row : completed_left (completed_as b c v n) (row_at (volume_key v.meta.name) w.store.rows) ≡ completed_left (completed_as b c v n) (Some (Volume v)) = ap (completed_left (completed_as b c v n)) there in
     let is_carried = carried_same b c v n ∙ carried in
-    let is : completed_left (completed_as b c v n) (Some (Volume v)) ≡ unless (shows_bound (completed_as b c v n) v) 1 = rw is_carried refl in
+    let is : completed_left (completed_as b c v n) (Some (Volume v)) ≡ unless (shows_bound (completed_as b c v n) v) 1 = bound_left (completed_as b c v n) v is_carried bound in
     let small = at_most_one (shows_bound (completed_as b c v n) v) in
     let guard = guard_same b c v n in
     let now : claim_left w.store.rows w.devices (completed_as b c v n) ≡ completed_left (completed_as b c v n) (row_at (volume_key v.meta.name) w.store.rows) + guard_left (is_deleting (completed_as b c v n).meta) (is_protected_claim (completed_as b c v n)) = rw done refl in
@@ -140,11 +141,11 @@ not_seeking c e f =
 
 pub completion_pays : CompletionPays
 unfolding completed_with leaves
-completion_pays setup w kind v c s sc carried open_ staying =
+completion_pays setup w kind v c s sc carried bound open_ staying =
     claim_update_lowers setup w kind c sc (completed_with c v) (Some c.meta.version) 1 (key_same (is_empty c.volume_name) c v 0)
     (ap (λ b. b && has_no_names (completed_with c v).meta.finalizers) staying)
     (λ h. absurd (not_seeking (completed_as (is_empty c.volume_name) c v (w.store.version + 1)) (completed_now (is_empty c.volume_name) c v (w.store.version + 1)) h))
-    (completed_weight w (is_empty c.volume_name) c v (w.store.version + 1) s.there carried open_ staying)
+    (completed_weight w (is_empty c.volume_name) c v (w.store.version + 1) s.there carried bound open_ staying)
 
 -- the fourth write
 
@@ -159,12 +160,14 @@ amount_same : (a : Amount) → same_amount a a ≡ true
 amount_same a = let n : (a.bytes == a.bytes) ≡ true = grind (arith, nat_tests) in and_from (bytes_eq a.text a.text) (a.bytes == a.bytes) ((bytes_eq-Decides a.text a.text).1 refl) n
 
 pub status_pays : StatusPays
-status_pays setup w kind v c sc completed there carried differs =
+status_pays setup w kind v c sc completed there carried bound differs =
     let new : ClaimData = with_claim_status c claims.Bound v.modes (Some v.amount) (w.store.version + 1) in
     let is_carried : carries v new ≡ true = carries_alike v c new refl refl refl ∙ carried in
     let shows : shows_bound new v ≡ true = and_from (same_modes v.modes v.modes) (same_amount v.amount v.amount) (modes_same v.modes) (amount_same v.amount) in
-    let now : claim_left w.store.rows w.devices new ≡ 0 + guard_left (is_deleting c.meta) (is_protected_claim c) = rw (completed, there, is_carried, shows) refl in
-    let was : claim_left w.store.rows w.devices c ≡ 1 + guard_left (is_deleting c.meta) (is_protected_claim c) = rw (completed, there, carried, differs) refl in
+    let after : completed_left new (Some (Volume v)) ≡ 0 = bound_left new v is_carried bound ∙ ap (λ b. unless b 1) shows in
+    let before : completed_left c (Some (Volume v)) ≡ 1 = bound_left c v carried bound ∙ ap (λ b. unless b 1) differs in
+    let now : claim_left w.store.rows w.devices new ≡ 0 + guard_left (is_deleting c.meta) (is_protected_claim c) = rw (completed, there) (ap (λ n. n + guard_left (is_deleting c.meta) (is_protected_claim c)) after) in
+    let was : claim_left w.store.rows w.devices c ≡ 1 + guard_left (is_deleting c.meta) (is_protected_claim c) = rw (completed, there) (ap (λ n. n + guard_left (is_deleting c.meta) (is_protected_claim c)) before) in
     claim_status_lowers setup w kind c sc claims.Bound v.modes (Some v.amount) (Some c.meta.version) 1 (omega (arith, now, was))
 
 -- Lost

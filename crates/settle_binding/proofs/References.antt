@@ -1,5 +1,5 @@
 -- The first write of a binding: who pays for it.
-use Rattle.std.proofs.Common.{◌≡◌, ◌∙◌, ◌⊎◌, ℕ, ◌+◌, ◌≤◌, List, Bool, true, false, Option, Some, None, inl, inr, refl, sym, ap, arith, if◌then◌else◌}
+use Rattle.std.proofs.Common.{◌≡◌, ◌∙◌, ◌⊎◌, ℕ, ◌+◌, ◌≤◌, List, Bool, true, false, Option, Some, None, inl, inr, refl, sym, ap, arith}
 use Rattle.std.specs.Prelude.{bytes_eq, not, ◌&&◌, ◌==◌, is_none}
 use Rattle.std.proofs.lemmas.Bool.Decides.{nat_tests}
 use Rattle.std.proofs.lemmas.Bool.{and_from, and_parts}
@@ -17,18 +17,18 @@ use Rattle.kube_types.specs.Keys.{key_of, put_row, row_at}
 use Rattle.kube_types.proofs.KeyOrder.{row_at-put_row}
 use Rattle.call_types.specs.declared.request.SeatKind.{SeatKind}
 use Rattle.call_types.specs.declared.setup.Setup.{Setup}
-use Rattle.binder_model.specs.BindWrites.{ref_to, shows_bound, taken_for, write_reference}
+use Rattle.binder_model.specs.BindWrites.{ref_to, taken_for, write_reference}
 use Rattle.binder_model.specs.Matching.{fits}
 use Rattle.binder_model.specs.ObjectKeys.{claim_key, volume_key}
 use Rattle.binder_model.specs.Store.{has_no_names, leaves}
 use Rattle.binder_model.specs.World.{World}
 use Rattle.kube_types.specs.Sources.{data_id_of}
 use Rattle.model_laws.proofs.Lists.{none_some}
-use Rattle.settle_measure.specs.Measure.{claim_left, completed_left, guard_left, has_offer, holds, is_awaited, is_fit, is_held_by, is_lost, life_left, offers, offers_claim, phase_left, stage_left, unless, volume_left, was_erased}
+use Rattle.settle_measure.specs.Measure.{carried_left, claim_left, completed_left, guard_left, has_offer, holds, is_awaited, is_fit, is_held_by, is_lost, is_over, life_left, offers, offers_claim, phase_left, stage_left, unless, volume_left, was_erased}
 use Rattle.settle_binding.specs.Pays.{MayTake}
 use Rattle.settle_measure.specs.Lowers.{Lowers, StandsVolume, StandsClaim}
-use Rattle.settle_measure.proofs.Others.{AsGood, provision_less, any_in, as_good_put}
-use Rattle.settle_binding.proofs.Stages.{AllSafe, at_key, false_not, key_is, lowered, lowered_paid, no_carrier, rewritten, update_by, with_uid}
+use Rattle.settle_measure.proofs.Others.{AsGood, away_most, carried_most, provision_less, any_in, as_good_put}
+use Rattle.settle_binding.proofs.Stages.{AllSafe, at_key, false_not, key_is, life_kept, lowered, lowered_paid, no_carrier, not_over, rewritten, update_by, with_uid}
 use Rattle.settle_measure.proofs.Sums.{found_in}
 use Rattle.settle_measure.proofs.Words.{annotated_beta, annotated_finalizers, annotated_labels, annotated_name, annotated_namespace}
 
@@ -104,16 +104,8 @@ module _ (setup : Setup) (w : World) (kind : SeatKind) (v : VolumeData) (c : Cla
       record {
         held = λ open_ staying which h. false_not _ before (and_parts (carries v e) _ (and_parts (carries v e && not (is_deleting v.meta)) _ h).0).0;
         offered = λ open_ staying empty h. false_not _ before (and_parts (carries v e) _ h).0;
-        done = λ completed named. less e before (carries taken e);
+        done = λ completed named. let was : completed_left e (Some (Volume v)) ≡ 5 + unless (is_lost e.phase) 1 = rw before refl in let h = away_most e taken in omega (arith, was, h);
       }
-    where
-      less : (e : ClaimData) → carries v e ≡ false → (b : Bool) → completed_left e (Some (Volume taken)) ≤ completed_left e (Some (Volume v))
-      less e before b = let was : completed_left e (Some (Volume v)) ≡ 5 + unless (is_lost e.phase) 1 = rw before refl in let h = at_most (carries taken e) (shows_bound e taken) (is_lost e.phase) in omega (arith, was, h)
-        where
-          at_most : (a b c : Bool) → (if a then unless b 1 else 5 + unless c 1) ≤ 5 + unless c 1
-          at_most true true c = omega arith
-          at_most true false c = omega arith
-          at_most false b c = omega arith
 
   stage_up : (a : Bool) (p : VolumePhase) → phase_left p + 1 ≤ stage_left a None p + 4
   stage_up a volumes.Bound = omega arith
@@ -129,10 +121,18 @@ module _ (setup : Setup) (w : World) (kind : SeatKind) (v : VolumeData) (c : Cla
   stage_awaited volumes.Pending = omega arith
   stage_awaited volumes.Available = omega arith
 
-  rest_same : life_left (is_deleting taken.meta) (was_erased (data_id_of taken.source) w.devices.stored) + guard_left (is_deleting taken.meta) (is_protected_volume taken)
-      ≡ life_left (is_deleting v.meta) (was_erased (data_id_of v.source) w.devices.stored) + guard_left (is_deleting v.meta) (is_protected_volume v)
+  guard_same : guard_left (is_deleting taken.meta) (is_protected_volume taken) ≡ guard_left (is_deleting v.meta) (is_protected_volume v)
   unfolding taken_for
-  rest_same = ap (λ f. life_left (is_deleting v.meta) (was_erased (data_id_of v.source) w.devices.stored) + guard_left (is_deleting v.meta) (has_name pv_protection f)) (annotated_finalizers (is_none v.claim_ref) bound_by_controller v.meta)
+  guard_same = ap (λ f. guard_left (is_deleting v.meta) (has_name pv_protection f)) (annotated_finalizers (is_none v.claim_ref) bound_by_controller v.meta)
+
+  life_less : life_left (is_deleting taken.meta) (is_over (ref_uid taken.claim_ref) taken.phase) (was_erased (data_id_of taken.source) w.devices.stored)
+      ≤ life_left (is_deleting v.meta) (is_over (ref_uid v.claim_ref) v.phase) (was_erased (data_id_of v.source) w.devices.stored)
+  unfolding taken_for
+  life_less = life_kept (is_deleting v.meta) (is_over (ref_uid v.claim_ref) v.phase) (is_over c.meta.uid v.phase) (was_erased (data_id_of v.source) w.devices.stored) (not_over (ref_uid v.claim_ref) v.phase (inr t.going))
+
+  rest_less : life_left (is_deleting taken.meta) (is_over (ref_uid taken.claim_ref) taken.phase) (was_erased (data_id_of taken.source) w.devices.stored) + guard_left (is_deleting taken.meta) (is_protected_volume taken)
+      ≤ life_left (is_deleting v.meta) (is_over (ref_uid v.claim_ref) v.phase) (was_erased (data_id_of v.source) w.devices.stored) + guard_left (is_deleting v.meta) (is_protected_volume v)
+  rest_less = let g = guard_same in let l = life_less in omega (arith, g, l)
 
   after_stage : stage_left (is_awaited w.store.rows taken.claim_ref) (ref_uid taken.claim_ref) taken.phase ≡ phase_left v.phase
   unfolding taken_for
@@ -142,12 +142,12 @@ module _ (setup : Setup) (w : World) (kind : SeatKind) (v : VolumeData) (c : Cla
   before_stage = ap (λ u. stage_left (is_awaited w.store.rows v.claim_ref) u v.phase) none_before
 
   weight_up : volume_left w.store.rows w.devices taken + 1 ≤ volume_left w.store.rows w.devices v + 4
-  weight_up = let a = after_stage in let b = before_stage in let r = rest_same in let u = stage_up (is_awaited w.store.rows v.claim_ref) v.phase in omega (arith, a, b, r, u)
+  weight_up = let a = after_stage in let b = before_stage in let r = rest_less in let u = stage_up (is_awaited w.store.rows v.claim_ref) v.phase in omega (arith, a, b, r, u)
 
   -- a volume that a user gave to the claim pays itself
   pub awaited_pays : is_awaited w.store.rows v.claim_ref ≡ true → Lowers setup w kind (write_reference v c) 1
   awaited_pays aw =
-      let a = after_stage in let b = before_stage in let r = rest_same in let u = stage_awaited v.phase in
+      let a = after_stage in let b = before_stage in let r = rest_less in let u = stage_awaited v.phase in
       let n : stage_left (is_awaited w.store.rows v.claim_ref) None v.phase ≡ stage_left true None v.phase = ap (λ x. stage_left x None v.phase) aw in
       let less : volume_left w.store.rows w.devices taken + 1 ≤ volume_left w.store.rows w.devices v = omega (arith, a, b, r, u, n) in
       update_by setup w kind v s (taken_for v c) (Some v.meta.version) 1 taken_key remains (λ y put. lowered setup w kind v s y taken 1 taken_key put safe less)
@@ -179,14 +179,13 @@ module _ (setup : Setup) (w : World) (kind : SeatKind) (v : VolumeData) (c : Cla
       let now : is_held_by c (row_at (volume_key c.volume_name) (put_row (Volume taken) w.store.rows)) ≡ true = ap (λ n. is_held_by c (row_at (volume_key n) (put_row (Volume taken) w.store.rows))) is ∙ ap (is_held_by c) put_there ∙ held in
       rw (open_, staying, named, was, now) (omega arith)
 
+  taken_left : completed_left c (Some (Volume taken)) ≡ carried_left c taken
+  taken_left = let e = carries_now in let going : is_ended taken.phase ≡ false = t.going in rw (e, going) refl
+
   -- a completed claim
   pub completed_claim_pays : is_completed c ≡ true → c.volume_name ≡ v.meta.name → claim_left (put_row (Volume taken) w.store.rows) w.devices c + 4 ≤ claim_left w.store.rows w.devices c
   completed_claim_pays completed is =
       let was : completed_left c (row_at (volume_key c.volume_name) w.store.rows) ≡ 5 + unless (is_lost c.phase) 1 = ap (λ n. completed_left c (row_at (volume_key n) w.store.rows)) is ∙ ap (completed_left c) s.there ∙ rw t.free refl in
-      let now : completed_left c (row_at (volume_key c.volume_name) (put_row (Volume taken) w.store.rows)) ≡ unless (shows_bound c taken) 1 = ap (λ n. completed_left c (row_at (volume_key n) (put_row (Volume taken) w.store.rows))) is ∙ ap (completed_left c) put_there ∙ rw carries_now refl in
-      let small = at_most_one (shows_bound c taken) in
+      let now : completed_left c (row_at (volume_key c.volume_name) (put_row (Volume taken) w.store.rows)) ≡ carried_left c taken = ap (λ n. completed_left c (row_at (volume_key n) (put_row (Volume taken) w.store.rows))) is ∙ ap (completed_left c) put_there ∙ taken_left in
+      let small = carried_most c taken in
       rw completed (omega (arith, was, now, small))
-    where
-      at_most_one : (b : Bool) → unless b 1 ≤ 1
-      at_most_one true = omega arith
-      at_most_one false = omega arith

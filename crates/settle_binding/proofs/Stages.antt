@@ -1,6 +1,6 @@
 -- The binder's writes on a volume's own account, and the second write of a binding.
 use Rattle.std.proofs.Common.{◌≡◌, ◌∙◌, ◌⊎◌, ℕ, ◌+◌, ◌≤◌, List, Bool, true, false, true≢false, Option, Some, None, inl, inr, refl, sym, ap, subst, arith}
-use Rattle.std.specs.Prelude.{bytes_eq, cond, not, ◌&&◌, ◌||◌}
+use Rattle.std.specs.Prelude.{bytes_eq, cond, not, ◌&&◌, ◌||◌, is_some}
 use Rattle.std.proofs.lemmas.Bool.{and_from, and_parts}
 use Rattle.std.proofs.lemmas.Slice.Eq.{bytes_eq-Decides}
 use Rattle.kube_types.specs.declared.uid.Uid.{Uid}
@@ -26,13 +26,13 @@ use Rattle.binder_model.specs.BinderDue.{claim_with, reference_due, referred_due
 use Rattle.kube_types.specs.Bindings.{has_name, pv_protection}
 use Rattle.kube_types.specs.Sources.{data_id_of}
 use Rattle.plain_data.specs.Pairs.{without_key}
-use Rattle.binder_model.specs.BindWrites.{unbound_volume, without_uid, write_bound, write_unbound}
+use Rattle.binder_model.specs.BindWrites.{shows_bound, unbound_volume, without_uid, write_bound, write_unbound}
 use Rattle.binder_model.specs.ObjectKeys.{claim_key, volume_key}
 use Rattle.binder_model.specs.Store.{at_version, has_no_names, leaves, updated_object, with_meta, with_status_of}
 use Rattle.binder_model.specs.World.{Effect, World, effect, world_after}
 use Rattle.model_laws.proofs.Lists.{IsIn, none_some, one}
 use Rattle.safety_invariant.specs.Writes.{IsLeaving, IsStatus, IsUpdate}
-use Rattle.settle_measure.specs.Measure.{claim_left, completed_left, guard_left, is_fit, is_seeking, life_left, was_erased, is_awaited, left_of, left_on, phase_left, seeks, stage_left, unless, volume_left}
+use Rattle.settle_measure.specs.Measure.{claim_left, completed_left, guard_left, is_fit, is_lost, is_over, is_seeking, life_left, was_erased, is_awaited, left_of, left_on, phase_left, seeks, stage_left, unless, volume_left}
 use Rattle.settle_binding.specs.Pays.{AvailablePays, BoundPays, ReleasePays, UnbindPays}
 use Rattle.settle_measure.specs.Lowers.{Lowers, StandsVolume}
 use Rattle.settle_measure.proofs.Entries.{Put, Took, came}
@@ -157,6 +157,23 @@ unbound_left volumes.Failed e f = absurd (true≢false e)
 unbound_left volumes.Pending e f = refl
 unbound_left volumes.Available e f = refl
 
+-- a volume that is not over has as much life in it as any, if its data and whether it is deleting stay
+pub life_kept : (deleting over over_next erased : Bool) → over ≡ false → life_left deleting over_next erased ≤ life_left deleting over erased
+life_kept true over over_next erased e = rw e (at_most over_next)
+  where
+    at_most : (b : Bool) → unless b 1 ≤ 1
+    at_most true = omega arith
+    at_most false = omega arith
+life_kept false over over_next erased e = omega arith
+
+pub not_over : (u : Option Uid) (p : VolumePhase) → (u ≡ None) ⊎ (is_ended p ≡ false) → is_over u p ≡ false
+not_over u p (inl none) = ap (λ x. is_over x p) none
+not_over u p (inr going) = ap (λ b. is_some u && b) going ∙ never (is_some u)
+  where
+    never : (b : Bool) → (b && false) ≡ false
+    never true = refl
+    never false = refl
+
 -- references
 
 pub no_carrier : (r : Option Ref) (c : ClaimData) → ref_uid r ≡ None → refers_carrying r c ≡ false
@@ -256,7 +273,8 @@ pub available_pays : AvailablePays
 available_pays setup w kind v s due =
     let free = is_free w.store.rows v due in
     let stage = available_stage (is_awaited w.store.rows v.claim_ref) (ref_uid v.claim_ref) v.phase free.uid free.phase in
-    status_lowers setup w kind v s volumes.Available (Some v.meta.version) 1 (λ c i. free_safe v (phased v volumes.Available (w.store.version + 1)) c free.uid free.uid) (omega (arith, stage))
+    let life = life_kept (is_deleting v.meta) (is_over (ref_uid v.claim_ref) v.phase) (is_over (ref_uid v.claim_ref) volumes.Available) (was_erased (data_id_of v.source) w.devices.stored) (not_over (ref_uid v.claim_ref) v.phase (inl free.uid)) in
+    status_lowers setup w kind v s volumes.Available (Some v.meta.version) 1 (λ c i. free_safe v (phased v volumes.Available (w.store.version + 1)) c free.uid free.uid) (omega (arith, stage, life))
 
 -- Release and Unbind
 
@@ -360,19 +378,28 @@ release_pays setup w kind v s due =
     let after = with_uid (is_awaited w.store.rows v.claim_ref) (ref_uid v.claim_ref) a.uid volumes.Released uid in
     let most = unbound_ended v.phase a.going in
     let one_unit : phase_left volumes.Released ≡ 1 = refl in
-    status_lowers setup w kind v s volumes.Released (Some v.meta.version) 1 (λ c i. away_safe v (phased v volumes.Released (w.store.version + 1)) c (elsewhere w.store.rows v s.order a c i) (λ h. h)) (omega (arith, before, after, most, one_unit))
+    let life = life_kept (is_deleting v.meta) (is_over (ref_uid v.claim_ref) v.phase) (is_over (ref_uid v.claim_ref) volumes.Released) (was_erased (data_id_of v.source) w.devices.stored) (not_over (ref_uid v.claim_ref) v.phase (inr a.going)) in
+    status_lowers setup w kind v s volumes.Released (Some v.meta.version) 1 (λ c i. away_safe v (phased v volumes.Released (w.store.version + 1)) c (elsewhere w.store.rows v s.order a c i) (λ h. h)) (omega (arith, before, after, most, one_unit, life))
 
 -- phase Bound, by the volume's own sync or as the second write
 
-pub phase_safe : (v : VolumeData) (p : VolumePhase) (n : ℕ) (c : ClaimData) → is_ended p ≡ false → Harmless v (phased v p n) c
-phase_safe v p n c e = record {
-  held = λ open_ staying which h. let q = and_parts (carries v c && not (is_deleting v.meta)) (not (is_ended v.phase)) h in and_from (carries v c && not (is_deleting v.meta)) (not (is_ended p)) q.0 (ap not e);
+bound_safe : (v : VolumeData) (n : ℕ) (c : ClaimData) → is_ended v.phase ≡ false → is_bound v.phase ≡ false → Harmless v (phased v volumes.Bound n) c
+bound_safe v n c going fresh = record {
+  held = λ open_ staying which h. let q = and_parts (carries v c && not (is_deleting v.meta)) (not (is_ended v.phase)) h in and_from (carries v c && not (is_deleting v.meta)) true q.0 refl;
   offered = λ open_ staying empty h.
       let q = and_parts (carries v c) (is_fit v c && not (is_ended v.phase)) h in
       let r = and_parts (is_fit v c) (not (is_ended v.phase)) q.1 in
-      and_from (carries v c) (is_fit v c && not (is_ended p)) q.0 (and_from (is_fit v c) (not (is_ended p)) r.0 (ap not e));
-  done = λ completed named. omega arith;
+      and_from (carries v c) (is_fit v c && true) q.0 (and_from (is_fit v c) true r.0 refl);
+  done = λ completed named.
+      let was : completed_left c (Some (Volume v)) ≡ cond (carries v c && true) (1 + unless (is_lost c.phase) 1) (5 + unless (is_lost c.phase) 1) = rw (going, fresh) refl in
+      let less = shown_less (carries v c && true) (shows_bound c (phased v volumes.Bound n)) (is_lost c.phase) in
+      omega (arith, was, less);
 }
+  where
+    shown_less : (a s l : Bool) → cond a (unless s 1) (5 + unless l 1) ≤ cond a (1 + unless l 1) (5 + unless l 1)
+    shown_less true true l = omega arith
+    shown_less true false l = omega arith
+    shown_less false s l = omega arith
 
 pub bound_write_pays : (setup : Setup) (w : World) (kind : SeatKind) (v : VolumeData) (uid : Uid) → StandsVolume w v → ref_uid v.claim_ref ≡ Some uid → is_ended v.phase ≡ false → is_bound v.phase ≡ false → Lowers setup w kind (write_bound v) 1
 bound_write_pays setup w kind v uid s has going fresh =
@@ -380,7 +407,8 @@ bound_write_pays setup w kind v uid s has going fresh =
     let after = with_uid (is_awaited w.store.rows v.claim_ref) (ref_uid v.claim_ref) uid volumes.Bound has in
     let is = unbound_left v.phase going fresh in
     let two : phase_left volumes.Bound ≡ 2 = refl in
-    status_lowers setup w kind v s volumes.Bound (Some v.meta.version) 1 (λ c i. phase_safe v volumes.Bound (w.store.version + 1) c refl) (omega (arith, before, after, is, two))
+    let life = life_kept (is_deleting v.meta) (is_over (ref_uid v.claim_ref) v.phase) (is_over (ref_uid v.claim_ref) volumes.Bound) (was_erased (data_id_of v.source) w.devices.stored) (not_over (ref_uid v.claim_ref) v.phase (inr going)) in
+    status_lowers setup w kind v s volumes.Bound (Some v.meta.version) 1 (λ c i. bound_safe v (w.store.version + 1) c going fresh) (omega (arith, before, after, is, two, life))
 
 bound_due : (v : VolumeData) (c : Option ClaimData) → is_bound_due (referred_due v c) ≡ true → is_bound v.phase ≡ false
 unfolding referred_due
@@ -462,11 +490,12 @@ module _ (setup : Setup) (w : World) (kind : SeatKind) (v : VolumeData) (s : Sta
       let after = free_stage (is_awaited w.store.rows x.claim_ref) (ref_uid x.claim_ref) v.phase gone free in
       let most = unbound_ended v.phase a.going in
       let remains : leaves (Volume (rewritten v x (w.store.version + 1))) ≡ false = ap (λ f. is_deleting v.meta && has_no_names f) fin ∙ s.stays in
-      let life : life_left (is_deleting v.meta) (was_erased (data_id_of x.source) w.devices.stored) ≡ life_left (is_deleting v.meta) (was_erased (data_id_of v.source) w.devices.stored) = ap (λ q. life_left (is_deleting v.meta) (was_erased (data_id_of q) w.devices.stored)) src in
+      let same_life : life_left (is_deleting v.meta) (is_over (ref_uid x.claim_ref) v.phase) (was_erased (data_id_of x.source) w.devices.stored) ≡ life_left (is_deleting v.meta) (is_over (ref_uid x.claim_ref) v.phase) (was_erased (data_id_of v.source) w.devices.stored) = ap (λ q. life_left (is_deleting v.meta) (is_over (ref_uid x.claim_ref) v.phase) (was_erased (data_id_of q) w.devices.stored)) src in
+      let life = life_kept (is_deleting v.meta) (is_over (ref_uid v.claim_ref) v.phase) (is_over (ref_uid x.claim_ref) v.phase) (was_erased (data_id_of v.source) w.devices.stored) (not_over (ref_uid v.claim_ref) v.phase (inr a.going)) in
       let guard : guard_left (is_deleting v.meta) (has_name pv_protection x.meta.finalizers) ≡ guard_left (is_deleting v.meta) (is_protected_volume v) = ap (λ f. guard_left (is_deleting v.meta) (has_name pv_protection f)) fin in
       update_lowers setup w kind v s x (Some v.meta.version) 1 same remains
       (λ c i. away_safe v (rewritten v x (w.store.version + 1)) c (unbind_away c i) (λ h. false_not _ (no_carrier x.claim_ref c gone) h))
-      (omega (arith, before, after, most, life, guard))
+      (omega (arith, before, after, most, same_life, life, guard))
 
   unbind_so : (b : Bool) → has_key bound_by_controller v.meta.annotations ≡ b → Lowers setup w kind (write_unbound v) 1
   unfolding unbound_volume

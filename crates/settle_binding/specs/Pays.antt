@@ -13,7 +13,7 @@ use Rattle.kube_types.specs.declared.parts.Modes.{Modes}
 use Rattle.kube_types.specs.declared.objects.Amount.{Amount}
 use Rattle.kube_types.specs.declared.objects.Node.{Node as NodeData}
 use Rattle.plain_data.specs.Pairs.{put_pair, without_key}
-use Rattle.kube_types.specs.Bindings.{beta_class, has_key, selected_node, carries, is_completed, is_deleting, is_empty, is_ended, is_for}
+use Rattle.kube_types.specs.Bindings.{beta_class, has_key, selected_node, carries, is_bound, is_completed, is_deleting, is_empty, is_ended, is_for}
 use Rattle.kube_types.specs.Keys.{key_of, row_at}
 use Rattle.call_types.specs.declared.request.NewStatus.TheVariants as statuses
 use Rattle.call_types.specs.declared.request.Request.{Request}
@@ -75,17 +75,17 @@ CompletedPays =
     (setup : Setup) (w : World) (kind : SeatKind) (v : VolumeData) (c : ClaimData) → StandsVolume w v → StandsClaim w c → is_completed c ≡ true → c.volume_name ≡ v.meta.name → v.claim_ref ≡ None → next_write v c ≡ Some (write_reference v c)
     → Lowers setup w kind (write_reference v c) 1
 
--- the third write of a binding
+-- the third write of a binding, after the second
 abbrev pub CompletionPays : Type 0
 CompletionPays =
-    (setup : Setup) (w : World) (kind : SeatKind) (v : VolumeData) (c : ClaimData) → StandsVolume w v → StandsClaim w c → carries v c ≡ true → is_completed c ≡ false → is_deleting c.meta ≡ false
+    (setup : Setup) (w : World) (kind : SeatKind) (v : VolumeData) (c : ClaimData) → StandsVolume w v → StandsClaim w c → carries v c ≡ true → is_bound v.phase ≡ true → is_completed c ≡ false → is_deleting c.meta ≡ false
     → Lowers setup w kind (write_completion v c) 1
 
 -- the fourth write of a binding
 abbrev pub StatusPays : Type 0
 StatusPays =
     (setup : Setup) (w : World) (kind : SeatKind) (v : VolumeData) (c : ClaimData) → StandsClaim w c → is_completed c ≡ true → row_at (volume_key c.volume_name) w.store.rows ≡ Some (Volume v) → carries v c ≡ true
-    → shows_bound c v ≡ false → Lowers setup w kind (write_claim_status v c) 1
+    → is_bound v.phase ≡ true → shows_bound c v ≡ false → Lowers setup w kind (write_claim_status v c) 1
 
 abbrev pub write_claim_phase : ClaimData → ClaimPhase → Modes → Option Amount → Request
 write_claim_phase c phase modes amount = UpdateStatus (claim_key c.meta.namespace c.meta.name) (statuses.Claim phase modes amount) (Some c.meta.version)

@@ -15,7 +15,7 @@ use Rattle.binder_model.specs.ObjectKeys.{claim_key, volume_key}
 use Rattle.binder_model.specs.Devices.{Devices}
 use Rattle.model_laws.proofs.Lists.{IsIn, one}
 use Rattle.settle_measure.specs.Measure.{claim_left, completed_left, has_offer, is_held_by, is_seeking, left_on, object_left, offers_claim, pod_left, seeks, total}
-use Rattle.settle_measure.proofs.Sums.{Pays, falls, found_in, gone_falls, new_falls, none_paid, none_pays, one_pays, paid_at, put_falls, stands}
+use Rattle.settle_measure.proofs.Sums.{Pays, falls, found_in, gone_falls, new_falls, none_paid, none_pays, one_at_most, one_pays, paid_at, put_falls, stands, total_sum}
 use Rattle.settle_measure.proofs.Others.{AsGood, DataStay, ErasedStay, NoneSeeks, any_found, any_in, claim_less, volume_less}
 
 -- all rows but that of one key stay
@@ -126,6 +126,24 @@ gone_total rows d k old order there all =
     let h = gone_falls (object_left rows d) (object_left (without_row k rows) d) none_paid k old rows order there (λ o i differs. none_pay rows (without_row k rows) d d all o i) in
     let z = none_pays rows in
     omega (arith, h, z)
+
+-- what leaves may cost the claim under one key so much
+pub gone_costs : (rows : List Object) (d : Devices) (k : Key) (old : Object) (namespace name : List ℕ) (n : ℕ) → AreRows rows → row_at k rows ≡ Some old → NoneSeeks rows (without_row k rows)
+    → ((c : ClaimData) → IsIn (Claim c) rows → claim_left (without_row k rows) d c ≤ claim_left rows d c + paid_at (claim_key namespace name) n (Claim c))
+    → left_on (without_row k rows) d + object_left rows d old ≤ left_on rows d + n
+gone_costs rows d k old namespace name n order there none cost =
+    let h = gone_falls (λ o. object_left rows d o + paid_at (claim_key namespace name) n o) (object_left (without_row k rows) d) none_paid k old rows order there (λ o i differs. each o i) in
+    let z = none_pays rows in
+    let split = total_sum (object_left rows d) (paid_at (claim_key namespace name) n) rows in
+    let most = one_at_most (claim_key namespace name) n rows order in
+    omega (arith, h, z, split, most)
+  where
+    each : (o : Object) → IsIn o rows → Pays (λ x. object_left rows d x + paid_at (claim_key namespace name) n x) (object_left (without_row k rows) d) none_paid o
+    each (Class x) i = omega arith
+    each (Node x) i = omega arith
+    each (Volume v) i = let h = volume_less rows (without_row k rows) d d v none (λ e. e) in omega (arith, h)
+    each (Pod p) i = omega arith
+    each (Claim c) i = let h = cost c i in omega (arith, h)
 
 pub new_total : (rows : List Object) (d : Devices) (new : Object) (namespace name : List ℕ) (n : ℕ) (payer : Object) → row_at (key_of new) rows ≡ None → row_at (claim_key namespace name) rows ≡ Some payer → AllStay rows (put_row new rows) d d
     → ((c : ClaimData) → IsIn (Claim c) rows → key_of (Claim c) ≡ claim_key namespace name → claim_left (put_row new rows) d c + n ≤ claim_left rows d c)

@@ -9,16 +9,16 @@ use Rattle.kube_types.specs.declared.objects.Pod.{Pod as PodData}
 use Rattle.kube_types.specs.declared.objects.Volume.{Volume as VolumeData}
 use Rattle.kube_types.specs.declared.objects.Object.{Object}
 use Rattle.kube_types.specs.declared.objects.Object.TheVariants.{Class, Node, Volume, Claim, Pod}
-use Rattle.kube_types.specs.Bindings.{carries, is_available, is_completed, is_deleting, is_empty, is_protected_claim, is_protected_volume, is_scheduled, ref_uid}
+use Rattle.kube_types.specs.Bindings.{is_available, is_completed, is_deleting, is_empty, is_protected_claim, is_protected_volume, is_scheduled, ref_uid}
 use Rattle.kube_types.specs.Keys.{row_at}
 use Rattle.kube_types.specs.Sources.{data_id_of}
-use Rattle.binder_model.specs.BindWrites.{shows_bound}
 use Rattle.binder_model.specs.Devices.{Devices, has_data}
 use Rattle.binder_model.specs.Due.{is_pod_mounted}
 use Rattle.binder_model.specs.ObjectKeys.{volume_key}
 use Rattle.binder_model.specs.Provisioning.{data_name}
-use Rattle.settle_measure.specs.Measure.{claim_left, claims_in, completed_left, guard_left, has_class, has_offer, is_awaited, is_held_by, is_lost, life_left, mount_left, object_left, open_left, phase_left, pod_left, pods_in, provision_left, seeking_left, stage_left, total, unless, volume_left, volumes_in, was_erased}
+use Rattle.settle_measure.specs.Measure.{claim_left, claims_in, completed_left, guard_left, has_class, has_offer, is_awaited, is_held_by, is_lost, is_over, life_left, mount_left, object_left, open_left, phase_left, pod_left, pods_in, provision_left, seeking_left, stage_left, total, unless, volume_left, volumes_in, was_erased}
 use Rattle.settle_measure.specs.Bounds.{CountsAreBounded, FallsAreShort, LeftIsBounded, MeasureIsBounded, RoundsFall}
+use Rattle.settle_measure.proofs.Others.{away_most}
 
 at_most : (b : Bool) (n : ℕ) → unless b n ≤ n
 at_most true n = omega arith
@@ -40,14 +40,14 @@ stage_most : (a : Bool) (u : Option Uid) (p : VolumePhase) → stage_left a u p 
 stage_most a None p = let x = at_most (is_available p) 1 in let y = at_most (not a) 4 in omega (arith, x, y)
 stage_most a (Some uid) p = let x = phase_most p in omega (arith, x)
 
-life_most : (a b : Bool) → life_left a b ≤ 3
-life_most true b = omega arith
-life_most false b = let x = at_most b 2 in omega (arith, x)
+life_most : (a o b : Bool) → life_left a o b ≤ 3
+life_most true o b = let x = at_most o 1 in omega (arith, x)
+life_most false o b = let x = at_most b 2 in omega (arith, x)
 
 volume_most : (rows : List Object) (d : Devices) (v : VolumeData) → volume_left rows d v ≤ 10
 volume_most rows d v =
     let a = stage_most (is_awaited rows v.claim_ref) (ref_uid v.claim_ref) v.phase in
-    let b = life_most (is_deleting v.meta) (was_erased (data_id_of v.source) d.stored) in
+    let b = life_most (is_deleting v.meta) (is_over (ref_uid v.claim_ref) v.phase) (was_erased (data_id_of v.source) d.stored) in
     let c = guard_most (is_deleting v.meta) (is_protected_volume v) in
     omega (arith, a, b, c)
 
@@ -71,11 +71,7 @@ completed_most c (Some (Class o)) = let x = at_most (is_lost c.phase) 1 in omega
 completed_most c (Some (Node o)) = let x = at_most (is_lost c.phase) 1 in omega (arith, x)
 completed_most c (Some (Claim o)) = let x = at_most (is_lost c.phase) 1 in omega (arith, x)
 completed_most c (Some (Pod o)) = let x = at_most (is_lost c.phase) 1 in omega (arith, x)
-completed_most c (Some (Volume v)) = by (carries v c) (at_most (shows_bound c v) 1) (at_most (is_lost c.phase) 1)
-  where
-    by : (b : Bool) {m n : ℕ} → m ≤ 1 → n ≤ 1 → cond b m (5 + n) ≤ 6
-    by true x y = omega (arith, x)
-    by false x y = omega (arith, y)
+completed_most c (Some (Volume v)) = let x = away_most c v in let y = at_most (is_lost c.phase) 1 in omega (arith, x, y)
 
 claim_most : (rows : List Object) (d : Devices) (c : ClaimData) → claim_left rows d c ≤ 18
 claim_most rows d c = by (is_completed c) (is_deleting c.meta) (completed_most c (row_at (volume_key c.volume_name) rows)) (open_most rows d c) (guard_most (is_deleting c.meta) (is_protected_claim c))

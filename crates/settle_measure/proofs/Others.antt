@@ -1,24 +1,27 @@
 -- What a write of one object does to the weights of the others.
 use Rattle.std.proofs.Common.{◌≡◌, ◌≢◌, ◌∙◌, ◌⊎◌, ℕ, ◌+◌, ◌≤◌, List, [], ◌∷◌, Bool, true, false, true≢false, Option, Some, None, inl, inr, refl, sym, ap, subst, arith}
-use Rattle.std.specs.Prelude.{cond, not, ◌||◌}
+use Rattle.std.specs.Prelude.{cond, not, ◌&&◌, ◌||◌}
 use Rattle.std.specs.List.{list_any}
 use Rattle.kube_types.specs.declared.uid.Uid.{Uid}
 use Rattle.kube_types.specs.declared.key.Key.{Key}
+use Rattle.kube_types.specs.declared.parts.VolumePhase.{VolumePhase}
+use Rattle.kube_types.specs.declared.parts.VolumePhase.TheVariants as volumes
 use Rattle.kube_types.specs.declared.objects.Ref.{Ref}
 use Rattle.kube_types.specs.declared.objects.Claim.{Claim as ClaimData}
 use Rattle.kube_types.specs.declared.objects.Volume.{Volume as VolumeData}
 use Rattle.kube_types.specs.declared.objects.Object.{Object}
 use Rattle.kube_types.specs.declared.objects.Object.TheVariants.{Volume}
-use Rattle.kube_types.specs.Bindings.{is_completed, is_deleting, is_empty, ref_uid}
+use Rattle.kube_types.specs.Bindings.{carries, is_bound, is_completed, is_deleting, is_empty, is_ended, ref_uid}
 use Rattle.kube_types.specs.Keys.{AreRows, key_of, kind_index, put_row, row_at, without_row}
 use Rattle.kube_types.specs.Sources.{data_id_of}
 use Rattle.kube_types.proofs.KeyOrder.{row_at-put_row, row_at-put_row_other, row_at-without_row_other}
 use Rattle.kube_types.proofs.SameKeys.{key_tells}
+use Rattle.binder_model.specs.BindWrites.{shows_bound}
 use Rattle.binder_model.specs.ObjectKeys.{claim_key, volume_key}
 use Rattle.binder_model.specs.Devices.{Devices, has_data}
 use Rattle.binder_model.specs.Provisioning.{data_name}
 use Rattle.model_laws.proofs.Lists.{IsIn, one}
-use Rattle.settle_measure.specs.Measure.{binding_left, claim_left, completed_left, has_offer, holds, offers, offers_claim, is_awaited, is_held_by, life_left, open_left, provision_left, seeking_left, seeks, stage_left, unless, volume_left, was_erased}
+use Rattle.settle_measure.specs.Measure.{binding_left, carried_left, claim_left, completed_left, has_offer, holds, offers, offers_claim, is_awaited, is_held_by, is_lost, is_over, life_left, open_left, provision_left, seeking_left, seeks, stage_left, unless, volume_left, was_erased}
 use Rattle.settle_measure.proofs.Sums.{found_in, stands}
 
 pub unless_less : (b c : Bool) (n : ℕ) → (b ≡ true → c ≡ true) → unless c n ≤ unless b n
@@ -93,6 +96,34 @@ binding_less rows rows_after d devices_after c stay good = by (is_completed c) (
 pub claim_less : (rows rows_after : List Object) (d devices_after : Devices) (c : ClaimData) → DataStay d devices_after → AsGood rows rows_after c → claim_left rows_after devices_after c ≤ claim_left rows d c
 claim_less rows rows_after d devices_after c stay good = let h = binding_less rows rows_after d devices_after c stay good in omega (arith, h)
 
+-- a completed claim that its volume carries
+
+pub carried_most : (c : ClaimData) (v : VolumeData) → carried_left c v ≤ 1 + unless (is_lost c.phase) 1
+carried_most c v = by (is_bound v.phase) (shows_bound c v)
+  where
+    by : (b s : Bool) → cond b (unless s 1) (1 + unless (is_lost c.phase) 1) ≤ 1 + unless (is_lost c.phase) 1
+    by true true = omega arith
+    by true false = omega arith
+    by false s = omega arith
+
+pub away_most : (c : ClaimData) (v : VolumeData) → completed_left c (Some (Volume v)) ≤ 5 + unless (is_lost c.phase) 1
+away_most c v = by (carries v c && not (is_ended v.phase)) (carried_most c v)
+  where
+    by : (b : Bool) → carried_left c v ≤ 1 + unless (is_lost c.phase) 1 → cond b (carried_left c v) (5 + unless (is_lost c.phase) 1) ≤ 5 + unless (is_lost c.phase) 1
+    by true h = omega (arith, h)
+    by false h = omega arith
+
+-- no claim is away whose volume is Bound and carries it
+pub bound_left : (c : ClaimData) (v : VolumeData) → carries v c ≡ true → is_bound v.phase ≡ true → completed_left c (Some (Volume v)) ≡ unless (shows_bound c v) 1
+bound_left c v carried bound = let going = bound_goes v.phase bound in rw (carried, going, bound) refl
+  where
+    bound_goes : (p : VolumePhase) → is_bound p ≡ true → is_ended p ≡ false
+    bound_goes volumes.Bound e = refl
+    bound_goes volumes.Pending e = refl
+    bound_goes volumes.Available e = refl
+    bound_goes volumes.Released e = absurd (true≢false (sym e))
+    bound_goes volumes.Failed e = absurd (true≢false (sym e))
+
 -- volumes
 
 -- no claim begins to wait for a volume
@@ -115,14 +146,14 @@ stage_less a b v (Some uid) h = omega arith
 abbrev pub ErasedStay : Devices → Devices → VolumeData → Type 0
 ErasedStay d devices_after v = was_erased (data_id_of v.source) d.stored ≡ true → was_erased (data_id_of v.source) devices_after.stored ≡ true
 
-life_less : (a b c : Bool) → (b ≡ true → c ≡ true) → life_left a c ≤ life_left a b
-life_less true b c h = omega arith
-life_less false b c h = let n = unless_less b c 2 h in omega (arith, n)
+life_less : (a o b c : Bool) → (b ≡ true → c ≡ true) → life_left a o c ≤ life_left a o b
+life_less true o b c h = omega arith
+life_less false o b c h = let n = unless_less b c 2 h in omega (arith, n)
 
 pub volume_less : (rows rows_after : List Object) (d devices_after : Devices) (v : VolumeData) → NoneSeeks rows rows_after → ErasedStay d devices_after v → volume_left rows_after devices_after v ≤ volume_left rows d v
 volume_less rows rows_after d devices_after v none erased =
     let a = stage_less (is_awaited rows_after v.claim_ref) (is_awaited rows v.claim_ref) v (ref_uid v.claim_ref) (awaited_less rows rows_after none v.claim_ref) in
-    let b = life_less (is_deleting v.meta) (was_erased (data_id_of v.source) d.stored) (was_erased (data_id_of v.source) devices_after.stored) erased in
+    let b = life_less (is_deleting v.meta) (is_over (ref_uid v.claim_ref) v.phase) (was_erased (data_id_of v.source) d.stored) (was_erased (data_id_of v.source) devices_after.stored) erased in
     omega (arith, a, b)
 
 -- the write of one volume

@@ -15,7 +15,7 @@ use Rattle.kube_types.specs.declared.objects.Volume.{Volume as VolumeData}
 use Rattle.kube_types.specs.declared.objects.Object.{Object}
 use Rattle.kube_types.specs.declared.objects.Object.TheVariants.{Volume, Claim, Pod}
 use Rattle.kube_types.specs.Keys.{row_at}
-use Rattle.kube_types.specs.Bindings.{beta_class, has_key, is_deleting, is_scheduled, is_protected_volume, is_protected_claim, is_completed, is_ended, is_available, is_empty, carries, ref_uid}
+use Rattle.kube_types.specs.Bindings.{beta_class, has_key, is_deleting, is_scheduled, is_protected_volume, is_protected_claim, is_completed, is_ended, is_bound, is_available, is_empty, carries, ref_uid}
 use Rattle.call_types.specs.declared.setup.Setup.{Setup}
 use Rattle.binder_model.specs.ObjectKeys.{claim_key, volume_key}
 use Rattle.binder_model.specs.Matching.{fits, is_selected}
@@ -64,14 +64,19 @@ stage_left awaited (Some uid) phase = phase_left phase
 abbrev pub was_erased : DataId → List Data → Bool
 was_erased id stored = list_any (λ x. not x.there && same_id x.id id) stored
 
--- a volume that stays is to be deleted; before that its data are to be erased
-abbrev pub life_left : Bool → Bool → ℕ
-life_left deleting erased = unless deleting (1 + unless erased 2)
+-- the volume has ended with its reference, so it is never taken for a claim again
+abbrev pub is_over : Option Uid → VolumePhase → Bool
+is_over uid phase = is_some uid && is_ended phase
+
+-- a volume that stays is to be deleted; before that its data are to be erased. One that is deleting may still be taken until it is over
+abbrev pub life_left : Bool → Bool → Bool → ℕ
+life_left true over erased = unless over 1
+life_left false over erased = 1 + unless erased 2
 
 abbrev pub volume_left : List Object → Devices → VolumeData → ℕ
 volume_left rows d v =
     stage_left (is_awaited rows v.claim_ref) (ref_uid v.claim_ref) v.phase
-    + (life_left (is_deleting v.meta) (was_erased (data_id_of v.source) d.stored) + guard_left (is_deleting v.meta) (is_protected_volume v))
+    + (life_left (is_deleting v.meta) (is_over (ref_uid v.claim_ref) v.phase) (was_erased (data_id_of v.source) d.stored) + guard_left (is_deleting v.meta) (is_protected_volume v))
 
 -- the volume carries the claim, stays and has not ended
 abbrev pub holds : VolumeData → ClaimData → Bool
@@ -115,9 +120,13 @@ abbrev pub is_lost : ClaimPhase → Bool
 is_lost claims.Lost = true
 is_lost _ = false
 
--- a completed claim: its status is to be written; where its volume is away, or does not carry it, also this
+-- a completed claim that its volume carries: its status is to be written, once the volume is Bound. Until then the volume may leave
+abbrev pub carried_left : ClaimData → VolumeData → ℕ
+carried_left c v = if is_bound v.phase then unless (shows_bound c v) 1 else 1 + unless (is_lost c.phase) 1
+
+-- a completed claim: where its volume is away, has ended or does not carry it, also this
 abbrev pub completed_left : ClaimData → Option Object → ℕ
-completed_left c (Some (Volume v)) = if carries v c then unless (shows_bound c v) 1 else 5 + unless (is_lost c.phase) 1
+completed_left c (Some (Volume v)) = if carries v c && not (is_ended v.phase) then carried_left c v else 5 + unless (is_lost c.phase) 1
 completed_left c _ = 5 + unless (is_lost c.phase) 1
 
 abbrev pub binding_left : List Object → Devices → ClaimData → ℕ

@@ -104,6 +104,19 @@ pub record CountsOffers : Type 0 where
   pub beside_wide : left_with_two (taken_volume volumes.Available) wide open_claim ≡ 23
   pub taken_twice : left_with_two (taken_volume volumes.Available) (taken_for wide open_claim) open_claim ≡ 26
 
+-- the claim as it is imported without its volume, and a volume that is to go
+abbrev pub lost : ClaimData
+lost = record completed { phase = claims.Lost }
+
+abbrev pub going : VolumeData → VolumeData
+going v = record v { meta = record v.meta { deleted = Some [] } }
+
+-- a volume that is to go is taken for such a claim: each write lowers what is left, be it that the volume then leaves
+pub record FallsAsItLeaves : Type 0 where
+  pub is_free : left_with (going (free volumes.Available)) lost ≡ 8
+  pub is_taken : left_with (going (taken_volume volumes.Available)) lost ≡ 7
+  pub has_left : left_on (Claim lost ∷ []) no_devices ≡ 6
+
 -- unbinding a volume of a completed claim raises what is left, and so does a phase taken back
 pub record RisesWhereItMust : Type 0 where
   pub unbound : left_with (taken_volume volumes.Bound) shown < left_with (unbound_volume (taken_volume volumes.Bound)) shown

@@ -7,12 +7,12 @@
 //! that lowers what is left, and in each that tries a node less (`rounds_fall`), so as often as its first value at
 //! most (`falls_are_short`). A planned fault that came lowers it, and no call raises it by faults
 //! (`back_fault_pays`, `calls_stay`). From a node that was refused on, one node less is tried
-//! (`refused_node_is_tried`, `tries_are_few`). Three examples are computed, with writes that must not lower it. Not
+//! (`refused_node_is_tried`, `tries_are_few`). Four examples are computed, with writes that must not lower it. Not
 //! said: which writes lower what is left, which is for `settle_binding` and `settle_upkeep` to say.
 #![tactic(auto)]
 
 ghost use Rattle.settle_measure.specs.Bounds.{BackFaultPays, CallsStay, CountsAreBounded, FallsAreShort, LeftIsBounded, MeasureIsBounded, RoundsFall};
-ghost use Rattle.settle_measure.specs.Small.{CountsOffers, FallsAsItBinds, RisesWhereItMust};
+ghost use Rattle.settle_measure.specs.Small.{CountsOffers, FallsAsItBinds, FallsAsItLeaves, RisesWhereItMust};
 ghost use Rattle.settle_measure.specs.Tries.{RefusedNodeIsTried, TriesAreFew};
 
 /// What is left to do is at most 18 for a claim, 10 for a volume, 4 for a pod.
@@ -79,6 +79,12 @@ pub fn falls_as_it_binds()
 #[tactic(auto, using(crate::proofs::Small::counts_offers))]
 pub fn counts_offers()
     ensures { CountsOffers }
+{}
+
+/// A volume that is to go, and a claim that was imported without it: the volume is taken, and leaves.
+#[tactic(auto, using(crate::proofs::Small::falls_as_it_leaves))]
+pub fn falls_as_it_leaves()
+    ensures { FallsAsItLeaves }
 {}
 
 /// Writes that no controller makes where it sees the world as it is raise what is left.

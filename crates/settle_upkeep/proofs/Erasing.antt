@@ -30,7 +30,7 @@ use Rattle.settle_upkeep.specs.Pays.{ErasePays, EraseStays, is_data_name}
 use Rattle.settle_measure.proofs.Aside.{devices_total}
 use Rattle.settle_upkeep.proofs.Provisions.{all_provision}
 use Rattle.settle_measure.proofs.Others.{unless_less, volume_less}
-use Rattle.settle_measure.proofs.Sums.{Pays, falls, one_pays, others_behind, paid_at, stands}
+use Rattle.settle_measure.proofs.Sums.{Pays, falls, one_pays, others_behind, paid_at, stands, total_sum}
 use Rattle.settle_binding.proofs.Stages.{volume_of}
 
 -- the list of data after the erasure
@@ -156,10 +156,6 @@ provision_up rows d devices_after c name (Some uid) kept = by (bytes_eq (data_na
         → unless (is_held_by c (row_at (volume_key (data_name uid)) rows)) 8 + unless (has_data devices_after (data_name uid)) 1 ≤ unless (is_held_by c (row_at (volume_key (data_name uid)) rows)) 8 + unless (has_data d (data_name uid)) 1 + cond b 1 0
     by true e = let h = small (has_data devices_after (data_name uid)) in omega (arith, h)
     by false e = let h = unless_less (has_data d (data_name uid)) (has_data devices_after (data_name uid)) 1 (kept (data_name uid) e) in omega (arith, h)
-
-total_sum : (f g : Object → ℕ) (rows : List Object) → total (λ o. f o + g o) rows ≡ total f rows + total g rows
-total_sum f g [] = refl
-total_sum f g (o ∷ os) = let h = total_sum f g os in omega (arith, h)
 
 pods_same : (d devices_after : Devices) → devices_after.mounts ≡ d.mounts → (p : PodData) → pod_left devices_after p ≡ pod_left d p
 pods_same d devices_after same p = by p.meta.uid

@@ -27,7 +27,6 @@ use Rattle.call_types.specs.declared.reply.Refusal.TheVariants.{BackFault}
 use Rattle.binder_model.specs.Due.{is_pod_uid_mounted}
 use Rattle.kube_types.specs.declared.objects.Pod.{Pod as PodData}
 use Rattle.call_types.specs.declared.setup.Setup.{Setup}
-use Rattle.binder_model.specs.BindWrites.{shows_bound}
 use Rattle.binder_model.specs.Devices.{Data, DeviceAnswer, Devices, after_call, data_named, device_answer, first_fit, fresh_id, has_data, is_mounted_on, is_planned, provision, provision_new, same_id, topology_at, unless_planned}
 use Rattle.binder_model.specs.ObjectKeys.{claim_key, volume_key}
 use Rattle.binder_model.specs.Provisioning.{data_name, provisioned_volume}
@@ -41,7 +40,7 @@ use Rattle.settle_upkeep.specs.Pays.{CreatePays, ProvisionPays, ProvisionStays}
 use Rattle.settle_measure.proofs.Aside.{AllStay, Useless, as_good, claim_paying, devices_total, new_total, put_agrees}
 use Rattle.settle_binding.proofs.Binding.{seeking_parts}
 use Rattle.settle_measure.proofs.Entries.{Put, Took, came}
-use Rattle.settle_measure.proofs.Others.{AsGood, DataStay, ErasedStay, unless_less, volume_puts_no_claim}
+use Rattle.settle_measure.proofs.Others.{AsGood, DataStay, ErasedStay, away_most, unless_less, volume_puts_no_claim}
 use Rattle.settle_binding.proofs.References.{refers_to}
 use Rattle.settle_measure.proofs.Sums.{falls, one_pays, paid_at, stands}
 use Rattle.settle_binding.proofs.Stages.{claim_of}
@@ -90,14 +89,9 @@ module _ (setup : Setup) (w : World) (kind : SeatKind) (c : ClaimData) (class : 
     done = λ completed named.
         let was : completed_left e (row_at (key_of (Volume new)) w.store.rows) ≡ 5 + unless (is_lost e.phase) 1 = ap (completed_left e) free in
         let now : completed_left e (row_at (key_of (Volume new)) (put_row (Volume new) w.store.rows)) ≡ completed_left e (Some (Volume new)) = ap (completed_left e) (row_at-put_row (Volume new) w.store.rows) in
-        let less = at_most (carries new e) (shows_bound e new) (is_lost e.phase) in
+        let less = away_most e new in
         omega (arith, was, now, less);
   }
-    where
-      at_most : (a b d : Bool) → cond a (unless b 1) (5 + unless d 1) ≤ 5 + unless d 1
-      at_most true true d = omega arith
-      at_most true false d = omega arith
-      at_most false b d = omega arith
 
   all : row_at (key_of (Volume new)) w.store.rows ≡ None → AllStay w.store.rows (put_row (Volume new) w.store.rows) w.devices w.devices
   all free = record {

@@ -11,7 +11,7 @@ use Rattle.kube_types.specs.declared.uid.Uid.{Uid}
 use Rattle.plain_data.specs.Pairs.{Pair}
 use Rattle.binder_model.specs.Due.{claim_guard_due, is_pod_mounted, reclaim_due, volume_guard_due}
 use Rattle.binder_model.specs.GuardLicence.{guarded_meta, unguarded_meta}
-use Rattle.kube_types.specs.Bindings.{pv_protection, pvc_protection, ref_uid, carries, is_completed, is_deleting, is_empty, is_scheduled}
+use Rattle.kube_types.specs.Bindings.{pv_protection, pvc_protection, ref_uid, is_deleting, is_empty, is_scheduled}
 use Rattle.kube_types.specs.Keys.{AreRows, key_of, row_at}
 use Rattle.call_types.specs.declared.request.Request.TheVariants.{BindPod, Create, Delete, Erase, FinishPod, Mount, Provision, Unmount, Update}
 use Rattle.call_types.specs.declared.request.SeatKind.{SeatKind}
@@ -39,14 +39,10 @@ use Rattle.settle_binding.specs.Pays.{set_phase}
 abbrev pub VolumeGuardPays : Type 0
 VolumeGuardPays = (setup : Setup) (w : World) (kind : SeatKind) (v : VolumeData) → StandsVolume w v → volume_guard_due v ≡ Some dues.Guard → Lowers setup w kind (Update (Volume (record v { meta = guarded_meta pv_protection v.meta })) (Some v.meta.version)) 1
 
--- no completed claim is carried by the volume that it names
-abbrev pub NoneIsCompletedOn : World → VolumeData → Type 0
-NoneIsCompletedOn w v = (c : ClaimData) → row_at (key_of (Claim c)) w.store.rows ≡ Some (Claim c) → is_completed c ≡ true → key_of (Volume v) ≡ volume_key c.volume_name → carries v c ≡ false
-
--- where it stays for other finalizers, and where it leaves
+-- where it stays for other finalizers, and where it leaves: it pays for a completed claim that then needs another
 abbrev pub VolumeUnguardPays : Type 0
 VolumeUnguardPays =
-    (setup : Setup) (w : World) (kind : SeatKind) (v : VolumeData) → StandsVolume w v → volume_guard_due v ≡ Some dues.Unguard → NoneIsCompletedOn w v
+    (setup : Setup) (w : World) (kind : SeatKind) (v : VolumeData) → StandsVolume w v → volume_guard_due v ≡ Some dues.Unguard
     → Lowers setup w kind (Update (Volume (record v { meta = unguarded_meta pv_protection v.meta })) (Some v.meta.version)) 1
 
 abbrev pub ClaimGuardPays : Type 0
@@ -61,7 +57,7 @@ FailedPays = (setup : Setup) (w : World) (kind : SeatKind) (v : VolumeData) (uid
 
 abbrev pub DeletePays : Type 0
 DeletePays =
-    (setup : Setup) (w : World) (kind : SeatKind) (v : VolumeData) (given : Option Uid) → StandsVolume w v → reclaim_due v ≡ Some dues.Reclaim → NoneIsCompletedOn w v
+    (setup : Setup) (w : World) (kind : SeatKind) (v : VolumeData) (given : Option Uid) → StandsVolume w v → reclaim_due v ≡ Some dues.Reclaim
     → Lowers setup w kind (Delete (volume_key v.meta.name) given) 1
 
 -- a provisioner makes the volume of a claim that seeks one
