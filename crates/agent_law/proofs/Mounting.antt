@@ -2,7 +2,7 @@
 use Rattle.std.proofs.Common.{◌≡◌, ◌∙◌, ℕ, List, [], ◌∷◌, ◌++◌, Bool, true, false, true≢false, Option, Some, None, refl, sym, ap, subst, length, inl, inr}
 use Rattle.std.specs.Prelude.{◌&&◌, ◌||◌, bytes_eq, map, not, slice_get, ⊤}
 use Rattle.std.specs.List.{list_all}
-use Rattle.std.proofs.lemmas.Bool.{and_parts}
+use Rattle.std.proofs.lemmas.Bool.{and_parts, or_parts}
 use Rattle.std.proofs.lemmas.Slice.Eq.{bytes_eq-Decides}
 use Rattle.kube_types.specs.declared.key.Key.{Key}
 use Rattle.kube_types.specs.declared.names.Due.TheVariants as dues
@@ -73,13 +73,9 @@ unfolding faulty
 test_false true field next e = absurd (true≢false (ap is_fault e))
 test_false false field next e = refl
 
-neither : (a b : Bool) → (a || b) ≡ false → (a ≡ false) × (b ≡ false)
-neither true b e = absurd (true≢false e)
-neither false b e = (refl, e)
-
 named_once : (p : PodData) → IsValid (Pod p) → has_twice p.claims ≡ false
 unfolding create_fault kind_fault pod_fault
-named_once p e = (neither (has_name [] p.claims) (has_twice p.claims) (test_false _ _ _ (next_none _ _ _ (next_none _ _ _ (next_none _ _ _ e))))).1
+named_once p e = (or_parts (has_name [] p.claims) (has_twice p.claims) (test_false _ _ _ (next_none _ _ _ (next_none _ _ _ (next_none _ _ _ e))))).1
 
 -- a claim that a pod may use, as it stands
 
@@ -188,7 +184,7 @@ unread [] name names once = refl
 unread (r ∷ ready) name names once = by (bytes_eq r.claim name) refl (unread ready name names parts.1)
   where
     parts : (has_name r.claim (names_in ready ++ name ∷ names) ≡ false) × (has_twice (names_in ready ++ name ∷ names) ≡ false)
-    parts = neither (has_name r.claim (names_in ready ++ name ∷ names)) (has_twice (names_in ready ++ name ∷ names)) once
+    parts = or_parts (has_name r.claim (names_in ready ++ name ∷ names)) (has_twice (names_in ready ++ name ∷ names)) once
 
     by : (b : Bool) → bytes_eq r.claim name ≡ b → is_claim_read name ready ≡ false → (b || is_claim_read name ready) ≡ false
     by true e rest =
@@ -202,7 +198,7 @@ unshared rows namespace name x [] all none = refl
 unshared rows namespace name x (r ∷ ready) all none = by (bytes_eq r.volume x.claim.volume_name) refl (unshared rows namespace name x ready all.1 parts.1)
   where
     parts : (bytes_eq r.claim name ≡ false) × (is_claim_read name ready ≡ false)
-    parts = neither (bytes_eq r.claim name) (is_claim_read name ready) none
+    parts = or_parts (bytes_eq r.claim name) (is_claim_read name ready) none
 
     by : (b : Bool) → bytes_eq r.volume x.claim.volume_name ≡ b → is_volume_read x.claim.volume_name ready ≡ false → (b || is_volume_read x.claim.volume_name ready) ≡ false
     by true e rest =

@@ -46,6 +46,7 @@ use Rattle.worker_core.specs.declared.task.Task.{Task}
 use Rattle.worker_core.specs.declared.task.First.TheVariants as firsts
 use Rattle.worker_core.specs.Memories.{Memory, memory_of}
 use Rattle.worker_core.specs.Stands.{AreLicensed}
+use Rattle.worker_core.proofs.AgentLaws.{are_agents}
 use Rattle.worker_core.specs.States.{ActorState}
 use Rattle.worker_core.specs.Tasks.{GivesCall, GivesNone, IsAgentFirst, IsDecision, agent_first, task_call}
 use Rattle.worker_core.proofs.ByKind.{epoch_stands}
@@ -156,10 +157,6 @@ mount_or_finish w p action = by (is_deleting p.meta) (not (is_pod_mounted w.devi
     by false false e = none_some e
 
 -- no pod was asked to be unmounted that was not told deleting
-
-are_agents : (mine : List Entry) → AreLicensed seats.Agent mine → AreAgents mine
-are_agents [] licensed = tt
-are_agents (e ∷ mine) licensed = (are_agents mine licensed.0, licensed.2)
 
 pod_map : {P Q : PodData → Type 0} → ((p : PodData) → P p → Q p) → (o : Object) → IsPodWith P o → IsPodWith Q o
 pod_map f (Pod p) h = f p h

@@ -11,13 +11,12 @@ use Rattle.kube_types.specs.declared.objects.Node.{Node as NodeData}
 use Rattle.kube_types.specs.declared.objects.Volume.{Volume as VolumeData}
 use Rattle.kube_types.specs.declared.objects.Object.{Object}
 use Rattle.kube_types.specs.declared.objects.Object.TheVariants.{Class, Node, Volume, Claim, Pod}
-use Rattle.kube_types.specs.Bindings.{carries, class_of_claim, is_available, is_bound, is_completed, is_deleting, is_empty, is_ended, is_for, is_protected_claim, is_protected_volume, is_uid, lacks_class, names_claim, ref_uid, refers_carrying, refers_for, selected_node, uid_carries, uid_fits}
+use Rattle.kube_types.specs.Bindings.{carries, class_of_claim, is_available, is_bound, is_completed, is_deleting, is_empty, is_ended, is_for, is_protected_claim, is_protected_volume, is_uid, lacks_class, names_claim, ref_uid, refers_carrying, refers_for, selected_node, uid_carries, uid_fits, uses}
 use Rattle.kube_types.specs.Keys.{row_at}
 use Rattle.call_types.specs.declared.setup.Setup.{Setup}
 use Rattle.binder_model.specs.BinderDue.{claim_due, claim_with, completed_due, has_other_uid, is_default_row, is_uid_of_other, lost_due, named_due, reference_due, referred_due, uid_due, volume_due}
 use Rattle.binder_model.specs.BindWrites.{claim_write, is_completed_with, next_write, shows_bound, write_bound, write_claim_status, write_completion, write_reference}
 use Rattle.binder_model.specs.Due.{by_class_due, claim_guard_due, delayed_due, guard_due, is_served, on_node_due, provision_due, provision_if_new}
-use Rattle.binder_model.specs.GuardLicence.{uses}
 use Rattle.binder_model.specs.Matching.{binder_takes, eligible, fits, has_match, is_delayed, is_selected, only_own_passes, waits_for_pod}
 use Rattle.label_rules.specs.Selectors.{admits}
 use Rattle.binder_model.specs.ObjectKeys.{claim_key, class_key, node_key, volume_key}

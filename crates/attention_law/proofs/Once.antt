@@ -2,6 +2,7 @@
 use Rattle.std.proofs.Common.{◌≡◌, ◌≤◌, ◌+◌, ℕ, suc, List, [], ◌∷◌, ◌++◌, Bool, true, false, Option, Some, None, refl, sym, ◌∙◌, ap, subst, arith, if◌then◌else◌}
 use Rattle.std.specs.Prelude.{◌||◌, map}
 use Rattle.std.specs.List.{list_any}
+use Rattle.std.proofs.lemmas.Bool.{or_parts}
 use Rattle.kube_types.specs.declared.key.Key.{Key}
 use Rattle.kube_types.specs.Keys.{same_key}
 use Rattle.kube_types.proofs.SameKeys.{KeyCases, One, Two, key_cases, same_key_itself}
@@ -30,14 +31,10 @@ count_append k (x ∷ xs) ys = by (same_key k x) (count_append k xs ys)
 count_one : (k : Key) (xs : List Key) → count k (xs ++ k ∷ []) ≡ count k xs + 1
 count_one k xs = count_append k xs (k ∷ []) ∙ ap (λ b. count k xs + count_by b 0) (same_key_itself k)
 
-or_false : (a b : Bool) → (a || b) ≡ false → (a ≡ false) × (b ≡ false)
-or_false true b e = absurd (cc)
-or_false false b e = (refl, e)
-
 none_counted : (k : Key) (xs : List Key) → list_any (same_key k) xs ≡ false → count k xs ≡ 0
 none_counted k [] e = refl
 none_counted k (x ∷ xs) e =
-    let f = or_false (same_key k x) (list_any (same_key k) xs) e in
+    let f = or_parts (same_key k x) (list_any (same_key k) xs) e in
     ap (λ b. count_by b (count k xs)) f.0 ∙ none_counted k xs f.1
 
 counted_none : (k : Key) (xs : List Key) → count k xs ≡ 0 → list_any (same_key k) xs ≡ false
@@ -97,7 +94,7 @@ left_out j (x ∷ xs) there k = by (key_cases j x) there (left_out j xs)
 nothing_left_out : (j : Key) (xs : List Key) → list_any (same_key j) xs ≡ false → without_waiting (same_key j) xs ≡ xs
 nothing_left_out j [] e = refl
 nothing_left_out j (x ∷ xs) e =
-    let f = or_false (same_key j x) (list_any (same_key j) xs) e in
+    let f = or_parts (same_key j x) (list_any (same_key j) xs) e in
     ap (λ b. if b then xs else x ∷ without_waiting (same_key j) xs) f.0 ∙ ap (λ ys. x ∷ ys) (nothing_left_out j xs f.1)
 
 -- the keys of a queue, counted over its three lists

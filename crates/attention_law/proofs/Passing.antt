@@ -1,5 +1,6 @@
 -- What an answer without news makes of the pass.
 use Rattle.std.proofs.Common.{◌≡◌, ℕ, ◌+◌, List, ◌∷◌, length, Bool, true, false, true≢false, Option, Some, None, inl, inr, refl, sym, ◌∙◌, ap, subst, arith}
+use Rattle.std.proofs.lemmas.Bool.{not-false}
 use Rattle.kube_types.specs.declared.parts.Kind.{Kind}
 use Rattle.call_types.specs.declared.entry.Entry.{Entry}
 use Rattle.call_types.specs.declared.request.Request.{Request}
@@ -26,7 +27,7 @@ use Rattle.worker_core.specs.States.{ActorState, asked, given_call, read_request
 use Rattle.worker_core.specs.Turns.{IsTurn, passing}
 use Rattle.worker_core.proofs.Answered.{gives_asked}
 use Rattle.worker_core.proofs.ByKind.{start_reads_none}
-use Rattle.worker_core.proofs.Passes.{none_of, not_false}
+use Rattle.worker_core.proofs.Passes.{none_of}
 use Rattle.worker_core.proofs.PassRules.{events_are_brought, passes_go_on, watches_follow}
 use Rattle.worker_core.proofs.Quiet.{itself}
 use Rattle.worker_core.proofs.Watches.{watches_are_answered}
@@ -96,7 +97,7 @@ module _ (s turned new : ActorState) (mine : List Entry) (e : Entry) (request : 
   no_event kind from = by reply calm
     where
       by : (r : Reply) → is_news r ≡ false → IsWatchAnswer r → BroughtEvent (requests.Watch kind from) (outcomes.Told r) → ⊥
-      by (replies.Events events) c a b = b (none_of events.events (not_false _ c))
+      by (replies.Events events) c a b = b (none_of events.events (not-false _ c))
       by (replies.Refused (Gone oldest)) c a b = true≢false c
       by _ c a b = a
 
@@ -105,7 +106,7 @@ module _ (s turned new : ActorState) (mine : List Entry) (e : Entry) (request : 
     where
       by : (r : Reply) → is_news r ≡ false → IsWatchAnswer r → IsAskedAgain (outcomes.Told r) → ⊥
       by (replies.Events events) c a again =
-          let empty : length events.events ≡ 0 = ap length (none_of events.events (not_false _ c)) in
+          let empty : length events.events ≡ 0 = ap length (none_of events.events (not-false _ c)) in
           let full : length events.events ≡ 64 = again in
           omega (arith, empty, full)
       by (replies.Refused (Gone oldest)) c a b = true≢false c

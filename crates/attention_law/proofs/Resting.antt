@@ -10,7 +10,7 @@ use Rattle.call_types.specs.declared.request.Request.{Request}
 use Rattle.call_types.specs.declared.request.SeatKind.{SeatKind}
 use Rattle.call_types.specs.declared.request.SeatKind.TheVariants as seats
 use Rattle.call_types.specs.declared.reply.Reply.{Reply}
-use Rattle.binder_machines.specs.KindLaw.{reads_kind}
+use Rattle.call_types.specs.Kinds.{reads_kind}
 use Rattle.informer_cache.specs.Cache.{IsTold, keys_in}
 use Rattle.model_laws.proofs.Lists.{none_some, one}
 use Rattle.worker_core.specs.declared.role.Role.{Role}

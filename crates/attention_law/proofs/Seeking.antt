@@ -3,6 +3,7 @@ use Rattle.std.proofs.Common.{◌≡◌, ℕ, zero, suc, List, [], ◌∷◌, Bo
 use Rattle.std.specs.Prelude.{◌&&◌, ◌||◌, not, is_none, bytes_eq}
 use Rattle.std.specs.List.{list_any}
 use Rattle.std.specs.Ordering.{is_eq}
+use Rattle.std.proofs.lemmas.Bool.{and_parts, not-true, or_cases}
 use Rattle.kube_types.specs.declared.key.Key.{Key}
 use Rattle.kube_types.specs.declared.parts.Kind.{Kind}
 use Rattle.kube_types.specs.declared.parts.VolumePhase.{VolumePhase}
@@ -17,7 +18,6 @@ use Rattle.binder_model.specs.BindWrites.{claim_write, next_write, shows_bound, 
 use Rattle.binder_model.specs.Matching.{eligible, fits, is_admitted_on, is_selected, may_serve}
 use Rattle.binder_machines.specs.Machines.{bind_call, may_bind}
 use Rattle.model_laws.proofs.Lists.{none_some, one}
-use Rattle.binder_machines.proofs.Tests.{either}
 
 -- lists of rows
 
@@ -53,14 +53,6 @@ placed_row kind i o (y ∷ ys) e = by (is_of_kind kind y) i e (λ j. placed_row 
 
 -- an eligible volume gives a write
 
-both : (a b : Bool) → (a && b) ≡ true → (a ≡ true) × (b ≡ true)
-both true b e = (refl, e)
-both false b e = absurd (true≢false (sym e))
-
-no : (a : Bool) → not a ≡ true → a ≡ false
-no true e = absurd (true≢false (sym e))
-no false e = refl
-
 live : (p : VolumePhase) → is_available p ≡ true → is_ended p ≡ false
 live phases.Available e = refl
 live _ e = absurd (true≢false (sym e))
@@ -74,15 +66,15 @@ pub serves : (v : VolumeData) (c : ClaimData) → eligible v c None ≡ true →
 serves v c e = record { live = kinds_.0; guarded = guarded_; open_to = kinds_.1 }
   where
     parts : ((not (is_deleting v.meta) && is_protected_volume v && fits v c && is_selected c.selector v.meta.labels && is_admitted_on v None) ≡ true) × (may_serve v c ≡ true)
-    parts = both _ (may_serve v c) e
+    parts = and_parts _ (may_serve v c) e
 
     guarded_ : is_protected_volume v ≡ true
-    guarded_ = (both (not (is_deleting v.meta)) (is_protected_volume v) (both _ (fits v c) (both _ (is_selected c.selector v.meta.labels) (both _ (is_admitted_on v None) parts.0).0).0).0).1
+    guarded_ = (and_parts (not (is_deleting v.meta)) (is_protected_volume v) (and_parts _ (fits v c) (and_parts _ (is_selected c.selector v.meta.labels) (and_parts _ (is_admitted_on v None) parts.0).0).0).0).1
 
     kinds_ : (is_ended v.phase ≡ false) × ((is_none v.claim_ref || is_for v c) ≡ true)
-    kinds_ = elim (either (is_for v c && not (is_ended v.phase)) (is_available v.phase && is_none v.claim_ref) parts.1) [
-      | inl own ↦ let h = both (is_for v c) (not (is_ended v.phase)) own in (no (is_ended v.phase) h.1, ap (λ b. is_none v.claim_ref || b) h.0 ∙ or_true (is_none v.claim_ref))
-      | inr free ↦ let h = both (is_available v.phase) (is_none v.claim_ref) free in (live v.phase h.0, ap (λ b. b || is_for v c) h.1)
+    kinds_ = elim (or_cases (is_for v c && not (is_ended v.phase)) (is_available v.phase && is_none v.claim_ref) parts.1) [
+      | inl own ↦ let h = and_parts (is_for v c) (not (is_ended v.phase)) own in (not-true (is_ended v.phase) h.1, ap (λ b. is_none v.claim_ref || b) h.0 ∙ or_true (is_none v.claim_ref))
+      | inr free ↦ let h = and_parts (is_available v.phase) (is_none v.claim_ref) free in (live v.phase h.0, ap (λ b. b || is_for v c) h.1)
     ]
 
 -- some write is made for a claim that is not completed

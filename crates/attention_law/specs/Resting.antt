@@ -12,7 +12,7 @@ use Rattle.call_types.specs.declared.request.Request.TheVariants as requests
 use Rattle.call_types.specs.declared.request.SeatKind.{SeatKind}
 use Rattle.call_types.specs.declared.request.SeatKind.TheVariants as seats
 use Rattle.call_types.specs.declared.reply.Reply.{Reply}
-use Rattle.binder_machines.specs.KindLaw.{reads_kind}
+use Rattle.call_types.specs.Kinds.{reads_kind}
 use Rattle.binder_model.specs.Told.{SomeOf}
 use Rattle.informer_cache.specs.Cache.{IsTold, keys_in}
 use Rattle.worker_core.specs.declared.role.Role.{Role}

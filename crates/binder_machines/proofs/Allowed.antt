@@ -3,7 +3,7 @@ use Rattle.std.proofs.Common.{◌≡◌, ◌⊎◌, List, [], Bool, true, false,
 use Rattle.plain_data.specs.Pairs.{Pair, pair_key, without_key}
 use Rattle.plain_data.proofs.RowLookups.{find-put}
 use Rattle.std.specs.Prelude.{◌&&◌, ◌||◌, not, is_some, is_none, option_map}
-use Rattle.std.proofs.lemmas.Bool.{and_parts}
+use Rattle.std.proofs.lemmas.Bool.{and_parts, or_cases}
 use Rattle.std.proofs.lemmas.Cmp.{nat_list_cmp_total}
 use Rattle.kube_types.specs.declared.uid.Uid.{Uid}
 use Rattle.kube_types.specs.declared.parts.VolumePhase.{VolumePhase}
@@ -32,7 +32,7 @@ use Rattle.binder_machines.specs.Machines.{assigned, call_of, may_bind, phase_ca
 use Rattle.binder_machines.specs.Evidence.{MachineKeeps, MayReadClaim, ToldThis, ToldThisClaim}
 use Rattle.safety_invariant.proofs.Carried.{carried}
 use Rattle.safety_invariant.proofs.Tests.{same_text}
-use Rattle.binder_machines.proofs.Tests.{either, empty_is, free, uid_of}
+use Rattle.binder_machines.proofs.Tests.{empty_is, free, uid_of}
 
 -- the tests of a binding, as facts
 record Open (v : VolumeData) (c : ClaimData) : Type 0 where
@@ -50,7 +50,7 @@ open_of v c e =
       known = first.0;
       placed = empty_is v.meta.namespace first.1;
       reference = front.1;
-      named = elim (either _ _ all.1) [ inl none ↦ inl (empty_is c.volume_name none) | inr own ↦ inr (same_text c.volume_name v.meta.name own) ];
+      named = elim (or_cases _ _ all.1) [ inl none ↦ inl (empty_is c.volume_name none) | inr own ↦ inr (same_text c.volume_name v.meta.name own) ];
     }
 
 answered : (mine : List Entry) (a b : Request) → Some a ≡ Some b → RowAllows seats.Binder mine a → RowAllows seats.Binder mine b

@@ -1,7 +1,7 @@
 -- A machine that begins on what a store can hold has a next call.
 use Rattle.std.proofs.Common.{◌≡◌, ℕ, List, [], ◌∷◌, Bool, true, false, true≢false, Option, Some, None, inl, inr, refl, sym, ◌∙◌, ap, subst, if◌then◌else◌}
 use Rattle.std.specs.Prelude.{◌&&◌, ◌||◌, not, bytes_eq, is_none, is_some, slice_get}
-use Rattle.std.proofs.lemmas.Bool.{and_parts}
+use Rattle.std.proofs.lemmas.Bool.{and_parts, and_from, not-true, or_cases, or_left, or_right}
 use Rattle.std.proofs.lemmas.Slice.Eq.{bytes_eq-Decides}
 use Rattle.kube_types.specs.declared.uid.Uid.{Uid}
 use Rattle.kube_types.specs.declared.key.Key.{Key}
@@ -43,23 +43,6 @@ use Rattle.binder_machines.specs.FirstSteps.{IsClaimFirst, IsFirst, lost_for, qu
 use Rattle.binder_machines.specs.Machines.{call_of, claim_read, confirmed_for, moved, volume_read, machine_for, may_bind, phase_call, read_of, write_class, write_phase}
 use Rattle.binder_machines.proofs.Begun.{first_back, known_of, machine_in}
 use Rattle.binder_machines.proofs.Shown.{free_reads_none}
-use Rattle.binder_machines.proofs.Tests.{either}
-
-both : (a b : Bool) → a ≡ true → b ≡ true → (a && b) ≡ true
-both true b p q = q
-both false b p q = absurd (true≢false (sym p))
-
-left_true : (a b : Bool) → a ≡ true → (a || b) ≡ true
-left_true true b p = refl
-left_true false b p = absurd (true≢false (sym p))
-
-right_true : (a b : Bool) → b ≡ true → (a || b) ≡ true
-right_true true b p = refl
-right_true false b p = p
-
-not_false : (b : Bool) → not b ≡ true → b ≡ false
-not_false true h = sym h
-not_false false h = refl
 
 calls : (a b : Machine) → Some a ≡ Some b → is_some (call_of a) ≡ true → is_some (call_of b) ≡ true
 calls a b e is = subst (λ m. is_some (call_of m) ≡ true) (one a b e) is
@@ -135,15 +118,15 @@ available_live phases.Released e = sym e
 available_live phases.Failed e = sym e
 
 served_live : (v : VolumeData) (c : ClaimData) → may_serve v c ≡ true → is_ended v.phase ≡ false
-served_live v c e = elim (either (is_for v c && not (is_ended v.phase)) (is_available v.phase && is_none v.claim_ref) e) [
-  | inl own ↦ not_false (is_ended v.phase) (and_parts (is_for v c) (not (is_ended v.phase)) own).1
+served_live v c e = elim (or_cases (is_for v c && not (is_ended v.phase)) (is_available v.phase && is_none v.claim_ref) e) [
+  | inl own ↦ not-true (is_ended v.phase) (and_parts (is_for v c) (not (is_ended v.phase)) own).1
   | inr open_one ↦ available_live v.phase (and_parts (is_available v.phase) (is_none v.claim_ref) open_one).0
 ]
 
 served_reference : (v : VolumeData) (c : ClaimData) → may_serve v c ≡ true → (is_none v.claim_ref || is_for v c) ≡ true
-served_reference v c e = elim (either (is_for v c && not (is_ended v.phase)) (is_available v.phase && is_none v.claim_ref) e) [
-  | inl own ↦ right_true (is_none v.claim_ref) (is_for v c) (and_parts (is_for v c) (not (is_ended v.phase)) own).0
-  | inr open_one ↦ left_true (is_none v.claim_ref) (is_for v c) (and_parts (is_available v.phase) (is_none v.claim_ref) open_one).1
+served_reference v c e = elim (or_cases (is_for v c && not (is_ended v.phase)) (is_available v.phase && is_none v.claim_ref) e) [
+  | inl own ↦ or_right (is_none v.claim_ref) (is_for v c) (and_parts (is_for v c) (not (is_ended v.phase)) own).0
+  | inr open_one ↦ or_left (is_none v.claim_ref) (is_for v c) (and_parts (is_available v.phase) (is_none v.claim_ref) open_one).1
 ]
 
 best_bindable : (v : VolumeData) (c : ClaimData) → is_completed c ≡ false → eligible v c None ≡ true → Bindable v c
@@ -167,9 +150,9 @@ carries_for v c = by v.claim_ref
     by (Some r) e = by_uid r r.uid e
 
 written_reference : (v : VolumeData) (c : ClaimData) → (is_none v.claim_ref || carries v c) ≡ true → (is_none v.claim_ref || is_for v c) ≡ true
-written_reference v c e = elim (either (is_none v.claim_ref) (carries v c) e) [
-  | inl none ↦ left_true (is_none v.claim_ref) (is_for v c) none
-  | inr own ↦ right_true (is_none v.claim_ref) (is_for v c) (carries_for v c own)
+written_reference v c e = elim (or_cases (is_none v.claim_ref) (carries v c) e) [
+  | inl none ↦ or_left (is_none v.claim_ref) (is_for v c) none
+  | inr own ↦ or_right (is_none v.claim_ref) (is_for v c) (carries_for v c own)
 ]
 
 unless_binds_none : (b : Bool) (s : ClaimStep) → (s ≡ steps.Bind → ⊥) → (if b then steps.Nothing else s) ≡ steps.Bind → ⊥
@@ -201,8 +184,8 @@ named_bindable v c open_one = by (is_blocked v) (is_none v.claim_ref) (fits v c)
     by : (blocked none fitting own : Bool) → is_blocked v ≡ blocked → is_none v.claim_ref ≡ none → is_for v c ≡ own
         → (if blocked then steps.Nothing else if (if none then fitting else own) then steps.Bind else steps.Nothing) ≡ steps.Bind → Bindable v c
     by true none fitting own b n o e = cc
-    by false true fitting own b n o e = may (left_true (is_none v.claim_ref) (is_for v c) n) b
-    by false false fitting true b n o e = may (right_true (is_none v.claim_ref) (is_for v c) o) b
+    by false true fitting own b n o e = may (or_left (is_none v.claim_ref) (is_for v c) n) b
+    by false false fitting true b n o e = may (or_right (is_none v.claim_ref) (is_for v c) o) b
     by false false fitting false b n o e = cc
 
 best_open : (rows : List Object) (c : ClaimData) → is_empty c.volume_name ≡ true → claim_decision rows c NotAsked ≡ steps.Bind → is_completed c ≡ false
@@ -238,16 +221,16 @@ chosen rows c place v choice there decided = by (is_empty c.volume_name) refl ch
     by : (none : Bool) → is_empty c.volume_name ≡ none → IsVolumeFor none rows c (Some place) → Chosen v c
     by true n best =
         let same = same_volume best.volume v (sym best.candidate.there ∙ there) in
-        record { named = left_true _ _ n; bindable = best_bindable v c (best_open rows c n decided) (subst (λ u. eligible u c None ≡ true) same best.candidate.eligible) }
+        record { named = or_left _ _ n; bindable = best_bindable v c (best_open rows c n decided) (subst (λ u. eligible u c None ≡ true) same best.candidate.eligible) }
     by false n at =
         let row : row_at (volume_key c.volume_name) rows ≡ Some (Volume v) = sym at ∙ there in
         let name : v.meta.name ≡ c.volume_name = ap (λ (k : Key). k.name) (row_at_key (volume_key c.volume_name) (Volume v) rows row) in
-        record { named = right_true _ _ ((bytes_eq-Decides c.volume_name v.meta.name).1 (sym name)); bindable = given_bindable rows c v n (ap as_volume row) decided }
+        record { named = or_right _ _ ((bytes_eq-Decides c.volume_name v.meta.name).1 (sym name)); bindable = given_bindable rows c v n (ap as_volume row) decided }
 
 binding_calls : (v : VolumeData) (c : ClaimData) → v.meta.namespace ≡ [] → is_some c.meta.uid ≡ true → Chosen v c → is_some (call_of (Binds v c)) ≡ true
 unfolding call_of
 binding_calls v c placed known is =
-    let may : may_bind v c ≡ true = both _ _ (both _ _ (both _ _ known (ap is_empty placed)) is.bindable.reference) is.named in
+    let may : may_bind v c ≡ true = and_from _ _ (and_from _ _ (and_from _ _ known (ap is_empty placed)) is.bindable.reference) is.named in
     ap (λ (b : Bool). is_some (if b then next_write v c else None)) may ∙ is.bindable.write
 
 -- claims
@@ -267,7 +250,7 @@ claim_begun rows key c machine stored at = by (claim_decision rows c NotAsked) r
     lost false = reads
 
     assigns : (x : ClassData) → x.meta.namespace ≡ [] → is_some (call_of (AssignsClass c x)) ≡ true
-    assigns x placed = ap (λ (b : Bool). is_some {T = Request} (if b then Some (write_class c x) else None)) (both _ _ known (ap is_empty placed))
+    assigns x placed = ap (λ (b : Bool). is_some {T = Request} (if b then Some (write_class c x) else None)) (and_from _ _ known (ap is_empty placed))
 
     by : (s : ClaimStep) → claim_decision rows c NotAsked ≡ s → IsClaimFirst rows c s (Begins machine) → is_some (call_of machine) ≡ true
     by steps.Nothing is e = none_some (sym (ap machine_in e))

@@ -1,6 +1,6 @@
 -- No call of a machine reads a whole kind, and the key that is queued in a volume's place is a claim's.
-use Rattle.std.proofs.Common.{◌≡◌, Bool, true, false, Option, Some, None, refl, sym, ◌∙◌, ap, if◌then◌else◌}
-use Rattle.std.specs.Prelude.{◌&&◌, ◌||◌, not, is_some, ⊤}
+use Rattle.std.proofs.Common.{◌≡◌, Bool, true, false, Option, Some, None, refl, sym, ap, if◌then◌else◌}
+use Rattle.std.specs.Prelude.{◌&&◌, ◌||◌, IfSome, not, is_some}
 use Rattle.kube_types.specs.declared.key.Key.{Key}
 use Rattle.kube_types.specs.declared.parts.Kind.{Kind}
 use Rattle.kube_types.specs.declared.parts.Kind.TheVariants as kinds
@@ -16,6 +16,7 @@ use Rattle.kube_types.specs.Keys.{key_of, row_at}
 use Rattle.kube_types.specs.Bindings.{carries, is_bound, is_empty, is_ended, is_protected_volume}
 use Rattle.kube_types.proofs.KeyOrder.{row_at_key}
 use Rattle.call_types.specs.declared.request.Request.{Request}
+use Rattle.call_types.proofs.WholeKinds.{ReadsNone, call_reads_none}
 use Rattle.binder_model.specs.BindWrites.{claim_write, is_completed_with, next_write, shows_bound, write_bound, write_claim_status, write_completion, write_reference}
 use Rattle.claim_sync.specs.ClaimDecision.{claim_decision}
 use Rattle.claim_sync.specs.declared.action.ClaimStep.{ClaimStep}
@@ -29,40 +30,36 @@ use Rattle.binder_machines.specs.declared.decide.First.TheVariants.{Queues}
 use Rattle.binder_machines.specs.declared.machine.Machine.{Machine}
 use Rattle.binder_machines.specs.declared.machine.Machine.TheVariants.{Frees, Binds, MarksBound, ReadsClaim, Releases, Unbinds, ReadsVolume, AssignsClass, Loses}
 use Rattle.binder_machines.specs.FirstSteps.{IsClaimFirst, IsFirst, first_of, queue_of, volume_first}
-use Rattle.binder_machines.specs.KindLaw.{CallsReadNoKind, VolumesQueueClaims, reads_kind}
+use Rattle.binder_machines.specs.KindLaw.{CallsReadNoKind, VolumesQueueClaims}
 use Rattle.binder_machines.specs.Machines.{call_of, machine_for, may_bind, phase_call, read_of, write_class, write_phase}
 
 -- no call of a machine reads a kind
 
-abbrev ReadsNone : Option Request → Type 0
-ReadsNone None = ⊤
-ReadsNone (Some r) = (kind : Kind) → reads_kind kind r ≡ false
-
-if_some : (b : Bool) (x : Option Request) → ReadsNone x → ReadsNone (if b then x else None)
+if_some : (b : Bool) (x : Option Request) → IfSome x ReadsNone → IfSome (if b then x else None) ReadsNone
 if_some true x h = h
 if_some false x h = tt
 
-of_phase : (v : VolumeData) (phase : VolumePhase) → ReadsNone (phase_call v phase)
+of_phase : (v : VolumeData) (phase : VolumePhase) → IfSome (phase_call v phase) ReadsNone
 of_phase v phase = if_some (is_empty v.meta.namespace) (Some (write_phase v phase)) (λ kind. refl)
 
-of_reference : (o : Option Ref) → ReadsNone (read_of o)
+of_reference : (o : Option Ref) → IfSome (read_of o) ReadsNone
 of_reference None = tt
 of_reference (Some r) = λ kind. refl
 
-of_claim : (v : VolumeData) (c : ClaimData) → ReadsNone (claim_write v c)
+of_claim : (v : VolumeData) (c : ClaimData) → IfSome (claim_write v c) ReadsNone
 unfolding claim_write
 of_claim v c = by (is_completed_with c v) (shows_bound c v)
   where
-    by : (a b : Bool) → ReadsNone (if not a then Some (write_completion v c) else if not b then Some (write_claim_status v c) else None)
+    by : (a b : Bool) → IfSome (if not a then Some (write_completion v c) else if not b then Some (write_claim_status v c) else None) ReadsNone
     by false b = λ kind. refl
     by true false = λ kind. refl
     by true true = tt
 
-of_writes : (v : VolumeData) (c : ClaimData) → ReadsNone (next_write v c)
+of_writes : (v : VolumeData) (c : ClaimData) → IfSome (next_write v c) ReadsNone
 unfolding next_write
 of_writes v c = by (carries v c) (is_ended v.phase) (is_bound v.phase) (is_protected_volume v)
   where
-    by : (a b d g : Bool) → ReadsNone (if not a then (if b then None else Some (write_reference v c)) else if not d then (if b || not g then None else Some (write_bound v)) else claim_write v c)
+    by : (a b d g : Bool) → IfSome (if not a then (if b then None else Some (write_reference v c)) else if not d then (if b || not g then None else Some (write_bound v)) else claim_write v c) ReadsNone
     by false true d g = tt
     by false false d g = λ kind. refl
     by true true false g = tt
@@ -70,7 +67,7 @@ of_writes v c = by (carries v c) (is_ended v.phase) (is_bound v.phase) (is_prote
     by true false false false = tt
     by true b true g = of_claim v c
 
-of_call : (machine : Machine) → ReadsNone (call_of machine)
+of_call : (machine : Machine) → IfSome (call_of machine) ReadsNone
 unfolding call_of
 of_call (Frees v) = of_phase v volumes.Available
 of_call (Binds v c) = if_some (may_bind v c) (next_write v c) (of_writes v c)
@@ -83,11 +80,7 @@ of_call (AssignsClass c x) = if_some (is_some c.meta.uid && is_empty x.meta.name
 of_call (Loses c) = λ kind. refl
 
 pub calls_read_no_kind : CallsReadNoKind
-calls_read_no_kind machine request kind e = by (call_of machine) e (of_call machine)
-  where
-    by : (x : Option Request) → x ≡ Some request → ReadsNone x → reads_kind kind request ≡ false
-    by None h none = none_some h
-    by (Some r) h none = sym (ap (reads_kind kind) (one r request h)) ∙ none kind
+calls_read_no_kind machine request kind e = call_reads_none (call_of machine) request e (of_call machine) kind
 
 -- the key that is queued
 

@@ -17,7 +17,7 @@ use Rattle.kube_types.specs.declared.objects.Volume.{Volume as VolumeData}
 use Rattle.kube_types.specs.declared.objects.Object.{Object}
 use Rattle.kube_types.specs.declared.objects.Object.TheVariants.{Class, Node, Volume, Claim, Pod}
 use Rattle.kube_types.specs.Keys.{key_cmp, row_at}
-use Rattle.kube_types.specs.Bindings.{selected_node, class_of_claim, is_deleting, is_scheduled, is_protected_volume, is_protected_claim, is_completed, is_ended, is_bound, is_delete, carries, ref_uid}
+use Rattle.kube_types.specs.Bindings.{selected_node, class_of_claim, is_deleting, is_scheduled, is_protected_volume, is_protected_claim, is_completed, is_ended, is_bound, is_delete, carries, ref_uid, uses}
 use Rattle.call_types.specs.declared.setup.Setup.{Setup}
 use Rattle.binder_model.specs.ObjectKeys.{class_key, node_key, volume_key}
 use Rattle.binder_model.specs.Devices.{Devices, pool_fits, has_data, is_mounted_on}
@@ -25,7 +25,6 @@ use Rattle.binder_model.specs.World.{World}
 use Rattle.binder_model.specs.Matching.{has_match}
 use Rattle.binder_model.specs.BindWrites.{is_claim_bound}
 use Rattle.binder_model.specs.BinderDue.{volume_due, claim_due}
-use Rattle.binder_model.specs.GuardLicence.{uses}
 use Rattle.binder_model.specs.Provisioning.{data_name, is_wanting, provisions}
 use Rattle.binder_model.specs.Choice.{Share, TakesVolume, IsProvisioned, Serves, Step, Assigns, Searches, step_of, others_of, claim_named}
 

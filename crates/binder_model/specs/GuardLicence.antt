@@ -1,14 +1,12 @@
 -- Where the protection controllers may write, after their own earlier entries.
 -- A choice of this project; each row restates the evidence on which the pvc-protection and pv-protection controllers act.
-use Rattle.std.specs.Prelude.{ℕ, ◌≡◌, ◌&&◌, Bool, true, false, List, [], ◌∷◌, ◌++◌, Some, bytes_eq}
+use Rattle.std.specs.Prelude.{ℕ, ◌≡◌, true, false, List, [], ◌∷◌, ◌++◌, Some}
 use Rattle.std.specs.List.{list_any}
 use Rattle.kube_types.specs.declared.parts.Kind.TheVariants as kinds
 use Rattle.kube_types.specs.declared.objects.Meta.{Meta}
 use Rattle.kube_types.specs.declared.objects.Volume.{Volume as VolumeData}
 use Rattle.kube_types.specs.declared.objects.Claim.{Claim as ClaimData}
-use Rattle.kube_types.specs.declared.objects.Object.{Object}
-use Rattle.kube_types.specs.declared.objects.Object.TheVariants.{Pod}
-use Rattle.kube_types.specs.Bindings.{has_name, pv_protection, pvc_protection, is_deleting, is_bound, is_scheduled}
+use Rattle.kube_types.specs.Bindings.{has_name, pv_protection, pvc_protection, is_deleting, is_bound, uses}
 use Rattle.call_types.specs.declared.entry.Entry.{Entry}
 use Rattle.call_types.specs.declared.request.Request.{Request}
 use Rattle.call_types.specs.declared.request.Request.TheVariants as requests
@@ -42,11 +40,6 @@ pub record MayUnguardVolume (o new : VolumeData) : Type 0 where
 pub record IsDeletingVersion (o claim : ClaimData) : Type 0 where
   pub same : IsSameObject o.meta claim.meta
   pub deleting : is_deleting claim.meta ≡ true
-
--- a pod of the claim's namespace that a node runs or is to run, and that names the claim
-abbrev pub uses : ClaimData → Object → Bool
-uses c (Pod p) = is_scheduled p && bytes_eq p.meta.namespace c.meta.namespace && has_name c.meta.name p.claims
-uses c o = false
 
 -- a list of the pods of the claim's namespace told none that uses it
 abbrev pub IsPodList : ClaimData → Request → Reply → Type 0

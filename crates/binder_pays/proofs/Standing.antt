@@ -1,6 +1,7 @@
 -- No volume and no claim that stands in a store has left: none is deleting without finalizers. It belongs beside `rows_are_valid` in `write_law`.
 use Rattle.std.proofs.Common.{◌≡◌, ◌∙◌, ℕ, List, [], ◌∷◌, ◌++◌, Bool, true, false, Option, Some, None, inl, inr, refl, sym, ap, subst}
 use Rattle.std.specs.Prelude.{cond, ⊤}
+use Rattle.std.proofs.lemmas.Bool.{and_right}
 use Rattle.kube_types.specs.declared.uid.Uid.{Uid}
 use Rattle.kube_types.specs.declared.objects.Pod.{Pod as PodData}
 use Rattle.kube_types.specs.declared.objects.Object.{Object}
@@ -27,7 +28,6 @@ use Rattle.model_laws.proofs.Histories.{rows_stand_in_order}
 use Rattle.model_laws.proofs.Imported.{import_row}
 use Rattle.model_laws.proofs.Lists.{none_some, one}
 use Rattle.model_laws.proofs.OnOutcome.{OnOutcome, field_or, refused_or, rule_or, says, stale_or}
-use Rattle.write_law.proofs.Volumes.{and_false}
 
 -- what is written has not left
 
@@ -161,8 +161,8 @@ imported_stays : (imports : List Object) (o : Object) → IsStaying (imported_ob
 unfolding leaves imported_object
 imported_stays imports (Class x) = tt
 imported_stays imports (Node x) = tt
-imported_stays imports (Volume x) = and_false _ _ (never_empty pv_protection x.meta.finalizers)
-imported_stays imports (Claim x) = and_false _ _ (never_empty pvc_protection x.meta.finalizers)
+imported_stays imports (Volume x) = and_right _ _ (never_empty pv_protection x.meta.finalizers)
+imported_stays imports (Claim x) = and_right _ _ (never_empty pvc_protection x.meta.finalizers)
 imported_stays imports (Pod x) = tt
 
 pub none_has_left : (setup : Setup) (past : List Entry) → AreStaying (world setup past).store.rows

@@ -3,6 +3,7 @@ use Rattle.std.proofs.Common.{ℕ, suc, ◌≡◌, ◌<◌, Bool, true, false, �
 use Rattle.std.specs.Bool.{OnTrue, OnFalse}
 use Rattle.std.specs.Option.{option_map_or}
 use Rattle.std.proofs.lemmas.Option.{slice_get_within}
+use Rattle.std.proofs.lemmas.Bool.{and_from}
 use Rattle.case_table.specs.declared.rows.Need.{Need}
 use Rattle.case_table.specs.declared.rows.Need.TheVariants.{Yes, No, Any}
 use Rattle.case_table.specs.declared.rows.CaseRow.{CaseRow}
@@ -47,10 +48,6 @@ right_true : (a b : Bool) → (a && b) ≡ true → b ≡ true
 right_true true b h = h
 right_true false b h = cc
 
-both_true : (a b : Bool) → a ≡ true → b ≡ true → (a && b) ≡ true
-both_true true b h k = k
-both_true false b h k = cc
-
 common_length : (ns ms : List Need) → length ns ≡ length ms → length (common ns ms) ≡ length ns
 unfolding common
 common_length [] ms same = refl
@@ -61,14 +58,14 @@ common_first : (ns ms : List Need) → shared ns ms ≡ true → fits ns (common
 unfolding common
 common_first [] ms h = refl
 common_first (n ∷ ns) [] h = refl
-common_first (n ∷ ns) (m ∷ ms) h = both_true (fits_need n (wish n m)) (fits ns (common ns ms)) (wish_first n m (left_true (meets n m) (shared ns ms) h)) (common_first ns ms (right_true (meets n m) (shared ns ms) h))
+common_first (n ∷ ns) (m ∷ ms) h = and_from (fits_need n (wish n m)) (fits ns (common ns ms)) (wish_first n m (left_true (meets n m) (shared ns ms) h)) (common_first ns ms (right_true (meets n m) (shared ns ms) h))
 
 common_second : (ns ms : List Need) → shared ns ms ≡ true → fits ms (common ns ms) ≡ true
 unfolding common
 common_second [] [] h = refl
 common_second [] (m ∷ ms) h = refl
 common_second (n ∷ ns) [] h = refl
-common_second (n ∷ ns) (m ∷ ms) h = both_true (fits_need m (wish n m)) (fits ms (common ns ms)) (wish_second n m (left_true (meets n m) (shared ns ms) h)) (common_second ns ms (right_true (meets n m) (shared ns ms) h))
+common_second (n ∷ ns) (m ∷ ms) h = and_from (fits_need m (wish n m)) (fits ms (common ns ms)) (wish_second n m (left_true (meets n m) (shared ns ms) h)) (common_second ns ms (right_true (meets n m) (shared ns ms) h))
 
 one_meets : (n m : Need) (c : Bool) → fits_need n c ≡ true → fits_need m c ≡ true → meets n m ≡ true
 one_meets Yes Yes c h k = refl
@@ -87,7 +84,7 @@ fits_shared [] ms cs same h k = refl
 fits_shared (n ∷ ns) [] cs same h k = refl
 fits_shared (n ∷ ns) (m ∷ ms) [] same h k = absurd (omega arith)
 fits_shared (n ∷ ns) (m ∷ ms) (c ∷ cs) same h k =
-    both_true (meets n m) (shared ns ms)
+    and_from (meets n m) (shared ns ms)
     (one_meets n m c (left_true (fits_need n c) (fits ns cs) h) (left_true (fits_need m c) (fits ms cs) k))
     (fits_shared ns ms cs (omega arith) (right_true (fits_need n c) (fits ns cs) h) (right_true (fits_need m c) (fits ms cs) k))
 

@@ -1,6 +1,7 @@
 -- A best match is there where some volume can be taken, and a default class where some class is marked.
 use Rattle.std.proofs.Common.{ℕ, zero, suc, ◌≡◌, ◌∙◌, Bool, true, false, true≢false, ◌&&◌, ◌||◌, List, [], ◌∷◌, length, Option, Some, None, is_some, slice_get, cond, refl, sym, ap}
 use Rattle.std.specs.List.{list_any}
+use Rattle.std.proofs.lemmas.Bool.{and_from}
 use Rattle.kube_types.specs.declared.parts.Kind.{Kind}
 use Rattle.kube_types.specs.declared.parts.Kind.TheVariants as kinds
 use Rattle.kube_types.specs.declared.objects.Claim.{Claim as ClaimData}
@@ -49,10 +50,6 @@ others_refused rows c (Volume x) h = cc
 others_refused rows c (Claim x) h = refl
 others_refused rows c (Pod x) h = refl
 
-both_true : (a b : Bool) → a ≡ true → b ≡ true → (a && b) ≡ true
-both_true true b h k = k
-both_true false b h k = cc
-
 left_true : (a b : Bool) → (a && b) ≡ true → a ≡ true
 left_true true b h = refl
 left_true false b h = cc
@@ -64,7 +61,7 @@ right_true false b h = cc
 pub best_matches : (rows : List Object) (c : ClaimData) (answer : Option ℕ) → IsBest rows c None (waits_for_pod rows c) [] answer → is_some answer ≡ has_match rows c
 best_matches rows c (Some place) best =
     let k = best.candidate in
-    let takes : binder_takes rows c (Volume best.volume) ≡ true = both_true (eligible best.volume c None) (only_own_passes (waits_for_pod rows c) best.volume c) k.eligible k.own in
+    let takes : binder_takes rows c (Volume best.volume) ≡ true = and_from (eligible best.volume c None) (only_own_passes (waits_for_pod rows c) best.volume c) k.eligible k.own in
     sym (any_of_kind kinds.PersistentVolume (binder_takes rows c) (others_refused rows c) rows ∙ some_any (binder_takes rows c) (rows_of kinds.PersistentVolume rows) place (Volume best.volume) k.there takes)
 best_matches rows c None best =
     sym (any_of_kind kinds.PersistentVolume (binder_takes rows c) (others_refused rows c) rows ∙ none_any (binder_takes rows c) (rows_of kinds.PersistentVolume rows) refused)

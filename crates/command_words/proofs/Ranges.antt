@@ -1,18 +1,15 @@
 -- The numbers of options that words give are in their ranges.
-use Rattle.std.proofs.Common.{◌≡◌, refl, sym, subst, true≢false, arith}
+use Rattle.std.proofs.Common.{◌≡◌, refl, subst, arith}
 use Rattle.std.proofs.lemmas.Bool.Decides.{nat_tests}
-use Rattle.std.specs.Prelude.{ℕ, ◌≤◌, Bool, true, false, ◌&&◌, List, Option, Some, None, length, nat_le, codes, if◌then◌else◌, option_map, option_and_then, unwrap_or}
+use Rattle.std.specs.Prelude.{ℕ, ◌≤◌, Bool, true, false, List, Option, Some, None, length, nat_le, codes, if◌then◌else◌, option_map, option_and_then, unwrap_or}
 use Rattle.std.specs.List.{list_all}
 use Rattle.std.specs.Char.{is_ascii_digit}
 use Rattle.std.specs.Str.Parse.{digits_value}
+use Rattle.std.proofs.lemmas.Bool.{and_parts}
 use Rattle.command_words.specs.declared.words.Command.{Command}
 use Rattle.command_words.specs.declared.words.Options.{Options}
 use Rattle.command_words.specs.declared.words.Words.{Words}
 use Rattle.command_words.specs.Grammar.{AreInRange, Part, Text, command_named, each_once, is_number, number_between, options_by, parts_from, part_text, words_by, words_of}
-
-both : (a b : Bool) → (a && b) ≡ true → (a ≡ true) × (b ≡ true)
-both true b h = (refl, h)
-both false b h = absurd (true≢false (sym h))
 
 le_of : (m n : ℕ) → nat_le m n ≡ true → m ≤ n
 le_of m n h = grind (arith, nat_tests)
@@ -20,10 +17,10 @@ le_of m n h = grind (arith, nat_tests)
 -- the number of a text
 in_range : (least most : ℕ) (text : Text) → is_number least most text ≡ true → (least ≤ digits_value 10 text) × (digits_value 10 text ≤ most)
 in_range least most text h =
-    let digits = both (list_all is_ascii_digit text) _ h in
-    let some = both (nat_le 1 (length text)) _ digits.1 in
-    let nine = both (nat_le (length text) 9) _ some.1 in
-    let ends = both (nat_le least (digits_value 10 text)) (nat_le (digits_value 10 text) most) nine.1 in
+    let digits = and_parts (list_all is_ascii_digit text) _ h in
+    let some = and_parts (nat_le 1 (length text)) _ digits.1 in
+    let nine = and_parts (nat_le (length text) 9) _ some.1 in
+    let ends = and_parts (nat_le least (digits_value 10 text)) (nat_le (digits_value 10 text) most) nine.1 in
     (le_of least (digits_value 10 text) ends.0, le_of (digits_value 10 text) most ends.1)
 
 given_in_range : (least most : ℕ) (text : Option Text) (n : ℕ) → number_between least most text ≡ Some (Some n) → (least ≤ n) × (n ≤ most)

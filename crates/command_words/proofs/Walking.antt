@@ -4,6 +4,7 @@ use Rattle.std.specs.List.{find, fold, list_all, list_any}
 use Rattle.std.specs.Option.{option_map_or}
 use Rattle.std.specs.Prelude.{slice_get}
 use Rattle.std.specs.Str.{bytes_eq, chars}
+use Rattle.std.proofs.lemmas.Bool.{not-true}
 use Rattle.clap.specs.Lexer.{long_of, short_of}
 use Rattle.clap.specs.Walk.{Held, Row, Rule, Step, Waiting, Walk, after_flag, after_step, arg_by_id, arg_by_index, arg_by_long, at_row, bundle, bundle_met, done, finished, has_row, idle, is_pending, long_met, long_or_other, long_word, more_values, nothing_held, option, option_word, plain_word, pushed, refused, settled, settled_rows, short_or_plain, takes_several, trailing, used, used_by_id, value, walk, walk_from, walked, with_default, without}
 use Rattle.clap.specs.Simple.{Shape, built, entered, filled, matches_of}
@@ -168,15 +169,11 @@ module _ (name : Text) (taken : List Row) (text : Text) (has_command : Bool) whe
       go true = refl
       go false = refl
 
-not_true : (b : Bool) → not b ≡ true → b ≡ false
-not_true true e = absurd (true≢false (sym e))
-not_true false e = refl
-
 option_stands : (name text : Text) (taken : List Row) (has_command : Bool) → is_option name ≡ true → has_row (codes "command") taken ≡ has_command
     → Stands taken (Some (name, text ∷ [])) (taken ++ row (name, text) ∷ []) (not (has_row name taken)) has_command
 option_stands name text taken has_command known h = record {
   fault = settle_full None (Some name) name text taken (arg_id name known);
-  rows_are = λ e. settled_full None (Some name) name text taken (arg_id name known) (not_true _ e);
+  rows_are = λ e. settled_full None (Some name) name text taken (arg_id name known) (not-true _ e);
   command = λ e. command_more name taken text has_command (not_command name known) h;
 }
 

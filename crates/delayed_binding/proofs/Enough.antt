@@ -3,7 +3,7 @@ use Rattle.std.proofs.Common.{ℕ, zero, suc, ◌≡◌, ◌∙◌, ◌<◌, ◌
 use Rattle.std.specs.Prelude.{slice_get}
 use Rattle.std.specs.Bool.{OnTrue}
 use Rattle.std.specs.List.{list_all}
-use Rattle.std.proofs.lemmas.Bool.{le-leb, leb-true}
+use Rattle.std.proofs.lemmas.Bool.{le-leb, leb-true, and_parts}
 use Rattle.std.proofs.lemmas.Bool.Decides.{Decides-eqb}
 use Rattle.std.proofs.lemmas.Slice.Eq.{bytes_eq-Decides}
 use Rattle.kube_types.specs.declared.parts.Kind.TheVariants as kinds
@@ -22,7 +22,7 @@ use Rattle.binder_model.specs.Choice.{AreShares, IsProvisioned, Share, TakesVolu
 use Rattle.binder_model.specs.Matching.{eligible, fits, is_excluded, is_selected, may_serve}
 use Rattle.binder_model.specs.ObjectKeys.{class_key}
 use Rattle.model_laws.proofs.Lists.{none_some}
-use Rattle.volume_match.proofs.Fitting.{all_true, both_true, fit_of}
+use Rattle.volume_match.proofs.Fitting.{fit_of}
 use Rattle.delayed_binding.specs.Choices.{set_aside}
 use Rattle.delayed_binding.specs.Steps.Counts.{asks_like, count_given, count_left, gives_at, may_give, one_less, one_more}
 use Rattle.delayed_binding.specs.Steps.Sharing.{HaveNoShares}
@@ -121,18 +121,18 @@ module _ (rows : List Object) (one : ClaimData) (n : NodeData) (cannot : class_p
   open_of c v e =
       let deleting = not (is_deleting v.meta) in
       let before = deleting && is_protected_volume v && fits v c && is_selected c.selector v.meta.labels in
-      let both = both_true (before && admits v.terms n.meta.labels) (may_serve v c) e in
-      let w = both_true before (admits v.terms n.meta.labels) both.0 in
-      let x = both_true (deleting && is_protected_volume v && fits v c) (is_selected c.selector v.meta.labels) w.0 in
-      let y = both_true (deleting && is_protected_volume v) (fits v c) x.0 in
-      (is_off (is_deleting v.meta) (both_true deleting (is_protected_volume v) y.0).0, serving_goes_on c v both.1, w.1)
+      let both = and_parts (before && admits v.terms n.meta.labels) (may_serve v c) e in
+      let w = and_parts before (admits v.terms n.meta.labels) both.0 in
+      let x = and_parts (deleting && is_protected_volume v && fits v c) (is_selected c.selector v.meta.labels) w.0 in
+      let y = and_parts (deleting && is_protected_volume v) (fits v c) x.0 in
+      (is_off (is_deleting v.meta) (and_parts deleting (is_protected_volume v) y.0).0, serving_goes_on c v both.1, w.1)
 
   abbrev Likes : ClaimData → Type 0
   Likes c = (class_of_claim c ≡ class_of_claim one) × (one.amount.bytes ≤ c.amount.bytes)
 
   likes : (c : ClaimData) → asks_like one c ≡ true → Likes c
   likes c e =
-      let x = both_true (bytes_eq (class_of_claim c) (class_of_claim one)) (nat_le one.amount.bytes c.amount.bytes) e in
+      let x = and_parts (bytes_eq (class_of_claim c) (class_of_claim one)) (nat_le one.amount.bytes c.amount.bytes) e in
       ((bytes_eq-Decides (class_of_claim c) (class_of_claim one)).0 x.0, leb-true one.amount.bytes c.amount.bytes x.1)
 
   all_four : (a b x y z : Bool) → a ≡ true → b ≡ true → x ≡ false → y ≡ false → z ≡ true → ((a && b && not x && not y) && z) ≡ true
@@ -168,11 +168,11 @@ module _ (rows : List Object) (one : ClaimData) (n : NodeData) (cannot : class_p
   needed [] taken shares all are = omega arith
   needed (c ∷ cs) taken [] all are = absurd are
   needed (c ∷ cs) taken (TakesVolume p ∷ shares) all are =
-      let both = both_true (asks_like one c) (list_all (asks_like one) cs) all in
+      let both = and_parts (asks_like one c) (list_all (asks_like one) cs) all in
       let k = are.0.candidate in
       up (length cs) (count_left one n (p ∷ taken) 0 (rows_of kinds.PersistentVolume rows)) (count_left one n taken 0 (rows_of kinds.PersistentVolume rows)) (needed cs (p ∷ taken) shares both.1 are.1)
       (one_taken one n (rows_of kinds.PersistentVolume rows) 0 p p taken are.0.volume (at_first p) k.there (gives_of c are.0.volume both.0 k.eligible) k.open_to)
-  needed (c ∷ cs) taken (IsProvisioned ∷ shares) all are = absurd (not_provisioned c (both_true (asks_like one c) (list_all (asks_like one) cs) all).0 are.1)
+  needed (c ∷ cs) taken (IsProvisioned ∷ shares) all are = absurd (not_provisioned c (and_parts (asks_like one c) (list_all (asks_like one) cs) all).0 are.1)
 
   short : (a b d e : ℕ) → a ≤ b → b ≤ d → d < e → e ≡ a → ⊥
   short a b d e x y z same = omega (arith, x, y, z, same)

@@ -4,6 +4,7 @@ use Rattle.std.specs.Prelude.{bytes_eq, ⊤}
 use Rattle.std.specs.List.{cons_option, list_all, list_any}
 use Rattle.std.specs.Ordering.{is_gt}
 use Rattle.std.proofs.lemmas.Slice.Eq.{bytes_eq-Decides}
+use Rattle.std.proofs.lemmas.Bool.{not-true, or_parts}
 use Rattle.kube_types.specs.declared.key.Key.{Key}
 use Rattle.kube_types.specs.declared.objects.Claim.{Claim as ClaimData}
 use Rattle.kube_types.specs.declared.objects.Pod.{Pod as PodData}
@@ -168,14 +169,6 @@ pub and_right : (a b : Bool) → (a && b) ≡ true → b ≡ true
 and_right true b e = e
 and_right false b e = absurd (true≢false (sym e))
 
-negated : (a : Bool) → not a ≡ true → a ≡ false
-negated true e = absurd (true≢false (sym e))
-negated false e = refl
-
-or_parts : (a b : Bool) → (a || b) ≡ false → (a ≡ false) × (b ≡ false)
-or_parts true b e = absurd (true≢false e)
-or_parts false b e = (refl, e)
-
 is_delayed_one : (done empty delayed : Bool) → done ≡ false → (not done && (not empty || not delayed)) ≡ false → delayed ≡ true
 is_delayed_one true empty delayed undone e = absurd (true≢false undone)
 is_delayed_one false empty true undone e = refl
@@ -189,12 +182,12 @@ sought_in rows (c ∷ cs) stored known elsewhere =
   where
     sought : is_other rows c ≡ true → IsSought rows c
     sought e =
-        let undone = negated (is_completed c) (and_left (not (is_completed c)) (not (has_carrier rows c)) e) in
+        let undone = not-true (is_completed c) (and_left (not (is_completed c)) (not (has_carrier rows c)) e) in
         record {
           stored = stored.0;
           known = and_left (is_known c) (list_all is_known cs) known;
           undone = undone;
-          uncarried = negated (has_carrier rows c) (and_right (not (is_completed c)) (not (has_carrier rows c)) e);
+          uncarried = not-true (has_carrier rows c) (and_right (not (is_completed c)) (not (has_carrier rows c)) e);
           delayed = is_delayed_one (is_completed c) (is_empty c.volume_name) (is_delayed (row_at (class_key (class_of_claim c)) rows)) undone (or_parts (is_served_elsewhere rows c) (list_any (is_served_elsewhere rows) cs) elsewhere).0;
         }
 

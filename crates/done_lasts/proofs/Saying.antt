@@ -11,7 +11,7 @@ use Rattle.kube_types.specs.declared.objects.Volume.{Volume as VolumeData}
 use Rattle.kube_types.specs.declared.objects.Object.{Object}
 use Rattle.kube_types.specs.declared.objects.Object.TheVariants.{Class, Node, Volume, Claim, Pod}
 use Rattle.kube_types.specs.declared.objects.Ref.{Ref}
-use Rattle.kube_types.specs.Bindings.{is_available, is_bound, is_completed, is_deleting, is_empty, is_ended, is_lost, is_protected_claim, is_protected_volume, ref_uid}
+use Rattle.kube_types.specs.Bindings.{is_available, is_bound, is_completed, is_deleting, is_empty, is_ended, is_lost, is_protected_claim, is_protected_volume, ref_uid, uses}
 use Rattle.kube_types.specs.Keys.{row_at}
 use Rattle.call_types.specs.declared.entry.Entry.{Entry}
 use Rattle.call_types.specs.declared.reply.MountRow.{MountRow}
@@ -23,7 +23,6 @@ use Rattle.call_types.specs.declared.request.SeatKind.{SeatKind}
 use Rattle.call_types.specs.declared.request.SeatKind.TheVariants as seats
 use Rattle.binder_model.specs.BinderDue.{is_reclaimed}
 use Rattle.binder_model.specs.Due.{claim_guard_due, volume_guard_due}
-use Rattle.binder_model.specs.GuardLicence.{uses}
 use Rattle.binder_model.specs.Matching.{has_match}
 use Rattle.binder_machines.specs.declared.decide.First.{First as BinderFirst}
 use Rattle.binder_machines.specs.declared.decide.First.TheVariants as binder_firsts

@@ -14,7 +14,7 @@ use Rattle.call_types.specs.declared.reply.Reply.TheVariants as replies
 use Rattle.call_types.specs.declared.request.Request.{Request}
 use Rattle.call_types.specs.declared.request.Request.TheVariants as requests
 use Rattle.call_types.specs.declared.setup.Setup.{Setup}
-use Rattle.binder_machines.specs.KindLaw.{reads_kind}
+use Rattle.call_types.specs.Kinds.{reads_kind}
 use Rattle.binder_model.specs.Reading.{follows}
 use Rattle.binder_model.specs.Told.{own}
 use Rattle.binder_model.specs.Watching.{most_events, told_events}

@@ -1,6 +1,7 @@
 -- What a scheduler begins selects no node, where no class of the rows both binds late and provisions.
 use Rattle.std.proofs.Common.{◌≡◌, ◌∙◌, ℕ, zero, suc, List, [], ◌∷◌, ◌++◌, Bool, true, false, true≢false, Option, Some, None, refl, sym, subst, if◌then◌else◌}
-use Rattle.std.specs.Prelude.{◌&&◌, is_none, map, slice_get, ⊤}
+use Rattle.std.specs.Prelude.{is_none, map, slice_get, ⊤}
+use Rattle.std.proofs.lemmas.Bool.{and_right}
 use Rattle.kube_types.specs.declared.key.Key.{Key}
 use Rattle.kube_types.specs.declared.uid.Uid.{Uid}
 use Rattle.kube_types.specs.declared.objects.Claim.{Claim as ClaimData}
@@ -46,14 +47,10 @@ select_none_at (w ∷ writes) none (suc place) r at = select_none_at writes none
 abbrev pub NoneIsLate : List Object → Type 0
 NoneIsLate rows = (key : Key) (x : ClassData) → row_at key rows ≡ Some (Class x) → x.delayed ≡ true → provisions x ≡ false
 
-and_false : (a b : Bool) → b ≡ false → (a && b) ≡ false
-and_false true b e = e
-and_false false b e = refl
-
 module _ (rows : List Object) (late : NoneIsLate rows) where
   -- a claim that waits for a node is not to be provisioned
   never_provisioned : (c : ClaimData) → IsSought rows c → can_provision rows c ≡ false
-  never_provisioned c sought = and_false (is_none c.selector) (class_provisions (row_at (class_key (class_of_claim c)) rows)) (by (row_at (class_key (class_of_claim c)) rows) refl sought.delayed)
+  never_provisioned c sought = and_right (is_none c.selector) (class_provisions (row_at (class_key (class_of_claim c)) rows)) (by (row_at (class_key (class_of_claim c)) rows) refl sought.delayed)
     where
       by : (o : Option Object) → row_at (class_key (class_of_claim c)) rows ≡ o → is_delayed o ≡ true → class_provisions o ≡ false
       by None there delayed = refl

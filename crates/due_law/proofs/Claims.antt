@@ -9,7 +9,7 @@ use Rattle.kube_types.specs.declared.parts.Kind.TheVariants as kinds
 use Rattle.kube_types.specs.declared.objects.Claim.{Claim as ClaimData}
 use Rattle.kube_types.specs.declared.objects.Object.{Object}
 use Rattle.kube_types.specs.declared.objects.Object.TheVariants.{Class, Node, Volume, Claim, Pod}
-use Rattle.kube_types.specs.Bindings.{is_deleting, is_protected_claim}
+use Rattle.kube_types.specs.Bindings.{is_deleting, is_protected_claim, uses}
 use Rattle.kube_types.specs.Keys.{key_of, row_at}
 use Rattle.kube_types.proofs.KeyOrder.{row_at_key}
 use Rattle.call_types.specs.declared.entry.Entry.{Entry}
@@ -20,7 +20,6 @@ use Rattle.call_types.specs.declared.setup.Setup.{Setup}
 use Rattle.binder_model.specs.Answers.{after, is_user, list, outcome}
 use Rattle.binder_model.specs.Devices.{device_answer}
 use Rattle.binder_model.specs.Due.{claim_guard_due, guard_due}
-use Rattle.binder_model.specs.GuardLicence.{uses}
 use Rattle.binder_model.specs.Imports.{ImportsPass}
 use Rattle.binder_model.specs.Reading.{follows}
 use Rattle.binder_model.specs.World.{World, effect, log_after, on_devices, reply_to, world, world_after}

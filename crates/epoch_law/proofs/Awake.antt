@@ -1,6 +1,7 @@
 -- An agent whose epoch is its node's is not told StaleEpoch; and a round leaves it so.
 use Rattle.std.proofs.Common.{◌≡◌, ◌∙◌, ℕ, ◌-◌, List, [], ◌∷◌, Bool, true, false, true≢false, ◌⊎◌, Option, Some, None, inl, inr, refl, sym, ap, subst, if◌then◌else◌, zero, suc, arith}
-use Rattle.std.specs.Prelude.{◌+◌, ◌&&◌, ◌||◌, bytes_eq, is_some, nat_lt, not, option_map, ⊤, slice_get}
+use Rattle.std.specs.Prelude.{◌+◌, ◌&&◌, bytes_eq, is_some, nat_lt, not, option_map, ⊤, slice_get}
+use Rattle.std.proofs.lemmas.Bool.{or_from}
 use Rattle.kube_types.specs.declared.key.Key.{Key}
 use Rattle.kube_types.specs.declared.names.Field.TheVariants as fields
 use Rattle.kube_types.specs.declared.parts.Kind.{Kind}
@@ -299,9 +300,6 @@ lost_memory s caches request = by s.given
     by (Some givens.Start) = refl
     by (Some (givens.Read kind)) = refl
 
-still_fresh : (a b : Bool) → a ≡ false → b ≡ false → (a || b) ≡ false
-still_fresh a b ea eb = rw (ea, eb) refl
-
 module _ (setup : Setup) (lets : Lets) (seat : ℕ) (node : List ℕ) (after : ActorState) (past : List Entry) (left : ℕ) (idle : Bool) (history : IsHistory setup past) where
   pub run_awake : (s : ActorState) (h : List Entry) (b : ℕ) → Runs lets seat after past left idle s h b → s.role ≡ agent_of node → IsCurrent setup h node seat → s.memory.stale ≡ false → after.memory.stale ≡ false
   run_awake s h b (IsSpent none state entries rest busy) role current awake = ap (λ (x : ActorState). x.memory.stale) state ∙ awake
@@ -325,7 +323,7 @@ module _ (setup : Setup) (lets : Lets) (seat : ℕ) (node : List ℕ) (after : A
       memory = ap (λ (x : ActorState). x.memory) absorbs ∙ (told_memory given next.caches request reply ∙ ap (λ r. memory_after r request reply given.memory) given_role)
 
       stale : next.memory.stale ≡ false
-      stale = ap (λ (m : Memory). m.stale) memory ∙ still_fresh given.memory.stale (is_stale_told reply) (ap (λ (m : Memory). m.stale) (turn_memory s given (Call request) turn) ∙ awake) answer
+      stale = ap (λ (m : Memory). m.stale) memory ∙ or_from given.memory.stale (is_stale_told reply) (ap (λ (m : Memory). m.stale) (turn_memory s given (Call request) turn) ∙ awake) answer
   run_awake s h b (IsHeld given next request some ready turn held absorbs more) role current awake =
       run_awake next h (b - 1) more (still_role s given next (Call request) request Lost turn absorbs ∙ role) current
       (ap (λ (x : ActorState). x.memory.stale) absorbs ∙ (ap (λ (m : Memory). m.stale) (lost_memory given next.caches request) ∙ (ap (λ (m : Memory). m.stale) (turn_memory s given (Call request) turn) ∙ awake)))

@@ -15,7 +15,7 @@ use Rattle.call_types.specs.declared.request.Request.{Request}
 use Rattle.call_types.specs.declared.request.Request.TheVariants as requests
 use Rattle.call_types.specs.declared.request.SeatKind.{SeatKind}
 use Rattle.call_types.specs.declared.setup.Setup.{Setup}
-use Rattle.binder_machines.specs.KindLaw.{reads_kind}
+use Rattle.call_types.specs.Kinds.{reads_kind}
 use Rattle.binder_model.specs.Answers.{Removes, Says, Stores, after, reply_of}
 use Rattle.binder_model.specs.Reading.{Following, ListedAt, Unlisted, follow_on, following_of, reached_on}
 use Rattle.binder_model.specs.Told.{own}

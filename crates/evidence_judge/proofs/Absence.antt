@@ -1,5 +1,5 @@
 -- What caches show of a node that was told absent.
-use Rattle.std.proofs.Common.{◌≡◌, ℕ, List, [], ◌∷◌, Bool, true, false, Option, Some, None, inl, refl, sym, ◌∙◌, if◌then◌else◌}
+use Rattle.std.proofs.Common.{◌≡◌, ℕ, List, [], ◌∷◌, Bool, true, false, Option, Some, None, refl, sym, ◌∙◌, if◌then◌else◌}
 use Rattle.std.specs.Prelude.{nat_lt}
 use Rattle.kube_types.specs.declared.parts.Kind.TheVariants as kinds
 use Rattle.kube_types.specs.declared.objects.Object.{Object}
@@ -12,12 +12,13 @@ use Rattle.call_types.specs.declared.reply.Reply.{Reply}
 use Rattle.call_types.specs.declared.reply.Reply.TheVariants as replies
 use Rattle.call_types.specs.declared.reply.Refusal.TheVariants.{Gone}
 use Rattle.binder_model.specs.ObjectKeys.{node_key}
-use Rattle.binder_model.specs.Reading.{Following, IsFrom, ListedAt, Unlisted, follow_on, following_of, reached_on}
+use Rattle.binder_model.specs.Reading.{Following, IsFrom, Unlisted, follow_on, following_of, reached_on}
 use Rattle.binder_model.specs.Told.{IsAbsenceOf, IsNewest, IsNewestAbsent, Telling, later, newest, object_of, tells_of}
 use Rattle.informer_cache.specs.All.{AllKnown, AllStandFor, all_objects, cache_of}
 use Rattle.informer_cache.specs.Cache.{ask_of}
 use Rattle.informer_cache.specs.declared.cache.Ask.{Ask}
 use Rattle.informer_cache.specs.declared.cache.Ask.TheVariants as asks
+use Rattle.model_laws.proofs.Follows.{watched_before}
 use Rattle.model_laws.proofs.Lists.{none_some}
 use Rattle.evidence_pages.proofs.Reading.{from_by}
 
@@ -30,10 +31,6 @@ later_none (Some a) (Some b) h = by (nat_lt a.version b.version) h
     by true e = none_some (sym e)
     by false e = none_some (sym e)
 
-reached : (upto from : ℕ) (f : Following) (L : Type 0) → ((n : ℕ) → IsFrom n f → L) → IsFrom from (reached_on upto f) → L
-reached upto from Unlisted L rest h = absurd h
-reached upto from (ListedAt version seen) L rest h = rest version (inl refl)
-
 -- where the nodes may be watched after an answer, it told of each of them, or they might have been watched before
 step : (name : List ℕ) (request : Request) (reply : Reply) (f : Following) (from : ℕ) → ((n : ℕ) → IsFrom n f → ⊥) → IsFrom from (follow_on request reply kinds.Node f) → tells_of request reply (node_key name) ≡ None → ⊥
 step name (requests.List kinds.Node None) (replies.Listed items version) f from rest h none = none_some (sym none)
@@ -44,7 +41,7 @@ step name (requests.List kinds.PersistentVolumeClaim None) (replies.Listed items
 step name (requests.Watch k at) (replies.Events events) f from rest h none = by (same_kind k kinds.Node) h
   where
     by : (b : Bool) → IsFrom from (if b then reached_on events.upto f else f) → ⊥
-    by true x = reached events.upto from f ⊥ rest x
+    by true x = watched_before events.upto from f ⊥ rest x
     by false x = rest from x
 step name (requests.Watch k at) (replies.Refused (Gone oldest)) f from rest h none = by (same_kind k kinds.Node) h
   where

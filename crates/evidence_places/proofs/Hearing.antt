@@ -1,10 +1,11 @@
 -- Which entries speak of a topic.
 use Rattle.std.proofs.Common.{◌≡◌, ℕ, List, Bool, true, false, true≢false, Option, Some, None, refl, sym, ◌∙◌, ap, subst, if◌then◌else◌}
-use Rattle.std.specs.Prelude.{◌&&◌, ◌||◌, bytes_eq, is_some}
+use Rattle.std.specs.Prelude.{◌||◌, bytes_eq, is_some}
 use Rattle.std.specs.Ordering.{is_eq}
 use Rattle.std.proofs.lemmas.Cmp.{tied_itself}
 use Rattle.std.proofs.lemmas.Bool.Decides.{Decides-eqb}
 use Rattle.std.proofs.lemmas.Slice.Eq.{bytes_eq-Decides}
+use Rattle.std.proofs.lemmas.Bool.{and_parts}
 use Rattle.kube_types.specs.declared.uid.Uid.{Uid}
 use Rattle.kube_types.specs.declared.key.Key.{Key}
 use Rattle.kube_types.specs.declared.objects.DataId.{DataId}
@@ -52,10 +53,6 @@ by_found t e told h = by (is_about t (asked_topic e.request)) (is_about t (if_to
     by false true d h = refl
     by false false d h = h
 
-if_true : (b : Bool) (x : Bool) → (b && x) ≡ true → (b ≡ true) × (x ≡ true)
-if_true true x h = (refl, h)
-if_true false x h = absurd (true≢false (sym h))
-
 get_about : (key : Key) (request : Request) (reply : Reply) → is_get_of key request ≡ true → is_about (about_key matters.Read key) (read_topic request reply) ≡ true
 get_about key (requests.Get asked) reply h = itself (about_key matters.Read key) (about_key matters.Read asked) (ap (about_key matters.Read) ((same_key-Decides asked key).0 h))
 get_about key (requests.Create o) reply h = absurd (true≢false (sym h))
@@ -76,7 +73,7 @@ get_about key (requests.Unmount n e p) reply h = absurd (true≢false (sym h))
 get_about key (requests.SetTime t) reply h = absurd (true≢false (sym h))
 
 pub gets_heard : (key : Key) → Hears (about_key matters.Read key) (gets key)
-gets_heard key e h = let both = if_true e.told _ h in by_read (about_key matters.Read key) e both.0 (get_about key e.request e.reply both.1)
+gets_heard key e h = let both = and_parts e.told _ h in by_read (about_key matters.Read key) e both.0 (get_about key e.request e.reply both.1)
 
 some_true : {X : Type 0} (b : Bool) (x : X) → is_some (if b then Some x else None) ≡ true → b ≡ true
 some_true true x h = refl
@@ -167,7 +164,7 @@ mounts_heard pod e h = by_asked (about_pod matters.Mounted pod) e (mount_about p
 
 one_id : (a b : DataId) → same_id a b ≡ true → a ≡ b
 one_id a b h =
-    let both = if_true (bytes_eq a.driver b.driver) _ h in
+    let both = and_parts (bytes_eq a.driver b.driver) _ h in
     let driver : a.driver ≡ b.driver = (bytes_eq-Decides a.driver b.driver).0 both.0 in
     let id : a.id ≡ b.id = (bytes_eq-Decides a.id b.id).0 both.1 in
     λ i. record { driver = driver i; id = id i }

@@ -1,6 +1,6 @@
 -- The pods of generated scripts: their volumes, kept as they are written, are canonical and name their claim.
-use Rattle.std.proofs.Common.{◌≡◌, ℕ, zero, suc, ◌<◌, ◌≤◌, Bool, true, false, ◌&&◌, List, [], ◌∷◌, Some, Ok, codes, bytes_eq, refl, sym, subst, arith, inl, inr}
-use Rattle.std.proofs.lemmas.Bool.{cases_eq}
+use Rattle.std.proofs.Common.{◌≡◌, ℕ, zero, suc, ◌<◌, ◌≤◌, Bool, true, ◌&&◌, List, [], ◌∷◌, Some, Ok, codes, bytes_eq, refl, sym, subst, arith, inl, inr}
+use Rattle.std.proofs.lemmas.Bool.{cases_eq, and_parts}
 use Rattle.std.specs.Cmp.Lexicographic.{bytes_decides}
 use Rattle.std.specs.Fmt.{digits}
 use Rattle.json.specs.Print.{escape_byte}
@@ -42,15 +42,11 @@ computed : are_written 64 ≡ true
 unfolding are_written is_written digits escape_byte
 computed = refl
 
-both : (a b : Bool) → (a && b) ≡ true → (a ≡ true) × (b ≡ true)
-both true b h = (refl, h)
-both false b h = cc
-
 each_written : (n i : ℕ) → are_written n ≡ true → i < n → is_written i ≡ true
 unfolding are_written
 each_written zero i h below = absurd (omega arith)
 each_written (suc n) i h below =
-    let parts = both (is_written n) (are_written n) h in
+    let parts = and_parts (is_written n) (are_written n) h in
     elim (cases_eq i n) [
       | inl same ↦ subst (λ (k : ℕ). is_written k ≡ true) (sym same) parts.0
       | inr other ↦ each_written n i parts.1 (omega arith)

@@ -14,7 +14,8 @@ use Rattle.call_types.specs.declared.setup.Setup.{Setup}
 use Rattle.binder_model.specs.Imports.{PassAfter}
 use Rattle.object_print.specs.Objects.{object_data}
 use Rattle.object_laws.specs.Given.{IsGivenObject}
-use Rattle.history_text.specs.Entries.{seat_word, entry_pairs, entry_data, pool_pairs, pool_data, setup_pairs, setup_data}
+use Rattle.call_types.specs.Words.{seat_word}
+use Rattle.history_text.specs.Entries.{entry_pairs, entry_data, pool_pairs, pool_data, setup_pairs, setup_data}
 use Rattle.history_lines.specs.Words.{seat_named}
 use Rattle.history_lines.specs.Members.{number_in, object_in, some_list_from}
 use Rattle.history_lines.specs.Entries.{pass_after, entry_at, entry_in, pool_at, pool_in, parts_at, parts_in, setup_in}

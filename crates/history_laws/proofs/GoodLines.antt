@@ -1,18 +1,16 @@
 -- A printed entry or setup is canonical.
-use Rattle.std.proofs.Common.{ℕ, suc, List, [], ◌∷◌, ◌++◌, Bool, true, Option, Some, None, option_map, codes, arith}
+use Rattle.std.proofs.Common.{ℕ, suc, List, [], ◌∷◌, ◌++◌, true, Option, Some, None, option_map, codes}
 use Rattle.std.specs.Prelude.{IfSome}
 use Rattle.std.specs.List.{All}
 use Rattle.std.proofs.lemmas.List.Elements.{All-head, All-tail}
-use Rattle.serde_json.specs.Data.{Data, boolean, string}
+use Rattle.serde_json.specs.Data.{Data, string}
 use Rattle.json_text.specs.Build.{number_data, Good, GoodItems, GoodOption, GoodPairs}
-use Rattle.json_text.specs.Members.{MemberList, text, items_data, array_data, filled_array, pairs_data, object_of}
-use Rattle.json_text.proofs.Good.{deeper, good_none, good_object, good_string, good_item, good_items, good_array}
+use Rattle.json_text.specs.Members.{text, items_data, array_data, filled_array, pairs_data, object_of}
+use Rattle.json_text.proofs.Good.{deeper, good_append, good_array, good_boolean, good_item, good_items, good_none, good_number, good_object, good_object_of, good_string}
 use Rattle.plain_data.specs.Pairs.{Pair}
 use Rattle.kube_types.specs.declared.uid.Uid.{Uid}
 use Rattle.kube_types.specs.declared.key.Key.{Key}
 use Rattle.kube_types.specs.declared.objects.Object.{Object}
-use Rattle.call_types.specs.declared.edit.Edit.{Edit}
-use Rattle.call_types.specs.declared.edit.Edit.TheVariants as edits
 use Rattle.call_types.specs.declared.request.NewStatus.{NewStatus}
 use Rattle.call_types.specs.declared.request.NewStatus.TheVariants as statuses
 use Rattle.call_types.specs.declared.request.Request.{Request}
@@ -30,27 +28,18 @@ use Rattle.object_print.specs.Metadata.{uid_data}
 use Rattle.object_print.specs.Objects.{object_data}
 use Rattle.object_laws.specs.Given.{IsGivenObject, IsUid}
 use Rattle.object_laws.proofs.Canonical.{object_good}
-use Rattle.object_laws.proofs.CanonicalParts.{good_object_of, good_filled, good_option, good_filled_pairs, good_modes}
-use Rattle.history_text.specs.Requests.{two_texts, key_pairs, edit_pairs, amount_text, status_pairs, ask_word, argument_pairs, request_data}
-use Rattle.history_text.specs.Replies.{event_pairs, event_data, mount_pairs, mount_data, topology_pairs, refusal_pairs, reply_pairs, reply_data}
+use Rattle.object_laws.proofs.CanonicalParts.{good_filled, good_option, good_filled_pairs, good_modes, good_some_uid}
+use Rattle.history_text.specs.Requests.{key_pairs, edit_pairs, amount_text, status_pairs, ask_word, argument_pairs, request_data}
+use Rattle.history_text.specs.Replies.{event_pairs, event_data, mount_pairs, mount_data, refusal_pairs, reply_pairs, reply_data}
+use Rattle.history_text.proofs.GoodPairs.{good_edit, good_topology}
 use Rattle.history_text.specs.Entries.{entry_pairs, entry_data, pool_pairs, pool_data, setup_pairs, setup_data}
 use Rattle.history_laws.specs.Given.{IsNumber, IsRequest, IsEvent, IsMountRow, IsRefusal, IsReply, IsEntry, IsPool, IsSetup}
 
 -- ---- members
 
-good_number : {n : ℕ} (k : ℕ) → IsNumber k → Good n (number_data k)
-good_number k small = record { canonical = small; shallow = omega arith }
-
-good_boolean : {n : ℕ} (b : Bool) → Good n (boolean b)
-good_boolean b = record { canonical = tt; shallow = omega arith }
-
 good_some_number : (n : ℕ) (o : Option ℕ) → IfSome o IsNumber → GoodOption n (option_map number_data o)
 good_some_number n None is = tt
 good_some_number n (Some k) is = good_number k is
-
-good_append : (n : ℕ) (ps qs : MemberList) → GoodPairs n ps → GoodPairs n qs → GoodPairs n (ps ++ qs)
-good_append n [] qs h k = k
-good_append n (p ∷ ps) qs h k = (h.0, good_append n ps qs h.1 k)
 
 good_list : {X : Type 0} (n : ℕ) (data_of : X → Data) (P : X → Type 0) → ((x : X) → P x → Good n (data_of x)) → (xs : List X) → All P xs → GoodItems n (items_data data_of xs)
 good_list n data_of P good [] is = good_items
@@ -65,10 +54,6 @@ good_uids n us is = good_listed n uid_data IsUid (λ u h. good_string) us is
 good_key : (n : ℕ) (k : Key) → GoodPairs n (key_pairs k)
 good_key n k = (good_string, (good_string, (good_filled n k.namespace, tt)))
 
-good_topology : (n : ℕ) (t : Option (List ℕ × List ℕ)) → GoodPairs n (topology_pairs t)
-good_topology n None = tt
-good_topology n (Some t) = (good_string, (good_string, tt))
-
 good_labels : (n : ℕ) (o : Option (List Pair)) → GoodOption (suc n) (option_map pairs_data o)
 good_labels n None = tt
 good_labels n (Some []) = good_object good_none
@@ -76,27 +61,9 @@ good_labels n (Some (p ∷ ps)) = good_filled_pairs n (p ∷ ps)
 
 -- ---- requests
 
-good_label : (n : ℕ) (a x b y : List ℕ) → Good (suc n) (object_of (two_texts a x b y))
-good_label n a x b y = good_object_of n (two_texts a x b y) (good_string, (good_string, tt))
-
-good_edit : (n : ℕ) (edit : Edit) → GoodPairs (suc n) (edit_pairs edit)
-good_edit n (edits.AddFinalizer s) = (good_string, tt)
-good_edit n (edits.DropFinalizer s) = (good_string, tt)
-good_edit n (edits.DropLabel s) = (good_string, tt)
-good_edit n (edits.DropAnnotation s) = (good_string, tt)
-good_edit n (edits.SetLabel k v) = (good_label n (codes "key") k (codes "value") v, tt)
-good_edit n (edits.SetAnnotation k v) = (good_label n (codes "key") k (codes "value") v, tt)
-good_edit n (edits.SetVolumeName s) = (good_string, tt)
-good_edit n (edits.SetPolicy p) = (good_string, tt)
-good_edit n (edits.SetClaimRef namespace name) = (good_label n (codes "name") name (codes "namespace") namespace, tt)
-good_edit n edits.ClearClaimRef = (good_boolean true, tt)
-
 good_status : (n : ℕ) (status : NewStatus) → GoodPairs (suc n) (status_pairs status)
 good_status n (statuses.Volume phase) = (good_string, tt)
 good_status n (statuses.Claim phase modes amount) = (good_string, (good_modes n modes, (good_option (suc n) amount_text amount (λ a. good_string), tt)))
-
-good_uid : (n : ℕ) (uid : Option Uid) → GoodOption n (option_map uid_data uid)
-good_uid n uid = good_option n uid_data uid (λ u. good_string)
 
 good_arguments : (r : Request) → IsRequest r → GoodPairs 127 (argument_pairs r)
 good_arguments (asks.Create o) is = (object_good o is, tt)
@@ -105,7 +72,7 @@ good_arguments (asks.UpdateStatus key status version) is =
     good_append 127 (key_pairs key) (status_pairs status ++ (codes "version", option_map number_data version) ∷ []) (good_key 127 key)
     (good_append 127 (status_pairs status) ((codes "version", option_map number_data version) ∷ []) (good_status 126 status) (good_some_number 127 version is.1, tt))
 good_arguments (asks.Edit key edit) is = good_append 127 (key_pairs key) (edit_pairs edit) (good_key 127 key) (good_edit 126 edit)
-good_arguments (asks.Delete key uid) is = good_append 127 (key_pairs key) ((codes "uid", option_map uid_data uid) ∷ []) (good_key 127 key) (good_uid 127 uid, tt)
+good_arguments (asks.Delete key uid) is = good_append 127 (key_pairs key) ((codes "uid", option_map uid_data uid) ∷ []) (good_key 127 key) (good_some_uid 127 uid, tt)
 good_arguments (asks.Get key) is = good_key 127 key
 good_arguments (asks.List kind namespace) is = (good_string, (good_option 127 string namespace (λ s. good_string), tt))
 good_arguments (asks.Watch kind from) is = (good_string, (good_number from is, tt))

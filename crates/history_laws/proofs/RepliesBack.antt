@@ -16,7 +16,8 @@ use Rattle.call_types.specs.declared.reply.Reply.TheVariants as replies
 use Rattle.object_print.specs.Metadata.{uid_data}
 use Rattle.object_print.specs.Objects.{object_data}
 use Rattle.object_laws.specs.Given.{IsGivenObject, IsUid}
-use Rattle.history_text.specs.Replies.{change_word, event_pairs, event_data, mount_pairs, mount_data, refusal_pairs, reply_pairs, reply_data}
+use Rattle.call_types.specs.Words.{change_word}
+use Rattle.history_text.specs.Replies.{event_pairs, event_data, mount_pairs, mount_data, refusal_pairs, reply_pairs, reply_data}
 use Rattle.history_lines.specs.Answers.{◌>>=◌}
 use Rattle.history_lines.specs.Words.{change_named, field_named, rule_named}
 use Rattle.history_lines.specs.Members.{uid_in, object_in}

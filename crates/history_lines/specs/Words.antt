@@ -10,8 +10,7 @@ use Rattle.call_types.specs.declared.request.SeatKind.{SeatKind}
 use Rattle.call_types.specs.declared.request.SeatKind.TheVariants as seats
 use Rattle.call_types.specs.declared.reply.Change.{Change}
 use Rattle.call_types.specs.declared.reply.Change.TheVariants as changes
-use Rattle.history_text.specs.Replies.{change_word}
-use Rattle.history_text.specs.Entries.{seat_word}
+use Rattle.call_types.specs.Words.{change_word, seat_word}
 use Rattle.history_lines.specs.declared.words.AskWord.{AskWord}
 use Rattle.history_lines.specs.declared.words.AskWord.TheVariants as asks
 use Rattle.history_lines.specs.declared.words.EditWord.{EditWord}

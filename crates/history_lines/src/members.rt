@@ -10,7 +10,6 @@ ghost use Rattle.history_lines.specs.Answers.{PartGives, PartGivesBy, taken};
 ghost use Rattle.history_lines.specs.Members.{look_in, standing, text_at, filled_at, some_text_at, number_in, number_at, some_number_at, flag_at, uid_in, uid_at, some_uid_at, quantity_in, some_amount_at, object_in, object_at, items_from, list_in, list_at, some_list_at, modes_at, some_labels_at, kind_at, key_at, data_id_at, some_topology_at};
 
 use crate::errors::Unread;
-use crate::words::LineWord;
 use json_text::look::{boolean_in, items_in, text_in, whole_in};
 use kube_types::items::Items;
 use kube_types::key::Key;
@@ -19,6 +18,7 @@ use kube_types::pairs::Pairs;
 use kube_types::parts::{Kind, Modes};
 use kube_types::text::Text;
 use kube_types::uid::Uid;
+use kube_types::words::Worded;
 use object_text::errors::Member;
 use object_text::member_readers::pairs_at;
 use object_text::part_readers::{amount_counted, modes_of};
@@ -60,7 +60,7 @@ pub fn member_at<'v>(value: &'v Value, name: &str) -> Result<&'v Value, Unread>
 }
 
 /// The first of these whose member stands.
-pub(crate) fn standing<T: LineWord>(all: &[T], value: &Value) -> Result<T, Unread>
+pub(crate) fn standing<T: Worded>(all: &[T], value: &Value) -> Result<T, Unread>
     ensures { PartGives result (standing T.word all.now (look_in (view value.now))) }
 {
     for one in all {

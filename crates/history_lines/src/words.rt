@@ -1,36 +1,12 @@
 //! The words that tell what stands in a line.
 
 ghost use Rattle.std.specs.Prelude.{◌≡◌};
-ghost use Rattle.kube_types.specs.Named.{value_named};
 ghost use Rattle.history_lines.specs.Words.{ask_named, change_named, field_named, refusal_named, rule_named, seat_named};
 
 use call_types::reply::Change;
 use call_types::request::SeatKind;
-use history_text::entries::seat_word;
-use history_text::replies::change_word;
 use kube_types::names::{Field, Rule};
-
-/// A value with one word in lines. `kube_types::words::Worded` cannot be had here for the types of lower crates.
-pub trait LineWord: Copy {
-    ghost use Rattle.std.specs.Prelude.{◌≡◌, ℕ, List};
-
-    ghost word: { Self → List ℕ };
-
-    fn word(&self) -> &str
-        ensures { result.now ≡ word self.now };
-}
-
-/// The first of these values that has the word.
-fn value_named<T: LineWord>(all: &[T], word: &str) -> Option<T>
-    ensures { result ≡ value_named T.word all.now word.now }
-{
-    for value in all {
-        if word == value.word() {
-            return Some(*value);
-        }
-    }
-    None
-}
+use kube_types::words::{Worded, value_named};
 
 /// What is asked, by the member `do`.
 #[derive(Clone, Copy)]
@@ -54,7 +30,7 @@ pub enum AskWord {
     Time,
 }
 
-impl LineWord for AskWord {
+impl Worded for AskWord {
     ghost use Rattle.history_lines.specs.Words.{asked_word};
 
     ghost word = { asked_word };
@@ -97,7 +73,7 @@ pub enum EditWord {
     ClearClaimRef,
 }
 
-impl LineWord for EditWord {
+impl Worded for EditWord {
     ghost use Rattle.history_lines.specs.Words.{edited_word};
 
     ghost word = { edited_word };
@@ -134,7 +110,7 @@ pub enum ReplyWord {
     Refused,
 }
 
-impl LineWord for ReplyWord {
+impl Worded for ReplyWord {
     ghost use Rattle.history_lines.specs.Words.{replied_word};
 
     ghost word = { replied_word };
@@ -171,7 +147,7 @@ pub enum RefusalWord {
     Assigned,
 }
 
-impl LineWord for RefusalWord {
+impl Worded for RefusalWord {
     ghost use Rattle.history_lines.specs.Words.{refused_word};
 
     ghost word = { refused_word };
@@ -266,46 +242,6 @@ pub fn refusal_named(word: &str) -> Option<RefusalWord>
         ],
         word,
     )
-}
-
-impl LineWord for SeatKind {
-    ghost use Rattle.history_text.specs.Entries.{seat_word};
-
-    ghost word = { seat_word };
-
-    fn word(&self) -> &str {
-        seat_word(*self)
-    }
-}
-
-impl LineWord for Change {
-    ghost use Rattle.history_text.specs.Replies.{change_word};
-
-    ghost word = { change_word };
-
-    fn word(&self) -> &str {
-        change_word(*self)
-    }
-}
-
-impl LineWord for Field {
-    ghost use Rattle.kube_types.specs.Words.{field_word};
-
-    ghost word = { field_word };
-
-    fn word(&self) -> &str {
-        self.name()
-    }
-}
-
-impl LineWord for Rule {
-    ghost use Rattle.kube_types.specs.Words.{rule_word};
-
-    ghost word = { rule_word };
-
-    fn word(&self) -> &str {
-        self.name()
-    }
 }
 
 /// The kind of a seat that the word names.

@@ -3,3 +3,4 @@ pub mod Closings
 pub mod EntryFloats
 pub mod LineLaws
 pub mod Puts
+pub mod GoodPairs

@@ -4,8 +4,7 @@ use Rattle.std.specs.Prelude.{ℕ, List, [], ◌∷◌, Some, codes}
 use Rattle.serde_json.specs.Data.{Data}
 use Rattle.serde_json.specs.Written.{compact_text}
 use Rattle.json_text.specs.Build.{number_data}
-use Rattle.call_types.specs.declared.request.SeatKind.{SeatKind}
-use Rattle.call_types.specs.declared.request.SeatKind.TheVariants.{User, Binder, Ops, Scheduler, ClaimProtect, VolumeProtect, Agent}
+use Rattle.call_types.specs.Words.{seat_word}
 use Rattle.call_types.specs.declared.entry.Entry.{Entry}
 use Rattle.call_types.specs.declared.setup.Pool.{Pool}
 use Rattle.call_types.specs.declared.setup.Setup.{Setup}
@@ -13,15 +12,6 @@ use Rattle.json_text.specs.Members.{MemberList, text, whole, flag, array_data, f
 use Rattle.object_print.specs.Objects.{object_data}
 use Rattle.history_text.specs.Requests.{request_data}
 use Rattle.history_text.specs.Replies.{topology_pairs, reply_data}
-
-abbrev pub seat_word : SeatKind → List ℕ
-seat_word User = codes "User"
-seat_word Binder = codes "Binder"
-seat_word Ops = codes "Ops"
-seat_word Scheduler = codes "Scheduler"
-seat_word ClaimProtect = codes "ClaimProtect"
-seat_word VolumeProtect = codes "VolumeProtect"
-seat_word Agent = codes "Agent"
 
 abbrev pub entry_pairs : Entry → MemberList
 entry_pairs e =

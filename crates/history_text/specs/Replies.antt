@@ -1,12 +1,11 @@
 -- Replies, as the member `reply` of an entry shows them.
--- A choice of this project: the history format; the words of changes are those of the Kubernetes API, WatchEvent.
+-- A choice of this project: the history format.
 use Rattle.std.specs.Prelude.{ℕ, List, [], ◌∷◌, ◌++◌, true, Option, Some, None, codes}
 use Rattle.serde_json.specs.Data.{Data}
 use Rattle.kube_types.specs.Words.{field_word, rule_word}
 use Rattle.kube_types.specs.declared.objects.DataId.{DataId}
 use Rattle.kube_types.specs.declared.objects.Object.{Object}
-use Rattle.call_types.specs.declared.reply.Change.{Change}
-use Rattle.call_types.specs.declared.reply.Change.TheVariants.{Added, Modified, Deleted}
+use Rattle.call_types.specs.Words.{change_word}
 use Rattle.call_types.specs.declared.reply.Event.{Event}
 use Rattle.call_types.specs.declared.reply.Events.{Events}
 use Rattle.call_types.specs.declared.reply.MountRow.{MountRow}
@@ -18,11 +17,6 @@ use Rattle.json_text.specs.Members.{MemberList, text, whole, flag, array_data, o
 use Rattle.object_print.specs.Metadata.{uid_data}
 use Rattle.object_print.specs.Objects.{object_data}
 use Rattle.history_text.specs.Requests.{data_id_pairs}
-
-abbrev pub change_word : Change → List ℕ
-change_word Added = codes "ADDED"
-change_word Modified = codes "MODIFIED"
-change_word Deleted = codes "DELETED"
 
 abbrev pub event_pairs : Event → MemberList
 event_pairs e = (codes "change", text (change_word e.change)) ∷ (codes "object", Some (object_data e.object)) ∷ (codes "version", whole e.version) ∷ []

@@ -5,35 +5,21 @@ ghost use Rattle.json_text.specs.Writing.{with_some, with_value};
 ghost use Rattle.piece_print.specs.Writing.{whole};
 ghost use Rattle.history_text.specs.Requests.{request_data};
 ghost use Rattle.history_text.specs.Replies.{reply_data};
-ghost use Rattle.history_text.specs.Entries.{seat_word, entry_data, entry_line};
+ghost use Rattle.history_text.specs.Entries.{entry_data, entry_line};
 
 use crate::asks::write_request;
 use crate::replies::write_reply;
 use call_types::entry::Entry;
 use call_types::reply::Reply;
-use call_types::request::{Request, SeatKind};
+use call_types::request::Request;
 use kube_types::copies::OutOfMemory;
 use kube_types::text::Bytes;
+use kube_types::words::Worded;
 use object_print::members::MemberSink;
 use piece_print::recent::Recent;
 use piece_print::writing::JsonPieces;
 use std::alloc::Global;
 use std::mem::replace;
-
-/// The word for the kind of a seat.
-pub fn seat_word(kind: SeatKind) -> &'static str
-    ensures { result.now ≡ seat_word kind }
-{
-    match kind {
-        SeatKind::User => "User",
-        SeatKind::Binder => "Binder",
-        SeatKind::Ops => "Ops",
-        SeatKind::Scheduler => "Scheduler",
-        SeatKind::ClaimProtect => "ClaimProtect",
-        SeatKind::VolumeProtect => "VolumeProtect",
-        SeatKind::Agent => "Agent",
-    }
-}
 
 #[tactic(auto, using(piece_print::proofs::Behind::value_behind), unfolding(json_text::specs::Members::with_option))]
 fn put_ask(out: &mut JsonPieces<'_>, request: &Request) -> Result<(), OutOfMemory>
@@ -58,7 +44,7 @@ pub fn write_entry<'a>(out: &mut JsonPieces<'a>, entry: &'a Entry) -> Result<(),
 {
     out.begin_object()?;
     put_ask(out, &entry.request)?;
-    out.put_text("kind", seat_word(entry.kind))?;
+    out.put_text("kind", entry.kind.word())?;
     put_reply(out, &entry.reply)?;
     out.put("seat", &entry.seat)?;
     out.put("told", &entry.told)?;

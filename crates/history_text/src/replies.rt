@@ -5,28 +5,18 @@ ghost use Rattle.json_text.specs.Members.{items_data, array_data, object_of, wit
 ghost use Rattle.json_text.specs.Writing.{written, with_some, with_value, items_after};
 ghost use Rattle.object_print.specs.Objects.{object_data};
 ghost use Rattle.piece_print.specs.Writing.{whole};
-ghost use Rattle.history_text.specs.Replies.{change_word, event_data, mount_data, topology_pairs, refused, refused_number, refused_text, refusal_pairs, listed_pairs, events_pairs, provisioned_pairs, reply_data};
+ghost use Rattle.history_text.specs.Replies.{event_data, mount_data, topology_pairs, refused, refused_number, refused_text, refusal_pairs, listed_pairs, events_pairs, provisioned_pairs, reply_data};
 
 use crate::asks::put_data_id;
-use call_types::reply::{Change, Event, Events, MountRow, Refusal, Reply};
+use call_types::reply::{Event, Events, MountRow, Refusal, Reply};
 use json_text::member_texts::MemberTexts;
 use json_text::writing::JsonText;
 use kube_types::copies::OutOfMemory;
 use kube_types::objects::{DataId, Object, Version};
 use kube_types::text::Text;
+use kube_types::words::Worded;
 use object_print::members::{AsJson, MemberSink};
 use piece_print::writing::JsonPieces;
-
-/// The word for a change.
-pub fn change_word(change: Change) -> &'static str
-    ensures { result.now ≡ change_word change }
-{
-    match change {
-        Change::Added => "ADDED",
-        Change::Modified => "MODIFIED",
-        Change::Deleted => "DELETED",
-    }
-}
 
 #[tactic(auto, unfolding(json_text::specs::Members::with_option))]
 fn put_object<'a>(
@@ -102,7 +92,7 @@ fn write_event<'a>(out: &mut JsonPieces<'a>, event: &'a Event) -> Result<(), Out
     ensures ok { OnOk result (whole out.new ≡ with_value (event_data event.now) (whole out.old)) }
 {
     out.begin_object()?;
-    out.put_text("change", change_word(event.change))?;
+    out.put_text("change", event.change.word())?;
     put_object(out, "object", &event.object)?;
     out.put("version", &event.version)?;
     out.end_object()

@@ -1,7 +1,7 @@
 -- Imports pass exactly where each passes alone, no key and no UID comes twice, and no two clash.
 use Rattle.std.proofs.Common.{◌≡◌, ℕ, Bool, true, false, true≢false, not, ◌&&◌, ◌||◌, List, [], ◌∷◌, ◌++◌, Option, Some, None, is_none, nat_eq, map, refl, sym, ap, subst, ◌∙◌, inl, inr}
 use Rattle.std.specs.Prelude.{◌↔◌, IsTrue}
-use Rattle.std.proofs.lemmas.Bool.{and_parts, or_from}
+use Rattle.std.proofs.lemmas.Bool.{and_parts, or_from, not-true}
 use Rattle.std.proofs.lemmas.List.{append_assoc, map-append}
 use Rattle.std.proofs.lemmas.List.Folds.{list_any-append}
 use Rattle.std.specs.Cmp.{nat_eq_equiv}
@@ -44,15 +44,11 @@ nothing : (f : Option ImportFault) → is_none f ≡ true → f ≡ None
 nothing None e = refl
 nothing (Some f) e = absurd (true≢false (sym e))
 
-refused : (b : Bool) → not b ≡ true → b ≡ false
-refused true e = absurd (true≢false (sym e))
-refused false e = refl
-
 new_parts : (keys : List Key) (uids : List ℕ) (o : Object) → is_new keys uids o ≡ true → IsNew keys uids o
 new_parts keys uids o e =
     let a = and_parts (is_none (import_fault [] o) && not (list_any (same_key (key_of o)) keys)) (not (list_any (nat_eq (uid_number o)) uids)) e in
     let b = and_parts (is_none (import_fault [] o)) (not (list_any (same_key (key_of o)) keys)) a.0 in
-    record { alone = nothing _ b.0; key = refused _ b.1; uid = refused _ a.1 }
+    record { alone = nothing _ b.0; key = not-true _ b.1; uid = not-true _ a.1 }
 
 own_uid : (o : Object) → import_fault [] o ≡ None → is_none (meta_of o).uid ≡ false
 own_uid o alone = (passed [] o alone).known
@@ -149,7 +145,7 @@ pub passing : (imports : List Object) (uids : List ℕ) → come_new [] [] impor
 passing imports uids new are = subst (λ us. IsTrue (not (list_any (refers_wrongly us imports) imports)) ↔ ImportsPass imports) (sym are) (to, from)
   where
     none : IsTrue (not (list_any (refers_wrongly (map uid_number imports) imports) imports)) → (a b : Object) → IsIn a imports → IsIn b imports → clash a b ≡ false
-    none e a b in_a in_b = none_of (clash a) imports b in_b (none_of (λ v. list_any (clash v) imports) imports a in_a (sym (any_clash imports new) ∙ refused _ e))
+    none e a b in_a in_b = none_of (clash a) imports b in_b (none_of (λ v. list_any (clash v) imports) imports a in_a (sym (any_clash imports new) ∙ not-true _ e))
 
     to : IsTrue (not (list_any (refers_wrongly (map uid_number imports) imports) imports)) → ImportsPass imports
     to e = passes [] imports (λ a h. absurd h) new (none e)

@@ -1,9 +1,10 @@
 -- Objects of which each stands before the next one.
-use Rattle.std.proofs.Common.{ℕ, zero, suc, ◌≡◌, ◌∙◌, ◌+◌, ◌-◌, ◌≤◌, Bool, true, false, true≢false, ◌&&◌, List, [], ◌∷◌, length, drop, refl, sym, ap, subst, arith}
+use Rattle.std.proofs.Common.{ℕ, zero, suc, ◌≡◌, ◌∙◌, ◌+◌, ◌-◌, ◌≤◌, Bool, true, true≢false, ◌&&◌, List, [], ◌∷◌, length, drop, refl, sym, ap, subst, arith}
 use Rattle.std.specs.declared.cmp.Ordering.{Ordering}
 use Rattle.std.specs.declared.cmp.Ordering.TheVariants.{Less, Equal, Greater}
 use Rattle.std.specs.Ordering.{is_lt}
 use Rattle.std.specs.Prelude.{None, Some, slice_get}
+use Rattle.std.proofs.lemmas.Bool.{and_parts}
 use Rattle.plain_data.specs.Rows.{IsAfter}
 use Rattle.kube_types.specs.declared.objects.Object.{Object}
 use Rattle.kube_types.specs.Keys.{AreRows, key_cmp, key_of}
@@ -14,10 +15,6 @@ abbrev pub is_rising : List Object → Bool
 is_rising [] = true
 is_rising (x ∷ []) = true
 is_rising (x ∷ y ∷ os) = is_lt (key_cmp (key_of x) (key_of y)) && is_rising (y ∷ os)
-
-both_true : (a b : Bool) → (a && b) ≡ true → (a ≡ true) × (b ≡ true)
-both_true true b e = (refl, e)
-both_true false b e = absurd (true≢false (sym e))
 
 less : (o : Ordering) → is_lt o ≡ true → o ≡ Less
 less Less e = refl
@@ -33,7 +30,7 @@ pub rising_rows : (os : List Object) → is_rising os ≡ true → AreRows os
 rising_rows [] e = tt
 rising_rows (x ∷ []) e = (tt, tt)
 rising_rows (x ∷ y ∷ os) e =
-    let parts = both_true (is_lt (key_cmp (key_of x) (key_of y))) (is_rising (y ∷ os)) e in
+    let parts = and_parts (is_lt (key_cmp (key_of x) (key_of y))) (is_rising (y ∷ os)) e in
     let first = less (key_cmp (key_of x) (key_of y)) parts.0 in
     let rest = rising_rows (y ∷ os) parts.1 in
     ((first, after_less x y os first rest.0), rest)

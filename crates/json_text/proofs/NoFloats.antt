@@ -1,10 +1,11 @@
 -- What is printed holds no float.
-use Rattle.std.proofs.Common.{◌≡◌, ℕ, List, [], ◌∷◌, Bool, true, false, ◌||◌, ◌==◌, Option, Some, None, if◌then◌else◌, decimal, option_map, true≢false, refl}
+use Rattle.std.proofs.Common.{◌≡◌, ℕ, List, [], ◌∷◌, Bool, true, false, ◌||◌, ◌==◌, Option, Some, None, if◌then◌else◌, decimal, option_map, refl}
 use Rattle.std.specs.Bool.{⊤}
 use Rattle.std.specs.declared.cmp.Ordering.{Ordering}
 use Rattle.std.specs.declared.cmp.Ordering.TheVariants.{Less, Equal, Greater}
 use Rattle.std.specs.Ordering.{nat_cmp, match_ordering}
 use Rattle.std.specs.Cmp.Lexicographic.{slice_cmp}
+use Rattle.std.proofs.lemmas.Bool.{or_parts}
 use Rattle.serde_json.specs.Data.{Data, null, boolean, number, string, array, object, Members, no_members, member, put}
 use Rattle.serde_json.specs.Read.{read}
 use Rattle.serde_json.specs.Written.{has_float, items_have_float, members_have_float}
@@ -25,17 +26,13 @@ NoFloats (p ∷ ps) = NoFloat p.1 × NoFloats ps
 abbrev pub FloatFree : {X : Type 0} → (X → Data) → Type 0
 FloatFree {X = X} data_of = (x : X) → has_float (data_of x) ≡ false
 
-or_false : (a b : Bool) → (a || b) ≡ false → (a ≡ false) × (b ≡ false)
-or_false true b h = absurd (true≢false h)
-or_false false b h = (refl, h)
-
 both_false : {a b : Bool} → a ≡ false → b ≡ false → (a || b) ≡ false
 both_false ha hb = rw ha hb
 
 float_put : (k : List ℕ) (d : Data) (ms : Members) → has_float d ≡ false → members_have_float ms ≡ false → members_have_float (put k d ms) ≡ false
 float_put k d no_members hd hm = both_false hd refl
 float_put k d (member l e ms) hd hm =
-    let parts = or_false (has_float e) (members_have_float ms) hm in
+    let parts = or_parts (has_float e) (members_have_float ms) hm in
     placed (slice_cmp nat_cmp k l) parts.0 parts.1 (float_put k d ms hd parts.1)
   where
     placed : (o : Ordering) → has_float e ≡ false → members_have_float ms ≡ false → members_have_float (put k d ms) ≡ false → members_have_float (match_ordering o (member k d (member l e ms)) (member l d ms) (member l e (put k d ms))) ≡ false

@@ -1,12 +1,12 @@
 -- What is read is canonical, where it holds no float; and so are its members that are not known.
-use Rattle.std.proofs.Common.{◌≡◌, ℕ, zero, suc, ◌^◌, ◌<◌, ◌≤◌, ◌&&◌, ◌||◌, ◌==◌, List, drop, slice_index, Bool, true, false, true≢false, if◌then◌else◌, nat_lt, nat_le, Option, Some, None, option_map, option_and_then, refl, ap, ◌∙◌, subst, arith}
+use Rattle.std.proofs.Common.{◌≡◌, ℕ, zero, suc, ◌^◌, ◌<◌, ◌≤◌, ◌&&◌, ◌==◌, List, drop, slice_index, Bool, true, false, true≢false, if◌then◌else◌, nat_lt, nat_le, Option, Some, None, option_map, option_and_then, refl, ap, ◌∙◌, subst, arith}
 use Rattle.std.specs.Bool.{⊤}
 use Rattle.std.specs.declared.cmp.Ordering.{Ordering}
 use Rattle.std.specs.declared.cmp.Ordering.TheVariants.{Less, Equal, Greater}
 use Rattle.std.specs.Ordering.{nat_cmp, match_ordering, ordering_reverse}
 use Rattle.std.specs.Cmp.Lexicographic.{slice_cmp}
 use Rattle.std.specs.Float.{binary64, float_is_finite}
-use Rattle.std.proofs.lemmas.Bool.{and_parts, ltb-true, leb-true}
+use Rattle.std.proofs.lemmas.Bool.{and_parts, ltb-true, leb-true, or_parts}
 use Rattle.std.proofs.lemmas.Cmp.{nat_list_cmp_total}
 use Rattle.fast_float.specs.Text.{Parts, minus, scan, digits_of, nearest, with_sign}
 use Rattle.json.specs.Json as json
@@ -120,10 +120,6 @@ number_whole (unsigned n) h e = h
 number_whole (negative z) h e = h
 number_whole (float x) h e = absurd (true≢false e)
 
-none_of : (a b : Bool) → (a || b) ≡ false → (a ≡ false) × (b ≡ false)
-none_of true b e = absurd (true≢false e)
-none_of false b e = (refl, e)
-
 mutual
   canonical_read : (d : Data) → IsRead d → has_float d ≡ false → IsCanonical d
   canonical_read null h e = tt
@@ -136,13 +132,13 @@ mutual
   canonical_items : (ds : Items) → AreRead ds → items_have_float ds ≡ false → AreCanonical ds
   canonical_items no_items h e = tt
   canonical_items (item d ds) h e =
-      let none = none_of (has_float d) (items_have_float ds) e in
+      let none = or_parts (has_float d) (items_have_float ds) e in
       (canonical_read d h.0 none.0, canonical_items ds h.1 none.1)
 
   canonical_members : (ms : Members) → HasRead ms → members_have_float ms ≡ false → AreMembers ms
   canonical_members no_members h e = tt
   canonical_members (member k d ms) h e =
-      let none = none_of (has_float d) (members_have_float ms) e in
+      let none = or_parts (has_float d) (members_have_float ms) e in
       (canonical_read d h.0 none.0, h.1, canonical_members ms h.2 none.1)
 
 whole_read : (o : Option json.Json) (d : Data) → option_and_then of_json o ≡ Some d → IsRead d

@@ -26,6 +26,7 @@ holds_alike test held vs ws alike h u = (λ c. let p = (h u).0 c in ((alike u).0
 
 pub stands_alike : (index : Index) (vs ws : List VolumeData) → AreAlike vs ws → StandsFor index vs → StandsFor index ws
 stands_alike index vs ws alike stands = record {
+  all = holds_alike _ index.all vs ws alike stands.all;
   free = holds_alike _ index.free vs ws alike stands.free;
   owned = holds_alike _ index.owned vs ws alike stands.owned;
 }

@@ -1,5 +1,5 @@
 -- What an index stands for after an edit.
-use Rattle.std.proofs.Common.{◌≡◌, ◌⊎◌, inl, inr, Bool, true, false, true≢false, not, ◌&&◌, List, ◌∷◌, Result, Ok, Err, OnOk, ◌∙◌, refl, sym, ap, subst, if◌then◌else◌}
+use Rattle.std.proofs.Common.{◌≡◌, ◌⊎◌, inl, inr, Bool, true, false, true≢false, not, ◌&&◌, List, ◌∷◌, ◌∙◌, refl, sym, ap, subst, if◌then◌else◌}
 use Rattle.std.specs.List.{Contains}
 use Rattle.std.specs.Cmp.{IsTotalOrder}
 use Rattle.std.specs.declared.cmp.Ordering.{Ordering}
@@ -11,8 +11,7 @@ use Rattle.kube_types.specs.declared.objects.Volume.{Volume as VolumeData}
 use Rattle.kube_types.specs.declared.objects.Object.TheVariants.{Volume}
 use Rattle.kube_types.specs.Keys.{key_of}
 use Rattle.kube_types.proofs.SameKeys.{same_key-Decides}
-use Rattle.plain_data.specs.declared.copies.OutOfMemory.{OutOfMemory}
-use Rattle.kube_types.specs.VolumeIndex.{AreApart, HoldsThose, Index, IsNew, StandsFor, is_free, is_owned, others, same_name}
+use Rattle.kube_types.specs.VolumeIndex.{AreApart, HoldsThose, Index, IsNew, StandsFor, is_any, is_free, is_owned, others, same_name}
 use Rattle.kube_types.specs.VolumeOrders.{AreInOrder, by_owner, by_size}
 use Rattle.kube_types.specs.Steps.IndexEdits.{IsOrdered, put_if, without_if, without_unless}
 use Rattle.kube_types.proofs.VolumeOrders.{by_owner_total, by_size_total, owners_alike, sizes_alike}
@@ -159,37 +158,40 @@ module _ {cmp : VolumeData → VolumeData → Ordering} (o : IsTotalOrder cmp) (
           left u (inl is) t = absurd (true≢false (sym t ∙ ap test (sym is) ∙ e))
           left u (inr c) t = ((take_stands v vs xs order one held h) u).1 (c, t)
 
--- both lists together
-put_both : (v : VolumeData) (old : Index) (free owned : List VolumeData) → IsOrdered old → free ≡ put_if by_size is_free v old.free → owned ≡ put_if by_owner is_owned v old.owned
-    → (vs : List VolumeData) → IsNew v vs → StandsFor old vs → StandsFor (record { free = free; owned = owned }) (v ∷ vs)
-put_both v old free owned order e f vs new stands = record {
-  free = subst (HoldsThose is_free (v ∷ vs)) (sym e) (put_stands by_size_total sizes_alike is_free v vs old.free order.0 new stands.free);
-  owned = subst (HoldsThose is_owned (v ∷ vs)) (sym f) (put_stands by_owner_total owners_alike is_owned v vs old.owned order.1 new stands.owned);
+-- all lists together
+put_lists : (v : VolumeData) (old : Index) (all free owned : List VolumeData) → IsOrdered old → all ≡ put_if by_size is_any v old.all → free ≡ put_if by_size is_free v old.free → owned ≡ put_if by_owner is_owned v old.owned
+    → (vs : List VolumeData) → IsNew v vs → StandsFor old vs → StandsFor (record { all = all; free = free; owned = owned }) (v ∷ vs)
+put_lists v old all free owned order a e f vs new stands = record {
+  all = subst (HoldsThose is_any (v ∷ vs)) (sym a) (put_stands by_size_total sizes_alike is_any v vs old.all order.0 new stands.all);
+  free = subst (HoldsThose is_free (v ∷ vs)) (sym e) (put_stands by_size_total sizes_alike is_free v vs old.free order.1.0 new stands.free);
+  owned = subst (HoldsThose is_owned (v ∷ vs)) (sym f) (put_stands by_owner_total owners_alike is_owned v vs old.owned order.1.1 new stands.owned);
 }
 
-pub inserted : (r : Result (Unit {0}) OutOfMemory) (v : VolumeData) (old self : Index) (free owned : List VolumeData) → old ≡ self → IsOrdered old → free ≡ put_if by_size is_free v old.free → OnOk r (owned ≡ put_if by_owner is_owned v old.owned)
-    → OnOk r ((vs : List VolumeData) → IsNew v vs → StandsFor self vs → StandsFor (record { free = free; owned = owned }) (v ∷ vs))
-inserted (Ok u) v old self free owned is order e f = λ vs new stands. put_both v old free owned order e f vs new (subst (λ i. StandsFor i vs) (sym is) stands)
-inserted (Err x) v old self free owned is order e f = tt
+pub inserted : (v : VolumeData) (old self : Index) (all free owned : List VolumeData) → old ≡ self → IsOrdered old → all ≡ put_if by_size is_any v old.all → free ≡ put_if by_size is_free v old.free → owned ≡ put_if by_owner is_owned v old.owned
+    → (vs : List VolumeData) → IsNew v vs → StandsFor self vs → StandsFor (record { all = all; free = free; owned = owned }) (v ∷ vs)
+inserted v old self all free owned is order a e f = λ vs new stands. put_lists v old all free owned order a e f vs new (subst (λ i. StandsFor i vs) (sym is) stands)
 
-pub removed : (v : VolumeData) (old self : Index) (free owned : List VolumeData) → old ≡ self → IsOrdered old → free ≡ without_if by_size is_free v old.free → owned ≡ without_if by_owner is_owned v old.owned
-    → (vs : List VolumeData) → AreApart vs → Contains vs v → StandsFor self vs → StandsFor (record { free = free; owned = owned }) (others v vs)
-removed v old self free owned is order e f vs apart held stands =
+pub removed : (v : VolumeData) (old self : Index) (all free owned : List VolumeData) → old ≡ self → IsOrdered old → all ≡ without by_size (λ u. u) v old.all → free ≡ without_if by_size is_free v old.free → owned ≡ without_if by_owner is_owned v old.owned
+    → (vs : List VolumeData) → AreApart vs → Contains vs v → StandsFor self vs → StandsFor (record { all = all; free = free; owned = owned }) (others v vs)
+removed v old self all free owned is order a e f vs apart held stands =
     let was = subst (λ i. StandsFor i vs) (sym is) stands in
     record {
-      free = subst (HoldsThose is_free (others v vs)) (sym e) (take_stands by_size_total sizes_alike is_free v vs old.free order.0 apart held was.free);
-      owned = subst (HoldsThose is_owned (others v vs)) (sym f) (take_stands by_owner_total owners_alike is_owned v vs old.owned order.1 apart held was.owned);
+      all = subst (HoldsThose is_any (others v vs)) (sym a) (take_stands by_size_total sizes_alike is_any v vs old.all order.0 apart held was.all);
+      free = subst (HoldsThose is_free (others v vs)) (sym e) (take_stands by_size_total sizes_alike is_free v vs old.free order.1.0 apart held was.free);
+      owned = subst (HoldsThose is_owned (others v vs)) (sym f) (take_stands by_owner_total owners_alike is_owned v vs old.owned order.1.1 apart held was.owned);
     }
 
-pub replaced : (v w : VolumeData) (old self : Index) (put_in put_own free owned : List VolumeData) → old ≡ self → IsOrdered old → AreInOrder by_size put_in → AreInOrder by_owner put_own
-    → put_in ≡ put_if by_size is_free w old.free → put_own ≡ put_if by_owner is_owned w old.owned
-    → free ≡ without_unless by_size is_free v w put_in → owned ≡ without_unless by_owner is_owned v w put_own
-    → (vs : List VolumeData) → AreApart vs → Contains vs v → same_name v w ≡ true → StandsFor self vs → StandsFor (record { free = free; owned = owned }) (w ∷ others v vs)
-replaced v w old self put_in put_own free owned is order ordered ordered_too e f a b vs apart held name stands =
+pub replaced : (v w : VolumeData) (old self : Index) (put_any put_in put_own all free owned : List VolumeData) → old ≡ self → IsOrdered old → AreInOrder by_size put_any → AreInOrder by_size put_in → AreInOrder by_owner put_own
+    → put_any ≡ put_if by_size is_any w old.all → put_in ≡ put_if by_size is_free w old.free → put_own ≡ put_if by_owner is_owned w old.owned
+    → all ≡ without_unless by_size is_any v w put_any → free ≡ without_unless by_size is_free v w put_in → owned ≡ without_unless by_owner is_owned v w put_own
+    → (vs : List VolumeData) → AreApart vs → Contains vs v → same_name v w ≡ true → StandsFor self vs → StandsFor (record { all = all; free = free; owned = owned }) (w ∷ others v vs)
+replaced v w old self put_any put_in put_own all free owned is order any ordered ordered_too d e f x a b vs apart held name stands =
     let was = subst (λ i. StandsFor i vs) (sym is) stands in
     record {
+      all = subst (HoldsThose is_any (w ∷ others v vs)) (sym (x ∙ ap (without_unless by_size is_any v w) d))
+          (replace_stands by_size_total sizes_alike is_any v w vs old.all order.0 (subst (AreInOrder by_size) d any) apart held name was.all);
       free = subst (HoldsThose is_free (w ∷ others v vs)) (sym (a ∙ ap (without_unless by_size is_free v w) e))
-          (replace_stands by_size_total sizes_alike is_free v w vs old.free order.0 (subst (AreInOrder by_size) e ordered) apart held name was.free);
+          (replace_stands by_size_total sizes_alike is_free v w vs old.free order.1.0 (subst (AreInOrder by_size) e ordered) apart held name was.free);
       owned = subst (HoldsThose is_owned (w ∷ others v vs)) (sym (b ∙ ap (without_unless by_owner is_owned v w) f))
-          (replace_stands by_owner_total owners_alike is_owned v w vs old.owned order.1 (subst (AreInOrder by_owner) f ordered_too) apart held name was.owned);
+          (replace_stands by_owner_total owners_alike is_owned v w vs old.owned order.1.1 (subst (AreInOrder by_owner) f ordered_too) apart held name was.owned);
     }

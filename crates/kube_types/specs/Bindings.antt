@@ -1,4 +1,4 @@
--- The words of bindings: the class of an object, completed, for, carries, protected.
+-- The words of bindings: the class of an object, completed, for, carries, protected, uses.
 -- Source: Kubernetes documentation, "Persistent Volumes", and the constants of `pv_controller.go` and of the protection controllers.
 use Rattle.std.specs.Prelude.{ℕ, ◌+◌, ◌==◌, Bool, true, false, not, ◌&&◌, List, Option, Some, None, bytes_eq, codes, is_some, is_none, unwrap_or, [], ◌∷◌}
 use Rattle.std.specs.List.{list_any}
@@ -16,6 +16,8 @@ use Rattle.kube_types.specs.declared.objects.Ref.{Ref}
 use Rattle.kube_types.specs.declared.objects.Volume.{Volume}
 use Rattle.kube_types.specs.declared.objects.Claim.{Claim}
 use Rattle.kube_types.specs.declared.objects.Pod.{Pod}
+use Rattle.kube_types.specs.declared.objects.Object.{Object}
+use Rattle.kube_types.specs.declared.objects.Object.TheVariants as objects
 
 -- the claim's binding was decided, by the controller or by a user: the volume is Bound and the claim names it. The claim's
 -- status may still be to be written
@@ -94,6 +96,11 @@ is_deleting m = is_some m.deleted
 -- the pod is assigned to a node
 abbrev pub is_scheduled : Pod → Bool
 is_scheduled p = not (is_empty p.node)
+
+-- a pod of the claim's namespace that a node runs or is to run, and that names the claim
+abbrev pub uses : Claim → Object → Bool
+uses c (objects.Pod p) = is_scheduled p && bytes_eq p.meta.namespace c.meta.namespace && has_name c.meta.name p.claims
+uses c o = false
 
 -- the volume has its protection finalizer
 abbrev pub is_protected_volume : Volume → Bool

@@ -7,8 +7,9 @@ use Rattle.kube_types.specs.declared.objects.Object.TheVariants.{Class, Node, Vo
 use Rattle.kube_types.specs.Bindings.{is_available}
 use Rattle.kube_types.specs.Keys.{key_of, same_key}
 
--- the free volumes in the order of their sizes, and those that refer to a claim in the order of claims
+-- all volumes and the free ones, in the order of their sizes, and those that refer to a claim in the order of claims
 pub record Index : Type 0 where
+  pub all : List VolumeData
   pub free : List VolumeData
   pub owned : List VolumeData
 
@@ -19,6 +20,10 @@ is_free v = is_available v.phase && is_none v.claim_ref
 -- a claim is named in the volume
 abbrev pub is_owned : VolumeData → Bool
 is_owned v = is_some v.claim_ref
+
+-- it is any volume
+abbrev pub is_any : VolumeData → Bool
+is_any v = true
 
 -- two volumes have one name
 abbrev pub same_name : VolumeData → VolumeData → Bool
@@ -40,8 +45,9 @@ AreApart vs = (v u : VolumeData) → Contains vs v → Contains vs u → same_na
 abbrev pub HoldsThose : (VolumeData → Bool) → List VolumeData → List VolumeData → Type 0
 HoldsThose test volumes held = (v : VolumeData) → Contains held v ↔ (Contains volumes v × (test v ≡ true))
 
--- the index holds those of the volumes that are free, and those that refer to a claim
+-- the index holds all of the volumes, those that are free, and those that refer to a claim
 pub record StandsFor (index : Index) (volumes : List VolumeData) : Type 0 where
+  pub all : HoldsThose is_any volumes index.all
   pub free : HoldsThose is_free volumes index.free
   pub owned : HoldsThose is_owned volumes index.owned
 

@@ -1,9 +1,10 @@
-//! The words of bindings: classes, completed, for, carries, protected.
+//! The words of bindings: classes, completed, for, carries, protected, uses.
 
 ghost use Rattle.std.specs.Prelude.{◌≡◌, ◌≤◌, IfOk};
-ghost use Rattle.kube_types.specs.Bindings.{carries, class_of_claim, class_of_volume, count_one, is_completed, is_deleting, is_empty, is_ended, is_for, is_lost, is_protected_claim, is_protected_volume, is_scheduled, is_uid, lacks_class, mode_count, names_claim, uid_fits};
+ghost use Rattle.std.specs.List.{list_any};
+ghost use Rattle.kube_types.specs.Bindings.{carries, class_of_claim, class_of_volume, count_one, is_completed, is_deleting, is_empty, is_ended, is_for, is_lost, is_protected_claim, is_protected_volume, is_scheduled, is_uid, lacks_class, mode_count, names_claim, uid_fits, uses};
 
-use crate::objects::{Claim, Meta, Pod, Ref, Volume};
+use crate::objects::{Claim, Meta, Object, Pod, Ref, Volume};
 use crate::parts::{ClaimPhase, Modes, VolumePhase};
 use crate::uid::Uid;
 use plain_data::copies::{OutOfMemory, Plain};
@@ -88,6 +89,32 @@ pub fn is_scheduled(pod: &Pod) -> bool
     ensures { result ≡ is_scheduled pod.now }
 {
     !pod.node.as_str().is_empty()
+}
+
+/// Whether the object is a scheduled pod of the claim's namespace that names the claim.
+pub fn uses(claim: &Claim, object: &Object) -> bool
+    ensures { result ≡ uses claim.now object.now }
+{
+    match object {
+        Object::Pod(pod) => {
+            is_scheduled(pod)
+                && pod.meta.namespace.is(claim.meta.namespace.as_str())
+                && pod.claims.contains(claim.meta.name.as_str())
+        }
+        _ => false,
+    }
+}
+
+/// Whether one of the objects is a pod that uses the claim.
+pub fn some_uses(claim: &Claim, objects: &[Object]) -> bool
+    ensures { result ≡ list_any (uses claim.now) objects.now }
+{
+    for object in objects {
+        if uses(claim, object) {
+            return true;
+        }
+    }
+    false
 }
 
 /// Whether the volume has its protection finalizer.

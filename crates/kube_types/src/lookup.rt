@@ -44,11 +44,17 @@ pub trait Lookup {
         ensures { IfSome (option_copied result) (λ index. StandsFor index (volumes_in (rows self.now))) };
 
     /// The place of the volume of this number, from 0, among those of the volume mode and the class: by number of access
-    /// modes, bytes and name. None where there are not so many. Each volume is looked at once for each number up to this one.
+    /// modes, bytes and name; by the index where one is kept. None where there are not so many.
     fn volume_by_size(&self, block: bool, class: &Text, nth: usize) -> Option<usize>
         ensures { IsNth (has_size block class.now) (rows self.now) nth result }
     {
-        nth_by_size(self.of_kind(Kind::PersistentVolume), block, class, nth)
+        nth_by_size(
+            self.of_kind(Kind::PersistentVolume),
+            self.volumes(),
+            block,
+            class,
+            nth,
+        )
     }
 
     /// The place of the volume of this number, from 0, among those that refer to the claim, whatever its UID: by the index

@@ -9,23 +9,28 @@ ghost use Rattle.kube_types.specs.Keys.{AreRows};
 ghost use Rattle.kube_types.specs.VolumeOrders.{AreInOrder, by_owner, by_size};
 ghost use Rattle.kube_types.specs.VolumeIndex.{as_volume, AreApart, IsNew, StandsFor, others, same_name, volumes_in};
 
-use crate::copies::OutOfMemory;
+use crate::copies::{OutOfMemory, Plain};
 use crate::objects::{Object, Volume};
 use crate::shared::Shared;
-use crate::volume_lists::{leave_free, leave_owned, put_free, put_owned, take_free, take_owned};
+use crate::volume_lists::{
+    leave_all, leave_free, leave_owned, put_all, put_free, put_owned, take_by_size, take_free,
+    take_owned,
+};
 use std::alloc::Global;
 use std::marker::Model;
 
-/// An index of volumes: those that are free, in the order of class, volume mode, number of access modes and bytes; and those
-/// that refer to a claim, by its namespace and name. A volume that is neither has no place in it. It shares the volumes.
+/// An index of volumes: all of them and those that are free, in the order of class, volume mode, number of access modes and
+/// bytes; and those that refer to a claim, by its namespace and name. It shares the volumes.
 pub struct VolumeIndex {
+    all: Vec<Shared<Volume>>,
     free: Vec<Shared<Volume>>,
     owned: Vec<Shared<Volume>>,
 }
 
 impl Drop for VolumeIndex {
     fn drop(self) {
-        let VolumeIndex { free, owned } = self;
+        let VolumeIndex { all, free, owned } = self;
+        drop(all);
         drop(free);
         drop(owned);
     }
@@ -37,9 +42,9 @@ impl Model for VolumeIndex {
 
     ghost Value = { Index };
 
-    ghost view = { λ i. record { free = i.free.items; owned = i.owned.items } };
+    ghost view = { λ i. record { all = i.all.items; free = i.free.items; owned = i.owned.items } };
 
-    ghost invariant = { λ i. IsOrdered (record { free = i.free.items; owned = i.owned.items }) };
+    ghost invariant = { λ i. IsOrdered (record { all = i.all.items; free = i.free.items; owned = i.owned.items }) };
 }
 
 /// The volume that the object is, if it is one.
@@ -53,6 +58,14 @@ fn volume_of(object: &Object) -> Option<&Shared<Volume>>
 }
 
 impl VolumeIndex {
+    /// All volumes, in the order of class, volume mode, number of access modes, bytes and name.
+    pub fn all(&self) -> &[Shared<Volume>]
+        ensures list { result.now ≡ self.now.all }
+        ensures order { AreInOrder by_size result.now }
+    {
+        &self.all
+    }
+
     /// The free volumes, in the order of class, volume mode, number of access modes, bytes and name.
     pub fn free(&self) -> &[Shared<Volume>]
         ensures list { result.now ≡ self.now.free }
@@ -74,6 +87,7 @@ impl VolumeIndex {
         ensures { StandsFor result [] }
     {
         VolumeIndex {
+            all: Vec::new(alloc),
             free: Vec::new(alloc),
             owned: Vec::new(alloc),
         }
@@ -108,14 +122,19 @@ impl VolumeIndex {
         ensures ok { OnOk result ((volumes : List Volume) → IsNew volume.now volumes → StandsFor self.old volumes → StandsFor self.new (volume.now ∷ volumes)) }
         ensures err { OnErr result (self.new ≡ self.old) }
     {
+        let own = volume.copy(alloc)?;
+        self.all.reserve(1)?;
         put_free(alloc, &mut self.free, volume)?;
-        put_owned(alloc, &mut self.owned, volume)
+        put_owned(alloc, &mut self.owned, volume)?;
+        put_all(&mut self.all, own);
+        Ok(())
     }
 
     /// Takes out a volume, which is given as it was put in.
     pub fn remove(&mut self, volume: &Shared<Volume>)
         ensures { (volumes : List Volume) → AreApart volumes → Contains volumes volume.now → StandsFor self.old volumes → StandsFor self.new (others volume.now volumes) }
     {
+        take_by_size(&mut self.all, volume);
         take_free(&mut self.free, volume);
         take_owned(&mut self.owned, volume)
     }
@@ -130,8 +149,12 @@ impl VolumeIndex {
         ensures ok { OnOk result ((volumes : List Volume) → AreApart volumes → Contains volumes before.now → same_name before.now after.now ≡ true → StandsFor self.old volumes → StandsFor self.new (after.now ∷ others before.now volumes)) }
         ensures err { OnErr result (self.new ≡ self.old) }
     {
+        let own = after.copy(alloc)?;
+        self.all.reserve(1)?;
         put_free(alloc, &mut self.free, after)?;
         put_owned(alloc, &mut self.owned, after)?;
+        put_all(&mut self.all, own);
+        leave_all(&mut self.all, before, after);
         leave_free(&mut self.free, before, after);
         leave_owned(&mut self.owned, before, after);
         Ok(())

@@ -1,9 +1,10 @@
-//! The two lists of an index, in their orders.
+//! The lists of an index, in their orders.
 
-ghost use Rattle.std.specs.Prelude.{◌≡◌, ◌&&◌, true, OnOk, OnErr};
+ghost use Rattle.std.specs.Prelude.{◌≡◌, ◌<◌, ◌&&◌, true, OnOk, OnErr};
 ghost use Rattle.std.specs.Ordering.{is_eq};
 ghost use Rattle.plain_data.specs.Rows.{put, without};
-ghost use Rattle.kube_types.specs.VolumeIndex.{is_free, is_owned};
+ghost use Rattle.std.specs.Vec.{vec_capacity, vec_len};
+ghost use Rattle.kube_types.specs.VolumeIndex.{is_any, is_free, is_owned};
 ghost use Rattle.kube_types.specs.VolumeOrders.{AreInOrder, by_owner, by_size};
 ghost use Rattle.kube_types.specs.Steps.IndexEdits.{put_if, without_if, without_unless};
 
@@ -60,7 +61,8 @@ fn put_by_owner(
     put_at(alloc, volumes, place, volume)
 }
 
-fn take_by_size(volumes: &mut Vec<Shared<Volume>>, volume: &Shared<Volume>)
+/// Takes the volume out of a list in the order of sizes.
+pub(crate) fn take_by_size(volumes: &mut Vec<Shared<Volume>>, volume: &Shared<Volume>)
     requires { AreInOrder by_size volumes.old.items }
     ensures without { volumes.new.items ≡ without by_size (λ v. v) volume.now volumes.old.items }
     ensures order { AreInOrder by_size volumes.new.items }
@@ -79,6 +81,22 @@ fn take_by_owner(volumes: &mut Vec<Shared<Volume>>, volume: &Shared<Volume>)
     match owner_place(volumes, volume) {
         Ok(at) => drop(volumes.remove(at)),
         Err(_) => {}
+    }
+}
+
+/// Puts the volume among all of them, where there is room for one more.
+pub(crate) fn put_all(volumes: &mut Vec<Shared<Volume>>, volume: Shared<Volume>)
+    requires order { AreInOrder by_size volumes.old.items }
+    requires room { vec_len volumes.old < vec_capacity volumes.old }
+    ensures put { volumes.new.items ≡ put_if by_size is_any volume volumes.old.items }
+    ensures order { AreInOrder by_size volumes.new.items }
+{
+    match size_place(volumes, &volume) {
+        Ok(at) => volumes[at] = volume,
+        Err(at) => {
+            // There is room, so this does not fail.
+            let _ = volumes.insert(at, volume);
+        }
     }
 }
 
@@ -159,7 +177,22 @@ fn stays_owned(before: &Volume, after: &Volume) -> bool
     is_owned(after) && compare_by_owner(before, after).is_eq()
 }
 
-/// Takes a volume out of the free ones, unless the one that was put in since stands in its place.
+/// Takes a volume out of all of them, unless the one that was put in since stands in its place.
+pub(crate) fn leave_all(
+    volumes: &mut Vec<Shared<Volume>>,
+    before: &Shared<Volume>,
+    after: &Shared<Volume>,
+)
+    requires { AreInOrder by_size volumes.old.items }
+    ensures without { volumes.new.items ≡ without_unless by_size is_any before.now after.now volumes.old.items }
+    ensures order { AreInOrder by_size volumes.new.items }
+{
+    if !compare_by_size(before, after).is_eq() {
+        take_by_size(volumes, before)
+    }
+}
+
+/// The same for the free ones.
 pub(crate) fn leave_free(
     volumes: &mut Vec<Shared<Volume>>,
     before: &Shared<Volume>,

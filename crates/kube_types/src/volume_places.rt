@@ -5,5 +5,4 @@ mod next;
 mod nth;
 mod wanted;
 
-pub(crate) use indexed::nth_for;
-pub(crate) use nth::nth_by_size;
+pub(crate) use indexed::{nth_by_size, nth_for};

@@ -2,8 +2,9 @@
 
 ghost use Rattle.std.specs.Prelude.{◌≡◌, ℕ, List, Bool, true, false};
 ghost use Rattle.kube_types.specs.Named.{AreInverse, value_named, kind_named, policy_named, block_named, delayed_named, volume_phase_named, claim_phase_named, op_named};
-ghost use Rattle.kube_types.specs.Words.{kind_word, policy_word, volume_mode, binding_mode, volume_phase_word, claim_phase_word, op_word};
+ghost use Rattle.kube_types.specs.Words.{kind_word, policy_word, volume_mode, binding_mode, volume_phase_word, claim_phase_word, op_word, field_word, rule_word};
 
+use crate::names::{Field, Rule};
 use crate::parts::{ClaimPhase, Kind, Op, Policy, VolumePhase};
 
 /// A value with one printed word.
@@ -60,6 +61,22 @@ impl Worded for ClaimPhase {
 
 impl Worded for Op {
     ghost word = { op_word };
+
+    fn word(&self) -> &str {
+        self.name()
+    }
+}
+
+impl Worded for Field {
+    ghost word = { field_word };
+
+    fn word(&self) -> &str {
+        self.name()
+    }
+}
+
+impl Worded for Rule {
+    ghost word = { rule_word };
 
     fn word(&self) -> &str {
         self.name()

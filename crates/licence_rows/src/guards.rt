@@ -1,8 +1,7 @@
 //! Where the protection controllers may write.
 
 ghost use Rattle.std.specs.Prelude.{◌≡◌, ◌↔◌, IsTrue, Some, reverse};
-ghost use Rattle.std.specs.List.{list_any};
-ghost use Rattle.binder_model.specs.GuardLicence.{IsDeletingVersion, IsPodList, MayGuard, MayUnguardClaim, MayUnguardVolume, TellsUnused, uses};
+ghost use Rattle.binder_model.specs.GuardLicence.{IsDeletingVersion, IsPodList, MayGuard, MayUnguardClaim, MayUnguardVolume, TellsUnused};
 ghost use Rattle.kube_types.specs.declared.parts.Kind.TheVariants as kinds;
 ghost use Rattle.call_types.specs.declared.request.Request.TheVariants as requests;
 ghost use Rattle.binder_model.specs.Told.{After, ToldClaim};
@@ -12,8 +11,8 @@ use crate::parts::{is_bound, is_same_object};
 use call_types::entry::Entry;
 use call_types::reply::Reply;
 use call_types::request::Request;
-use kube_types::bindings::{PV_PROTECTION, PVC_PROTECTION, is_deleting, is_scheduled};
-use kube_types::objects::{Claim, Meta, Object, Volume};
+use kube_types::bindings::{PV_PROTECTION, PVC_PROTECTION, is_deleting, some_uses};
+use kube_types::objects::{Claim, Meta, Volume};
 use kube_types::parts::Kind;
 use licence_scans::changes::{is_claim_meta, is_guarded, is_unguarded, is_volume_meta};
 use licence_scans::entries::{EntryTest, after};
@@ -111,31 +110,6 @@ impl<'a> ClaimTest for DeletingVersion<'a> {
         }
         is_deleting(&claim.meta)
     }
-}
-
-/// Whether the object is a scheduled pod of the claim's namespace that names the claim.
-fn uses(claim: &Claim, object: &Object) -> bool
-    ensures { result ≡ uses claim.now object.now }
-{
-    match object {
-        Object::Pod(pod) => {
-            is_scheduled(pod)
-                && pod.meta.namespace.is(claim.meta.namespace.as_str())
-                && pod.claims.contains(claim.meta.name.as_str())
-        }
-        _ => false,
-    }
-}
-
-fn some_uses(claim: &Claim, objects: &[Object]) -> bool
-    ensures { result ≡ list_any (uses claim.now) objects.now }
-{
-    for object in objects {
-        if uses(claim, object) {
-            return true;
-        }
-    }
-    false
 }
 
 /// Whether the answer is a list that told no pod which uses the claim.

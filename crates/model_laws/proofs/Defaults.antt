@@ -6,6 +6,7 @@ use Rattle.std.specs.declared.cmp.Ordering.TheVariants.{Less, Equal, Greater}
 use Rattle.std.specs.Ordering.{is_lt, is_gt, ordering_then, ordering_reverse}
 use Rattle.std.proofs.lemmas.Option.{same_Some}
 use Rattle.std.proofs.lemmas.Cmp.{upto, tied_itself, nat_list_cmp_total}
+use Rattle.std.proofs.lemmas.Bool.{false_from_ne_true}
 use Rattle.plain_data.specs.Pairs.{text_cmp}
 use Rattle.plain_data.specs.Rows.{IsAfter}
 use Rattle.kube_types.specs.declared.objects.Class.{Class as ClassData}
@@ -104,12 +105,8 @@ picked (Volume x ∷ os) rows = passed (Volume x) os (default_class os) (no_clas
 picked (Claim x ∷ os) rows = passed (Claim x) os (default_class os) (no_class (Claim x) refl) (picked os rows.1)
 picked (Pod x ∷ os) rows = passed (Pod x) os (default_class os) (no_class (Pod x) refl) (picked os rows.1)
 
-not_true : (b : Bool) → (b ≡ true → ⊥) → b ≡ false
-not_true true h = absurd (h refl)
-not_true false h = refl
-
 is_picked : (rows : List Object) → AreRows rows → (found : Option ClassData) → Picks rows found → IsDefault (StandsIn rows) found
-is_picked rows order None p = λ y stands. not_true (is_default y) (p y (found_stands (key_of (Class y)) (Class y) rows stands))
+is_picked rows order None p = λ y stands. false_from_ne_true (is_default y) (p y (found_stands (key_of (Class y)) (Class y) rows stands))
 is_picked rows order (Some x) p = record {
   there = member_stands (Class x) rows order p.0;
   marked = p.1;

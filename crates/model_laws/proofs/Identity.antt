@@ -57,7 +57,7 @@ names-with_meta (Volume c) o m n = tt
 names-with_meta (Pod c) o m n = tt
 
 -- an object names as itself
-names-own : (o : Object) → NamesOnce o o
+pub names-own : (o : Object) → NamesOnce o o
 names-own (Class x) = tt
 names-own (Node x) = tt
 names-own (Volume x) = tt

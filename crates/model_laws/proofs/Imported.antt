@@ -1,8 +1,9 @@
 -- What the imports of a setup are as rows: their versions, UIDs and keys.
 use Rattle.std.proofs.Common.{sym, refl, inl, inr, ap, ◌∙◌, true≢false, arith}
 use Rattle.std.proofs.lemmas.Bool.Decides.{nat_tests}
-use Rattle.std.specs.Prelude.{ℕ, ◌≡◌, ◌≢◌, ◌≤◌, ◌<◌, ◌-◌, nat_lt, nat_le, Bool, true, false, ◌||◌, List, [], ◌∷◌, ◌++◌, Option, Some, None, is_none, unwrap_or}
+use Rattle.std.specs.Prelude.{ℕ, ◌≡◌, ◌≢◌, ◌≤◌, ◌<◌, ◌-◌, nat_lt, nat_le, Bool, true, false, List, [], ◌∷◌, ◌++◌, Option, Some, None, is_none, unwrap_or}
 use Rattle.std.specs.List.{list_any}
+use Rattle.std.proofs.lemmas.Bool.{or_parts}
 use Rattle.kube_types.specs.declared.uid.Uid.{Uid}
 use Rattle.kube_types.specs.declared.names.Field.{Field}
 use Rattle.kube_types.specs.declared.names.ImportFault.{ImportFault}
@@ -116,10 +117,6 @@ unfolding fault_of_field
 valid_of (Some f) next e = none_some (sym e)
 valid_of None next e = refl
 
-not_either : (a b : Bool) → (a || b) ≡ false → (a ≡ false) × (b ≡ false)
-not_either true b e = absurd (true≢false e)
-not_either false b e = (refl, e)
-
 at_most : (n : ℕ) → nat_lt most_imported n ≡ false → n ≤ most_imported
 at_most n e = grind (arith, nat_tests, e)
 
@@ -134,7 +131,7 @@ passed before o e =
     let g = fault_none _ _ _ f.1 in
     let h = fault_none _ _ _ g.1 in
     let i = fault_none _ _ _ h.1 in
-    let s = not_either (nat_lt most_imported (serial_or_zero (meta_of o).uid)) (nat_lt most_imported (serial_or_zero (ref_uid (reference_of o)))) c.0 in
+    let s = or_parts (nat_lt most_imported (serial_or_zero (meta_of o).uid)) (nat_lt most_imported (serial_or_zero (ref_uid (reference_of o)))) c.0 in
     record {
       known = a.0;
       version = at_most _ b.0;
@@ -162,7 +159,7 @@ pass_base before (o ∷ os) p =
 none_shares : (uid : Option Uid) (os : List Object) (y : Object) → list_any (λ other. shares_uid uid (meta_of other).uid) os ≡ false → IsIn y os → shares_uid uid (meta_of y).uid ≡ false
 none_shares uid [] y e h = absurd h
 none_shares uid (z ∷ os) y e h =
-    let t = not_either (shares_uid uid (meta_of z).uid) (list_any (λ other. shares_uid uid (meta_of other).uid) os) e in
+    let t = or_parts (shares_uid uid (meta_of z).uid) (list_any (λ other. shares_uid uid (meta_of other).uid) os) e in
     elim h [ inl is ↦ ap (λ (x : Object). shares_uid uid (meta_of x).uid) (sym is) ∙ t.0 | inr more ↦ none_shares uid os y t.1 more ]
 
 shares_own : (a b : Option Uid) (uid : Uid) → a ≡ Some uid → b ≡ Some uid → shares_uid a b ≡ true

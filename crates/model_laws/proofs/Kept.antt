@@ -5,23 +5,16 @@ use Rattle.kube_types.specs.declared.key.Key.{Key}
 use Rattle.kube_types.specs.declared.objects.Object.{Object}
 use Rattle.call_types.specs.declared.reply.Change.{Change}
 use Rattle.call_types.specs.declared.reply.Change.TheVariants.{Added, Modified, Deleted}
-use Rattle.kube_types.specs.declared.objects.Object.TheVariants.{Class, Node, Volume, Claim, Pod}
 use Rattle.kube_types.specs.Keys.{AreRows, key_of, row_at, put_row, without_row}
 use Rattle.kube_types.proofs.SameKeys.{key_tells}
 use Rattle.kube_types.proofs.KeyOrder.{row_at-put_row, row_at-put_row_other, row_at-without_row, row_at-without_row_other}
 use Rattle.binder_model.specs.Store.{State}
 use Rattle.binder_model.specs.Answers.{Outcome, Says, Stores, Removes, after}
 use Rattle.binder_model.specs.World.{World, Effect, OnStore, OnDevices, SetsMoment, world_after}
-use Rattle.model_laws.specs.Histories.{NamesOnce, KeepsIdentity, CallsKeepIdentity}
+use Rattle.model_laws.specs.Histories.{KeepsIdentity, CallsKeepIdentity}
 use Rattle.model_laws.proofs.Changes.{ChangeOf, IsOver, IsInPlace, outcome_changes}
 use Rattle.model_laws.proofs.Effects.{OfStore, on_effects}
-
-names-own : (o : Object) → NamesOnce o o
-names-own (Class x) = tt
-names-own (Node x) = tt
-names-own (Volume x) = tt
-names-own (Claim x) = inr refl
-names-own (Pod x) = tt
+use Rattle.model_laws.proofs.Identity.{names-own}
 
 keeps-own : (o : Object) → KeepsIdentity o o
 keeps-own o = record { uid = refl; created = refl; deleted = inr refl; named = names-own o }

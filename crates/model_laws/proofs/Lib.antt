@@ -4,6 +4,7 @@ pub mod Defaults
 pub mod Effects
 pub mod Epochs
 pub mod Evidence
+pub mod Follows
 pub mod Givings
 pub mod Goings
 pub mod Growing

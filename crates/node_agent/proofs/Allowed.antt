@@ -1,6 +1,6 @@
 -- The next call of a machine is allowed by its evidence; and it reads no whole kind.
-use Rattle.std.proofs.Common.{◌≡◌, ◌∙◌, ℕ, suc, zero, List, [], ◌∷◌, Bool, true, false, true≢false, Option, Some, None, inl, inr, refl, sym, ap, subst, length, slice_get}
-use Rattle.std.specs.Prelude.{◌||◌, bytes_eq, is_some, ⊤}
+use Rattle.std.proofs.Common.{◌≡◌, ◌∙◌, ℕ, suc, zero, List, [], ◌∷◌, Bool, true, false, Some, None, inl, inr, refl, sym, ap, subst, length, slice_get}
+use Rattle.std.specs.Prelude.{◌||◌, IfSome, bytes_eq, is_some}
 use Rattle.std.proofs.lemmas.Slice.Eq.{bytes_eq-Decides}
 use Rattle.kube_types.specs.declared.key.Key.{Key}
 use Rattle.kube_types.specs.declared.objects.Pod.{Pod as PodData}
@@ -10,6 +10,7 @@ use Rattle.call_types.specs.declared.entry.Entry.{Entry}
 use Rattle.call_types.specs.declared.request.Request.{Request}
 use Rattle.call_types.specs.declared.request.Request.TheVariants as requests
 use Rattle.call_types.specs.declared.request.SeatKind.TheVariants.{Agent}
+use Rattle.call_types.proofs.WholeKinds.{ReadsNone, call_reads_none, reads_no_kind}
 use Rattle.binder_model.specs.AgentLicence.{AreReadReady, MayFinish, last_epoch}
 use Rattle.call_types.specs.declared.request.SeatKind.TheVariants as seats
 use Rattle.binder_model.specs.Licence.{AreOfKind, Licensed, RowAllows}
@@ -25,7 +26,7 @@ use Rattle.node_agent.specs.declared.step.AgentStep.{AgentStep}
 use Rattle.node_agent.specs.declared.step.AgentStep.TheVariants as steps
 use Rattle.node_agent.specs.declared.step.ReadyClaim.{ReadyClaim}
 use Rattle.node_agent.specs.Agents.{agent_call, agent_call_at, finish_call, mount_call, uids_of}
-use Rattle.node_agent.specs.BeginLaw.{CallsReadNoKind, ReadsNoKind}
+use Rattle.node_agent.specs.BeginLaw.{CallsReadNoKind}
 use Rattle.node_agent.specs.Evidence.{AgentKeeps, AreFoundReady, MayFinishPod, MayMountPod, MayReadClaim, StepKeeps, at_rest}
 
 answered : (mine : List Entry) (a b : Request) → Some a ≡ Some b → RowAllows seats.Agent mine a → RowAllows seats.Agent mine b
@@ -100,35 +101,16 @@ allowed op mine request own kept e = (own, row_allows op.step op mine request ke
 
 -- no call reads a whole kind
 
-abbrev ReadsNone : Option Request → Type 0
-ReadsNone None = ⊤
-ReadsNone (Some request) = ReadsNoKind request
-
-abbrev is_list : Request → Bool
-is_list (requests.List kind namespace) = true
-is_list request = false
-
-abbrev is_watch : Request → Bool
-is_watch (requests.Watch kind from) = true
-is_watch request = false
-
-no_kind : (request : Request) → is_list request ≡ false → is_watch request ≡ false → ReadsNoKind request
-no_kind request l w = record { lists = λ kind e. true≢false (sym (ap is_list e) ∙ l); watches = λ kind from e. true≢false (sym (ap is_watch e) ∙ w) }
-
-reads_none : (x : Option Request) (request : Request) → ReadsNone x → x ≡ Some request → ReadsNoKind request
-reads_none None request h e = none_some e
-reads_none (Some r) request h e = subst ReadsNoKind (one r request e) h
-
-step_reads_none : (step : AgentStep) (op : AgentOp) → ReadsNone (agent_call_at op step)
-step_reads_none (steps.ReadsClaim name) op = no_kind _ refl refl
-step_reads_none (steps.ReadsVolume name c) op = no_kind _ refl refl
-step_reads_none steps.MountsPod op = no_kind _ refl refl
-step_reads_none steps.Unmounts op = no_kind _ refl refl
-step_reads_none steps.ReadsMounts op = no_kind _ refl refl
-step_reads_none steps.Finishes op = no_kind _ refl refl
+step_reads_none : (step : AgentStep) (op : AgentOp) → IfSome (agent_call_at op step) ReadsNone
+step_reads_none (steps.ReadsClaim name) op = λ kind. refl
+step_reads_none (steps.ReadsVolume name c) op = λ kind. refl
+step_reads_none steps.MountsPod op = λ kind. refl
+step_reads_none steps.Unmounts op = λ kind. refl
+step_reads_none steps.ReadsMounts op = λ kind. refl
+step_reads_none steps.Finishes op = λ kind. refl
 step_reads_none steps.Done op = tt
 step_reads_none steps.Parked op = tt
 
 pub calls_read_no_kind : CallsReadNoKind
 unfolding agent_call
-calls_read_no_kind op request e = reads_none (agent_call_at op op.step) request (step_reads_none op.step op) e
+calls_read_no_kind op request e = reads_no_kind request (call_reads_none (agent_call_at op op.step) request e (step_reads_none op.step op))

@@ -2,7 +2,7 @@
 use Rattle.std.proofs.Common.{◌≡◌, ◌∙◌, ℕ, List, [], ◌∷◌, Bool, true, false, true≢false, Option, Some, None, inl, inr, refl, sym, ap, subst, slice_get, if◌then◌else◌}
 use Rattle.std.specs.Prelude.{◌++◌, ◌&&◌, bytes_eq, is_some}
 use Rattle.std.specs.List.{list_any}
-use Rattle.std.proofs.lemmas.Bool.{and_parts}
+use Rattle.std.proofs.lemmas.Bool.{and_parts, or_parts}
 use Rattle.std.proofs.lemmas.Slice.Eq.{bytes_eq-Decides}
 use Rattle.kube_types.specs.declared.key.Key.{Key}
 use Rattle.kube_types.specs.declared.uid.Uid.{Uid}
@@ -27,7 +27,6 @@ use Rattle.node_agent.specs.Agents.{agent_at, agent_begins, agent_call, agent_fo
 use Rattle.node_agent.specs.BeginLaw.{BegunAgentsHaveCalls}
 use Rattle.node_agent.specs.Evidence.{AgentKeeps, HasStarted, MayDecide, MayReadForPod, StartedBy}
 use Rattle.node_agent.proofs.Allowed.{newest_pod}
-use Rattle.node_agent.proofs.Gets.{neither_of}
 use Rattle.node_agent.proofs.Moves.{next_keeps}
 
 -- a pod that was told was told after the node was taken, by a list of all pods or after one
@@ -42,8 +41,8 @@ record IsCut (p : PodData) (entries : List Entry) : Type 0 where
 
 none_told : (P : PodData → Type 0) (mine : List Entry) → list_any tells_pod mine ≡ false → ToldPod P mine → ⊥
 none_told P [] none h = h
-none_told P (e ∷ mine) none (inl t) = true≢false (sym (telling P e t) ∙ (neither_of (tells_pod e) (list_any tells_pod mine) none).0)
-none_told P (e ∷ mine) none (inr h) = none_told P mine (neither_of (tells_pod e) (list_any tells_pod mine) none).1 h
+none_told P (e ∷ mine) none (inl t) = true≢false (sym (telling P e t) ∙ (or_parts (tells_pod e) (list_any tells_pod mine) none).0)
+none_told P (e ∷ mine) none (inr h) = none_told P mine (or_parts (tells_pod e) (list_any tells_pod mine) none).1 h
 
 cut : (p : PodData) (node : List ℕ) (mine : List Entry) → HasStarted node mine → ToldPod (λ q. q ≡ p) mine → IsCut p (since_epoch node mine)
 cut p node [] started h = absurd h

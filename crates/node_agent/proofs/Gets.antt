@@ -1,8 +1,9 @@
 -- What a live read, or a call that takes no node, leaves as it was.
 use Rattle.std.proofs.Common.{◌≡◌, ◌∙◌, ℕ, List, [], ◌∷◌, Bool, true, false, true≢false, Option, Some, None, refl, sym, ap, if◌then◌else◌}
-use Rattle.std.specs.Prelude.{◌&&◌, ◌||◌, not, bytes_eq, is_some}
+use Rattle.std.specs.Prelude.{◌||◌, not, bytes_eq, is_some}
 use Rattle.std.specs.List.{list_any}
 use Rattle.std.proofs.lemmas.Slice.Eq.{bytes_eq-Decides}
+use Rattle.std.proofs.lemmas.Bool.{and_from, and_right, or_parts}
 use Rattle.kube_types.specs.declared.key.Key.{Key}
 use Rattle.kube_types.specs.declared.uid.Uid.{Uid}
 use Rattle.kube_types.specs.declared.objects.Object.{Object}
@@ -20,28 +21,16 @@ use Rattle.node_agent.specs.declared.step.ReadyClaim.{ReadyClaim}
 use Rattle.node_agent.specs.Agents.{is_claim_read, is_volume_read}
 use Rattle.node_agent.specs.Evidence.{AreFoundReady, IsFoundReady}
 
-pub not_both : (a b : Bool) → b ≡ false → (a && b) ≡ false
-not_both true b e = e
-not_both false b e = refl
-
-pub both : (a b : Bool) → a ≡ true → b ≡ true → (a && b) ≡ true
-both true b p q = q
-both false b p q = absurd (true≢false (sym p))
-
-pub neither_of : (a b : Bool) → (a || b) ≡ false → (a ≡ false) × (b ≡ false)
-neither_of true b e = absurd (true≢false e)
-neither_of false b e = (refl, e)
-
 -- the last Get of a key
 
 last_past : (key : Key) (e : Entry) (mine : List Entry) → is_get_of key e.request ≡ false → last_get key (e ∷ mine) ≡ last_get key mine
-last_past key e mine other = ap (λ (b : Bool). if b then Some e.reply else last_get key mine) (not_both e.told (is_get_of key e.request) other)
+last_past key e mine other = ap (λ (b : Bool). if b then Some e.reply else last_get key mine) (and_right e.told (is_get_of key e.request) other)
 
 since_past : (key : Key) (e : Entry) (mine : List Entry) → is_get_of key e.request ≡ false → since_get key (e ∷ mine) ≡ e ∷ since_get key mine
-since_past key e mine other = ap (λ (b : Bool). if b then [] else e ∷ since_get key mine) (not_both e.told (is_get_of key e.request) other)
+since_past key e mine other = ap (λ (b : Bool). if b then [] else e ∷ since_get key mine) (and_right e.told (is_get_of key e.request) other)
 
 last_here : (key : Key) (e : Entry) (mine : List Entry) → e.told ≡ true → is_get_of key e.request ≡ true → last_get key (e ∷ mine) ≡ Some e.reply
-last_here key e mine told get = ap (λ (b : Bool). if b then Some e.reply else last_get key mine) (both e.told (is_get_of key e.request) told get)
+last_here key e mine told get = ap (λ (b : Bool). if b then Some e.reply else last_get key mine) (and_from e.told (is_get_of key e.request) told get)
 
 -- a told Get that found an object
 pub record IsFound (key : Key) (o : Object) (e : Entry) : Type 0 where
@@ -109,7 +98,7 @@ pub claims_past : (e : Entry) (recent : List Entry) (namespace new : List ℕ) (
 claims_past e recent namespace new [] names is unread all = tt
 claims_past e recent namespace new (r ∷ ready) [] is unread all = absurd all
 claims_past e recent namespace new (r ∷ ready) (name ∷ names) is unread all =
-    let apart = neither_of (bytes_eq r.claim new) (is_claim_read new ready) unread in
+    let apart = or_parts (bytes_eq r.claim new) (is_claim_read new ready) unread in
     let named : bytes_eq name new ≡ false = ap (λ (n : List ℕ). bytes_eq n new) (sym all.0.named) ∙ apart.0 in (
       read_past e recent namespace name r all.0 (other_key (claim_key namespace new) (claim_key namespace name) e is (other_claim namespace new name named)) (claim_asked namespace new r.volume e is),
       claims_past e recent namespace new ready names is apart.1 all.1,
@@ -120,7 +109,7 @@ pub volumes_past : (e : Entry) (recent : List Entry) (namespace new : List ℕ) 
 volumes_past e recent namespace new [] names is unread all = tt
 volumes_past e recent namespace new (r ∷ ready) [] is unread all = absurd all
 volumes_past e recent namespace new (r ∷ ready) (name ∷ names) is unread all =
-    let apart = neither_of (bytes_eq r.volume new) (is_volume_read new ready) unread in (
+    let apart = or_parts (bytes_eq r.volume new) (is_volume_read new ready) unread in (
       read_past e recent namespace name r all.0 (volume_asked namespace name new e is) (other_key (volume_key new) (volume_key r.volume) e is (other_volume new r.volume apart.0)),
       volumes_past e recent namespace new ready names is apart.1 all.1,
     )

@@ -20,10 +20,11 @@ use Rattle.call_types.specs.declared.reply.Reply.{Reply}
 use Rattle.call_types.specs.declared.reply.Reply.TheVariants as replies
 use Rattle.binder_model.specs.AgentLicence.{IsEndingPod, ListedPods, epoch_in, is_finish_of, is_pod_list, never_finished, since_epoch}
 use Rattle.binder_model.specs.Licence.{Licensed}
-use Rattle.binder_model.specs.Reading.{Following, IsFrom, ListedAt, Unlisted, follow_on, following_of, reached_on}
+use Rattle.binder_model.specs.Reading.{Following, IsFrom, Unlisted, follow_on, following_of, reached_on}
 use Rattle.binder_model.specs.Same.{same_uid}
 use Rattle.binder_model.specs.Told.{IsPodWith, ToldPod, objects_in}
 use Rattle.model_laws.proofs.Evidence.{told_map}
+use Rattle.model_laws.proofs.Follows.{watched_before}
 use Rattle.pod_law.specs.Deletion.{IsDeletingPod}
 use Rattle.pod_law.specs.Tellings.{is_pod, is_watch_of_pods}
 use Rattle.node_agent.specs.Evidence.{HasStarted, StartedBy}
@@ -61,10 +62,6 @@ untold_is_unfinished uid (e ∷ mine) licensed none = by (is_finish_of uid e.req
 
 -- the pods may be watched only where a list of all of them was told
 
-reached : (upto from : ℕ) (f : Following) (L : Type 0) → ((n : ℕ) → IsFrom n f → L) → IsFrom from (reached_on upto f) → L
-reached upto from Unlisted L rest h = absurd h
-reached upto from (ListedAt version seen) L rest h = rest version (inl refl)
-
 step_listed : (request : Request) (reply : Reply) (f : Following) (L : Type 0) (from : ℕ) → ((n : ℕ) → IsFrom n f → L) → IsFrom from (follow_on request reply kinds.Pod f) → (is_pod_list request reply ≡ true) ⊎ L
 step_listed (requests.List kinds.Pod None) (replies.Listed items version) f L from rest h = inl refl
 step_listed (requests.List kinds.Node None) (replies.Listed items version) f L from rest h = inr (rest from h)
@@ -74,7 +71,7 @@ step_listed (requests.List kinds.PersistentVolumeClaim None) (replies.Listed ite
 step_listed (requests.Watch k at) (replies.Events events) f L from rest h = by (same_kind k kinds.Pod) h
   where
     by : (b : Bool) → IsFrom from (if b then reached_on events.upto f else f) → (is_pod_list (requests.Watch k at) (replies.Events events) ≡ true) ⊎ L
-    by true x = inr (reached events.upto from f L rest x)
+    by true x = inr (watched_before events.upto from f L rest x)
     by false x = inr (rest from x)
 step_listed (requests.Watch k at) (replies.Refused (Gone oldest)) f L from rest h = by (same_kind k kinds.Pod) h
   where

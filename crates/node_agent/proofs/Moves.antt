@@ -1,7 +1,7 @@
 -- The evidence of a machine goes on with the answer to its call.
 use Rattle.std.proofs.Common.{◌≡◌, ◌∙◌, ℕ, List, [], ◌∷◌, Bool, true, false, true≢false, Option, Some, None, inl, inr, refl, sym, ap, subst, length, slice_get, if◌then◌else◌}
 use Rattle.std.specs.Prelude.{◌++◌, ◌&&◌, ◌==◌, not, bytes_eq}
-use Rattle.std.proofs.lemmas.Bool.{and_parts}
+use Rattle.std.proofs.lemmas.Bool.{and_parts, and_from, not-true}
 use Rattle.std.proofs.lemmas.Bool.Decides.{Decides-eqb}
 use Rattle.std.proofs.lemmas.Slice.Eq.{bytes_eq-Decides}
 use Rattle.kube_types.specs.declared.key.Key.{Key}
@@ -29,11 +29,7 @@ use Rattle.node_agent.specs.declared.step.AgentStep.TheVariants as steps
 use Rattle.node_agent.specs.declared.step.ReadyClaim.{ReadyClaim}
 use Rattle.node_agent.specs.Agents.{after_claim, after_last, after_mounts, after_unmount, agent_after, agent_call, agent_moved, agent_call_at, is_claim_read, is_agent_ready, is_volume_read, next_step, ready_by, ready_claim}
 use Rattle.node_agent.specs.Evidence.{AgentKeeps, AreFoundReady, IsFoundReady, MayEnd, MayReadForPod, MayReadClaim, MayReadVolume, StepKeeps, at_rest}
-use Rattle.node_agent.proofs.Gets.{IsFound, both, claim_past, claims_past, epoch_past, last_found, never_past, newest_past, no_epoch, since_epoch_past, volumes_past}
-
-opposite : (b : Bool) → not b ≡ true → b ≡ false
-opposite true h = sym h
-opposite false h = refl
+use Rattle.node_agent.proofs.Gets.{IsFound, claim_past, claims_past, epoch_past, last_found, never_past, newest_past, no_epoch, since_epoch_past, volumes_past}
 
 -- the evidence on the pod, after a Get that found an object, with these claims counted
 abbrev pod_past : (op : AgentOp) (mine : List Entry) (key : Key) (o : Object) (e : Entry) (ready : List ReadyClaim) → (m : MayReadForPod op mine) → IsFound key o e → AreFoundReady (e ∷ m.recent) op.pod.meta.namespace ready op.pod.claims → MayReadForPod (record op { ready = ready }) (e ∷ mine)
@@ -123,7 +119,7 @@ found_ready op name c v uid mine e kept f carried known =
         claim = c;
         read = past.0 ∙ kept.read;
         same = known;
-        staying = opposite (is_deleting c.meta) first.0;
+        staying = not-true (is_deleting c.meta) first.0;
         guarded = first.1;
         completed = middle.1;
         bound = front.1;
@@ -174,9 +170,9 @@ unmount_goes_on op mine e kept asked = by e.reply
 -- the list of the mounts that lacks the pod
 unmounted : (op : AgentOp) (mine : List Entry) (e : Entry) (rows : List MountRow) → epoch_in op.node e ≡ None → e.told ≡ true → e.request ≡ requests.Mounts op.node op.epoch → e.reply ≡ replies.Mounted rows → has_row op.uid rows ≡ false → was_told_unmounted op.node op.epoch op.uid (since_epoch op.node (e ∷ mine)) ≡ true
 unmounted op mine e rows none told asked is lacks =
-    let of_epoch : is_of_epoch op.node op.epoch e.request ≡ true = ap (is_of_epoch op.node op.epoch) asked ∙ both (bytes_eq op.node op.node) (op.epoch == op.epoch) ((bytes_eq-Decides op.node op.node).1 refl) ((Decides-eqb op.epoch op.epoch).1 refl) in
+    let of_epoch : is_of_epoch op.node op.epoch e.request ≡ true = ap (is_of_epoch op.node op.epoch) asked ∙ and_from (bytes_eq op.node op.node) (op.epoch == op.epoch) ((bytes_eq-Decides op.node op.node).1 refl) ((Decides-eqb op.epoch op.epoch).1 refl) in
     let lacking : lacks_pod op.uid e.reply ≡ true = ap (lacks_pod op.uid) is ∙ ap not lacks in
-    let all : (e.told && is_of_epoch op.node op.epoch e.request && lacks_pod op.uid e.reply) ≡ true = both (e.told && is_of_epoch op.node op.epoch e.request) (lacks_pod op.uid e.reply) (both e.told (is_of_epoch op.node op.epoch e.request) told of_epoch) lacking in
+    let all : (e.told && is_of_epoch op.node op.epoch e.request && lacks_pod op.uid e.reply) ≡ true = and_from (e.told && is_of_epoch op.node op.epoch e.request) (lacks_pod op.uid e.reply) (and_from e.told (is_of_epoch op.node op.epoch e.request) told of_epoch) lacking in
     ap (was_told_unmounted op.node op.epoch op.uid) (since_epoch_past op.node e mine none) ∙ first (e.told && is_of_epoch op.node op.epoch e.request && lacks_pod op.uid e.reply) _ all
   where
     first : (b x : Bool) → b ≡ true → (if b then true else x) ≡ true

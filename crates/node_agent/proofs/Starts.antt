@@ -2,6 +2,7 @@
 use Rattle.std.proofs.Common.{◌≡◌, ◌∙◌, ℕ, [], ◌∷◌, Bool, true, false, true≢false, Option, None, refl, sym, subst}
 use Rattle.std.specs.Prelude.{is_some}
 use Rattle.std.specs.List.{list_any}
+use Rattle.std.proofs.lemmas.Bool.{or_parts}
 use Rattle.binder_model.specs.AgentLicence.{epoch_in}
 use Rattle.node_agent.specs.declared.step.AgentStep.{AgentStep}
 use Rattle.node_agent.specs.declared.step.AgentStep.TheVariants as steps
@@ -9,14 +10,13 @@ use Rattle.node_agent.specs.Agents.{agent_call, agent_parks, agent_call_at}
 use Rattle.pod_law.specs.Tellings.{tells_pod}
 use Rattle.node_agent.specs.Evidence.{HasStarted, StartedBy}
 use Rattle.node_agent.specs.StartLaw.{ParkedAgentsHaveEnded, StartGoesOn, UntoldHasStarted}
-use Rattle.node_agent.proofs.Gets.{neither_of}
 
 pub untold_has_started : UntoldHasStarted
 untold_has_started node [] none = tt
 untold_has_started node (e ∷ mine) none = by (is_some (epoch_in node e)) (untold_has_started node mine)
   where
     apart : (tells_pod e ≡ false) × (list_any tells_pod mine ≡ false)
-    apart = neither_of (tells_pod e) (list_any tells_pod mine) none
+    apart = or_parts (tells_pod e) (list_any tells_pod mine) none
 
     by : (b : Bool) → (list_any tells_pod mine ≡ false → HasStarted node mine) → StartedBy b node e mine (HasStarted node mine)
     by true rest = none

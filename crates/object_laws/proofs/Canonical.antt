@@ -2,7 +2,7 @@
 use Rattle.std.proofs.Common.{ℕ, ◌≤◌, List, [], ◌∷◌, ◌++◌, false, true, Option, Some, None, codes, arith}
 use Rattle.serde_json.specs.Data.{Members, string}
 use Rattle.json_text.specs.Build.{Good, GoodMembers, GoodOption}
-use Rattle.json_text.proofs.Good.{good_put_all, good_object, good_string}
+use Rattle.json_text.proofs.Good.{good_put_all, good_object, good_string, good_object_of}
 use Rattle.kube_types.specs.Words.{mode_words}
 use Rattle.kube_types.specs.declared.parts.Modes.{Modes}
 use Rattle.kube_types.specs.declared.objects.Amount.{Amount}
@@ -22,7 +22,7 @@ use Rattle.object_print.specs.Objects.{class_back, class_data, pod_spec, pod_pai
 use Rattle.object_text.specs.declared.extra.Listed.{Listed}
 use Rattle.object_laws.specs.Given.{AreExtra, IsVolume, IsClaim, IsClass, IsNode, IsPod, IsGivenObject}
 use Rattle.object_laws.proofs.ExtraBack.{extra_back}
-use Rattle.object_laws.proofs.CanonicalParts.{good_object_of, good_filled, good_option, good_texts, good_filled_array, good_filled_pairs, good_filled_object, good_meta, good_modes, good_storage, good_requests, good_ref, good_source, good_node_terms, good_selector}
+use Rattle.object_laws.proofs.CanonicalParts.{good_filled, good_option, good_texts, good_filled_array, good_filled_pairs, good_filled_object, good_meta, good_modes, good_storage, good_requests, good_ref, good_source, good_node_terms, good_selector}
 
 good_extra : (n : ℕ) (known : Listed) (kept : List ℕ) (ms : Members) → n ≤ 126 → AreExtra n known kept ms → GoodMembers n (extra_members kept)
 good_extra n known kept ms le h = rw (extra_back n known kept ms le h) h.good

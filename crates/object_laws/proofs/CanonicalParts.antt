@@ -2,13 +2,14 @@
 use Rattle.std.proofs.Common.{ℕ, suc, List, [], ◌∷◌, ◌++◌, Bool, true, false, ◌==◌, Option, Some, None, if◌then◌else◌, decimal, codes, option_map}
 use Rattle.serde_json.specs.Data.{Data, string, Members, no_members, member}
 use Rattle.json_text.specs.Build.{put_some, Good, GoodItems, GoodMembers, GoodOption, GoodPairs}
-use Rattle.json_text.proofs.Good.{good_none, good_put_some, good_put_all, good_object, good_string, good_item, good_items, good_array}
+use Rattle.json_text.proofs.Good.{good_none, good_put_some, good_object, good_object_of, good_string, good_item, good_items, good_array}
 use Rattle.plain_data.specs.Pairs.{Pair}
 use Rattle.kube_types.specs.Words.{mode_words}
+use Rattle.kube_types.specs.declared.uid.Uid.{Uid}
 use Rattle.kube_types.specs.declared.parts.SourceKind.{SourceKind}
 use Rattle.kube_types.specs.declared.parts.SourceKind.TheVariants.{Csi, Nfs, Local, HostPath}
 use Rattle.kube_types.specs.declared.objects.Meta.{Meta}
-use Rattle.json_text.specs.Members.{MemberList, text, filled, counted, object_of, items_data, array_data, filled_array, put_pairs, filled_pairs, filled_object, within}
+use Rattle.json_text.specs.Members.{text, filled, counted, items_data, array_data, filled_array, put_pairs, filled_pairs, filled_object, within}
 use Rattle.object_print.specs.Metadata.{uid_data, filled_or_always, front_pairs, back_pairs, meta_data}
 use Rattle.object_print.specs.Parts.{modes_data, storage_pairs, storage_data, requests_data, ref_pairs, ref_data, source_pairs, source_data, expr_pairs, expr_data, term_pairs, term_data, node_terms_data, selector_pairs, selector_data}
 
@@ -17,9 +18,6 @@ abbrev pub AllGood : {X : Type 0} → ℕ → (X → Data) → Type 0
 AllGood {X = X} n data_of = (x : X) → Good n (data_of x)
 
 -- ---- the printing words
-
-pub good_object_of : (n : ℕ) (ps : MemberList) → GoodPairs n ps → Good (suc n) (object_of ps)
-good_object_of n ps h = good_object (good_put_all ps no_members h good_none)
 
 pub good_filled : (n : ℕ) (s : List ℕ) → GoodOption n (filled s)
 good_filled n [] = tt
@@ -70,6 +68,9 @@ good_within n k d h = good_object_of n ((k, Some d) ∷ []) (h, tt)
 good_uid : (n : ℕ) → AllGood n uid_data
 good_uid n u = good_string
 
+pub good_some_uid : (n : ℕ) (uid : Option Uid) → GoodOption n (option_map uid_data uid)
+good_some_uid n uid = good_option n uid_data uid (good_uid n)
+
 good_namespace : (n : ℕ) (b : Bool) (s : List ℕ) → GoodOption n (filled_or_always b s)
 good_namespace n true s = good_string
 good_namespace n false s = good_filled n s
@@ -78,7 +79,7 @@ pub good_meta : (n : ℕ) (b : Bool) (m : Meta) → Good (suc (suc n)) (meta_dat
 unfolding meta_data
 good_meta n b m =
     good_object_of (suc n) (front_pairs m ++ back_pairs b m)
-    (good_filled_pairs n m.annotations, (good_filled (suc n) m.created, (good_option (suc n) string m.deleted (good_texts (suc n)), (good_filled_array n string m.finalizers (good_texts n), (good_filled_pairs n m.labels, (good_string, (good_namespace (suc n) b m.namespace, (good_counted (suc n) m.version, (good_option (suc n) uid_data m.uid (good_uid (suc n)), tt)))))))))
+    (good_filled_pairs n m.annotations, (good_filled (suc n) m.created, (good_option (suc n) string m.deleted (good_texts (suc n)), (good_filled_array n string m.finalizers (good_texts n), (good_filled_pairs n m.labels, (good_string, (good_namespace (suc n) b m.namespace, (good_counted (suc n) m.version, (good_some_uid (suc n) m.uid, tt)))))))))
 
 -- ---- parts
 
@@ -96,7 +97,7 @@ good_requests n a = good_within (suc n) (codes "requests") (storage_data a) (goo
 
 pub good_ref : (n : ℕ) → AllGood (suc n) ref_data
 unfolding ref_data
-good_ref n r = good_object_of n (ref_pairs r) (good_string, (good_string, (good_option n uid_data r.uid (good_uid n), tt)))
+good_ref n r = good_object_of n (ref_pairs r) (good_string, (good_string, (good_some_uid n r.uid, tt)))
 
 good_source_pairs : (n : ℕ) (kind : SourceKind) (first second : List ℕ) → GoodPairs n (source_pairs kind first second)
 good_source_pairs n Csi first second = (good_string, (good_string, tt))

@@ -9,7 +9,7 @@ use Rattle.kube_types.specs.declared.parts.Kind.TheVariants as kinds
 use Rattle.kube_types.specs.declared.objects.Claim.{Claim as ClaimData}
 use Rattle.kube_types.specs.declared.objects.Object.{Object}
 use Rattle.kube_types.specs.declared.objects.Object.TheVariants.{Class, Node, Volume, Claim, Pod}
-use Rattle.kube_types.specs.Bindings.{has_name, is_deleting, is_protected_claim, pvc_protection}
+use Rattle.kube_types.specs.Bindings.{has_name, is_deleting, is_protected_claim, pvc_protection, uses}
 use Rattle.kube_types.specs.Keys.{key_of, row_at}
 use Rattle.kube_types.proofs.KeyOrder.{row_at_key}
 use Rattle.call_types.specs.declared.entry.Entry.{Entry}
@@ -21,7 +21,6 @@ use Rattle.call_types.specs.declared.request.SeatKind.{SeatKind}
 use Rattle.call_types.specs.declared.request.SeatKind.TheVariants as seats
 use Rattle.call_types.specs.declared.setup.Setup.{Setup}
 use Rattle.binder_model.specs.Due.{claim_guard_due}
-use Rattle.binder_model.specs.GuardLicence.{uses}
 use Rattle.binder_model.specs.Promises.{IsRunOf}
 use Rattle.binder_model.specs.Reading.{follows}
 use Rattle.binder_model.specs.Store.{has_no_names, leaves}

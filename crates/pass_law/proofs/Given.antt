@@ -14,7 +14,7 @@ use Rattle.call_types.specs.declared.request.Request.TheVariants as requests
 use Rattle.call_types.specs.declared.request.SeatKind.{SeatKind}
 use Rattle.call_types.specs.declared.request.SeatKind.TheVariants as seats
 use Rattle.call_types.specs.declared.setup.Setup.{Setup}
-use Rattle.binder_machines.specs.KindLaw.{reads_kind}
+use Rattle.call_types.specs.Kinds.{reads_kind}
 use Rattle.binder_model.specs.Answers.{list, outcome, reply_of}
 use Rattle.binder_model.specs.Devices.{device_answer}
 use Rattle.binder_model.specs.Reading.{Following, ListedAt, Unlisted, follows, following_of}

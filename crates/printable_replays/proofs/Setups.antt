@@ -1,10 +1,11 @@
 -- The setup of a script, and what its users ask, a text can give.
 use Rattle.std.proofs.Common.{refl, sym, subst, true≢false, arith}
 use Rattle.std.proofs.lemmas.Bool.Decides.{nat_tests}
-use Rattle.std.specs.Prelude.{◌≡◌, ℕ, ◌≤◌, ◌==◌, Bool, true, false, ◌&&◌, cond, nat_lt, nat_le, List, [], ◌∷◌, Option, Some, None, IfSome, All, Ok, if◌then◌else◌}
+use Rattle.std.specs.Prelude.{◌≡◌, ℕ, ◌≤◌, ◌==◌, Bool, true, false, cond, nat_lt, nat_le, List, [], ◌∷◌, Option, Some, None, IfSome, All, Ok, if◌then◌else◌}
 use Rattle.std.specs.declared.cmp.Ordering.TheVariants.{Less, Equal, Greater}
 use Rattle.std.specs.Ordering.{nat_cmp}
 use Rattle.std.proofs.lemmas.List.Elements.{All-nil, All-cons, All-head, All-tail}
+use Rattle.std.proofs.lemmas.Bool.{and_parts}
 use Rattle.plain_data.specs.Rows.{IsAfter, IsRising}
 use Rattle.quantity_text.specs.Quantity.{amount_of}
 use Rattle.quantity_text.proofs.Accepted.{amounts_are_of_the_grammar}
@@ -27,12 +28,8 @@ use Rattle.printable_replays.specs.Laws.{ScriptSetupsGive}
 
 -- ---- numbers
 
-both : (a b : Bool) → (a && b) ≡ true → (a ≡ true) × (b ≡ true)
-both true b h = (refl, h)
-both false b h = absurd (true≢false (sym h))
-
 pub count_most : (most n : ℕ) → IsCount most n → n ≤ most
-count_most most n h = le_of (nat_le n most) refl (both (nat_le 1 n) (nat_le n most) h).1
+count_most most n h = le_of (nat_le n most) refl (and_parts (nat_le 1 n) (nat_le n most) h).1
   where
     le_of : (b : Bool) → nat_le n most ≡ b → b ≡ true → n ≤ most
     le_of true is h = grind (arith, nat_tests)

@@ -1,6 +1,6 @@
 -- The next call of a machine is allowed by its evidence; and it reads no whole kind.
-use Rattle.std.proofs.Common.{◌≡◌, ◌∙◌, List, [], ◌∷◌, Bool, true, false, true≢false, Option, Some, None, refl, sym, ap, subst, if◌then◌else◌}
-use Rattle.std.specs.Prelude.{◌++◌, ◌||◌, not, bytes_eq, cond, is_some, ⊤}
+use Rattle.std.proofs.Common.{◌≡◌, ◌∙◌, List, [], ◌∷◌, Bool, true, false, Some, None, refl, sym, ap, subst, if◌then◌else◌}
+use Rattle.std.specs.Prelude.{◌++◌, ◌||◌, not, IfSome, bytes_eq, cond, is_some}
 use Rattle.std.specs.List.{list_any}
 use Rattle.std.proofs.Common.{ℕ}
 use Rattle.std.proofs.lemmas.List.Folds.{list_any-append}
@@ -8,12 +8,12 @@ use Rattle.std.proofs.lemmas.Slice.Eq.{bytes_eq-Decides}
 use Rattle.kube_types.specs.declared.parts.Kind.TheVariants as kinds
 use Rattle.kube_types.specs.declared.objects.Volume.{Volume as VolumeData}
 use Rattle.kube_types.specs.declared.objects.Claim.{Claim as ClaimData}
-use Rattle.kube_types.specs.declared.objects.Object.{Object}
 use Rattle.kube_types.specs.Bindings.{has_name, is_protected_claim, is_protected_volume, pv_protection, pvc_protection}
 use Rattle.call_types.specs.declared.entry.Entry.{Entry}
 use Rattle.call_types.specs.declared.request.Request.{Request}
-use Rattle.call_types.specs.declared.request.Request.TheVariants.{List as ListOf, Update, Watch}
+use Rattle.call_types.specs.declared.request.Request.TheVariants.{List as ListOf}
 use Rattle.call_types.specs.declared.request.SeatKind.TheVariants.{ClaimProtect, VolumeProtect}
+use Rattle.call_types.proofs.WholeKinds.{ReadsNone, call_reads_none, reads_no_kind}
 use Rattle.binder_model.specs.At.{IsWrittenAt}
 use Rattle.binder_model.specs.Edits.{without_name}
 use Rattle.binder_model.specs.GuardLicence.{MayUnguardClaim, MayUnguardVolume}
@@ -29,7 +29,7 @@ use Rattle.protect_sync.specs.declared.claims.ClaimGuardStep.TheVariants as clai
 use Rattle.protect_sync.specs.declared.volumes.VolumeGuardOp.{VolumeGuardOp}
 use Rattle.protect_sync.specs.declared.volumes.VolumeGuardStep.{VolumeGuardStep}
 use Rattle.protect_sync.specs.declared.volumes.VolumeGuardStep.TheVariants as volumes
-use Rattle.protect_sync.specs.BeginLaw.{ClaimCallsReadNoKind, ReadsNoKind, VolumeCallsReadNoKind}
+use Rattle.protect_sync.specs.BeginLaw.{ClaimCallsReadNoKind, VolumeCallsReadNoKind}
 use Rattle.protect_sync.specs.ClaimGuards as on_claims
 use Rattle.protect_sync.specs.ClaimGuards.{claim_guard_call, guarded_claim, list_call, unguarded_claim}
 use Rattle.protect_sync.specs.Evidence.{ClaimKeeps, ClaimStepKeeps, MayAdd, MayAddVolume, MayDrop, MayDropVolume, MayList, VolumeKeeps, VolumeStepKeeps}
@@ -132,53 +132,27 @@ volume_allowed op mine request own kept e = (own, volume_row op.step op.volume m
 
 -- no call reads a whole kind
 
-abbrev ReadsNone : Option Request → Type 0
-ReadsNone None = ⊤
-ReadsNone (Some request) = ReadsNoKind request
-
-abbrev is_list : Request → Bool
-is_list (ListOf kind namespace) = true
-is_list request = false
-
-abbrev is_whole : Request → Bool
-is_whole (ListOf kind None) = true
-is_whole request = false
-
-abbrev is_watch : Request → Bool
-is_watch (Watch kind from) = true
-is_watch request = false
-
-written : (o : Object) (version : Option ℕ) → ReadsNoKind (Update o version)
-written o version = record { lists = λ kind e. true≢false (sym (ap is_list e)); watches = λ kind from e. true≢false (sym (ap is_watch e)) }
-
-listed : (namespace : List ℕ) → ReadsNoKind (ListOf kinds.Pod (Some namespace))
-listed namespace = record { lists = λ kind e. true≢false (sym (ap is_whole e)); watches = λ kind from e. true≢false (ap is_list e) }
-
-reads_none : (x : Option Request) (request : Request) → ReadsNone x → x ≡ Some request → ReadsNoKind request
-reads_none None request h e = none_some e
-reads_none (Some r) request h e = subst ReadsNoKind (one r request e) h
-
-claim_reads_none : (step : ClaimGuardStep) (c : ClaimData) → ReadsNone (on_claims.claim_guard_call_at step c)
-claim_reads_none claims.Adds c = written _ _
-claim_reads_none claims.Drops c = written _ _
+claim_reads_none : (step : ClaimGuardStep) (c : ClaimData) → IfSome (on_claims.claim_guard_call_at step c) ReadsNone
+claim_reads_none claims.Adds c = λ kind. refl
+claim_reads_none claims.Drops c = λ kind. refl
 claim_reads_none claims.Done c = tt
 claim_reads_none claims.Parked c = tt
 claim_reads_none claims.ListsPods c = by (is_some c.meta.uid)
   where
-    by : (b : Bool) → ReadsNone (if b then Some (ListOf kinds.Pod (Some c.meta.namespace)) else None)
-    by true = listed c.meta.namespace
+    by : (b : Bool) → IfSome (if b then Some (ListOf kinds.Pod (Some c.meta.namespace)) else None) ReadsNone
+    by true = λ kind. refl
     by false = tt
 
 pub claim_calls_read_no_kind : ClaimCallsReadNoKind
 unfolding claim_guard_call
-claim_calls_read_no_kind op request e = reads_none (on_claims.claim_guard_call_at op.step op.claim) request (claim_reads_none op.step op.claim) e
+claim_calls_read_no_kind op request e = reads_no_kind request (call_reads_none (on_claims.claim_guard_call_at op.step op.claim) request e (claim_reads_none op.step op.claim))
 
-volume_reads_none : (step : VolumeGuardStep) (v : VolumeData) → ReadsNone (on_volumes.volume_guard_call_at step v)
-volume_reads_none volumes.Adds v = written _ _
-volume_reads_none volumes.Drops v = written _ _
+volume_reads_none : (step : VolumeGuardStep) (v : VolumeData) → IfSome (on_volumes.volume_guard_call_at step v) ReadsNone
+volume_reads_none volumes.Adds v = λ kind. refl
+volume_reads_none volumes.Drops v = λ kind. refl
 volume_reads_none volumes.Done v = tt
 volume_reads_none volumes.Parked v = tt
 
 pub volume_calls_read_no_kind : VolumeCallsReadNoKind
 unfolding volume_guard_call
-volume_calls_read_no_kind op request e = reads_none (on_volumes.volume_guard_call_at op.step op.volume) request (volume_reads_none op.step op.volume) e
+volume_calls_read_no_kind op request e = reads_no_kind request (call_reads_none (on_volumes.volume_guard_call_at op.step op.volume) request e (volume_reads_none op.step op.volume))

@@ -10,12 +10,11 @@ use Rattle.kube_types.specs.declared.objects.Volume.{Volume as VolumeData}
 use Rattle.kube_types.specs.declared.objects.Claim.{Claim as ClaimData}
 use Rattle.kube_types.specs.declared.objects.Object.{Object}
 use Rattle.kube_types.specs.declared.objects.Object.TheVariants.{Class, Node, Volume, Claim, Pod}
-use Rattle.kube_types.specs.Bindings.{is_bound, is_deleting, is_protected_claim, is_protected_volume}
+use Rattle.kube_types.specs.Bindings.{is_bound, is_deleting, is_protected_claim, is_protected_volume, uses}
 use Rattle.kube_types.specs.Keys.{row_at}
 use Rattle.call_types.specs.declared.entry.Entry.{Entry}
 use Rattle.call_types.specs.declared.request.Request.TheVariants.{List as ListOf}
 use Rattle.binder_model.specs.Due.{claim_guard_due, guard_due, volume_guard_due}
-use Rattle.binder_model.specs.GuardLicence.{uses}
 use Rattle.binder_model.specs.Told.{ToldClaim, ToldVolume}
 use Rattle.informer_cache.specs.All.{AllKnown, AllStandFor, all_objects}
 use Rattle.model_laws.proofs.Lists.{none_some, one}

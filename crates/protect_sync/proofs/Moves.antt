@@ -12,7 +12,8 @@ use Rattle.call_types.specs.declared.request.Request.{Request}
 use Rattle.call_types.specs.declared.request.Request.TheVariants.{List as ListOf}
 use Rattle.call_types.specs.declared.reply.Reply.{Reply}
 use Rattle.call_types.specs.declared.reply.Reply.TheVariants as replies
-use Rattle.binder_model.specs.GuardLicence.{IsDeletingVersion, IsPodList, TellsUnused, uses}
+use Rattle.kube_types.specs.Bindings.{uses}
+use Rattle.binder_model.specs.GuardLicence.{IsDeletingVersion, IsPodList, TellsUnused}
 use Rattle.model_laws.proofs.Evidence.{told_claim}
 use Rattle.model_laws.proofs.Lists.{none_some, one}
 use Rattle.protect_sync.specs.declared.claims.ClaimGuardOp.{ClaimGuardOp}

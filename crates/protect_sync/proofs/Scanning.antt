@@ -6,7 +6,7 @@ use Rattle.kube_types.specs.declared.objects.Claim.{Claim as ClaimData}
 use Rattle.kube_types.specs.declared.objects.Object.{Object}
 use Rattle.kube_types.specs.declared.objects.Object.TheVariants.{Class, Node, Volume, Claim, Pod}
 use Rattle.kube_types.specs.Keys.{is_of_kind, rows_of}
-use Rattle.binder_model.specs.GuardLicence.{uses}
+use Rattle.kube_types.specs.Bindings.{uses}
 use Rattle.protect_sync.specs.Steps.Pods.{is_used_by}
 
 others_use_none : (c : ClaimData) (o : Object) → is_of_kind kinds.Pod o ≡ false → uses c o ≡ false

@@ -1,12 +1,11 @@
 -- On a look-up whose objects have UIDs each machine that begins has a next call; and no call lists or watches a whole kind, so that none
 -- counts as a read of the actor's own. A choice of this project.
-use Rattle.std.specs.Prelude.{ℕ, ◌≡◌, ◌≢◌, true, List, Option, Some, None, is_some}
+use Rattle.std.specs.Prelude.{◌≡◌, true, List, Option, Some, None, is_some}
 use Rattle.kube_types.specs.declared.key.Key.{Key}
-use Rattle.kube_types.specs.declared.parts.Kind.{Kind}
 use Rattle.kube_types.specs.declared.objects.Object.{Object}
 use Rattle.kube_types.specs.Keys.{meta_of, row_at}
 use Rattle.call_types.specs.declared.request.Request.{Request}
-use Rattle.call_types.specs.declared.request.Request.TheVariants as requests
+use Rattle.call_types.specs.Kinds.{ReadsNoKind}
 use Rattle.protect_sync.specs.declared.claims.ClaimGuardOp.{ClaimGuardOp}
 use Rattle.protect_sync.specs.declared.volumes.VolumeGuardOp.{VolumeGuardOp}
 use Rattle.protect_sync.specs.ClaimGuards.{claim_guard_call, claim_parks}
@@ -22,11 +21,6 @@ BegunClaimsHaveCalls = (rows : List Object) (key : Key) (op : ClaimGuardOp) → 
 
 abbrev pub BegunVolumesHaveCalls : Type 0
 BegunVolumesHaveCalls = (row : Option Object) (op : VolumeGuardOp) → volume_guard_begins row ≡ Some op → is_some (volume_guard_call op) ≡ true
-
--- the request neither lists nor watches a whole kind
-pub record ReadsNoKind (request : Request) : Type 0 where
-  pub lists : (kind : Kind) → request ≢ requests.List kind None
-  pub watches : (kind : Kind) (from : ℕ) → request ≢ requests.Watch kind from
 
 abbrev pub ClaimCallsReadNoKind : Type 0
 ClaimCallsReadNoKind = (op : ClaimGuardOp) (request : Request) → claim_guard_call op ≡ Some request → ReadsNoKind request

@@ -5,12 +5,12 @@ use Rattle.std.specs.List.{list_any}
 use Rattle.kube_types.specs.declared.parts.Kind.TheVariants as kinds
 use Rattle.kube_types.specs.declared.objects.Claim.{Claim as ClaimData}
 use Rattle.kube_types.specs.declared.objects.Object.TheVariants.{Claim}
-use Rattle.kube_types.specs.Bindings.{pvc_protection}
+use Rattle.kube_types.specs.Bindings.{pvc_protection, uses}
 use Rattle.call_types.specs.declared.request.Request.{Request}
 use Rattle.call_types.specs.declared.request.Request.TheVariants.{List as ListOf, Update}
 use Rattle.call_types.specs.declared.reply.Reply.{Reply}
 use Rattle.call_types.specs.declared.reply.Reply.TheVariants.{Listed, Refused}
-use Rattle.binder_model.specs.GuardLicence.{guarded_meta, unguarded_meta, uses}
+use Rattle.binder_model.specs.GuardLicence.{guarded_meta, unguarded_meta}
 use Rattle.protect_sync.specs.declared.claims.ClaimGuardOp.{ClaimGuardOp}
 use Rattle.protect_sync.specs.declared.claims.ClaimGuardStep.{ClaimGuardStep}
 use Rattle.protect_sync.specs.declared.claims.ClaimGuardStep.TheVariants as steps

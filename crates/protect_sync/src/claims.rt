@@ -7,10 +7,9 @@ ghost use Rattle.protect_sync.specs.ClaimGuards.{claim_guard_call, claim_moved, 
 ghost use Rattle.protect_sync.specs.Decisions.{claim_guard_for};
 
 use crate::names::with_name;
-use crate::uses::some_uses;
 use call_types::reply::Reply;
 use call_types::request::Request;
-use kube_types::bindings::{PVC_PROTECTION, is_deleting, is_protected_claim};
+use kube_types::bindings::{PVC_PROTECTION, is_deleting, is_protected_claim, some_uses};
 use kube_types::copies::{OutOfMemory, Plain};
 use kube_types::objects::{Claim, Object};
 use kube_types::parts::Kind;

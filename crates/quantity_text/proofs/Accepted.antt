@@ -1,6 +1,6 @@
 -- What is read as an amount is what the grammar says.
 use Rattle.std.proofs.Common.{◌≡◌, ℕ, ◌+◌, ◌-◌, ◌<◌, ◌≤◌, true, false, ◌&&◌, cond, eqb, subst, ◌≢◌, ◌⊎◌, inl, inr, List, [], ◌∷◌, ◌++◌, length, Option, Some, None, Ok, Err, refl, sym, ap, ◌∙◌, arith, append_assoc}
-use Rattle.std.proofs.lemmas.Bool.{cases_eq}
+use Rattle.std.proofs.lemmas.Bool.{cases_eq, and_parts}
 use Rattle.std.proofs.lemmas.Bool.Decides.{nat_tests}
 use Rattle.std.specs.List.{list_all, prefix_len}
 use Rattle.std.specs.Char.{is_ascii_digit}
@@ -9,7 +9,7 @@ use Rattle.quantity_text.specs.declared.scales.Scale.{Scale}
 use Rattle.kube_types.specs.Bindings.{is_empty}
 use Rattle.quantity_text.specs.Quantity.{after_digits, after_fraction, amount_of, digits_at, fraction_at, lacks_number, named_scales, parts_of, refuse, scale_of, scaled, scaled_by, unsigned_amount}
 use Rattle.quantity_text.specs.Grammar.{AmountsAreOfTheGrammar, HasValue, IsAmount, IsNumber, IsSigned, IsSuffix}
-use Rattle.quantity_text.proofs.DigitFacts.{both, in_range}
+use Rattle.quantity_text.proofs.DigitFacts.{in_range}
 use Rattle.quantity_text.proofs.Endings.{each_row, suffix_found, suffix_is}
 use Rattle.quantity_text.proofs.Fronts.{IsWritten, digits_then, written}
 use Rattle.quantity_text.proofs.Longest.{numbers_are_the_longest}
@@ -124,7 +124,7 @@ first_byte number [] fraction w = by w.text
 first_byte number (d ∷ ds) fraction w = by w.text
   where
     range : (48 ≤ d) × (d ≤ 57)
-    range = in_range d (both (is_ascii_digit d) (list_all is_ascii_digit ds) w.before).0
+    range = in_range d (and_parts (is_ascii_digit d) (list_all is_ascii_digit ds) w.before).0
 
     no : (eqb d 45 ≡ false) × (eqb d 43 ≡ false)
     no = let r = range in (grind (arith, nat_tests), grind (arith, nat_tests))

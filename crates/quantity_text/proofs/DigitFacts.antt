@@ -1,8 +1,8 @@
 -- Digits and the numbers that they write.
-use Rattle.std.proofs.Common.{◌≡◌, ℕ, suc, ◌+◌, ◌-◌, ltb, leb, eqb, subst, ◌*◌, ◌^◌, ◌<◌, ◌≤◌, Bool, true, false, ◌&&◌, cond, ◌⊎◌, inl, inr, ◌≢◌, lit<, List, [], ◌∷◌, ◌++◌, length, drop, get_or, refl, sym, ap, ◌∙◌, arith, drop-cons, add-one}
+use Rattle.std.proofs.Common.{◌≡◌, ℕ, suc, ◌+◌, ◌-◌, ltb, leb, eqb, subst, ◌*◌, ◌^◌, ◌<◌, ◌≤◌, Bool, true, false, cond, ◌⊎◌, inl, inr, ◌≢◌, lit<, List, [], ◌∷◌, ◌++◌, length, drop, get_or, refl, sym, ap, ◌∙◌, arith, drop-cons, add-one}
 use Rattle.std.proofs.lemmas.Bool.Decides.{nat_tests}
 use Rattle.std.proofs.lemmas.Str.{digit_value_digit}
-use Rattle.std.proofs.lemmas.Bool.{cases_lt, cases_eq}
+use Rattle.std.proofs.lemmas.Bool.{cases_lt, cases_eq, and_parts}
 use Rattle.std.proofs.lemmas.Int.Digits.{digits_value-lt}
 use Rattle.std.proofs.Math.Nat.{mul-le-mul_right, pow-le-pow_right, pow-suc}
 use Rattle.std.specs.List.{list_all, prefix_len}
@@ -11,11 +11,6 @@ use Rattle.std.specs.Char.{is_ascii_digit, digit_value}
 use Rattle.std.specs.Str.Parse.{AllDigits, digits_value_after, digits_value}
 use Rattle.quantity_text.specs.Steps.Capped.{capped}
 use Rattle.quantity_text.specs.Quantity.{digits_at, fraction_at, is_zero_digit, without_zeros}
-
-pub both : (a b : Bool) → (a && b) ≡ true → (a ≡ true) × (b ≡ true)
-both true true e = (refl, refl)
-both true false e = cc
-both false b e = cc
 
 pub in_range : (c : ℕ) → is_ascii_digit c ≡ true → IsInRange 48 57 c
 in_range c e = grind (arith, nat_tests)
@@ -33,7 +28,7 @@ pub value_step : (n : ℕ) (ds : List ℕ) (i : ℕ) → i < length ds → list_
     → (IsInRange 48 57 (get_or ds i 0)) × (list_all is_ascii_digit (drop (i + 1) ds) ≡ true) × (digits_value_after 10 n (drop i ds) ≡ digits_value_after 10 (n * 10 + (get_or ds i 0 - 48)) (drop (i + 1) ds))
 value_step n ds i within are =
     let cut = drop-cons ds i 0 within in
-    let parts = both _ _ (rw cut at are) in
+    let parts = and_parts _ _ (rw cut at are) in
     (in_range _ parts.0, rw add-one parts.1, rw (cut, add-one) (ap (λ k. digits_value_after 10 (n * 10 + k) (drop (suc i) ds)) (value_is _ parts.0)))
 
 pub number_at_limit : (n : ℕ) (ds : List ℕ) → 1_000_000_000_000_000_000 ≤ n → capped (digits_value_after 10 n ds) ≡ 1_000_000_000_000_000_000
@@ -45,7 +40,7 @@ after_append n (x ∷ xs) ys = after_append (n * 10 + digit_value x) xs ys
 
 pub all_append : (p : ℕ → Bool) (xs ys : List ℕ) → list_all p xs ≡ true → list_all p ys ≡ true → list_all p (xs ++ ys) ≡ true
 all_append p [] ys left right = right
-all_append p (x ∷ xs) ys left right = let parts = both (p x) (list_all p xs) left in rw (parts.0, all_append p xs ys parts.1 right) refl
+all_append p (x ∷ xs) ys left right = let parts = and_parts (p x) (list_all p xs) left in rw (parts.0, all_append p xs ys parts.1 right) refl
 
 -- capping a number before more digits makes no difference
 pub capped_front : (a : ℕ) (ds : List ℕ) → capped (digits_value_after 10 (capped a) ds) ≡ capped (digits_value_after 10 a ds)
@@ -70,7 +65,7 @@ places_le n (d ∷ ds) = rw (pow-suc 10 (length ds)) (place_more n (digit_value 
 
 pub all_digits : (ds : List ℕ) → list_all is_ascii_digit ds ≡ true → AllDigits 10 ds
 all_digits [] e = tt
-all_digits (d ∷ ds) e = let parts = both _ _ e in let range = in_range d parts.0 in let value = value_is d parts.0 in (omega arith, all_digits ds parts.1)
+all_digits (d ∷ ds) e = let parts = and_parts _ _ e in let range = in_range d parts.0 in let value = value_is d parts.0 in (omega arith, all_digits ds parts.1)
 
 -- 19 digits or more without leading zeros are those of a number from 10^18 on
 pub many_first : (d : ℕ) (ds : List ℕ) → is_ascii_digit d ≡ true → list_all is_ascii_digit ds ≡ true → d ≢ 48 → ltb 18 (length (d ∷ ds)) ≡ leb 1_000_000_000_000_000_000 (digits_value 10 (d ∷ ds))
@@ -106,13 +101,13 @@ without_none d ds other = let no : eqb d 48 ≡ false = grind (arith, nat_tests)
 
 pub too_many : (ds : List ℕ) → list_all is_ascii_digit ds ≡ true → ltb 18 (length (without_zeros ds)) ≡ leb 1_000_000_000_000_000_000 (digits_value 10 ds)
 too_many [] e = refl
-too_many (d ∷ ds) e = by (cases_eq d 48) (too_many ds (both _ _ e).1)
+too_many (d ∷ ds) e = by (cases_eq d 48) (too_many ds (and_parts _ _ e).1)
   where
     by : (d ≡ 48) ⊎ (d ≢ 48) → ltb 18 (length (without_zeros ds)) ≡ leb 1_000_000_000_000_000_000 (digits_value 10 ds) → ltb 18 (length (without_zeros (d ∷ ds))) ≡ leb 1_000_000_000_000_000_000 (digits_value 10 (d ∷ ds))
     by (inl zero_digit) rest =
         let P : ℕ → Type 0 = λ k. ltb 18 (length (without_zeros (k ∷ ds))) ≡ leb 1_000_000_000_000_000_000 (digits_value 10 (k ∷ ds)) in
         subst P (sym zero_digit) (ap (λ ks. ltb 18 (length ks)) (without_zero ds) ∙ rest)
-    by (inr other) rest = let parts = both _ _ e in ap (λ ks. ltb 18 (length ks)) (without_none d ds other) ∙ many_first d ds parts.0 parts.1 other
+    by (inr other) rest = let parts = and_parts _ _ e in ap (λ ks. ltb 18 (length ks)) (without_none d ds other) ∙ many_first d ds parts.0 parts.1 other
 
 pub digits_are : (text : List ℕ) → list_all is_ascii_digit (digits_at text) ≡ true
 digits_are [] = refl

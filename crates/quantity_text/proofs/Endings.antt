@@ -2,7 +2,7 @@
 use Rattle.std.proofs.Common.{◌≡◌, ℕ, Bool, true, false, eqb, subst, ◌≢◌, ◌⊎◌, inl, inr, List, [], ◌∷◌, Option, Some, None, refl, sym, ap, ◌∙◌, arith}
 use Rattle.std.specs.Prelude.{bytes_eq, option_map}
 use Rattle.std.specs.Option.{option_or}
-use Rattle.std.proofs.lemmas.Bool.{cases_eq}
+use Rattle.std.proofs.lemmas.Bool.{cases_eq, and_parts}
 use Rattle.std.proofs.lemmas.Bool.Decides.{nat_tests}
 use Rattle.std.proofs.lemmas.Slice.Eq.{bytes_eq-Decides}
 use Rattle.std.specs.List.{list_all}
@@ -12,7 +12,7 @@ use Rattle.quantity_text.specs.declared.scales.Scale.{Scale}
 use Rattle.quantity_text.specs.declared.scales.Scale.TheVariants.{Decimal, Fraction}
 use Rattle.quantity_text.specs.Quantity.{exponent_of, exponent_scale, named_scales, scale_named, scale_of, signed_exponent}
 use Rattle.quantity_text.specs.Grammar.{IsDigits, IsExponent, IsOneOf, IsSigned, IsSuffix, SuffixesAreOfTheGrammar}
-use Rattle.quantity_text.proofs.DigitFacts.{both, in_range}
+use Rattle.quantity_text.proofs.DigitFacts.{in_range}
 
 -- the names
 abbrev pub Row : Type 0
@@ -116,7 +116,7 @@ behind_letter letter x xs scale is other e =
 
 unsigned_read : (d : ℕ) (ds : List ℕ) → IsDigits (d ∷ ds) → signed_exponent (d ∷ ds) ≡ Some (Decimal (digits_value 10 (d ∷ ds)))
 unsigned_read d ds is =
-    let range = in_range d (both (is_ascii_digit d) (list_all is_ascii_digit ds) is.1).0 in
+    let range = in_range d (and_parts (is_ascii_digit d) (list_all is_ascii_digit ds) is.1).0 in
     let no : eqb d 43 ≡ false = grind (arith, nat_tests) in
     let no_minus : eqb d 45 ≡ false = grind (arith, nat_tests) in
     rw (no, no_minus) (ap (option_map Decimal) (digits_are_read (d ∷ ds) is))
@@ -124,7 +124,7 @@ unsigned_read d ds is =
 exponent_is : (text digits : List ℕ) (letter : ℕ) (scale : Scale) → (letter ≡ 101) ⊎ (letter ≡ 69) → IsDigits digits → IsSigned text letter digits scale → scale_of text ≡ Some scale
 exponent_is text [] letter scale is digits signed = absurd (omega (arith, digits.0))
 exponent_is text (d ∷ ds) letter scale is digits (inl e) =
-    let range = in_range d (both (is_ascii_digit d) (list_all is_ascii_digit ds) digits.1).0 in
+    let range = in_range d (and_parts (is_ascii_digit d) (list_all is_ascii_digit ds) digits.1).0 in
     let other : d ≢ 105 = omega arith in
     ap scale_of e.0 ∙ behind_letter letter d ds scale is other (unsigned_read d ds digits ∙ ap Some (sym e.1))
 exponent_is text (d ∷ ds) letter scale is digits (inr (inl e)) =

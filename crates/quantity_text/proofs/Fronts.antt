@@ -5,15 +5,15 @@ use Rattle.std.proofs.lemmas.List.Sums.{prefix_len-le-length}
 use Rattle.std.proofs.Math.Seq.{drop-append_seam, take-append_seam}
 use Rattle.std.specs.List.{list_all, prefix_len}
 use Rattle.std.specs.Char.{is_ascii_digit}
+use Rattle.std.proofs.lemmas.Bool.{and_parts}
 use Rattle.kube_types.specs.Bindings.{is_empty}
 use Rattle.quantity_text.specs.Quantity.{after_digits, digits_at}
 use Rattle.quantity_text.specs.Grammar.{IsNumber}
-use Rattle.quantity_text.proofs.DigitFacts.{both}
 
 pub front_count : (ds rest : List ℕ) → list_all is_ascii_digit ds ≡ true → prefix_len is_ascii_digit (ds ++ rest) ≡ length ds + prefix_len is_ascii_digit rest
 front_count [] rest e = omega arith
 front_count (d ∷ ds) rest e =
-    let parts = both (is_ascii_digit d) (list_all is_ascii_digit ds) e in
+    let parts = and_parts (is_ascii_digit d) (list_all is_ascii_digit ds) e in
     let more = front_count ds rest parts.1 in
     rw parts.0 (omega arith)
 

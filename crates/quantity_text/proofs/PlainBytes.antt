@@ -6,12 +6,13 @@ use Rattle.std.proofs.lemmas.Bool.Decides.{nat_tests}
 use Rattle.std.proofs.lemmas.Str.{IsUtf8-from_ascii}
 use Rattle.std.specs.List.{list_all}
 use Rattle.std.specs.Char.{is_ascii, is_ascii_digit}
+use Rattle.std.proofs.lemmas.Bool.{and_parts}
 use Rattle.quantity_text.specs.declared.errors.AmountError.{AmountError}
 use Rattle.quantity_text.specs.declared.scales.Scale.{Scale}
 use Rattle.quantity_text.specs.Quantity.{amount_of, named_scales}
 use Rattle.quantity_text.specs.Grammar.{IsSigned, IsSuffix}
 use Rattle.quantity_text.proofs.Accepted.{amount_found}
-use Rattle.quantity_text.proofs.DigitFacts.{all_append, both, in_range}
+use Rattle.quantity_text.proofs.DigitFacts.{all_append, in_range}
 use Rattle.quantity_text.proofs.Endings.{each_row}
 use Rattle.quantity_text.proofs.Fronts.{IsWritten, written}
 
@@ -21,7 +22,7 @@ IsPlain bs = list_all is_ascii bs ≡ true
 digits_plain : (ds : List ℕ) → list_all is_ascii_digit ds ≡ true → IsPlain ds
 digits_plain [] e = refl
 digits_plain (d ∷ ds) e =
-    let parts = both (is_ascii_digit d) (list_all is_ascii_digit ds) e in
+    let parts = and_parts (is_ascii_digit d) (list_all is_ascii_digit ds) e in
     let range = in_range d parts.0 in
     let small : ltb d 128 ≡ true = grind (arith, nat_tests) in
     rw (small, digits_plain ds parts.1) refl
@@ -60,8 +61,8 @@ sign_plain sign (inr e) = rw e refl
 
 each_plain : (bs : List ℕ) → IsPlain bs → IsAscii bs
 each_plain [] e i = omega arith
-each_plain (b ∷ bs) e zero = let parts = both (ltb b 128) (list_all is_ascii bs) e in let test = parts.0 in grind (arith, nat_tests)
-each_plain (b ∷ bs) e (suc i) = each_plain bs (both (ltb b 128) (list_all is_ascii bs) e).1 i
+each_plain (b ∷ bs) e zero = let parts = and_parts (ltb b 128) (list_all is_ascii bs) e in let test = parts.0 in grind (arith, nat_tests)
+each_plain (b ∷ bs) e (suc i) = each_plain bs (and_parts (ltb b 128) (list_all is_ascii bs) e).1 i
 
 amount_plain : (text : List ℕ) (n : ℕ) → amount_of text ≡ Ok n → IsPlain text
 amount_plain text n e =

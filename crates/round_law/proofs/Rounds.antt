@@ -1,6 +1,7 @@
 -- A round with an actor that acts has an entry that lasts.
 use Rattle.std.proofs.Common.{◌≡◌, ◌∙◌, ◌⊎◌, ℕ, zero, suc, List, [], ◌∷◌, ◌++◌, append_assoc, Bool, true, false, Some, inl, inr, refl, sym, ap, subst, ◌-◌, ◌<◌, arith}
 use Rattle.std.specs.Prelude.{slice_get, ⊤}
+use Rattle.std.proofs.lemmas.Bool.{and_parts}
 use Rattle.call_types.specs.declared.entry.Entry.{Entry}
 use Rattle.call_types.specs.declared.setup.Setup.{Setup}
 use Rattle.binder_model.specs.World.{IsHistory, world}
@@ -11,7 +12,7 @@ use Rattle.worker_threads.specs.declared.drainers.Drainer.{Drainer}
 use Rattle.worker_threads.specs.Drainers.{seats_of}
 use Rattle.worker_threads.specs.Longer.{GrowsWithin}
 use Rattle.worker_threads.specs.Rounds.{Ends, IsRound, Lets, Runs, Turns}
-use Rattle.worker_threads.proofs.RoundFacts.{both, round_grows}
+use Rattle.worker_threads.proofs.RoundFacts.{round_grows}
 use Rattle.worker_threads.proofs.RunFacts.{run_grows}
 use Rattle.write_law.specs.Lasting.{HasLasting, LastsBetween}
 use Rattle.alike_law.specs.Alike.{AreAlike}
@@ -42,7 +43,7 @@ module _ (setup : Setup) (lets : Lets) (past : List Entry) (left : ℕ) (history
       → (place : ℕ) → slice_get ds place ≡ Some d → ((i : ℕ) (other : Drainer) → i < place → slice_get ds i ≡ Some other → Other other) → ((x : Drainer) → slice_get after place ≡ Some x → Awake x) → HasLasting setup h past
   rounds_kept _ h b _ _ (Ends entries rest) is_whole alike kept place there apart awake = none_some there
   rounds_kept _ h b _ _ (Turns {ds = ds} {after = after} {whole = whole} first ran middle rest idle seat run more) is_whole alike kept zero there apart awake =
-      let parts = both idle whole is_whole in
+      let parts = and_parts idle whole is_whole in
       let g = round_grows lets past left ds middle rest after whole more in
       let same : first ≡ d = one first d there in
       let ran_idle : Runs lets d.seat ran.actor middle rest true (woken d.actor) h b = subst (λ i. Runs lets d.seat ran.actor middle rest i (woken d.actor) h b) parts.0 (subst (λ x. Runs lets x.seat ran.actor middle rest idle (woken x.actor) h b) same run) in
@@ -50,7 +51,7 @@ module _ (setup : Setup) (lets : Lets) (past : List Entry) (left : ℕ) (history
       subst (HasLasting setup h) (sym g.longer.are) (lasting_behind setup g.longer.added h middle l)
   rounds_kept _ h b _ _ (Turns {ds = ds} {after = after} {whole = whole} first ran middle rest idle seat run more) is_whole alike kept (suc place) there apart awake =
       by (entries_last_or_leave_alike setup slot.longer.added h (subst (IsHistory setup) slot.longer.are before))
-      (λ a. rounds_kept ds middle rest after whole more (both idle whole is_whole).1 a kept_on place there (λ i other lt at. apart (suc i) other (omega (arith, lt)) at) awake)
+      (λ a. rounds_kept ds middle rest after whole more (and_parts idle whole is_whole).1 a kept_on place there (λ i other lt at. apart (suc i) other (omega (arith, lt)) at) awake)
     where
       slot : GrowsWithin (first.seat ∷ []) (b - rest) h middle
       slot = run_grows lets first.seat ran.actor middle rest idle (woken first.actor) h b run

@@ -24,6 +24,7 @@ use Rattle.safety_invariant.proofs.Objects.{volume_keyed, claim_keyed}
 use Rattle.std.specs.Prelude.{◌<◌}
 use Rattle.binder_model.specs.Imports.{most_serials}
 use Rattle.model_laws.specs.Stood.{Stands, Stood}
+use Rattle.model_laws.proofs.Identity.{names-own}
 use Rattle.model_laws.proofs.Stood.{stood, stood_uid}
 
 abbrev pub WrittenAt : Setup → Entry → List Entry → Object → Type 0
@@ -114,15 +115,8 @@ older n m uid low old k above below = old k (omega (arith, low, above)) below
 
 -- one object, in time
 
-names_itself : (o : Object) → NamesOnce o o
-names_itself (Class x) = tt
-names_itself (Node x) = tt
-names_itself (Volume x) = tt
-names_itself (Claim x) = inr refl
-names_itself (Pod x) = tt
-
 pub itself : (o : Object) → IsLater o o
-itself o = record { key = refl; keeps = record { uid = refl; named = names_itself o; deleting = λ d. d } }
+itself o = record { key = refl; keeps = record { uid = refl; named = names-own o; deleting = λ d. d } }
 
 names_trans : (a b c : Object) → key_of b ≡ key_of a → NamesOnce a b → NamesOnce b c → NamesOnce a c
 names_trans (Claim a) (Claim b) (Claim c) k m n = elim m [

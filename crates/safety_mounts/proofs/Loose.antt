@@ -9,7 +9,7 @@ use Rattle.kube_types.specs.declared.objects.Pod.{Pod as PodData}
 use Rattle.kube_types.specs.declared.objects.Object.{Object}
 use Rattle.kube_types.specs.declared.objects.Object.TheVariants.{Claim, Pod}
 use Rattle.kube_types.specs.Keys.{key_of, row_at}
-use Rattle.kube_types.specs.Bindings.{is_empty, has_name, is_scheduled, is_deleting}
+use Rattle.kube_types.specs.Bindings.{is_empty, has_name, is_scheduled, is_deleting, uses}
 use Rattle.kube_types.proofs.KeyOrder.{row_at_key}
 use Rattle.call_types.specs.declared.entry.Entry.{Entry}
 use Rattle.call_types.specs.declared.setup.Setup.{Setup}
@@ -19,7 +19,7 @@ use Rattle.call_types.specs.declared.reply.Reply.{Reply}
 use Rattle.call_types.specs.declared.reply.Reply.TheVariants.{Found, Listed}
 use Rattle.binder_model.specs.ObjectKeys.{claim_key}
 use Rattle.binder_model.specs.Told.{ToldClaim, After, own}
-use Rattle.binder_model.specs.GuardLicence.{IsDeletingVersion, TellsUnused, IsPodList, uses}
+use Rattle.binder_model.specs.GuardLicence.{IsDeletingVersion, TellsUnused, IsPodList}
 use Rattle.binder_model.specs.AgentLicence.{is_get_of, last_get, never_finished, since_epoch, is_finish_of}
 use Rattle.binder_model.specs.World.{world, effect, reply_to}
 use Rattle.binder_model.specs.Run.{Run}

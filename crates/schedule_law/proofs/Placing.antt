@@ -4,6 +4,7 @@ use Rattle.std.specs.Prelude.{◌==◌, ◌&&◌, bytes_eq, map, nat_lt, not, sl
 use Rattle.std.proofs.lemmas.Bool.Decides.{nat_tests}
 use Rattle.std.proofs.lemmas.Option.{slice_get_within}
 use Rattle.std.proofs.lemmas.Slice.Eq.{bytes_eq-Decides}
+use Rattle.std.proofs.lemmas.Bool.{and_right}
 use Rattle.plain_data.specs.Pairs.{put_pair, value_at}
 use Rattle.kube_types.specs.declared.key.Key.{Key}
 use Rattle.kube_types.specs.declared.objects.Meta.{Meta}
@@ -39,7 +40,6 @@ use Rattle.write_law.specs.Lasting.{IsLastingWrite}
 use Rattle.write_law.specs.Writes.{IsStored}
 use Rattle.write_law.proofs.Claims.{node_lasts}
 use Rattle.write_law.proofs.Fitting.{adds_none, claim_facts, claim_fits, class_kept}
-use Rattle.write_law.proofs.Volumes.{and_false}
 use Rattle.alike_law.specs.Alike.{AreAlike}
 use Rattle.alike_law.proofs.Calls.{LastsOrAlike, calls_last_or_leave_alike, then_alike}
 use Rattle.slot_law.specs.Slots.{own_entry}
@@ -63,10 +63,10 @@ module _ (setup : Setup) (w : World) (name : List ℕ) (c : ClaimData) (s : IsSt
   fits : update_fault (Claim c) (Claim (placed_on name c)) ≡ None
   fits =
       let m : Meta = record c.meta { annotations = put_pair selected_node name c.meta.annotations } in
-      claim_fits c m c.volume_name c.class s.valid refl refl (class_kept c m c.volume_name) named_alike (claim_facts c s.valid).once (and_false (is_deleting c.meta) _ (adds_none c.meta.finalizers))
+      claim_fits c m c.volume_name c.class s.valid refl refl (class_kept c m c.volume_name) named_alike (claim_facts c s.valid).once (and_right (is_deleting c.meta) _ (adds_none c.meta.finalizers))
     where
       named_alike : (not (is_empty c.volume_name) && not (bytes_eq c.volume_name c.volume_name)) ≡ false
-      named_alike = let e : bytes_eq c.volume_name c.volume_name ≡ true = (bytes_eq-Decides c.volume_name c.volume_name).1 refl in and_false (not (is_empty c.volume_name)) _ (ap not e)
+      named_alike = let e : bytes_eq c.volume_name c.volume_name ≡ true = (bytes_eq-Decides c.volume_name c.volume_name).1 refl in and_right (not (is_empty c.volume_name)) _ (ap not e)
 
   by_scheduler : effect setup w seats.Scheduler (placing name c) ≡ OnStore (write_outcome placed)
   unfolding effect on_devices device_answer outcome update refuse refuse_rule refuse_field guard_on

@@ -1,7 +1,7 @@
 -- The write that takes a volume for a claim: what it comes to, and which claims are carried then.
 use Rattle.std.proofs.Common.{◌≡◌, ◌≢◌, ◌∙◌, ℕ, ◌+◌, List, Bool, true, false, true≢false, Some, None, inl, inr, refl, sym, ap, subst, arith}
 use Rattle.std.specs.Prelude.{◌==◌, ◌&&◌, bytes_eq, is_none, not}
-use Rattle.std.proofs.lemmas.Bool.{and_parts}
+use Rattle.std.proofs.lemmas.Bool.{and_parts, and_right}
 use Rattle.std.proofs.lemmas.Bool.Decides.{nat_tests}
 use Rattle.std.proofs.lemmas.Slice.Eq.{bytes_eq-Decides}
 use Rattle.kube_types.specs.declared.parts.Kind.TheVariants as kinds
@@ -30,7 +30,6 @@ use Rattle.settle_measure.proofs.Others.{any_found, any_in}
 use Rattle.write_law.specs.Valid.{IsValid}
 use Rattle.write_law.specs.Writes.{IsStored}
 use Rattle.write_law.proofs.Fitting.{adds_none, refers_well, volume_facts, volume_fits}
-use Rattle.write_law.proofs.Volumes.{and_false}
 
 same_version : (n : ℕ) → is_other_version (Some n) n ≡ false
 same_version n = let e : (n == n) ≡ true = grind (arith, nat_tests) in ap not e
@@ -52,8 +51,8 @@ module _ (setup : Setup) (w : World) (v : VolumeData) (c : ClaimData) (s : IsSto
   new_for b = record v { claim_ref = Some (ref_to c); meta = annotated_meta_if b bound_by_controller v.meta }
 
   fits : (b : Bool) → update_fault (Volume v) (Volume (new_for b)) ≡ None
-  fits true = volume_fits v (annotated_meta_if true bound_by_controller v.meta) (Some (ref_to c)) s.valid refl refl (refers_well c valid) (volume_facts v s.valid).once (and_false (is_deleting v.meta) _ (adds_none v.meta.finalizers))
-  fits false = volume_fits v v.meta (Some (ref_to c)) s.valid refl refl (refers_well c valid) (volume_facts v s.valid).once (and_false (is_deleting v.meta) _ (adds_none v.meta.finalizers))
+  fits true = volume_fits v (annotated_meta_if true bound_by_controller v.meta) (Some (ref_to c)) s.valid refl refl (refers_well c valid) (volume_facts v s.valid).once (and_right (is_deleting v.meta) _ (adds_none v.meta.finalizers))
+  fits false = volume_fits v v.meta (Some (ref_to c)) s.valid refl refl (refers_well c valid) (volume_facts v s.valid).once (and_right (is_deleting v.meta) _ (adds_none v.meta.finalizers))
 
   stays : (b : Bool) → leaves (updated_object (Volume v) (Volume (new_for b)) (w.store.version + 1)) ≡ false
   unfolding leaves updated_object with_meta with_status_of

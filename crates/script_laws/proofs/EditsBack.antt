@@ -5,14 +5,13 @@ use Rattle.serde_json.specs.Data.{Data, boolean, string}
 use Rattle.serde_json.specs.Find.{get}
 use Rattle.json_text.specs.Build.{pick}
 use Rattle.json_text.specs.Members.{MemberList, text, object_of}
-use Rattle.json_text.proofs.Good.{good_string, no_float_good}
+use Rattle.json_text.proofs.Good.{good_string, no_float_good, good_object_of}
 use Rattle.kube_types.specs.Words.{policy_word}
 use Rattle.kube_types.proofs.NamedWords.{policies_inverse}
 use Rattle.kube_types.specs.declared.key.Key.{Key}
 use Rattle.call_types.specs.declared.edit.Edit.{Edit}
 use Rattle.call_types.specs.declared.edit.Edit.TheVariants as edits
 use Rattle.object_text.specs.declared.errors.Member.TheVariants as manifests
-use Rattle.object_laws.proofs.CanonicalParts.{good_object_of}
 use Rattle.history_text.specs.Requests.{two_texts, label_data, claim_name_data, edit_pairs}
 use Rattle.script_lines.specs.declared.line_member.LineMember.{LineMember}
 use Rattle.script_lines.specs.declared.line_member.LineMember.TheVariants as members

@@ -1,24 +1,21 @@
 -- A printed line is canonical, and nests one level deeper than its object.
-use Rattle.std.proofs.Common.{ℕ, suc, ◌<◌, ◌^◌, ◌==◌, List, [], ◌∷◌, ◌++◌, Bool, true, false, if◌then◌else◌, Option, Some, None, option_map, codes, arith}
-use Rattle.serde_json.specs.Data.{boolean, string}
+use Rattle.std.proofs.Common.{ℕ, ◌<◌, ◌^◌, ◌==◌, List, [], ◌∷◌, Bool, true, false, if◌then◌else◌, None, option_map, codes, arith}
+use Rattle.serde_json.specs.Data.{string}
 use Rattle.json_text.specs.Build.{number_data, Good, GoodOption, GoodPairs}
-use Rattle.json_text.specs.Members.{MemberList, text, whole}
-use Rattle.json_text.proofs.Good.{good_string}
+use Rattle.json_text.specs.Members.{text, whole}
+use Rattle.json_text.proofs.Good.{good_append, good_number, good_object_of, good_string}
 use Rattle.plain_data.specs.Pairs.{Pair}
-use Rattle.kube_types.specs.declared.uid.Uid.{Uid}
 use Rattle.kube_types.specs.declared.key.Key.{Key}
 use Rattle.kube_types.specs.declared.objects.Object.{Object}
-use Rattle.call_types.specs.declared.edit.Edit.{Edit}
-use Rattle.call_types.specs.declared.edit.Edit.TheVariants as edits
 use Rattle.call_types.specs.declared.request.Request.{Request}
 use Rattle.call_types.specs.declared.request.Request.TheVariants as asks
 use Rattle.call_types.specs.declared.setup.Pool.{Pool}
 use Rattle.object_print.specs.Metadata.{uid_data}
 use Rattle.object_print.specs.Objects.{object_data}
 use Rattle.object_laws.proofs.Canonical.{object_good}
-use Rattle.object_laws.proofs.CanonicalParts.{good_object_of, good_option}
-use Rattle.history_text.specs.Requests.{two_texts, edit_pairs}
-use Rattle.history_text.specs.Replies.{topology_pairs}
+use Rattle.object_laws.proofs.CanonicalParts.{good_option, good_some_uid}
+use Rattle.history_text.specs.Requests.{edit_pairs}
+use Rattle.history_text.proofs.GoodPairs.{good_edit, good_topology}
 use Rattle.script_lines.specs.Members.{is_namespaced, most_call, most_turn}
 use Rattle.script_text.specs.declared.script.Line.{Line}
 use Rattle.script_text.specs.declared.script.Line.TheVariants.{Call, Lose, Restart, Turn, Drain}
@@ -27,12 +24,6 @@ use Rattle.script_laws.specs.Given.{IsCount, IsLineObject, IsUsersCall, IsLineAf
 use Rattle.script_laws.proofs.Lengths.{count_small}
 
 -- ---- members
-
-good_number : {n : ℕ} (k : ℕ) → k < 2 ^ 64 → Good n (number_data k)
-good_number k small = record { canonical = small; shallow = omega arith }
-
-good_boolean : {n : ℕ} (b : Bool) → Good n (boolean b)
-good_boolean b = record { canonical = tt; shallow = omega arith }
 
 good_count : {n : ℕ} (most k : ℕ) → most < 2 ^ 64 → IsCount most k → Good n (number_data k)
 good_count most k small is = let le = count_small most k is in good_number k (omega arith)
@@ -48,27 +39,8 @@ good_namespace : (n : ℕ) (b : Bool) (s : List ℕ) → GoodOption n (if b then
 good_namespace n true s = good_string
 good_namespace n false s = tt
 
-good_uid : (n : ℕ) (uid : Option Uid) → GoodOption n (option_map uid_data uid)
-good_uid n uid = good_option n uid_data uid (λ u. good_string)
-
-good_append : (n : ℕ) (ps qs : MemberList) → GoodPairs n ps → GoodPairs n qs → GoodPairs n (ps ++ qs)
-good_append n [] qs h k = k
-good_append n (p ∷ ps) qs h k = (h.0, good_append n ps qs h.1 k)
-
 good_key : (n : ℕ) (k : Key) → GoodPairs n (line_key_pairs k)
 good_key n k = (good_string, (good_string, (good_namespace n (is_namespaced k.kind) k.namespace, tt)))
-
-good_edit : (n : ℕ) (edit : Edit) → GoodPairs (suc n) (edit_pairs edit)
-good_edit n (edits.AddFinalizer s) = (good_string, tt)
-good_edit n (edits.DropFinalizer s) = (good_string, tt)
-good_edit n (edits.DropLabel s) = (good_string, tt)
-good_edit n (edits.DropAnnotation s) = (good_string, tt)
-good_edit n (edits.SetLabel k v) = (good_object_of n (two_texts (codes "key") k (codes "value") v) (good_string, (good_string, tt)), tt)
-good_edit n (edits.SetAnnotation k v) = (good_object_of n (two_texts (codes "key") k (codes "value") v) (good_string, (good_string, tt)), tt)
-good_edit n (edits.SetVolumeName s) = (good_string, tt)
-good_edit n (edits.SetPolicy p) = (good_string, tt)
-good_edit n (edits.SetClaimRef namespace name) = (good_object_of n (two_texts (codes "name") name (codes "namespace") namespace) (good_string, (good_string, tt)), tt)
-good_edit n edits.ClearClaimRef = (good_boolean true, tt)
 
 -- ---- lines
 
@@ -80,7 +52,7 @@ good_call (asks.Create o) is = (good_one o is, tt)
 good_call (asks.Update o version) is = (good_one o is.0, tt)
 good_call (asks.UpdateStatus key status version) is = absurd is
 good_call (asks.Edit key edit) is = good_append 126 (line_key_pairs key) (edit_pairs edit) (good_key 126 key) (good_edit 125 edit)
-good_call (asks.Delete key uid) is = good_append 126 (line_key_pairs key) ((codes "uid", option_map uid_data uid) ∷ []) (good_key 126 key) (good_uid 126 uid, tt)
+good_call (asks.Delete key uid) is = good_append 126 (line_key_pairs key) ((codes "uid", option_map uid_data uid) ∷ []) (good_key 126 key) (good_some_uid 126 uid, tt)
 good_call (asks.Get key) is = good_key 126 key
 good_call (asks.List kind namespace) is = (good_string, (good_option 126 string namespace (λ s. good_string), tt))
 good_call (asks.Watch kind from) is = absurd is
@@ -102,10 +74,6 @@ line_good agents before (Lose actor call after) is = good_object_of 126 (line_pa
 line_good agents before (Restart actor after) is = good_object_of 126 (line_pairs (Restart actor after)) (good_string, (good_string, (good_count most_call after (omega arith) is.1.counted, tt)))
 line_good agents before (Turn actor calls) is = good_object_of 126 (line_pairs (Turn actor calls)) (good_string, (good_string, (good_count most_turn calls (omega arith) is.1, tt)))
 line_good agents before Drain is = good_object_of 126 (line_pairs Drain) (good_string, tt)
-
-good_topology : (n : ℕ) (t : Option (List ℕ × List ℕ)) → GoodPairs n (topology_pairs t)
-good_topology n None = tt
-good_topology n (Some t) = (good_string, (good_string, tt))
 
 pub pool_good : (pool : Pool) (size : List ℕ) → Good 127 (pool_data pool size)
 unfolding pool_data

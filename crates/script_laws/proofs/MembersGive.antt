@@ -4,6 +4,7 @@ use Rattle.std.proofs.lemmas.Slice.Eq.{bytes_eq-Decides}
 use Rattle.std.proofs.lemmas.Map.Text.{is_eq-slice_cmp}
 use Rattle.std.specs.Bool.{⊤}
 use Rattle.std.specs.Ordering.{is_eq}
+use Rattle.std.proofs.lemmas.Bool.{not-false}
 use Rattle.serde_json.specs.Data.{unsigned, negative, float, Data, null, boolean, number, string, array, object}
 use Rattle.json.proofs.Printed.Utf8.{IsUtf8-are_ascii}
 use Rattle.plain_data.specs.Pairs.{Pair, text_cmp, pair_key}
@@ -54,14 +55,10 @@ text_of_gives m (object ms) h = tt
 pub text_gives : (n : ℕ) (m : LineMember) (d : Data) → WasRead (suc n) d → IfOk (text_at m d) IsUtf8
 text_gives n m d h = step (WasRead n) IsUtf8 (needed m d) _ (needed_read n m d h) (λ e k. text_of_gives m e k.utf8)
 
-not_false : (b : Bool) → not b ≡ false → b ≡ true
-not_false true e = refl
-not_false false e = absurd (cc)
-
 count_of_gives : (m : LineMember) (most : ℕ) (d : Data) → IfOk (count_of m most d) (IsCount most)
 count_of_gives m most null = tt
 count_of_gives m most (boolean b) = tt
-count_of_gives m most (number (unsigned n)) = unless_gives (IsCount most) (not (nat_le 1 n && nat_le n most)) (BadValue m) n (not_false (nat_le 1 n && nat_le n most))
+count_of_gives m most (number (unsigned n)) = unless_gives (IsCount most) (not (nat_le 1 n && nat_le n most)) (BadValue m) n (not-false (nat_le 1 n && nat_le n most))
 count_of_gives m most (number (negative z)) = tt
 count_of_gives m most (number (float x)) = tt
 count_of_gives m most (string s) = tt

@@ -2,7 +2,7 @@
 use Rattle.std.proofs.Common.{[], ◌∷◌, ◌++◌, false, true, Option, Some, None, codes}
 use Rattle.serde_json.specs.Data.{string}
 use Rattle.json_text.specs.Build.{Good, GoodMembers, GoodOption}
-use Rattle.json_text.proofs.Good.{good_put_all, good_object, good_string}
+use Rattle.json_text.proofs.Good.{good_put_all, good_object, good_string, good_object_of}
 use Rattle.kube_types.specs.Words.{mode_words}
 use Rattle.kube_types.specs.declared.parts.Modes.{Modes}
 use Rattle.kube_types.specs.declared.objects.Amount.{Amount}
@@ -19,7 +19,7 @@ use Rattle.object_print.specs.Parts.{storage_data, ref_data, node_terms_data, se
 use Rattle.object_print.specs.Volumes.{volume_front, volume_back, volume_spec, volume_status_pairs, volume_status, volume_pairs, volume_data}
 use Rattle.object_print.specs.Claims.{claim_front, claim_back, claim_spec, got_modes, claim_status_pairs, claim_status, claim_pairs, claim_data}
 use Rattle.object_print.specs.Objects.{class_back, class_data, pod_spec, pod_pairs, pod_data, node_pairs, node_data, object_data}
-use Rattle.object_laws.proofs.CanonicalParts.{good_object_of, good_filled, good_option, good_texts, good_filled_array, good_filled_pairs, good_filled_object, good_meta, good_modes, good_storage, good_requests, good_ref, good_source, good_node_terms, good_selector}
+use Rattle.object_laws.proofs.CanonicalParts.{good_filled, good_option, good_texts, good_filled_array, good_filled_pairs, good_filled_object, good_meta, good_modes, good_storage, good_requests, good_ref, good_source, good_node_terms, good_selector}
 use Rattle.script_laws.proofs.Kept.{Keeps, KeepsLess}
 
 good_volume_spec : (v : Volume) → Keeps 124 v.extra → Good 125 (volume_spec v)

@@ -1,9 +1,10 @@
 -- What keeps a settled world settled.
-use Rattle.std.proofs.Common.{◌≡◌, ◌⊎◌, ◌∙◌, ◌+◌, ◌-◌, ℕ, List, [], ◌∷◌, ◌++◌, length, drop, take, Bool, true, false, ◌||◌, not, Option, Some, None, inl, inr, refl, sym, ap, subst, arith, append_assoc, true≢false, if◌then◌else◌}
+use Rattle.std.proofs.Common.{◌≡◌, ◌⊎◌, ◌∙◌, ◌+◌, ◌-◌, ℕ, List, [], ◌∷◌, ◌++◌, length, drop, take, Bool, true, false, Option, Some, None, inl, inr, refl, sym, ap, subst, arith, append_assoc, true≢false, if◌then◌else◌}
 use Rattle.std.specs.Prelude.{nat_lt, reverse}
 use Rattle.std.specs.List.{list_any}
 use Rattle.std.proofs.lemmas.List.{length-drop, length-reverse, reverse-append, reverse-reverse, take_all}
 use Rattle.std.proofs.lemmas.List.Sorted.{IsPermutation-reverse, list_any-IsPermutation}
+use Rattle.std.proofs.lemmas.Bool.{or_parts}
 use Rattle.call_types.specs.declared.entry.Entry.{Entry}
 use Rattle.call_types.specs.declared.request.Request.{Request}
 use Rattle.call_types.specs.declared.request.Request.TheVariants as requests
@@ -91,14 +92,10 @@ one_same setup w kind request there version = record { store = by (versions_coun
     by (inl k) = k.store
     by (inr k) = let more = k.version in absurd (omega (arith, more, version))
 
-neither : (a b : Bool) → (a || b) ≡ false → (a ≡ false) × (b ≡ false)
-neither true b e = absurd (true≢false e)
-neither false b e = (refl, e)
-
 all_same : (setup : Setup) (newer past : List Entry) → list_any calls_device newer ≡ false → (world setup (newer ++ past)).store.version ≡ (world setup past).store.version → IsSame (world setup past) (world setup (newer ++ past))
 all_same setup [] past none version = record { store = refl; devices = refl }
 all_same setup (e ∷ newer) past none version =
-    let each = neither (calls_device e) (list_any calls_device newer) none in
+    let each = or_parts (calls_device e) (list_any calls_device newer) none in
     let low = rises setup newer past in
     let up = rises setup (e ∷ []) (newer ++ past) in
     let before : (world setup (newer ++ past)).store.version ≡ (world setup past).store.version = omega (arith, low, up, version) in
@@ -133,10 +130,6 @@ none_since entries newer older are none = list_any-IsPermutation calls_device ne
 -- what is read from a place to the end
 pub to_the_end : {X : Type 0} (place : ℕ) (xs : List X) → take (length xs - place) (drop place xs) ≡ drop place xs
 to_the_end place xs = let rest = length-drop place xs in take_all (length xs - place) (drop place xs) (omega (arith, rest))
-
-pub not_true : (b : Bool) → not b ≡ true → b ≡ false
-not_true true e = absurd (true≢false (sym e))
-not_true false e = refl
 
 pub stays : (setup : Setup) (past entries : List Entry) (at : SettledAt) → WasSettled setup past at → reverse entries ≡ past → (world setup past).store.version ≡ at.version → list_any calls_device (drop at.entries entries) ≡ false → IsSettled setup (world setup past)
 stays setup past entries at was is version none =

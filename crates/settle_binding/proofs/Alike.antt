@@ -1,7 +1,7 @@
 -- A claim whose annotations or finalizers were written, and its class.
 use Rattle.std.proofs.Common.{◌≡◌, ◌∙◌, ℕ, ◌+◌, ◌≤◌, List, [], ◌∷◌, Bool, true, false, true≢false, Option, Some, None, refl, sym, ap, arith}
 use Rattle.std.specs.Prelude.{cond, not, ◌&&◌, ◌||◌, is_some}
-use Rattle.std.proofs.lemmas.Bool.{and_from}
+use Rattle.std.proofs.lemmas.Bool.{and_from, false_from_ne_true}
 use Rattle.plain_data.specs.Pairs.{put_pair, value_at, without_key}
 use Rattle.kube_types.specs.declared.uid.Uid.{Uid}
 use Rattle.kube_types.specs.declared.objects.Meta.{Meta}
@@ -23,7 +23,7 @@ use Rattle.binder_model.specs.World.{World}
 use Rattle.settle_measure.specs.Measure.{binding_left, claim_left, completed_left, guard_left, has_class, has_offer, is_held_by, is_seeking, offers_claim, open_left, provision_left, unless}
 use Rattle.settle_binding.specs.Pays.{ClassPays, NodeGoes, NodeStays}
 use Rattle.settle_measure.specs.Lowers.{Lowers, StandsClaim}
-use Rattle.settle_binding.proofs.Binding.{carries_for, never, offer_eligible, offer_of, seeking_parts}
+use Rattle.settle_binding.proofs.Binding.{carries_for, offer_eligible, offer_of, seeking_parts}
 use Rattle.settle_binding.proofs.Claims.{claim_update_lowers, rewritten_claim}
 use Rattle.settle_measure.proofs.Others.{any_in}
 use Rattle.settle_measure.proofs.Sums.{found_in}
@@ -157,7 +157,7 @@ unfolding leaves
 class_pays setup w kind c class s seeking none beta no_match =
     let k = seeking_parts c seeking in
     let open_ = k.open_ in let staying = k.staying in let empty = k.empty in
-    let no_offer : has_offer w.store.rows c ≡ false = never (has_offer w.store.rows c) (λ h. true≢false (sym (offer_matches w.store.rows c s.order h) ∙ no_match)) in
+    let no_offer : has_offer w.store.rows c ≡ false = false_from_ne_true (has_offer w.store.rows c) (λ h. true≢false (sym (offer_matches w.store.rows c s.order h) ∙ no_match)) in
     let unclassed : has_class c ≡ false = ap (λ x. is_some x || has_key beta_class c.meta.annotations) none ∙ beta in
     let new : ClaimData = rewritten_claim c (record c { class = Some class }) (w.store.version + 1) in
     let p = provision_classed c class (w.store.version + 1) w.store.rows w.devices c.meta.uid in

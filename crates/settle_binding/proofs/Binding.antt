@@ -1,7 +1,7 @@
 -- The first write of a binding pays, in each way in which it is decided.
 use Rattle.std.proofs.Common.{◌≡◌, ◌∙◌, ◌⊎◌, List, Bool, true, false, true≢false, Option, Some, None, inl, inr, refl, sym, ap, if◌then◌else◌}
 use Rattle.std.specs.Prelude.{bytes_eq, not, ◌&&◌, ◌||◌, is_none, is_some}
-use Rattle.std.proofs.lemmas.Bool.{and_from, and_parts, or_left}
+use Rattle.std.proofs.lemmas.Bool.{and_from, and_parts, or_left, false_from_ne_true, not-true}
 use Rattle.std.proofs.lemmas.Slice.Eq.{bytes_eq-Decides}
 use Rattle.kube_types.specs.declared.uid.Uid.{Uid}
 use Rattle.kube_types.specs.declared.names.Due.{Due}
@@ -29,10 +29,6 @@ use Rattle.settle_binding.proofs.References.{awaited_pays, claim_pays, completed
 use Rattle.settle_binding.proofs.Stages.{at_key}
 use Rattle.settle_measure.proofs.Sums.{found_in, stands}
 
-not_true : (b : Bool) → not b ≡ true → b ≡ false
-not_true true e = absurd (true≢false (sym e))
-not_true false e = refl
-
 pub record IsSeeking (c : ClaimData) : Type 0 where
   pub open_ : is_completed c ≡ false
   pub staying : is_deleting c.meta ≡ false
@@ -42,7 +38,7 @@ pub seeking_parts : (c : ClaimData) → is_seeking c ≡ true → IsSeeking c
 seeking_parts c e =
     let p = and_parts (not (is_completed c) && not (is_deleting c.meta)) (is_empty c.volume_name) e in
     let q = and_parts (not (is_completed c)) (not (is_deleting c.meta)) p.0 in
-    record { open_ = not_true _ q.0; staying = not_true _ q.1; empty = p.1 }
+    record { open_ = not-true _ q.0; staying = not-true _ q.1; empty = p.1 }
 
 record IsEligible (v : VolumeData) (c : ClaimData) : Type 0 where
   fit : is_fit v c ≡ true
@@ -72,7 +68,7 @@ may_take v c e free = by (is_for v c && not (is_ended v.phase)) refl e
     none_ref (Some r) e = absurd (true≢false (sym e))
 
     by : (b : Bool) → (is_for v c && not (is_ended v.phase)) ≡ b → (b || (is_available v.phase && is_none v.claim_ref)) ≡ true → MayTake v c
-    by true own e = let p = and_parts (is_for v c) (not (is_ended v.phase)) own in record { free = free; going = not_true _ p.1; open_to = inr p.0 }
+    by true own e = let p = and_parts (is_for v c) (not (is_ended v.phase)) own in record { free = free; going = not-true _ p.1; open_to = inr p.0 }
     by false own e = let p = and_parts (is_available v.phase) (is_none v.claim_ref) e in record { free = free; going = going_free p.0; open_to = inl (none_ref v.claim_ref p.1) }
 
 -- a reference that is the claim's names its key
@@ -149,17 +145,13 @@ match_pays setup w kind v c s sc seeking it_fits free first = by (has_offer w.st
 carrier : (rows : List Object) (c : ClaimData) (u : VolumeData) → row_at (key_of (Volume u)) rows ≡ Some (Volume u) → carries u c ≡ true → has_carrier rows c ≡ true
 carrier rows c u there e = any_in (carries_claim c) (Volume u) rows (found_in (key_of (Volume u)) rows (Volume u) there) e
 
-pub never : (b : Bool) → (b ≡ true → ⊥) → b ≡ false
-never true f = absurd (f refl)
-never false f = refl
-
 pub prepare_pays : PreparePays
 prepare_pays setup w kind v c n s sc seeking it_fits none =
     let e = eligible_parts v c (Some n) it_fits in
-    let free = never (carries v c) (λ h. true≢false (sym (carrier w.store.rows c v (at_key setup w kind v s) h) ∙ none)) in
+    let free = false_from_ne_true (carries v c) (λ h. true≢false (sym (carrier w.store.rows c v (at_key setup w kind v s) h) ∙ none)) in
     let t = may_take v c e.may free in
     let k = seeking_parts c seeking in
-    let no_offer = never (has_offer w.store.rows c) (λ h. let o = offer_of w.store.rows c s.order h in true≢false (sym (carrier w.store.rows c o.volume o.there (offer_eligible o.volume c o.offered).0) ∙ none)) in
+    let no_offer = false_from_ne_true (has_offer w.store.rows c) (λ h. let o = offer_of w.store.rows c s.order h in true≢false (sym (carrier w.store.rows c o.volume o.there (offer_eligible o.volume c o.offered).0) ∙ none)) in
     claim_pays setup w kind v c s sc t (seeking_pays setup w kind v c s sc t k.open_ k.staying k.empty e.fit no_offer)
 
 record IsNamed (v : VolumeData) (c : ClaimData) : Type 0 where

@@ -7,11 +7,10 @@ use Rattle.kube_types.specs.declared.objects.Claim.{Claim as ClaimData}
 use Rattle.kube_types.specs.declared.objects.Volume.{Volume as VolumeData}
 use Rattle.kube_types.specs.declared.objects.Object.{Object}
 use Rattle.kube_types.specs.declared.objects.Object.TheVariants.{Class, Node, Volume, Claim, Pod}
-use Rattle.kube_types.specs.Bindings.{is_completed, is_deleting, is_empty, is_lost, is_protected_claim}
+use Rattle.kube_types.specs.Bindings.{is_completed, is_deleting, is_empty, is_lost, is_protected_claim, uses}
 use Rattle.kube_types.specs.Keys.{row_at}
 use Rattle.binder_model.specs.BinderDue.{claim_due, completed_due, has_other_uid, lost_due, named_due}
 use Rattle.binder_model.specs.Due.{claim_guard_due, guard_due, or_due}
-use Rattle.binder_model.specs.GuardLicence.{uses}
 use Rattle.binder_model.specs.Matching.{has_match}
 use Rattle.binder_model.specs.ObjectKeys.{volume_key}
 use Rattle.kube_types.specs.VolumeIndex.{as_volume}

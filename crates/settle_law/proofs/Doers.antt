@@ -13,13 +13,12 @@ use Rattle.kube_types.specs.declared.objects.Ref.{Ref}
 use Rattle.kube_types.specs.declared.objects.Volume.{Volume as VolumeData}
 use Rattle.kube_types.specs.declared.objects.Object.{Object}
 use Rattle.kube_types.specs.declared.objects.Object.TheVariants.{Claim, Class, Node, Pod, Volume}
-use Rattle.kube_types.specs.Bindings.{carries, class_of_claim, is_available, is_bound, is_completed, is_delete, is_deleting, is_empty, is_ended, is_for, is_lost, is_protected_claim, is_protected_volume, is_scheduled, lacks_class, ref_uid, selected_node}
+use Rattle.kube_types.specs.Bindings.{carries, class_of_claim, is_available, is_bound, is_completed, is_delete, is_deleting, is_empty, is_ended, is_for, is_lost, is_protected_claim, is_protected_volume, is_scheduled, lacks_class, ref_uid, selected_node, uses}
 use Rattle.kube_types.specs.Keys.{row_at}
 use Rattle.call_types.specs.declared.request.SeatKind.{SeatKind}
 use Rattle.call_types.specs.declared.request.SeatKind.TheVariants as seats
 use Rattle.call_types.specs.declared.setup.Setup.{Setup}
 use Rattle.binder_model.specs.BindWrites.{next_write}
-use Rattle.binder_model.specs.GuardLicence.{uses}
 use Rattle.binder_model.specs.Matching.{fits, has_match}
 use Rattle.binder_model.specs.Provisioning.{data_name, is_wanting, provisions}
 use Rattle.binder_model.specs.BinderDue.{claim_due, has_other_uid, is_default_row, is_reclaimed, claim_with, completed_due, lost_due, named_due, reference_due, referred_due, uid_due, volume_due}

@@ -1,6 +1,7 @@
 -- A whole round leaves its drainers so that the next may begin with them.
 use Rattle.std.proofs.Common.{◌≡◌, ℕ, zero, suc, List, [], ◌∷◌, Bool, true, false, true≢false, Some, inl, inr, refl, sym, ap, subst, arith}
 use Rattle.std.specs.Prelude.{slice_get}
+use Rattle.std.proofs.lemmas.Bool.{and_parts}
 use Rattle.call_types.specs.declared.entry.Entry.{Entry}
 use Rattle.binder_model.specs.Told.{own}
 use Rattle.model_laws.proofs.Lists.{none_some, one}
@@ -13,7 +14,7 @@ use Rattle.worker_threads.specs.Drainers.{AreRoles, AreSeats, IsStanding, Stands
 use Rattle.worker_threads.specs.Longer.{HasGrown, IsOneOf}
 use Rattle.worker_threads.specs.Rounds.{Asks, Ends, IsHeld, IsIdle, IsRound, IsSpent, Lets, Runs, Turns}
 use Rattle.worker_threads.proofs.Entries.{grown_others}
-use Rattle.worker_threads.proofs.RoundFacts.{both, round_grows, round_roles, round_seats}
+use Rattle.worker_threads.proofs.RoundFacts.{round_grows, round_roles, round_seats}
 use Rattle.worker_threads.proofs.Resting.{round_rests}
 use Rattle.worker_threads.proofs.RunFacts.{turned_whole}
 use Rattle.settle_law.specs.Settling.{RoundsLeaveDrainers}
@@ -52,7 +53,7 @@ module _ (lets : Lets) (past : List Entry) (left : ℕ) where
   round_stands _ h b _ _ (Turns {ds = ds} {after = after} {whole = whole} d ran middle rest idle seat run more) is_whole differ zero x there = subst (λ y. IsStanding y past) (one ran x there) (subst (λ n. StandsWhole ran.actor (own n past)) (sym seat) at_end)
     where
       idle_run : Runs lets d.seat ran.actor middle rest true (woken d.actor) h b
-      idle_run = subst (λ i. Runs lets d.seat ran.actor middle rest i (woken d.actor) h b) (both idle whole is_whole).0 run
+      idle_run = subst (λ i. Runs lets d.seat ran.actor middle rest i (woken d.actor) h b) (and_parts idle whole is_whole).0 run
 
       grown : HasGrown (seats_of ds) middle past
       grown = let g = round_grows lets past left ds middle rest after whole more in record { made = g.made; longer = g.longer }
@@ -60,7 +61,7 @@ module _ (lets : Lets) (past : List Entry) (left : ℕ) where
       at_end : StandsWhole ran.actor (own d.seat past)
       at_end = subst (StandsWhole ran.actor) (sym (grown_others (seats_of ds) middle past grown d.seat (not_again d.seat (seats_of ds) differ))) (run_whole lets d.seat ran.actor middle rest (woken d.actor) h b idle_run)
   round_stands _ h b _ _ (Turns {ds = ds} {after = after} {whole = whole} d ran middle rest idle seat run more) is_whole differ (suc place) x there =
-      round_stands ds middle rest after whole more (both idle whole is_whole).1 (others_differ d.seat (seats_of ds) differ) place x there
+      round_stands ds middle rest after whole more (and_parts idle whole is_whole).1 (others_differ d.seat (seats_of ds) differ) place x there
 
 pub rounds_leave_drainers : RoundsLeaveDrainers
 rounds_leave_drainers setup lets ds after h past b left may run round =

@@ -24,10 +24,6 @@ use Rattle.model_laws.proofs.Lists.{IsIn, one}
 use Rattle.settle_measure.specs.Measure.{binding_left, carried_left, claim_left, completed_left, has_offer, holds, offers, offers_claim, is_awaited, is_held_by, is_lost, is_over, life_left, open_left, provision_left, seeking_left, seeks, stage_left, unless, volume_left, was_erased}
 use Rattle.settle_measure.proofs.Sums.{found_in, stands}
 
-pub none_or : (b : Bool) → (b ≡ true) ⊎ (b ≡ false)
-none_or true = inl refl
-none_or false = inr refl
-
 pub unless_less : (b c : Bool) (n : ℕ) → (b ≡ true → c ≡ true) → unless c n ≤ unless b n
 unless_less true true n h = omega arith
 unless_less true false n h = absurd (true≢false (sym (h refl)))

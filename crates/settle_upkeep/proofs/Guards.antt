@@ -13,7 +13,7 @@ use Rattle.kube_types.specs.declared.objects.Ref.{Ref}
 use Rattle.kube_types.specs.declared.objects.Claim.{Claim as ClaimData}
 use Rattle.kube_types.specs.declared.objects.Volume.{Volume as VolumeData}
 use Rattle.kube_types.specs.declared.objects.Object.TheVariants.{Volume, Claim}
-use Rattle.kube_types.specs.Bindings.{carries, has_name, is_bound, is_completed, is_deleting, is_delete, is_ended, is_protected_claim, is_protected_volume, pv_protection, pvc_protection, ref_uid, refers_carrying}
+use Rattle.kube_types.specs.Bindings.{carries, has_name, is_bound, is_completed, is_deleting, is_delete, is_ended, is_protected_claim, is_protected_volume, pv_protection, pvc_protection, ref_uid, refers_carrying, uses}
 use Rattle.kube_types.specs.Keys.{key_of, row_at, without_row}
 use Rattle.kube_types.proofs.KeyOrder.{row_at-without_row}
 use Rattle.kube_types.proofs.SameKeys.{key_tells, same_key-Decides}
@@ -23,7 +23,7 @@ use Rattle.call_types.specs.declared.request.SeatKind.{SeatKind}
 use Rattle.call_types.specs.declared.setup.Setup.{Setup}
 use Rattle.binder_model.specs.Due.{guard_due, reclaim_due}
 use Rattle.binder_model.specs.Edits.{without_name}
-use Rattle.binder_model.specs.GuardLicence.{guarded_meta, unguarded_meta, uses}
+use Rattle.binder_model.specs.GuardLicence.{guarded_meta, unguarded_meta}
 use Rattle.binder_model.specs.Matching.{fits, is_selected}
 use Rattle.binder_model.specs.ObjectKeys.{claim_key, volume_key}
 use Rattle.binder_model.specs.Store.{leaves, marked_object, updated_object, with_meta, with_status_of}

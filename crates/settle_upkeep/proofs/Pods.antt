@@ -2,7 +2,7 @@
 use Rattle.std.proofs.Common.{◌≡◌, ◌∙◌, ◌⊎◌, ℕ, ◌+◌, ◌≤◌, List, [], ◌∷◌, ◌++◌, Bool, true, false, true≢false, Option, Some, None, inl, inr, refl, sym, ap, subst, arith}
 use Rattle.std.specs.Prelude.{bytes_eq, cond, not, ◌&&◌, ◌||◌, filter}
 use Rattle.std.specs.List.{list_any}
-use Rattle.std.proofs.lemmas.Bool.{and_from, and_parts, or_left}
+use Rattle.std.proofs.lemmas.Bool.{and_from, and_parts, or_left, and_right}
 use Rattle.std.proofs.lemmas.Bool.Decides.{nat_tests}
 use Rattle.std.proofs.lemmas.Slice.Eq.{bytes_eq-Decides}
 use Rattle.kube_types.specs.declared.uid.Uid.{Uid}
@@ -226,10 +226,6 @@ unmount_weight w ms p uid has on going before now =
 same_itself : (u : Uid) → same_uid u u ≡ true
 same_itself u = grind (arith, nat_tests)
 
-never_and : (a b : Bool) → b ≡ false → (a && b) ≡ false
-never_and true b e = e
-never_and false b e = refl
-
 pub mount_pays : MountPays
 mount_pays setup w p uid epoch claims a rows order there has on staying before only e reply =
     let is = mount_is setup w.devices p.node epoch uid claims a e (ap is_mounts reply) in
@@ -238,7 +234,7 @@ mount_pays setup w p uid epoch claims a rows order there has on staying before o
     let here : is_of p.node uid (record { node = p.node; row = record { pod = uid; claims = claims } }) ≡ true = and_from (bytes_eq p.node p.node) (same_uid uid uid) ((bytes_eq-Decides p.node p.node).1 refl) (same_itself uid) in
     let now : is_mounted_on p.node uid (with_mount p.node uid claims w.devices.mounts) ≡ true = ap (is_mounted_on p.node uid) ms ∙ put_any p.node uid _ w.devices.mounts ∙ or_left _ (is_mounted_on p.node uid w.devices.mounts) here in
     let low = mounts_lower w (with_mount p.node uid claims w.devices.mounts) p uid order there only
-    (λ node u differs. ap (is_mounted_on node u) ms ∙ put_any node u _ w.devices.mounts ∙ ap (λ b. b || is_mounted_on node u w.devices.mounts) (never_and (bytes_eq p.node node) (same_uid uid u) differs))
+    (λ node u differs. ap (is_mounted_on node u) ms ∙ put_any node u _ w.devices.mounts ∙ ap (λ b. b || is_mounted_on node u w.devices.mounts) (and_right (bytes_eq p.node node) (same_uid uid u) differs))
     (mount_weight w (with_mount p.node uid claims w.devices.mounts) p uid has on staying before now) in
     subst (λ d. left_on w.store.rows d + 1 ≤ left_of w) (sym is) low
 

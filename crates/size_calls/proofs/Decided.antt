@@ -2,7 +2,7 @@
 use Rattle.std.proofs.Common.{◌≡◌, ◌⊎◌, ℕ, List, Bool, true, false, true≢false, Option, Some, None, inl, inr, refl, sym, ◌∙◌, ap, subst, if◌then◌else◌, arith}
 use Rattle.std.specs.Prelude.{◌&&◌, ◌||◌, not, bytes_eq, is_none, is_some, nat_le, slice_get, ⊤}
 use Rattle.std.specs.Bool.{beq}
-use Rattle.std.proofs.lemmas.Bool.{and_parts}
+use Rattle.std.proofs.lemmas.Bool.{and_parts, or_cases}
 use Rattle.std.proofs.lemmas.Bool.Decides.{nat_tests}
 use Rattle.kube_types.specs.declared.uid.Uid.{Uid}
 use Rattle.kube_types.specs.declared.key.Key.{Key}
@@ -38,7 +38,6 @@ use Rattle.safety_invariant.proofs.Objects.{some_volume}
 use Rattle.size_law.specs.Fitting.{Fits, IsReservedFor, Suits}
 use Rattle.size_law.proofs.Fields.{beq_same}
 use Rattle.binder_machines.proofs.Begun.{first_back}
-use Rattle.binder_machines.proofs.Tests.{either}
 
 -- the volume may be given to the claim, or was
 abbrev pub SuitsOrHas : VolumeData → ClaimData → Type 0
@@ -101,7 +100,7 @@ completed_suits v c done named e = by (has_other_uid v c) (is_none v.claim_ref |
     by true opened writes o e = absurd (lost_binds_none (is_lost c.phase) e)
     by false false writes o e = absurd (true≢false (ap is_bind (sym e)))
     by false true false o e = absurd (true≢false (ap is_bind (sym e)))
-    by false true true o e = elim (either _ _ o) [
+    by false true true o e = elim (or_cases _ _ o) [
       | inl free ↦ inl (inr (inr (record { free = no_reference v.claim_ref free; named = named; completed = done })))
       | inr carry ↦ inr carry
     ]

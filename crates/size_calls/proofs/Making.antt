@@ -1,9 +1,10 @@
 -- What ops creates is made to the measure of a claim, and nothing else that it asks gives a volume.
 use Rattle.std.proofs.Common.{◌≡◌, ℕ, List, [], ◌∷◌, Bool, true, false, Option, refl, sym, ◌∙◌, ap, subst, arith}
-use Rattle.std.specs.Prelude.{◌&&◌, ◌||◌, not, bytes_eq, is_some, nat_le}
+use Rattle.std.specs.Prelude.{◌||◌, not, bytes_eq, is_some, nat_le}
 use Rattle.std.specs.Bool.{beq}
 use Rattle.std.proofs.lemmas.Bool.Decides.{nat_tests}
 use Rattle.std.proofs.lemmas.Slice.Eq.{bytes_eq-Decides}
+use Rattle.std.proofs.lemmas.Bool.{and_from}
 use Rattle.kube_types.specs.declared.uid.Uid.{Uid}
 use Rattle.kube_types.specs.declared.key.Key.{Key}
 use Rattle.kube_types.specs.declared.parts.Modes.{Modes}
@@ -35,15 +36,12 @@ use Rattle.size_calls.proofs.Turns.{turn_asks}
 
 -- what is made for a claim fits it
 
-both : (a b : Bool) → a ≡ true → b ≡ true → (a && b) ≡ true
-both a b left right = ap (λ x. x && b) left ∙ right
-
 given_if : (b : Bool) → (not b || b) ≡ true
 given_if true = refl
 given_if false = refl
 
 covers_itself : (m : Modes) → covers m m ≡ true
-covers_itself m = both _ _ (both _ _ (both _ _ (given_if m.rwo) (given_if m.rox)) (given_if m.rwx)) (given_if m.rwop)
+covers_itself m = and_from _ _ (and_from _ _ (and_from _ _ (given_if m.rwo) (given_if m.rox)) (given_if m.rwx)) (given_if m.rwop)
 
 block_itself : (b : Bool) → beq b b ≡ true
 block_itself true = refl
@@ -59,7 +57,7 @@ made_fits v c made =
     let classes : bytes_eq (class_of_volume v) (class_of_claim c) ≡ true = (bytes_eq-Decides (class_of_volume v) (class_of_claim c)).1 made.class_name in
     let blocks : beq v.block c.block ≡ true = ap (λ b. beq b c.block) made.mode ∙ block_itself c.block in
     let access : covers c.modes v.modes ≡ true = ap (λ m. covers c.modes m) made.modes ∙ covers_itself c.modes in
-    (record { bytes = omega (arith, same); mode = made.mode }, both _ _ (both _ _ (both _ _ size classes) blocks) access)
+    (record { bytes = omega (arith, same); mode = made.mode }, and_from _ _ (and_from _ _ (and_from _ _ size classes) blocks) access)
 
 -- the volume over the data that were given for a claim
 

@@ -1,6 +1,7 @@
 -- A key that goes from one list to another.
 use Rattle.std.proofs.Common.{◌≡◌, Bool, true, false, ◌||◌, cond, List, [], ◌∷◌, ◌++◌, Option, Some, None, map, refl, sym, ap, subst, ◌∙◌}
 use Rattle.std.specs.List.{list_any}
+use Rattle.std.proofs.lemmas.Bool.{or_parts}
 use Rattle.kube_types.specs.declared.key.Key.{Key}
 use Rattle.sync_queue.specs.declared.lanes.Stage.{Stage}
 use Rattle.kube_types.specs.Keys.{same_key}
@@ -8,7 +9,6 @@ use Rattle.sync_queue.specs.Work.{Taken, AreOnce, without_waiting, is_of, mark, 
 use Rattle.sync_queue.specs.Steps.Lanes.{IsLane, IsSet, marks, is_again}
 use Rattle.kube_types.proofs.SameKeys.{same_key_itself, same_key_equivalence}
 use Rattle.sync_queue.proofs.KeyFacts.{key_is}
-use Rattle.sync_queue.proofs.Places.{or_false}
 
 or_none : (b : Bool) → (b || false) ≡ b
 or_none true = refl
@@ -32,12 +32,12 @@ any-push p xs x = any-append p xs (x ∷ []) ∙ ap (λ b. list_any p xs || b) (
 pub without-absent : {X : Type 0} (p : X → Bool) (xs : List X) → list_any p xs ≡ false → without_waiting p xs ≡ xs
 without-absent p [] h = refl
 without-absent p (x ∷ xs) h =
-    let f = or_false (p x) (list_any p xs) h in
+    let f = or_parts (p x) (list_any p xs) h in
     ap (λ b. cond b xs (x ∷ without_waiting p xs)) f.0 ∙ ap (λ ys. x ∷ ys) (without-absent p xs f.1)
 
 any-less : {X : Type 0} (p t : X → Bool) (xs : List X) → list_any p xs ≡ false → list_any p (without_waiting t xs) ≡ false
 any-less p t [] h = refl
-any-less p t (x ∷ xs) h = by (t x) (or_false (p x) (list_any p xs) h) (any-less p t xs)
+any-less p t (x ∷ xs) h = by (t x) (or_parts (p x) (list_any p xs) h) (any-less p t xs)
   where
     by : (b : Bool) → (p x ≡ false) × (list_any p xs ≡ false) → (list_any p xs ≡ false → list_any p (without_waiting t xs) ≡ false) → list_any p (cond b xs (x ∷ without_waiting t xs)) ≡ false
     by true f rest = f.1
@@ -46,7 +46,7 @@ any-less p t (x ∷ xs) h = by (t x) (or_false (p x) (list_any p xs) h) (any-les
 once-push : (ks : List Key) (k : Key) → AreOnce ks → list_any (same_key k) ks ≡ false → AreOnce (ks ++ k ∷ [])
 once-push [] k h a = (refl, tt)
 once-push (j ∷ js) k h a =
-    let f = or_false (same_key k j) (list_any (same_key k) js) a in
+    let f = or_parts (same_key k j) (list_any (same_key k) js) a in
     (any-push (same_key j) js k ∙ ap (λ b. b || same_key j k) h.0 ∙ (same_key_equivalence.symm j k ∙ f.0), once-push js k h.1 f.1)
 
 once-without : (k : Key) (ks : List Key) → AreOnce ks → AreOnce (without_waiting (same_key k) ks)
@@ -143,7 +143,7 @@ module _ (stage after : Key → Option Stage) (k : Key) (s : Option Stage) (set 
   pub marks-other : (ks : List Key) → list_any (same_key k) ks ≡ false → marks after ks ≡ marks stage ks
   marks-other [] h = refl
   marks-other (j ∷ js) h =
-      let f = or_false (same_key k j) (list_any (same_key k) js) h in
+      let f = or_parts (same_key k j) (list_any (same_key k) js) h in
       let rest = marks-other js f.1 in
       let same = after_other j f.0 in
       λ i. (record { key = j; again = is_again (same i) }) ∷ rest i

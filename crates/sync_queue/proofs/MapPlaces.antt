@@ -3,12 +3,12 @@ use Rattle.std.proofs.Common.{◌≡◌, ℕ, ◌<◌, ◌≤◌, zero, suc, Boo
 use Rattle.std.specs.List.{list_any}
 use Rattle.std.specs.Prelude.{remove}
 use Rattle.std.specs.Map.{keys_of}
+use Rattle.std.proofs.lemmas.Bool.{or_parts}
 use Rattle.kube_types.specs.declared.key.Key.{Key}
 use Rattle.kube_types.specs.Keys.{same_key}
 use Rattle.kube_types.proofs.SameKeys.{same_key_itself, same_key_swapped}
 use Rattle.sync_queue.specs.Work.{AreOnce, without_waiting}
 use Rattle.sync_queue.specs.Steps.Places.{AreBelow, key_there, keys_at}
-use Rattle.sync_queue.proofs.Places.{or_false}
 
 module _ (ks : List Key) where
   pub keys_push : (places : List ℕ) (p : ℕ) → keys_at ks (places ++ p ∷ []) ≡ keys_at ks places ++ key_there ks p ∷ []
@@ -95,8 +95,8 @@ remove_once (k ∷ ks) (suc at) once lt =
   where
     apart : (js : List Key) (i : ℕ) → list_any (same_key k) js ≡ false → i < length js → same_key k (key_there js i) ≡ false
     apart [] i h lt = absurd (omega arith)
-    apart (j ∷ js) zero h lt = (or_false (same_key k j) (list_any (same_key k) js) h).0
-    apart (j ∷ js) (suc i) h lt = apart js i (or_false (same_key k j) (list_any (same_key k) js) h).1 (omega arith)
+    apart (j ∷ js) zero h lt = (or_parts (same_key k j) (list_any (same_key k) js) h).0
+    apart (j ∷ js) (suc i) h lt = apart js i (or_parts (same_key k j) (list_any (same_key k) js) h).1 (omega arith)
 
 module _ {X : Type 0} where
   pub length-keys_of : (es : List (Key × X)) → length (keys_of es) ≡ length es

@@ -1,5 +1,5 @@
 -- What stands at the place that a search finds.
-use Rattle.std.proofs.Common.{◌≡◌, ℕ, ◌+◌, ◌<◌, suc, Bool, true, false, true≢false, not, cond, ◌||◌, List, [], ◌∷◌, length, Some, slice_get, position, refl, sym, subst, arith}
+use Rattle.std.proofs.Common.{◌≡◌, ℕ, ◌+◌, ◌<◌, suc, Bool, true, false, not, cond, List, [], ◌∷◌, length, Some, slice_get, position, refl, sym, subst, arith}
 use Rattle.std.specs.List.{position_or_len}
 use Rattle.std.specs.Map.{keys_of}
 use Rattle.indexmap.proofs.MapLemmas.{Found-position}
@@ -24,7 +24,3 @@ module _ {K X : Type 0} (t : K → Bool) where
   stands_at es i p =
       let f = Found-position t es i (sym p) in
       subst (StandsAt es) f.or_len (first_at es (subst (λ n. n < length es) (sym f.or_len) f.within))
-
-pub or_false : (a b : Bool) → (a || b) ≡ false → (a ≡ false) × (b ≡ false)
-or_false true b h = absurd (true≢false h)
-or_false false b h = (refl, h)

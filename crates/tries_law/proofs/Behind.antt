@@ -1,6 +1,7 @@
 -- Behind some actors of a round the others act on what is due for them.
 use Rattle.std.proofs.Common.{◌≡◌, ◌≢◌, ◌∙◌, ◌⊎◌, ℕ, zero, suc, ◌-◌, List, [], ◌∷◌, ◌++◌, append_assoc, Bool, true, false, true≢false, Some, inl, inr, refl, sym, ap, subst}
 use Rattle.std.specs.Prelude.{slice_get, ⊤}
+use Rattle.std.proofs.lemmas.Bool.{and_parts}
 use Rattle.kube_types.specs.declared.key.Key.{Key}
 use Rattle.kube_types.specs.declared.objects.Object.{Object}
 use Rattle.kube_types.specs.Keys.{key_of, row_at}
@@ -24,7 +25,7 @@ use Rattle.worker_threads.specs.declared.drainers.Drainer.{Drainer}
 use Rattle.worker_threads.specs.Drainers.{agent_of, of_kind, roles_of}
 use Rattle.worker_threads.specs.Longer.{GrowsWithin}
 use Rattle.worker_threads.specs.Rounds.{Ends, IsRound, Lets, Runs, Turns, all_pass, told_entry}
-use Rattle.worker_threads.proofs.RoundFacts.{AreBuilt, both, round_grows}
+use Rattle.worker_threads.proofs.RoundFacts.{AreBuilt, round_grows}
 use Rattle.worker_threads.proofs.RunFacts.{run_grows}
 use Rattle.write_law.specs.Lasting.{HasLasting}
 use Rattle.alike_law.specs.Alike.{AreAlike}
@@ -127,10 +128,10 @@ module _ (lets : Lets) (past : List Entry) (left : ℕ) where
   awake_in _ h b _ _ (Turns {ds = ds} {after = after} {whole = whole} first ran middle rest idle seat run more) is_whole zero d x there ran_there other =
       let same : first ≡ d = one first d there in
       let ran_same : ran ≡ x = one ran x ran_there in
-      let idle_run : Runs lets first.seat ran.actor middle rest true (woken first.actor) h b = subst (λ i. Runs lets first.seat ran.actor middle rest i (woken first.actor) h b) (both idle whole is_whole).0 run in
+      let idle_run : Runs lets first.seat ran.actor middle rest true (woken first.actor) h b = subst (λ i. Runs lets first.seat ran.actor middle rest i (woken first.actor) h b) (and_parts idle whole is_whole).0 run in
       ap (λ (y : Drainer). y.actor.memory.stale) (sym ran_same) ∙ others_stay_awake lets first.seat (woken first.actor) ran.actor h middle b rest (subst (λ (y : Drainer). y.actor.role.kind ≢ seats.Agent) (sym same) other) idle_run
   awake_in _ h b _ _ (Turns {ds = ds} {after = after} {whole = whole} first ran middle rest idle seat run more) is_whole (suc place) d x there ran_there other =
-      awake_in ds middle rest after whole more (both idle whole is_whole).1 place d x there ran_there other
+      awake_in ds middle rest after whole more (and_parts idle whole is_whole).1 place d x there ran_there other
 
 -- the kind of each is built
 built_at : (ds : List Drainer) (i : ℕ) (d : Drainer) → AreBuilt (roles_of ds) → slice_get ds i ≡ Some d → IsBuiltKind d.actor.role.kind

@@ -1,6 +1,7 @@
 -- The slots of a round: the scheduler's, that of ops, and those behind.
 use Rattle.std.proofs.Common.{◌≡◌, ◌∙◌, ℕ, List, [], ◌∷◌, Bool, true, refl, sym, ap, subst}
 use Rattle.std.specs.Prelude.{map}
+use Rattle.std.proofs.lemmas.Bool.{and_parts}
 use Rattle.call_types.specs.declared.entry.Entry.{Entry}
 use Rattle.call_types.specs.declared.request.SeatKind.TheVariants as seats
 use Rattle.worker_core.specs.declared.role.Role.{Role}
@@ -8,7 +9,6 @@ use Rattle.worker_core.specs.Absorbs.{woken}
 use Rattle.worker_threads.specs.declared.drainers.Drainer.{Drainer}
 use Rattle.worker_threads.specs.Drainers.{AreRoles, agent_of, of_kind, roles_of}
 use Rattle.worker_threads.specs.Rounds.{Ends, IsRound, Lets, Runs, Turns}
-use Rattle.worker_threads.proofs.RoundFacts.{both}
 use Rattle.std.specs.Prelude.{⊤}
 
 abbrev pub roles_behind : List (List ℕ) → List Role
@@ -35,7 +35,7 @@ IsAny (role ∷ roles) = ⊤
 pub slot_of : (lets : Lets) (past : List Entry) (left : ℕ) (ds : List Drainer) (h : List Entry) (b : ℕ) (after : List Drainer) (whole : Bool) → IsRound lets past left ds h b after whole → whole ≡ true → IsAny (roles_of ds) → HasSlot lets past left ds h b after
 slot_of lets past left _ h b _ _ (Ends entries rest) is_whole any = absurd any
 slot_of lets past left _ h b _ _ (Turns {ds = ds} {after = after} {whole = whole} d ran middle rest idle seat runs more) is_whole any =
-    let parts = both idle whole is_whole in
+    let parts = and_parts idle whole is_whole in
     record {
       drainer = d;
       ran = ran;

@@ -2,6 +2,7 @@
 use Rattle.std.proofs.Common.{◌≡◌, ◌∙◌, ℕ, suc, ◌-◌, List, [], ◌∷◌, ◌++◌, append_assoc, Bool, true, false, true≢false, Some, inl, inr, refl, sym, ap, subst, arith}
 use Rattle.std.proofs.lemmas.List.{append_cancel_right}
 use Rattle.std.specs.Prelude.{is_some, slice_get}
+use Rattle.std.proofs.lemmas.Bool.{and_parts}
 use Rattle.kube_types.specs.declared.key.Key.{Key}
 use Rattle.kube_types.specs.declared.uid.Uid.{Uid}
 use Rattle.kube_types.specs.declared.names.Due.TheVariants as dues
@@ -31,7 +32,7 @@ use Rattle.worker_threads.specs.Drainers.{AreRoles, StandsWhole, of_kind, roles_
 use Rattle.worker_threads.specs.Longer.{AreToldOf, GrowsWithin, HasGrown, IsOneOf}
 use Rattle.worker_threads.specs.Rounds.{Ends, IsRound, Runs, Turns, all_pass}
 use Rattle.worker_threads.proofs.Entries.{grown_others}
-use Rattle.worker_threads.proofs.RoundFacts.{both, round_grows}
+use Rattle.worker_threads.proofs.RoundFacts.{round_grows}
 use Rattle.worker_threads.proofs.RunFacts.{run_grows, run_role}
 use Rattle.write_law.specs.Lasting.{content_of}
 use Rattle.slot_law.specs.Slots.{SeesStore}
@@ -57,7 +58,7 @@ use Rattle.tries_law.proofs.Selected.{WasPut, stands_selected, was_put}
 pub slot_first : (past : List Entry) (left : ℕ) (ds : List Drainer) (h : List Entry) (b : ℕ) (after : List Drainer) (whole : Bool) → IsRound all_pass past left ds h b after whole → whole ≡ true → IsAny (roles_of ds) → HasSlot all_pass past left ds h b after
 slot_first past left _ h b _ _ (Ends entries rest) is_whole any = absurd any
 slot_first past left _ h b _ _ (Turns {ds = ds} {after = after} {whole = whole} d ran middle rest idle seat runs more) is_whole any =
-    let parts = both idle whole is_whole in
+    let parts = and_parts idle whole is_whole in
     record {
       drainer = d;
       ran = ran;

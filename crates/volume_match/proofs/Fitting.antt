@@ -1,11 +1,11 @@
 -- What a volume that fits a claim has, and where it stands in the orders of an index.
-use Rattle.std.proofs.Common.{ℕ, ◌≡◌, ◌≢◌, ◌≤◌, ◌<◌, ◌⊎◌, inl, inr, Bool, true, false, true≢false, not, ◌&&◌, ◌||◌, bytes_eq, nat_le, Option, Some, None, arith, ◌∙◌, refl, sym, ap, subst, if◌then◌else◌}
+use Rattle.std.proofs.Common.{ℕ, ◌≡◌, ◌≢◌, ◌≤◌, ◌<◌, ◌⊎◌, inl, inr, Bool, true, false, true≢false, not, ◌&&◌, bytes_eq, nat_le, Option, Some, None, arith, ◌∙◌, refl, sym, ap, subst, if◌then◌else◌}
 use Rattle.std.specs.Prelude.{is_none, is_some}
 use Rattle.std.specs.Bool.{beq}
 use Rattle.std.specs.declared.cmp.Ordering.{Ordering}
 use Rattle.std.specs.declared.cmp.Ordering.TheVariants.{Less, Equal, Greater}
 use Rattle.std.specs.Ordering.{MatchOrdering, is_eq, is_gt, is_lt, nat_cmp, ordering_then}
-use Rattle.std.proofs.lemmas.Bool.{leb-true}
+use Rattle.std.proofs.lemmas.Bool.{leb-true, and_from, and_parts, or_cases}
 use Rattle.std.proofs.lemmas.Cmp.{nat_cmp_total, nat_list_cmp_total, ranked, tied_itself}
 use Rattle.std.proofs.lemmas.Map.Lookups.{exact_bytes, exact_unsigned}
 use Rattle.std.proofs.lemmas.Slice.Eq.{bytes_eq-Decides}
@@ -21,18 +21,6 @@ use Rattle.kube_types.specs.VolumeIndex.{is_free, is_owned}
 use Rattle.kube_types.specs.VolumeOrders.{Owner, Size, by_owner, by_size, group_cmp, name_cmp, need_cmp, owner_cmp, owner_in, owner_of, size_cmp, size_of}
 use Rattle.volume_match.specs.Steps.Choices.{claim_owner, is_grouped, ref_is_to, wanted}
 use Rattle.kube_types.proofs.VolumeOrders.{both_equal, first_no_greater, owner_total}
-
-pub both_true : (a b : Bool) → (a && b) ≡ true → (a ≡ true) × (b ≡ true)
-both_true true b e = (refl, e)
-both_true false b e = absurd (true≢false (sym e))
-
-pub all_true : (a b : Bool) → a ≡ true → b ≡ true → (a && b) ≡ true
-all_true true b e f = f
-all_true false b e f = absurd (true≢false (sym e))
-
-either : (a b : Bool) → (a || b) ≡ true → (a ≡ true) ⊎ (b ≡ true)
-either true b e = inl refl
-either false b e = inr e
 
 same_bool : (a b : Bool) → beq a b ≡ true → a ≡ b
 same_bool true true e = refl
@@ -52,10 +40,10 @@ counted false false e = refl
 
 eligible_parts : (a b f s ad m : Bool) → (a && b && f && s && ad && m) ≡ true → (f ≡ true) × (m ≡ true)
 eligible_parts a b f s ad m e =
-    let x = both_true (a && b && f && s && ad) m e in
-    let y = both_true (a && b && f && s) ad x.0 in
-    let z = both_true (a && b && f) s y.0 in
-    ((both_true (a && b) f z.0).1, x.1)
+    let x = and_parts (a && b && f && s && ad) m e in
+    let y = and_parts (a && b && f && s) ad x.0 in
+    let z = and_parts (a && b && f) s y.0 in
+    ((and_parts (a && b) f z.0).1, x.1)
 
 -- what the eligible volume has of the claim
 pub record Fit (v : VolumeData) (c : ClaimData) : Type 0 where
@@ -72,9 +60,9 @@ module _ (c : ClaimData) (on : Option NodeData) where
       let le = nat_le c.amount.bytes v.amount.bytes in
       let class = bytes_eq (class_of_volume v) (class_of_claim c) in
       let block = beq v.block c.block in
-      let x = both_true (le && class && block) (covers c.modes v.modes) (parts v e).0 in
-      let y = both_true (le && class) block x.0 in
-      let z = both_true le class y.0 in
+      let x = and_parts (le && class && block) (covers c.modes v.modes) (parts v e).0 in
+      let y = and_parts (le && class) block x.0 in
+      let z = and_parts le class y.0 in
       record {
         bytes = leb-true c.amount.bytes v.amount.bytes z.0;
         class = (bytes_eq-Decides (class_of_volume v) (class_of_claim c)).0 z.1;
@@ -83,8 +71,8 @@ module _ (c : ClaimData) (on : Option NodeData) where
 
   -- the claim's, or free
   pub served : (v : VolumeData) → eligible v c on ≡ true → (is_for v c ≡ true) ⊎ (is_free v ≡ true)
-  served v e = elim (either (is_for v c && not (is_ended v.phase)) (is_available v.phase && is_none v.claim_ref) (parts v e).1) [
-    | inl h ↦ inl (both_true (is_for v c) (not (is_ended v.phase)) h).0
+  served v e = elim (or_cases (is_for v c && not (is_ended v.phase)) (is_available v.phase && is_none v.claim_ref) (parts v e).1) [
+    | inl h ↦ inl (and_parts (is_for v c) (not (is_ended v.phase)) h).0
     | inr h ↦ inr h
   ]
 
@@ -104,13 +92,13 @@ module _ (c : ClaimData) (on : Option NodeData) where
   for_owned v e = referred v.claim_ref e
 
   pub free_other : (v : VolumeData) → is_free v ≡ true → is_for v c ≡ false
-  free_other v e = unreferred v.claim_ref (both_true (is_available v.phase) (is_none v.claim_ref) e).1
+  free_other v e = unreferred v.claim_ref (and_parts (is_available v.phase) (is_none v.claim_ref) e).1
 
   -- a volume that refers to a claim is eligible for that one alone
   pub owned_for : (v : VolumeData) → eligible v c on ≡ true → is_owned v ≡ true → is_for v c ≡ true
   owned_for v e owned = elim (served v e) [
     | inl h ↦ h
-    | inr h ↦ absurd (some_none v.claim_ref owned (both_true (is_available v.phase) (is_none v.claim_ref) h).1)
+    | inr h ↦ absurd (some_none v.claim_ref owned (and_parts (is_available v.phase) (is_none v.claim_ref) h).1)
   ]
 
   abbrev the_owner : Owner
@@ -119,7 +107,7 @@ module _ (c : ClaimData) (on : Option NodeData) where
   pub names_owner : (r : Option Ref) → ref_is_to c r ≡ true → owner_in r ≡ the_owner
   names_owner None e = absurd (true≢false (sym e))
   names_owner (Some r) e =
-      let p = both_true (bytes_eq r.namespace c.meta.namespace) (bytes_eq r.name c.meta.name) e in
+      let p = and_parts (bytes_eq r.namespace c.meta.namespace) (bytes_eq r.name c.meta.name) e in
       let namespace = (bytes_eq-Decides r.namespace c.meta.namespace).0 p.0 in
       let name = (bytes_eq-Decides r.name c.meta.name).0 p.1 in
       λ i. record { namespace = namespace i; name = name i }
@@ -127,7 +115,7 @@ module _ (c : ClaimData) (on : Option NodeData) where
   pub owner_named : (r : Option Ref) → is_some r ≡ true → owner_in r ≡ the_owner → ref_is_to c r ≡ true
   owner_named None e is = absurd (true≢false (sym e))
   owner_named (Some r) e is =
-      all_true (bytes_eq r.namespace c.meta.namespace) (bytes_eq r.name c.meta.name)
+      and_from (bytes_eq r.namespace c.meta.namespace) (bytes_eq r.name c.meta.name)
       ((bytes_eq-Decides r.namespace c.meta.namespace).1 (ap (λ (w : Owner). w.namespace) is))
       ((bytes_eq-Decides r.name c.meta.name).1 (ap (λ (w : Owner). w.name) is))
 
@@ -137,7 +125,7 @@ module _ (c : ClaimData) (on : Option NodeData) where
 
   for_names : (r : Option Ref) → refers_for r c ≡ true → ref_is_to c r ≡ true
   for_names None e = absurd (true≢false (sym e))
-  for_names (Some r) e = (both_true (ref_is_to c (Some r)) (uid_fits r.uid c) e).0
+  for_names (Some r) e = (and_parts (ref_is_to c (Some r)) (uid_fits r.uid c) e).0
 
   pub owner_is : (v : VolumeData) → eligible v c on ≡ true → is_owned v ≡ true → owner_of v ≡ the_owner
   owner_is v e owned = names_owner v.claim_ref (for_names v.claim_ref (owned_for v e owned))
@@ -228,7 +216,7 @@ module _ (c : ClaimData) (on : Option NodeData) where
   pub before_jump : (v u : VolumeData) → is_grouped v c ≡ true → is_gt (size_cmp (size_of v) (size_of u)) ≡ false → is_lt (size_cmp (size_of u) (wanted c (mode_count v.modes))) ≡ true → eligible u c on ≡ true → ⊥
   before_jump v u group le lt e =
       let f = fit_of c on u e in
-      let g = both_true (bytes_eq (class_of_volume v) (class_of_claim c)) (beq v.block c.block) group in
+      let g = and_parts (bytes_eq (class_of_volume v) (class_of_claim c)) (beq v.block c.block) group in
       let class = (bytes_eq-Decides (class_of_volume v) (class_of_claim c)).0 g.0 ∙ sym f.class in
       let block = same_bool v.block c.block g.1 ∙ sym f.block in
       let fewer = with_modes u (mode_count v.modes) e lt in
@@ -239,7 +227,7 @@ module _ (c : ClaimData) (on : Option NodeData) where
   -- a volume of the class and volume mode that is too small is before all with as many modes that are not
   pub too_small : (v : VolumeData) → is_grouped v c ≡ true → v.amount.bytes < c.amount.bytes → is_lt (size_cmp (size_of v) (wanted c (mode_count v.modes))) ≡ true
   too_small v group less =
-      let g = both_true (bytes_eq (class_of_volume v) (class_of_claim c)) (beq v.block c.block) group in
+      let g = and_parts (bytes_eq (class_of_volume v) (class_of_claim c)) (beq v.block c.block) group in
       let class = (bytes_eq-Decides (class_of_volume v) (class_of_claim c)).0 g.0 in
       let block = same_bool v.block c.block g.1 in
       let alike : nat_cmp (mode_count v.modes) (mode_count v.modes) ≡ Equal = tied_itself nat_cmp_total (mode_count v.modes) in
@@ -261,7 +249,7 @@ module _ (c : ClaimData) (on : Option NodeData) where
       by Equal is ge le =
           let p = both_equal (text_cmp (class_of_volume v) (class_of_claim c)) (nat_cmp (count_one v.block) (count_one c.block)) (ap is_eq is) in
           let block : v.block ≡ c.block = counted v.block c.block (exact_unsigned _ _ p.1) in
-          let here = all_true (bytes_eq (class_of_volume v) (class_of_claim c)) (beq v.block c.block)
+          let here = and_from (bytes_eq (class_of_volume v) (class_of_claim c)) (beq v.block c.block)
           ((bytes_eq-Decides (class_of_volume v) (class_of_claim c)).1 (exact_bytes _ _ p.0)) (subst (λ b. beq v.block b ≡ true) block (itself v.block)) in
           true≢false (sym here ∙ other)
       by Greater is ge le = true≢false (sym (ap (λ r. is_gt (ordering_then (ordering_then r (nat_cmp (mode_count v.modes) (mode_count u.modes))) (nat_cmp v.amount.bytes u.amount.bytes))) is) ∙ le)

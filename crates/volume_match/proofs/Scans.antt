@@ -1,5 +1,6 @@
 -- A scan of the volumes finds the best.
 use Rattle.std.proofs.Common.{ℕ, ◌≡◌, ◌≢◌, ◌<◌, ◌+◌, nat_le, Bool, true, false, not, ◌&&◌, bytes_eq, List, length, Option, Some, None, slice_get, ◌∙◌, refl, sym, ap, subst}
+use Rattle.std.proofs.lemmas.Bool.{and_left, and_parts, and_right, not-true}
 use borrow.Author.Count.{below_more}
 use Rattle.std.specs.Bool.{beq}
 use Rattle.std.specs.Cmp.{IsTotalOrder}
@@ -70,21 +71,13 @@ as_volume_some (Some (Node x)) v e = cc
 as_volume_some (Some (Claim x)) v e = cc
 as_volume_some (Some (Pod x)) v e = cc
 
-both_true : (a b : Bool) → (a && b) ≡ true → (a ≡ true) × (b ≡ true)
-both_true true b e = (refl, e)
-both_true false b e = cc
-
-negated : (a : Bool) → not a ≡ true → a ≡ false
-negated true e = cc
-negated false e = refl
-
 pub open_candidate : (rows : List Object) (c : ClaimData) (on : Option NodeData) (own : Bool) (excluded : List ℕ) (place : ℕ) (v : VolumeData) → volume_at rows place ≡ Some v → is_open c on own excluded place v ≡ true → IsCandidate rows c on own excluded place v
 open_candidate rows c on own excluded place v there open_now =
-    let parts = both_true (not (is_excluded excluded place)) (only_own_passes own v c && eligible v c on) open_now in
-    let rest = both_true (only_own_passes own v c) (eligible v c on) parts.1 in
+    let parts = and_parts (not (is_excluded excluded place)) (only_own_passes own v c && eligible v c on) open_now in
+    let rest = and_parts (only_own_passes own v c) (eligible v c on) parts.1 in
     record {
       there = as_volume_some (slice_get (rows_of kinds.PersistentVolume rows) place) v there;
-      open_to = negated (is_excluded excluded place) parts.0;
+      open_to = not-true (is_excluded excluded place) parts.0;
       own = rest.0;
       eligible = rest.1;
     }
@@ -136,23 +129,15 @@ closed rows c on own excluded place v there shut u k =
     let x : true ≡ false = sym o ∙ (ap (is_open c on own excluded place) e ∙ shut) in
     cc
 
-falls : (a b : Bool) → b ≡ false → (a && b) ≡ false
-falls true b e = e
-falls false b e = refl
-
-falls_first : (a b : Bool) → a ≡ false → (a && b) ≡ false
-falls_first true b e = cc
-falls_first false b e = refl
-
 -- a volume that does not serve the claim is not open to it
 pub unserved : (c : ClaimData) (on : Option NodeData) (own : Bool) (excluded : List ℕ) (place : ℕ) (v : VolumeData) → serves v c ≡ false → is_open c on own excluded place v ≡ false
 unserved c on own excluded place v e =
-    falls (not (is_excluded excluded place)) (only_own_passes own v c && eligible v c on) (falls (only_own_passes own v c) (eligible v c on) (by (nat_le c.amount.bytes v.amount.bytes) (may_serve v c) (not (is_deleting v.meta) && is_protected_volume v) (bytes_eq (class_of_volume v) (class_of_claim c)) (beq v.block c.block) (covers c.modes v.modes) (is_selected c.selector v.meta.labels) (is_admitted_on v on) e))
+    and_right (not (is_excluded excluded place)) (only_own_passes own v c && eligible v c on) (and_right (only_own_passes own v c) (eligible v c on) (by (nat_le c.amount.bytes v.amount.bytes) (may_serve v c) (not (is_deleting v.meta) && is_protected_volume v) (bytes_eq (class_of_volume v) (class_of_claim c)) (beq v.block c.block) (covers c.modes v.modes) (is_selected c.selector v.meta.labels) (is_admitted_on v on) e))
   where
     by : (le may kept class block modes selected admitted : Bool) → (le && may) ≡ false → (kept && (le && class && block && modes) && selected && admitted && may) ≡ false
-    by true may kept class block modes selected admitted e = falls (kept && (true && class && block && modes) && selected && admitted) may e
+    by true may kept class block modes selected admitted e = and_right (kept && (true && class && block && modes) && selected && admitted) may e
     by false may kept class block modes selected admitted e =
-        falls_first (kept && false && selected && admitted) may (falls_first (kept && false && selected) admitted (falls_first (kept && false) selected (falls kept false refl)))
+        and_left (kept && false && selected && admitted) may (and_left (kept && false && selected) admitted (and_left (kept && false) selected (and_right kept false refl)))
 
 pub absent : (rows : List Object) (c : ClaimData) (on : Option NodeData) (own : Bool) (excluded : List ℕ) (place : ℕ) → volume_at rows place ≡ None → (u : VolumeData) → IsCandidate rows c on own excluded place u → ⊥
 absent rows c on own excluded place gone u k =

@@ -18,7 +18,7 @@ use Rattle.call_types.specs.declared.reply.Reply.TheVariants as replies
 use Rattle.call_types.specs.declared.request.Request.{Request}
 use Rattle.call_types.specs.declared.request.Request.TheVariants as requests
 use Rattle.call_types.specs.declared.setup.Setup.{Setup}
-use Rattle.binder_machines.specs.KindLaw.{reads_kind}
+use Rattle.call_types.specs.Kinds.{reads_kind}
 use Rattle.binder_model.specs.Reading.{follows, following_of}
 use Rattle.binder_model.specs.Told.{Telling, newest, object_of, own}
 use Rattle.binder_model.specs.Watching.{is_later, most_events, told_events}

@@ -22,7 +22,7 @@ use Rattle.worker_core.specs.declared.turn.Outcome.{Outcome}
 use Rattle.worker_core.specs.declared.turn.Outcome.TheVariants as outcomes
 use Rattle.worker_core.specs.Absorbs.{absorbed, given_told, is_passing, learned, lost_given, lost_to, lost_under, pass_after, task_told, told_to, woken}
 use Rattle.worker_core.specs.Memories.{memory_after, memory_of}
-use Rattle.binder_machines.specs.KindLaw.{reads_kind}
+use Rattle.call_types.specs.Kinds.{reads_kind}
 use Rattle.worker_core.specs.Roles.{IsBuiltKind}
 use Rattle.worker_core.specs.Stands.{AnyIsUnderWay, AreLicensed, AreOwn, GivenStands, IsUnderWay, PassStands, StandsFor, StartsSo, WentOn}
 use Rattle.worker_core.specs.States.{ActorState, asked, call_under, given_call, read_request}

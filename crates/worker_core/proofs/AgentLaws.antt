@@ -12,7 +12,7 @@ use Rattle.node_agent.specs.StartLaw.{AreLicensed as AreAgents}
 use Rattle.node_agent.proofs.Histories.{takers_may_decide}
 use Rattle.worker_core.specs.Stands.{AreLicensed, AreOwn}
 
-are_agents : (mine : List Entry) → AreLicensed seats.Agent mine → AreAgents mine
+pub are_agents : (mine : List Entry) → AreLicensed seats.Agent mine → AreAgents mine
 are_agents [] licensed = tt
 are_agents (e ∷ mine) licensed = (are_agents mine licensed.0, licensed.2)
 

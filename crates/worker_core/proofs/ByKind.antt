@@ -9,7 +9,7 @@ use Rattle.call_types.specs.declared.request.Request.TheVariants as requests
 use Rattle.call_types.specs.declared.request.SeatKind.{SeatKind}
 use Rattle.call_types.specs.declared.request.SeatKind.TheVariants as seats
 use Rattle.call_types.specs.declared.reply.Reply.{Reply}
-use Rattle.binder_machines.specs.KindLaw.{reads_kind}
+use Rattle.call_types.specs.Kinds.{reads_kind}
 use Rattle.binder_model.specs.AgentLicence.{epoch_told, last_epoch}
 use Rattle.binder_model.specs.Licence.{AreOfKind, Licensed, RowAllows}
 use Rattle.binder_model.specs.Reading.{IsFrom, MayRead, following_of, follows}

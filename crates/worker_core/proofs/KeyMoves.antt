@@ -2,6 +2,7 @@
 use Rattle.std.proofs.Common.{◌≡◌, ◌⊎◌, List, [], ◌∷◌, ◌++◌, Bool, true, false, Option, Some, None, inl, inr, refl, sym, ◌∙◌, ap, if◌then◌else◌}
 use Rattle.std.specs.Prelude.{◌||◌, map}
 use Rattle.std.specs.List.{list_any}
+use Rattle.std.proofs.lemmas.Bool.{or_cases}
 use Rattle.kube_types.specs.declared.key.Key.{Key}
 use Rattle.kube_types.specs.Keys.{key_of, same_key}
 use Rattle.kube_types.proofs.SameKeys.{same_key-Decides}
@@ -16,7 +17,6 @@ use Rattle.worker_core.specs.declared.task.First.TheVariants as firsts
 use Rattle.worker_core.specs.Absorbs.{all_added, kind_added, kinds_added}
 use Rattle.worker_core.specs.States.{is_parked, waits}
 use Rattle.worker_core.specs.Turns.{dropped}
-use Rattle.binder_machines.proofs.Tests.{either}
 
 pub is_key : (a b : Key) → same_key a b ≡ true → a ≡ b
 is_key a b e = (same_key-Decides a b).0 e
@@ -98,7 +98,7 @@ put_off_parks k key w = by (mark_of k w.taken)
     by : (m : Option Bool) → is_parked key (retry_by m k w) ≡ true → (is_parked key w ≡ true) ⊎ (k ≡ key)
     by None e = inl e
     by (Some true) e = inl e
-    by (Some false) e = elim (either (list_any (same_key key) w.parked) (list_any (same_key key) (k ∷ [])) (sym (any-append (same_key key) w.parked (k ∷ [])) ∙ e)) [
+    by (Some false) e = elim (or_cases (list_any (same_key key) w.parked) (list_any (same_key key) (k ∷ [])) (sym (any-append (same_key key) w.parked (k ∷ [])) ∙ e)) [
       | inl before ↦ inl before
       | inr now ↦ inr (sym (is_key key k (only (same_key key k) now)))
     ]
@@ -110,7 +110,7 @@ work_with ks w = record { waiting = ks; taken = w.taken; parked = w.parked }
 
 begun_at : (ks : List Key) (k key : Key) (w : Work) → oldest_of ks ≡ Some k → waits key (work_with ks w) ≡ true → (k ≡ key) ⊎ (waits key (begun (work_with ks w)) ≡ true)
 begun_at [] k key w old e = none_some old
-begun_at (j ∷ ks) k key w old e = elim (either (same_key key j) (list_any (same_key key) ks) e) [
+begun_at (j ∷ ks) k key w old e = elim (or_cases (same_key key j) (list_any (same_key key) ks) e) [
   | inl own ↦ inl (sym (one j k old) ∙ sym (is_key key j own))
   | inr more ↦ inr more
 ]

@@ -25,7 +25,6 @@ use Rattle.model_laws.proofs.Lists.{one, none_some}
 use Rattle.node_agent.specs.declared.agent.AgentOp.{AgentOp}
 use Rattle.node_agent.specs.Agents.{agent_begins, agent_moved}
 use Rattle.node_agent.specs.Evidence.{MayDecide}
-use Rattle.node_agent.specs.BeginLaw.{ReadsNoKind as AgentReadsNoKind}
 use Rattle.node_agent.proofs.Allowed.{allowed as agent_allowed, calls_read_no_kind as agent_calls_read_no_kind}
 use Rattle.node_agent.proofs.Begun.{decisions as agent_decisions}
 use Rattle.node_agent.proofs.Moves.{goes_on as agent_goes_on}
@@ -36,7 +35,7 @@ use Rattle.pod_scheduler.proofs.Begun.{decisions_keep}
 use Rattle.pod_scheduler.proofs.Moves.{evidence_goes_on}
 use Rattle.protect_sync.specs.declared.claims.ClaimGuardOp.{ClaimGuardOp}
 use Rattle.protect_sync.specs.declared.volumes.VolumeGuardOp.{VolumeGuardOp}
-use Rattle.protect_sync.specs.BeginLaw.{ReadsNoKind}
+use Rattle.call_types.proofs.WholeKinds.{no_read}
 use Rattle.protect_sync.specs.ClaimGuards.{claim_moved}
 use Rattle.protect_sync.specs.Decisions.{claim_guard_begins, volume_guard_begins}
 use Rattle.protect_sync.specs.VolumeGuards.{volume_moved}
@@ -64,7 +63,7 @@ use Rattle.worker_core.specs.declared.task.Task.TheVariants as tasks
 use Rattle.worker_core.specs.declared.task.Under.{Under}
 use Rattle.worker_core.specs.Memories.{Memory, memory_of}
 use Rattle.worker_core.specs.Roles.{kinds_of}
-use Rattle.binder_machines.specs.KindLaw.{reads_kind}
+use Rattle.call_types.specs.Kinds.{reads_kind}
 use Rattle.worker_core.specs.Stands.{AreLicensed, AreOwn, Begun, IsUnderWay, StartsSo, WentOn}
 use Rattle.worker_core.specs.Steps.Evidence.{TaskKeeps, task_kind}
 use Rattle.worker_core.specs.Tasks.{IsAgentFirst, IsDecision, IsFirstOf, IsPodFirst, agent_first, claim_guard_first, erase_first, ops_first, task_call, task_moved, under_after, volume_guard_first, with_call, with_task}
@@ -110,16 +109,6 @@ task_stays (tasks.Binder m) next reply is = by (binder.moved m reply) is
     by None h = none_some h
     by (Some k) h = ap task_kind (sym (one (tasks.Binder k) next h))
 
--- what lists and watches no whole kind reads none
-no_read : (r : Request) (kind : Kind) → ReadsNoKind r → reads_kind kind r ≡ false
-no_read (requests.List k None) kind none = absurd (none.lists k refl)
-no_read (requests.Watch k from) kind none = absurd (none.watches k from refl)
-no_read (requests.List k (Some namespace)) kind none = refl
-no_read _ kind none = refl
-
-no_agent_read : (r : Request) (kind : Kind) → AgentReadsNoKind r → reads_kind kind r ≡ false
-no_agent_read r kind none = no_read r kind (record { lists = none.lists; watches = none.watches })
-
 no_ops_read : (r : Request) (kind : Kind) → lists_or_watches r ≡ false → reads_kind kind r ≡ false
 no_ops_read (requests.List k namespace) kind none = absurd (true≢false none)
 no_ops_read (requests.Watch k from) kind none = absurd (true≢false none)
@@ -134,7 +123,7 @@ pub task_reads_none : (t : Task) (r : Request) (kind : Kind) → task_call t ≡
 task_reads_none (tasks.Binder m) r kind call = calls_read_no_kind m r kind call
 task_reads_none (tasks.ClaimProtect op) r kind call = no_read r kind (claim_calls_read_no_kind op r call)
 task_reads_none (tasks.VolumeProtect op) r kind call = no_read r kind (volume_calls_read_no_kind op r call)
-task_reads_none (tasks.Agent op) r kind call = no_agent_read r kind (agent_calls_read_no_kind op r call)
+task_reads_none (tasks.Agent op) r kind call = no_read r kind (agent_calls_read_no_kind op r call)
 task_reads_none (tasks.Provision op) r kind call = no_ops_read r kind (provision_calls_read_no_kind op r call)
 task_reads_none (tasks.Erase op) r kind call = no_ops_read r kind (erase_calls_read_no_kind op r call)
 task_reads_none (tasks.Schedule op) r kind call = no_write_read r kind (calls_are_writes op r call)

@@ -1,7 +1,8 @@
 -- What a pass stands for after an entry.
 use Rattle.std.proofs.Common.{◌≡◌, ◌⊎◌, ℕ, ◌<◌, ◌+◌, List, [], ◌∷◌, length, Bool, true, false, true≢false, Some, None, inl, inr, refl, sym, ◌∙◌, ap, subst, arith, if◌then◌else◌}
-use Rattle.std.specs.Prelude.{◌==◌, ◌&&◌, ◌||◌, nat_lt, not}
+use Rattle.std.specs.Prelude.{◌==◌, ◌&&◌, nat_lt, not}
 use Rattle.std.proofs.lemmas.Bool.Decides.{nat_tests}
+use Rattle.std.proofs.lemmas.Bool.{not-false, or_parts}
 use Rattle.kube_types.specs.declared.parts.Kind.{Kind}
 use Rattle.kube_types.specs.Keys.{same_kind}
 use Rattle.call_types.specs.declared.entry.Entry.{Entry}
@@ -15,7 +16,7 @@ use Rattle.worker_core.specs.declared.role.Role.{Role}
 use Rattle.worker_core.specs.declared.turn.Pass.{Pass}
 use Rattle.worker_core.specs.Absorbs.{is_none_of, is_passing, pass_after}
 use Rattle.worker_core.specs.Roles.{IsBuiltKind, kind_in_order}
-use Rattle.binder_machines.specs.KindLaw.{reads_kind}
+use Rattle.call_types.specs.Kinds.{reads_kind}
 use Rattle.worker_core.specs.Stands.{AreLicensed, HasNoNews, IsEmptyWatch, PassStands}
 use Rattle.worker_core.proofs.Quiet.{alike, itself, quiet_listed, quiet_now, quiet_on, unread}
 
@@ -29,14 +30,6 @@ at_or_before i n h = by (nat_lt i n) refl
 pub none_of : (es : List Event) → is_none_of es ≡ true → es ≡ []
 none_of [] e = refl
 none_of (x ∷ es) e = absurd (true≢false (sym e))
-
-pub or_false : (a b : Bool) → (a || b) ≡ false → (a ≡ false) × (b ≡ false)
-or_false true b e = absurd (true≢false e)
-or_false false b e = (refl, e)
-
-pub not_false : (a : Bool) → not a ≡ false → a ≡ true
-not_false true e = refl
-not_false false e = absurd (true≢false e)
 
 module _ (role : Role) (pass : Pass) (mine : List Entry) (e : Entry) (stands : PassStands role pass mine) where
   pub kept_pass : ((kind : Kind) → reads_kind kind e.request ≡ false) → PassStands role pass (e ∷ mine)
@@ -65,8 +58,8 @@ module _ (role : Role) (pass : Pass) (mine : List Entry) (e : Entry) (stands : P
 
     pub watch_pass : (reply : Reply) → e.reply ≡ reply → PassStands role (pass_after pass (is_passing (kind_in_order role pass.behind) kind) (requests.Watch kind from) reply) (e ∷ mine)
     watch_pass (replies.Events events) answered = λ quiet place k lt at.
-        let parts = or_false pass.event (not (is_none_of events.events)) quiet in
-        let empty = none_of events.events (not_false _ parts.1) in
+        let parts = or_parts pass.event (not (is_none_of events.events)) quiet in
+        let empty = none_of events.events (not-false _ parts.1) in
         let watch : IsEmptyWatch e.request e.reply = subst (λ r. IsEmptyWatch r e.reply) (sym is) (subst (λ r. IsEmptyWatch (requests.Watch kind from) r) (sym answered) empty) in
         quiet_at k watch (by parts.0 place k at (is_passing (kind_in_order role pass.behind) kind) (length events.events == most_events) refl lt)
       where

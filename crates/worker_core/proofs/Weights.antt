@@ -2,6 +2,7 @@
 use Rattle.std.proofs.Common.{◌≡◌, ◌≢◌, ◌+◌, ◌<◌, ◌≤◌, List, [], ◌∷◌, ◌++◌, map, Bool, true, false, Some, refl, sym, ◌∙◌, ap, subst, arith, if◌then◌else◌}
 use Rattle.std.specs.Prelude.{◌==◌}
 use Rattle.std.specs.List.{list_any}
+use Rattle.std.proofs.lemmas.Bool.{or_parts}
 use Rattle.kube_types.specs.declared.key.Key.{Key}
 use Rattle.kube_types.specs.Keys.{kind_index}
 use Rattle.kube_types.specs.Keys.{same_key}
@@ -9,7 +10,6 @@ use Rattle.sync_queue.specs.Work.{Work, Taken, StandsOnce, added, begun, finishe
 use Rattle.kube_types.proofs.SameKeys.{same_key_itself}
 use Rattle.sync_queue.proofs.KeyFacts.{key_is}
 use Rattle.sync_queue.proofs.LaneFacts.{any-append}
-use Rattle.sync_queue.proofs.Places.{or_false}
 use Rattle.worker_core.specs.Steps.Weights.{weight, weight_of}
 
 weight-append : (xs ys : List Key) → weight (xs ++ ys) ≡ weight xs + weight ys
@@ -27,7 +27,7 @@ weight_least k = by (kind_index k.kind == 2)
 mark_last : (k : Key) (ts : List Taken) → list_any (same_key k) (map (λ (t : Taken). t.key) ts) ≡ false → mark_of k (ts ++ (record { key = k; again = false }) ∷ []) ≡ Some false
 mark_last k [] h = rw (same_key_itself k) refl
 mark_last k (t ∷ ts) h =
-    let parts = or_false (same_key k t.key) (list_any (same_key k) (map (λ (u : Taken). u.key) ts)) h in
+    let parts = or_parts (same_key k t.key) (list_any (same_key k) (map (λ (u : Taken). u.key) ts)) h in
     let first : same_key k t.key ≡ false = parts.0 in
     rw first (mark_last k ts parts.1)
 
@@ -45,8 +45,8 @@ mark_other claim k (t ∷ ts) other = by (is_of claim t) refl (is_of k t) refl (
 -- the taken keys are not the oldest one that waits
 not_taken : (k : Key) (ks parked : List Key) (taken : List Taken) → list_any (same_key k) (ks ++ map (λ (t : Taken). t.key) taken ++ parked) ≡ false → list_any (same_key k) (map (λ (t : Taken). t.key) taken) ≡ false
 not_taken k ks parked taken h =
-    let front = or_false _ _ (sym (any-append (same_key k) (ks ++ map (λ (t : Taken). t.key) taken) parked) ∙ h) in
-    (or_false _ _ (sym (any-append (same_key k) ks (map (λ (t : Taken). t.key) taken)) ∙ front.0)).1
+    let front = or_parts _ _ (sym (any-append (same_key k) (ks ++ map (λ (t : Taken). t.key) taken) parked) ∙ h) in
+    (or_parts _ _ (sym (any-append (same_key k) ks (map (λ (t : Taken). t.key) taken)) ∙ front.0)).1
 
 -- what waits once a key is done
 done_waiting : (k : Key) (w : Work) → mark_of k w.taken ≡ Some false → (finished k w).waiting ≡ w.waiting

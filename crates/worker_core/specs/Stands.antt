@@ -17,7 +17,7 @@ use Rattle.binder_model.specs.Promises.{most_entries}
 use Rattle.binder_model.specs.Reading.{follows}
 use Rattle.binder_model.specs.Told.{own}
 use Rattle.binder_model.specs.World.{IsHistory}
-use Rattle.binder_machines.specs.KindLaw.{reads_kind}
+use Rattle.call_types.specs.Kinds.{reads_kind}
 use Rattle.informer_cache.specs.All.{AllKnown, AllStandFor, all_objects}
 use Rattle.node_agent.specs.HistoryLaw.{TakesFirst}
 use Rattle.sync_queue.specs.Work.{no_work}

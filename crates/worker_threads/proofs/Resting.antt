@@ -1,5 +1,6 @@
 -- Actors of drains that have nothing under way: new ones, and those that a whole round or a drain with calls to spare leaves.
 use Rattle.std.proofs.Common.{◌≡◌, ◌∙◌, ℕ, ◌+◌, ◌<◌, zero, suc, List, [], ◌∷◌, Bool, true, false, true≢false, ◌&&◌, None, refl, sym, ap, subst, arith}
+use Rattle.std.proofs.lemmas.Bool.{and_parts}
 use Rattle.call_types.specs.declared.entry.Entry.{Entry}
 use Rattle.call_types.specs.declared.setup.Setup.{Setup}
 use Rattle.model_laws.proofs.Lists.{none_some, one}
@@ -11,7 +12,7 @@ use Rattle.worker_threads.specs.declared.drainers.Drainer.{Drainer}
 use Rattle.worker_threads.specs.Drainers.{AreAtRest, AreNew, AreNewAgents}
 use Rattle.worker_threads.specs.Rounds.{Asks, Drains, Ends, Goes, IsHeld, IsIdle, IsRound, IsSpent, Lets, NothingDue, Runs, Turns}
 use Rattle.worker_threads.proofs.DrainFacts.{drains_left}
-use Rattle.worker_threads.proofs.RoundFacts.{both, round_left}
+use Rattle.worker_threads.proofs.RoundFacts.{round_left}
 use Rattle.worker_threads.proofs.RunFacts.{turn_memory}
 
 one_more : (x : Drainer) (ds : List Drainer) → (x.actor.memory.stale ≡ false → x.actor.under ≡ None) → AreAtRest ds → AreAtRest (x ∷ ds)
@@ -54,7 +55,7 @@ module _ (lets : Lets) (past : List Entry) (left : ℕ) where
   pub round_rests : (ds : List Drainer) (h : List Entry) (b : ℕ) (after : List Drainer) (whole : Bool) → IsRound lets past left ds h b after whole → whole ≡ true → AreAtRest after
   round_rests _ h b _ _ (Ends entries rest) is_whole = λ place d at fresh. none_some at
   round_rests _ h b _ _ (Turns {ds = ds} {after = after} {whole = whole} x ran middle rest idle seat run more) is_whole =
-      let parts = both idle whole is_whole in
+      let parts = and_parts idle whole is_whole in
       one_more ran after (run_rests lets x.seat ran.actor middle rest idle (woken x.actor) h b run parts.0) (round_rests ds middle rest after whole more parts.1)
 
   round_whole : (ds : List Drainer) (h : List Entry) (b : ℕ) (after : List Drainer) (whole : Bool) → IsRound lets past left ds h b after whole → 0 < left → whole ≡ true

@@ -252,10 +252,6 @@ pub and_else : (a b w : Bool) → a ≡ false → w ≡ a → w ≡ (a && b)
 and_else true b w fails is = absurd (true≢false fails)
 and_else false b w fails is = is
 
-pub both : (a b : Bool) → (a && b) ≡ true → (a ≡ true) × (b ≡ true)
-both true b all = (refl, all)
-both false b all = absurd (true≢false (sym all))
-
 -- a read at a place of as many drainers as at first
 pub at_place : (initial ds : List Drainer) (i : ℕ) (d : Drainer) → seats_of ds ≡ seats_of initial → i < length initial → d ≡ get_or ds i d → slice_get ds i ≡ Some d
 at_place initial ds i d seats lt is =

@@ -3,7 +3,7 @@ use Rattle.std.proofs.Common.{◌≡◌, ◌≢◌, ◌∙◌, ◌⊎◌, ℕ, �
 use Rattle.std.specs.Prelude.{◌&&◌, ◌||◌, bytes_eq, cond, not, is_none, is_some, option_map}
 use Rattle.std.specs.List.{list_any}
 use Rattle.std.specs.Ordering.{is_eq}
-use Rattle.std.proofs.lemmas.Bool.{and_parts}
+use Rattle.std.proofs.lemmas.Bool.{and_parts, and_right}
 use Rattle.std.proofs.lemmas.Cmp.{nat_list_cmp_total}
 use Rattle.std.proofs.lemmas.Slice.Eq.{bytes_eq-Decides}
 use Rattle.plain_data.specs.Rows.{find}
@@ -17,7 +17,7 @@ use Rattle.kube_types.specs.declared.objects.Meta.{Meta}
 use Rattle.kube_types.specs.declared.objects.Claim.{Claim as ClaimData}
 use Rattle.kube_types.specs.declared.objects.Object.{Object}
 use Rattle.kube_types.specs.declared.objects.Object.TheVariants.{Claim}
-use Rattle.kube_types.specs.Bindings.{beta_class, bind_completed, bound_by_controller, has_key, has_name, is_completed, is_deleting, is_empty, is_lost, is_protected_claim, pvc_protection, selected_node, yes}
+use Rattle.kube_types.specs.Bindings.{beta_class, bind_completed, bound_by_controller, has_key, has_name, is_completed, is_deleting, is_empty, is_lost, is_protected_claim, pvc_protection, selected_node, yes, uses}
 use Rattle.kube_types.specs.Keys.{key_of, meta_of, row_at}
 use Rattle.call_types.specs.declared.request.NewStatus.TheVariants as statuses
 use Rattle.call_types.specs.declared.request.Request.TheVariants.{UpdateStatus}
@@ -26,7 +26,7 @@ use Rattle.call_types.specs.declared.setup.Setup.{Setup}
 use Rattle.binder_model.specs.Answers.{is_user, with_status}
 use Rattle.binder_model.specs.BindWrites.{annotated_meta, annotated_meta_if, completed_with, shows_bound}
 use Rattle.binder_model.specs.Fields.{adds_finalizer, has_twice, keeps_class, may_get_class}
-use Rattle.binder_model.specs.GuardLicence.{guarded_meta, unguarded_meta, uses}
+use Rattle.binder_model.specs.GuardLicence.{guarded_meta, unguarded_meta}
 use Rattle.binder_model.specs.ObjectKeys.{claim_key}
 use Rattle.binder_model.specs.Same.{same_amount, same_modes, same_option}
 use Rattle.binder_model.specs.Store.{at_version, updated_object, with_meta, with_status_of}
@@ -37,7 +37,7 @@ use Rattle.write_law.specs.Writes.{ClaimGuardLasts, ClaimUnguardLasts, ClassLast
 use Rattle.write_law.proofs.Fitting.{adds_none, claim_facts, claim_fits, class_kept, dropped, drops_add_none, drops_once}
 use Rattle.write_law.proofs.Making.{status_lasts, update_lasts}
 use Rattle.write_law.proofs.Valid.{twice_last}
-use Rattle.write_law.proofs.Volumes.{and_false, guard_lacks, last_there, unguard_has}
+use Rattle.write_law.proofs.Volumes.{guard_lacks, last_there, unguard_has}
 
 abbrev claim_in : ClaimData → Object → ClaimData
 claim_in c (Claim x) = x
@@ -45,7 +45,7 @@ claim_in c o = c
 
 -- a volume's name that stays
 named_alike : (name : List ℕ) → (not (is_empty name) && not (bytes_eq name name)) ≡ false
-named_alike name = let e : bytes_eq name name ≡ true = (bytes_eq-Decides name name).1 refl in rw e (and_false (not (is_empty name)) false refl)
+named_alike name = let e : bytes_eq name name ≡ true = (bytes_eq-Decides name name).1 refl in rw e (and_right (not (is_empty name)) false refl)
 
 module _ (setup : Setup) (w : World) (kind : SeatKind) (controller : is_user kind ≡ false) (c : ClaimData) (s : IsStored w (Claim c)) where
   -- an update of metadata, of the volume's name and of the class alone
@@ -66,7 +66,7 @@ module _ (setup : Setup) (w : World) (kind : SeatKind) (controller : is_user kin
       → Lasts setup w kind (update_claim c (record c { meta = m }))
   annotates m named placed same differs =
       updates m c.volume_name c.class named placed (class_kept c m c.volume_name) (named_alike c.volume_name)
-      (ap has_twice same ∙ (claim_facts c s.valid).once) (and_false (is_deleting c.meta) _ (ap (adds_finalizer c.meta.finalizers) same ∙ adds_none c.meta.finalizers)) differs
+      (ap has_twice same ∙ (claim_facts c s.valid).once) (and_right (is_deleting c.meta) _ (ap (adds_finalizer c.meta.finalizers) same ∙ adds_none c.meta.finalizers)) differs
 
   status_is : (phase : ClaimPhase) (modes : Modes) (amount : Option Amount)
       → content_of (Claim c) ≢ content_of (at_version (Claim (record c { phase = phase; got_modes = modes; got = amount })) (w.store.version + 1))
@@ -106,13 +106,13 @@ completion_lasts setup w kind v c controller s open_ names = by (is_empty c.volu
   where
     allowed : (name : List ℕ) → (is_empty name ≡ true) ⊎ (name ≡ v.meta.name) → (not (is_empty name) && not (bytes_eq name v.meta.name)) ≡ false
     allowed name (inl empty) = rw empty refl
-    allowed name (inr same) = let e : bytes_eq name v.meta.name ≡ true = (bytes_eq-Decides name v.meta.name).1 same in rw e (and_false (not (is_empty name)) false refl)
+    allowed name (inr same) = let e : bytes_eq name v.meta.name ≡ true = (bytes_eq-Decides name v.meta.name).1 same in rw e (and_right (not (is_empty name)) false refl)
 
     by : (b : Bool) → Lasts setup w kind (update_claim c (record c { volume_name = v.meta.name; meta = annotated_meta bind_completed (annotated_meta_if b bound_by_controller c.meta) }))
     by true = updates setup w kind controller c s (annotated_meta bind_completed (annotated_meta bound_by_controller c.meta)) v.meta.name c.class refl refl (class_kept c (annotated_meta bind_completed (annotated_meta bound_by_controller c.meta)) v.meta.name) (allowed c.volume_name names) (claim_facts c s.valid).once
-        (and_false (is_deleting c.meta) _ (adds_none c.meta.finalizers)) (λ e. true≢false (sym (ap (completes c) e ∙ key_there bind_completed yes (annotated_meta bound_by_controller c.meta).annotations) ∙ open_))
+        (and_right (is_deleting c.meta) _ (adds_none c.meta.finalizers)) (λ e. true≢false (sym (ap (completes c) e ∙ key_there bind_completed yes (annotated_meta bound_by_controller c.meta).annotations) ∙ open_))
     by false = updates setup w kind controller c s (annotated_meta bind_completed c.meta) v.meta.name c.class refl refl (class_kept c (annotated_meta bind_completed c.meta) v.meta.name) (allowed c.volume_name names) (claim_facts c s.valid).once
-        (and_false (is_deleting c.meta) _ (adds_none c.meta.finalizers)) (λ e. true≢false (sym (ap (completes c) e ∙ key_there bind_completed yes c.meta.annotations) ∙ open_))
+        (and_right (is_deleting c.meta) _ (adds_none c.meta.finalizers)) (λ e. true≢false (sym (ap (completes c) e ∙ key_there bind_completed yes c.meta.annotations) ∙ open_))
 
 -- the class
 
@@ -124,7 +124,7 @@ unfolding updated_object with_meta with_status_of
 class_lasts setup w kind c class controller s lacks open_ =
     let p = and_parts (is_none c.class) (not (has_key beta_class c.meta.annotations)) lacks in
     updates setup w kind controller c s c.meta c.volume_name (Some class) refl refl keeps (named_alike c.volume_name) (claim_facts c s.valid).once
-    (and_false (is_deleting c.meta) _ (adds_none c.meta.finalizers)) (λ e. true≢false (sym p.0 ∙ ap (has_class_in c) e))
+    (and_right (is_deleting c.meta) _ (adds_none c.meta.finalizers)) (λ e. true≢false (sym p.0 ∙ ap (has_class_in c) e))
   where
     keeps : keeps_class c (record c { class = Some class }) ≡ true
     keeps = or_right (same_option bytes_eq c.class (Some class)) (may_get_class c) (rw (lacks, open_) refl)
@@ -161,7 +161,7 @@ unfolding updated_object with_meta with_status_of
 claim_unguard_lasts setup w kind c controller s due =
     let l = unguard_has (is_deleting c.meta) (is_protected_claim c) (list_any (uses c) w.store.rows) due in
     updates setup w kind controller c s (unguarded_meta pvc_protection c.meta) c.volume_name c.class refl refl (class_kept c (unguarded_meta pvc_protection c.meta) c.volume_name) (named_alike c.volume_name)
-    (drops_once pvc_protection c.meta.finalizers (claim_facts c s.valid).once) (and_false (is_deleting c.meta) _ (drops_add_none pvc_protection c.meta.finalizers))
+    (drops_once pvc_protection c.meta.finalizers (claim_facts c s.valid).once) (and_right (is_deleting c.meta) _ (drops_add_none pvc_protection c.meta.finalizers))
     (λ e. true≢false (sym l.1 ∙ ap (λ (o : Object). has_name pvc_protection (meta_of o).finalizers) e ∙ dropped pvc_protection c.meta.finalizers))
 
 -- a key that is there goes

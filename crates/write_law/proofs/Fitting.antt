@@ -2,7 +2,7 @@
 use Rattle.std.proofs.Common.{◌≡◌, ◌∙◌, ℕ, List, [], ◌∷◌, Bool, true, false, true≢false, Option, Some, None, refl, sym, ap}
 use Rattle.std.specs.Prelude.{◌==◌, ◌&&◌, ◌||◌, not, cond, bytes_eq}
 use Rattle.std.specs.Bool.{beq}
-use Rattle.std.proofs.lemmas.Bool.{or_parts}
+use Rattle.std.proofs.lemmas.Bool.{or_parts, or_right}
 use Rattle.std.proofs.lemmas.Slice.Eq.{bytes_eq-Decides}
 use Rattle.kube_types.specs.declared.names.Field.{Field}
 use Rattle.kube_types.specs.declared.objects.Meta.{Meta}
@@ -95,15 +95,11 @@ no_namespace v valid = by v.meta.namespace (volume_facts v valid).placed
 bytes_itself : (x : List ℕ) → bytes_eq x x ≡ true
 bytes_itself x = (bytes_eq-Decides x x).1 refl
 
-or_true : (a b : Bool) → b ≡ true → (a || b) ≡ true
-or_true true b e = refl
-or_true false b e = e
-
 none_new : (old xs : List (List ℕ)) → ((f : List ℕ) → has_name f xs ≡ true → has_name f old ≡ true) → adds_finalizer old xs ≡ false
 none_new old [] there = refl
 none_new old (x ∷ xs) there =
     let here : has_name x (x ∷ xs) ≡ true = rw (bytes_itself x) refl in
-    rw (there x here, none_new old xs (λ f h. there f (or_true (bytes_eq x f) (has_name f xs) h))) refl
+    rw (there x here, none_new old xs (λ f h. there f (or_right (bytes_eq x f) (has_name f xs) h))) refl
 
 pub adds_none : (xs : List (List ℕ)) → adds_finalizer xs xs ≡ false
 adds_none xs = none_new xs xs (λ f h. h)
@@ -119,7 +115,7 @@ left_named f name (x ∷ xs) h = by (not (bytes_eq x name)) h (left_named f name
         front : (b : Bool) → (b || has_name f (without_name name xs)) ≡ true → (b || has_name f xs) ≡ true
         front true e = refl
         front false e = rest e
-    by false h rest = or_true (bytes_eq x f) (has_name f xs) (rest h)
+    by false h rest = or_right (bytes_eq x f) (has_name f xs) (rest h)
 
 pub drops_add_none : (name : List ℕ) (xs : List (List ℕ)) → adds_finalizer xs (without_name name xs) ≡ false
 drops_add_none name xs = none_new xs (without_name name xs) (λ f h. left_named f name xs h)

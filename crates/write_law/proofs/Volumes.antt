@@ -3,6 +3,7 @@ use Rattle.std.proofs.Common.{◌≡◌, ◌≢◌, ◌∙◌, ℕ, ◌+◌, Lis
 use Rattle.std.proofs.lemmas.Bool.Decides.{nat_tests}
 use Rattle.std.specs.Prelude.{◌&&◌, ◌||◌, bytes_eq, is_none}
 use Rattle.std.proofs.lemmas.Slice.Eq.{bytes_eq-Decides}
+use Rattle.std.proofs.lemmas.Bool.{and_right}
 use Rattle.kube_types.specs.declared.uid.Uid.{Uid}
 use Rattle.kube_types.specs.declared.names.Due.{Due}
 use Rattle.kube_types.specs.declared.names.Due.TheVariants as dues
@@ -37,10 +38,6 @@ use Rattle.write_law.proofs.Valid.{named_last, twice_last}
 abbrev volume_in : VolumeData → Object → VolumeData
 volume_in v (Volume x) = x
 volume_in v o = v
-
-pub and_false : (b c : Bool) → c ≡ false → (b && c) ≡ false
-and_false true c e = e
-and_false false c e = refl
 
 module _ (setup : Setup) (w : World) (kind : SeatKind) (controller : is_user kind ≡ false) (v : VolumeData) (s : IsStored w (Volume v)) where
   own_key : key_of (Volume v) ≡ volume_key v.meta.name
@@ -114,7 +111,7 @@ unfolding updated_object with_meta with_status_of
 volume_unguard_lasts setup w kind v controller s due =
     let l = unguard_has (is_deleting v.meta) (is_protected_volume v) (is_bound v.phase) due in
     updates setup w kind controller v s (unguarded_meta pv_protection v.meta) v.claim_ref refl refl (volume_facts v s.valid).refers (drops_once pv_protection v.meta.finalizers (volume_facts v s.valid).once)
-    (and_false (is_deleting v.meta) _ (drops_add_none pv_protection v.meta.finalizers))
+    (and_right (is_deleting v.meta) _ (drops_add_none pv_protection v.meta.finalizers))
     (λ e. true≢false (sym l.1 ∙ ap (λ (o : Object). has_name pv_protection (meta_of o).finalizers) e ∙ dropped pv_protection v.meta.finalizers))
 
 -- unbinding
@@ -143,9 +140,9 @@ module _ (setup : Setup) (w : World) (kind : SeatKind) (controller : is_user kin
   pub unbind_is : (b : Bool) → has_key bound_by_controller v.meta.annotations ≡ b → Lasts setup w kind (update_volume v (unbound_volume v))
   unfolding unbound_volume updated_object with_meta with_status_of
   unbind_is true e = rw e (updates setup w kind controller v s (record v.meta { annotations = without_key bound_by_controller v.meta.annotations }) None refl refl refl (volume_facts v s.valid).once
-      (and_false (is_deleting v.meta) _ (adds_none v.meta.finalizers)) (λ same. gone None (ap ref_in same) refl))
+      (and_right (is_deleting v.meta) _ (adds_none v.meta.finalizers)) (λ same. gone None (ap ref_in same) refl))
   unbind_is false e = rw e (updates setup w kind controller v s v.meta (without_uid v.claim_ref) refl refl (without_is_nameless v.claim_ref ∙ (volume_facts v s.valid).refers) (volume_facts v s.valid).once
-      (and_false (is_deleting v.meta) _ (adds_none v.meta.finalizers)) (λ same. gone (ref_uid (without_uid v.claim_ref)) (ap ref_in same) (without_has_none v.claim_ref)))
+      (and_right (is_deleting v.meta) _ (adds_none v.meta.finalizers)) (λ same. gone (ref_uid (without_uid v.claim_ref)) (ap ref_in same) (without_has_none v.claim_ref)))
 
 pub unbind_lasts : UnbindLasts
 unbind_lasts setup w kind v uid controller s refers = unbind_is setup w kind controller v s uid refers (has_key bound_by_controller v.meta.annotations) refl
@@ -171,9 +168,9 @@ reference_lasts setup w kind v c uid controller s valid has free = by (is_none v
   where
     by : (b : Bool) → Lasts setup w kind (update_volume v (record v { claim_ref = Some (ref_to c); meta = annotated_meta_if b bound_by_controller v.meta }))
     by true = updates setup w kind controller v s (annotated_meta_if true bound_by_controller v.meta) (Some (ref_to c)) refl refl (refers_well c valid) (volume_facts v s.valid).once
-        (and_false (is_deleting v.meta) _ (adds_none v.meta.finalizers)) (λ same. true≢false (sym (ap (carries_in c) same ∙ taken_carries c uid has) ∙ free))
+        (and_right (is_deleting v.meta) _ (adds_none v.meta.finalizers)) (λ same. true≢false (sym (ap (carries_in c) same ∙ taken_carries c uid has) ∙ free))
     by false = updates setup w kind controller v s v.meta (Some (ref_to c)) refl refl (refers_well c valid) (volume_facts v s.valid).once
-        (and_false (is_deleting v.meta) _ (adds_none v.meta.finalizers)) (λ same. true≢false (sym (ap (carries_in c) same ∙ taken_carries c uid has) ∙ free))
+        (and_right (is_deleting v.meta) _ (adds_none v.meta.finalizers)) (λ same. true≢false (sym (ap (carries_in c) same ∙ taken_carries c uid has) ∙ free))
 
 -- the deletion
 

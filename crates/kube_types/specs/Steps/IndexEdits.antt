@@ -21,4 +21,4 @@ without_unless cmp test before after vs = if (test after && is_eq (cmp before af
 
 -- the lists of the index are in order
 abbrev pub IsOrdered : Index → Type 0
-IsOrdered i = AreInOrder by_size i.free × AreInOrder by_owner i.owned
+IsOrdered i = AreInOrder by_size i.all × (AreInOrder by_size i.free × AreInOrder by_owner i.owned)

@@ -1,5 +1,5 @@
 -- The first of the wanted volumes behind another, among the volumes of some rows. A choice of this project.
-use Rattle.std.specs.Prelude.{ℕ, ◌≡◌, ◌+◌, Bool, true, List, length, Option, Some, None, IfSome, slice_get}
+use Rattle.std.specs.Prelude.{ℕ, ◌≡◌, ◌≤◌, ◌+◌, Bool, true, false, List, length, Option, Some, None, IfSome, filter, slice_get}
 use Rattle.std.specs.List.{Contains}
 use Rattle.std.specs.Ordering.{is_lt}
 use Rattle.kube_types.specs.declared.parts.Kind.TheVariants as kinds
@@ -10,7 +10,7 @@ use Rattle.kube_types.specs.Keys.{AreRows, rows_of}
 use Rattle.kube_types.specs.Steps.Scan.{IsFirstBelow}
 use Rattle.kube_types.specs.VolumeIndex.{Index, StandsFor, as_volume, is_owned, volumes_in}
 use Rattle.kube_types.specs.VolumeOrders.{need_cmp}
-use Rattle.kube_types.specs.VolumePlaces.{IsNth, IsNthAt}
+use Rattle.kube_types.specs.VolumePlaces.{IsNth, IsNthAt, count_before, those_in}
 
 -- the volume stands behind the other, if there is another
 abbrev pub is_behind : Option VolumeData → VolumeData → Bool
@@ -57,6 +57,25 @@ IsVolumeAt os v (Some place) = slice_get os place ≡ Some (Volume v)
 -- the place of the volume, where the objects are the volumes of rows in order and it is one of them
 abbrev pub IsPlaceOf : List Object → VolumeData → Option ℕ → Type 0
 IsPlaceOf os v place = (rows : List Object) → AreRows rows → os ≡ rows_of kinds.PersistentVolume rows → Contains (volumes_in rows) v → IsVolumeAt os v place
+
+-- where a volume that passes the test stands, so many that pass it stand before it; else there are not more
+abbrev pub IsCounted : (VolumeData → Bool) → List VolumeData → ℕ → Option VolumeData → Type 0
+IsCounted test passing nth None = length passing ≤ nth
+IsCounted test passing nth (Some v) = ((test v ≡ true) → count_before v passing ≡ nth) × ((test v ≡ false) → length passing ≤ nth)
+
+-- those that pass the test stand together from this place on, each before those that it is before
+abbrev pub AreCountedFrom : (VolumeData → Bool) → List VolumeData → ℕ → Type 0
+AreCountedFrom test kept start = (nth : ℕ) → IsCounted test (filter test kept) nth (slice_get kept (start + nth))
+
+-- a list has volumes of the rows, and among them all that pass the test
+pub record IsKept (test : VolumeData → Bool) (rows : List Object) (kept : List VolumeData) : Type 0 where
+  pub held : (v : VolumeData) → Contains kept v → Contains (volumes_in rows) v
+  pub many : length (filter test kept) ≡ length (those_in test rows)
+  pub before : (v : VolumeData) → count_before v (filter test kept) ≡ count_before v (those_in test rows)
+
+-- the place of the volume of this number, where moreover such a list is kept
+abbrev pub IsNthKept : (VolumeData → Bool) → List VolumeData → List Object → ℕ → Option ℕ → Type 0
+IsNthKept test kept os nth place = (rows : List Object) → AreRows rows → os ≡ rows_of kinds.PersistentVolume rows → IsKept test rows kept → IsNth test rows nth place
 
 -- the volumes of one list of the index refer to claims
 abbrev pub AreOwned : Index → Type 0

@@ -1,13 +1,11 @@
-//! The volume of a number among those that refer to a claim, by an index where there is one.
+//! The volume of a number among those of a class and volume mode, or among those that refer to a claim, by an index where there
+//! is one.
 
 ghost use Rattle.std.specs.Prelude.{◌≡◌, ◌≤◌, true, IfNone, IfSome, Some, filter, length};
 ghost use Rattle.std.specs.List.{Contains};
 ghost use Rattle.std.specs.Option.{option_copied};
-ghost use Rattle.kube_types.specs.declared.objects.Volume.{Volume as VolumeData};
-ghost use Rattle.kube_types.specs.Steps.VolumePlaces.{AreOwned, IsNthShown, IsPlaceOf};
-ghost use Rattle.kube_types.specs.VolumeIndex.{is_owned};
-ghost use Rattle.kube_types.specs.VolumeOrders.{AreInOrder, by_owner};
-ghost use Rattle.kube_types.specs.VolumePlaces.{count_before, is_of_claim};
+ghost use Rattle.kube_types.specs.Steps.VolumePlaces.{AreCountedFrom, AreOwned, IsNthKept, IsNthShown, IsPlaceOf};
+ghost use Rattle.kube_types.specs.VolumePlaces.{count_before, has_size, is_of_claim};
 
 use crate::key::{kind_index, kind_of, meta_of};
 use crate::objects::{Object, Volume};
@@ -16,9 +14,9 @@ use crate::rows::{Ranked, place_of};
 use crate::shared::Shared;
 use crate::text::Text;
 use crate::volume_index::VolumeIndex;
-use crate::volume_order::{OwnerFrom, owner_start};
+use crate::volume_order::{OwnerFrom, SizeFrom, owner_start, size_start};
 use crate::volume_places::nth::nth_place;
-use crate::volume_places::wanted::{OfClaim, Wanted};
+use crate::volume_places::wanted::{OfClaim, OfSize, Wanted};
 use std::cmp::Ordering;
 
 /// A volume that is looked for by its name.
@@ -52,37 +50,51 @@ fn place_in(objects: &[Object], volume: &Volume) -> Option<usize>
     }
 }
 
-/// The volume of this number among those that refer to the claim.
-fn owned_at<'v>(
-    owned: &'v [Shared<Volume>],
-    claim: &OfClaim,
+/// The volume of this number among the wanted ones of a list, in which these stand together from a place on.
+fn kept_at<'v, W: Wanted>(
+    kept: &'v [Shared<Volume>],
+    wanted: &W,
+    start: usize,
     nth: usize,
 ) -> Option<&'v Shared<Volume>>
-    requires order { AreInOrder by_owner owned.now }
-    requires all { (u : VolumeData) → Contains owned.now u → is_owned u ≡ true }
-    ensures held { IfSome (option_copied result) (λ v. Contains owned.now v) }
-    ensures claim { IfSome (option_copied result) (λ v. is_of_claim claim.now.namespace.now claim.now.name.now v ≡ true) }
-    ensures before { IfSome (option_copied result) (λ v. count_before v (filter (is_of_claim claim.now.namespace.now claim.now.name.now) owned.now) ≡ nth) }
-    ensures none { IfNone result (length (filter (is_of_claim claim.now.namespace.now claim.now.name.now) owned.now) ≤ nth) }
+    requires bound { start ≤ length kept.now }
+    requires counted { AreCountedFrom (W.test wanted.now) kept.now start }
+    ensures held { IfSome (option_copied result) (λ v. Contains kept.now v) }
+    ensures passes { IfSome (option_copied result) (λ v. W.test wanted.now v ≡ true) }
+    ensures before { IfSome (option_copied result) (λ v. count_before v (filter (W.test wanted.now) kept.now) ≡ nth) }
+    ensures none { IfNone result (length (filter (W.test wanted.now) kept.now) ≤ nth) }
 {
-    let owner = OwnerFrom {
-        namespace: claim.namespace,
-        name: claim.name,
-    };
-    let start = owner_start(owned, &owner);
-    if nth >= owned.len() - start {
+    if nth >= kept.len() - start {
         return None;
     }
-    let volume = &owned[start + nth];
-    if claim.wants(volume.get()) {
+    let volume = &kept[start + nth];
+    if wanted.wants(volume.get()) {
         Some(volume)
     } else {
         None
     }
 }
 
+/// The place of that volume among the volumes.
+fn kept_place<W: Wanted>(
+    objects: &[Object],
+    kept: &[Shared<Volume>],
+    wanted: &W,
+    start: usize,
+    nth: usize,
+) -> Option<usize>
+    requires bound { start ≤ length kept.now }
+    requires counted { AreCountedFrom (W.test wanted.now) kept.now start }
+    ensures { IsNthKept (W.test wanted.now) kept.now objects.now nth result }
+{
+    match kept_at(kept, wanted, start, nth) {
+        None => None,
+        Some(volume) => place_in(objects, volume),
+    }
+}
+
 /// The place of the volume of this number among those that refer to the claim, where the index stands for the volumes.
-fn indexed_place(
+fn owned_place(
     objects: &[Object],
     index: &VolumeIndex,
     claim: &OfClaim,
@@ -91,10 +103,28 @@ fn indexed_place(
     requires { AreOwned index.now }
     ensures { IsNthShown (Some index.now) (is_of_claim claim.now.namespace.now claim.now.name.now) objects.now nth result }
 {
-    match owned_at(index.owned(), claim, nth) {
-        None => None,
-        Some(volume) => place_in(objects, volume),
-    }
+    let owner = OwnerFrom {
+        namespace: claim.namespace,
+        name: claim.name,
+    };
+    let owned = index.owned();
+    let start = owner_start(owned, &owner);
+    kept_place(objects, owned, claim, start, nth)
+}
+
+/// The place of the volume of this number among those of the volume mode and the class, where the index stands for the volumes.
+fn sized_place(objects: &[Object], index: &VolumeIndex, size: &OfSize, nth: usize) -> Option<usize>
+    ensures { IsNthShown (Some index.now) (has_size size.now.block size.now.class.now) objects.now nth result }
+{
+    let least = SizeFrom {
+        class: size.class,
+        block: size.block,
+        modes: 0,
+        bytes: 0,
+    };
+    let all = index.all();
+    let start = size_start(all, &least);
+    kept_place(objects, all, size, start, nth)
 }
 
 /// The place of the volume of this number, from 0, among those that refer to the claim, whatever its UID.
@@ -113,7 +143,27 @@ pub(crate) fn nth_for(
         name: name.as_str(),
     };
     match index {
-        Some(index) => indexed_place(objects, index, &claim, nth),
+        Some(index) => owned_place(objects, index, &claim, nth),
         None => nth_place(objects, &claim, nth),
+    }
+}
+
+/// The place of the volume of this number, from 0, among those of the volume mode and the class.
+pub(crate) fn nth_by_size(
+    objects: &[Object],
+    index: Option<&VolumeIndex>,
+    block: bool,
+    class: &Text,
+    nth: usize,
+) -> Option<usize>
+    ensures { IsNthShown (option_copied index.entry) (has_size block class.now) objects.now nth result }
+{
+    let size = OfSize {
+        block,
+        class: class.as_str(),
+    };
+    match index {
+        Some(index) => sized_place(objects, index, &size, nth),
+        None => nth_place(objects, &size, nth),
     }
 }

@@ -1,28 +1,10 @@
 //! The volume of a number.
 
 ghost use Rattle.kube_types.specs.Steps.VolumePlaces.{IsNthOf, IsThenNthOf};
-ghost use Rattle.kube_types.specs.VolumePlaces.{has_size};
 
 use crate::objects::Object;
-use crate::text::Text;
 use crate::volume_places::next::{next_place, volume_at};
-use crate::volume_places::wanted::{OfSize, Wanted};
-
-/// The place of the volume of this number, from 0, among those of the volume mode and the class.
-pub(crate) fn nth_by_size(
-    objects: &[Object],
-    block: bool,
-    class: &Text,
-    nth: usize,
-) -> Option<usize>
-    ensures { IsNthOf (has_size block class.now) objects.now nth result }
-{
-    let wanted = OfSize {
-        block,
-        class: class.as_str(),
-    };
-    nth_place(objects, &wanted, nth)
-}
+use crate::volume_places::wanted::Wanted;
 
 /// The place of the wanted volume of this number, from 0.
 pub(crate) fn nth_place<W: Wanted>(objects: &[Object], wanted: &W, nth: usize) -> Option<usize>

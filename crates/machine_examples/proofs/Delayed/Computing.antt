@@ -5,6 +5,7 @@ use Rattle.std.specs.List.{list_all}
 use Rattle.std.specs.Bool.{beq}
 use Rattle.std.specs.declared.cmp.Ordering.{Ordering}
 use Rattle.std.specs.declared.cmp.Ordering.TheVariants.{Less, Equal, Greater}
+use Rattle.std.proofs.lemmas.Bool.{and_from}
 use Rattle.kube_types.specs.declared.parts.Kind.TheVariants as kinds
 use Rattle.kube_types.specs.declared.objects.Claim.{Claim as ClaimData}
 use Rattle.kube_types.specs.declared.objects.Node.{Node as NodeData}
@@ -285,10 +286,6 @@ beq_true true false h = absurd (true≢false (sym h))
 beq_true false true h = absurd (true≢false (sym h))
 beq_true false false h = refl
 
-both_true : (a b : Bool) → a ≡ true → b ≡ true → (a && b) ≡ true
-both_true true b h k = k
-both_true false b h k = absurd (true≢false (sym h))
-
 beq_itself : (a b : Bool) → a ≡ b → beq a b ≡ true
 beq_itself true true h = refl
 beq_itself false false h = refl
@@ -301,7 +298,7 @@ module _ (rows : List Object) (order : AreRows rows) (claims : List ClaimData) (
   assigned_is (Some n) f = record { node = n; named = refl; first = found_first rows order (AreAdmitted rows claims) f.place n f.there f.passes f.first }
 
   no_serving : (n : NodeData) (past : Bool) → ServesInTurn rows claims last past n → in_turn_serves rows claims last past n ≡ true
-  no_serving n past s = both_true (beq (is_past last n) past) (serves rows claims n) (beq_itself (is_past last n) past s.turn) (by (serves rows claims n) refl)
+  no_serving n past s = and_from (beq (is_past last n) past) (serves rows claims n) (beq_itself (is_past last n) past s.turn) (by (serves rows claims n) refl)
     where
       by : (b : Bool) → serves rows claims n ≡ b → b ≡ true
       by true h = refl

@@ -2,7 +2,7 @@
 use Rattle.std.specs.Prelude.{Bool, false, Option, Some, None}
 use Rattle.kube_types.specs.declared.objects.Claim.{Claim as ClaimData}
 use Rattle.kube_types.specs.declared.objects.Object.{Object}
-use Rattle.binder_model.specs.GuardLicence.{uses}
+use Rattle.kube_types.specs.Bindings.{uses}
 
 -- there is an object, and it is a pod that uses the claim
 abbrev pub is_used_by : ClaimData → Option Object → Bool

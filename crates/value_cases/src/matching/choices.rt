@@ -1,6 +1,7 @@
 //! Which volume serves a claim.
 
 use crate::words::{flag, table_of, word};
+use informer_cache::caches::Caches;
 use kube_types::bindings::class_of_claim;
 use kube_types::lookup::Lookup;
 use kube_types::objects::{Claim, Node, Object, Volume};
@@ -90,26 +91,48 @@ fn place_word(alloc: Global, place: Option<usize>) -> Result<String, OutOfMemory
     }
 }
 
-// Where the volume of this number stands among those of the claim's class and volume mode.
-fn sized_in(
+// Caches with an index of the volumes, which were told each of the objects.
+fn caches_of(alloc: Global, objects: &[Object]) -> Result<Caches, OutOfMemory> {
+    let mut caches = Caches::with_index(alloc);
+    for object in objects {
+        caches.note(object)?;
+    }
+    Ok(caches)
+}
+
+// Where the volume of this number stands: among those that refer to the claim, or else among those of its class and volume mode.
+fn nth_in<L: Lookup>(
     alloc: Global,
-    table: &Table,
+    lookup: &L,
     claim: &Claim,
+    owned: bool,
     nth: usize,
 ) -> Result<String, OutOfMemory> {
     let class = Text::new(alloc, class_of_claim(claim))?;
-    place_word(alloc, table.volume_by_size(claim.block, &class, nth))
+    let (namespace, name) = (&claim.meta.namespace, &claim.meta.name);
+    let place = if owned {
+        lookup.volume_for(namespace, name, nth)
+    } else {
+        lookup.volume_by_size(claim.block, &class, nth)
+    };
+    place_word(alloc, place)
 }
 
-// Where the volume of this number stands among those that refer to the claim.
-fn owned_in(
+// The same, asked of a table, which has no index, and of caches that have one.
+fn nth_among(
     alloc: Global,
-    table: &Table,
     claim: &Claim,
+    others: &[Object],
+    owned: bool,
     nth: usize,
 ) -> Result<String, OutOfMemory> {
-    let (namespace, name) = (&claim.meta.namespace, &claim.meta.name);
-    place_word(alloc, table.volume_for(namespace, name, nth))
+    let by_table = nth_in(alloc, &table_of(alloc, others)?, claim, owned, nth)?;
+    let by_index = nth_in(alloc, &caches_of(alloc, others)?, claim, owned, nth)?;
+    if by_index == by_table {
+        Ok(by_table)
+    } else {
+        Ok(format!(in alloc; "{by_table}, but {by_index} by the index")?)
+    }
 }
 
 /// What a call answers of a claim and a look-up with the other objects.
@@ -129,13 +152,13 @@ pub fn among(
         "best-but-2-0-1" => best_in(alloc, &table, claim, false, &[2, 0, 1]),
         "best-own-but-2" => best_in(alloc, &table, claim, true, &[2]),
         "named" => named_in(alloc, &table, claim),
-        "sized-0" => sized_in(alloc, &table, claim, 0),
-        "sized-1" => sized_in(alloc, &table, claim, 1),
-        "sized-2" => sized_in(alloc, &table, claim, 2),
-        "sized-3" => sized_in(alloc, &table, claim, 3),
-        "owned-0" => owned_in(alloc, &table, claim, 0),
-        "owned-1" => owned_in(alloc, &table, claim, 1),
-        "owned-2" => owned_in(alloc, &table, claim, 2),
+        "sized-0" => nth_among(alloc, claim, others, false, 0),
+        "sized-1" => nth_among(alloc, claim, others, false, 1),
+        "sized-2" => nth_among(alloc, claim, others, false, 2),
+        "sized-3" => nth_among(alloc, claim, others, false, 3),
+        "owned-0" => nth_among(alloc, claim, others, true, 0),
+        "owned-1" => nth_among(alloc, claim, others, true, 1),
+        "owned-2" => nth_among(alloc, claim, others, true, 2),
         _ => word(alloc, "no such call"),
     }
 }

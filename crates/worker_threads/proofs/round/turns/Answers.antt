@@ -1,6 +1,7 @@
 use Rattle.std.proofs.Common.{◌≡◌, ◌∙◌, ◌+◌, ◌≤◌, ◌&&◌, ◌++◌, sym, subst, refl, inl, arith, length, take, List, [], ◌∷◌, Some, ℕ, Bool}
 use Rattle.std.specs.Prelude.{slice_get, slice_set}
 use Rattle.std.proofs.lemmas.Option.{slice_get_within}
+use Rattle.std.proofs.lemmas.Bool.{and_parts}
 use Rattle.worker_core.specs.Absorbs.{woken}
 use Rattle.seat_calls.specs.Answered.{Lets}
 use Rattle.worker_threads.specs.Drainers.{AreRoles, AreSeats, StandsWhole, roles_of, seats_of}
@@ -8,7 +9,7 @@ use Rattle.worker_threads.specs.Longer.{HasGrown, IsOneOf}
 use Rattle.worker_threads.specs.Rounds.{IsRound, Runs}
 use Rattle.worker_threads.proofs.Entries.{grown_then, grown_wider, not_grown}
 use Rattle.worker_threads.proofs.RunFacts.{run_left}
-use Rattle.worker_threads.proofs.RoundFacts.{IsIdleAt, and_else, and_then, at_place, both, each_set, fewer_left, first_steady, length_set, one_of_seats, roles_set, same_length, seats_set, turn_more, turns_end}
+use Rattle.worker_threads.proofs.RoundFacts.{IsIdleAt, and_else, and_then, at_place, each_set, fewer_left, first_steady, length_set, one_of_seats, roles_set, same_length, seats_set, turn_more, turns_end}
 use Rattle.worker_threads.proofs.round.turns.Goals as goal
 use Rattle.worker_threads.proofs.round.turns.Goals.{then-whole, else-whole}
 
@@ -95,7 +96,7 @@ loop-place-preserved g c =
           (turn_more lets c.args.drainers.now.items (g.W.Answers.past c.args.desk.now) c.args.budget items place d ran h new left rest c.loop-place.whole idle i.round at r.seat runs past last after all more);
       stands = each_set StandsWhole (length items) (length (slice_set items place ran)) items place d ran h new seats_ok at grown (λ p lt other. omega (arith, lt, length_set items place ran)) i.stands r.stands;
       idle = λ still.
-          let halves = both c.loop-place.whole idle (sym whole ∙ still) in
+          let halves = and_parts c.loop-place.whole idle (sym whole ∙ still) in
           each_set IsIdleAt place (place + 1) items place d ran h new seats_ok at grown (λ p lt other. omega arith) (i.idle halves.0) (r.idle halves.1);
       seats = seats_set items place d ran at r.seat ∙ i.seats;
       roles = roles_set items place d ran at r.role ∙ i.roles;

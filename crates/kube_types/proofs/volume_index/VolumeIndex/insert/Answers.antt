@@ -1,7 +1,14 @@
+use Rattle.std.proofs.Common.{◌≡◌, ◌∙◌, ap}
+use Rattle.kube_types.specs.Steps.IndexEdits.{put_if}
+use Rattle.kube_types.specs.VolumeIndex.{is_any}
+use Rattle.kube_types.specs.VolumeOrders.{by_size}
 use Rattle.kube_types.proofs.IndexStands.{inserted}
 use Rattle.kube_types.proofs.volume_index.VolumeIndex.insert.Goals as goal
 
 pub returns-clause-ok : goal.returns-clause-ok
 returns-clause-ok c =
-    inserted c.put_owned.result c.args.volume.now (record { free = c.self.inside.free.items; owned = c.self.inside.owned.items }) c.args.self.now c.put_free.new.volumes.items c.put_owned.new.volumes.items
-    c.self.view_is c.self.invariant c.in_ok-put_free.ensures.ok c.put_owned.ensures.ok
+    let all : c.put_all.new.volumes.items ≡ put_if by_size is_any c.args.volume.now c.self.inside.all.items =
+    c.put_all.ensures.put ∙ (ap (λ v. put_if by_size is_any v c.reserve.new.self.items) c.in_ok-own.ensures ∙ ap (put_if by_size is_any c.args.volume.now) c.reserve.ensures.items) in
+    inserted c.args.volume.now (record { all = c.self.inside.all.items; free = c.self.inside.free.items; owned = c.self.inside.owned.items }) c.args.self.now
+    c.put_all.new.volumes.items c.put_free.new.volumes.items c.put_owned.new.volumes.items
+    c.self.view_is c.self.invariant all c.in_ok-put_free.ensures.ok c.in_ok-put_owned.ensures.ok

@@ -1,4 +1,4 @@
-use Rattle.kube_types.proofs.PlacesOwned.{place_found, place_missed}
+use Rattle.kube_types.proofs.PlacesKept.{place_found, place_missed}
 use Rattle.kube_types.proofs.volume_places.indexed.place_in.Goals as goal
 
 pub returns-in-Ok : goal.returns-in-Ok

@@ -1,7 +1,7 @@
 use Rattle.std.proofs.Common.{◌≡◌, drop}
 use Rattle.std.specs.List.{list_any}
-use Rattle.binder_model.specs.GuardLicence.{uses}
-use Rattle.protect_sync.proofs.uses.some_uses.Given as goal
+use Rattle.kube_types.specs.Bindings.{uses}
+use Rattle.kube_types.proofs.bindings.some_uses.Given as goal
 
 -- what is to be found is still ahead
 abbrev pub invariant-loop-object : goal.invariant-loop-object
