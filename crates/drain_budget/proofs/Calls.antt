@@ -1,6 +1,6 @@
 -- What is still to come at a point of a slot past its first pass, and what one call that reads no whole kind does to it: a write is one of those
 -- that are still ahead, and pays for its event, for the pass that tells it and for the decision on it.
-use Rattle.std.proofs.Common.{◌≡◌, ◌⊎◌, ℕ, ◌+◌, ◌*◌, ◌-◌, ◌≤◌, ◌<◌, List, [], ◌∷◌, Bool, Option, Some, None, inl, inr, refl, ap, arith, if◌then◌else◌}
+use Rattle.std.proofs.Common.{◌≡◌, ◌⊎◌, ℕ, ◌+◌, ◌*◌, ◌-◌, ◌≤◌, ◌<◌, List, [], ◌∷◌, length, Bool, Option, Some, None, inl, inr, refl, ap, arith, if◌then◌else◌}
 use Rattle.std.specs.Prelude.{◌/◌, cond, nat_lt}
 use Rattle.kube_types.specs.declared.key.Key.{Key}
 use Rattle.kube_types.specs.declared.parts.Kind.{Kind}
@@ -18,7 +18,8 @@ use Rattle.worker_core.specs.Turns.{passing}
 use Rattle.cost_law.specs.Costs.{work_cost}
 use Rattle.cost_law.specs.Ends.{done_by, start_left}
 use Rattle.cost_law.specs.Tasks.{under_left}
-use Rattle.event_law.specs.Ahead.{from_of, pass_cost, sum_over}
+use Rattle.worker_core.specs.declared.turn.Pass.{Pass}
+use Rattle.event_law.specs.Ahead.{from_of, sum_over}
 use Rattle.event_law.specs.Counts.{pending}
 use Rattle.event_law.proofs.Calls.{Stays, Wrote}
 use Rattle.event_law.proofs.Events.{one_more}
@@ -27,29 +28,33 @@ use Rattle.drain_budget.proofs.RoundCosts.{cost_in, most, work_less}
 
 -- ---- what is still to come
 
--- what may still be asked of a kind in a pass: where its events are no longer kept, a watch says so, and the kind is listed; else the events that
--- are to be told
-abbrev pub told_cost_or : Bool → ℕ → ℕ → ℕ
-told_cost_or gone keys events = if gone then keys + 7 else 8 * events
+-- what may still be asked of a kind in a pass: where its events are no longer kept, a watch says so, the kind is listed, and a pass comes after
+-- this one; else the events that are to be told
+abbrev pub told_cost_or : SeatKind → Bool → ℕ → ℕ → ℕ
+told_cost_or kind gone keys events = if gone then keys + (2 + length (kinds_of kind)) else 7 * events
 
-abbrev pub kind_left : ℕ → World → Kind → Option ℕ → ℕ
-kind_left keys w kind None = keys + 1
-kind_left keys w kind (Some from) = told_cost_or (nat_lt (from + 512) w.store.version) keys (pending kind from w.log)
+abbrev pub kind_left : SeatKind → ℕ → World → Kind → Option ℕ → ℕ
+kind_left kind keys w k None = keys + 1
+kind_left kind keys w k (Some from) = told_cost_or kind (nat_lt (from + 512) w.store.version) keys (pending k from w.log)
 
 -- of all kinds that the actor follows
 abbrev pub kinds_left : Setup → List Object → ℕ → SeatKind → List Entry → ℕ
-kinds_left setup first seat kind h = sum_over (λ k. kind_left (most first k) (world setup h) k (from_of seat h k)) (kinds_of kind)
+kinds_left setup first seat kind h = sum_over (λ k. kind_left kind (most kind first k) (world setup h) k (from_of seat h k)) (kinds_of kind)
+
+-- the watches of the pass, and those of the next one where it brought an event
+abbrev pub pass_left : SeatKind → Pass → ℕ
+pass_left kind p = (length (kinds_of kind) - p.behind) + (if p.event then length (kinds_of kind) else 0)
 
 -- of what is under way, of the start and of the keys that wait
 abbrev pub rest_left : List Object → SeatKind → World → ActorState → ℕ
 rest_left first kind w s = under_left s.under + (start_left s.role s.memory + work_cost (cost_in kind first w.store.rows) s.work)
 
--- what a sweep costs, in which all kinds are listed again since 513 writes were made after the pass before: each of these writes has eight calls
+-- what a sweep costs, in which all kinds are listed again since 513 writes were made after the pass before: each of these writes has seven calls
 -- left for an event that is never told
 pub sweep_cost : List Object → SeatKind → ℕ
-sweep_cost first kind = sum_over (λ k. most first k + 7) (kinds_of kind) - 8 * 513
+sweep_cost first kind = sum_over (λ k. most kind first k + (2 + length (kinds_of kind))) (kinds_of kind) - 7 * 513
 
-pub sweep_is : (first : List Object) (kind : SeatKind) → sweep_cost first kind ≡ sum_over (λ k. most first k + 7) (kinds_of kind) - 8 * 513
+pub sweep_is : (first : List Object) (kind : SeatKind) → sweep_cost first kind ≡ sum_over (λ k. most kind first k + (2 + length (kinds_of kind))) (kinds_of kind) - 7 * 513
 unfolding sweep_cost
 sweep_is first kind = refl
 
@@ -63,11 +68,11 @@ pub data Stage (setup : Setup) (seat : ℕ) (s : ActorState) (h : List Entry) : 
 -- what the kinds still cost: those of the pass, or the writes since the last one, and the sweeps that are ahead
 abbrev pub kinds_ahead : (setup : Setup) (first : List Object) (seat high : ℕ) (s : ActorState) (h : List Entry) → Stage setup seat s h → ℕ
 kinds_ahead setup first seat high s h (InPass none behind) = kinds_left setup first seat s.role.kind h + sweep_cost first s.role.kind * ((high - (world setup h).store.version) / 513)
-kinds_ahead setup first seat high s h (AtKeys read over kinds low few) = 8 * ((world setup h).store.version - read) + sweep_cost first s.role.kind * ((high - read) / 513)
+kinds_ahead setup first seat high s h (AtKeys read over kinds low few) = 7 * ((world setup h).store.version - read) + sweep_cost first s.role.kind * ((high - read) / 513)
 
 -- with the writes that are still ahead, the rest and the pass
 abbrev pub slot_left : (setup : Setup) (first : List Object) (seat high : ℕ) (s : ActorState) (h : List Entry) → Stage setup seat s h → ℕ
-slot_left setup first seat high s h stage = 9 * (high - (world setup h).store.version) + (rest_left first s.role.kind (world setup h) s + (kinds_ahead setup first seat high s h stage + pass_cost s.pass))
+slot_left setup first seat high s h stage = 8 * (high - (world setup h).store.version) + (rest_left first s.role.kind (world setup h) s + (kinds_ahead setup first seat high s h stage + pass_left s.role.kind s.pass))
 
 -- so much less than a number
 pub record IsLess (setup : Setup) (first : List Object) (seat high : ℕ) (s : ActorState) (h : List Entry) (fewer most_left : ℕ) : Type 0 where
@@ -96,8 +101,8 @@ module _ (setup : Setup) (first : List Object) (kind : SeatKind) (high read : �
     (falls : (key : Key) → cost_in kind first (world setup (e ∷ h)).store.rows key ≤ cost_in kind first (world setup h).store.rows key) where
   -- a write is one of those ahead, and pays for what it brings
   pub call_pays : (work : Work) → done_by e.request e.reply ≤ 1 → Stays (world setup h) (world setup (e ∷ h)) e.request e.reply ⊎ Wrote (world setup h) (world setup (e ∷ h)) e.reply
-      → 9 * (high - (world setup (e ∷ h)).store.version) + work_cost (cost_in kind first (world setup (e ∷ h)).store.rows) work + 8 * ((world setup (e ∷ h)).store.version - read) + done_by e.request e.reply
-      ≤ 9 * (high - (world setup h).store.version) + work_cost (cost_in kind first (world setup h).store.rows) work + 8 * ((world setup h).store.version - read)
+      → 8 * (high - (world setup (e ∷ h)).store.version) + work_cost (cost_in kind first (world setup (e ∷ h)).store.rows) work + 7 * ((world setup (e ∷ h)).store.version - read) + done_by e.request e.reply
+      ≤ 8 * (high - (world setup h).store.version) + work_cost (cost_in kind first (world setup h).store.rows) work + 7 * ((world setup h).store.version - read)
   call_pays work few (inr wrote) =
       let a = work_less (cost_in kind first (world setup h).store.rows) (cost_in kind first (world setup (e ∷ h)).store.rows) work falls in
       let version = wrote.version in

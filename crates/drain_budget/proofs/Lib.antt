@@ -1,4 +1,5 @@
 pub mod Amounts
+pub mod Begun
 pub mod Calls
 pub mod Claims
 pub mod Costs

@@ -1,9 +1,11 @@
 -- What a decision on a key may cost in a round, by the rows with which the round began and the volumes that may be made in it: so no write makes
 -- it cost more.
 use Rattle.std.proofs.Common.{◌≡◌, ◌≢◌, ◌∙◌, ◌⊎◌, ℕ, ◌+◌, ◌*◌, ◌≤◌, List, [], ◌∷◌, length, Bool, true, false, true≢false, Option, Some, None, inl, inr, refl, sym, ap, subst, arith, if◌then◌else◌}
-use Rattle.std.specs.Prelude.{cond, filter, map, ◌&&◌, ◌||◌}
+use Rattle.std.specs.Prelude.{cond, filter, map, ◌||◌}
 use Rattle.std.specs.List.{list_any}
 use Rattle.std.specs.Ordering.{is_eq}
+use Rattle.std.proofs.Math.Nat.{add-mul}
+use Rattle.std.proofs.lemmas.Nat.{mul-le}
 use Rattle.plain_data.proofs.RowFacts.{rising_without}
 use Rattle.kube_types.specs.declared.key.Key.{Key}
 use Rattle.kube_types.specs.declared.parts.Kind.{Kind}
@@ -11,6 +13,7 @@ use Rattle.kube_types.specs.declared.parts.Kind.TheVariants as kinds
 use Rattle.kube_types.specs.declared.objects.Claim.{Claim as ClaimData}
 use Rattle.kube_types.specs.declared.objects.Object.{Object}
 use Rattle.kube_types.specs.declared.objects.Object.TheVariants.{Class, Node, Volume, Claim, Pod}
+use Rattle.kube_types.specs.declared.objects.Pod.{Pod as PodData}
 use Rattle.kube_types.specs.declared.uid.Uid.{Uid}
 use Rattle.kube_types.specs.Keys.{AreRows, is_of_kind, key_cmp, key_of, kind_index, kind_of, row_at, rows_of, same_key, same_kind, without_row}
 use Rattle.kube_types.proofs.KeyOrder.{key_cmp_total, row_at-put_row, row_at-put_row_other, row_at-without_row, row_at-without_row_other, row_at_key}
@@ -19,21 +22,18 @@ use Rattle.call_types.specs.declared.request.SeatKind.{SeatKind}
 use Rattle.call_types.specs.declared.request.SeatKind.TheVariants as seats
 use Rattle.binder_model.specs.ObjectKeys.{volume_key}
 use Rattle.binder_model.specs.Provisioning.{data_name}
-use Rattle.binder_model.specs.Reading.{follows}
 use Rattle.model_laws.proofs.Lists.{IsIn, none_some, one}
 use Rattle.settle_measure.specs.Measure.{total}
 use Rattle.settle_measure.proofs.Sums.{gone_falls, none_paid, none_pays, others_behind, stands}
 use Rattle.sync_queue.specs.Work.{AreOnce, Taken, Work}
 use Rattle.worker_core.specs.Roles.{kinds_of}
-use Rattle.worker_core.proofs.ByKind.{placed}
 use Rattle.cost_law.specs.Costs.{again_cost, calls_for, calls_if, key_cost, keys_cost, work_cost}
 use Rattle.cost_law.proofs.Works.{changed_cost, cost_without}
 use Rattle.event_law.proofs.Sums.{sum_less}
 use Rattle.event_law.specs.Ahead.{sum_over}
-use Rattle.pass_law.proofs.Given.{in_place}
 use Rattle.short_law.specs.Rounds.{names_in}
-use Rattle.short_law.proofs.Rounds.{cheaper, total_less}
 use Rattle.call_count.proofs.Growth.{AreGiven, Comes, IsFor, IsGiven, IsMade, IsOld, IsOver, made_keys}
+use Rattle.call_count.proofs.Sums.{one_more}
 use Rattle.write_count.proofs.Nodes.{IsMoved}
 
 -- ---- the costs
@@ -42,20 +42,63 @@ abbrev pub is_agent : SeatKind → Bool
 is_agent seats.Agent = true
 is_agent kind = false
 
--- an object costs an actor nothing where that does not follow its kind
+-- how many calls the decision on a volume, a claim or a pod comes to at most, by the role of the actor, but for those after a write that was done
+abbrev pub volume_calls : SeatKind → ℕ
+volume_calls seats.Binder = 3
+volume_calls seats.Ops = 3
+volume_calls seats.VolumeProtect = 1
+volume_calls kind = 0
+
+abbrev pub claim_calls : SeatKind → ℕ
+claim_calls seats.Binder = 2
+claim_calls seats.Ops = 2
+claim_calls seats.ClaimProtect = 2
+claim_calls kind = 0
+
+-- an agent reads each claim of a pod and its volume
+abbrev pub pod_calls : SeatKind → PodData → ℕ
+pod_calls seats.Scheduler p = 1
+pod_calls seats.Agent p = 3 + 2 * length p.claims
+pod_calls kind p = 0
+
+-- so much an object costs the actor
 abbrev pub own_calls : SeatKind → Object → ℕ
-own_calls kind o = if follows kind (kind_of o) then calls_for kind o else 0
+own_calls kind (Class x) = 0
+own_calls kind (Node x) = 0
+own_calls kind (Volume v) = volume_calls kind
+own_calls kind (Claim c) = claim_calls kind
+own_calls kind (Pod p) = pod_calls kind p
+
+-- and one that was written in the slot no more than that
+abbrev pub key_calls : SeatKind → ℕ
+key_calls seats.Binder = 3
+key_calls seats.Ops = 3
+key_calls seats.Scheduler = 1
+key_calls seats.ClaimProtect = 2
+key_calls seats.VolumeProtect = 1
+key_calls seats.Agent = 3
+key_calls seats.User = 0
+
+-- seven calls pay for an event: for the decision on its key, and for the pass that tells it, which watches each kind that the actor follows
+pub event_calls : (kind : SeatKind) → key_calls kind + length (kinds_of kind) ≤ 7
+event_calls seats.User = omega arith
+event_calls seats.Binder = omega arith
+event_calls seats.Ops = omega arith
+event_calls seats.Scheduler = omega arith
+event_calls seats.ClaimProtect = omega arith
+event_calls seats.VolumeProtect = omega arith
+event_calls seats.Agent = omega arith
 
 abbrev pub weigh_if : (Object → ℕ) → Option Object → ℕ
 weigh_if f None = 0
 weigh_if f (Some o) = f o
 
--- the key is followed, and is that of a volume that may be made
-abbrev pub is_fresh : SeatKind → List Object → Key → Bool
-is_fresh kind first key = follows kind key.kind && list_any (same_key key) (made_keys first)
+-- the key is that of a volume that may be made
+abbrev pub is_fresh : List Object → Key → Bool
+is_fresh first key = list_any (same_key key) (made_keys first)
 
-abbrev pub fresh_cost : Bool → ℕ
-fresh_cost b = if b then 3 else 0
+abbrev pub fresh_cost : ℕ → Bool → ℕ
+fresh_cost n b = if b then n else 0
 
 -- by what stood at the key when the round began
 abbrev pub cost_or : ℕ → SeatKind → Option Object → ℕ
@@ -63,7 +106,7 @@ cost_or fresh kind None = fresh
 cost_or fresh kind (Some o) = own_calls kind o
 
 abbrev pub stood_cost : SeatKind → List Object → Key → ℕ
-stood_cost kind first key = cost_or (fresh_cost (is_fresh kind first key)) kind (row_at key first)
+stood_cost kind first key = cost_or (fresh_cost (volume_calls kind) (is_fresh first key)) kind (row_at key first)
 
 -- by what stands now for an agent, whose pods leave
 abbrev pub cost_by : Bool → SeatKind → List Object → List Object → Key → ℕ
@@ -74,46 +117,105 @@ abbrev pub cost_in : SeatKind → List Object → List Object → Key → ℕ
 cost_in kind first rows key = cost_by (is_agent kind) kind first rows key
 
 -- what the objects of a kind may cost an actor at most, with the volumes that may be made
-abbrev pub weight : Object → ℕ
-weight o = 3 * (1 + names_in o)
+abbrev pub picked : SeatKind → Kind → Object → ℕ
+picked kind k o = if is_of_kind k o then own_calls kind o else 0
 
-abbrev pub picked : Kind → Object → ℕ
-picked k o = if is_of_kind k o then weight o else 0
+abbrev pub made_most : SeatKind → List Object → Kind → ℕ
+made_most kind first k = if same_kind k kinds.PersistentVolume then length (made_keys first) * volume_calls kind else 0
 
-abbrev pub made_most : List Object → Kind → ℕ
-made_most first k = if same_kind k kinds.PersistentVolume then 3 * length (made_keys first) else 0
-
-abbrev pub most : List Object → Kind → ℕ
-most first k = total (picked k) first + made_most first k
+abbrev pub most : SeatKind → List Object → Kind → ℕ
+most kind first k = total (picked kind k) first + made_most kind first k
 
 -- ---- one object
 
--- what an object costs an actor that is no agent, by its kind
-abbrev plain_of : Kind → ℕ
-plain_of kinds.PersistentVolume = 3
-plain_of kinds.PersistentVolumeClaim = 3
-plain_of kinds.Pod = 1
-plain_of k = 0
+-- but for an agent by its kind alone
+abbrev plain_pod : SeatKind → ℕ
+plain_pod seats.Scheduler = 1
+plain_pod kind = 0
 
-plain_light : (k : Kind) → plain_of k ≤ 3
-plain_light kinds.PersistentVolume = omega arith
-plain_light kinds.PersistentVolumeClaim = omega arith
-plain_light kinds.Pod = omega arith
-plain_light kinds.StorageClass = omega arith
-plain_light kinds.Node = omega arith
+abbrev plain_of : SeatKind → Kind → ℕ
+plain_of kind kinds.PersistentVolume = volume_calls kind
+plain_of kind kinds.PersistentVolumeClaim = claim_calls kind
+plain_of kind kinds.Pod = plain_pod kind
+plain_of kind k = 0
 
-plain_calls : (kind : SeatKind) → is_agent kind ≡ false → (o : Object) → calls_for kind o ≡ plain_of (kind_of o)
-plain_calls kind no_agent (Class x) = refl
-plain_calls kind no_agent (Node x) = refl
-plain_calls kind no_agent (Volume v) = refl
-plain_calls kind no_agent (Claim c) = refl
-plain_calls seats.Agent no_agent (Pod p) = absurd (true≢false no_agent)
-plain_calls seats.User no_agent (Pod p) = refl
-plain_calls seats.Binder no_agent (Pod p) = refl
-plain_calls seats.Ops no_agent (Pod p) = refl
-plain_calls seats.Scheduler no_agent (Pod p) = refl
-plain_calls seats.ClaimProtect no_agent (Pod p) = refl
-plain_calls seats.VolumeProtect no_agent (Pod p) = refl
+own_plain : (kind : SeatKind) → is_agent kind ≡ false → (o : Object) → own_calls kind o ≡ plain_of kind (kind_of o)
+own_plain kind no_agent (Class x) = refl
+own_plain kind no_agent (Node x) = refl
+own_plain kind no_agent (Volume v) = refl
+own_plain kind no_agent (Claim c) = refl
+own_plain seats.Agent no_agent (Pod p) = absurd (true≢false no_agent)
+own_plain seats.User no_agent (Pod p) = refl
+own_plain seats.Binder no_agent (Pod p) = refl
+own_plain seats.Ops no_agent (Pod p) = refl
+own_plain seats.Scheduler no_agent (Pod p) = refl
+own_plain seats.ClaimProtect no_agent (Pod p) = refl
+own_plain seats.VolumeProtect no_agent (Pod p) = refl
+
+own_same : (kind : SeatKind) → is_agent kind ≡ false → (o was : Object) → kind_of o ≡ kind_of was → own_calls kind o ≡ own_calls kind was
+own_same kind no_agent o was same = own_plain kind no_agent o ∙ (ap (plain_of kind) same ∙ sym (own_plain kind no_agent was))
+
+-- no more than it may cost any actor
+pub volume_less : (kind : SeatKind) → volume_calls kind ≤ 3
+volume_less seats.Binder = omega arith
+volume_less seats.Ops = omega arith
+volume_less seats.VolumeProtect = omega arith
+volume_less _ = omega arith
+
+pub claim_less : (kind : SeatKind) → claim_calls kind ≤ 2
+claim_less seats.Binder = omega arith
+claim_less seats.Ops = omega arith
+claim_less seats.ClaimProtect = omega arith
+claim_less _ = omega arith
+
+own_less : (kind : SeatKind) (o : Object) → own_calls kind o ≤ calls_for kind o
+own_less kind (Class x) = omega arith
+own_less kind (Node x) = omega arith
+own_less kind (Volume v) = volume_less kind
+own_less kind (Claim c) = let few = claim_less kind in omega (arith, few)
+own_less kind (Pod p) = pods kind
+  where
+    pods : (k : SeatKind) → pod_calls k p ≤ calls_for k (Pod p)
+    pods seats.Scheduler = omega arith
+    pods seats.Agent = omega arith
+    pods _ = omega arith
+
+-- but for an agent no more than any key
+volume_light : (kind : SeatKind) → volume_calls kind ≤ key_calls kind
+volume_light seats.Binder = omega arith
+volume_light seats.Ops = omega arith
+volume_light seats.VolumeProtect = omega arith
+volume_light _ = omega arith
+
+claim_light : (kind : SeatKind) → claim_calls kind ≤ key_calls kind
+claim_light seats.Binder = omega arith
+claim_light seats.Ops = omega arith
+claim_light seats.ClaimProtect = omega arith
+claim_light _ = omega arith
+
+own_light : (kind : SeatKind) → is_agent kind ≡ false → (o : Object) → own_calls kind o ≤ key_calls kind
+own_light kind no_agent (Class x) = omega arith
+own_light kind no_agent (Node x) = omega arith
+own_light kind no_agent (Volume v) = volume_light kind
+own_light kind no_agent (Claim c) = claim_light kind
+own_light seats.Agent no_agent (Pod p) = absurd (true≢false no_agent)
+own_light seats.Scheduler no_agent (Pod p) = omega arith
+own_light _ no_agent (Pod p) = omega arith
+
+-- a volume, and a claim, by the kinds of their keys
+pub of_volume : (kind : SeatKind) (o : Object) → kind_index (kind_of o) ≡ 2 → own_calls kind o ≡ volume_calls kind
+of_volume kind (Volume v) two = refl
+of_volume kind (Class x) two = absurd (omega (arith, two))
+of_volume kind (Node x) two = absurd (omega (arith, two))
+of_volume kind (Claim x) two = absurd (omega (arith, two))
+of_volume kind (Pod x) two = absurd (omega (arith, two))
+
+of_claim : (kind : SeatKind) (o : Object) → kind_index (kind_of o) ≡ 3 → own_calls kind o ≡ claim_calls kind
+of_claim kind (Claim c) three = refl
+of_claim kind (Class x) three = absurd (omega (arith, three))
+of_claim kind (Node x) three = absurd (omega (arith, three))
+of_claim kind (Volume x) three = absurd (omega (arith, three))
+of_claim kind (Pod x) three = absurd (omega (arith, three))
 
 pub agent_kind : (kind : SeatKind) → is_agent kind ≡ true → kind ≡ seats.Agent
 agent_kind seats.Agent e = refl
@@ -123,46 +225,6 @@ agent_kind seats.Ops e = absurd (true≢false (sym e))
 agent_kind seats.Scheduler e = absurd (true≢false (sym e))
 agent_kind seats.ClaimProtect e = absurd (true≢false (sym e))
 agent_kind seats.VolumeProtect e = absurd (true≢false (sym e))
-
-own_less : (kind : SeatKind) (o : Object) → own_calls kind o ≤ calls_for kind o
-own_less kind o = by (follows kind (kind_of o))
-  where
-    by : (b : Bool) → (if b then calls_for kind o else 0) ≤ calls_for kind o
-    by true = omega arith
-    by false = omega arith
-
-own_is : (kind : SeatKind) (o : Object) → follows kind (kind_of o) ≡ true → own_calls kind o ≡ calls_for kind o
-own_is kind o f = ap (λ b. if b then calls_for kind o else 0) f
-
--- but for an agent by its kind alone
-abbrev kind_calls : SeatKind → Kind → ℕ
-kind_calls kind k = if follows kind k then plain_of k else 0
-
-own_plain : (kind : SeatKind) → is_agent kind ≡ false → (o : Object) → own_calls kind o ≡ kind_calls kind (kind_of o)
-own_plain kind no_agent o = ap (λ n. if follows kind (kind_of o) then n else 0) (plain_calls kind no_agent o)
-
-own_light : (kind : SeatKind) → is_agent kind ≡ false → (o : Object) → own_calls kind o ≤ 3
-own_light kind no_agent o =
-    let less = own_less kind o in
-    let is = plain_calls kind no_agent o in
-    let light = plain_light (kind_of o) in
-    omega (arith, less, is, light)
-
-own_same : (kind : SeatKind) → is_agent kind ≡ false → (o was : Object) → kind_of o ≡ kind_of was → own_calls kind o ≡ own_calls kind was
-own_same kind no_agent o was same = own_plain kind no_agent o ∙ (ap (kind_calls kind) same ∙ sym (own_plain kind no_agent was))
-
-weighs : (kind : SeatKind) (o : Object) → calls_for kind o ≤ weight o
-weighs kind o = let c = cheaper kind o in let a = agents o in omega (arith, c, a)
-  where
-    agents : (x : Object) → calls_for seats.Agent x ≤ weight x
-    agents (Class x) = omega arith
-    agents (Node x) = omega arith
-    agents (Volume x) = omega arith
-    agents (Claim x) = omega arith
-    agents (Pod x) = omega arith
-
-own_weighs : (kind : SeatKind) (o : Object) → own_calls kind o ≤ weight o
-own_weighs kind o = let less = own_less kind o in let w = weighs kind o in omega (arith, less, w)
 
 -- ---- the volumes that may be made
 
@@ -208,37 +270,33 @@ in_any key (k ∷ ks) e = by (same_key key k) refl e (in_any key ks)
 any_kind : (first : List Object) (key : Key) → list_any (same_key key) (made_keys first) ≡ true → kind_index key.kind ≡ 2
 any_kind first key e = made_kind key first (in_any key (made_keys first) e)
 
-and_none : (b : Bool) → (b && false) ≡ false
-and_none true = refl
-and_none false = refl
-
 -- no other key is fresh
-not_fresh : (kind : SeatKind) (first : List Object) (key : Key) → (kind_index key.kind ≡ 2 → ⊥) → is_fresh kind first key ≡ false
-not_fresh kind first key other = by (list_any (same_key key) (made_keys first)) refl
+not_fresh : (first : List Object) (key : Key) → (kind_index key.kind ≡ 2 → ⊥) → is_fresh first key ≡ false
+not_fresh first key other = by (list_any (same_key key) (made_keys first)) refl
   where
-    by : (b : Bool) → list_any (same_key key) (made_keys first) ≡ b → is_fresh kind first key ≡ false
+    by : (b : Bool) → list_any (same_key key) (made_keys first) ≡ b → is_fresh first key ≡ false
     by true e = absurd (other (any_kind first key e))
-    by false e = ap (λ b. follows kind key.kind && b) e ∙ and_none (follows kind key.kind)
+    by false e = e
 
 -- ---- what a decision costs
 
-pub stood_light : (kind : SeatKind) → is_agent kind ≡ false → (first : List Object) (key : Key) → stood_cost kind first key ≤ 3
-stood_light kind no_agent first key = by (row_at key first) (is_fresh kind first key)
+pub stood_light : (kind : SeatKind) → is_agent kind ≡ false → (first : List Object) (key : Key) → stood_cost kind first key ≤ key_calls kind
+stood_light kind no_agent first key = by (row_at key first) (is_fresh first key)
   where
-    by : (x : Option Object) (b : Bool) → cost_or (fresh_cost b) kind x ≤ 3
-    by None true = omega arith
+    by : (x : Option Object) (b : Bool) → cost_or (fresh_cost (volume_calls kind) b) kind x ≤ key_calls kind
+    by None true = volume_light kind
     by None false = omega arith
     by (Some o) b = own_light kind no_agent o
 
-pub cost_light : (kind : SeatKind) (first rows : List Object) (key : Key) → key_cost kind rows key ≤ 3 → cost_in kind first rows key ≤ 3
+pub cost_light : (kind : SeatKind) (first rows : List Object) (key : Key) → key_cost kind rows key ≤ 3 → cost_in kind first rows key ≤ key_calls kind
 cost_light kind first rows key light = by (is_agent kind) refl
   where
     at : (x : Option Object) → calls_if kind x ≤ 3 → weigh_if (own_calls kind) x ≤ 3
     at None l = omega arith
     at (Some o) l = let less = own_less kind o in omega (arith, less, l)
 
-    by : (b : Bool) → is_agent kind ≡ b → cost_by b kind first rows key ≤ 3
-    by true e = at (row_at key rows) light
+    by : (b : Bool) → is_agent kind ≡ b → cost_by b kind first rows key ≤ key_calls kind
+    by true e = let few = at (row_at key rows) light in let three : key_calls kind ≡ 3 = ap key_calls (agent_kind kind e) in omega (arith, few, three)
     by false e = stood_light kind e first key
 
 -- what stands at a key costs no more than was reckoned for the key
@@ -252,56 +310,47 @@ module _ (kind : SeatKind) (first rows : List Object) (given : AreGiven first ro
       by_old : (was : Object) → row_at key first ≡ Some was → own_calls kind o ≤ stood_cost kind first key
       by_old was before =
           let same = own_same kind no_agent o was (keyed ∙ sym (ap (λ (k : Key). k.kind) (row_at_key key was first before))) in
-          let is : stood_cost kind first key ≡ own_calls kind was = ap (cost_or (fresh_cost (is_fresh kind first key)) kind) before in
+          let is : stood_cost kind first key ≡ own_calls kind was = ap (cost_or (fresh_cost (volume_calls kind) (is_fresh first key)) kind) before in
           omega (arith, same, is)
 
-      fresh : IsIn key (made_keys first) → (b : Bool) → follows kind key.kind ≡ b → row_at key first ≡ None → own_calls kind o ≤ stood_cost kind first key
-      fresh i true f none =
-          let any : is_fresh kind first key ≡ true = ap (λ b. b && list_any (same_key key) (made_keys first)) f ∙ any_in key (made_keys first) i in
-          let is : stood_cost kind first key ≡ 3 = ap (cost_or (fresh_cost (is_fresh kind first key)) kind) none ∙ ap fresh_cost any in
-          let light = own_light kind no_agent o in
-          omega (arith, is, light)
-      fresh i false f none =
-          let zero_ : own_calls kind o ≡ 0 = ap (λ b. if b then calls_for kind o else 0) (ap (follows kind) keyed ∙ f) in
-          omega (arith, zero_)
-
       by_made : IsIn key (made_keys first) → (x : Option Object) → row_at key first ≡ x → own_calls kind o ≤ stood_cost kind first key
-      by_made i None none = fresh i (follows kind key.kind) refl none
+      by_made i None none =
+          let any : is_fresh first key ≡ true = any_in key (made_keys first) i in
+          let is : stood_cost kind first key ≡ volume_calls kind = ap (cost_or (fresh_cost (volume_calls kind) (is_fresh first key)) kind) none ∙ ap (fresh_cost (volume_calls kind)) any in
+          let own = of_volume kind o (ap kind_index keyed ∙ made_kind key first i) in
+          omega (arith, is, own)
       by_made i (Some was) before = by_old was before
 
       by : IsGiven first key o → own_calls kind o ≤ stood_cost kind first key
       by (IsOld was before few uid) = by_old was before
       by (IsMade i none) = by_made i (row_at key first) refl
 
-  pub covers : (key : Key) (o : Object) → row_at key rows ≡ Some o → follows kind (kind_of o) ≡ true → calls_for kind o ≤ cost_in kind first rows key
-  covers key o there followed = by (is_agent kind) refl
+  pub covers : (key : Key) (o : Object) → row_at key rows ≡ Some o → own_calls kind o ≤ cost_in kind first rows key
+  covers key o there = by (is_agent kind) refl
     where
-      own : own_calls kind o ≡ calls_for kind o
-      own = own_is kind o followed
-
-      by : (b : Bool) → is_agent kind ≡ b → calls_for kind o ≤ cost_by b kind first rows key
-      by true e = let is : weigh_if (own_calls kind) (row_at key rows) ≡ own_calls kind o = ap (weigh_if (own_calls kind)) there in let same = own in omega (arith, is, same)
-      by false e = let c = covers_stood e key o there in let same = own in omega (arith, c, same)
+      by : (b : Bool) → is_agent kind ≡ b → own_calls kind o ≤ cost_by b kind first rows key
+      by true e = let is : weigh_if (own_calls kind) (row_at key rows) ≡ own_calls kind o = ap (weigh_if (own_calls kind)) there in omega (arith, is)
+      by false e = covers_stood e key o there
 
 -- the key of a claim that is queued
-pub queued_cost : (kind : SeatKind) (first rows : List Object) (other : Key) (n : ℕ) → ((o : Object) → key_of o ≡ other → calls_for kind o ≤ n) → kind_index other.kind ≡ 3 → cost_in kind first rows other ≤ n
-queued_cost kind first rows other n each claim = by (is_agent kind)
+pub queued_cost : (kind : SeatKind) (first rows : List Object) (other : Key) → kind_index other.kind ≡ 3 → cost_in kind first rows other ≤ claim_calls kind
+queued_cost kind first rows other claim = by (is_agent kind)
   where
-    one_of : (os : List Object) (o : Object) → row_at other os ≡ Some o → own_calls kind o ≤ n
-    one_of os o there = let less = own_less kind o in let h = each o (row_at_key other o os there) in omega (arith, less, h)
+    one_of : (os : List Object) (o : Object) → row_at other os ≡ Some o → own_calls kind o ≤ claim_calls kind
+    one_of os o there = let own = of_claim kind o (ap (λ (k : Key). kind_index k.kind) (row_at_key other o os there) ∙ claim) in omega (arith, own)
 
-    now : (x : Option Object) → row_at other rows ≡ x → weigh_if (own_calls kind) x ≤ n
+    now : (x : Option Object) → row_at other rows ≡ x → weigh_if (own_calls kind) x ≤ claim_calls kind
     now None e = omega arith
     now (Some o) e = one_of rows o e
 
-    none_fresh : is_fresh kind first other ≡ false
-    none_fresh = not_fresh kind first other (λ two. absurd (omega (arith, two, claim)))
+    none_fresh : is_fresh first other ≡ false
+    none_fresh = not_fresh first other (λ two. absurd (omega (arith, two, claim)))
 
-    then_ : (x : Option Object) → row_at other first ≡ x → cost_or (fresh_cost (is_fresh kind first other)) kind x ≤ n
-    then_ None e = let z : fresh_cost (is_fresh kind first other) ≡ 0 = ap fresh_cost none_fresh in omega (arith, z)
+    then_ : (x : Option Object) → row_at other first ≡ x → cost_or (fresh_cost (volume_calls kind) (is_fresh first other)) kind x ≤ claim_calls kind
+    then_ None e = let z : fresh_cost (volume_calls kind) (is_fresh first other) ≡ 0 = ap (fresh_cost (volume_calls kind)) none_fresh in omega (arith, z)
     then_ (Some o) e = one_of first o e
 
-    by : (b : Bool) → cost_by b kind first rows other ≤ n
+    by : (b : Bool) → cost_by b kind first rows other ≤ claim_calls kind
     by true = now (row_at other rows) refl
     by false = then_ (row_at other first) refl
 
@@ -323,13 +372,6 @@ agents_same (Pod p) (Node x) same few = absurd (omega (arith, same))
 agents_same (Pod p) (Volume x) same few = absurd (omega (arith, same))
 agents_same (Pod p) (Claim x) same few = absurd (omega (arith, same))
 
-no_volume : (o : Object) → kind_index (kind_of o) ≡ 2 → own_calls seats.Agent o ≤ 0
-no_volume (Class x) e = omega arith
-no_volume (Node x) e = omega arith
-no_volume (Volume x) e = omega arith
-no_volume (Claim x) e = omega arith
-no_volume (Pod p) e = absurd (omega (arith, e))
-
 abbrev agents_at : List Object → Key → ℕ
 agents_at rows key = weigh_if (own_calls seats.Agent) (row_at key rows)
 
@@ -339,7 +381,7 @@ agents_come old o (IsOver was there few uid) =
     let less = agents_same o was keyed few in
     let is : agents_at old (key_of o) ≡ own_calls seats.Agent was = ap (weigh_if (own_calls seats.Agent)) there in
     omega (arith, less, is)
-agents_come old o (IsFor c uid there has keyed none) = let z = no_volume o (ap (λ (k : Key). kind_index k.kind) keyed) in omega (arith, z)
+agents_come old o (IsFor c uid there has keyed none) = let z = of_volume seats.Agent o (ap (λ (k : Key). kind_index k.kind) keyed) in omega (arith, z)
 
 agents_fall : (old new : List Object) → AreRows old → CallMoves old new → (key : Key) → agents_at new key ≤ agents_at old key
 agents_fall old new order (IsSame same) key = let e = ap (λ rows. agents_at rows key) same in omega (arith, e)
@@ -421,58 +463,35 @@ module _ (f : Object → ℕ) where
           same : (j : Key) → j ≢ k → weigh_at rows j ≤ weigh_at (without_row k rows) j
           same j other = let e = ap (weigh_if f) (row_at-without_row_other k j rows (λ s. other (sym s))) in omega (arith, e)
 
--- and three for each volume that may be made
-fresh_few : (made ks : List Key) → AreOnce ks → keys_cost (λ key. fresh_cost (list_any (same_key key) made)) ks ≤ 3 * length made
-fresh_few [] ks once = let z = no_keys (λ key. fresh_cost (list_any (same_key key) [])) ks (λ k. omega arith) in omega (arith, z)
-fresh_few (m ∷ ms) ks once =
-    let a = changed_cost (λ key. fresh_cost (list_any (same_key key) ms)) (λ key. fresh_cost (list_any (same_key key) (m ∷ ms))) m 3 others own ks once in
-    let b = fresh_few ms ks once in
-    omega (arith, a, b)
+-- and so much for each volume that may be made
+fresh_few : (n : ℕ) (made ks : List Key) → AreOnce ks → keys_cost (λ key. fresh_cost n (list_any (same_key key) made)) ks ≤ length made * n
+fresh_few n [] ks once = let z = no_keys (λ key. fresh_cost n (list_any (same_key key) [])) ks (λ k. omega arith) in omega (arith, z)
+fresh_few n (m ∷ ms) ks once =
+    let a = changed_cost (λ key. fresh_cost n (list_any (same_key key) ms)) (λ key. fresh_cost n (list_any (same_key key) (m ∷ ms))) m n others own ks once in
+    let b = fresh_few n ms ks once in
+    let more = one_more (length ms) n in
+    omega (arith, a, b, more)
   where
-    others : (k : Key) → k ≢ m → fresh_cost (list_any (same_key k) (m ∷ ms)) ≤ fresh_cost (list_any (same_key k) ms)
+    others : (k : Key) → k ≢ m → fresh_cost n (list_any (same_key k) (m ∷ ms)) ≤ fresh_cost n (list_any (same_key k) ms)
     others k other = by (same_key k m) refl
       where
-        by : (b : Bool) → same_key k m ≡ b → fresh_cost (b || list_any (same_key k) ms) ≤ fresh_cost (list_any (same_key k) ms)
+        by : (b : Bool) → same_key k m ≡ b → fresh_cost n (b || list_any (same_key k) ms) ≤ fresh_cost n (list_any (same_key k) ms)
         by true e = absurd (other ((same_key-Decides k m).0 e))
         by false e = omega arith
 
-    own : fresh_cost (list_any (same_key m) (m ∷ ms)) ≤ fresh_cost (list_any (same_key m) ms) + 3
+    own : fresh_cost n (list_any (same_key m) (m ∷ ms)) ≤ fresh_cost n (list_any (same_key m) ms) + n
     own = by (list_any (same_key m) (m ∷ ms))
       where
-        by : (b : Bool) → fresh_cost b ≤ fresh_cost (list_any (same_key m) ms) + 3
+        by : (b : Bool) → fresh_cost n b ≤ fresh_cost n (list_any (same_key m) ms) + n
         by true = omega arith
         by false = omega arith
 
-volume_kind : (k : Kind) → kind_index k ≡ 2 → k ≡ kinds.PersistentVolume
+pub volume_kind : (k : Kind) → kind_index k ≡ 2 → k ≡ kinds.PersistentVolume
 volume_kind kinds.PersistentVolume e = refl
 volume_kind kinds.PersistentVolumeClaim e = absurd (omega (arith, e))
 volume_kind kinds.StorageClass e = absurd (omega (arith, e))
 volume_kind kinds.Node e = absurd (omega (arith, e))
 volume_kind kinds.Pod e = absurd (omega (arith, e))
-
-fresh_keys : (kind : SeatKind) (first : List Object) (ks : List Key) → AreOnce ks → keys_cost (λ key. fresh_cost (is_fresh kind first key)) ks ≤ (if follows kind kinds.PersistentVolume then 3 * length (made_keys first) else 0)
-fresh_keys kind first ks once = by (follows kind kinds.PersistentVolume) refl
-  where
-    by : (b : Bool) → follows kind kinds.PersistentVolume ≡ b → keys_cost (λ key. fresh_cost (is_fresh kind first key)) ks ≤ (if b then 3 * length (made_keys first) else 0)
-    by true f =
-        let few = fresh_few (made_keys first) ks once in
-        let less = keys_less (λ key. fresh_cost (list_any (same_key key) (made_keys first))) (λ key. fresh_cost (is_fresh kind first key)) ks (λ key. at (follows kind key.kind) (list_any (same_key key) (made_keys first))) in
-        omega (arith, few, less)
-      where
-        at : (a b : Bool) → fresh_cost (a && b) ≤ fresh_cost b
-        at true b = omega arith
-        at false true = omega arith
-        at false false = omega arith
-    by false f = no_keys (λ key. fresh_cost (is_fresh kind first key)) ks (λ key. at key (list_any (same_key key) (made_keys first)) refl)
-      where
-        at : (key : Key) (b : Bool) → list_any (same_key key) (made_keys first) ≡ b → fresh_cost (is_fresh kind first key) ≤ 0
-        at key true e =
-            let unfollowed : follows kind key.kind ≡ false = ap (follows kind) (volume_kind key.kind (any_kind first key e)) ∙ f in
-            let z : fresh_cost (is_fresh kind first key) ≡ 0 = ap (λ b. fresh_cost (b && list_any (same_key key) (made_keys first))) unfollowed in
-            omega (arith, z)
-        at key false e =
-            let z : fresh_cost (is_fresh kind first key) ≡ 0 = ap (λ b. fresh_cost (follows kind key.kind && b)) e ∙ ap fresh_cost (and_none (follows kind key.kind)) in
-            omega (arith, z)
 
 -- ---- sums over objects and kinds
 
@@ -485,39 +504,36 @@ total_plus f g [] = omega arith
 total_plus f g (o ∷ os) = let rest = total_plus f g os in omega (arith, rest)
 
 -- the sum over the kinds may be taken first, or that over the objects
-pub by_kinds : (ks : List Kind) (rows : List Object) → total (λ o. sum_over (λ k. picked k o) ks) rows ≡ sum_over (λ k. total (picked k) rows) ks
-by_kinds [] rows = let z = no_total (λ o. 0) rows (λ o. omega arith) in omega (arith, z)
-by_kinds (k ∷ ks) rows =
-    let split = total_plus (picked k) (λ o. sum_over (λ j. picked j o) ks) rows in
-    let rest = by_kinds ks rows in
+by_kinds : (kind : SeatKind) (ks : List Kind) (rows : List Object) → total (λ o. sum_over (λ k. picked kind k o) ks) rows ≡ sum_over (λ k. total (picked kind k) rows) ks
+by_kinds kind [] rows = let z = no_total (λ o. 0) rows (λ o. omega arith) in omega (arith, z)
+by_kinds kind (k ∷ ks) rows =
+    let split = total_plus (picked kind k) (λ o. sum_over (λ j. picked kind j o) ks) rows in
+    let rest = by_kinds kind ks rows in
     omega (arith, split, rest)
 
-sum_has : (f : Kind → ℕ) (k : Kind) (ks : List Kind) → IsIn k ks → f k ≤ sum_over f ks
-sum_has f k [] i = absurd i
-sum_has f k (j ∷ js) (inl is) = let same : f j ≡ f k = ap f is in omega (arith, same)
-sum_has f k (j ∷ js) (inr more) = let rest = sum_has f k js more in omega (arith, rest)
+-- an object costs an actor what it does among the kinds that are followed
+own_is : (kind : SeatKind) (o : Object) → sum_over (λ k. picked kind k o) (kinds_of kind) ≡ own_calls kind o
+own_is seats.User (Volume x) = omega arith
+own_is seats.User _ = omega arith
+own_is seats.Binder (Volume x) = omega arith
+own_is seats.Binder _ = omega arith
+own_is seats.Ops (Volume x) = omega arith
+own_is seats.Ops _ = omega arith
+own_is seats.Scheduler (Volume x) = omega arith
+own_is seats.Scheduler _ = omega arith
+own_is seats.ClaimProtect (Volume x) = omega arith
+own_is seats.ClaimProtect _ = omega arith
+own_is seats.VolumeProtect (Volume x) = omega arith
+own_is seats.VolumeProtect _ = omega arith
+own_is seats.Agent (Volume x) = omega arith
+own_is seats.Agent _ = omega arith
 
-own_kind : (o : Object) → picked (kind_of o) o ≡ weight o
-own_kind o = ap (λ b. if b then weight o else 0) ((same_kind-Decides (kind_of o) (kind_of o)).1 refl)
-
--- an object costs an actor no more than it weighs among the kinds that are followed
-own_few : (kind : SeatKind) (o : Object) → own_calls kind o ≤ sum_over (λ k. picked k o) (kinds_of kind)
-own_few kind o = by (follows kind (kind_of o)) refl
+own_total : (kind : SeatKind) (rows : List Object) → sum_over (λ k. total (picked kind k) rows) (kinds_of kind) ≡ total (own_calls kind) rows
+own_total kind rows = sym (by_kinds kind (kinds_of kind) rows) ∙ same rows
   where
-    by : (b : Bool) → follows kind (kind_of o) ≡ b → (if b then calls_for kind o else 0) ≤ sum_over (λ k. picked k o) (kinds_of kind)
-    by true f =
-        let p = placed kind (kind_of o) f in
-        let has = sum_has (λ k. picked k o) (kind_of o) (kinds_of kind) (in_place (kinds_of kind) p.place (kind_of o) p.at) in
-        let own = own_kind o in
-        let w = weighs kind o in
-        omega (arith, has, own, w)
-    by false f = omega arith
-
-own_total : (kind : SeatKind) (rows : List Object) → total (own_calls kind) rows ≤ sum_over (λ k. total (picked k) rows) (kinds_of kind)
-own_total kind rows =
-    let less = total_less (λ o. sum_over (λ k. picked k o) (kinds_of kind)) (own_calls kind) rows (own_few kind) in
-    let same = by_kinds (kinds_of kind) rows in
-    omega (arith, less, same)
+    same : (os : List Object) → total (λ o. sum_over (λ k. picked kind k o) (kinds_of kind)) os ≡ total (own_calls kind) os
+    same [] = refl
+    same (o ∷ os) = let own = own_is kind o in let rest = same os in omega (arith, own, rest)
 
 -- ---- rows whose keys stood before, or are those of volumes that may be made
 
@@ -539,20 +555,20 @@ without (k ∷ ks) key (inr i) = let w = without ks key i in let few = w.fewer i
     keep w other (inl here) differs = inl here
     keep w other (inr more) differs = inr (w.keeps other more differs)
 
-module _ (f : Object → ℕ) where
+module _ (f : Object → ℕ) (n : ℕ) where
   data IsCovered (old : List Object) (spare : List Key) (o : Object) : Type 0 where
     ByOld : (was : Object) → row_at (key_of o) old ≡ Some was → f o ≤ f was → IsCovered old spare o
-    BySpare : IsIn (key_of o) spare → f o ≤ 3 → IsCovered old spare o
+    BySpare : IsIn (key_of o) spare → f o ≤ n → IsCovered old spare o
     ByNothing : f o ≡ 0 → IsCovered old spare o
 
-  covered : (rows old : List Object) (spare : List Key) → AreRows rows → AreRows old → ((o : Object) → IsIn o rows → IsCovered old spare o) → total f rows ≤ total f old + 3 * length spare
+  covered : (rows old : List Object) (spare : List Key) → AreRows rows → AreRows old → ((o : Object) → IsIn o rows → IsCovered old spare o) → total f rows ≤ total f old + length spare * n
   covered [] old spare order before each = omega arith
   covered (x ∷ xs) old spare order before each = by (each x (inl refl)) (λ o s b c. covered xs o s order.1 b c)
     where
       differs : (o : Object) → IsIn o xs → key_of o ≢ key_of x
       differs o i = others_behind x xs order.0 o i
 
-      by : IsCovered old spare x → ((o : List Object) (s : List Key) → AreRows o → ((y : Object) → IsIn y xs → IsCovered o s y) → total f xs ≤ total f o + 3 * length s) → f x + total f xs ≤ total f old + 3 * length spare
+      by : IsCovered old spare x → ((o : List Object) (s : List Key) → AreRows o → ((y : Object) → IsIn y xs → IsCovered o s y) → total f xs ≤ total f o + length s * n) → f x + total f xs ≤ total f old + length spare * n
       by (ByOld was there few) rest =
           let gone = gone_falls f f none_paid (key_of x) was old before there (λ o i other. omega arith) in
           let none = none_pays old in
@@ -567,7 +583,9 @@ module _ (f : Object → ℕ) where
           let w = without spare (key_of x) i in
           let fewer = w.fewer in
           let more = rest old w.rest before (λ o j. still w o (differs o j) (each o (inr j))) in
-          omega (arith, few, fewer, more)
+          let times = mul-le (length w.rest + 1) n (length spare) n fewer (omega arith) in
+          let one_time = add-mul (length w.rest) 1 n in
+          omega (arith, few, more, times, one_time)
         where
           still : (w : IsWithout spare (key_of x)) (o : Object) → key_of o ≢ key_of x → IsCovered old spare o → IsCovered old w.rest o
           still w o other (ByOld y at less) = ByOld y at less
@@ -575,30 +593,37 @@ module _ (f : Object → ℕ) where
           still w o other (ByNothing none) = ByNothing none
       by (ByNothing none) rest = let more = rest old spare before (λ o i. each o (inr i)) in omega (arith, none, more)
 
--- so the objects of a kind never weigh more than that
-module _ (first rows : List Object) (before : AreRows first) (order : AreRows rows) (given : AreGiven first rows) (k : Kind) where
-  picked_less : (o was : Object) → kind_of o ≡ kind_of was → names_in o ≤ names_in was → picked k o ≤ picked k was
+-- so the objects of a kind never cost more than that
+module _ (kind : SeatKind) (first rows : List Object) (before : AreRows first) (order : AreRows rows) (given : AreGiven first rows) (k : Kind) where
+  own_grows : (o was : Object) → kind_of o ≡ kind_of was → names_in o ≤ names_in was → own_calls kind o ≤ own_calls kind was
+  own_grows o was same few = by (is_agent kind) refl
+    where
+      by : (b : Bool) → is_agent kind ≡ b → own_calls kind o ≤ own_calls kind was
+      by true e = subst (λ j. own_calls j o ≤ own_calls j was) (sym (agent_kind kind e)) (agents_same o was (ap kind_index same) few)
+      by false e = let is = own_same kind e o was same in omega (arith, is)
+
+  picked_less : (o was : Object) → kind_of o ≡ kind_of was → names_in o ≤ names_in was → picked kind k o ≤ picked kind k was
   picked_less o was same few =
-      let is : picked k o ≡ (if is_of_kind k was then weight o else 0) = ap (λ j. if same_kind j k then weight o else 0) same in
-      let less = by (is_of_kind k was) in
+      let is : picked kind k o ≡ (if is_of_kind k was then own_calls kind o else 0) = ap (λ j. if same_kind j k then own_calls kind o else 0) same in
+      let less = by (is_of_kind k was) (own_grows o was same few) in
       omega (arith, is, less)
     where
-      by : (b : Bool) → (if b then weight o else 0) ≤ (if b then weight was else 0)
-      by true = omega (arith, few)
-      by false = omega arith
+      by : (b : Bool) → own_calls kind o ≤ own_calls kind was → (if b then own_calls kind o else 0) ≤ (if b then own_calls kind was else 0)
+      by true grows = grows
+      by false grows = omega arith
 
-  by_old : (spare : List Key) (o was : Object) → row_at (key_of o) first ≡ Some was → names_in o ≤ names_in was → IsCovered (picked k) first spare o
+  by_old : (spare : List Key) (o was : Object) → row_at (key_of o) first ≡ Some was → names_in o ≤ names_in was → IsCovered (picked kind k) (volume_calls kind) first spare o
   by_old spare o was there few = ByOld was there (picked_less o was (ap (λ (key : Key). key.kind) (sym (row_at_key (key_of o) was first there))) few)
 
-  light : (o : Object) → names_in o ≡ 0 → picked k o ≤ 3
-  light o none = by (is_of_kind k o)
+  light : (o : Object) → kind_index (kind_of o) ≡ 2 → picked kind k o ≤ volume_calls kind
+  light o two = by (is_of_kind k o) (of_volume kind o two)
     where
-      by : (b : Bool) → (if b then weight o else 0) ≤ 3
-      by true = omega (arith, none)
-      by false = omega arith
+      by : (b : Bool) → own_calls kind o ≡ volume_calls kind → (if b then own_calls kind o else 0) ≤ volume_calls kind
+      by true own = omega (arith, own)
+      by false own = omega arith
 
-  other_kind : same_kind k kinds.PersistentVolume ≡ false → (o : Object) → kind_index (kind_of o) ≡ 2 → picked k o ≡ 0
-  other_kind other o two = ap (λ b. if b then weight o else 0) (by (is_of_kind k o) refl)
+  other_kind : same_kind k kinds.PersistentVolume ≡ false → (o : Object) → kind_index (kind_of o) ≡ 2 → picked kind k o ≡ 0
+  other_kind other o two = ap (λ b. if b then own_calls kind o else 0) (by (is_of_kind k o) refl)
     where
       by : (b : Bool) → is_of_kind k o ≡ b → is_of_kind k o ≡ false
       by true e =
@@ -607,27 +632,25 @@ module _ (first rows : List Object) (before : AreRows first) (order : AreRows ro
           absurd (true≢false (sym ((same_kind-Decides k kinds.PersistentVolume).1 volume) ∙ other))
       by false e = e
 
-  pub stays_most : total (picked k) rows ≤ most first k
+  pub stays_most : total (picked kind k) rows ≤ most kind first k
   stays_most = by (same_kind k kinds.PersistentVolume) refl
     where
-      by : (b : Bool) → same_kind k kinds.PersistentVolume ≡ b → total (picked k) rows ≤ total (picked k) first + (if b then 3 * length (made_keys first) else 0)
-      by true e = covered (picked k) rows first (made_keys first) order before (λ o i. at o (given (key_of o) o (stands rows order o i)))
+      by : (b : Bool) → same_kind k kinds.PersistentVolume ≡ b → total (picked kind k) rows ≤ total (picked kind k) first + (if b then length (made_keys first) * volume_calls kind else 0)
+      by true e = covered (picked kind k) (volume_calls kind) rows first (made_keys first) order before (λ o i. at o (given (key_of o) o (stands rows order o i)))
         where
-          at : (o : Object) → IsGiven first (key_of o) o → IsCovered (picked k) first (made_keys first) o
+          at : (o : Object) → IsGiven first (key_of o) o → IsCovered (picked kind k) (volume_calls kind) first (made_keys first) o
           at o (IsOld was there few uid) = by_old (made_keys first) o was there few
-          at o (IsMade i none) = BySpare i (light o none)
-      by false e = let few = covered (picked k) rows first [] order before (λ o i. at o (given (key_of o) o (stands rows order o i))) in omega (arith, few)
+          at o (IsMade i none) = BySpare i (light o (made_kind (key_of o) first i))
+      by false e = let few = covered (picked kind k) (volume_calls kind) rows first [] order before (λ o i. at o (given (key_of o) o (stands rows order o i))) in omega (arith, few)
         where
-          at : (o : Object) → IsGiven first (key_of o) o → IsCovered (picked k) first [] o
+          at : (o : Object) → IsGiven first (key_of o) o → IsCovered (picked kind k) (volume_calls kind) first [] o
           at o (IsOld was there few uid) = by_old [] o was there few
           at o (IsMade i none) = ByNothing (other_kind e o (made_kind (key_of o) first i))
 
 -- ---- the keys of a kind, and keys that differ
 
-abbrev pub volumes_made : SeatKind → List Object → ℕ
-volumes_made kind first = if follows kind kinds.PersistentVolume then 3 * length (made_keys first) else 0
-
-with_made : (kind : SeatKind) (f : Kind → ℕ) (n : ℕ) → sum_over f (kinds_of kind) + (if follows kind kinds.PersistentVolume then n else 0) ≤ sum_over (λ k. f k + (if same_kind k kinds.PersistentVolume then n else 0)) (kinds_of kind)
+-- volumes are followed where they cost something
+with_made : (kind : SeatKind) (f : Kind → ℕ) (n : ℕ) → sum_over (λ k. f k + (if same_kind k kinds.PersistentVolume then n * volume_calls kind else 0)) (kinds_of kind) ≡ sum_over f (kinds_of kind) + n * volume_calls kind
 with_made seats.User f n = omega arith
 with_made seats.Binder f n = omega arith
 with_made seats.Ops f n = omega arith
@@ -636,47 +659,55 @@ with_made seats.ClaimProtect f n = omega arith
 with_made seats.VolumeProtect f n = omega arith
 with_made seats.Agent f n = omega arith
 
+-- what the kinds cost that an actor follows
+pub kinds_cost : (kind : SeatKind) (first : List Object) → sum_over (most kind first) (kinds_of kind) ≡ total (own_calls kind) first + length (made_keys first) * volume_calls kind
+kinds_cost kind first =
+    let own = own_total kind first in
+    let all = with_made kind (λ k. total (picked kind k) first) (length (made_keys first)) in
+    omega (arith, own, all)
+
 module _ (kind : SeatKind) (first rows : List Object) (before : AreRows first) (order : AreRows rows) (given : AreGiven first rows) where
-  pub waiting_few : (ks : List Key) → AreOnce ks → keys_cost (cost_in kind first rows) ks ≤ sum_over (most first) (kinds_of kind)
+  pub waiting_few : (ks : List Key) → AreOnce ks → keys_cost (cost_in kind first rows) ks ≤ sum_over (most kind first) (kinds_of kind)
   waiting_few ks once = by (is_agent kind)
     where
-      by : (b : Bool) → keys_cost (cost_by b kind first rows) ks ≤ sum_over (most first) (kinds_of kind)
+      by : (b : Bool) → keys_cost (cost_by b kind first rows) ks ≤ sum_over (most kind first) (kinds_of kind)
       by true =
           let few = distinct_keys (own_calls kind) ks rows order once in
           let own = own_total kind rows in
-          let less = sum_less (most first) (λ k. total (picked k) rows) (kinds_of kind) (λ k. stays_most first rows before order given k) in
+          let less = sum_less (most kind first) (λ k. total (picked kind k) rows) (kinds_of kind) (λ k. stays_most kind first rows before order given k) in
           omega (arith, few, own, less)
       by false =
-          let split = keys_sum (λ key. weigh_if (own_calls kind) (row_at key first)) (λ key. fresh_cost (is_fresh kind first key)) (stood_cost kind first) ks (λ key. at (row_at key first) (fresh_cost (is_fresh kind first key))) in
+          let split = keys_sum (λ key. weigh_if (own_calls kind) (row_at key first)) (λ key. fresh_cost (volume_calls kind) (is_fresh first key)) (stood_cost kind first) ks (λ key. at (row_at key first) (fresh_cost (volume_calls kind) (is_fresh first key))) in
           let few = distinct_keys (own_calls kind) ks first before once in
-          let own = own_total kind first in
-          let fresh = fresh_keys kind first ks once in
-          let all = with_made kind (λ k. total (picked k) first) (3 * length (made_keys first)) in
-          omega (arith, split, few, own, fresh, all)
+          let fresh = fresh_few (volume_calls kind) (made_keys first) ks once in
+          let all = kinds_cost kind first in
+          omega (arith, split, few, fresh, all)
         where
           at : (x : Option Object) (n : ℕ) → cost_or n kind x ≤ weigh_if (own_calls kind) x + n
           at None n = omega arith
           at (Some o) n = omega arith
 
-  -- what stands costs no more than it weighs
-  cost_few : (o : Object) → IsIn o rows → cost_in kind first rows (key_of o) ≤ weight o
+  -- what stands costs no more than its own
+  cost_few : (o : Object) → IsIn o rows → cost_in kind first rows (key_of o) ≤ own_calls kind o
   cost_few o i = by (is_agent kind) refl
     where
-      by : (b : Bool) → is_agent kind ≡ b → cost_by b kind first rows (key_of o) ≤ weight o
-      by true e =
-          let is : weigh_if (own_calls kind) (row_at (key_of o) rows) ≡ own_calls kind o = ap (weigh_if (own_calls kind)) (stands rows order o i) in
-          let w = own_weighs kind o in
-          omega (arith, is, w)
-      by false e = let light_ = stood_light kind e first (key_of o) in omega (arith, light_)
+      stood : is_agent kind ≡ false → (x : Option Object) → row_at (key_of o) first ≡ x → (b : Bool) → is_fresh first (key_of o) ≡ b → cost_or (fresh_cost (volume_calls kind) b) kind x ≤ own_calls kind o
+      stood no_agent (Some was) there b fresh = let same = own_same kind no_agent o was (ap (λ (key : Key). key.kind) (sym (row_at_key (key_of o) was first there))) in omega (arith, same)
+      stood no_agent None there true fresh = let own = of_volume kind o (any_kind first (key_of o) fresh) in omega (arith, own)
+      stood no_agent None there false fresh = omega arith
 
-  pub listed_few : (k : Kind) → keys_cost (cost_in kind first rows) (map key_of (rows_of k rows)) ≤ most first k
-  listed_few k = let h = in_all rows (λ o i. i) in let m = stays_most first rows before order given k in omega (arith, h, m)
+      by : (b : Bool) → is_agent kind ≡ b → cost_by b kind first rows (key_of o) ≤ own_calls kind o
+      by true e = let is : weigh_if (own_calls kind) (row_at (key_of o) rows) ≡ own_calls kind o = ap (weigh_if (own_calls kind)) (stands rows order o i) in omega (arith, is)
+      by false e = stood e (row_at (key_of o) first) refl (is_fresh first (key_of o)) refl
+
+  pub listed_few : (k : Kind) → keys_cost (cost_in kind first rows) (map key_of (rows_of k rows)) ≤ most kind first k
+  listed_few k = let h = in_all rows (λ o i. i) in let m = stays_most kind first rows before order given k in omega (arith, h, m)
     where
-      in_all : (xs : List Object) → ((o : Object) → IsIn o xs → IsIn o rows) → keys_cost (cost_in kind first rows) (map key_of (filter (is_of_kind k) xs)) ≤ total (picked k) xs
+      in_all : (xs : List Object) → ((o : Object) → IsIn o xs → IsIn o rows) → keys_cost (cost_in kind first rows) (map key_of (filter (is_of_kind k) xs)) ≤ total (picked kind k) xs
       in_all [] within = omega arith
       in_all (x ∷ xs) within = by (is_of_kind k x) (cost_few x (within x (inl refl))) (in_all xs (λ o i. within o (inr i)))
         where
-          by : (b : Bool) → cost_in kind first rows (key_of x) ≤ weight x → keys_cost (cost_in kind first rows) (map key_of (filter (is_of_kind k) xs)) ≤ total (picked k) xs
-              → keys_cost (cost_in kind first rows) (map key_of (cond b (x ∷ filter (is_of_kind k) xs) (filter (is_of_kind k) xs))) ≤ (if b then weight x else 0) + total (picked k) xs
+          by : (b : Bool) → cost_in kind first rows (key_of x) ≤ own_calls kind x → keys_cost (cost_in kind first rows) (map key_of (filter (is_of_kind k) xs)) ≤ total (picked kind k) xs
+              → keys_cost (cost_in kind first rows) (map key_of (cond b (x ∷ filter (is_of_kind k) xs) (filter (is_of_kind k) xs))) ≤ (if b then own_calls kind x else 0) + total (picked kind k) xs
           by true own rest = omega (arith, own, rest)
           by false own rest = omega (arith, rest)

@@ -1,6 +1,7 @@
 -- Rounds are short: the stated number, by the sizes of the world with which a round begins.
-use Rattle.std.proofs.Common.{◌≡◌, ℕ, ◌+◌, ◌*◌, ◌≤◌, List, [], ◌∷◌, length, true, false, refl, subst, arith}
-use Rattle.std.specs.Prelude.{◌/◌}
+use Rattle.std.proofs.Common.{◌≡◌, ℕ, ◌+◌, ◌*◌, ◌-◌, ◌≤◌, ◌<◌, List, [], ◌∷◌, length, Bool, true, false, refl, subst, arith}
+use Rattle.std.specs.Prelude.{◌/◌, nat_lt}
+use Rattle.std.proofs.lemmas.Bool.Decides.{nat_tests}
 use Rattle.std.proofs.lemmas.Nat.{div-add-mod', mul-le}
 use Rattle.kube_types.specs.declared.objects.Object.{Object}
 use Rattle.kube_types.specs.declared.objects.Object.TheVariants.{Class, Node, Volume, Claim, Pod}
@@ -51,19 +52,37 @@ pods_few (Volume x ∷ os) = let rest = pods_few os in omega (arith, rest)
 pods_few (Claim x ∷ os) = let rest = pods_few os in omega (arith, rest)
 pods_few (Pod x ∷ os) = let rest = pods_few os in omega (arith, rest)
 
--- what is listed again costs little in a world of 960
-swept_few : (size claims : ℕ) → claims ≤ size → size ≤ 960 → sweep_calls size claims ≤ 1691
+-- what is listed again costs little in a world of 1,222
+swept_few : (size claims : ℕ) → claims ≤ size → size ≤ 1222 → sweep_calls size claims ≤ 2543
 unfolding sweep_calls
 swept_few size claims counted small = omega (arith, counted, small)
 
--- nine calls for each write, what the actors follow, and what is listed again after 513 writes
-stated : (size claims volumes pods pod_count faults writes actors : ℕ) → claims + volumes + pods ≤ size → pod_count ≤ pods → size ≤ 960 → actors ≤ 13 → writes ≤ 19 * claims + 10 * volumes + 4 * pod_count + 2 * pods + faults
-    → 9 * writes + (12 * size + 12 * claims + actors * (3 * pods + 62)) + sweep_calls size claims * (writes / 513) ≤ 256 * (size + faults + 16)
-stated size claims volumes pods pod_count faults writes actors counted pods_less small few written =
-    let each = mul-le actors (3 * pods + 62) 13 (3 * pods + 62) few (omega arith) in
-    let swept = mul-le (sweep_calls size claims) (writes / 513) 1691 (writes / 513) (swept_few size claims (omega (arith, counted)) small) (omega arith) in
-    let whole = div-add-mod' writes 513 in
-    omega (arith, each, swept, whole, counted, pods_less, small, written)
+swept_is : (size claims : ℕ) → sweep_calls size claims ≡ (3 * size + 2 * claims + 24) - 7 * 513
+unfolding sweep_calls
+swept_is size claims = refl
+
+-- eight calls for each write, what the actors follow, and what is listed again after 513 writes. Without faults that is 45 times at most; beyond it
+-- the faults pay
+stated : (size claims volumes pods pod_count faults writes actors : ℕ) → claims + volumes + pods ≤ size → pod_count ≤ pods → size ≤ 1222 → actors ≤ 13 → writes ≤ 19 * claims + 10 * volumes + 4 * pod_count + 2 * pods + faults
+    → 8 * writes + (7 * size + 6 * claims + actors * (3 * pods + 62)) + sweep_calls size claims * (writes / 513) ≤ 256 * (size + faults + 16)
+stated size claims volumes pods pod_count faults writes actors counted pods_less small few written = by (nat_lt 45 (writes / 513)) refl
+  where
+    each : actors * (3 * pods + 62) ≤ 13 * (3 * pods + 62)
+    each = mul-le actors (3 * pods + 62) 13 (3 * pods + 62) few (omega arith)
+
+    by : (more : Bool) → nat_lt 45 (writes / 513) ≡ more → 8 * writes + (7 * size + 6 * claims + actors * (3 * pods + 62)) + sweep_calls size claims * (writes / 513) ≤ 256 * (size + faults + 16)
+    by true e =
+        let many : 45 < writes / 513 = grind (arith, nat_tests, e) in
+        let swept = mul-le (sweep_calls size claims) (writes / 513) 2543 (writes / 513) (swept_few size claims (omega (arith, counted)) small) (omega arith) in
+        let whole = div-add-mod' writes 513 in
+        let all = each in
+        omega (arith, many, all, swept, whole, counted, pods_less, small, written)
+    by false e =
+        let most_sweeps : writes / 513 ≤ 45 = grind (arith, nat_tests, e) in
+        let swept = mul-le (sweep_calls size claims) (writes / 513) (sweep_calls size claims) 45 (omega arith) most_sweeps in
+        let is = swept_is size claims in
+        let all = each in
+        omega (arith, all, swept, is, counted, pods_less, small, written)
 
 -- what a scheduler may write is among what is counted
 pub small_worlds_have_short_rounds : SmallWorldsHaveShortRounds

@@ -75,12 +75,13 @@ use Rattle.kube_types.specs.Keys.{AreRows}
 use Rattle.model_laws.proofs.Growing.{runs_are_histories}
 use Rattle.short_law.specs.Slots.{PassesReads, is_own_read, writes_since}
 use Rattle.short_law.proofs.Slots.{later}
-use Rattle.event_law.specs.Ahead.{Point, from_of, pass_cost, sum_over}
+use Rattle.event_law.specs.Ahead.{Point, from_of, sum_over}
+use Rattle.pass_law.proofs.Told.{within_five}
 use Rattle.pass_law.specs.Passes.{IsCallGiven, KindsHaveReached, first_cost, wait_cost}
 use Rattle.write_count.proofs.Runs.{IsCalled, called_at, run_at}
 use Rattle.call_count.proofs.Growth.{AreGiven}
 use Rattle.call_count.proofs.Made.{IsOrdered, NothingUnder}
-use Rattle.drain_budget.proofs.Calls.{AtKeys, InPass, IsLess, Stage, kinds_left, rest_left, slot_left, sweep_cost}
+use Rattle.drain_budget.proofs.Calls.{AtKeys, InPass, IsLess, Stage, kinds_left, pass_left, rest_left, slot_left, sweep_cost}
 use Rattle.drain_budget.proofs.RoundCosts.{CallMoves, cost_falls, cost_in, most, waiting_few}
 use Rattle.drain_budget.proofs.Made.{call_moves, given_on, lost_ordered, reads_stay, told_ordered, turned_ordered}
 use Rattle.drain_budget.proofs.Passes.{none_read, read_falls, start_falls, start_pays, task_pays}
@@ -337,8 +338,8 @@ module _ (setup : Setup) (lets : Lets) (passes : PassesReads lets) (seat : ℕ) 
       ]
 
       falls_by : (caches : AllKnown) → GivenSo x → rest_left first x.role.kind (world setup (told_entry seat x request reply ∷ h)) (told_to x caches request reply)
-          + (kinds_left setup first seat x.role.kind (told_entry seat x request reply ∷ h) + pass_cost (told_to x caches request reply).pass) + 1
-          ≤ rest_left first x.role.kind (world setup h) x + (kinds_left setup first seat x.role.kind h + pass_cost x.pass)
+          + (kinds_left setup first seat x.role.kind (told_entry seat x request reply ∷ h) + pass_left x.role.kind (told_to x caches request reply).pass) + 1
+          ≤ rest_left first x.role.kind (world setup h) x + (kinds_left setup first seat x.role.kind h + pass_left x.role.kind x.pass)
       falls_by caches (GivesTask e) = none_some (sym none ∙ (task_called setup seat x request reply h given e).there)
       falls_by caches (GivesStart e) = start_falls setup first seat base m high x request reply h given at begins reached short order so falls caches e stays
       falls_by caches (GivesRead kind e) = read_falls setup first seat base m high x request reply h given at begins reached short order so falls caches kind e
@@ -346,7 +347,7 @@ module _ (setup : Setup) (lets : Lets) (passes : PassesReads lets) (seat : ℕ) 
       pass_pays : (caches : AllKnown) → IsLess setup first seat high (told_to x caches request reply) (told_entry seat x request reply ∷ h) 1 (slot_left setup first seat high x h (InPass none behind))
       pass_pays caches = record {
         stage = InPass (none_told x request reply caches none given.ask) goes_on;
-        less = omega (arith, fewer, same, rest, kinds, sweeps);
+        less = omega (arith, fewer, same, rest, kinds, sweeps, pass);
       }
         where
           role : (told_to x caches request reply).role ≡ x.role
@@ -356,8 +357,8 @@ module _ (setup : Setup) (lets : Lets) (passes : PassesReads lets) (seat : ℕ) 
           same = version
 
           fewer : rest_left first x.role.kind (world setup (told_entry seat x request reply ∷ h)) (told_to x caches request reply)
-              + (kinds_left setup first seat x.role.kind (told_entry seat x request reply ∷ h) + pass_cost (told_to x caches request reply).pass) + 1
-              ≤ rest_left first x.role.kind (world setup h) x + (kinds_left setup first seat x.role.kind h + pass_cost x.pass)
+              + (kinds_left setup first seat x.role.kind (told_entry seat x request reply ∷ h) + pass_left x.role.kind (told_to x caches request reply).pass) + 1
+              ≤ rest_left first x.role.kind (world setup h) x + (kinds_left setup first seat x.role.kind h + pass_left x.role.kind x.pass)
           fewer = falls_by caches (given_so x request given.ask)
 
           rest : rest_left first (told_to x caches request reply).role.kind (world setup (told_entry seat x request reply ∷ h)) (told_to x caches request reply) ≡ rest_left first x.role.kind (world setup (told_entry seat x request reply ∷ h)) (told_to x caches request reply)
@@ -365,6 +366,9 @@ module _ (setup : Setup) (lets : Lets) (passes : PassesReads lets) (seat : ℕ) 
 
           kinds : kinds_left setup first seat (told_to x caches request reply).role.kind (told_entry seat x request reply ∷ h) ≡ kinds_left setup first seat x.role.kind (told_entry seat x request reply ∷ h)
           kinds = ap (λ (r : Role). kinds_left setup first seat r.kind (told_entry seat x request reply ∷ h)) role
+
+          pass : pass_left (told_to x caches request reply).role.kind (told_to x caches request reply).pass ≡ pass_left x.role.kind (told_to x caches request reply).pass
+          pass = ap (λ (r : Role). pass_left r.kind (told_to x caches request reply).pass) role
 
           sweeps : sweep_cost first (told_to x caches request reply).role.kind * ((high - (world setup (told_entry seat x request reply ∷ h)).store.version) / 513) ≡ sweep_cost first x.role.kind * ((high - (world setup h).store.version) / 513)
           sweeps = ap (λ (r : Role). sweep_cost first r.kind * ((high - (world setup (told_entry seat x request reply ∷ h)).store.version) / 513)) role ∙ ap (λ n. sweep_cost first x.role.kind * ((high - n) / 513)) version
@@ -478,7 +482,7 @@ module _ (setup : Setup) (lets : Lets) (passes : PassesReads lets) (seat : ℕ) 
 
   -- what comes after the first pass
   abbrev after_cost : SeatKind → ℕ
-  after_cost kind = 9 * ((world setup past).store.version - base) + (sum_over (most first) (kinds_of kind) + (sweep_cost first kind * (((world setup past).store.version - base) / 513) + 5))
+  after_cost kind = 8 * ((world setup past).store.version - base) + (sum_over (most kind first) (kinds_of kind) + (sweep_cost first kind * (((world setup past).store.version - base) / 513) + 5))
 
   -- nothing is written in it
   abbrev cost_first : ActorState → List Entry → ℕ
@@ -497,16 +501,17 @@ module _ (setup : Setup) (lets : Lets) (passes : PassesReads lets) (seat : ℕ) 
       let waiting = waiting_few s.role.kind first (world setup h).store.rows order (rows_stand_in_order setup h) so s.work.waiting (waiting_once s.work ready.stands.queue.once) in
       let under = ap under_left none in
       let event = at_most_five s.pass.event in
-      let writes : 9 * ((world setup past).store.version - (world setup h).store.version) ≡ 9 * ((world setup past).store.version - base) = ap (λ n. 9 * ((world setup past).store.version - n)) version in
+      let few_kinds = within_five s.role.kind in
+      let writes : 8 * ((world setup past).store.version - (world setup h).store.version) ≡ 8 * ((world setup past).store.version - base) = ap (λ n. 8 * ((world setup past).store.version - n)) version in
       let sweeps : sweep_cost first s.role.kind * (((world setup past).store.version - (world setup h).store.version) / 513) ≡ sweep_cost first s.role.kind * (((world setup past).store.version - base) / 513) = ap (λ n. sweep_cost first s.role.kind * (((world setup past).store.version - n) / 513)) version in
       let told = nothing_told setup seat s h ready built history reached listed over in
       record {
         stage = AtKeys (world setup h).store.version over (all_read setup seat s h ready built history reached listed over) (omega arith) (omega (arith, told));
-        less = omega (arith, again, waiting, under, event, writes, sweeps);
+        less = omega (arith, again, waiting, under, event, few_kinds, writes, sweeps);
       }
     where
-      at_most_five : (e : Bool) → (if e then 5 else 0) ≤ 5
-      at_most_five true = omega arith
+      at_most_five : (e : Bool) → (if e then length (kinds_of s.role.kind) else 0) ≤ 5
+      at_most_five true = within_five s.role.kind
       at_most_five false = omega arith
 
       reached : ReachedBehind (world setup h).store.version s.role s.pass h
@@ -613,7 +618,7 @@ start_few role m = by m.stale
 
 -- how many calls a slot makes at most, by the objects with which its round began and by its writes
 abbrev pub slot_most : List Object → SeatKind → ℕ → ℕ
-slot_most first kind writes = 9 * writes + (sum_over (most first) (kinds_of kind) + (sweep_cost first kind * (writes / 513) + 62))
+slot_most first kind writes = 8 * writes + (sum_over (most kind first) (kinds_of kind) + (sweep_cost first kind * (writes / 513) + 62))
 
 pub slots_cost_less : (setup : Setup) (lets : Lets) (seat : ℕ) (old after : ActorState) (h past : List Entry) (b left : ℕ) (idle : Bool) (first : List Object) → IsBuiltKind old.role.kind → IsRunOf setup past → PassesReads lets → old.under ≡ None → AreRows first
     → AreGiven first (world setup h).store.rows → Runs lets seat after past left idle (woken old) h b → b ≤ left + slot_most first old.role.kind (writes_since setup h past)

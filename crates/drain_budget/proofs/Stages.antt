@@ -1,5 +1,5 @@
 -- Past a pass all kinds are as they stand, and a new pass is paid for by the writes that were made since the last one.
-use Rattle.std.proofs.Common.{◌≡◌, ◌∙◌, ℕ, suc, ◌+◌, ◌*◌, ◌-◌, ◌≤◌, ◌<◌, List, [], ◌∷◌, Bool, true, false, true≢false, Option, Some, None, inl, inr, refl, sym, ap, subst, arith, if◌then◌else◌}
+use Rattle.std.proofs.Common.{◌≡◌, ◌∙◌, ℕ, suc, ◌+◌, ◌*◌, ◌-◌, ◌≤◌, ◌<◌, List, [], ◌∷◌, length, Bool, true, false, true≢false, Option, Some, None, inl, inr, refl, sym, ap, subst, arith, if◌then◌else◌}
 use Rattle.std.specs.Prelude.{◌/◌, is_some, nat_lt, slice_get}
 use Rattle.std.proofs.lemmas.Bool.Decides.{nat_tests}
 use Rattle.std.proofs.lemmas.Option.{slice_get_within}
@@ -49,9 +49,9 @@ sum_same : (f g : Kind → ℕ) (ks : List Kind) → ((k : Kind) → IsIn k ks �
 sum_same f g [] each = refl
 sum_same f g (k ∷ ks) each = let a = each k (inl refl) in let rest = sum_same f g ks (λ x i. each x (inr i)) in omega (arith, a, rest)
 
-eight_times : (f : Kind → ℕ) (ks : List Kind) → sum_over (λ k. 8 * f k) ks ≡ 8 * sum_over f ks
-eight_times f [] = omega arith
-eight_times f (k ∷ ks) = let rest = eight_times f ks in omega (arith, rest)
+seven_times : (f : Kind → ℕ) (ks : List Kind) → sum_over (λ k. 7 * f k) ks ≡ 7 * sum_over f ks
+seven_times f [] = omega arith
+seven_times f (k ∷ ks) = let rest = seven_times f ks in omega (arith, rest)
 
 followed_in : (ks : List Kind) (kind : Kind) → IsIn kind ks → (place : ℕ) × (slice_get ks place ≡ Some kind)
 followed_in [] kind i = absurd i
@@ -95,7 +95,7 @@ pub record IsAtKeys (setup : Setup) (first : List Object) (seat high : ℕ) (s :
   pub kinds : (kind : Kind) → IsIn kind (kinds_of s.role.kind) → from_of seat h kind ≡ Some read
   pub low : read ≤ (world setup h).store.version
   pub few : sum_over (λ k. pending k read (world setup h).log) (kinds_of s.role.kind) ≤ (world setup h).store.version - read
-  pub less : 8 * ((world setup h).store.version - read) + sweep_cost first s.role.kind * ((high - read) / 513) ≤ ahead
+  pub less : 7 * ((world setup h).store.version - read) + sweep_cost first s.role.kind * ((high - read) / 513) ≤ ahead
 
 pub keys_of : (setup : Setup) (first : List Object) (seat high : ℕ) (s : ActorState) (h : List Entry) → IsReady seat s h → IsBuiltKind s.role.kind → IsHistory setup h → unlisted s ≡ None → passing s ≡ None → (stage : Stage setup seat s h)
     → IsAtKeys setup first seat high s h (kinds_ahead setup first seat high s h stage)
@@ -118,22 +118,22 @@ pub pass_begins : (setup : Setup) (first : List Object) (seat high : ℕ) (s : A
     → kinds_left setup first seat s.role.kind h + sweep_cost first s.role.kind * ((high - (world setup h).store.version) / 513) ≤ ahead
 pass_begins setup first seat high s h ahead short at = by (nat_lt (at.read + 512) (world setup h).store.version) refl
   where
-    each : (gone : Bool) → nat_lt (at.read + 512) (world setup h).store.version ≡ gone → (k : Kind) → IsIn k (kinds_of s.role.kind) → kind_left (most first k) (world setup h) k (from_of seat h k) ≡ told_cost_or gone (most first k) (pending k at.read (world setup h).log)
-    each gone is k i = ap (kind_left (most first k) (world setup h) k) (at.kinds k i) ∙ ap (λ b. told_cost_or b (most first k) (pending k at.read (world setup h).log)) is
+    each : (gone : Bool) → nat_lt (at.read + 512) (world setup h).store.version ≡ gone → (k : Kind) → IsIn k (kinds_of s.role.kind) → kind_left s.role.kind (most s.role.kind first k) (world setup h) k (from_of seat h k) ≡ told_cost_or s.role.kind gone (most s.role.kind first k) (pending k at.read (world setup h).log)
+    each gone is k i = ap (kind_left s.role.kind (most s.role.kind first k) (world setup h) k) (at.kinds k i) ∙ ap (λ b. told_cost_or s.role.kind b (most s.role.kind first k) (pending k at.read (world setup h).log)) is
 
     by : (gone : Bool) → nat_lt (at.read + 512) (world setup h).store.version ≡ gone → kinds_left setup first seat s.role.kind h + sweep_cost first s.role.kind * ((high - (world setup h).store.version) / 513) ≤ ahead
     by true is =
         let far : at.read + 512 < (world setup h).store.version = grind (arith, nat_tests, is) in
-        let same = sum_same (λ k. kind_left (most first k) (world setup h) k (from_of seat h k)) (λ k. most first k + 7) (kinds_of s.role.kind) (each true is) in
+        let same = sum_same (λ k. kind_left s.role.kind (most s.role.kind first k) (world setup h) k (from_of seat h k)) (λ k. most s.role.kind first k + (2 + length (kinds_of s.role.kind))) (kinds_of s.role.kind) (each true is) in
         let all = sweep_is first s.role.kind in
         let falls = mul_falls (sweep_cost first s.role.kind) ((high - (world setup h).store.version) / 513) ((high - at.read) / 513) (div_falls (high - (world setup h).store.version) (high - at.read) (omega (arith, far, short))) in
         let less = at.less in
         omega (arith, far, same, all, falls, less)
     by false is =
-        let same = sum_same (λ k. kind_left (most first k) (world setup h) k (from_of seat h k)) (λ k. 8 * pending k at.read (world setup h).log) (kinds_of s.role.kind) (each false is) in
-        let eight = eight_times (λ k. pending k at.read (world setup h).log) (kinds_of s.role.kind) in
+        let same = sum_same (λ k. kind_left s.role.kind (most s.role.kind first k) (world setup h) k (from_of seat h k)) (λ k. 7 * pending k at.read (world setup h).log) (kinds_of s.role.kind) (each false is) in
+        let seven = seven_times (λ k. pending k at.read (world setup h).log) (kinds_of s.role.kind) in
         let low = at.low in
         let few = at.few in
         let falls = mul_less (sweep_cost first s.role.kind) ((high - (world setup h).store.version) / 513) ((high - at.read) / 513) (div_less (high - (world setup h).store.version) (high - at.read) (omega (arith, low))) in
         let less = at.less in
-        omega (arith, same, eight, few, falls, less)
+        omega (arith, same, seven, few, falls, less)

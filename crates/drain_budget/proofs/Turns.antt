@@ -1,11 +1,11 @@
 -- Past its first pass a turn of an actor costs nothing: a decision begins no more than was reckoned for its key, and a new pass is paid for by the
 -- writes since the last one.
-use Rattle.std.proofs.Common.{◌≡◌, ◌∙◌, ℕ, ◌+◌, ◌-◌, ◌≤◌, List, [], ◌∷◌, Bool, true, false, Option, Some, None, inl, inr, refl, sym, ap, subst, arith, if◌then◌else◌}
+use Rattle.std.proofs.Common.{◌≡◌, ◌∙◌, ℕ, ◌+◌, ◌-◌, ◌≤◌, List, [], ◌∷◌, length, Bool, true, false, Option, Some, None, inl, inr, refl, sym, ap, subst, arith, if◌then◌else◌}
 use Rattle.std.specs.Prelude.{map}
 use Rattle.kube_types.specs.declared.key.Key.{Key}
 use Rattle.kube_types.specs.declared.parts.Kind.{Kind}
 use Rattle.kube_types.specs.declared.objects.Object.{Object}
-use Rattle.kube_types.specs.Keys.{kind_of, row_at}
+use Rattle.kube_types.specs.Keys.{kind_index, kind_of, row_at}
 use Rattle.kube_types.proofs.KeyOrder.{row_at_key}
 use Rattle.call_types.specs.declared.entry.Entry.{Entry}
 use Rattle.call_types.specs.declared.request.Request.{Request}
@@ -23,7 +23,7 @@ use Rattle.worker_core.specs.declared.turn.Given.{Given}
 use Rattle.worker_core.specs.declared.turn.Given.TheVariants as givens
 use Rattle.worker_core.specs.declared.turn.Next.TheVariants.{Call}
 use Rattle.worker_core.specs.Memories.{Memory}
-use Rattle.worker_core.specs.Roles.{IsBuiltKind}
+use Rattle.worker_core.specs.Roles.{IsBuiltKind, kinds_of}
 use Rattle.worker_core.specs.States.{ActorState, call_in, start_call}
 use Rattle.worker_core.specs.Tasks.{GivesNone}
 use Rattle.worker_core.specs.Turns.{AfterKeys, Begins, Decides, Drops, IsTurn, Nothing, TurnBy, dropped, passing, unlisted}
@@ -31,15 +31,15 @@ use Rattle.attention_law.specs.Queues.{taken_keys, under_keys}
 use Rattle.attention_law.proofs.Queues.{added_taken, begun_taken, finished_taken}
 use Rattle.worker_threads.specs.Rounds.{IsReady}
 use Rattle.slot_law.specs.Slots.{SeesStore}
-use Rattle.cost_law.specs.Costs.{calls_for, work_cost}
+use Rattle.cost_law.specs.Costs.{work_cost}
 use Rattle.cost_law.specs.Tasks.{under_left}
-use Rattle.cost_law.proofs.Begun.{begun_on, queued_on}
+use Rattle.cost_law.proofs.Begun.{queued_on}
 use Rattle.cost_law.proofs.Works.{added_cost, begun_cost, finished_cost}
-use Rattle.event_law.specs.Ahead.{pass_cost}
 use Rattle.worker_core.proofs.Machines.{queued_kinds}
 use Rattle.call_count.proofs.Growth.{AreGiven}
-use Rattle.drain_budget.proofs.Calls.{AtKeys, InPass, IsLess, Stage, kinds_ahead, slot_left}
-use Rattle.drain_budget.proofs.RoundCosts.{cost_in, covers, queued_cost}
+use Rattle.drain_budget.proofs.Begun.{begun_on_own, claim_for_volume}
+use Rattle.drain_budget.proofs.Calls.{AtKeys, InPass, IsLess, Stage, kinds_ahead, pass_left, slot_left}
+use Rattle.drain_budget.proofs.RoundCosts.{cost_in, covers, of_volume, own_calls, queued_cost, volume_kind}
 use Rattle.drain_budget.proofs.Stages.{IsAtKeys, keys_of, pass_begins}
 
 -- the turns
@@ -52,22 +52,26 @@ module _ (role : Role) (memory : Memory) (rows : List Object) (first stored : Li
   f = cost_in role.kind first stored
 
   -- a key whose decision rests on this row costs as much at least
-  row_cost : (key : Key) (o : Object) → row_at key rows ≡ Some o → follows role.kind (kind_of o) ≡ true → calls_for role.kind o ≤ cost_in role.kind first stored key
+  row_cost : (key : Key) (o : Object) → row_at key rows ≡ Some o → follows role.kind (kind_of o) ≡ true → own_calls role.kind o ≤ cost_in role.kind first stored key
   row_cost key o there followed =
       let own : follows role.kind key.kind ≡ true = subst (λ (k : Key). follows role.kind k.kind ≡ true) (row_at_key key o rows there) followed in
-      covers role.kind first stored so key o (sym (exact key own) ∙ there) followed
+      covers role.kind first stored so key o (sym (exact key own) ∙ there)
 
   dropped_cost : (what : First) (key : Key) (w : Work) → oldest_of w.waiting ≡ Some key → taken_keys w ≡ [] → GivesNone role memory rows key what → work_cost (cost_in role.kind first stored) (dropped what key w) ≤ work_cost (cost_in role.kind first stored) w
   dropped_cost firsts.Drops key w old none gives = let a = begun_cost (cost_in role.kind first stored) key w old in let b = finished_cost (cost_in role.kind first stored) key (begun w) in omega (arith, a, b)
   dropped_cost (firsts.Begins task) key w old none gives = let a = begun_cost (cost_in role.kind first stored) key w old in let b = finished_cost (cost_in role.kind first stored) key (begun w) in omega (arith, a, b)
   dropped_cost (firsts.Queues other) key w old none gives =
       let q = queued_on role memory rows key other gives.decided in
+      let kinds = queued_kinds role memory rows key other gives.decided in
+      let two : kind_index (kind_of q.object) ≡ 2 = ap (λ (k : Key). kind_index k.kind) (row_at_key key q.object rows q.there) ∙ kinds.0 in
       let own = row_cost key q.object q.there q.followed in
-      let more = queued_cost role.kind first stored other (calls_for role.kind q.object) q.heavy (queued_kinds role memory rows key other gives.decided).1 in
+      let volume = of_volume role.kind q.object two in
+      let less = claim_for_volume role.kind (sym (ap (follows role.kind) (volume_kind (kind_of q.object) two)) ∙ q.followed) in
+      let more = queued_cost role.kind first stored other kinds.1 in
       let a = begun_cost (cost_in role.kind first stored) key w old in
       let b = added_cost (cost_in role.kind first stored) other (begun w) (single_once key (begun w) (begun_taken key w old none)) in
       let c = finished_cost (cost_in role.kind first stored) key (added other (begun w)) in
-      omega (arith, own, more, a, b, c)
+      omega (arith, own, volume, less, more, a, b, c)
 
   dropped_none : (what : First) (key : Key) (w : Work) → oldest_of w.waiting ≡ Some key → taken_keys w ≡ [] → taken_keys (dropped what key w) ≡ []
   dropped_none firsts.Drops key w old none = finished_taken key (begun w) (begun_taken key w old none)
@@ -77,7 +81,7 @@ module _ (role : Role) (memory : Memory) (rows : List Object) (first stored : Li
   decided_cost : (after : Work) (under : Option Under) (w : Work) → Decides role memory rows after under w → taken_keys w ≡ [] → under_left under + work_cost (cost_in role.kind first stored) after ≤ work_cost (cost_in role.kind first stored) w
   decided_cost after under w (Nothing empty same none) e = let a = ap (work_cost (cost_in role.kind first stored)) same in let b = ap under_left none in omega (arith, a, b)
   decided_cost after under w (Begins u old gives same some) e =
-      let b = begun_on role.kind role.node memory rows u.key u.task gives.decided in
+      let b = begun_on_own role.kind role.node memory rows u.key u.task gives.decided in
       let own = row_cost u.key b.object b.there b.followed in
       let light = b.light in
       let a = begun_cost (cost_in role.kind first stored) u.key w old in
@@ -113,7 +117,7 @@ turn_costs setup first seat high s given request h so short ready built history 
     keys w None eu at d ep (inl b) =
         let none : taken_keys s.work ≡ [] = ready.stands.queue.taken ∙ ap under_keys eu in
         let c = decided_cost s.role s.memory (all_objects s.caches) first (world setup h).store.rows so (exact ep) w None s.work d none in
-        let brought : pass_cost s.pass ≡ (5 - s.pass.behind) + 5 = ap (λ e. (5 - s.pass.behind) + (if e then 5 else 0)) b.brought in
+        let brought : pass_left s.role.kind s.pass ≡ (length (kinds_of s.role.kind) - s.pass.behind) + length (kinds_of s.role.kind) = ap (λ e. (length (kinds_of s.role.kind) - s.pass.behind) + (if e then length (kinds_of s.role.kind) else 0)) b.brought in
         let begins = pass_begins setup first seat high s h (kinds_ahead setup first seat high s h stage) short at in
         let z = ap under_left eu in
         same (record s { work = w; pass = record { behind = 0; event = false }; given = Some (givens.Read b.kind) }) b.state (record { stage = InPass eu (λ place kind from lt. absurd (omega (arith, lt))); less = omega (arith, c, brought, begins, z) })

@@ -21,16 +21,16 @@ use Rattle.drain_budget.specs.Budget.{AreAlwaysInOrder}
 -- ---- by the writes of the round
 
 -- how many calls a sweep costs at most beyond those that the writes before it have left: the kinds that an actor follows are listed again where it
--- made 513 writes since it read them, and each of these has eight calls left for its event, which is never told. The objects that are listed cost
--- three calls for each object and each claim that is named, as much again for the volume that may be made for a claim, and seven for each kind
+-- made 513 writes since it read them, and each of these has seven calls left for its event, which is never told. What is listed costs the actor that
+-- pays most for it, ops, three for each volume and for each that may be made for a claim, two for each claim, and six for each of its four kinds
 unfoldable pub sweep_calls : ℕ → ℕ → ℕ
-sweep_calls size claims = (3 * size + 3 * claims + 35) - 8 * 513
+sweep_calls size claims = (3 * size + 2 * claims + 24) - 7 * 513
 
--- how many calls so many actors make at most, by what stood when the round began and by the writes of the round. Each write costs nine. Of
--- the rest an object and a claim that is named cost three for each of the four actors that follow their kind, pods three for every actor; a
--- claim as much again for the volume that may be made for it; and after each 513 writes of an actor there may be a sweep
+-- how many calls so many actors make at most, by what stood when the round began and by the writes of the round. Each write costs eight. Of
+-- the rest a volume costs the binder and ops three and volume protection one, as much again for the volume that may be made for a claim, and a
+-- claim two for the binder, ops and claim protection; pods cost three for every actor; and after each 513 writes of an actor there may be a sweep
 abbrev pub less_calls : ℕ → ℕ → ℕ → ℕ → ℕ → ℕ
-less_calls actors size claims pods writes = 9 * writes + (12 * size + 12 * claims + actors * (3 * pods + 62)) + sweep_calls size claims * (writes / 513)
+less_calls actors size claims pods writes = 8 * writes + (7 * size + 6 * claims + actors * (3 * pods + 62)) + sweep_calls size claims * (writes / 513)
 
 -- of a round of the actors of a drain that begins with nothing under way, in a world of any size
 abbrev pub RoundsCostLess : Type 0
@@ -44,10 +44,10 @@ RoundsCostLess =
 abbrev pub stated_calls : Setup → World → ℕ
 stated_calls setup w = 256 * (size_of_world w + faults_left setup w.devices + 16)
 
--- a world whose rounds are short: it has at most 960 objects and claims that pods name, and a scheduler writes at most 512 times, once for each pod
+-- a world whose rounds are short: it has at most 1,222 objects and claims that pods name, and a scheduler writes at most 512 times, once for each pod
 -- that no node runs and for each claim that such a pod names
 pub record HasShortRounds (w : World) : Type 0 where
-  pub size : size_of_world w ≤ 960
+  pub size : size_of_world w ≤ 1222
   pub scheduled : pods_writes w ≤ 512
 
 -- such is each with at most 512 objects and claims that pods name

@@ -21,10 +21,10 @@
 //! behind a whole round (`AreTries`, which `tries_law` shows). With that the rounds are at most one and ten for each
 //! thing left to do (`rounds_are_measured`), and a drain ends settled (`measured_drains_settle`).
 //!
-//! Rounds are short: a round that begins with nothing under way makes no more calls than nine for each write, what the
-//! objects with which it began cost the actors that follow their kinds, and after each 513 writes what these kinds cost
-//! when they are listed again, beyond the eight calls that each of the 513 has left (`rounds_cost_less`). So where it
-//! begins with at most 960 objects and claims that pods name, and a scheduler may write at most 512 times in it
+//! Rounds are short: a round that begins with nothing under way makes no more calls than eight for each write, what the
+//! objects with which it began cost the actors by their roles, and after each 513 writes what the kinds cost that are
+//! then listed again, beyond the seven calls that each of the 513 has left (`rounds_cost_less`). So where it
+//! begins with at most 1,222 objects and claims that pods name, and a scheduler may write at most 512 times in it
 //! (`HasShortRounds`), as where it begins with at most 512 (`small_worlds_have_short_rounds`), it makes at most 256
 //! calls for each of these, for each planned fault that is ahead, and for 16 more (`rounds_are_short`); and so does each
 //! such round of a drain (`drained_rounds_are_short`), and each but the first where the drain begins with something

@@ -9,7 +9,7 @@
 //! (`threaded_drains_settle`). The premises on the script are those that a text gives, and the history is a run that a
 //! text can give.
 //!
-//! Of such a replay each round of each of its drains that begins with at most 960 objects and claims that pods name, of
+//! Of such a replay each round of each of its drains that begins with at most 1,222 objects and claims that pods name, of
 //! which at most 512 are pods without a node and claims that these name (`HasShortRounds` of `drain_budget`), makes at
 //! most 256 calls for each of them, for each planned fault that is ahead, and for 16 more (`replayed_drains_are_short`);
 //! and so does each such round of the drain with which a run on threads ends (`threaded_drains_are_short`). The first

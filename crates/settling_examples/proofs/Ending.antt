@@ -1,6 +1,6 @@
 -- Budgets, classes, shared claims, nodes of scripts and numbers of volumes, computed.
 use Rattle.std.specs.Prelude.{slice_get}
-use Rattle.std.proofs.Common.{ℕ, zero, suc, ◌≡◌, ◌≢◌, ◌∙◌, Bool, true, false, true≢false, not, List, [], ◌∷◌, Option, Some, None, arith, inl, inr, bytes_eq, codes, refl, sym, ap, subst}
+use Rattle.std.proofs.Common.{ℕ, zero, suc, ◌+◌, ◌≡◌, ◌≢◌, ◌∙◌, Bool, true, false, true≢false, not, List, [], ◌∷◌, Option, Some, None, arith, inl, inr, bytes_eq, codes, refl, sym, ap, subst}
 use Rattle.kube_types.specs.declared.key.Key.{Key}
 use Rattle.kube_types.specs.declared.parts.VolumePhase.TheVariants as volumes
 use Rattle.kube_types.specs.declared.objects.Claim.{Claim as ClaimData}
@@ -19,7 +19,7 @@ use Rattle.binder_model.specs.Store.{leaves}
 use Rattle.binder_model.specs.World.{effect, on_devices, world, world_after}
 use Rattle.model_laws.proofs.Lists.{none_some, one}
 use Rattle.model_laws.proofs.Readings.{found_stands}
-use Rattle.settle_measure.specs.Measure.{faults_left}
+use Rattle.settle_measure.specs.Measure.{faults_left, total}
 use Rattle.settle_measure.specs.Small.{completed, open_claim, volume_of}
 use Rattle.worker_core.specs.declared.role.Role.{Role}
 use Rattle.worker_threads.specs.Drainers.{agent_of, seats_for}
@@ -27,8 +27,10 @@ use Rattle.epoch_law.specs.Epochs.{IsCurrent}
 use Rattle.settle_law.proofs.Rounds.{is_agent}
 use Rattle.script_runs.specs.Parts.{drain_roles}
 use Rattle.kube_types.specs.VolumePlaces.{count_before, has_size, those_in}
+use Rattle.scheduler_writes.specs.Pods.{pod_writes}
+use Rattle.short_law.specs.Rounds.{names_in}
 use Rattle.drain_budget.specs.Measured.{SharesWell, WaitingPodNames, is_immediate}
-use Rattle.settling_examples.specs.Ending.{AgentExamples, AllowanceExamples, BudgetExamples, CallExamples, ClassExamples, LineExamples, NamingExamples, NumberExamples, SharingExamples, class_of, faults_upto, one_node, pod_on, script_naming, setup_with, shared_rows, takes, three_volumes, world_with}
+use Rattle.settling_examples.specs.Ending.{AgentExamples, AllowanceExamples, BudgetExamples, CallExamples, ClassExamples, LineExamples, NamingExamples, NumberExamples, SharingExamples, SizeExamples, bare_pod, class_of, copies, faults_upto, one_node, pod_on, script_naming, setup_with, shared_rows, takes, three_volumes, world_with}
 
 abbrev is_agent_role : Role → Bool
 is_agent_role r = is_agent r.kind
@@ -181,6 +183,40 @@ agent_examples = record {
 
 pub call_examples : CallExamples
 call_examples = record { nothing = refl; pair = refl; fault = refl; named = refl }
+
+-- ---- worlds whose rounds are short
+
+-- each of so many counts as one, or as nothing
+all_copies : (f : Object → ℕ) (o : Object) → f o ≡ 1 → (n : ℕ) → total f (copies n o) ≡ n
+unfolding copies
+all_copies f o own zero = refl
+all_copies f o own (suc n) = let rest = all_copies f o own n in omega (arith, own, rest)
+
+no_copies : (f : Object → ℕ) (o : Object) → f o ≡ 0 → (n : ℕ) → total f (copies n o) ≡ 0
+unfolding copies
+no_copies f o own zero = refl
+no_copies f o own (suc n) = let rest = no_copies f o own n in omega (arith, own, rest)
+
+abbrev counted : Object → ℕ
+counted o = 1 + names_in o
+
+pub size_examples : SizeExamples
+size_examples = record {
+  largest = record {
+    size = let all = all_copies counted (Claim open_claim) refl 1222 in omega (arith, all);
+    scheduled = let none = no_copies pod_writes (Claim open_claim) refl 1222 in omega (arith, none);
+  };
+  too_large = λ h. let few = h.size in let all = all_copies counted (Claim open_claim) refl 1223 in absurd (omega (arith, few, all));
+  waiting = record {
+    size = let all = all_copies counted (Pod (bare_pod [])) refl 512 in omega (arith, all);
+    scheduled = let all = all_copies pod_writes (Pod (bare_pod [])) refl 512 in omega (arith, all);
+  };
+  too_many = λ h. let few = h.scheduled in let all = all_copies pod_writes (Pod (bare_pod [])) refl 513 in absurd (omega (arith, few, all));
+  placed = record {
+    size = let all = all_copies counted (Pod (bare_pod (codes "n"))) refl 513 in omega (arith, all);
+    scheduled = let none = no_copies pod_writes (Pod (bare_pod (codes "n"))) refl 513 in omega (arith, none);
+  };
+}
 
 -- ---- lines
 

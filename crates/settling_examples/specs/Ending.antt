@@ -24,7 +24,7 @@ use Rattle.script_text.specs.declared.script.Line.TheVariants.{Drain, Turn}
 use Rattle.script_text.specs.declared.script.Script.{Script}
 use Rattle.settle_measure.specs.Small.{completed, meta, open_claim, volume_of}
 use Rattle.drain_budget.specs.Budget.{IsSmallWorld, enough_calls}
-use Rattle.drain_budget.specs.ShortRounds.{stated_calls}
+use Rattle.drain_budget.specs.ShortRounds.{HasShortRounds, stated_calls}
 use Rattle.drain_budget.specs.Measured.{SharesWell}
 use Rattle.drain_budget.specs.Selections.{NoneProvisionsLate}
 use Rattle.drain_law.specs.Naming.{ArePodsOnNamed}
@@ -68,6 +68,26 @@ pub record CallExamples : Type 0 where
   pub fault : stated_calls (setup_with (1 ∷ []) []) (world_with (Claim open_claim ∷ Claim open_claim ∷ [])) ≡ 4864
   -- a pod counts as one, and for each claim that it names
   pub named : stated_calls (setup_with [] []) (world_with (Pod (pod_on (codes "p") []) ∷ [])) ≡ 4608
+
+-- ---- worlds whose rounds are short
+
+-- so many objects that are the same
+unfoldable pub copies : ℕ → Object → List Object
+copies zero o = []
+copies (suc n) o = o ∷ copies n o
+
+-- a pod on this node or none that names no claim
+abbrev pub bare_pod : List ℕ → PodData
+bare_pod node = record { meta = meta (codes "ns") (codes "p") 5 []; claims = []; node = node; extra = [] }
+
+pub record SizeExamples : Type 0 where
+  -- 1,222 claims are such a world, and one claim more is none
+  pub largest : HasShortRounds (world_with (copies 1222 (Claim open_claim)))
+  pub too_large : HasShortRounds (world_with (copies 1223 (Claim open_claim))) → ⊥
+  -- so are 512 pods that no node runs, but not one more; and more pods that a node runs
+  pub waiting : HasShortRounds (world_with (copies 512 (Pod (bare_pod []))))
+  pub too_many : HasShortRounds (world_with (copies 513 (Pod (bare_pod [])))) → ⊥
+  pub placed : HasShortRounds (world_with (copies 513 (Pod (bare_pod (codes "n")))))
 
 -- ---- classes, and claims that pods share
 

@@ -4,7 +4,7 @@
 //! them. Not said: anything of other cases.
 #![tactic(auto)]
 
-ghost use Rattle.settling_examples.specs.Ending.{AgentExamples, AllowanceExamples, BudgetExamples, CallExamples, ClassExamples, LineExamples, NamingExamples, NumberExamples, SharingExamples};
+ghost use Rattle.settling_examples.specs.Ending.{AgentExamples, AllowanceExamples, BudgetExamples, CallExamples, ClassExamples, LineExamples, NamingExamples, NumberExamples, SharingExamples, SizeExamples};
 ghost use Rattle.settling_examples.specs.Lasting.{AlikeExamples, LastingExamples};
 ghost use Rattle.settling_examples.specs.Near.{NearExamples};
 ghost use Rattle.settling_examples.specs.Rounds.{RoundExamples};
@@ -32,6 +32,11 @@ pub fn budget_examples()
 /// How many calls a round may make, by what stands.
 pub fn call_examples()
     ensures { CallExamples }
+{}
+
+/// Worlds whose rounds are short, and two that are too large for it.
+pub fn size_examples()
+    ensures { SizeExamples }
 {}
 
 /// Rounds that make no more calls, and one that makes one too many.

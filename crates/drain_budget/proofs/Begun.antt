@@ -1,0 +1,210 @@
+-- What a decision begins makes no more calls than the object that stands there costs an actor of this role, and a key that is queued in place of
+-- another costs no more.
+use Rattle.std.proofs.Common.{◌≡◌, ℕ, ◌≤◌, List, Bool, true, false, true≢false, Option, Some, None, refl, sym, ap, subst, arith}
+use Rattle.kube_types.specs.declared.key.Key.{Key}
+use Rattle.kube_types.specs.declared.lookup.Live.TheVariants.{NotAsked}
+use Rattle.kube_types.specs.declared.parts.Kind.TheVariants as kinds
+use Rattle.kube_types.specs.declared.objects.Claim.{Claim as ClaimData}
+use Rattle.kube_types.specs.declared.objects.Object.{Object}
+use Rattle.kube_types.specs.declared.objects.Object.TheVariants.{Class, Node, Volume, Claim, Pod}
+use Rattle.kube_types.specs.Bindings.{is_empty}
+use Rattle.kube_types.specs.Keys.{kind_of, row_at}
+use Rattle.call_types.specs.declared.request.SeatKind.{SeatKind}
+use Rattle.call_types.specs.declared.request.SeatKind.TheVariants as seats
+use Rattle.binder_model.specs.Reading.{follows}
+use Rattle.binder_machines.specs.declared.decide.First.{First as BinderFirst}
+use Rattle.binder_machines.specs.declared.decide.First.TheVariants as binder_firsts
+use Rattle.binder_machines.specs.declared.machine.Machine.{Machine}
+use Rattle.binder_machines.specs.declared.machine.Machine.TheVariants.{ReadsClaim, Unbinds, ReadsVolume}
+use Rattle.binder_machines.specs.FirstSteps.{IsClaimFirst, IsFirst, lost_for}
+use Rattle.claim_sync.specs.ClaimDecision.{claim_decision}
+use Rattle.claim_sync.specs.declared.action.ClaimStep.{ClaimStep}
+use Rattle.claim_sync.specs.declared.action.ClaimStep.TheVariants as steps
+use Rattle.model_laws.proofs.Lists.{none_some, one}
+use Rattle.pod_scheduler.specs.Decisions.{BeginsOn}
+use Rattle.pod_scheduler.specs.declared.schedule.ScheduleStep.{ScheduleStep}
+use Rattle.pod_scheduler.specs.declared.schedule.ScheduleStep.TheVariants as schedule_steps
+use Rattle.protect_sync.specs.Decisions.{claim_guard_begins, volume_guard_begins}
+use Rattle.protect_sync.specs.declared.claims.ClaimGuardOp.{ClaimGuardOp}
+use Rattle.protect_sync.specs.declared.claims.ClaimGuardStep.{ClaimGuardStep}
+use Rattle.protect_sync.specs.declared.claims.ClaimGuardStep.TheVariants as claim_steps
+use Rattle.protect_sync.specs.declared.volumes.VolumeGuardOp.{VolumeGuardOp}
+use Rattle.protect_sync.specs.declared.volumes.VolumeGuardStep.{VolumeGuardStep}
+use Rattle.protect_sync.specs.declared.volumes.VolumeGuardStep.TheVariants as volume_steps
+use Rattle.reclaim_ops.specs.declared.erase.EraseOp.{EraseOp}
+use Rattle.reclaim_ops.specs.declared.erase.EraseStep.{EraseStep}
+use Rattle.reclaim_ops.specs.declared.erase.EraseStep.TheVariants as erase_steps
+use Rattle.reclaim_ops.specs.declared.provision.ProvisionOp.{ProvisionOp}
+use Rattle.reclaim_ops.specs.declared.provision.ProvisionStep.{ProvisionStep}
+use Rattle.reclaim_ops.specs.declared.provision.ProvisionStep.TheVariants as provision_steps
+use Rattle.reclaim_ops.specs.Decisions.{claim_begins, volume_begins}
+use Rattle.worker_core.specs.declared.task.First.{First}
+use Rattle.worker_core.specs.declared.task.First.TheVariants as firsts
+use Rattle.worker_core.specs.declared.task.Task.{Task}
+use Rattle.worker_core.specs.declared.task.Task.TheVariants as tasks
+use Rattle.worker_core.specs.Memories.{Memory}
+use Rattle.worker_core.specs.Tasks.{IsFirstOf, claim_guard_first, ops_first, volume_guard_first}
+use Rattle.cost_law.specs.Costs.{calls_for}
+use Rattle.cost_law.specs.Tasks.{claim_guard_left, erase_left, machine_left, provision_left, schedule_left, task_left, volume_guard_left}
+use Rattle.cost_law.proofs.Begun.{begun_on}
+use Rattle.drain_budget.proofs.RoundCosts.{claim_calls, own_calls, volume_calls}
+
+-- the decision rests on an object of a kind that is followed, and what it begins makes no more calls than that costs
+pub record BeginsOnOwn (kind : SeatKind) (row : Option Object) (task : Task) : Type 0 where
+  pub object : Object
+  pub there : row ≡ Some object
+  pub followed : follows kind (kind_of object) ≡ true
+  pub light : task_left task ≤ own_calls kind object
+
+few_machine : (m : Machine) → machine_left m ≤ 3
+few_machine (ReadsClaim v) = omega arith
+few_machine (Unbinds v) = omega arith
+few_machine (ReadsVolume c) = omega arith
+few_machine _ = omega arith
+
+few_claims : (s : ClaimGuardStep) → claim_guard_left s ≤ 2
+few_claims claim_steps.Adds = omega arith
+few_claims claim_steps.ListsPods = omega arith
+few_claims claim_steps.Drops = omega arith
+few_claims _ = omega arith
+
+few_volumes : (s : VolumeGuardStep) → volume_guard_left s ≤ 1
+few_volumes volume_steps.Adds = omega arith
+few_volumes volume_steps.Drops = omega arith
+few_volumes _ = omega arith
+
+few_erases : (s : EraseStep) → erase_left s ≤ 3
+few_erases erase_steps.ReadsVolume = omega arith
+few_erases (erase_steps.Erases uid) = omega arith
+few_erases (erase_steps.Deletes uid) = omega arith
+few_erases erase_steps.WritesFailed = omega arith
+few_erases _ = omega arith
+
+few_provisions : (s : ProvisionStep) → provision_left s ≤ 2
+few_provisions (provision_steps.Provisions labels) = omega arith
+few_provisions (provision_steps.Creates id topology) = omega arith
+few_provisions provision_steps.ClearsNode = omega arith
+few_provisions _ = omega arith
+
+few_schedules : (s : ScheduleStep) → schedule_left s ≤ 1
+few_schedules (schedule_steps.Writes place) = omega arith
+few_schedules _ = omega arith
+
+-- ---- the binder
+
+-- what begins makes so many calls
+abbrev first_left : BinderFirst → ℕ
+first_left (binder_firsts.Begins m) = machine_left m
+first_left first = 0
+
+abbrev begins : BinderFirst → Bool
+begins (binder_firsts.Begins m) = true
+begins first = false
+
+-- a claim is bound, gets its class, or is Lost once its volume was read
+claim_first_left : (rows : List Object) (c : ClaimData) (step : ClaimStep) (m : Machine) → IsClaimFirst rows c step (binder_firsts.Begins m) → machine_left m ≤ 2
+claim_first_left rows c steps.Bind m first = let is = ap first_left first.begins in omega (arith, is)
+claim_first_left rows c steps.AssignClass m first = let is = ap first_left first.begins in omega (arith, is)
+claim_first_left rows c steps.ReadVolume m first = let is = ap first_left first in omega (arith, is)
+claim_first_left rows c steps.Lost m first = let is = ap first_left first in let few = lost (is_empty c.volume_name) in omega (arith, is, few)
+  where
+    lost : (b : Bool) → machine_left (lost_for b c) ≤ 2
+    lost true = omega arith
+    lost false = omega arith
+claim_first_left rows c steps.Nothing m first = absurd (true≢false (ap begins first))
+
+binder_begun : (rows : List Object) (row : Option Object) (m : Machine) → IsFirst rows row (binder_firsts.Begins m) → BeginsOnOwn seats.Binder row (tasks.Binder m)
+binder_begun rows (Some (Volume v)) m first = record { object = Volume v; there = refl; followed = refl; light = few_machine m }
+binder_begun rows (Some (Claim c)) m first = record { object = Claim c; there = refl; followed = refl; light = claim_first_left rows c (claim_decision rows c NotAsked) m first }
+binder_begun rows (Some (Class x)) m first = absurd (true≢false (ap begins first))
+binder_begun rows (Some (Node x)) m first = absurd (true≢false (ap begins first))
+binder_begun rows (Some (Pod x)) m first = absurd (true≢false (ap begins first))
+binder_begun rows None m first = absurd (true≢false (ap begins first))
+
+-- ---- the others
+
+abbrev task_in : First → Option Task
+task_in (firsts.Begins task) = Some task
+task_in first = None
+
+of_task : {kind : SeatKind} {row : Option Object} (t task : Task) → Some t ≡ Some task → BeginsOnOwn kind row t → BeginsOnOwn kind row task
+of_task {kind = kind} {row = row} t task e b = subst (BeginsOnOwn kind row) (one t task e) b
+
+ops_begun : (rows : List Object) (row : Option Object) (task : Task) → firsts.Begins task ≡ ops_first (claim_begins rows row) (volume_begins row) → BeginsOnOwn seats.Ops row task
+ops_begun rows (Some (Claim c)) task first = by (claim_begins rows (Some (Claim c))) (ap task_in first)
+  where
+    by : (x : Option ProvisionOp) → Some task ≡ task_in (ops_first x None) → BeginsOnOwn seats.Ops (Some (Claim c)) task
+    by None e = none_some (sym e)
+    by (Some op) e = of_task (tasks.Provision op) task (sym e) (record { object = Claim c; there = refl; followed = refl; light = few_provisions op.step })
+ops_begun rows (Some (Volume v)) task first = by (volume_begins (Some (Volume v))) (ap task_in first)
+  where
+    by : (x : Option EraseOp) → Some task ≡ task_in (ops_first None x) → BeginsOnOwn seats.Ops (Some (Volume v)) task
+    by None e = none_some (sym e)
+    by (Some op) e = of_task (tasks.Erase op) task (sym e) (record { object = Volume v; there = refl; followed = refl; light = few_erases op.step })
+ops_begun rows (Some (Class x)) task first = none_some (sym (ap task_in first))
+ops_begun rows (Some (Node x)) task first = none_some (sym (ap task_in first))
+ops_begun rows (Some (Pod x)) task first = none_some (sym (ap task_in first))
+ops_begun rows None task first = none_some (sym (ap task_in first))
+
+claims_begun : (rows : List Object) (row : Option Object) (task : Task) → firsts.Begins task ≡ claim_guard_first (claim_guard_begins rows row) → BeginsOnOwn seats.ClaimProtect row task
+claims_begun rows (Some (Claim c)) task first = by (claim_guard_begins rows (Some (Claim c))) (ap task_in first)
+  where
+    by : (x : Option ClaimGuardOp) → Some task ≡ task_in (claim_guard_first x) → BeginsOnOwn seats.ClaimProtect (Some (Claim c)) task
+    by None e = none_some (sym e)
+    by (Some op) e = of_task (tasks.ClaimProtect op) task (sym e) (record { object = Claim c; there = refl; followed = refl; light = few_claims op.step })
+claims_begun rows (Some (Volume v)) task first = none_some (sym (ap task_in first))
+claims_begun rows (Some (Class x)) task first = none_some (sym (ap task_in first))
+claims_begun rows (Some (Node x)) task first = none_some (sym (ap task_in first))
+claims_begun rows (Some (Pod x)) task first = none_some (sym (ap task_in first))
+claims_begun rows None task first = none_some (sym (ap task_in first))
+
+volumes_begun : (row : Option Object) (task : Task) → firsts.Begins task ≡ volume_guard_first (volume_guard_begins row) → BeginsOnOwn seats.VolumeProtect row task
+volumes_begun (Some (Volume v)) task first = by (volume_guard_begins (Some (Volume v))) (ap task_in first)
+  where
+    by : (x : Option VolumeGuardOp) → Some task ≡ task_in (volume_guard_first x) → BeginsOnOwn seats.VolumeProtect (Some (Volume v)) task
+    by None e = none_some (sym e)
+    by (Some op) e = of_task (tasks.VolumeProtect op) task (sym e) (record { object = Volume v; there = refl; followed = refl; light = few_volumes op.step })
+volumes_begun (Some (Claim c)) task first = none_some (sym (ap task_in first))
+volumes_begun (Some (Class x)) task first = none_some (sym (ap task_in first))
+volumes_begun (Some (Node x)) task first = none_some (sym (ap task_in first))
+volumes_begun (Some (Pod x)) task first = none_some (sym (ap task_in first))
+volumes_begun None task first = none_some (sym (ap task_in first))
+
+-- an agent follows pods alone
+agent_light : (o : Object) → follows seats.Agent (kind_of o) ≡ true → calls_for seats.Agent o ≤ own_calls seats.Agent o
+agent_light (Pod p) followed = omega arith
+agent_light (Class x) followed = omega arith
+agent_light (Node x) followed = omega arith
+agent_light (Volume x) followed = absurd (true≢false (sym followed))
+agent_light (Claim x) followed = absurd (true≢false (sym followed))
+
+pub begun_on_own : (kind : SeatKind) (node : List ℕ) (m : Memory) (rows : List Object) (key : Key) (task : Task) → IsFirstOf kind node m rows key (firsts.Begins task) → BeginsOnOwn kind (row_at key rows) task
+begun_on_own seats.Binder node m rows key (tasks.Binder machine) first = binder_begun rows (row_at key rows) machine first
+begun_on_own seats.Binder node m rows key _ first = absurd first
+begun_on_own seats.Ops node m rows key task first = ops_begun rows (row_at key rows) task first
+begun_on_own seats.Scheduler node m rows key (tasks.Schedule op) first = by (row_at key rows) refl first
+  where
+    by : (row : Option Object) → row_at key rows ≡ row → BeginsOn rows m.tries.refused row (Some op) → BeginsOnOwn seats.Scheduler (row_at key rows) (tasks.Schedule op)
+    by (Some (Pod p)) e b = record { object = Pod p; there = e; followed = refl; light = few_schedules op.step }
+    by (Some (Volume v)) e b = none_some (sym b)
+    by (Some (Claim c)) e b = none_some (sym b)
+    by (Some (Class x)) e b = none_some (sym b)
+    by (Some (Node x)) e b = none_some (sym b)
+    by None e b = none_some (sym b)
+begun_on_own seats.Scheduler node m rows key _ first = absurd first
+begun_on_own seats.ClaimProtect node m rows key task first = claims_begun rows (row_at key rows) task first
+begun_on_own seats.VolumeProtect node m rows key task first = volumes_begun (row_at key rows) task first
+begun_on_own seats.Agent node m rows key task first =
+    let b = begun_on seats.Agent node m rows key task first in
+    let light = b.light in
+    let own = agent_light b.object b.followed in
+    record { object = b.object; there = b.there; followed = b.followed; light = omega (arith, light, own) }
+begun_on_own seats.User node m rows key task first = absurd first
+
+-- who decides a volume pays no more for a claim that is queued in its place
+pub claim_for_volume : (kind : SeatKind) → follows kind kinds.PersistentVolume ≡ true → claim_calls kind ≤ volume_calls kind
+claim_for_volume seats.ClaimProtect followed = absurd (true≢false (sym followed))
+claim_for_volume seats.Binder followed = omega arith
+claim_for_volume seats.Ops followed = omega arith
+claim_for_volume seats.VolumeProtect followed = omega arith
+claim_for_volume _ followed = omega arith
