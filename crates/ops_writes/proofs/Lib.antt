@@ -1,0 +1,5 @@
+mod Bounds
+mod Calls
+mod Machines
+mod Rows
+mod Slots
