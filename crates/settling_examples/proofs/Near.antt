@@ -1,5 +1,5 @@
 -- Worlds that are near, computed.
-use Rattle.std.proofs.Common.{Bool, true, false, true≢false, not, List, ◌∷◌, refl, ap}
+use Rattle.std.proofs.Common.{Bool, false, true≢false, not, List, ◌∷◌, refl, ap}
 use Rattle.kube_types.specs.declared.objects.Object.{Object}
 use Rattle.kube_types.specs.declared.objects.Object.TheVariants.{Claim}
 use Rattle.kube_types.specs.Bindings.{is_completed}
