@@ -1,4 +1,5 @@
 pub mod Ending
 pub mod Lasting
 pub mod Near
+pub mod Ops
 pub mod Rounds

@@ -7,6 +7,7 @@
 ghost use Rattle.settling_examples.specs.Ending.{AgentExamples, AllowanceExamples, BudgetExamples, CallExamples, ClassExamples, LineExamples, NamingExamples, NumberExamples, SharingExamples, SizeExamples};
 ghost use Rattle.settling_examples.specs.Lasting.{AlikeExamples, LastingExamples};
 ghost use Rattle.settling_examples.specs.Near.{NearExamples};
+ghost use Rattle.settling_examples.specs.Ops.{NoneDueExamples, OpsExamples};
 ghost use Rattle.settling_examples.specs.Rounds.{RoundExamples};
 
 /// Writes and calls that last, and some that do not.
@@ -77,4 +78,14 @@ pub fn allowance_examples()
 /// Volumes by their number, and some that have another.
 pub fn number_examples()
     ensures { NumberExamples }
+{}
+
+/// What the provisioner and reclaimer may still write.
+pub fn ops_examples()
+    ensures { OpsExamples }
+{}
+
+/// Claims of which nothing is due of provisioning, and two keys that are of none such.
+pub fn none_due_examples()
+    ensures { NoneDueExamples }
 {}
