@@ -3,6 +3,7 @@ pub mod Begun
 pub mod Calls
 pub mod Made
 pub mod Passes
+pub mod Reaching
 pub mod RoundCosts
 pub mod Slots
 pub mod Stages
