@@ -1,0 +1,3 @@
+pub mod Pods
+pub mod Rounds
+pub mod Slots
