@@ -203,7 +203,7 @@ claim_light seats.Ops = omega arith
 claim_light seats.ClaimProtect = omega arith
 claim_light _ = omega arith
 
-own_light : (kind : SeatKind) → is_agent kind ≡ false → (o : Object) → own_calls kind o ≤ key_calls kind
+pub own_light : (kind : SeatKind) → is_agent kind ≡ false → (o : Object) → own_calls kind o ≤ key_calls kind
 own_light kind no_agent (Class x) = omega arith
 own_light kind no_agent (Node x) = omega arith
 own_light kind no_agent (Volume v) = volume_light kind v
