@@ -97,22 +97,7 @@ followed_once kind k =
 
 -- ---- a call
 
-module _ (setup : Setup) (first : List Object) (kind : SeatKind) (high read : ℕ) (e : Entry) (h : List Entry) (short : (world setup (e ∷ h)).store.version ≤ high) (low : read ≤ (world setup h).store.version)
-    (falls : (key : Key) → cost_in kind first (world setup (e ∷ h)).store.rows key ≤ cost_in kind first (world setup h).store.rows key) where
-  -- a write is one of those ahead, and pays for what it brings
-  pub call_pays : (work : Work) → done_by e.request e.reply ≤ 1 → Stays (world setup h) (world setup (e ∷ h)) e.request e.reply ⊎ Wrote (world setup h) (world setup (e ∷ h)) e.reply
-      → 8 * (high - (world setup (e ∷ h)).store.version) + work_cost (cost_in kind first (world setup (e ∷ h)).store.rows) work + 7 * ((world setup (e ∷ h)).store.version - read) + done_by e.request e.reply
-      ≤ 8 * (high - (world setup h).store.version) + work_cost (cost_in kind first (world setup h).store.rows) work + 7 * ((world setup h).store.version - read)
-  call_pays work few (inr wrote) =
-      let a = work_less (cost_in kind first (world setup h).store.rows) (cost_in kind first (world setup (e ∷ h)).store.rows) work falls in
-      let version = wrote.version in
-      omega (arith, a, version, short, few, low)
-  call_pays work few (inl stays) =
-      let a = work_less (cost_in kind first (world setup h).store.rows) (cost_in kind first (world setup (e ∷ h)).store.rows) work falls in
-      let version = stays.version in
-      let none = stays.none in
-      omega (arith, a, version, none)
-
+module _ (setup : Setup) (kind : SeatKind) (read : ℕ) (e : Entry) (h : List Entry) (low : read ≤ (world setup h).store.version) where
   -- the store is no older behind it
   pub low_on : Stays (world setup h) (world setup (e ∷ h)) e.request e.reply ⊎ Wrote (world setup h) (world setup (e ∷ h)) e.reply → read ≤ (world setup (e ∷ h)).store.version
   low_on (inr wrote) = let version = wrote.version in omega (arith, version, low)
@@ -137,3 +122,19 @@ module _ (setup : Setup) (first : List Object) (kind : SeatKind) (high read : �
       let version = stays.version in
       let log : sum_over (λ k. pending k read (world setup (e ∷ h)).log) (kinds_of kind) ≡ sum_over (λ k. pending k read (world setup h).log) (kinds_of kind) = ap (λ l. sum_over (λ k. pending k read l) (kinds_of kind)) stays.log in
       omega (arith, version, log, few)
+
+module _ (setup : Setup) (first : List Object) (kind : SeatKind) (high read : ℕ) (e : Entry) (h : List Entry) (short : (world setup (e ∷ h)).store.version ≤ high) (low : read ≤ (world setup h).store.version)
+    (falls : (key : Key) → cost_in kind first (world setup (e ∷ h)).store.rows key ≤ cost_in kind first (world setup h).store.rows key) where
+  -- a write is one of those ahead, and pays for what it brings
+  pub call_pays : (work : Work) → done_by e.request e.reply ≤ 1 → Stays (world setup h) (world setup (e ∷ h)) e.request e.reply ⊎ Wrote (world setup h) (world setup (e ∷ h)) e.reply
+      → 8 * (high - (world setup (e ∷ h)).store.version) + work_cost (cost_in kind first (world setup (e ∷ h)).store.rows) work + 7 * ((world setup (e ∷ h)).store.version - read) + done_by e.request e.reply
+      ≤ 8 * (high - (world setup h).store.version) + work_cost (cost_in kind first (world setup h).store.rows) work + 7 * ((world setup h).store.version - read)
+  call_pays work few (inr wrote) =
+      let a = work_less (cost_in kind first (world setup h).store.rows) (cost_in kind first (world setup (e ∷ h)).store.rows) work falls in
+      let version = wrote.version in
+      omega (arith, a, version, short, few, low)
+  call_pays work few (inl stays) =
+      let a = work_less (cost_in kind first (world setup h).store.rows) (cost_in kind first (world setup (e ∷ h)).store.rows) work falls in
+      let version = stays.version in
+      let none = stays.none in
+      omega (arith, a, version, none)

@@ -59,10 +59,9 @@ use Rattle.event_law.specs.Ahead.{Point, from_of, sum_over}
 use Rattle.cost_law.specs.Ends.{done_by, start_left}
 use Rattle.event_law.specs.Telling.{told}
 use Rattle.pass_law.specs.Passes.{KindsHaveReached, IsCallGiven}
-use Rattle.call_count.proofs.Growth.{AreGiven}
 use Rattle.call_count.proofs.Sums.{one_more}
 use Rattle.slot_costs.proofs.Calls.{AtKeys, IsLess, call_pays, few_on, kind_left, kinds_left, low_on, pass_left, rest_left, slot_left, told_cost_or}
-use Rattle.slot_costs.proofs.RoundCosts.{cost_in, cost_light, event_calls, key_calls, listed_few, most, work_less}
+use Rattle.slot_costs.proofs.RoundCosts.{AreKept, cost_in, cost_light, event_calls, key_calls, listed_few, most, work_less}
 
 -- the answers
 
@@ -91,7 +90,7 @@ told_cost f n (y ∷ ys) each = let a = each y (inl refl) in let b = told_cost f
 abbrev watched_cost : SeatKind → Pass → Bool → Bool → Bool → List Event → ℕ
 watched_cost kind pass passes full event es = pass_left kind (record { behind = if passes && not full then pass.behind + 1 else pass.behind; event = event || not (is_none_of es) })
 
-pass_less : (role : Role) (pass : Pass) (kind : Kind) (from : ℕ) (events : EventsData) → kind_in_order role pass.behind ≡ Some kind
+pub pass_less : (role : Role) (pass : Pass) (kind : Kind) (from : ℕ) (events : EventsData) → kind_in_order role pass.behind ≡ Some kind
     → (((length events.events == most_events) ≡ true) × (pass_left role.kind (pass_after pass (is_passing (kind_in_order role pass.behind) kind) (requests.Watch kind from) (replies.Events events)) ≤ pass_left role.kind pass + length (kinds_of role.kind)))
     ⊎ (((length events.events == most_events) ≡ false) × (pass_left role.kind (pass_after pass (is_passing (kind_in_order role pass.behind) kind) (requests.Watch kind from) (replies.Events events)) + 1 ≤ pass_left role.kind pass + length events.events * length (kinds_of role.kind)))
 pass_less role pass kind from events at = by (length events.events == most_events) refl
@@ -128,7 +127,7 @@ kind_still setup kind keys e h k (Some from) stays =
     ap (λ n. told_cost_or kind (nat_lt (from + 512) n) keys (pending k from (world setup (e ∷ h)).log)) stays.version ∙ ap (λ l. told_cost_or kind (nat_lt (from + 512) (world setup h).store.version) keys (pending k from l)) stays.log
 
 module _ (setup : Setup) (first : List Object) (seat base m high : ℕ) (x : ActorState) (request : Request) (reply : Reply) (h : List Entry) (given : IsCallGiven setup seat x request reply h) (at : Point setup x.role.kind base m high h)
-    (begins : base_of setup ≤ base) (reached : KindsHaveReached base seat x.role.kind h) (short : (world setup (told_entry seat x request reply ∷ h)).store.version ≤ high) (order : AreRows first) (so : AreGiven first (world setup h).store.rows)
+    (begins : base_of setup ≤ base) (reached : KindsHaveReached base seat x.role.kind h) (short : (world setup (told_entry seat x request reply ∷ h)).store.version ≤ high) (order : AreRows first) (so : AreKept x.role.kind first (world setup h).store.rows)
     (falls : (key : Key) → cost_in x.role.kind first (world setup (told_entry seat x request reply ∷ h)).store.rows key ≤ cost_in x.role.kind first (world setup h).store.rows key) where
   moves : Stays (world setup h) (world setup (told_entry seat x request reply ∷ h)) request reply ⊎ Wrote (world setup h) (world setup (told_entry seat x request reply ∷ h)) reply
   moves = world_moves setup (told_entry seat x request reply) h given.history.1
@@ -145,10 +144,10 @@ module _ (setup : Setup) (first : List Object) (seat base m high : ℕ) (x : Act
     pays = call_pays setup first x.role.kind high read (told_entry seat x request reply) h short low falls x.work (done_few request reply) moves
 
     low_after : read ≤ (world setup (told_entry seat x request reply ∷ h)).store.version
-    low_after = low_on setup first x.role.kind high read (told_entry seat x request reply) h short low falls moves
+    low_after = low_on setup x.role.kind read (told_entry seat x request reply) h low moves
 
     few_after : sum_over (λ k. pending k read (world setup (told_entry seat x request reply ∷ h)).log) (kinds_of x.role.kind) ≤ (world setup (told_entry seat x request reply ∷ h)).store.version - read
-    few_after = few_on setup first x.role.kind high read (told_entry seat x request reply) h short low falls moves few
+    few_after = few_on setup x.role.kind read (told_entry seat x request reply) h low moves few
 
     pub task_pays : (caches : AllKnown) → x.given ≡ Some givens.Task → IsLess setup first seat high (told_to x caches request reply) (told_entry seat x request reply ∷ h) 1 (slot_left setup first seat high x h (AtKeys read over kinds low few))
     task_pays caches eg =

@@ -1,27 +1,18 @@
 -- A slot that begins with nothing under way makes few calls: its first pass writes nothing, and past it each call lowers what is still to come.
-use Rattle.std.proofs.Common.{◌≡◌, ◌∙◌, ◌⊎◌, ℕ, ◌+◌, ◌*◌, ◌-◌, ◌≤◌, ◌<◌, List, [], ◌∷◌, length, Bool, true, false, true≢false, Option, Some, None, inl, inr, refl, sym, ap, subst, arith, if◌then◌else◌}
-use Rattle.std.specs.Prelude.{◌/◌, ◌==◌, is_some, map, nat_lt, not, option_map}
-use Rattle.std.proofs.lemmas.Bool.Decides.{nat_tests}
+use Rattle.std.proofs.Common.{◌≡◌, ◌∙◌, ℕ, ◌+◌, ◌*◌, ◌-◌, ◌≤◌, List, [], ◌∷◌, length, Bool, true, false, true≢false, Option, Some, None, inl, inr, refl, sym, ap, subst, arith, if◌then◌else◌}
+use Rattle.std.specs.Prelude.{◌/◌, map, option_map}
 use Rattle.kube_types.specs.declared.key.Key.{Key}
 use Rattle.kube_types.specs.declared.parts.Kind.{Kind}
-use Rattle.kube_types.specs.Keys.{same_kind}
-use Rattle.kube_types.proofs.SameKeys.{same_kind-Decides}
 use Rattle.call_types.specs.declared.entry.Entry.{Entry}
 use Rattle.call_types.specs.declared.reply.Reply.{Reply}
 use Rattle.call_types.specs.declared.reply.Reply.TheVariants as replies
 use Rattle.call_types.specs.declared.request.Request.{Request}
 use Rattle.call_types.specs.declared.request.Request.TheVariants as requests
 use Rattle.call_types.specs.declared.request.SeatKind.{SeatKind}
-use Rattle.call_types.specs.declared.request.SeatKind.TheVariants as seats
 use Rattle.call_types.specs.declared.setup.Setup.{Setup}
-use Rattle.call_types.specs.Kinds.{reads_kind}
 use Rattle.binder_model.specs.Reading.{follows}
 use Rattle.binder_model.specs.Told.{own}
-use Rattle.binder_model.specs.Watching.{most_events, told_events}
-use Rattle.informer_cache.specs.declared.cache.Ask.{Ask}
-use Rattle.informer_cache.specs.declared.cache.Ask.TheVariants as asks
-use Rattle.informer_cache.specs.All.{AllKnown, cache_of}
-use Rattle.informer_cache.specs.Cache.{ask_of}
+use Rattle.informer_cache.specs.All.{AllKnown}
 use Rattle.model_laws.proofs.Histories.{rows_stand_in_order}
 use Rattle.model_laws.proofs.Lists.{IsIn, none_some, one}
 use Rattle.model_laws.proofs.Uids.{rises}
@@ -30,43 +21,37 @@ use Rattle.settle_measure.specs.Measure.{total}
 use Rattle.sync_queue.specs.Work.{Taken, oldest_of}
 use Rattle.worker_core.specs.declared.role.Role.{Role}
 use Rattle.worker_core.specs.declared.task.Under.{Under}
-use Rattle.worker_core.specs.declared.turn.Given.{Given}
 use Rattle.worker_core.specs.declared.turn.Given.TheVariants as givens
 use Rattle.worker_core.specs.declared.turn.Next.TheVariants.{Call}
 use Rattle.worker_core.specs.declared.turn.Outcome.TheVariants.{Lost, Told}
-use Rattle.worker_core.specs.declared.turn.Pass.{Pass}
-use Rattle.worker_core.specs.Absorbs.{given_told, is_passing, learned, lost_given, lost_to, lost_under, pass_after, read_told, task_told, told_to, woken}
+use Rattle.worker_core.specs.Absorbs.{lost_given, lost_to, lost_under, told_to, woken}
 use Rattle.worker_core.specs.Memories.{Memory}
-use Rattle.worker_core.specs.Roles.{IsBuiltKind, kind_in_order, kinds_of}
+use Rattle.worker_core.specs.Roles.{IsBuiltKind, kinds_of}
 use Rattle.worker_core.specs.Stands.{AnyIsUnderWay, StandsFor}
-use Rattle.worker_core.specs.States.{ActorState, agent_start, asked, call_in, call_under, given_call, read_of_kind, read_request, start_call, start_of}
-use Rattle.worker_core.specs.Turns.{IsTurn, TurnBy, passing, unlisted}
-use Rattle.worker_core.proofs.Answered.{gives_asked, passed}
-use Rattle.worker_core.proofs.ByKind.{placed}
+use Rattle.worker_core.specs.States.{ActorState, asked, call_under, given_call, read_of_kind, start_call}
+use Rattle.worker_core.specs.Turns.{passing, unlisted}
+use Rattle.worker_core.proofs.Answered.{gives_asked}
 use Rattle.worker_core.proofs.Machines.{under_calls}
-use Rattle.worker_core.proofs.PassRules.{watches_follow}
 use Rattle.worker_core.proofs.Turning.{turn_stands}
 use Rattle.attention_law.specs.Queues.{key_in, taken_keys, under_keys}
-use Rattle.attention_law.proofs.Kept.{turns_queues}
-use Rattle.attention_law.proofs.Turned.{answer_role, calls_fresh}
+use Rattle.attention_law.proofs.Turned.{answer_role}
 use Rattle.worker_threads.specs.Rounds.{Asks, IsHeld, IsIdle, IsReady, IsSpent, Lets, Runs, told_entry}
-use Rattle.worker_threads.proofs.RunFacts.{still_role, turn_memory, turn_role}
+use Rattle.worker_threads.proofs.RunFacts.{still_role, turn_role}
 use Rattle.slot_law.specs.Slots.{KnowsBehind}
 use Rattle.slot_law.proofs.Knowing.{lost_knows, sees, told_knows, turned_knows}
 use Rattle.slot_law.proofs.Slots.{nothing_behind, run_older}
 use Rattle.cost_law.specs.Costs.{again_cost, calls_for}
 use Rattle.event_law.specs.Counts.{pending}
 use Rattle.cost_law.specs.Tasks.{task_left, under_left}
-use Rattle.event_law.proofs.Calls.{Stays, gone_from, listed_from, unread_from, watched_from}
-use Rattle.event_law.proofs.Events.{none_pending, told_so}
-use Rattle.pass_law.proofs.First.{at_most, nil_right, first_calls_pay, wait_few}
-use Rattle.pass_law.proofs.Given.{FindsGone, GivenSo, GivesRead, GivesStart, GivesTask, IsTold, Lists, Reads, given_so, read_called, start_called, task_called}
-use Rattle.event_law.proofs.Points.{WritesLight, point_on, waiting_once}
+use Rattle.event_law.proofs.Calls.{Stays}
+use Rattle.event_law.proofs.Events.{none_pending}
+use Rattle.pass_law.proofs.First.{at_most, first_calls_pay, wait_few}
+use Rattle.pass_law.proofs.Given.{GivenSo, GivesRead, GivesStart, GivesTask, given_so, task_called}
+use Rattle.event_law.proofs.Points.{point_on, waiting_once}
 use Rattle.event_law.proofs.Calls.{world_moves}
 use Rattle.event_law.proofs.Sums.{of_each}
 use Rattle.cost_law.proofs.Tasks.{under_goes}
 use Rattle.cost_law.proofs.Works.{put_off_cost}
-use Rattle.event_law.specs.Telling.{told}
 use Rattle.cost_law.specs.Ends.{done_by, start_left, starts_left}
 use Rattle.binder_model.specs.Promises.{IsRunOf}
 use Rattle.binder_model.specs.World.{IsHistory, base as base_of, world}
@@ -79,36 +64,14 @@ use Rattle.event_law.specs.Ahead.{Point, from_of, sum_over}
 use Rattle.pass_law.proofs.Told.{within_five}
 use Rattle.pass_law.specs.Passes.{IsCallGiven, KindsHaveReached, first_cost, wait_cost}
 use Rattle.write_count.proofs.Runs.{IsCalled, called_at, run_at}
-use Rattle.call_count.proofs.Growth.{AreGiven}
 use Rattle.call_count.proofs.Made.{IsOrdered, NothingUnder}
 use Rattle.slot_costs.proofs.Calls.{AtKeys, InPass, IsLess, Stage, kinds_left, pass_left, rest_left, slot_left, sweep_cost}
-use Rattle.slot_costs.proofs.RoundCosts.{CallMoves, cost_falls, cost_in, most, waiting_few}
-use Rattle.slot_costs.proofs.Made.{call_moves, given_on, lost_ordered, reads_stay, told_ordered, turned_ordered}
+use Rattle.slot_costs.proofs.RoundCosts.{AreKept, CallMoves, cost_falls, cost_in, kept_on, most, waiting_few}
+use Rattle.slot_costs.proofs.Made.{call_moves, lost_ordered, reads_stay, told_ordered, turned_ordered}
 use Rattle.slot_costs.proofs.Passes.{none_read, read_falls, start_falls, start_pays, task_pays}
+use Rattle.slot_costs.proofs.Reaching.{ReachedBehind, IsBefore, IsPast, TurnOf, behind_on, first_low, given_at, light_of, none_told, own_read, reached_all, reached_on, turn_of, kind_is_read, start_is_read}
 use Rattle.slot_costs.proofs.Stages.{all_read, nothing_told}
 use Rattle.slot_costs.proofs.Turns.{turn_costs}
-
--- a call of the start is one that is not held back
-start_is_read : (kind : SeatKind) (node : List ℕ) (m : Memory) (request : Request) → start_of kind node m ≡ Some request → is_own_read request ≡ true
-start_is_read seats.Agent node m request e = by m.epoch (is_some m.mounts) e
-  where
-    by : (epoch : Option ℕ) (told : Bool) → agent_start node epoch told ≡ Some request → is_own_read request ≡ true
-    by None told h = ap is_own_read (sym (one _ request h))
-    by (Some epoch) false h = ap is_own_read (sym (one _ request h))
-    by (Some epoch) true h = none_some h
-start_is_read seats.User node m request e = none_some e
-start_is_read seats.Binder node m request e = none_some e
-start_is_read seats.Ops node m request e = none_some e
-start_is_read seats.Scheduler node m request e = none_some e
-start_is_read seats.ClaimProtect node m request e = none_some e
-start_is_read seats.VolumeProtect node m request e = none_some e
-
-kind_is_read : (caches : AllKnown) (kind : Kind) → is_own_read (read_of_kind caches kind) ≡ true
-kind_is_read caches kind = by (ask_of (cache_of kind caches))
-  where
-    by : (a : Ask) → is_own_read (read_request kind a) ≡ true
-    by asks.List = refl
-    by (asks.Watch from) = refl
 
 done_none : (request : Request) → done_by request replies.Timed ≡ 0
 done_none (requests.Delete key given) = refl
@@ -142,93 +105,6 @@ held_called x mine request stands ask eg = by x.under refl stands.under_way (ap 
         let none = done_none u.call in
         record { under = u; there = eu; is = ap (lost_given x) eg ∙ ap (lost_under x) eu; some = omega (arith, goes, none) }
 
-first_low : (setup : Setup) (h : List Entry) → base_of setup ≤ (world setup h).store.version
-first_low setup h = subst (λ es. base_of setup ≤ (world setup es).store.version) (nil_right h) (rises setup h [])
-
--- what was reached, after one call
-module _ (setup : Setup) (seat base : ℕ) (x : ActorState) (request : Request) (reply : Reply) (h : List Entry) (given : IsCallGiven setup seat x request reply h) (begun : base ≤ (world setup h).store.version) where
-  light_of : WritesLight x.role.kind reply
-  light_of = by (given_so x request given.ask)
-    where
-      by : GivenSo x → WritesLight x.role.kind reply
-      by (GivesTask e) = (task_called setup seat x request reply h given e).light
-      by (GivesStart e) = (start_called setup seat x request reply h given e).light
-      by (GivesRead kind e) = (read_called setup seat x request reply h given kind e).light
-
-  -- a kind has reached so far, whether it is the one that was read or not
-  reached_on : (k : Kind) (from : ℕ) → ((f : ℕ) → from_of seat h k ≡ Some f → base ≤ f) → from_of seat (told_entry seat x request reply ∷ h) k ≡ Some from → base ≤ from
-  reached_on k from before is = by (given_so x request given.ask)
-    where
-      kept : reads_kind k request ≡ false → base ≤ from
-      kept unread = before from (sym (unread_from seat (told_entry seat x request reply) h refl refl k unread) ∙ is)
-
-      read_it : (kind : Kind) → Reads setup seat x kind request reply h → (b : Bool) → same_kind kind k ≡ b → base ≤ from
-      read_it kind (Lists none asks answered) false other = kept (ap (reads_kind k) asks ∙ other)
-      read_it kind (FindsGone f gone some passes asks old answered) false other = kept (ap (reads_kind k) asks ∙ other)
-      read_it kind (IsTold f some passes asks low within answered) false other = kept (ap (reads_kind k) asks ∙ other)
-      read_it kind (Lists none asks answered) true same =
-          let k_is : kind ≡ k = (same_kind-Decides kind k).0 same in
-          let now = listed_from seat (told_entry seat x request reply) h refl refl kind _ (world setup h).store.version asks answered in
-          let v = one (world setup h).store.version from (sym now ∙ (ap (from_of seat (told_entry seat x request reply ∷ h)) k_is ∙ is)) in
-          omega (arith, v, begun)
-      read_it kind (FindsGone f gone some passes asks old answered) true same =
-          let k_is : kind ≡ k = (same_kind-Decides kind k).0 same in
-          none_some (sym (gone_from seat (told_entry seat x request reply) h refl refl kind f gone asks answered) ∙ (ap (from_of seat (told_entry seat x request reply ∷ h)) k_is ∙ is))
-      read_it kind (IsTold f some passes asks low within answered) true same =
-          let k_is : kind ≡ k = (same_kind-Decides kind k).0 same in
-          let now = watched_from seat (told_entry seat x request reply) h refl refl kind f f (world setup h).store.version (world setup h).log asks answered some in
-          let u = one (told_events kind f (world setup h).store.version (world setup h).log).upto from (sym now ∙ (ap (from_of seat (told_entry seat x request reply ∷ h)) k_is ∙ is)) in
-          let old = before f (ap (from_of seat h) (sym k_is) ∙ some) in
-          up_to (length (told kind f (world setup h).log) == most_events) refl u old
-        where
-          up_to : (full : Bool) → (length (told kind f (world setup h).log) == most_events) ≡ full → (told_events kind f (world setup h).store.version (world setup h).log).upto ≡ from → base ≤ f → base ≤ from
-          up_to true e u old = let r = (told_so setup h kind f true low e).reached refl in omega (arith, r, u, old)
-          up_to false e u old = let r = (told_so setup h kind f false low e).whole refl in omega (arith, r, u, begun)
-
-      by : GivenSo x → base ≤ from
-      by (GivesTask e) = kept ((task_called setup seat x request reply h given e).unread k)
-      by (GivesStart e) = kept ((start_called setup seat x request reply h given e).unread k)
-      by (GivesRead kind e) = read_it kind (read_called setup seat x request reply h given kind e).reads (same_kind kind k) refl
-
--- a turn decides keys past the pass, or leaves all but what is given
-data TurnOf (s given : ActorState) : Type 0 where
-  IsPast : s.under ≡ None → unlisted s ≡ None → passing s ≡ None → TurnOf s given
-  IsBefore : (g : Option Given) → given ≡ record s { given = g } → TurnOf s given
-
-turn_of : (s given : ActorState) (request : Request) → IsTurn s given (Call request) → TurnOf s given
-turn_of s given request turn = by s.memory.stale s.under (start_call s.role s.memory) (unlisted s) (passing s) refl refl refl turn
-  where
-    by : (stale : Bool) (u : Option Under) (start : Option Request) (l p : Option Kind) → s.under ≡ u → unlisted s ≡ l → passing s ≡ p → TurnBy s given (Call request) stale u start l p → TurnOf s given
-    by true u start l p eu el ep t = none_some (sym (ap call_in t.idle))
-    by false (Some u) start l p eu el ep t = IsBefore (Some givens.Task) t.state
-    by false None (Some r) l p eu el ep t = IsBefore (Some givens.Start) t.state
-    by false None None (Some k) p eu el ep t = IsBefore (Some (givens.Read k)) t.state
-    by false None None None (Some k) eu el ep t = IsBefore (Some (givens.Read k)) t.state
-    by false None None None None eu el ep t = IsPast eu el ep
-
--- how far the pass goes on with one call
-data PassOn (seat : ℕ) (x next : ActorState) (entries : List Entry) (version : ℕ) : Type 0 where
-  Stands : next.pass.behind ≡ x.pass.behind → PassOn seat x next entries version
-  GoesOn : (kind : Kind) → kind_in_order x.role x.pass.behind ≡ Some kind → from_of seat entries kind ≡ Some version → next.pass.behind ≡ x.pass.behind + 1 → PassOn seat x next entries version
-
--- what is under way where a call is no task's, so that no write is made
-own_read : (x : ActorState) (request : Request) → x.under ≡ None → asked x ≡ Some request → is_own_read request ≡ true
-own_read x request none ask = by (given_so x request ask)
-  where
-    by : GivenSo x → is_own_read request ≡ true
-    by (GivesTask e) = none_some (sym (ap (option_map call_under) none) ∙ (ap (given_call x) (sym e) ∙ ask))
-    by (GivesStart e) = start_is_read x.role.kind x.role.node x.memory request (ap (given_call x) (sym e) ∙ ask)
-    by (GivesRead kind e) = ap is_own_read (sym (one (read_of_kind x.caches kind) request (ap (given_call x) (sym e) ∙ ask))) ∙ kind_is_read x.caches kind
-
--- nothing is under way after its answer
-none_told : (x : ActorState) (request : Request) (reply : Reply) (caches : AllKnown) → x.under ≡ None → asked x ≡ Some request → (told_to x caches request reply).under ≡ None
-none_told x request reply caches none ask = by (given_so x request ask)
-  where
-    by : GivenSo x → (told_to x caches request reply).under ≡ None
-    by (GivesTask e) = none_some (sym (ap (option_map call_under) none) ∙ (ap (given_call x) (sym e) ∙ ask))
-    by (GivesStart e) = ap (λ (y : ActorState). y.under) (ap (given_told (learned x caches request reply) request reply) e) ∙ none
-    by (GivesRead kind e) = ap (λ (y : ActorState). y.under) (ap (given_told (learned x caches request reply) request reply) e) ∙ none
-
 sum_each : (f g : Kind → ℕ) (ks : List Kind) → ((k : Kind) → IsIn k ks → g k ≤ f k) → sum_over g ks ≤ sum_over f ks
 sum_each f g [] each = omega arith
 sum_each f g (k ∷ ks) each = let a = each k (inl refl) in let b = sum_each f g ks (λ x i. each x (inr i)) in omega (arith, a, b)
@@ -239,95 +115,12 @@ module _ (setup : Setup) (lets : Lets) (passes : PassesReads lets) (seat : ℕ) 
   abbrev high : ℕ
   high = (world setup past).store.version
 
-  -- a call that was given and told
-  given_at : (s given : ActorState) (h : List Entry) (request : Request) (reply : Reply) → IsBuiltKind s.role.kind → IsReady seat s h → IsTurn s given (Call request) → IsHistory setup (told_entry seat given request reply ∷ h) → IsCallGiven setup seat given request reply h
-  given_at s given h request reply built ready turn whole = record {
-    built = subst (λ (r : Role). IsBuiltKind r.kind) (sym (turn_role s given (Call request) turn)) built;
-    stands = turn_stands s given (Call request) (own seat h) ready.rows ready.stands.told turn;
-    queue = turns_queues s given (Call request) turn ready.stands.queue;
-    ask = sym (gives_asked s given (Call request) turn);
-    fresh = ap (λ (x : Memory). x.stale) (turn_memory s given (Call request) turn) ∙ calls_fresh s given request turn;
-    history = whole;
-    passes = λ kind from eg is. watches_follow s given (Call request) kind from turn eg (ap Call is);
-  }
-
-  -- the kinds behind the pass have reached a version
-  abbrev ReachedBehind : ℕ → Role → Pass → List Entry → Type 0
-  ReachedBehind reached role pass h = (place : ℕ) (kind : Kind) (from : ℕ) → place < pass.behind → kind_in_order role place ≡ Some kind → from_of seat h kind ≡ Some from → reached ≤ from
-
-  pass_on : (x : ActorState) (request : Request) (reply : Reply) (h : List Entry) (given : IsCallGiven setup seat x request reply h) (caches : AllKnown) → PassOn seat x (told_to x caches request reply) (told_entry seat x request reply ∷ h) (world setup h).store.version
-  pass_on x request reply h given caches = by (given_so x request given.ask)
-    where
-      is_read : (kind : Kind) → x.given ≡ Some (givens.Read kind) → told_to x caches request reply ≡ read_told (learned x caches request reply) kind request reply
-      is_read kind eg = ap (given_told (learned x caches request reply) request reply) eg
-
-      behind_is : (kind : Kind) (q : Request) (a : Reply) → x.given ≡ Some (givens.Read kind) → request ≡ q → reply ≡ a → (told_to x caches request reply).pass.behind ≡ (pass_after x.pass (is_passing (passing x) kind) q a).behind
-      behind_is kind q a eg asks answered = ap (λ (y : ActorState). y.pass.behind) (is_read kind eg) ∙ (ap (λ r. (pass_after x.pass (is_passing (passing x) kind) r reply).behind) asks ∙ ap (λ r. (pass_after x.pass (is_passing (passing x) kind) q r).behind) answered)
-
-      told_by : (kind : Kind) (from : ℕ) → x.given ≡ Some (givens.Read kind) → from_of seat h kind ≡ Some from → passing x ≡ Some kind → request ≡ requests.Watch kind from → from ≤ (world setup h).store.version → reply ≡ replies.Events (told_events kind from (world setup h).store.version (world setup h).log)
-          → (full : Bool) → (length (told kind from (world setup h).log) == most_events) ≡ full → PassOn seat x (told_to x caches request reply) (told_entry seat x request reply ∷ h) (world setup h).store.version
-      told_by kind from eg some passes asks low answered full e = with_full full e
-        where
-          goes : (f : Bool) → (length (told kind from (world setup h).log) == most_events) ≡ f → (told_to x caches request reply).pass.behind ≡ (if not f then x.pass.behind + 1 else x.pass.behind)
-          goes f e2 =
-              let is_p : is_passing (passing x) kind ≡ true = ap (λ k. is_passing k kind) passes ∙ (same_kind-Decides kind kind).1 refl in
-              behind_is kind (requests.Watch kind from) _ eg asks answered ∙ (ap (λ p. (pass_after x.pass p (requests.Watch kind from) (replies.Events (told_events kind from (world setup h).store.version (world setup h).log))).behind) is_p ∙ ap (λ f. if not f then x.pass.behind + 1 else x.pass.behind) e2)
-
-          with_full : (f : Bool) → (length (told kind from (world setup h).log) == most_events) ≡ f → PassOn seat x (told_to x caches request reply) (told_entry seat x request reply ∷ h) (world setup h).store.version
-          with_full true e2 = Stands (goes true e2)
-          with_full false e2 =
-              let now = watched_from seat (told_entry seat x request reply) h refl refl kind from from (world setup h).store.version (world setup h).log asks answered some in
-              GoesOn kind passes (now ∙ ap Some ((told_so setup h kind from false low e2).whole refl)) (goes false e2)
-
-      read_by : (kind : Kind) → x.given ≡ Some (givens.Read kind) → Reads setup seat x kind request reply h → PassOn seat x (told_to x caches request reply) (told_entry seat x request reply ∷ h) (world setup h).store.version
-      read_by kind eg (Lists none asks answered) = Stands (behind_is kind (requests.List kind None) reply eg asks refl)
-      read_by kind eg (FindsGone from gone some passes asks old answered) = Stands (behind_is kind (requests.Watch kind from) _ eg asks answered)
-      read_by kind eg (IsTold from some passes asks low within answered) = told_by kind from eg some passes asks low answered (length (told kind from (world setup h).log) == most_events) refl
-
-      by : GivenSo x → PassOn seat x (told_to x caches request reply) (told_entry seat x request reply ∷ h) (world setup h).store.version
-      by (GivesTask eg) =
-          let t = task_called setup seat x request reply h given eg in
-          Stands (ap (λ (y : ActorState). y.pass.behind) (ap (given_told (learned x caches request reply) request reply) eg ∙ ap (task_told (learned x caches request reply) reply) t.there))
-      by (GivesStart eg) = Stands (ap (λ (y : ActorState). y.pass.behind) (ap (given_told (learned x caches request reply) request reply) eg))
-      by (GivesRead kind eg) = read_by kind eg (read_called setup seat x request reply h given kind eg).reads
-
-  at_or_before : (i n : ℕ) → i < n + 1 → (i < n) ⊎ (i ≡ n)
-  at_or_before i n lt = by (nat_lt i n) refl
-    where
-      by : (b : Bool) → nat_lt i n ≡ b → (i < n) ⊎ (i ≡ n)
-      by true e = inl (grind (arith, nat_tests))
-      by false e = inr (grind (arith, nat_tests))
-
-  -- and those behind it after one call have too
-  behind_on : (version : ℕ) (x : ActorState) (request : Request) (reply : Reply) (h : List Entry) → IsCallGiven setup seat x request reply h → version ≤ (world setup h).store.version → ReachedBehind version x.role x.pass h → (caches : AllKnown)
-      → ReachedBehind version (told_to x caches request reply).role (told_to x caches request reply).pass (told_entry seat x request reply ∷ h)
-  behind_on version x request reply h given begun behind caches place kind from lt there is = on (pass_on x request reply h given caches)
-    where
-      role : (told_to x caches request reply).role ≡ x.role
-      role = answer_role x caches request (Told reply)
-
-      there_before : kind_in_order x.role place ≡ Some kind
-      there_before = ap (λ (r : Role). kind_in_order r place) (sym role) ∙ there
-
-      kept : place < x.pass.behind → version ≤ from
-      kept before = reached_on setup seat version x request reply h given begun kind from (λ f e. behind place kind f before there_before e) is
-
-      on : PassOn seat x (told_to x caches request reply) (told_entry seat x request reply ∷ h) (world setup h).store.version → version ≤ from
-      on (Stands stays) = kept (omega (arith, lt, stays))
-      on (GoesOn k at_k reached_k goes) = elim (at_or_before place x.pass.behind (omega (arith, lt, goes))) [
-        | inl before ↦ kept before
-        | inr here ↦
-            let k_is : Some k ≡ Some kind = sym at_k ∙ (ap (kind_in_order x.role) (sym here) ∙ there_before) in
-            let v = one (world setup h).store.version from (sym reached_k ∙ (ap (from_of seat (told_entry seat x request reply ∷ h)) (one k kind k_is) ∙ is)) in
-            omega (arith, v, begun)
-      ]
-
   -- a call that was answered, and what the slot may still cost behind it
   module _ (x : ActorState) (request : Request) (reply : Reply) (h : List Entry) (given : IsCallGiven setup seat x request reply h) (at : Point setup x.role.kind base m high h) (reached : KindsHaveReached base seat x.role.kind h)
-      (short : (world setup (told_entry seat x request reply ∷ h)).store.version ≤ high) (so : AreGiven first (world setup h).store.rows)
+      (short : (world setup (told_entry seat x request reply ∷ h)).store.version ≤ high) (so : AreKept x.role.kind first (world setup h).store.rows)
       (falls : (key : Key) → cost_in x.role.kind first (world setup (told_entry seat x request reply ∷ h)).store.rows key ≤ cost_in x.role.kind first (world setup h).store.rows key) where
     -- in a pass nothing is written
-    module _ (none : x.under ≡ None) (behind : ReachedBehind (world setup h).store.version x.role x.pass h) where
+    module _ (none : x.under ≡ None) (behind : ReachedBehind setup seat (world setup h).store.version x.role x.pass h) where
       version : (world setup (told_entry seat x request reply ∷ h)).store.version ≡ (world setup h).store.version
       version = (reads_stay setup seat x request reply h (own_read x request none given.ask)).0
 
@@ -373,8 +166,8 @@ module _ (setup : Setup) (lets : Lets) (passes : PassesReads lets) (seat : ℕ) 
           sweeps : sweep_cost first (told_to x caches request reply).role.kind * ((high - (world setup (told_entry seat x request reply ∷ h)).store.version) / 513) ≡ sweep_cost first x.role.kind * ((high - (world setup h).store.version) / 513)
           sweeps = ap (λ (r : Role). sweep_cost first r.kind * ((high - (world setup (told_entry seat x request reply ∷ h)).store.version) / 513)) role ∙ ap (λ n. sweep_cost first x.role.kind * ((high - n) / 513)) version
 
-          goes_on : ReachedBehind (world setup (told_entry seat x request reply ∷ h)).store.version (told_to x caches request reply).role (told_to x caches request reply).pass (told_entry seat x request reply ∷ h)
-          goes_on place kind from lt there is = let reaches = behind_on (world setup h).store.version x request reply h given (omega arith) behind caches place kind from lt there is in omega (arith, reaches, same)
+          goes_on : ReachedBehind setup seat (world setup (told_entry seat x request reply ∷ h)).store.version (told_to x caches request reply).role (told_to x caches request reply).pass (told_entry seat x request reply ∷ h)
+          goes_on place kind from lt there is = let reaches = behind_on setup seat (world setup h).store.version x request reply h given (omega arith) behind caches place kind from lt there is in omega (arith, reaches, same)
 
     calls_pay : (caches : AllKnown) (stage : Stage setup seat x h) → IsLess setup first seat high (told_to x caches request reply) (told_entry seat x request reply ∷ h) 1 (slot_left setup first seat high x h stage)
     calls_pay caches (InPass none behind) = pass_pays none behind caches
@@ -395,15 +188,15 @@ module _ (setup : Setup) (lets : Lets) (passes : PassesReads lets) (seat : ℕ) 
       subst (λ y. IsLess setup first seat high y h 1 (slot_left setup first seat high x h (AtKeys read over kinds low few))) (sym t.is) (record { stage = AtKeys read over kinds low few; less = omega (arith, some_left, under, work) })
 
   second_pass : (s : ActorState) (h : List Entry) (b : ℕ) → Runs lets seat after past left idle s h b → IsBuiltKind s.role.kind → Point setup s.role.kind base m (world setup past).store.version h → KindsHaveReached base seat s.role.kind h → KnowsBehind setup seat s.role s.pass h
-      → IsOrdered s → AreGiven first (world setup h).store.rows → (stage : Stage setup seat s h) → b ≤ left + slot_left setup first seat (world setup past).store.version s h stage
+      → IsOrdered s → AreKept s.role.kind first (world setup h).store.rows → (stage : Stage setup seat s h) → b ≤ left + slot_left setup first seat (world setup past).store.version s h stage
   second_pass s h b (IsSpent none state entries rest busy) built at reached knows ordered so stage = omega (arith, none)
   second_pass s h b (IsIdle some ready turn entries rest calm) built at reached knows ordered so stage = omega (arith, rest)
   second_pass s h b (Asks given next request reply some ready turn lets_it absorbs more) built at reached knows ordered so stage =
       let kept = turn_costs setup first seat (world setup past).store.version s given request h so high_enough ready built whole.0 turn (λ over. sees setup seat s h whole.0 ready.stands.told knows over) stage in
-      let told = calls_pay given request reply h g given_point given_reached short so (cost_falls given.role.kind first (world setup h).store.rows (world setup (told_entry seat given request reply ∷ h)).store.rows (rows_stand_in_order setup h) moves) next.caches kept.stage in
+      let told = calls_pay given request reply h g given_point given_reached short given_kept (cost_falls given.role.kind first (world setup h).store.rows (world setup (told_entry seat given request reply ∷ h)).store.rows (rows_stand_in_order setup h) moves) next.caches kept.stage in
       let less = subst (λ y. IsLess setup first seat (world setup past).store.version y (told_entry seat given request reply ∷ h) 1 (slot_left setup first seat (world setup past).store.version given h kept.stage)) (sym absorbs) told in
       let ih = second_pass next (told_entry seat given request reply ∷ h) (b - 1) more next_built next_at next_reached (told_knows setup seat s given request reply h built ready turn whole knows next absorbs)
-      (subst IsOrdered (sym absorbs) (told_ordered setup seat given request reply h called next.caches turned)) (given_on setup first h (world setup (told_entry seat given request reply ∷ h)).store.rows moves so) less.stage in
+      (subst IsOrdered (sym absorbs) (told_ordered setup seat given request reply h called next.caches turned)) next_kept less.stage in
       let now = kept.less in
       let then_ = less.less in
       omega (arith, ih, now, then_, some)
@@ -415,7 +208,7 @@ module _ (setup : Setup) (lets : Lets) (passes : PassesReads lets) (seat : ℕ) 
       whole = runs_are_histories setup (told_entry seat given request reply ∷ h) (run_at setup lets seat after past left idle run next (told_entry seat given request reply ∷ h) (b - 1) more).run
 
       g : IsCallGiven setup seat given request reply h
-      g = given_at s given h request reply built ready turn whole
+      g = given_at setup seat s given h request reply built ready turn whole
 
       called : IsCalled setup seat given request reply h
       called = called_at setup lets seat after past left idle run s given h request reply built ready turn (run_at setup lets seat after past left idle run next (told_entry seat given request reply ∷ h) (b - 1) more)
@@ -423,7 +216,7 @@ module _ (setup : Setup) (lets : Lets) (passes : PassesReads lets) (seat : ℕ) 
       turned : IsOrdered given
       turned = turned_ordered s given request turn ordered
 
-      moves : CallMoves (world setup h).store.rows (world setup (told_entry seat given request reply ∷ h)).store.rows
+      moves : CallMoves given.role.kind (world setup h).store.rows (world setup (told_entry seat given request reply ∷ h)).store.rows
       moves = call_moves setup seat given request reply h called (subst (λ (r : Role). IsBuiltKind r.kind) (sym (turn_role s given (Call request) turn)) built) (turned_knows setup seat s given (Call request) h turn knows) turned
 
       short : (world setup (told_entry seat given request reply ∷ h)).store.version ≤ (world setup past).store.version
@@ -440,6 +233,13 @@ module _ (setup : Setup) (lets : Lets) (passes : PassesReads lets) (seat : ℕ) 
 
       next_built : IsBuiltKind next.role.kind
       next_built = subst IsBuiltKind (sym next_kind) built
+
+      given_kept : AreKept given.role.kind first (world setup h).store.rows
+      given_kept = subst (λ k. AreKept k first (world setup h).store.rows) (sym given_kind) so
+
+      next_kept : AreKept next.role.kind first (world setup (told_entry seat given request reply ∷ h)).store.rows
+      next_kept = subst (λ k. AreKept k first (world setup (told_entry seat given request reply ∷ h)).store.rows) (given_kind ∙ sym next_kind)
+          (kept_on given.role.kind first (world setup h).store.rows (world setup (told_entry seat given request reply ∷ h)).store.rows (rows_stand_in_order setup h) moves given_kept)
 
       given_point : Point setup given.role.kind base m (world setup past).store.version h
       given_point = subst (λ k. Point setup k base m (world setup past).store.version h) (sym given_kind) at
@@ -458,7 +258,7 @@ module _ (setup : Setup) (lets : Lets) (passes : PassesReads lets) (seat : ℕ) 
       let lost = held_pays given h t kept.stage in
       let less = subst (λ y. IsLess setup first seat (world setup past).store.version y h 1 (slot_left setup first seat (world setup past).store.version given h kept.stage)) (sym absorbs) lost in
       let ih = second_pass next h (b - 1) more next_built (subst (λ k. Point setup k base m (world setup past).store.version h) (sym next_kind) at) (subst (λ k. KindsHaveReached base seat k h) (sym next_kind) reached) (lost_knows setup seat given next request h (turned_knows setup seat s given (Call request) h turn knows) absorbs)
-      (subst IsOrdered (sym absorbs) (lost_ordered given (turned_ordered s given request turn ordered))) so less.stage in
+      (subst IsOrdered (sym absorbs) (lost_ordered given (turned_ordered s given request turn ordered))) (subst (λ k. AreKept k first (world setup h).store.rows) (sym next_kind) so) less.stage in
       let now = kept.less in
       let then_ = less.less in
       omega (arith, ih, now, then_, some)
@@ -493,7 +293,7 @@ module _ (setup : Setup) (lets : Lets) (passes : PassesReads lets) (seat : ℕ) 
   no_again f (t ∷ ts) e = none_some (sym (ap oldest_of e))
 
   -- past the pass the first cost covers what is still to come
-  covered : (s : ActorState) (h : List Entry) → IsReady seat s h → IsBuiltKind s.role.kind → IsHistory setup h → (world setup h).store.version ≡ base → ReachedBehind base s.role s.pass h → AreGiven first (world setup h).store.rows → s.under ≡ None → unlisted s ≡ None → passing s ≡ None
+  covered : (s : ActorState) (h : List Entry) → IsReady seat s h → IsBuiltKind s.role.kind → IsHistory setup h → (world setup h).store.version ≡ base → ReachedBehind setup seat base s.role s.pass h → AreKept s.role.kind first (world setup h).store.rows → s.under ≡ None → unlisted s ≡ None → passing s ≡ None
       → IsLess setup first seat (world setup past).store.version s h 0 (cost_first s h + after_cost s.role.kind)
   covered s h ready built history version behind so none listed over =
       let taken : taken_keys s.work ≡ [] = ready.stands.queue.taken ∙ ap under_keys none in
@@ -514,18 +314,11 @@ module _ (setup : Setup) (lets : Lets) (passes : PassesReads lets) (seat : ℕ) 
       at_most_five true = within_five s.role.kind
       at_most_five false = omega arith
 
-      reached : ReachedBehind (world setup h).store.version s.role s.pass h
+      reached : ReachedBehind setup seat (world setup h).store.version s.role s.pass h
       reached place kind from lt there is = let r = behind place kind from lt there is in omega (arith, r, version)
 
-  reached_all : (role : Role) (pass : Pass) (h : List Entry) → ReachedBehind base role pass h → kind_in_order role pass.behind ≡ None → KindsHaveReached base seat role.kind h
-  reached_all role pass h behind over kind from f is =
-      let p = placed role.kind kind f in
-      let within = p.within in
-      let all = passed (kinds_of role.kind) pass.behind over in
-      behind p.place kind from (omega (arith, within, all)) p.at is
-
-  first_pass : (s : ActorState) (h : List Entry) (b : ℕ) → Runs lets seat after past left idle s h b → IsBuiltKind s.role.kind → s.under ≡ None → (world setup h).store.version ≡ base → Point setup s.role.kind base m (world setup past).store.version h → ReachedBehind base s.role s.pass h → KnowsBehind setup seat s.role s.pass h
-      → AreGiven first (world setup h).store.rows → b ≤ left + (cost_first s h + after_cost s.role.kind)
+  first_pass : (s : ActorState) (h : List Entry) (b : ℕ) → Runs lets seat after past left idle s h b → IsBuiltKind s.role.kind → s.under ≡ None → (world setup h).store.version ≡ base → Point setup s.role.kind base m (world setup past).store.version h → ReachedBehind setup seat base s.role s.pass h → KnowsBehind setup seat s.role s.pass h
+      → AreKept s.role.kind first (world setup h).store.rows → b ≤ left + (cost_first s h + after_cost s.role.kind)
   first_pass s h b (IsSpent none state entries rest busy) built rests version at behind knows so = omega (arith, none)
   first_pass s h b (IsIdle some ready turn entries rest calm) built rests version at behind knows so = omega (arith, rest)
   first_pass s h b (Asks given next request reply some ready turn lets_it absorbs more) built rests version at behind knows so =
@@ -535,7 +328,7 @@ module _ (setup : Setup) (lets : Lets) (passes : PassesReads lets) (seat : ℕ) 
       whole = run_older setup lets seat after past left idle next _ _ more (runs_are_histories setup past run.run)
 
       g : IsCallGiven setup seat given request reply h
-      g = given_at s given h request reply built ready turn whole
+      g = given_at setup seat s given h request reply built ready turn whole
 
       short : (world setup (told_entry seat given request reply ∷ h)).store.version ≤ (world setup past).store.version
       short = later setup lets seat after past left idle next _ _ more
@@ -559,17 +352,17 @@ module _ (setup : Setup) (lets : Lets) (passes : PassesReads lets) (seat : ℕ) 
       next_at = subst (λ k. Point setup k base m (world setup past).store.version (told_entry seat given request reply ∷ h)) (sym next_kind)
           (point_on setup given.role.kind base m (world setup past).store.version (told_entry seat given request reply) h given_point short (light_of setup seat base given request reply h g at.begun) (world_moves setup (told_entry seat given request reply) h whole.1))
 
-      next_behind : s.pass ≡ given.pass → ReachedBehind base next.role next.pass (told_entry seat given request reply ∷ h)
-      next_behind same = subst (λ (y : ActorState). ReachedBehind base y.role y.pass (told_entry seat given request reply ∷ h)) (sym absorbs)
-          (behind_on base given request reply h g at.begun (subst (λ (r : Role). ReachedBehind base r given.pass h) (sym given_role) (subst (λ p. ReachedBehind base s.role p h) same behind)) next.caches)
+      next_behind : s.pass ≡ given.pass → ReachedBehind setup seat base next.role next.pass (told_entry seat given request reply ∷ h)
+      next_behind same = subst (λ (y : ActorState). ReachedBehind setup seat base y.role y.pass (told_entry seat given request reply ∷ h)) (sym absorbs)
+          (behind_on setup seat base given request reply h g at.begun (subst (λ (r : Role). ReachedBehind setup seat base r given.pass h) (sym given_role) (subst (λ p. ReachedBehind setup seat base s.role p h) same behind)) next.caches)
 
       by : TurnOf s given
-          → (IsBuiltKind next.role.kind → next.under ≡ None → (world setup (told_entry seat given request reply ∷ h)).store.version ≡ base → Point setup next.role.kind base m (world setup past).store.version (told_entry seat given request reply ∷ h) → ReachedBehind base next.role next.pass (told_entry seat given request reply ∷ h)
-          → KnowsBehind setup seat next.role next.pass (told_entry seat given request reply ∷ h) → AreGiven first (world setup (told_entry seat given request reply ∷ h)).store.rows → b - 1 ≤ left + (cost_first next (told_entry seat given request reply ∷ h) + after_cost next.role.kind))
+          → (IsBuiltKind next.role.kind → next.under ≡ None → (world setup (told_entry seat given request reply ∷ h)).store.version ≡ base → Point setup next.role.kind base m (world setup past).store.version (told_entry seat given request reply ∷ h) → ReachedBehind setup seat base next.role next.pass (told_entry seat given request reply ∷ h)
+          → KnowsBehind setup seat next.role next.pass (told_entry seat given request reply ∷ h) → AreKept next.role.kind first (world setup (told_entry seat given request reply ∷ h)).store.rows → b - 1 ≤ left + (cost_first next (told_entry seat given request reply ∷ h) + after_cost next.role.kind))
           → b ≤ left + (cost_first s h + after_cost s.role.kind)
       by (IsPast eu el ep) more_of =
           let c = covered s h ready built whole.0 version behind so eu el ep in
-          let second = second_pass s h b (Asks given next request reply some ready turn lets_it absorbs more) built at (reached_all s.role s.pass h behind ep) knows (NothingUnder eu) so c.stage in
+          let second = second_pass s h b (Asks given next request reply some ready turn lets_it absorbs more) built at (reached_all setup seat base s.role s.pass h behind ep) knows (NothingUnder eu) so c.stage in
           let less = c.less in
           omega (arith, second, less)
       by (IsBefore gg e) more_of =
@@ -578,7 +371,7 @@ module _ (setup : Setup) (lets : Lets) (passes : PassesReads lets) (seat : ℕ) 
           let stay = reads_stay setup seat given request reply h (own_read given request given_none ask) in
           let next_none : next.under ≡ None = ap (λ (y : ActorState). y.under) absorbs ∙ none_told given request reply next.caches given_none ask in
           let next_version : (world setup (told_entry seat given request reply ∷ h)).store.version ≡ base = stay.0 ∙ version in
-          let ih = more_of (subst IsBuiltKind (sym (next_kind ∙ given_kind)) built) next_none next_version next_at (next_behind (ap (λ (y : ActorState). y.pass) (sym e))) (told_knows setup seat s given request reply h built ready turn whole knows next absorbs) (subst (AreGiven first) (sym stay.1) so) in
+          let ih = more_of (subst IsBuiltKind (sym (next_kind ∙ given_kind)) built) next_none next_version next_at (next_behind (ap (λ (y : ActorState). y.pass) (sym e))) (told_knows setup seat s given request reply h built ready turn whole knows next absorbs) (subst (λ k. AreKept k first (world setup (told_entry seat given request reply ∷ h)).store.rows) (sym (next_kind ∙ given_kind)) (subst (AreKept s.role.kind first) (sym stay.1) so)) in
           let pays = first_calls_pay setup seat base base given request reply h next.caches g (omega (arith, next_version)) in
           let same = ap (λ k. first_cost setup seat k base base next (told_entry seat given request reply ∷ h)) next_kind in
           let became = ap (λ y. first_cost setup seat given.role.kind base base y (told_entry seat given request reply ∷ h)) absorbs in
@@ -594,7 +387,7 @@ module _ (setup : Setup) (lets : Lets) (passes : PassesReads lets) (seat : ℕ) 
       by : TurnOf s given → b ≤ left + (cost_first s h + after_cost s.role.kind)
       by (IsPast eu el ep) =
           let c = covered s h ready built before version behind so eu el ep in
-          let second = second_pass s h b (IsHeld given next request some ready turn held absorbs more) built at (reached_all s.role s.pass h behind ep) knows (NothingUnder eu) so c.stage in
+          let second = second_pass s h b (IsHeld given next request some ready turn held absorbs more) built at (reached_all setup seat base s.role s.pass h behind ep) knows (NothingUnder eu) so c.stage in
           let less = c.less in
           omega (arith, second, less)
       by (IsBefore gg e) =
@@ -609,7 +402,7 @@ starts_few None = omega arith
 starts_few (Some (requests.TakeNode node)) = omega arith
 starts_few (Some _) = omega arith
 
-start_few : (role : Role) (m : Memory) → start_left role m ≤ 2
+pub start_few : (role : Role) (m : Memory) → start_left role m ≤ 2
 start_few role m = by m.stale
   where
     by : (b : Bool) → (if b then 0 else starts_left (start_call role m)) ≤ 2
@@ -621,7 +414,7 @@ abbrev pub slot_most : List Object → SeatKind → ℕ → ℕ
 slot_most first kind writes = 8 * writes + (sum_over (most kind first) (kinds_of kind) + (sweep_cost first kind * (writes / 513) + 62))
 
 pub slots_cost_less : (setup : Setup) (lets : Lets) (seat : ℕ) (old after : ActorState) (h past : List Entry) (b left : ℕ) (idle : Bool) (first : List Object) → IsBuiltKind old.role.kind → IsRunOf setup past → PassesReads lets → old.under ≡ None → AreRows first
-    → AreGiven first (world setup h).store.rows → Runs lets seat after past left idle (woken old) h b → b ≤ left + slot_most first old.role.kind (writes_since setup h past)
+    → AreKept old.role.kind first (world setup h).store.rows → Runs lets seat after past left idle (woken old) h b → b ≤ left + slot_most first old.role.kind (writes_since setup h past)
 slots_cost_less setup lets seat old after h past b left idle first built run passes rests order so runs =
     let bound = first_pass setup lets passes seat after past left idle run first order (world setup h).store.version (total (calls_for old.role.kind) (world setup h).store.rows + 3 * writes_since setup h past) (first_low setup h) (woken old) h b runs built rests refl begun_point (λ place kind from lt. absurd (omega (arith, lt)))
     (nothing_behind setup seat old h) so in

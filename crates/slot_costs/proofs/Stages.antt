@@ -41,11 +41,11 @@ listed_in c (k ∷ ks) kind none i = by (is_listed c k) refl none i (listed_in c
     by true e n (inl is) rest = subst (λ x. is_listed c x ≡ true) is e
     by true e n (inr more) rest = rest n more
 
-sum_none : (f : Kind → ℕ) (ks : List Kind) → ((k : Kind) → f k ≡ 0) → sum_over f ks ≡ 0
+pub sum_none : (f : Kind → ℕ) (ks : List Kind) → ((k : Kind) → f k ≡ 0) → sum_over f ks ≡ 0
 sum_none f [] each = refl
 sum_none f (k ∷ ks) each = let a = each k in let rest = sum_none f ks each in omega (arith, a, rest)
 
-sum_same : (f g : Kind → ℕ) (ks : List Kind) → ((k : Kind) → IsIn k ks → f k ≡ g k) → sum_over f ks ≡ sum_over g ks
+pub sum_same : (f g : Kind → ℕ) (ks : List Kind) → ((k : Kind) → IsIn k ks → f k ≡ g k) → sum_over f ks ≡ sum_over g ks
 sum_same f g [] each = refl
 sum_same f g (k ∷ ks) each = let a = each k (inl refl) in let rest = sum_same f g ks (λ x i. each x (inr i)) in omega (arith, a, rest)
 

@@ -1,0 +1,6 @@
+pub mod Calls
+pub mod Lasting
+pub mod Left
+pub mod Passes
+pub mod Slots
+pub mod Turns
