@@ -3,4 +3,3 @@ pub mod Drains
 pub mod Measured
 pub mod Rounds
 pub mod Selections
-pub mod ShortRounds

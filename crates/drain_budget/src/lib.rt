@@ -21,21 +21,12 @@
 //! behind a whole round (`AreTries`, which `tries_law` shows). With that the rounds are at most one and ten for each
 //! thing left to do (`rounds_are_measured`), and a drain ends settled (`measured_drains_settle`).
 //!
-//! Rounds are short: a round that begins with nothing under way makes no more calls than eight for each write, what the
-//! objects with which it began cost the actors by their roles, and after each 513 writes what the kinds cost that are
-//! then listed again, beyond the seven calls that each of the 513 has left (`rounds_cost_less`). So where it
-//! begins with at most 1,222 objects and claims that pods name, and a scheduler may write at most 512 times in it
-//! (`HasShortRounds`), as where it begins with at most 512 (`small_worlds_have_short_rounds`), it makes at most 256
-//! calls for each of these, for each planned fault that is ahead, and for 16 more (`rounds_are_short`); and so does each
-//! such round of a drain (`drained_rounds_are_short`), and each but the first where the drain begins with something
-//! under way (`later_rounds_are_short`).
-//!
-//! Premises: UIDs of imports have 128 bits, but for the calls by writes; the pods and
-//! the claims that they name are no more than 512, where writes are bounded; for calls no list or watch of a whole kind
-//! and no call of an agent's start is held back; for the budget twice the size and the planned faults are together no
-//! more than 512, and the annotations of claims are in order in each world of the history. An agent that was told that
-//! its epoch is stale makes no call, and may have anything under way. Not said: the number for rounds that begin with
-//! something under way; nor for larger worlds, where calls are counted by their writes alone.
+//! Premises: UIDs of imports have 128 bits, but for the calls by writes; the pods and the claims that they name are no
+//! more than 512, where writes are bounded; for calls no list or watch of a whole kind and no call of an agent's start
+//! is held back; for the budget twice the size and the planned faults are together no more than 512, and the
+//! annotations of claims are in order in each world of the history. An agent that was told that its epoch is stale
+//! makes no call, and may have anything under way. Not said: the number for rounds that begin with something under way;
+//! nor for larger worlds, where calls are counted by their writes alone.
 #![tactic(auto)]
 
 ghost use Rattle.drain_budget.specs.Budget.{DrainsCostLittle, FewRoundsSettle};
@@ -43,7 +34,6 @@ ghost use Rattle.drain_budget.specs.Drains.{DrainsAreShort, DrainsMakeFewCalls, 
 ghost use Rattle.drain_budget.specs.Measured.{MeasuredDrainsSettle, RoundsAreMeasured};
 ghost use Rattle.drain_budget.specs.Rounds.{PaidEntriesLower, RoundsAreCounted, RoundsServeNodes};
 ghost use Rattle.drain_budget.specs.Selections.{FewSelectionsSettle, NewDrainsSettle, StaticDrainsSettle};
-ghost use Rattle.drain_budget.specs.ShortRounds.{DrainedRoundsAreShort, LaterRoundsAreShort, RoundsAreShort, RoundsCostLess, SmallWorldsHaveShortRounds};
 
 /// A round of the actors of a drain does few writes and makes few calls.
 pub fn rounds_are_bounded()
@@ -118,29 +108,4 @@ pub fn rounds_are_measured()
 /// So it ends settled with the stated budget.
 pub fn measured_drains_settle()
     ensures { MeasuredDrainsSettle }
-{}
-
-/// A round makes few calls beside its writes.
-pub fn rounds_cost_less()
-    ensures { RoundsCostLess }
-{}
-
-/// Small worlds have short rounds.
-pub fn small_worlds_have_short_rounds()
-    ensures { SmallWorldsHaveShortRounds }
-{}
-
-/// So a round makes no more than the stated number.
-pub fn rounds_are_short()
-    ensures { RoundsAreShort }
-{}
-
-/// So does each round of a drain.
-pub fn drained_rounds_are_short()
-    ensures { DrainedRoundsAreShort }
-{}
-
-/// So does each round behind the first, whatever is under way as the drain begins.
-pub fn later_rounds_are_short()
-    ensures { LaterRoundsAreShort }
 {}

@@ -12,7 +12,7 @@ use Rattle.settle_law.specs.Settling.{MayDrain}
 use Rattle.settle_law.proofs.Paying.{run_of_older}
 use Rattle.all_pay.specs.All.{ImportsAllow}
 use Rattle.drain_budget.specs.Budget.{AreAlwaysInOrder}
-use Rattle.drain_budget.proofs.Short.{drained_rounds_are_short, later_rounds_are_short}
+use Rattle.short_rounds.proofs.Short.{drained_rounds_are_short, later_rounds_are_short}
 use Rattle.printable_law.specs.Laws.{IsGivenRun}
 use Rattle.replay_settles.proofs.Given.{given_imports_fit, given_runs_stay_in_order}
 use Rattle.script_text.specs.declared.script.Line.{Line}

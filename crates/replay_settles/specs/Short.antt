@@ -5,7 +5,7 @@ use Rattle.call_types.specs.declared.entry.Entry.{Entry}
 use Rattle.world_core.specs.declared.drained.Drained.{Drained}
 use Rattle.worker_threads.specs.Drainers.{AreAtRest}
 use Rattle.worker_threads.specs.Rounds.{all_pass}
-use Rattle.drain_budget.specs.ShortRounds.{EachLaterRoundIsShort, EachRoundIsShort}
+use Rattle.short_rounds.specs.ShortRounds.{EachLaterRoundIsShort, EachRoundIsShort}
 use Rattle.printable_law.specs.Laws.{IsGivenRun}
 use Rattle.script_text.specs.declared.script.Line.{Line}
 use Rattle.script_text.specs.declared.script.Line.TheVariants.{Call, Drain, Lose, Restart, Turn}

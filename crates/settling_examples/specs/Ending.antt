@@ -24,7 +24,7 @@ use Rattle.script_text.specs.declared.script.Line.TheVariants.{Drain, Turn}
 use Rattle.script_text.specs.declared.script.Script.{Script}
 use Rattle.settle_measure.specs.Small.{completed, meta, open_claim, volume_of}
 use Rattle.drain_budget.specs.Budget.{IsSmallWorld, enough_calls}
-use Rattle.drain_budget.specs.ShortRounds.{HasShortRounds, stated_calls}
+use Rattle.short_rounds.specs.ShortRounds.{HasShortRounds, stated_calls}
 use Rattle.drain_budget.specs.Measured.{SharesWell}
 use Rattle.drain_budget.specs.Selections.{NoneProvisionsLate}
 use Rattle.drain_law.specs.Naming.{ArePodsOnNamed}

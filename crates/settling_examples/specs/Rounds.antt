@@ -11,7 +11,7 @@ use Rattle.settle_measure.specs.Measure.{faults_left}
 use Rattle.worker_threads.specs.declared.drainers.Drainer.{Drainer}
 use Rattle.worker_threads.specs.Rounds.{Drains, Goes, IsRound, all_pass}
 use Rattle.short_law.specs.Rounds.{size_of_world}
-use Rattle.drain_budget.specs.ShortRounds.{EachLaterRoundIsShort, EachRoundIsShort}
+use Rattle.short_rounds.specs.ShortRounds.{EachLaterRoundIsShort, EachRoundIsShort}
 
 -- a drain with so many calls whose first round makes all of them, in a world of two objects and claims that are named, with no planned fault ahead
 pub record GoesOn (calls : ℕ) : Type 0 where

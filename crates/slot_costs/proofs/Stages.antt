@@ -27,8 +27,8 @@ use Rattle.event_law.specs.Counts.{pending}
 use Rattle.event_law.proofs.Events.{none_pending}
 use Rattle.event_law.proofs.Sums.{div_falls, div_less, mul_falls, mul_less}
 use Rattle.pass_law.proofs.Given.{from_same}
-use Rattle.drain_budget.proofs.Calls.{AtKeys, InPass, Stage, kind_left, kinds_ahead, kinds_left, sweep_cost, sweep_is, told_cost_or}
-use Rattle.drain_budget.proofs.RoundCosts.{most}
+use Rattle.slot_costs.proofs.Calls.{AtKeys, InPass, Stage, kind_left, kinds_ahead, kinds_left, sweep_cost, sweep_is, told_cost_or}
+use Rattle.slot_costs.proofs.RoundCosts.{most}
 
 -- ---- the kinds
 

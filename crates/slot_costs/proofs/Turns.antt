@@ -37,10 +37,11 @@ use Rattle.cost_law.proofs.Begun.{queued_on}
 use Rattle.cost_law.proofs.Works.{added_cost, begun_cost, finished_cost}
 use Rattle.worker_core.proofs.Machines.{queued_kinds}
 use Rattle.call_count.proofs.Growth.{AreGiven}
-use Rattle.drain_budget.proofs.Begun.{begun_on_own, claim_for_volume}
-use Rattle.drain_budget.proofs.Calls.{AtKeys, InPass, IsLess, Stage, kinds_ahead, pass_left, slot_left}
-use Rattle.drain_budget.proofs.RoundCosts.{cost_in, covers, of_volume, own_calls, queued_cost, volume_kind}
-use Rattle.drain_budget.proofs.Stages.{IsAtKeys, keys_of, pass_begins}
+use Rattle.slot_costs.proofs.Begun.{begun_on_own, claim_for_volume}
+use Rattle.slot_costs.proofs.Calls.{AtKeys, InPass, IsLess, Stage, kinds_ahead, pass_left, slot_left}
+use Rattle.slot_costs.specs.Costs.{own_calls}
+use Rattle.slot_costs.proofs.RoundCosts.{cost_in, covers, of_volume, queued_cost, volume_kind}
+use Rattle.slot_costs.proofs.Stages.{IsAtKeys, keys_of, pass_begins}
 
 -- the turns
 

@@ -47,7 +47,7 @@ use Rattle.worker_core.specs.Tasks.{IsFirstOf, claim_guard_first, ops_first, vol
 use Rattle.cost_law.specs.Costs.{calls_for}
 use Rattle.cost_law.specs.Tasks.{claim_guard_left, erase_left, machine_left, provision_left, schedule_left, task_left, volume_guard_left}
 use Rattle.cost_law.proofs.Begun.{begun_on}
-use Rattle.drain_budget.proofs.RoundCosts.{claim_calls, own_calls, volume_calls}
+use Rattle.slot_costs.specs.Costs.{claim_calls, own_calls, volume_calls}
 
 -- the decision rests on an object of a kind that is followed, and what it begins makes no more calls than that costs
 pub record BeginsOnOwn (kind : SeatKind) (row : Option Object) (task : Task) : Type 0 where

@@ -61,8 +61,8 @@ use Rattle.event_law.specs.Telling.{told}
 use Rattle.pass_law.specs.Passes.{KindsHaveReached, IsCallGiven}
 use Rattle.call_count.proofs.Growth.{AreGiven}
 use Rattle.call_count.proofs.Sums.{one_more}
-use Rattle.drain_budget.proofs.Calls.{AtKeys, IsLess, call_pays, few_on, kind_left, kinds_left, low_on, pass_left, rest_left, slot_left, told_cost_or}
-use Rattle.drain_budget.proofs.RoundCosts.{cost_in, cost_light, event_calls, key_calls, listed_few, most, work_less}
+use Rattle.slot_costs.proofs.Calls.{AtKeys, IsLess, call_pays, few_on, kind_left, kinds_left, low_on, pass_left, rest_left, slot_left, told_cost_or}
+use Rattle.slot_costs.proofs.RoundCosts.{cost_in, cost_light, event_calls, key_calls, listed_few, most, work_less}
 
 -- the answers
 

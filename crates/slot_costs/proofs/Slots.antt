@@ -81,12 +81,12 @@ use Rattle.pass_law.specs.Passes.{IsCallGiven, KindsHaveReached, first_cost, wai
 use Rattle.write_count.proofs.Runs.{IsCalled, called_at, run_at}
 use Rattle.call_count.proofs.Growth.{AreGiven}
 use Rattle.call_count.proofs.Made.{IsOrdered, NothingUnder}
-use Rattle.drain_budget.proofs.Calls.{AtKeys, InPass, IsLess, Stage, kinds_left, pass_left, rest_left, slot_left, sweep_cost}
-use Rattle.drain_budget.proofs.RoundCosts.{CallMoves, cost_falls, cost_in, most, waiting_few}
-use Rattle.drain_budget.proofs.Made.{call_moves, given_on, lost_ordered, reads_stay, told_ordered, turned_ordered}
-use Rattle.drain_budget.proofs.Passes.{none_read, read_falls, start_falls, start_pays, task_pays}
-use Rattle.drain_budget.proofs.Stages.{all_read, nothing_told}
-use Rattle.drain_budget.proofs.Turns.{turn_costs}
+use Rattle.slot_costs.proofs.Calls.{AtKeys, InPass, IsLess, Stage, kinds_left, pass_left, rest_left, slot_left, sweep_cost}
+use Rattle.slot_costs.proofs.RoundCosts.{CallMoves, cost_falls, cost_in, most, waiting_few}
+use Rattle.slot_costs.proofs.Made.{call_moves, given_on, lost_ordered, reads_stay, told_ordered, turned_ordered}
+use Rattle.slot_costs.proofs.Passes.{none_read, read_falls, start_falls, start_pays, task_pays}
+use Rattle.slot_costs.proofs.Stages.{all_read, nothing_told}
+use Rattle.slot_costs.proofs.Turns.{turn_costs}
 
 -- a call of the start is one that is not held back
 start_is_read : (kind : SeatKind) (node : List ℕ) (m : Memory) (request : Request) → start_of kind node m ≡ Some request → is_own_read request ≡ true

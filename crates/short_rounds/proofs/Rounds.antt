@@ -33,10 +33,11 @@ use Rattle.call_count.specs.Rounds.{pod_size}
 use Rattle.call_count.proofs.Growth.{AreGiven, given_first, made_few, made_keys}
 use Rattle.call_count.proofs.Made.{slot_given}
 use Rattle.call_count.proofs.Sums.{one_more, swept}
-use Rattle.drain_budget.specs.ShortRounds.{RoundsCostLess, sweep_calls}
-use Rattle.drain_budget.proofs.Calls.{sweep_cost, sweep_is}
-use Rattle.drain_budget.proofs.RoundCosts.{claim_less, kinds_cost, most, own_calls, pod_calls, volume_calls, volume_less}
-use Rattle.drain_budget.proofs.Slots.{slots_cost_less}
+use Rattle.short_rounds.specs.ShortRounds.{RoundsCostLess, sweep_calls}
+use Rattle.slot_costs.proofs.Calls.{sweep_cost, sweep_is}
+use Rattle.slot_costs.specs.Costs.{own_calls, pod_calls, volume_calls}
+use Rattle.slot_costs.proofs.RoundCosts.{claim_less, kinds_cost, most, volume_less}
+use Rattle.slot_costs.proofs.Slots.{slots_cost_less}
 
 -- ---- what the kinds cost
 

@@ -62,7 +62,7 @@ use Rattle.write_count.proofs.Slots.{ComesTo, Leaves, Wrote, comes_to}
 use Rattle.short_law.specs.Slots.{is_own_read}
 use Rattle.call_count.proofs.Growth.{AreGiven, Comes, IsFor, IsOver, moved_given}
 use Rattle.call_count.proofs.Made.{IsOrdered, NothingUnder, PassIsOver}
-use Rattle.drain_budget.proofs.RoundCosts.{CallMoves, IsSame, Moved}
+use Rattle.slot_costs.proofs.RoundCosts.{CallMoves, IsSame, Moved}
 
 -- ---- what a controller may write
 

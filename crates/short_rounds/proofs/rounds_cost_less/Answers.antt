@@ -1,5 +1,5 @@
-use Rattle.drain_budget.proofs.Rounds.{rounds_cost_less}
-use Rattle.drain_budget.proofs.rounds_cost_less.Goals as goal
+use Rattle.short_rounds.proofs.Rounds.{rounds_cost_less}
+use Rattle.short_rounds.proofs.rounds_cost_less.Goals as goal
 
 -- it costs no more than its writes and what its actors follow
 pub returns : goal.returns

@@ -24,7 +24,7 @@ use Rattle.event_law.specs.Counts.{pending}
 use Rattle.event_law.proofs.Calls.{Stays, Wrote}
 use Rattle.event_law.proofs.Events.{one_more}
 use Rattle.event_law.proofs.Sums.{at_kind, once, sum_more}
-use Rattle.drain_budget.proofs.RoundCosts.{cost_in, most, work_less}
+use Rattle.slot_costs.proofs.RoundCosts.{cost_in, most, work_less}
 
 -- ---- what is still to come
 

@@ -29,8 +29,8 @@ use Rattle.settle_law.proofs.Leaving.{rounds_leave_drainers}
 use Rattle.all_pay.specs.All.{ImportsAllow}
 use Rattle.all_pay.proofs.Rounds.{payer_at}
 use Rattle.drain_budget.specs.Budget.{AreAlwaysInOrder}
-use Rattle.drain_budget.specs.ShortRounds.{DrainedRoundsAreShort, EachLaterRoundIsShort, EachRoundIsShort, LaterRoundsAreShort, RoundsAreShort, SmallWorldsHaveShortRounds, sweep_calls}
-use Rattle.drain_budget.proofs.Rounds.{rounds_cost_less}
+use Rattle.short_rounds.specs.ShortRounds.{DrainedRoundsAreShort, EachLaterRoundIsShort, EachRoundIsShort, LaterRoundsAreShort, RoundsAreShort, SmallWorldsHaveShortRounds, sweep_calls}
+use Rattle.short_rounds.proofs.Rounds.{rounds_cost_less}
 use Rattle.drain_budget.proofs.Drains.{writes_few}
 
 -- ---- numbers

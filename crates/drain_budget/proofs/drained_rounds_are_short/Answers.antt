@@ -1,6 +1,0 @@
-use Rattle.drain_budget.proofs.Short.{drained_rounds_are_short}
-use Rattle.drain_budget.proofs.drained_rounds_are_short.Goals as goal
-
--- neither does a round of a drain
-pub returns : goal.returns
-returns c = drained_rounds_are_short

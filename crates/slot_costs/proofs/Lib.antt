@@ -1,0 +1,9 @@
+pub mod Alone
+pub mod Begun
+pub mod Calls
+pub mod Made
+pub mod Passes
+pub mod RoundCosts
+pub mod Slots
+pub mod Stages
+pub mod Turns

@@ -1,0 +1,35 @@
+-- How many calls an object costs an actor of each role, beside those after a write that was done.
+-- A choice of this project.
+use Rattle.std.specs.Prelude.{ℕ, ◌+◌, ◌*◌, length}
+use Rattle.kube_types.specs.declared.objects.Object.{Object}
+use Rattle.kube_types.specs.declared.objects.Object.TheVariants.{Class, Node, Volume, Claim, Pod}
+use Rattle.kube_types.specs.declared.objects.Pod.{Pod as PodData}
+use Rattle.call_types.specs.declared.request.SeatKind.{SeatKind}
+use Rattle.call_types.specs.declared.request.SeatKind.TheVariants as seats
+
+-- how many calls the decision on a volume, a claim or a pod comes to at most, by the role of the actor, but for those after a write that was done
+abbrev pub volume_calls : SeatKind → ℕ
+volume_calls seats.Binder = 3
+volume_calls seats.Ops = 3
+volume_calls seats.VolumeProtect = 1
+volume_calls kind = 0
+
+abbrev pub claim_calls : SeatKind → ℕ
+claim_calls seats.Binder = 2
+claim_calls seats.Ops = 2
+claim_calls seats.ClaimProtect = 2
+claim_calls kind = 0
+
+-- an agent reads each claim of a pod and its volume
+abbrev pub pod_calls : SeatKind → PodData → ℕ
+pod_calls seats.Scheduler p = 1
+pod_calls seats.Agent p = 3 + 2 * length p.claims
+pod_calls kind p = 0
+
+-- so much an object costs the actor
+abbrev pub own_calls : SeatKind → Object → ℕ
+own_calls kind (Class x) = 0
+own_calls kind (Node x) = 0
+own_calls kind (Volume v) = volume_calls kind
+own_calls kind (Claim c) = claim_calls kind
+own_calls kind (Pod p) = pod_calls kind p

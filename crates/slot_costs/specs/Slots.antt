@@ -1,0 +1,30 @@
+-- How many calls a slot makes at most, by what each object costs an actor of this role and by the writes of the slot.
+-- A choice of this project.
+use Rattle.std.specs.Prelude.{ℕ, ◌≡◌, ◌≤◌, ◌+◌, ◌*◌, ◌-◌, ◌/◌, Bool, List, None, length}
+use Rattle.kube_types.specs.declared.objects.Object.{Object}
+use Rattle.call_types.specs.declared.entry.Entry.{Entry}
+use Rattle.call_types.specs.declared.request.SeatKind.{SeatKind}
+use Rattle.call_types.specs.declared.setup.Setup.{Setup}
+use Rattle.binder_model.specs.Promises.{IsRunOf}
+use Rattle.binder_model.specs.World.{world}
+use Rattle.settle_measure.specs.Measure.{claims_in, total}
+use Rattle.worker_core.specs.Absorbs.{woken}
+use Rattle.worker_core.specs.Roles.{IsBuiltKind, kinds_of}
+use Rattle.worker_core.specs.States.{ActorState}
+use Rattle.worker_threads.specs.Rounds.{Lets, Runs}
+use Rattle.short_law.specs.Slots.{PassesReads, writes_since}
+use Rattle.slot_costs.specs.Costs.{own_calls, volume_calls}
+
+-- what all objects cost an actor, with a volume that may be made for each claim
+abbrev pub objects_calls : SeatKind → List Object → ℕ
+objects_calls kind rows = total (own_calls kind) rows + claims_in rows * volume_calls kind
+
+-- what it costs beyond the calls that 513 writes have left, seven each, that all kinds are listed again behind these and all keys are decided again
+unfoldable pub again_calls : SeatKind → List Object → ℕ
+again_calls kind rows = (objects_calls kind rows + length (kinds_of kind) * (2 + length (kinds_of kind))) - 7 * 513
+
+-- eight calls for each write, and what the objects cost with which it begins; of an actor that has nothing under way
+abbrev pub SlotsCostLess : Type 0
+SlotsCostLess =
+    (setup : Setup) (lets : Lets) (seat : ℕ) (old after : ActorState) (h past : List Entry) (b left : ℕ) (idle : Bool) → IsBuiltKind old.role.kind → IsRunOf setup past → PassesReads lets → old.under ≡ None → Runs lets seat after past left idle (woken old) h b
+    → b ≤ left + (8 * writes_since setup h past + (objects_calls old.role.kind (world setup h).store.rows + (again_calls old.role.kind (world setup h).store.rows * (writes_since setup h past / 513) + 62)))
