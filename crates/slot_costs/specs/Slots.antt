@@ -1,6 +1,6 @@
 -- How many calls a slot makes at most, by what each object costs an actor of this role and by the writes of the slot.
 -- A choice of this project.
-use Rattle.std.specs.Prelude.{ℕ, ◌≡◌, ◌≤◌, ◌+◌, ◌*◌, ◌-◌, ◌/◌, Bool, List, [], ◌∷◌, None, length, if◌then◌else◌}
+use Rattle.std.specs.Prelude.{ℕ, ◌≡◌, ◌≤◌, ◌+◌, ◌*◌, ◌-◌, ◌/◌, Bool, false, List, [], ◌∷◌, None, length, if◌then◌else◌}
 use Rattle.kube_types.specs.declared.objects.Object.{Object}
 use Rattle.kube_types.specs.declared.objects.Object.TheVariants.{Volume}
 use Rattle.kube_types.specs.Bindings.{is_ended}
@@ -40,13 +40,13 @@ ended_in [] = 0
 ended_in (Volume v ∷ os) = (if is_ended v.phase then 1 else 0) + ended_in os
 ended_in (o ∷ os) = ended_in os
 
--- what it costs beyond the calls that 513 writes have left that its four kinds are listed again, where so many claims stand and so many volumes have
--- ended
-unfoldable pub ops_again : ℕ → ℕ → ℕ
-ops_again claims ended = (2 * claims + 3 * ended + 24) - 7 * 513
+-- what it costs beyond the calls that 513 writes have left that its four kinds are listed again, where these objects stand
+unfoldable pub ops_sweep_calls : List Object → ℕ
+ops_sweep_calls rows = (2 * claims_in rows + 3 * ended_in rows + 24) - 7 * 513
 
 -- so a claim costs it two with which its slot begins, and a volume three that has ended then; another nothing, nor one that it makes
 abbrev pub OpsSlotsCostLess : Type 0
 OpsSlotsCostLess =
-    (setup : Setup) (lets : Lets) (seat : ℕ) (old after : ActorState) (h past : List Entry) (b left : ℕ) (idle : Bool) → old.role.kind ≡ seats.Ops → IsRunOf setup past → PassesReads lets → old.under ≡ None → Runs lets seat after past left idle (woken old) h b
-    → b ≤ left + (8 * writes_since setup h past + (2 * claims_in (world setup h).store.rows + 3 * ended_in (world setup h).store.rows + 62) + ops_again (claims_in (world setup h).store.rows) (ended_in (world setup h).store.rows) * (writes_since setup h past / 513))
+    (setup : Setup) (lets : Lets) (seat : ℕ) (old after : ActorState) (h past : List Entry) (b left : ℕ) (idle : Bool) → old.role.kind ≡ seats.Ops → IsRunOf setup past → PassesReads lets → (old.memory.stale ≡ false → old.under ≡ None)
+    → Runs lets seat after past left idle (woken old) h b
+    → b ≤ left + (8 * writes_since setup h past + (2 * claims_in (world setup h).store.rows + 3 * ended_in (world setup h).store.rows + 62) + ops_sweep_calls (world setup h).store.rows * (writes_since setup h past / 513))
