@@ -1,12 +1,10 @@
 -- A round makes few calls beside its writes: the sum of its slots, role by role.
-use Rattle.std.proofs.Common.{◌≡◌, ℕ, suc, ◌+◌, ◌*◌, ◌-◌, ◌≤◌, List, [], ◌∷◌, length, Bool, true, false, true≢false, None, refl, sym, ap, subst, arith, if◌then◌else◌}
+use Rattle.std.proofs.Common.{◌≡◌, ℕ, suc, ◌+◌, ◌*◌, ◌-◌, ◌≤◌, List, [], ◌∷◌, length, Bool, true, false, true≢false, None, refl, sym, ap, subst, arith}
 use Rattle.std.specs.Prelude.{◌/◌, map, ⊤}
 use Rattle.std.proofs.Math.Nat.{add-mul}
 use Rattle.std.proofs.lemmas.Nat.{mul-le}
 use Rattle.kube_types.specs.declared.objects.Object.{Object}
 use Rattle.kube_types.specs.declared.objects.Object.TheVariants.{Class, Node, Volume, Claim, Pod}
-use Rattle.kube_types.specs.declared.objects.Volume.{Volume as VolumeData}
-use Rattle.kube_types.specs.Bindings.{is_ended}
 use Rattle.call_types.specs.declared.entry.Entry.{Entry}
 use Rattle.call_types.specs.declared.request.SeatKind.{SeatKind}
 use Rattle.call_types.specs.declared.request.SeatKind.TheVariants as seats
@@ -26,10 +24,10 @@ use Rattle.worker_threads.proofs.RunFacts.{run_grows}
 use Rattle.event_law.specs.Ahead.{sum_over}
 use Rattle.event_law.proofs.Sums.{div_less, mul_less}
 use Rattle.short_law.specs.Slots.{PassesReads, writes_since}
-use Rattle.scheduler_writes.specs.Pods.{pods_writes}
 use Rattle.scheduler_writes.proofs.Pods.{schedulers_write_little}
 use Rattle.paid_law.proofs.Slots.{older_run}
 use Rattle.write_count.specs.Counts.{nodes_in}
+use Rattle.write_count.proofs.Rounds.{WritesLittleFrom}
 use Rattle.write_count.proofs.Runs.{silent_run}
 use Rattle.write_count.proofs.Slots.{counted, schedulers_select_few}
 use Rattle.ops_writes.specs.Ops.{ops_writes}
@@ -41,15 +39,15 @@ use Rattle.call_count.proofs.Growth.{AreGiven, given_first, pods_few}
 use Rattle.call_count.proofs.Made.{slot_given}
 use Rattle.call_count.proofs.Sums.{one_more, swept}
 use Rattle.begun_lasts.specs.Begun.{begins_to_last}
-use Rattle.slot_costs.specs.Costs.{own_calls, volume_calls}
+use Rattle.slot_costs.specs.Costs.{own_calls}
+use Rattle.slot_costs.specs.Slots.{ops_sweep_calls}
 use Rattle.slot_costs.proofs.Alone.{pass_calls, with_pass}
 use Rattle.slot_costs.proofs.Calls.{sweep_cost, sweep_is}
-use Rattle.slot_costs.proofs.RoundCosts.{kinds_cost, most}
+use Rattle.slot_costs.proofs.Ops.{ended_few, ops_slots_cost_less}
+use Rattle.slot_costs.proofs.RoundCosts.{kept_first, kinds_cost, most}
 use Rattle.slot_costs.proofs.Slots.{slots_cost_less}
 use Rattle.sure_slots.specs.Sure.{PassesAll}
 use Rattle.sure_slots.proofs.Slots.{sure_slots_cost_writes}
-use Rattle.ops_slots.specs.Ops.{ended_in, ops_sweep_calls}
-use Rattle.ops_slots.proofs.Slots.{ops_slots_cost_little}
 use Rattle.short_rounds.specs.ShortRounds.{RoundsCostLess, agent_sweep_calls, less_calls, ops_most, sweep_calls, swept_calls}
 use Rattle.short_rounds.proofs.Kept.{scheduler_keeps}
 
@@ -79,18 +77,6 @@ agent_sweeps first pods few =
     omega (arith, is, pass, kinds)
 
 -- volumes that have ended are volumes
-ended_few : (rows : List Object) → ended_in rows ≤ volumes_in rows
-ended_few [] = omega arith
-ended_few (Volume v ∷ os) = by (is_ended v.phase) (ended_few os)
-  where
-    by : (b : Bool) → ended_in os ≤ volumes_in os → (if b then 1 else 0) + ended_in os ≤ 1 + volumes_in os
-    by true rest = omega (arith, rest)
-    by false rest = omega (arith, rest)
-ended_few (Class x ∷ os) = ended_few os
-ended_few (Node x ∷ os) = ended_few os
-ended_few (Claim x ∷ os) = ended_few os
-ended_few (Pod x ∷ os) = ended_few os
-
 ops_sweeps : (rows : List Object) (claims volumes : ℕ) → claims_in rows ≤ claims → volumes_in rows ≤ volumes → ops_sweep_calls rows ≤ sweep_calls claims volumes
 unfolding ops_sweep_calls sweep_calls
 ops_sweeps rows claims volumes few fewer = let ended = ended_few rows in omega (arith, few, fewer, ended)
@@ -164,7 +150,7 @@ module _ (setup : Setup) (lets : Lets) (past : List Entry) (left : ℕ) (run : I
       by true e = let same = (silent_run setup lets d.seat ran.actor middle rest idle here (woken d.actor) h b runs e).1 in omega (arith, same)
       by false e =
           let rows = rows_stand_in_order setup h in
-          let less = slots_cost_less setup lets d.seat d.actor ran.actor h middle b rest idle (world setup h).store.rows (subst IsBuiltKind (sym kind) tt) here (λ g request own. passes g request) (rests e) rows (given_first (world setup h).store.rows) runs in
+          let less = slots_cost_less setup lets d.seat d.actor ran.actor h middle b rest idle (world setup h).store.rows (subst IsBuiltKind (sym kind) tt) here (λ g request own. passes g request) (rests e) rows (kept_first d.actor.role.kind (world setup h).store.rows) runs in
           let few = pods_at h given in
           let kinds = agent_kinds (world setup h).store.rows pods few in
           let of_kind : sum_over (most d.actor.role.kind (world setup h).store.rows) (kinds_of d.actor.role.kind) ≡ sum_over (most seats.Agent (world setup h).store.rows) (kinds_of seats.Agent) = ap (λ k. sum_over (most k (world setup h).store.rows) (kinds_of k)) kind in
@@ -229,7 +215,7 @@ module _ (setup : Setup) (lets : Lets) (past : List Entry) (left : ℕ) (run : I
       let here = middle_run ds middle rest after whole more in
       let later = plain_round ds middle rest after whole more so.1.1 built.1 (λ place x at. rests (suc place) x at) (slot_given setup lets d.seat d.actor ran.actor h middle b rest idle (world setup start).store.rows here built.0 (rests 0 d refl) runs given) in
       let n = split d ran ds h middle b rest idle after whole runs more in
-      let now = ops_slots_cost_little setup lets d.seat d.actor ran.actor h middle b rest idle so.1.0 here (λ g request own. passes g request) (rests 0 d refl) runs in
+      let now = ops_slots_cost_less setup lets d.seat d.actor ran.actor h middle b rest idle so.1.0 here (λ g request own. passes g request) (rests 0 d refl) runs in
       let falls = ops_writes_fall setup lets d.seat d.actor ran.actor h middle b rest idle so.1.0 here (rests 0 d refl) runs in
       let ended = ended_few (world setup h).store.rows in
       let less = mul-le (ops_sweep_calls (world setup h).store.rows) (writes_since setup h middle / 513) (sweep_calls claims volumes) (writes / 513) (ops_sweeps (world setup h).store.rows claims volumes few fewer)
@@ -241,7 +227,7 @@ module _ (setup : Setup) (lets : Lets) (past : List Entry) (left : ℕ) (run : I
 
   -- ---- the scheduler before it
 
-  whole_round : (ds : List Drainer) (h : List Entry) (b : ℕ) (after : List Drainer) (whole : Bool) → IsRound lets past left ds h b after whole → StandSo (roles_of ds) → AreBuilt (roles_of ds) → AreAtRest ds → given_at h → pods_writes (world setup h) ≤ 512
+  whole_round : (ds : List Drainer) (h : List Entry) (b : ℕ) (after : List Drainer) (whole : Bool) → IsRound lets past left ds h b after whole → StandSo (roles_of ds) → AreBuilt (roles_of ds) → AreAtRest ds → given_at h → WritesLittleFrom setup lets h
       → b ≤ left + (8 * writes_since setup h past + (2 * claims_in (world setup h).store.rows + 3 * volumes_in (world setup h).store.rows + idle_of pods (roles_of ds)) + sweep_calls (claims_in (world setup h).store.rows) (volumes_in (world setup h).store.rows) * (ops_most setup (world setup h) / 513)
           + agent_sweep_calls pods * (pods_in (world setup h).store.rows / 513))
   whole_round _ h b _ _ (Ends entries rest) so built rests given few = absurd so
@@ -249,7 +235,7 @@ module _ (setup : Setup) (lets : Lets) (past : List Entry) (left : ℕ) (run : I
       let here = middle_run ds middle rest after whole more in
       let kind = first_kind (roles_of ds) so in
       let kept = scheduler_keeps setup lets d.seat d.actor ran.actor h middle b rest idle kind here runs in
-      let writes = schedulers_write_little setup lets d.seat d.actor ran.actor h middle b rest idle kind here (rests 0 d refl) few runs in
+      let writes = few d.seat d.actor ran.actor middle b rest idle kind here (rests 0 d refl) runs in
       let nodes = schedulers_select_few setup lets d.seat d.actor ran.actor h middle b rest idle kind here runs in
       let bounded = ops_writes_are_bounded setup (world setup middle) in
       let claims = kept.claims in
@@ -292,11 +278,18 @@ idle_few pods nodes =
     let sum = add-mul 5 (length nodes) (3 * pods + 65) in
     omega (arith, agents, each, sum)
 
-pub rounds_cost_less : RoundsCostLess
-rounds_cost_less setup lets ds after h past b left whole roles rests run passes round few =
+-- however much the scheduler may write
+pub rounds_cost_as :
+    (setup : Setup) (lets : Lets) (ds after : List Drainer) (h past : List Entry) (b left : ℕ) (whole : Bool) → AreRoles (roles_of ds) → AreAtRest ds → IsRunOf setup past → PassesAll lets → IsRound lets past left ds h b after whole → WritesLittleFrom setup lets h
+    → b ≤ left + (less_calls (length ds) (claims_in (world setup h).store.rows) (volumes_in (world setup h).store.rows) (total pod_size (world setup h).store.rows) (writes_since setup h past) + swept_calls setup (world setup h))
+rounds_cost_as setup lets ds after h past b left whole roles rests run passes round few =
     let all = whole_round setup lets past left run passes h ds h b after whole round (stand_so (roles_of ds) roles) (roles_built (roles_of ds) roles) rests (given_first (world setup h).store.rows) few in
     let idle = idle_few (total pod_size (world setup h).store.rows) roles.nodes in
     let are = ap (idle_of (total pod_size (world setup h).store.rows)) roles.are in
     let many : length ds ≡ 5 + length roles.nodes = (let a = lengths ds in let c = ap (λ (rs : List Role). length rs) roles.are in let d = nodes_many roles.nodes in omega (arith, a, c, d)) in
     let actors = ap (λ n. n * (3 * total pod_size (world setup h).store.rows + 65)) many in
     omega (arith, all, idle, are, actors)
+
+pub rounds_cost_less : RoundsCostLess
+rounds_cost_less setup lets ds after h past b left whole roles rests run passes round few =
+    rounds_cost_as setup lets ds after h past b left whole roles rests run passes round (λ seat old ran middle c rest idle kind here still runs. schedulers_write_little setup lets seat old ran h middle c rest idle kind here still few runs)

@@ -13,16 +13,17 @@ use Rattle.model_laws.proofs.Histories.{rows_stand_in_order}
 use Rattle.settle_measure.specs.Measure.{claims_in, faults_left, pods_in, total, volumes_in}
 use Rattle.settle_measure.proofs.Bounds.{left_is_bounded}
 use Rattle.worker_threads.specs.declared.drainers.Drainer.{Drainer}
-use Rattle.worker_threads.specs.Drainers.{AreAtRest}
-use Rattle.worker_threads.specs.Rounds.{Drains, Goes, IsSpent, Lets, NothingDue}
+use Rattle.worker_threads.specs.Drainers.{AreAtRest, AreRoles, roles_of}
+use Rattle.worker_threads.specs.Rounds.{Drains, Goes, IsRound, IsSpent, Lets, NothingDue}
 use Rattle.worker_threads.proofs.DrainFacts.{drains_grow}
 use Rattle.worker_threads.proofs.RoundFacts.{round_part, round_seats, same_length}
 use Rattle.short_law.specs.Rounds.{names_in}
 use Rattle.short_law.specs.Slots.{writes_since}
+use Rattle.scheduler_writes.proofs.Pods.{schedulers_write_little}
 use Rattle.paid_law.proofs.Slots.{older_run}
 use Rattle.write_count.specs.Counts.{AnnotationsAreInOrder}
 use Rattle.write_count.proofs.Ordered.{nodes_are_few}
-use Rattle.write_count.proofs.Rounds.{rounds_write_little}
+use Rattle.write_count.proofs.Rounds.{WritesLittleFrom, rounds_write_as}
 use Rattle.call_count.specs.Rounds.{pod_size}
 use Rattle.settle_law.specs.Settling.{MayDrain}
 use Rattle.settle_law.proofs.Leaving.{rounds_leave_drainers}
@@ -30,8 +31,8 @@ use Rattle.all_pay.specs.All.{ImportsAllow}
 use Rattle.all_pay.proofs.Rounds.{payer_at}
 use Rattle.drain_budget.specs.Budget.{AreAlwaysInOrder}
 use Rattle.sure_slots.specs.Sure.{PassesAll}
-use Rattle.short_rounds.specs.ShortRounds.{DrainedRoundsAreShort, EachLaterRoundIsShort, EachRoundIsShort, LaterRoundsAreShort, RoundsAreShort, SmallWorldsHaveShortRounds, agent_sweep_calls, less_calls, ops_most, sweep_calls}
-use Rattle.short_rounds.proofs.Rounds.{rounds_cost_less}
+use Rattle.short_rounds.specs.ShortRounds.{DrainedRoundsAreShort, EachLaterRoundIsShort, EachRoundIsShort, LaterRoundsAreShort, RoundsAreShort, SmallWorldsHaveShortRounds, agent_sweep_calls, less_calls, ops_most, stated_calls, sweep_calls}
+use Rattle.short_rounds.proofs.Rounds.{rounds_cost_as}
 use Rattle.drain_budget.proofs.Drains.{writes_few}
 
 -- ---- numbers
@@ -62,56 +63,78 @@ agent_sweep_is : (pods : ℕ) → agent_sweep_calls pods ≡ (3 * pods + 3) - 7 
 unfolding agent_sweep_calls
 agent_sweep_is pods = refl
 
--- ops is swept 33 times at most, and as often as there are 513 faults; agents 15 times
-ops_swept : (size claims volumes faults times : ℕ) → claims + volumes ≤ size → size ≤ 8192 → times ≤ 2 * claims + volumes + 512 + faults
-    → sweep_calls claims volumes * (times / 513) ≤ ((2 * claims + 3 * volumes + 24) - 7 * 513) * 33 + 41 * faults
-ops_swept size claims volumes faults times counted small few =
+-- claims, volumes and pods are objects
+objects : (rows : List Object) → claims_in rows + volumes_in rows + pods_in rows ≤ length rows
+objects [] = omega arith
+objects (Class x ∷ os) = let rest = objects os in omega (arith, rest)
+objects (Node x ∷ os) = let rest = objects os in omega (arith, rest)
+objects (Volume x ∷ os) = let rest = objects os in omega (arith, rest)
+objects (Claim x ∷ os) = let rest = objects os in omega (arith, rest)
+objects (Pod x ∷ os) = let rest = objects os in omega (arith, rest)
+
+-- each object is counted
+all_counted : (rows : List Object) → length rows ≤ total (λ o. 1 + names_in o) rows
+all_counted [] = omega arith
+all_counted (o ∷ os) = let rest = all_counted os in omega (arith, rest)
+
+-- ops is swept 32 times at most, and once more for each 513 names and faults; an agent 15 times
+ops_swept : (claims volumes pod_count more times : ℕ) → claims + volumes + pod_count ≤ 8192 → times ≤ 2 * claims + volumes + pod_count + more → sweep_calls claims volumes * (times / 513) ≤ ((2 * claims + 3 * volumes + 24) - 7 * 513) * 32 + 41 * more
+ops_swept claims volumes pod_count more times counted few =
     let is = sweep_is claims volumes in
     let whole = div-add-mod' times 513 in
-    let by_faults = div-add-mod' faults 513 in
-    let low = mul-le (sweep_calls claims volumes) (times / 513) (sweep_calls claims volumes) (33 + faults / 513) (omega arith) (omega (arith, whole, by_faults, few, counted, small)) in
-    let split : sweep_calls claims volumes * (33 + faults / 513) ≡ sweep_calls claims volumes * 33 + sweep_calls claims volumes * (faults / 513) = mul-add (sweep_calls claims volumes) 33 (faults / 513) in
-    let each = mul-le (sweep_calls claims volumes) (faults / 513) 21009 (faults / 513) (omega (arith, is, counted, small)) (omega arith) in
-    omega (arith, is, low, split, each, by_faults)
+    let beyond = div-add-mod' more 513 in
+    let low = mul-le (sweep_calls claims volumes) (times / 513) (sweep_calls claims volumes) (32 + more / 513) (omega arith) (omega (arith, whole, beyond, few, counted)) in
+    let split : sweep_calls claims volumes * (32 + more / 513) ≡ sweep_calls claims volumes * 32 + sweep_calls claims volumes * (more / 513) = mul-add (sweep_calls claims volumes) 32 (more / 513) in
+    let each = mul-le (sweep_calls claims volumes) (more / 513) 21009 (more / 513) (omega (arith, is, counted)) (omega arith) in
+    omega (arith, is, low, split, each, beyond)
 
-agents_swept : (size pods pod_count : ℕ) → pods ≤ size → pod_count ≤ pods → size ≤ 8192 → agent_sweep_calls pods * (pod_count / 513) ≤ ((3 * pods + 3) - 7 * 513) * 15
-agents_swept size pods pod_count counted fewer small =
+agents_swept : (pods pod_count : ℕ) → pod_count ≤ 8192 → agent_sweep_calls pods * (pod_count / 513) ≤ ((3 * pods + 3) - 7 * 513) * 15
+agents_swept pods pod_count few =
     let is = agent_sweep_is pods in
     let whole = div-add-mod' pod_count 513 in
-    let low = mul-le (agent_sweep_calls pods) (pod_count / 513) (agent_sweep_calls pods) 15 (omega arith) (omega (arith, whole, counted, fewer, small)) in
+    let low = mul-le (agent_sweep_calls pods) (pod_count / 513) (agent_sweep_calls pods) 15 (omega arith) (omega (arith, whole, few)) in
     omega (arith, is, low)
 
--- eight calls for each write, what ops and the agents decide, and what is listed again after 513 writes
-stated : (size claims volumes pods pod_count faults writes times actors : ℕ) → claims + volumes + pods ≤ size → pod_count ≤ pods → size ≤ 8192 → actors ≤ 13 → writes ≤ 19 * claims + 10 * volumes + 4 * pod_count + 2 * pods + faults → times ≤ 2 * claims + volumes + 512 + faults
+-- eight calls for each write, what ops and the agents decide, and what is listed again after 513 writes. Only objects stand in products with objects
+stated : (size claims volumes pods pod_count faults writes times actors : ℕ) → claims + volumes + pods ≤ size → claims + volumes + pod_count ≤ 8192 → pod_count ≤ pods → actors ≤ 13 → writes ≤ 19 * claims + 10 * volumes + 4 * pod_count + 2 * pods + faults → times ≤ 2 * claims + volumes + pods + faults
     → less_calls actors claims volumes pods writes + (sweep_calls claims volumes * (times / 513) + agent_sweep_calls pods * (pod_count / 513)) ≤ 256 * (size + faults + 16)
-stated size claims volumes pods pod_count faults writes times actors counted pods_less small few written taken =
+stated size claims volumes pods pod_count faults writes times actors counted small pods_less few written taken =
     let each = mul-le actors (3 * pods + 65) 13 (3 * pods + 65) few (omega arith) in
-    let ops = ops_swept size claims volumes faults times (omega (arith, counted)) small taken in
-    let agents = agents_swept size pods pod_count (omega (arith, counted)) pods_less small in
-    omega (arith, each, ops, agents, counted, pods_less, small, written)
+    let ops = ops_swept claims volumes pod_count ((pods - pod_count) + faults) times small (omega (arith, taken, pods_less)) in
+    let agents = agents_swept pods pod_count (omega (arith, small)) in
+    omega (arith, each, ops, agents, counted, small, pods_less, written)
 
 -- what a scheduler may write is among what is counted
 pub small_worlds_have_short_rounds : SmallWorldsHaveShortRounds
 small_worlds_have_short_rounds w small =
     let counts = sizes w.store.rows in
+    let all = all_counted w.store.rows in
     let scheduled = writes_few w.store.rows in
-    record { size = omega (arith, small); scheduled = omega (arith, counts, scheduled, small) }
+    record { objects = omega (arith, all, small); scheduled = omega (arith, counts, scheduled, small) }
 
 -- ---- rounds
 
-pub rounds_are_short : RoundsAreShort
-rounds_are_short setup lets ds after h past b left whole allow roles rests run passes round few order short =
+-- however much the scheduler may write
+pub rounds_short_as :
+    (setup : Setup) (lets : Lets) (ds after : List Drainer) (h past : List Entry) (b left : ℕ) (whole : Bool) → ImportsAllow setup → AreRoles (roles_of ds) → AreAtRest ds → IsRunOf setup past → PassesAll lets → IsRound lets past left ds h b after whole
+    → length ds ≤ 13 → AnnotationsAreInOrder (world setup h) → length (world setup h).store.rows ≤ 8192 → WritesLittleFrom setup lets h → b ≤ left + stated_calls setup (world setup h)
+rounds_short_as setup lets ds after h past b left whole allow roles rests run passes round few order small writes =
     let counts = sizes (world setup h).store.rows in
+    let stand = objects (world setup h).store.rows in
     let pods = pods_few (world setup h).store.rows in
     let scheduled = writes_few (world setup h).store.rows in
-    let may = short.scheduled in
-    let calls = rounds_cost_less setup lets ds after h past b left whole roles rests run passes round may in
-    let paid = rounds_write_little setup lets ds after h past b left whole roles run round (payer_at setup allow ds roles rests) may in
+    let calls = rounds_cost_as setup lets ds after h past b left whole roles rests run passes round writes in
+    let paid = rounds_write_as setup lets ds after h past b left whole roles run round (payer_at setup allow ds roles rests) writes in
     let most = left_is_bounded (world setup h).store.rows (world setup h).devices in
     let nodes = nodes_are_few (world setup h) (rows_stand_in_order setup h) order in
     let number = stated (total (λ o. 1 + names_in o) (world setup h).store.rows) (claims_in (world setup h).store.rows) (volumes_in (world setup h).store.rows) (total pod_size (world setup h).store.rows) (pods_in (world setup h).store.rows) (faults_left setup (world setup h).devices) (writes_since setup h past)
-        (ops_most setup (world setup h)) (length ds) counts pods short.size few (omega (arith, paid, most, nodes, scheduled)) (omega (arith, nodes, may)) in
+        (ops_most setup (world setup h)) (length ds) counts (omega (arith, stand, small)) pods few (omega (arith, paid, most, nodes, scheduled)) (omega (arith, nodes, scheduled)) in
     omega (arith, calls, number)
+
+pub rounds_are_short : RoundsAreShort
+rounds_are_short setup lets ds after h past b left whole allow roles rests run passes round few order short =
+    rounds_short_as setup lets ds after h past b left whole allow roles rests run passes round few order short.objects
+    (λ seat old ran middle c rest idle kind here still runs. schedulers_write_little setup lets seat old ran h middle c rest idle kind here still short.scheduled runs)
 
 -- ---- drains
 

@@ -59,10 +59,10 @@ RoundsCostLess =
 abbrev pub stated_calls : Setup → World → ℕ
 stated_calls setup w = 256 * (size_of_world w + faults_left setup w.devices + 16)
 
--- a world whose rounds are short: it has at most 8,192 objects and claims that pods name, and a scheduler writes at most 512 times, once for each pod
--- that no node runs and for each claim that such a pod names
+-- a world whose rounds are short, however many claims the pods name and faults are planned: it has at most 8,192 objects, and a scheduler writes at
+-- most 512 times, once for each pod that no node runs and for each claim that such a pod names
 pub record HasShortRounds (w : World) : Type 0 where
-  pub size : size_of_world w ≤ 8192
+  pub objects : length w.store.rows ≤ 8192
   pub scheduled : pods_writes w ≤ 512
 
 -- such is each with at most 512 objects and claims that pods name
