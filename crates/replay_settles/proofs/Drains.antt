@@ -69,8 +69,8 @@ module _ (script : Script) (first : ℕ) (option : Option ℕ) (before after : P
 
   drain_is_short : DrainIsShort script first option before after d
   drain_is_short = record {
-    rested = λ rests. drained_rounds_are_short script.setup all_pass d.drainers d.ran before.past d.past (d.budget - before.drained) (d.budget - (before.drained + d.made)) allow may_begin rests run_there (λ h request own. refl) order_there few d.rounds;
-    later = later_rounds_are_short script.setup all_pass d.drainers d.ran before.past d.past (d.budget - before.drained) (d.budget - (before.drained + d.made)) allow may_begin run_there (λ h request own. refl) order_there few d.rounds;
+    rested = λ rests. drained_rounds_are_short script.setup all_pass d.drainers d.ran before.past d.past (d.budget - before.drained) (d.budget - (before.drained + d.made)) allow may_begin rests run_there (λ h request. refl) order_there few d.rounds;
+    later = later_rounds_are_short script.setup all_pass d.drainers d.ran before.past d.past (d.budget - before.drained) (d.budget - (before.drained + d.made)) allow may_begin run_there (λ h request. refl) order_there few d.rounds;
   }
 
 -- ---- the lines

@@ -1,6 +1,6 @@
 -- Budgets, classes, shared claims, nodes of scripts and numbers of volumes, computed.
 use Rattle.std.specs.Prelude.{slice_get}
-use Rattle.std.proofs.Common.{ℕ, zero, suc, ◌+◌, ◌≡◌, ◌≢◌, ◌∙◌, Bool, true, false, true≢false, not, List, [], ◌∷◌, Option, Some, None, arith, inl, inr, bytes_eq, codes, refl, sym, ap, subst}
+use Rattle.std.proofs.Common.{ℕ, zero, suc, ◌+◌, ◌≡◌, ◌≢◌, ◌∙◌, Bool, true, false, true≢false, not, List, [], ◌∷◌, Option, Some, None, arith, inl, inr, bytes_eq, codes, length, refl, sym, ap, subst}
 use Rattle.kube_types.specs.declared.key.Key.{Key}
 use Rattle.kube_types.specs.declared.parts.VolumePhase.TheVariants as volumes
 use Rattle.kube_types.specs.declared.objects.Claim.{Claim as ClaimData}
@@ -28,7 +28,6 @@ use Rattle.settle_law.proofs.Rounds.{is_agent}
 use Rattle.script_runs.specs.Parts.{drain_roles}
 use Rattle.kube_types.specs.VolumePlaces.{count_before, has_size, those_in}
 use Rattle.scheduler_writes.specs.Pods.{pod_writes}
-use Rattle.short_law.specs.Rounds.{names_in}
 use Rattle.drain_budget.specs.Measured.{SharesWell, WaitingPodNames, is_immediate}
 use Rattle.settling_examples.specs.Ending.{AgentExamples, AllowanceExamples, BudgetExamples, CallExamples, ClassExamples, LineExamples, NamingExamples, NumberExamples, SharingExamples, SizeExamples, bare_pod, class_of, copies, faults_upto, one_node, pod_on, script_naming, setup_with, shared_rows, takes, three_volumes, world_with}
 
@@ -197,23 +196,29 @@ unfolding copies
 no_copies f o own zero = refl
 no_copies f o own (suc n) = let rest = no_copies f o own n in omega (arith, own, rest)
 
-abbrev counted : Object → ℕ
-counted o = 1 + names_in o
+many : (o : Object) (n : ℕ) → length (copies n o) ≡ n
+unfolding copies
+many o zero = refl
+many o (suc n) = ap suc (many o n)
 
 pub size_examples : SizeExamples
 size_examples = record {
   largest = record {
-    size = let all = all_copies counted (Claim open_claim) refl 1222 in omega (arith, all);
-    scheduled = let none = no_copies pod_writes (Claim open_claim) refl 1222 in omega (arith, none);
+    objects = let all = many (Claim open_claim) 8192 in omega (arith, all);
+    scheduled = let none = no_copies pod_writes (Claim open_claim) refl 8192 in omega (arith, none);
   };
-  too_large = λ h. let few = h.size in let all = all_copies counted (Claim open_claim) refl 1223 in absurd (omega (arith, few, all));
+  too_large = λ h. let few = h.objects in let all = many (Claim open_claim) 8193 in absurd (omega (arith, few, all));
+  naming = record {
+    objects = let all = many (Pod (pod_on (codes "p") (codes "n"))) 8192 in omega (arith, all);
+    scheduled = let none = no_copies pod_writes (Pod (pod_on (codes "p") (codes "n"))) refl 8192 in omega (arith, none);
+  };
   waiting = record {
-    size = let all = all_copies counted (Pod (bare_pod [])) refl 512 in omega (arith, all);
+    objects = let all = many (Pod (bare_pod [])) 512 in omega (arith, all);
     scheduled = let all = all_copies pod_writes (Pod (bare_pod [])) refl 512 in omega (arith, all);
   };
   too_many = λ h. let few = h.scheduled in let all = all_copies pod_writes (Pod (bare_pod [])) refl 513 in absurd (omega (arith, few, all));
   placed = record {
-    size = let all = all_copies counted (Pod (bare_pod (codes "n"))) refl 513 in omega (arith, all);
+    objects = let all = many (Pod (bare_pod (codes "n"))) 513 in omega (arith, all);
     scheduled = let none = no_copies pod_writes (Pod (bare_pod (codes "n"))) refl 513 in omega (arith, none);
   };
 }

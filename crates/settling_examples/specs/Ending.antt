@@ -81,9 +81,11 @@ abbrev pub bare_pod : List ℕ → PodData
 bare_pod node = record { meta = meta (codes "ns") (codes "p") 5 []; claims = []; node = node; extra = [] }
 
 pub record SizeExamples : Type 0 where
-  -- 1,222 claims are such a world, and one claim more is none
-  pub largest : HasShortRounds (world_with (copies 1222 (Claim open_claim)))
-  pub too_large : HasShortRounds (world_with (copies 1223 (Claim open_claim))) → ⊥
+  -- 8,192 claims are such a world, and one claim more is none
+  pub largest : HasShortRounds (world_with (copies 8192 (Claim open_claim)))
+  pub too_large : HasShortRounds (world_with (copies 8193 (Claim open_claim))) → ⊥
+  -- the claims that pods name do not count in it
+  pub naming : HasShortRounds (world_with (copies 8192 (Pod (pod_on (codes "p") (codes "n")))))
   -- so are 512 pods that no node runs, but not one more; and more pods that a node runs
   pub waiting : HasShortRounds (world_with (copies 512 (Pod (bare_pod []))))
   pub too_many : HasShortRounds (world_with (copies 513 (Pod (bare_pod [])))) → ⊥

@@ -1,5 +1,5 @@
 -- A round makes few calls beside its writes: the sum of its slots, role by role.
-use Rattle.std.proofs.Common.{◌≡◌, ℕ, suc, ◌+◌, ◌*◌, ◌-◌, ◌≤◌, List, [], ◌∷◌, length, Bool, true, false, true≢false, None, refl, sym, ap, subst, arith}
+use Rattle.std.proofs.Common.{◌≡◌, ℕ, suc, ◌+◌, ◌*◌, ◌≤◌, List, [], ◌∷◌, length, Bool, true, false, true≢false, None, refl, sym, ap, subst, arith}
 use Rattle.std.specs.Prelude.{◌/◌, map, ⊤}
 use Rattle.std.proofs.Math.Nat.{add-mul}
 use Rattle.std.proofs.lemmas.Nat.{mul-le}
@@ -12,21 +12,20 @@ use Rattle.call_types.specs.declared.setup.Setup.{Setup}
 use Rattle.binder_model.specs.Promises.{IsRunOf}
 use Rattle.binder_model.specs.World.{world}
 use Rattle.model_laws.proofs.Histories.{rows_stand_in_order}
-use Rattle.settle_measure.specs.Measure.{claims_in, faults_left, pods_in, total, volumes_in}
+use Rattle.settle_measure.specs.Measure.{claims_in, pods_in, total, volumes_in}
 use Rattle.worker_core.specs.declared.role.Role.{Role}
 use Rattle.worker_core.specs.Absorbs.{woken}
 use Rattle.worker_core.specs.Roles.{IsBuiltKind, kinds_of}
 use Rattle.worker_threads.specs.declared.drainers.Drainer.{Drainer}
-use Rattle.worker_threads.specs.Drainers.{AreAtRest, AreRoles, agent_of, of_kind, roles_for, roles_of}
+use Rattle.worker_threads.specs.Drainers.{AreAtRest, AreRoles, agent_of, roles_for, roles_of}
 use Rattle.worker_threads.specs.Rounds.{Ends, IsRound, Lets, Runs, Turns}
 use Rattle.worker_threads.proofs.RoundFacts.{AreBuilt, roles_built, round_grows}
 use Rattle.worker_threads.proofs.RunFacts.{run_grows}
 use Rattle.event_law.specs.Ahead.{sum_over}
 use Rattle.event_law.proofs.Sums.{div_less, mul_less}
-use Rattle.short_law.specs.Slots.{PassesReads, writes_since}
+use Rattle.short_law.specs.Slots.{writes_since}
 use Rattle.scheduler_writes.proofs.Pods.{schedulers_write_little}
 use Rattle.paid_law.proofs.Slots.{older_run}
-use Rattle.write_count.specs.Counts.{nodes_in}
 use Rattle.write_count.proofs.Rounds.{WritesLittleFrom}
 use Rattle.write_count.proofs.Runs.{silent_run}
 use Rattle.write_count.proofs.Slots.{counted, schedulers_select_few}
@@ -41,7 +40,7 @@ use Rattle.call_count.proofs.Sums.{one_more, swept}
 use Rattle.begun_lasts.specs.Begun.{begins_to_last}
 use Rattle.slot_costs.specs.Costs.{own_calls}
 use Rattle.slot_costs.specs.Slots.{ops_sweep_calls}
-use Rattle.slot_costs.proofs.Alone.{pass_calls, with_pass}
+use Rattle.slot_costs.proofs.Alone.{with_pass}
 use Rattle.slot_costs.proofs.Calls.{sweep_cost, sweep_is}
 use Rattle.slot_costs.proofs.Ops.{ended_few, ops_slots_cost_less}
 use Rattle.slot_costs.proofs.RoundCosts.{kept_first, kinds_cost, most}
@@ -219,7 +218,7 @@ module _ (setup : Setup) (lets : Lets) (past : List Entry) (left : ℕ) (run : I
       let falls = ops_writes_fall setup lets d.seat d.actor ran.actor h middle b rest idle so.1.0 here (rests 0 d refl) runs in
       let ended = ended_few (world setup h).store.rows in
       let less = mul-le (ops_sweep_calls (world setup h).store.rows) (writes_since setup h middle / 513) (sweep_calls claims volumes) (writes / 513) (ops_sweeps (world setup h).store.rows claims volumes few fewer)
-          (div_less (writes_since setup h middle) writes (omega (arith, falls, fewest))) in
+      (div_less (writes_since setup h middle) writes (omega (arith, falls, fewest))) in
       let pods_stay = slots_add_no_pod setup lets d.seat d.actor ran.actor h middle b rest idle built.0 here runs in
       let sweeps = mul_less (agent_sweep_calls pods) (pods_in (world setup middle).store.rows / 513) (pods_in (world setup h).store.rows / 513) (div_less (pods_in (world setup middle).store.rows) (pods_in (world setup h).store.rows) pods_stay) in
       let own = ap (role_calls pods) so.1.0 in
@@ -229,7 +228,7 @@ module _ (setup : Setup) (lets : Lets) (past : List Entry) (left : ℕ) (run : I
 
   whole_round : (ds : List Drainer) (h : List Entry) (b : ℕ) (after : List Drainer) (whole : Bool) → IsRound lets past left ds h b after whole → StandSo (roles_of ds) → AreBuilt (roles_of ds) → AreAtRest ds → given_at h → WritesLittleFrom setup lets h
       → b ≤ left + (8 * writes_since setup h past + (2 * claims_in (world setup h).store.rows + 3 * volumes_in (world setup h).store.rows + idle_of pods (roles_of ds)) + sweep_calls (claims_in (world setup h).store.rows) (volumes_in (world setup h).store.rows) * (ops_most setup (world setup h) / 513)
-          + agent_sweep_calls pods * (pods_in (world setup h).store.rows / 513))
+      + agent_sweep_calls pods * (pods_in (world setup h).store.rows / 513))
   whole_round _ h b _ _ (Ends entries rest) so built rests given few = absurd so
   whole_round _ h b _ _ (Turns {ds = ds} {after = after} {whole = whole} d ran middle rest idle seat runs more) so built rests given few =
       let here = middle_run ds middle rest after whole more in
@@ -242,7 +241,7 @@ module _ (setup : Setup) (lets : Lets) (past : List Entry) (left : ℕ) (run : I
       let volumes = kept.volumes in
       let faults = kept.faults in
       let later = ops_round (claims_in (world setup h).store.rows) (volumes_in (world setup h).store.rows) (ops_most setup (world setup h)) d.actor.role ds middle rest after whole more so built.1 (λ place x at. rests (suc place) x at)
-          (slot_given setup lets d.seat d.actor ran.actor h middle b rest idle (world setup start).store.rows here built.0 (rests 0 d refl) runs given) claims volumes (omega (arith, bounded, claims, volumes, faults, nodes, writes)) in
+      (slot_given setup lets d.seat d.actor ran.actor h middle b rest idle (world setup start).store.rows here built.0 (rests 0 d refl) runs given) claims volumes (omega (arith, bounded, claims, volumes, faults, nodes, writes)) in
       let n = split d ran ds h middle b rest idle after whole runs more in
       let now = sure_slot d ran h middle b rest idle here (ap begins_to_last kind) (rests 0 d refl) runs in
       let pods_stay = slots_add_no_pod setup lets d.seat d.actor ran.actor h middle b rest idle built.0 here runs in

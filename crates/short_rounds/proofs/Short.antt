@@ -1,5 +1,5 @@
 -- Rounds are short: the stated number, by the sizes of the world with which a round begins.
-use Rattle.std.proofs.Common.{◌≡◌, ℕ, ◌+◌, ◌*◌, ◌-◌, ◌≤◌, ◌<◌, List, [], ◌∷◌, length, Bool, true, false, refl, subst, arith}
+use Rattle.std.proofs.Common.{◌≡◌, ℕ, ◌+◌, ◌*◌, ◌-◌, ◌≤◌, List, [], ◌∷◌, length, Bool, true, false, refl, subst, arith}
 use Rattle.std.specs.Prelude.{◌/◌}
 use Rattle.std.proofs.Math.Nat.{mul-add}
 use Rattle.std.proofs.lemmas.Nat.{div-add-mod', mul-le}
@@ -128,7 +128,7 @@ rounds_short_as setup lets ds after h past b left whole allow roles rests run pa
     let most = left_is_bounded (world setup h).store.rows (world setup h).devices in
     let nodes = nodes_are_few (world setup h) (rows_stand_in_order setup h) order in
     let number = stated (total (λ o. 1 + names_in o) (world setup h).store.rows) (claims_in (world setup h).store.rows) (volumes_in (world setup h).store.rows) (total pod_size (world setup h).store.rows) (pods_in (world setup h).store.rows) (faults_left setup (world setup h).devices) (writes_since setup h past)
-        (ops_most setup (world setup h)) (length ds) counts (omega (arith, stand, small)) pods few (omega (arith, paid, most, nodes, scheduled)) (omega (arith, nodes, scheduled)) in
+    (ops_most setup (world setup h)) (length ds) counts (omega (arith, stand, small)) pods few (omega (arith, paid, most, nodes, scheduled)) (omega (arith, nodes, scheduled)) in
     omega (arith, calls, number)
 
 pub rounds_are_short : RoundsAreShort
