@@ -1,9 +1,9 @@
 //! Programs to be timed, for the scripts of `bench/`. The first word says what is done, and numbers behind it how often:
 //!
-//! `store OBJECTS UPDATES`, `world CALLS`, `large PAIRS CALLS`, where a drain makes at most so many calls, `threads THREADS CALLS`,
-//! `licence ENTRIES TIMES SEAT`, and `audit TASK TIMES` with a history on standard input, which it reads again, prints or audits
-//! for the tasks `read`, `print` and `audit`. With no seat or task it does each of them, and `all` does everything, with small
-//! numbers.
+//! `store OBJECTS UPDATES`, `world CALLS`, `large PAIRS CALLS`, where a drain makes at most so many calls, `threads
+//! THREADS CALLS`, `licence ENTRIES TIMES SEAT`, and `audit TASK TIMES` with a history on standard input, which it
+//! reads again, prints or audits for the tasks `read`, `print` and `audit`. With no seat or task it does each of them,
+//! and `all` does everything, with small numbers.
 #![tactic(auto)]
 
 mod audit;

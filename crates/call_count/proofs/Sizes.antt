@@ -26,17 +26,17 @@ sized (Pod p ∷ os) = by (is_scheduled p) (sized os)
     by true rest = omega (arith, rest)
     by false rest = omega (arith, rest)
 
+pub writes_most : (w : World) → left_of w + 2 * pods_writes w ≤ 18 * total (λ o. 1 + names_in o) w.store.rows
+writes_most w =
+    let most = left_is_bounded w.store.rows w.devices in
+    let small = sized w.store.rows in
+    omega (arith, most, small)
+
 pub writes_are_few : WritesAreFew
 writes_are_few setup lets ds after h past b left whole roles payers run round few =
     let paid = rounds_write_little setup lets ds after h past b left whole roles run round payers few in
-    let most = within (world setup h) in
+    let most = writes_most (world setup h) in
     omega (arith, paid, most)
-  where
-    within : (w : World) → left_of w + 2 * pods_writes w ≤ 18 * total (λ o. 1 + names_in o) w.store.rows
-    within w =
-        let most = left_is_bounded w.store.rows w.devices in
-        let small = sized w.store.rows in
-        omega (arith, most, small)
 
 -- each claim is an object
 claims_few : (rows : List Object) → claims_in rows ≤ total (λ o. 1 + names_in o) rows

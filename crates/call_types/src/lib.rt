@@ -2,7 +2,8 @@
 //! with which a world begins.
 //!
 //! Promises: a copy equals its source and `same` is equality, of each (`Plain`). Seats and changes have their printed
-//! words (`words`). Not said: which reply a request gets. That is `binder_model`'s to define and the store's and the devices' to give.
+//! words (`words`). Not said: which reply a request gets. That is `binder_model`'s to define and the store's and the
+//! devices' to give.
 #![tactic(auto)]
 
 pub mod ask;

@@ -7,6 +7,7 @@ ghost use Rattle.kube_types.specs.declared.objects.Volume.{Volume};
 ghost use Rattle.kube_types.specs.declared.objects.Object.{Object};
 ghost use Rattle.kube_types.specs.Keys.{AreRows};
 ghost use Rattle.kube_types.specs.VolumeOrders.{AreInOrder, by_owner, by_size};
+ghost use Rattle.kube_types.specs.Steps.IndexEdits.{HaveOwnNames};
 ghost use Rattle.kube_types.specs.VolumeIndex.{as_volume, AreApart, IsNew, StandsFor, others, same_name, volumes_in};
 
 use crate::copies::{OutOfMemory, Plain};
@@ -16,6 +17,7 @@ use crate::volume_lists::{
     leave_all, leave_free, leave_owned, put_all, put_free, put_owned, take_by_size, take_free,
     take_owned,
 };
+use crate::volume_order::compare_by_size;
 use std::alloc::Global;
 use std::marker::Model;
 
@@ -55,6 +57,20 @@ fn volume_of(object: &Object) -> Option<&Shared<Volume>>
         Object::Volume(volume) => Some(volume),
         _ => None,
     }
+}
+
+/// The volumes among objects, which they share.
+fn volumes_of(alloc: Global, objects: &[Object]) -> Result<Vec<Shared<Volume>>, OutOfMemory>
+    ensures { IfOk result (λ volumes. volumes.items ≡ volumes_in objects.now) }
+{
+    let mut volumes = Vec::new(alloc);
+    for object in objects {
+        if let Some(volume) = volume_of(object) {
+            let own = volume.copy(alloc)?;
+            volumes.push(own)?;
+        }
+    }
+    Ok(volumes)
 }
 
 impl VolumeIndex {
@@ -98,23 +114,24 @@ impl VolumeIndex {
         requires { AreRows rows.now }
         ensures { IfOk result (λ index. StandsFor index (volumes_in rows.now)) }
     {
-        let mut index = VolumeIndex::new(alloc);
-        let mut left = rows.len();
-        while left > 0 {
-            left -= 1;
-            index.add(alloc, &rows[left])?;
-        }
-        Ok(index)
+        let mut volumes = volumes_of(alloc, rows)?;
+        volumes.sort_unstable_by(|left, right| compare_by_size(right, left));
+        VolumeIndex::of_volumes(alloc, &volumes)
     }
 
-    /// Puts in the object that stands before these rows, if it is a volume.
-    fn add(&mut self, alloc: Global, object: &Object) -> Result<(), OutOfMemory>
-        ensures { OnOk result ((rows : List Object) → AreRows (object.now ∷ rows) → StandsFor self.old (volumes_in rows) → StandsFor self.new (volumes_in (object.now ∷ rows))) }
+    /// An index of these volumes, each of a name of its own. It is quickest where the greatest comes first, since each then
+    /// goes to the end of its lists.
+    fn of_volumes(alloc: Global, volumes: &[Shared<Volume>]) -> Result<VolumeIndex, OutOfMemory>
+        requires { HaveOwnNames volumes.now }
+        ensures { IfOk result (λ index. StandsFor index volumes.now) }
     {
-        match volume_of(object) {
-            None => Ok(()),
-            Some(volume) => self.insert(alloc, volume),
+        let mut index = VolumeIndex::new(alloc);
+        let mut left = volumes.len();
+        while left > 0 {
+            left -= 1;
+            index.insert(alloc, &volumes[left])?;
         }
+        Ok(index)
     }
 
     /// Puts in a volume whose name no volume of the index has.

@@ -131,17 +131,26 @@ fn or_names(order: Ordering, left: &Volume, right: &Volume) -> Ordering
     }
 }
 
+/// The size of a volume.
+fn size_in<'a>(volume: &'a Volume) -> SizeFrom<'a>
+    ensures class { result.class.now ≡ (size_of volume.now).class }
+    ensures block { result.block ≡ (size_of volume.now).block }
+    ensures modes { result.modes ≡ (size_of volume.now).modes }
+    ensures bytes { result.bytes ≡ (size_of volume.now).bytes }
+{
+    SizeFrom {
+        class: class_of_volume(volume),
+        block: volume.block,
+        modes: mode_count(volume.modes),
+        bytes: volume.amount.bytes,
+    }
+}
+
 /// The order by size, then name.
 pub(crate) fn compare_by_size(left: &Volume, right: &Volume) -> Ordering
     ensures { result ≡ by_size left.now right.now }
 {
-    let size = SizeFrom {
-        class: class_of_volume(right),
-        block: right.block,
-        modes: mode_count(right.modes),
-        bytes: right.amount.bytes,
-    };
-    or_names(compare_size(left, &size), left, right)
+    or_names(compare_size(left, &size_in(right)), left, right)
 }
 
 /// The order of volumes that a claim prefers alike otherwise: by number of modes, then bytes, then name.
@@ -187,19 +196,21 @@ pub(crate) fn compare_by_owner(left: &Volume, right: &Volume) -> Ordering
     }
 }
 
-/// A volume among those in the order of sizes.
+/// A volume among those in the order of sizes, with its size, which is found once for a search.
 #[derive(Clone, Copy)]
 struct BySize<'a> {
+    size: SizeFrom<'a>,
     volume: &'a Shared<Volume>,
 }
 
 impl<'a> Ranked<BySize<'a>> for Shared<Volume> {
-    ghost use Rattle.kube_types.specs.VolumeOrders.{by_size};
+    ghost use Rattle.std.specs.Ordering.{ordering_then};
+    ghost use Rattle.kube_types.specs.VolumeOrders.{name_cmp, size_cmp, size_of};
 
-    ghost rank = { λ v k. by_size v k.volume.now };
+    ghost rank = { λ v k. ordering_then (size_cmp (size_of v) (record { class = k.size.class.now; block = k.size.block; modes = k.size.modes; bytes = k.size.bytes })) (name_cmp v k.volume.now) };
 
     fn rank(&self, key: &BySize<'a>) -> Ordering {
-        compare_by_size(self, key.volume)
+        or_names(compare_size(self, &key.size), self, key.volume)
     }
 }
 
@@ -229,7 +240,8 @@ pub(crate) fn size_place(
     ensures at { IfOk result (IsAt by_size (λ v. v) volume.now volumes.now) }
     ensures gap { IfErr result (IsGap by_size (λ v. v) volume.now volumes.now) }
 {
-    place_of(volumes, &BySize { volume })
+    let size = size_in(volume);
+    place_of(volumes, &BySize { size, volume })
 }
 
 /// Where the volume stands in the order of claims, or would stand.

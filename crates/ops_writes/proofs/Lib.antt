@@ -1,5 +1,5 @@
-mod Bounds
+pub mod Bounds
 mod Calls
 mod Machines
 mod Rows
-mod Slots
+pub mod Slots

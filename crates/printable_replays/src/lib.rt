@@ -1,9 +1,10 @@
-//! A history that a replay or a run on threads brings about has only values that a text can give, so its printed text has no other.
+//! A history that a replay or a run on threads brings about has only values that a text can give, so its printed text
+//! has no other.
 //!
-//! Promises: `replays_give` and `replay_texts_have_one`, and for threads `threads_give` and `thread_texts_have_one`, each a
-//! function with nothing to do, whose contract is the law. The law of runs (`printable_law::runs_give`) does the work; here
-//! stands what a script's lines give it: the setup (`script_setups_give`), the seats, and the users' requests. Not said: that a printed line is short enough or nests little
-//! enough to be read.
+//! Promises: `replays_give` and `replay_texts_have_one`, and for threads `threads_give` and `thread_texts_have_one`,
+//! each a function with nothing to do, whose contract is the law. The law of runs (`printable_law::runs_give`) does the
+//! work; here stands what a script's lines give it: the setup (`script_setups_give`), the seats, and the users'
+//! requests. Not said: that a printed line is short enough or nests little enough to be read.
 #![tactic(auto)]
 
 ghost use Rattle.printable_replays.specs.Laws.{ReplayTextsHaveOne, ReplaysGive, ScriptSetupsGive, ThreadTextsHaveOne, ThreadsGive};

@@ -1,12 +1,12 @@
--- A round makes few calls beside its writes: the sum of its slots.
-use Rattle.std.proofs.Common.{◌≡◌, ℕ, suc, ◌+◌, ◌*◌, ◌-◌, ◌≤◌, List, [], ◌∷◌, length, Bool, true, false, None, refl, ap, subst, arith}
-use Rattle.std.specs.Prelude.{◌/◌, map}
+-- A round makes few calls beside its writes: the sum of its slots, role by role.
+use Rattle.std.proofs.Common.{◌≡◌, ℕ, suc, ◌+◌, ◌*◌, ◌-◌, ◌≤◌, List, [], ◌∷◌, length, Bool, true, false, true≢false, None, refl, sym, ap, subst, arith, if◌then◌else◌}
+use Rattle.std.specs.Prelude.{◌/◌, map, ⊤}
 use Rattle.std.proofs.Math.Nat.{add-mul}
 use Rattle.std.proofs.lemmas.Nat.{mul-le}
-use Rattle.kube_types.specs.declared.parts.Kind.{Kind}
 use Rattle.kube_types.specs.declared.objects.Object.{Object}
 use Rattle.kube_types.specs.declared.objects.Object.TheVariants.{Class, Node, Volume, Claim, Pod}
-use Rattle.kube_types.specs.declared.objects.Pod.{Pod as PodData}
+use Rattle.kube_types.specs.declared.objects.Volume.{Volume as VolumeData}
+use Rattle.kube_types.specs.Bindings.{is_ended}
 use Rattle.call_types.specs.declared.entry.Entry.{Entry}
 use Rattle.call_types.specs.declared.request.SeatKind.{SeatKind}
 use Rattle.call_types.specs.declared.request.SeatKind.TheVariants as seats
@@ -14,149 +14,48 @@ use Rattle.call_types.specs.declared.setup.Setup.{Setup}
 use Rattle.binder_model.specs.Promises.{IsRunOf}
 use Rattle.binder_model.specs.World.{world}
 use Rattle.model_laws.proofs.Histories.{rows_stand_in_order}
-use Rattle.settle_measure.specs.Measure.{claims_in, total}
+use Rattle.settle_measure.specs.Measure.{claims_in, faults_left, pods_in, total, volumes_in}
 use Rattle.worker_core.specs.declared.role.Role.{Role}
 use Rattle.worker_core.specs.Absorbs.{woken}
 use Rattle.worker_core.specs.Roles.{IsBuiltKind, kinds_of}
 use Rattle.worker_threads.specs.declared.drainers.Drainer.{Drainer}
-use Rattle.worker_threads.specs.Drainers.{AreAtRest, agent_of, roles_for, roles_of}
+use Rattle.worker_threads.specs.Drainers.{AreAtRest, AreRoles, agent_of, of_kind, roles_for, roles_of}
 use Rattle.worker_threads.specs.Rounds.{Ends, IsRound, Lets, Runs, Turns}
 use Rattle.worker_threads.proofs.RoundFacts.{AreBuilt, roles_built, round_grows}
 use Rattle.worker_threads.proofs.RunFacts.{run_grows}
 use Rattle.event_law.specs.Ahead.{sum_over}
-use Rattle.short_law.specs.Rounds.{names_in}
+use Rattle.event_law.proofs.Sums.{div_less, mul_less}
 use Rattle.short_law.specs.Slots.{PassesReads, writes_since}
+use Rattle.scheduler_writes.specs.Pods.{pods_writes}
+use Rattle.scheduler_writes.proofs.Pods.{schedulers_write_little}
 use Rattle.paid_law.proofs.Slots.{older_run}
+use Rattle.write_count.specs.Counts.{nodes_in}
 use Rattle.write_count.proofs.Runs.{silent_run}
-use Rattle.write_count.proofs.Slots.{counted}
+use Rattle.write_count.proofs.Slots.{counted, schedulers_select_few}
+use Rattle.ops_writes.specs.Ops.{ops_writes}
+use Rattle.ops_writes.proofs.Bounds.{ops_writes_are_bounded}
+use Rattle.ops_writes.proofs.Slots.{ops_writes_fall}
+use Rattle.agent_writes.proofs.Slots.{agents_write_little, slots_add_no_pod}
 use Rattle.call_count.specs.Rounds.{pod_size}
-use Rattle.call_count.proofs.Growth.{AreGiven, given_first, made_few, made_keys}
+use Rattle.call_count.proofs.Growth.{AreGiven, given_first, pods_few}
 use Rattle.call_count.proofs.Made.{slot_given}
 use Rattle.call_count.proofs.Sums.{one_more, swept}
-use Rattle.short_rounds.specs.ShortRounds.{RoundsCostLess, sweep_calls}
+use Rattle.begun_lasts.specs.Begun.{begins_to_last}
+use Rattle.slot_costs.specs.Costs.{own_calls, volume_calls}
+use Rattle.slot_costs.proofs.Alone.{pass_calls, with_pass}
 use Rattle.slot_costs.proofs.Calls.{sweep_cost, sweep_is}
-use Rattle.slot_costs.specs.Costs.{own_calls, pod_calls, volume_calls}
-use Rattle.slot_costs.proofs.RoundCosts.{claim_less, kinds_cost, most, volume_less}
+use Rattle.slot_costs.proofs.RoundCosts.{kinds_cost, most}
 use Rattle.slot_costs.proofs.Slots.{slots_cost_less}
+use Rattle.sure_slots.specs.Sure.{PassesAll}
+use Rattle.sure_slots.proofs.Slots.{sure_slots_cost_writes}
+use Rattle.ops_slots.specs.Ops.{ended_in, ops_sweep_calls}
+use Rattle.ops_slots.proofs.Slots.{ops_slots_cost_little}
+use Rattle.short_rounds.specs.ShortRounds.{RoundsCostLess, agent_sweep_calls, less_calls, ops_most, sweep_calls, swept_calls}
+use Rattle.short_rounds.proofs.Kept.{scheduler_keeps}
 
--- ---- what the kinds cost
+-- ---- what a slot costs
 
--- no object costs an actor more than three for itself and for each claim that it names, and a claim costs less
-pods_few : (kind : SeatKind) (p : PodData) → pod_calls kind p ≤ 3 * (1 + length p.claims)
-pods_few seats.Scheduler p = omega arith
-pods_few seats.Agent p = omega arith
-pods_few _ p = omega arith
-
-own_few : (kind : SeatKind) (rows : List Object) → total (own_calls kind) rows + claims_in rows ≤ 3 * total (λ o. 1 + names_in o) rows
-own_few kind [] = omega arith
-own_few kind (Class x ∷ os) = let rest = own_few kind os in omega (arith, rest)
-own_few kind (Node x ∷ os) = let rest = own_few kind os in omega (arith, rest)
-own_few kind (Volume x ∷ os) = let rest = own_few kind os in let own = volume_less kind in omega (arith, rest, own)
-own_few kind (Claim x ∷ os) = let rest = own_few kind os in let own = claim_less kind in omega (arith, rest, own)
-own_few kind (Pod x ∷ os) = let rest = own_few kind os in let own = pods_few kind x in omega (arith, rest, own)
-
--- a scheduler decides pods alone
-scheduled_few : (rows : List Object) → total (own_calls seats.Scheduler) rows ≤ total (λ o. 1 + names_in o) rows
-scheduled_few [] = omega arith
-scheduled_few (Class x ∷ os) = let rest = scheduled_few os in omega (arith, rest)
-scheduled_few (Node x ∷ os) = let rest = scheduled_few os in omega (arith, rest)
-scheduled_few (Volume x ∷ os) = let rest = scheduled_few os in omega (arith, rest)
-scheduled_few (Claim x ∷ os) = let rest = scheduled_few os in omega (arith, rest)
-scheduled_few (Pod x ∷ os) = let rest = scheduled_few os in omega (arith, rest)
-
--- what a pass costs in which each kind is listed again
-abbrev pass_calls : SeatKind → ℕ
-pass_calls kind = length (kinds_of kind) * (2 + length (kinds_of kind))
-
-with_pass : (kind : SeatKind) (f : Kind → ℕ) → sum_over (λ k. f k + (2 + length (kinds_of kind))) (kinds_of kind) ≡ sum_over f (kinds_of kind) + pass_calls kind
-with_pass seats.User f = omega arith
-with_pass seats.Binder f = omega arith
-with_pass seats.Ops f = omega arith
-with_pass seats.Scheduler f = omega arith
-with_pass seats.ClaimProtect f = omega arith
-with_pass seats.VolumeProtect f = omega arith
-with_pass seats.Agent f = omega arith
-
--- what a sweep costs beyond the calls that the writes before it have left
-abbrev sweep_all : List Object → ℕ
-sweep_all first = sweep_calls (total (λ o. 1 + names_in o) first) (claims_in first)
-
-sweep_less : (first : List Object) (kind : SeatKind) → sweep_cost first kind ≤ sweep_all first
-unfolding sweep_calls
-sweep_less first kind =
-    let is = sweep_is first kind in
-    let pass = with_pass kind (most kind first) in
-    let kinds = kinds_cost kind first in
-    let made = made_few first in
-    let times = mul-le (length (made_keys first)) (volume_calls kind) (claims_in first) 3 made (volume_less kind) in
-    let own = own_few kind first in
-    by kind is pass kinds times own
-  where
-    by : (k : SeatKind) → sweep_cost first k ≡ sum_over (λ j. most k first j + (2 + length (kinds_of k))) (kinds_of k) - 7 * 513 → sum_over (λ j. most k first j + (2 + length (kinds_of k))) (kinds_of k) ≡ sum_over (most k first) (kinds_of k) + pass_calls k
-        → sum_over (most k first) (kinds_of k) ≡ total (own_calls k) first + length (made_keys first) * volume_calls k → length (made_keys first) * volume_calls k ≤ claims_in first * 3 → total (own_calls k) first + claims_in first ≤ 3 * total (λ o. 1 + names_in o) first
-        → sweep_cost first k ≤ (3 * total (λ o. 1 + names_in o) first + 2 * claims_in first + 24) - 7 * 513
-    by seats.Scheduler is pass kinds times own = let few = scheduled_few first in omega (arith, is, pass, kinds, few)
-    by seats.User is pass kinds times own = omega (arith, is, pass, kinds, times, own)
-    by _ is pass kinds times own = omega (arith, is, pass, kinds, times, own)
-
-sweeps_few : (first : List Object) (kind : SeatKind) (q : ℕ) → sweep_cost first kind * q ≤ sweep_all first * q
-sweeps_few first kind q = mul-le (sweep_cost first kind) q (sweep_all first) q (sweep_less first kind) (omega arith)
-
--- what the objects cost the actors of these roles, and their passes
-abbrev idle_of : List Object → List Role → ℕ
-idle_of first [] = 0
-idle_of first (r ∷ rs) = (sum_over (most r.kind first) (kinds_of r.kind) + 62) + idle_of first rs
-
--- ---- the sum
-
-module _ (setup : Setup) (lets : Lets) (past : List Entry) (left : ℕ) (run : IsRunOf setup past) (passes : PassesReads lets) (start : List Entry) where
-  abbrev first : List Object
-  first = (world setup start).store.rows
-
-  middle_run : (ds : List Drainer) (h : List Entry) (b : ℕ) (after : List Drainer) (whole : Bool) → IsRound lets past left ds h b after whole → IsRunOf setup h
-  middle_run ds h b after whole round = let g = round_grows lets past left ds h b after whole round in older_run setup g.longer.added h (subst (IsRunOf setup) g.longer.are run)
-
-  slot : (d ran : Drainer) (h middle : List Entry) (b rest : ℕ) (idle : Bool) → IsRunOf setup middle → IsBuiltKind d.actor.role.kind → (d.actor.memory.stale ≡ false → d.actor.under ≡ None) → Runs lets d.seat ran.actor middle rest idle (woken d.actor) h b
-      → AreGiven (world setup start).store.rows (world setup h).store.rows
-      → b ≤ rest + (8 * writes_since setup h middle + (sum_over (most d.actor.role.kind (world setup start).store.rows) (kinds_of d.actor.role.kind) + 62) + sweep_all (world setup start).store.rows * (writes_since setup h middle / 513))
-  slot d ran h middle b rest idle here built rests runs given = by d.actor.memory.stale refl
-    where
-      by : (stale : Bool) → d.actor.memory.stale ≡ stale
-          → b ≤ rest + (8 * writes_since setup h middle + (sum_over (most d.actor.role.kind (world setup start).store.rows) (kinds_of d.actor.role.kind) + 62) + sweep_all (world setup start).store.rows * (writes_since setup h middle / 513))
-      by true e = let same = (silent_run setup lets d.seat ran.actor middle rest idle here (woken d.actor) h b runs e).1 in omega (arith, same)
-      by false e =
-          let less = slots_cost_less setup lets d.seat d.actor ran.actor h middle b rest idle (world setup start).store.rows built here passes (rests e) (rows_stand_in_order setup start) given runs in
-          let few = sweeps_few (world setup start).store.rows d.actor.role.kind (writes_since setup h middle / 513) in
-          omega (arith, less, few)
-
-  sum : (ds : List Drainer) (h : List Entry) (b : ℕ) (after : List Drainer) (whole : Bool) → IsRound lets past left ds h b after whole → AreBuilt (roles_of ds) → AreAtRest ds → AreGiven (world setup start).store.rows (world setup h).store.rows
-      → b ≤ left + (8 * writes_since setup h past + idle_of (world setup start).store.rows (roles_of ds) + sweep_all (world setup start).store.rows * (writes_since setup h past / 513))
-  sum _ h b _ _ (Ends entries rest) built rests given = omega (arith, rest)
-  sum _ h b _ _ (Turns {ds = ds} {after = after} {whole = whole} d ran middle rest idle seat runs more) built rests given =
-      let here = middle_run ds middle rest after whole more in
-      let g = run_grows lets d.seat ran.actor middle rest idle (woken d.actor) h b runs in
-      let m = counted setup g.longer.added h middle g.longer.are in
-      let gg = round_grows lets past left ds middle rest after whole more in
-      let n = counted setup gg.longer.added middle past gg.longer.are in
-      let split : writes_since setup h past ≡ writes_since setup h middle + writes_since setup middle past = omega (arith, m, n) in
-      let later = sum ds middle rest after whole more built.1 (λ place x at. rests (suc place) x at) (slot_given setup lets d.seat d.actor ran.actor h middle b rest idle (world setup start).store.rows here built.0 (rests 0 d refl) runs given) in
-      let now = slot d ran h middle b rest idle here built.0 (rests 0 d refl) runs given in
-      let sweeps = swept (sweep_all (world setup start).store.rows) (writes_since setup h middle) (writes_since setup middle past) in
-      let whole_ = ap (λ k. sweep_all (world setup start).store.rows * (k / 513)) split in
-      omega (arith, later, now, split, sweeps, whole_)
-
--- ---- by the sizes
-
--- what the controllers decide: a claim costs three of them two, a volume two of them three and one of them one, and a pod one of them one
-controllers_few : (rows : List Object)
-    → total (own_calls seats.Binder) rows + total (own_calls seats.Ops) rows + total (own_calls seats.Scheduler) rows + total (own_calls seats.ClaimProtect) rows + total (own_calls seats.VolumeProtect) rows + claims_in rows ≤ 7 * total (λ o. 1 + names_in o) rows
-controllers_few [] = omega arith
-controllers_few (Class x ∷ os) = let rest = controllers_few os in omega (arith, rest)
-controllers_few (Node x ∷ os) = let rest = controllers_few os in omega (arith, rest)
-controllers_few (Volume x ∷ os) = let rest = controllers_few os in omega (arith, rest)
-controllers_few (Claim x ∷ os) = let rest = controllers_few os in omega (arith, rest)
-controllers_few (Pod x ∷ os) = let rest = controllers_few os in omega (arith, rest)
-
+-- an agent decides pods alone
 agents_few : (rows : List Object) → total (own_calls seats.Agent) rows ≤ 3 * total pod_size rows
 agents_few [] = omega arith
 agents_few (Class x ∷ os) = let rest = agents_few os in omega (arith, rest)
@@ -165,11 +64,217 @@ agents_few (Volume x ∷ os) = let rest = agents_few os in omega (arith, rest)
 agents_few (Claim x ∷ os) = let rest = agents_few os in omega (arith, rest)
 agents_few (Pod x ∷ os) = let rest = agents_few os in omega (arith, rest)
 
-agents_idle : (first : List Object) (nodes : List (List ℕ)) → idle_of first (map agent_of nodes) ≡ length nodes * (sum_over (most seats.Agent first) (kinds_of seats.Agent) + 62)
-agents_idle first [] = omega arith
-agents_idle first (node ∷ nodes) =
-    let rest = agents_idle first nodes in
-    let more = one_more (length nodes) (sum_over (most seats.Agent first) (kinds_of seats.Agent) + 62) in
+agent_kinds : (first : List Object) (pods : ℕ) → total pod_size first ≤ pods → sum_over (most seats.Agent first) (kinds_of seats.Agent) ≤ 3 * pods
+agent_kinds first pods few =
+    let kinds = kinds_cost seats.Agent first in
+    let own = agents_few first in
+    omega (arith, kinds, own, few)
+
+agent_sweeps : (first : List Object) (pods : ℕ) → total pod_size first ≤ pods → sweep_cost first seats.Agent ≤ agent_sweep_calls pods
+unfolding agent_sweep_calls
+agent_sweeps first pods few =
+    let is = sweep_is first seats.Agent in
+    let pass = with_pass seats.Agent (most seats.Agent first) in
+    let kinds = agent_kinds first pods few in
+    omega (arith, is, pass, kinds)
+
+-- volumes that have ended are volumes
+ended_few : (rows : List Object) → ended_in rows ≤ volumes_in rows
+ended_few [] = omega arith
+ended_few (Volume v ∷ os) = by (is_ended v.phase) (ended_few os)
+  where
+    by : (b : Bool) → ended_in os ≤ volumes_in os → (if b then 1 else 0) + ended_in os ≤ 1 + volumes_in os
+    by true rest = omega (arith, rest)
+    by false rest = omega (arith, rest)
+ended_few (Class x ∷ os) = ended_few os
+ended_few (Node x ∷ os) = ended_few os
+ended_few (Claim x ∷ os) = ended_few os
+ended_few (Pod x ∷ os) = ended_few os
+
+ops_sweeps : (rows : List Object) (claims volumes : ℕ) → claims_in rows ≤ claims → volumes_in rows ≤ volumes → ops_sweep_calls rows ≤ sweep_calls claims volumes
+unfolding ops_sweep_calls sweep_calls
+ops_sweeps rows claims volumes few fewer = let ended = ended_few rows in omega (arith, few, fewer, ended)
+
+-- what the actors of these roles cost beside their writes and their sweeps
+abbrev role_calls : ℕ → SeatKind → ℕ
+role_calls pods seats.Agent = 3 * pods + 62
+role_calls pods kind = 65
+
+abbrev idle_of : ℕ → List Role → ℕ
+idle_of pods [] = 0
+idle_of pods (r ∷ rs) = role_calls pods r.kind + idle_of pods rs
+
+-- none of these is ops
+data IsPlain (kind : SeatKind) : Type 0 where
+  IsAgent : kind ≡ seats.Agent → IsPlain kind
+  IsSure : begins_to_last kind ≡ true → IsPlain kind
+
+abbrev ArePlain : List Role → Type 0
+ArePlain [] = ⊤
+ArePlain (r ∷ rs) = IsPlain r.kind × ArePlain rs
+
+plain_agents : (nodes : List (List ℕ)) → ArePlain (map agent_of nodes)
+plain_agents [] = tt
+plain_agents (node ∷ nodes) = (IsAgent refl, plain_agents nodes)
+
+-- a scheduler, then ops, then others
+abbrev StandSo : List Role → Type 0
+StandSo [] = ⊥
+StandSo (scheduler ∷ []) = ⊥
+StandSo (scheduler ∷ (ops ∷ others)) = (scheduler.kind ≡ seats.Scheduler) × ((ops.kind ≡ seats.Ops) × ArePlain others)
+
+stand_so : (roles : List Role) → AreRoles roles → StandSo roles
+stand_so roles these = subst StandSo (sym these.are) (refl, (refl, (IsSure refl, (IsSure refl, (IsSure refl, plain_agents these.nodes)))))
+
+-- ---- the sum
+
+module _ (setup : Setup) (lets : Lets) (past : List Entry) (left : ℕ) (run : IsRunOf setup past) (passes : PassesAll lets) (start : List Entry) where
+  abbrev first : List Object
+  first = (world setup start).store.rows
+
+  abbrev pods : ℕ
+  pods = total pod_size (world setup start).store.rows
+
+  abbrev given_at : List Entry → Type 0
+  given_at h = AreGiven (world setup start).store.rows (world setup h).store.rows
+
+  middle_run : (ds : List Drainer) (h : List Entry) (b : ℕ) (after : List Drainer) (whole : Bool) → IsRound lets past left ds h b after whole → IsRunOf setup h
+  middle_run ds h b after whole round = let g = round_grows lets past left ds h b after whole round in older_run setup g.longer.added h (subst (IsRunOf setup) g.longer.are run)
+
+  -- the writes of a slot, and those after it
+  split : (d ran : Drainer) (ds : List Drainer) (h middle : List Entry) (b rest : ℕ) (idle : Bool) (after : List Drainer) (whole : Bool) → Runs lets d.seat ran.actor middle rest idle (woken d.actor) h b → IsRound lets past left ds middle rest after whole
+      → writes_since setup h past ≡ writes_since setup h middle + writes_since setup middle past
+  split d ran ds h middle b rest idle after whole runs more =
+      let g = run_grows lets d.seat ran.actor middle rest idle (woken d.actor) h b runs in
+      let m = counted setup g.longer.added h middle g.longer.are in
+      let gg = round_grows lets past left ds middle rest after whole more in
+      let n = counted setup gg.longer.added middle past gg.longer.are in
+      omega (arith, m, n)
+
+  pods_at : (h : List Entry) → given_at h → total pod_size (world setup h).store.rows ≤ pods
+  pods_at h given = pods_few (world setup start).store.rows (world setup h).store.rows (rows_stand_in_order setup start) (rows_stand_in_order setup h) given
+
+  -- ---- the slots
+
+  agent_slot : (d ran : Drainer) (h middle : List Entry) (b rest : ℕ) (idle : Bool) → IsRunOf setup middle → d.actor.role.kind ≡ seats.Agent → (d.actor.memory.stale ≡ false → d.actor.under ≡ None) → Runs lets d.seat ran.actor middle rest idle (woken d.actor) h b → given_at h
+      → b ≤ rest + (8 * writes_since setup h middle + (3 * pods + 62) + agent_sweep_calls pods * (writes_since setup h middle / 513))
+  agent_slot d ran h middle b rest idle here kind rests runs given = by d.actor.memory.stale refl
+    where
+      by : (stale : Bool) → d.actor.memory.stale ≡ stale → b ≤ rest + (8 * writes_since setup h middle + (3 * pods + 62) + agent_sweep_calls pods * (writes_since setup h middle / 513))
+      by true e = let same = (silent_run setup lets d.seat ran.actor middle rest idle here (woken d.actor) h b runs e).1 in omega (arith, same)
+      by false e =
+          let rows = rows_stand_in_order setup h in
+          let less = slots_cost_less setup lets d.seat d.actor ran.actor h middle b rest idle (world setup h).store.rows (subst IsBuiltKind (sym kind) tt) here (λ g request own. passes g request) (rests e) rows (given_first (world setup h).store.rows) runs in
+          let few = pods_at h given in
+          let kinds = agent_kinds (world setup h).store.rows pods few in
+          let of_kind : sum_over (most d.actor.role.kind (world setup h).store.rows) (kinds_of d.actor.role.kind) ≡ sum_over (most seats.Agent (world setup h).store.rows) (kinds_of seats.Agent) = ap (λ k. sum_over (most k (world setup h).store.rows) (kinds_of k)) kind in
+          let sweeps = mul-le (sweep_cost (world setup h).store.rows seats.Agent) (writes_since setup h middle / 513) (agent_sweep_calls pods) (writes_since setup h middle / 513) (agent_sweeps (world setup h).store.rows pods few) (omega arith) in
+          let as_agent = ap (λ k. sweep_cost (world setup h).store.rows k * (writes_since setup h middle / 513)) kind in
+          omega (arith, less, kinds, of_kind, sweeps, as_agent)
+
+  -- the writes of an agent are among the pods
+  agents_sweep : (n before now : ℕ) → n + now ≤ before → agent_sweep_calls pods * (n / 513) + agent_sweep_calls pods * (now / 513) ≤ agent_sweep_calls pods * (before / 513)
+  agents_sweep n before now few =
+      let two = swept (agent_sweep_calls pods) n now in
+      let less = mul_less (agent_sweep_calls pods) ((n + now) / 513) (before / 513) (div_less (n + now) before few) in
+      omega (arith, two, less)
+
+  sure_slot : (d ran : Drainer) (h middle : List Entry) (b rest : ℕ) (idle : Bool) → IsRunOf setup middle → begins_to_last d.actor.role.kind ≡ true → (d.actor.memory.stale ≡ false → d.actor.under ≡ None) → Runs lets d.seat ran.actor middle rest idle (woken d.actor) h b
+      → b ≤ rest + (8 * writes_since setup h middle + 65)
+  sure_slot d ran h middle b rest idle here sure rests runs = sure_slots_cost_writes setup lets d.seat d.actor ran.actor h middle b rest idle sure here passes rests runs
+
+  -- ---- the binder, the protection controllers and the agents
+
+  sure_calls : (n : ℕ) (kind : SeatKind) → begins_to_last kind ≡ true → role_calls n kind ≡ 65
+  sure_calls n seats.Binder sure = refl
+  sure_calls n seats.Scheduler sure = refl
+  sure_calls n seats.ClaimProtect sure = refl
+  sure_calls n seats.VolumeProtect sure = refl
+  sure_calls n seats.User sure = refl
+  sure_calls n seats.Ops sure = refl
+  sure_calls n seats.Agent sure = absurd (true≢false (sym sure))
+
+  plain_round : (ds : List Drainer) (h : List Entry) (b : ℕ) (after : List Drainer) (whole : Bool) → IsRound lets past left ds h b after whole → ArePlain (roles_of ds) → AreBuilt (roles_of ds) → AreAtRest ds → given_at h
+      → b ≤ left + (8 * writes_since setup h past + idle_of pods (roles_of ds) + agent_sweep_calls pods * (pods_in (world setup h).store.rows / 513))
+  plain_round _ h b _ _ (Ends entries rest) plain built rests given = omega (arith, rest)
+  plain_round _ h b _ _ (Turns {ds = ds} {after = after} {whole = whole} d ran middle rest idle seat runs more) plain built rests given =
+      let here = middle_run ds middle rest after whole more in
+      let later = plain_round ds middle rest after whole more plain.1 built.1 (λ place x at. rests (suc place) x at) (slot_given setup lets d.seat d.actor ran.actor h middle b rest idle (world setup start).store.rows here built.0 (rests 0 d refl) runs given) in
+      let n = split d ran ds h middle b rest idle after whole runs more in
+      by here n later plain.0
+    where
+      by : IsRunOf setup middle → writes_since setup h past ≡ writes_since setup h middle + writes_since setup middle past
+          → rest ≤ left + (8 * writes_since setup middle past + idle_of pods (roles_of ds) + agent_sweep_calls pods * (pods_in (world setup middle).store.rows / 513)) → IsPlain d.actor.role.kind
+          → b ≤ left + (8 * writes_since setup h past + (role_calls pods d.actor.role.kind + idle_of pods (roles_of ds)) + agent_sweep_calls pods * (pods_in (world setup h).store.rows / 513))
+      by here n later (IsAgent kind) =
+          let now = agent_slot d ran h middle b rest idle here kind (rests 0 d refl) runs given in
+          let few = agents_write_little setup lets d.seat d.actor ran.actor h middle b rest idle kind here runs in
+          let sweeps = agents_sweep (writes_since setup h middle) (pods_in (world setup h).store.rows) (pods_in (world setup middle).store.rows) few in
+          let own = ap (role_calls pods) kind in
+          omega (arith, n, later, now, sweeps, own)
+      by here n later (IsSure sure) =
+          let now = sure_slot d ran h middle b rest idle here sure (rests 0 d refl) runs in
+          let few = slots_add_no_pod setup lets d.seat d.actor ran.actor h middle b rest idle built.0 here runs in
+          let sweeps = mul_less (agent_sweep_calls pods) (pods_in (world setup middle).store.rows / 513) (pods_in (world setup h).store.rows / 513) (div_less (pods_in (world setup middle).store.rows) (pods_in (world setup h).store.rows) few) in
+          let own = sure_calls pods d.actor.role.kind sure in
+          omega (arith, n, later, now, sweeps, own)
+
+  -- ---- ops, by what stands when its slot begins
+
+  ops_round : (claims volumes writes : ℕ) (role : Role) (ds : List Drainer) (h : List Entry) (b : ℕ) (after : List Drainer) (whole : Bool) → IsRound lets past left ds h b after whole → StandSo (role ∷ roles_of ds) → AreBuilt (roles_of ds) → AreAtRest ds → given_at h
+      → claims_in (world setup h).store.rows ≤ claims → volumes_in (world setup h).store.rows ≤ volumes → ops_writes setup (world setup h) ≤ writes
+      → b ≤ left + (8 * writes_since setup h past + (2 * claims + 3 * volumes + idle_of pods (roles_of ds)) + sweep_calls claims volumes * (writes / 513) + agent_sweep_calls pods * (pods_in (world setup h).store.rows / 513))
+  ops_round claims volumes writes role _ h b _ _ (Ends entries rest) so built rests given few fewer fewest = absurd so
+  ops_round claims volumes writes role _ h b _ _ (Turns {ds = ds} {after = after} {whole = whole} d ran middle rest idle seat runs more) so built rests given few fewer fewest =
+      let here = middle_run ds middle rest after whole more in
+      let later = plain_round ds middle rest after whole more so.1.1 built.1 (λ place x at. rests (suc place) x at) (slot_given setup lets d.seat d.actor ran.actor h middle b rest idle (world setup start).store.rows here built.0 (rests 0 d refl) runs given) in
+      let n = split d ran ds h middle b rest idle after whole runs more in
+      let now = ops_slots_cost_little setup lets d.seat d.actor ran.actor h middle b rest idle so.1.0 here (λ g request own. passes g request) (rests 0 d refl) runs in
+      let falls = ops_writes_fall setup lets d.seat d.actor ran.actor h middle b rest idle so.1.0 here (rests 0 d refl) runs in
+      let ended = ended_few (world setup h).store.rows in
+      let less = mul-le (ops_sweep_calls (world setup h).store.rows) (writes_since setup h middle / 513) (sweep_calls claims volumes) (writes / 513) (ops_sweeps (world setup h).store.rows claims volumes few fewer)
+          (div_less (writes_since setup h middle) writes (omega (arith, falls, fewest))) in
+      let pods_stay = slots_add_no_pod setup lets d.seat d.actor ran.actor h middle b rest idle built.0 here runs in
+      let sweeps = mul_less (agent_sweep_calls pods) (pods_in (world setup middle).store.rows / 513) (pods_in (world setup h).store.rows / 513) (div_less (pods_in (world setup middle).store.rows) (pods_in (world setup h).store.rows) pods_stay) in
+      let own = ap (role_calls pods) so.1.0 in
+      omega (arith, n, later, now, few, fewer, ended, less, sweeps, own)
+
+  -- ---- the scheduler before it
+
+  whole_round : (ds : List Drainer) (h : List Entry) (b : ℕ) (after : List Drainer) (whole : Bool) → IsRound lets past left ds h b after whole → StandSo (roles_of ds) → AreBuilt (roles_of ds) → AreAtRest ds → given_at h → pods_writes (world setup h) ≤ 512
+      → b ≤ left + (8 * writes_since setup h past + (2 * claims_in (world setup h).store.rows + 3 * volumes_in (world setup h).store.rows + idle_of pods (roles_of ds)) + sweep_calls (claims_in (world setup h).store.rows) (volumes_in (world setup h).store.rows) * (ops_most setup (world setup h) / 513)
+          + agent_sweep_calls pods * (pods_in (world setup h).store.rows / 513))
+  whole_round _ h b _ _ (Ends entries rest) so built rests given few = absurd so
+  whole_round _ h b _ _ (Turns {ds = ds} {after = after} {whole = whole} d ran middle rest idle seat runs more) so built rests given few =
+      let here = middle_run ds middle rest after whole more in
+      let kind = first_kind (roles_of ds) so in
+      let kept = scheduler_keeps setup lets d.seat d.actor ran.actor h middle b rest idle kind here runs in
+      let writes = schedulers_write_little setup lets d.seat d.actor ran.actor h middle b rest idle kind here (rests 0 d refl) few runs in
+      let nodes = schedulers_select_few setup lets d.seat d.actor ran.actor h middle b rest idle kind here runs in
+      let bounded = ops_writes_are_bounded setup (world setup middle) in
+      let claims = kept.claims in
+      let volumes = kept.volumes in
+      let faults = kept.faults in
+      let later = ops_round (claims_in (world setup h).store.rows) (volumes_in (world setup h).store.rows) (ops_most setup (world setup h)) d.actor.role ds middle rest after whole more so built.1 (λ place x at. rests (suc place) x at)
+          (slot_given setup lets d.seat d.actor ran.actor h middle b rest idle (world setup start).store.rows here built.0 (rests 0 d refl) runs given) claims volumes (omega (arith, bounded, claims, volumes, faults, nodes, writes)) in
+      let n = split d ran ds h middle b rest idle after whole runs more in
+      let now = sure_slot d ran h middle b rest idle here (ap begins_to_last kind) (rests 0 d refl) runs in
+      let pods_stay = slots_add_no_pod setup lets d.seat d.actor ran.actor h middle b rest idle built.0 here runs in
+      let sweeps = mul_less (agent_sweep_calls pods) (pods_in (world setup middle).store.rows / 513) (pods_in (world setup h).store.rows / 513) (div_less (pods_in (world setup middle).store.rows) (pods_in (world setup h).store.rows) pods_stay) in
+      let own = ap (role_calls pods) kind in
+      omega (arith, n, later, now, sweeps, own)
+    where
+      first_kind : (roles : List Role) → StandSo (d.actor.role ∷ roles) → d.actor.role.kind ≡ seats.Scheduler
+      first_kind [] s = absurd s
+      first_kind (r ∷ roles) s = s.0
+
+-- ---- all roles of a drain
+
+agents_idle : (pods : ℕ) (nodes : List (List ℕ)) → idle_of pods (map agent_of nodes) ≡ length nodes * (3 * pods + 62)
+agents_idle pods [] = omega arith
+agents_idle pods (node ∷ nodes) =
+    let rest = agents_idle pods nodes in
+    let more = one_more (length nodes) (3 * pods + 62) in
     omega (arith, rest, more)
 
 lengths : (ds : List Drainer) → length (roles_of ds) ≡ length ds
@@ -180,29 +285,18 @@ nodes_many : (nodes : List (List ℕ)) → length (map agent_of nodes) ≡ lengt
 nodes_many [] = refl
 nodes_many (node ∷ nodes) = ap suc (nodes_many nodes)
 
--- of all roles of a drain
-idle_few : (first : List Object) (pods : ℕ) → total pod_size first ≤ pods → (nodes : List (List ℕ))
-    → idle_of first (roles_for nodes) ≤ 7 * total (λ o. 1 + names_in o) first + 6 * claims_in first + (5 + length nodes) * (3 * pods + 62)
-idle_few first pods few nodes =
-    let agents = agents_idle first nodes in
-    let all = controllers_few first in
-    let made = made_few first in
-    let binder = kinds_cost seats.Binder first in
-    let ops = kinds_cost seats.Ops first in
-    let scheduler = kinds_cost seats.Scheduler first in
-    let claim_protect = kinds_cost seats.ClaimProtect first in
-    let volume_protect = kinds_cost seats.VolumeProtect first in
-    let agent = kinds_cost seats.Agent first in
-    let only_pods = agents_few first in
-    let each = mul-le (length nodes) (sum_over (most seats.Agent first) (kinds_of seats.Agent) + 62) (length nodes) (3 * pods + 62) (omega arith) (omega (arith, agent, only_pods, few)) in
-    let split = add-mul 5 (length nodes) (3 * pods + 62) in
-    omega (arith, agents, all, made, binder, ops, scheduler, claim_protect, volume_protect, each, split)
+idle_few : (pods : ℕ) (nodes : List (List ℕ)) → idle_of pods (roles_for nodes) ≤ (5 + length nodes) * (3 * pods + 65)
+idle_few pods nodes =
+    let agents = agents_idle pods nodes in
+    let each = mul-le (length nodes) (3 * pods + 62) (length nodes) (3 * pods + 65) (omega arith) (omega arith) in
+    let sum = add-mul 5 (length nodes) (3 * pods + 65) in
+    omega (arith, agents, each, sum)
 
 pub rounds_cost_less : RoundsCostLess
-rounds_cost_less setup lets ds after h past b left whole roles rests run passes round =
-    let all = sum setup lets past left run passes h ds h b after whole round (roles_built (roles_of ds) roles) rests (given_first (world setup h).store.rows) in
-    let idle = idle_few (world setup h).store.rows (total pod_size (world setup h).store.rows) (omega arith) roles.nodes in
-    let are = ap (idle_of (world setup h).store.rows) roles.are in
+rounds_cost_less setup lets ds after h past b left whole roles rests run passes round few =
+    let all = whole_round setup lets past left run passes h ds h b after whole round (stand_so (roles_of ds) roles) (roles_built (roles_of ds) roles) rests (given_first (world setup h).store.rows) few in
+    let idle = idle_few (total pod_size (world setup h).store.rows) roles.nodes in
+    let are = ap (idle_of (total pod_size (world setup h).store.rows)) roles.are in
     let many : length ds ≡ 5 + length roles.nodes = (let a = lengths ds in let c = ap (λ (rs : List Role). length rs) roles.are in let d = nodes_many roles.nodes in omega (arith, a, c, d)) in
-    let actors = ap (λ n. n * (3 * total pod_size (world setup h).store.rows + 62)) many in
+    let actors = ap (λ n. n * (3 * total pod_size (world setup h).store.rows + 65)) many in
     omega (arith, all, idle, are, actors)

@@ -1,7 +1,7 @@
 -- Rounds are short: the stated number, by the sizes of the world with which a round begins.
 use Rattle.std.proofs.Common.{◌≡◌, ℕ, ◌+◌, ◌*◌, ◌-◌, ◌≤◌, ◌<◌, List, [], ◌∷◌, length, Bool, true, false, refl, subst, arith}
-use Rattle.std.specs.Prelude.{◌/◌, nat_lt}
-use Rattle.std.proofs.lemmas.Bool.Decides.{nat_tests}
+use Rattle.std.specs.Prelude.{◌/◌}
+use Rattle.std.proofs.Math.Nat.{mul-add}
 use Rattle.std.proofs.lemmas.Nat.{div-add-mod', mul-le}
 use Rattle.kube_types.specs.declared.objects.Object.{Object}
 use Rattle.kube_types.specs.declared.objects.Object.TheVariants.{Class, Node, Volume, Claim, Pod}
@@ -18,7 +18,7 @@ use Rattle.worker_threads.specs.Rounds.{Drains, Goes, IsSpent, Lets, NothingDue}
 use Rattle.worker_threads.proofs.DrainFacts.{drains_grow}
 use Rattle.worker_threads.proofs.RoundFacts.{round_part, round_seats, same_length}
 use Rattle.short_law.specs.Rounds.{names_in}
-use Rattle.short_law.specs.Slots.{PassesReads, writes_since}
+use Rattle.short_law.specs.Slots.{writes_since}
 use Rattle.paid_law.proofs.Slots.{older_run}
 use Rattle.write_count.specs.Counts.{AnnotationsAreInOrder}
 use Rattle.write_count.proofs.Ordered.{nodes_are_few}
@@ -29,7 +29,8 @@ use Rattle.settle_law.proofs.Leaving.{rounds_leave_drainers}
 use Rattle.all_pay.specs.All.{ImportsAllow}
 use Rattle.all_pay.proofs.Rounds.{payer_at}
 use Rattle.drain_budget.specs.Budget.{AreAlwaysInOrder}
-use Rattle.short_rounds.specs.ShortRounds.{DrainedRoundsAreShort, EachLaterRoundIsShort, EachRoundIsShort, LaterRoundsAreShort, RoundsAreShort, SmallWorldsHaveShortRounds, sweep_calls}
+use Rattle.sure_slots.specs.Sure.{PassesAll}
+use Rattle.short_rounds.specs.ShortRounds.{DrainedRoundsAreShort, EachLaterRoundIsShort, EachRoundIsShort, LaterRoundsAreShort, RoundsAreShort, SmallWorldsHaveShortRounds, agent_sweep_calls, less_calls, ops_most, sweep_calls}
 use Rattle.short_rounds.proofs.Rounds.{rounds_cost_less}
 use Rattle.drain_budget.proofs.Drains.{writes_few}
 
@@ -52,37 +53,42 @@ pods_few (Volume x ∷ os) = let rest = pods_few os in omega (arith, rest)
 pods_few (Claim x ∷ os) = let rest = pods_few os in omega (arith, rest)
 pods_few (Pod x ∷ os) = let rest = pods_few os in omega (arith, rest)
 
--- what is listed again costs little in a world of 1,222
-swept_few : (size claims : ℕ) → claims ≤ size → size ≤ 1222 → sweep_calls size claims ≤ 2543
+-- what ops lists again, and an agent
+sweep_is : (claims volumes : ℕ) → sweep_calls claims volumes ≡ (2 * claims + 3 * volumes + 24) - 7 * 513
 unfolding sweep_calls
-swept_few size claims counted small = omega (arith, counted, small)
+sweep_is claims volumes = refl
 
-swept_is : (size claims : ℕ) → sweep_calls size claims ≡ (3 * size + 2 * claims + 24) - 7 * 513
-unfolding sweep_calls
-swept_is size claims = refl
+agent_sweep_is : (pods : ℕ) → agent_sweep_calls pods ≡ (3 * pods + 3) - 7 * 513
+unfolding agent_sweep_calls
+agent_sweep_is pods = refl
 
--- eight calls for each write, what the actors follow, and what is listed again after 513 writes. Without faults that is 45 times at most; beyond it
--- the faults pay
-stated : (size claims volumes pods pod_count faults writes actors : ℕ) → claims + volumes + pods ≤ size → pod_count ≤ pods → size ≤ 1222 → actors ≤ 13 → writes ≤ 19 * claims + 10 * volumes + 4 * pod_count + 2 * pods + faults
-    → 8 * writes + (7 * size + 6 * claims + actors * (3 * pods + 62)) + sweep_calls size claims * (writes / 513) ≤ 256 * (size + faults + 16)
-stated size claims volumes pods pod_count faults writes actors counted pods_less small few written = by (nat_lt 45 (writes / 513)) refl
-  where
-    each : actors * (3 * pods + 62) ≤ 13 * (3 * pods + 62)
-    each = mul-le actors (3 * pods + 62) 13 (3 * pods + 62) few (omega arith)
+-- ops is swept 33 times at most, and as often as there are 513 faults; agents 15 times
+ops_swept : (size claims volumes faults times : ℕ) → claims + volumes ≤ size → size ≤ 8192 → times ≤ 2 * claims + volumes + 512 + faults
+    → sweep_calls claims volumes * (times / 513) ≤ ((2 * claims + 3 * volumes + 24) - 7 * 513) * 33 + 41 * faults
+ops_swept size claims volumes faults times counted small few =
+    let is = sweep_is claims volumes in
+    let whole = div-add-mod' times 513 in
+    let by_faults = div-add-mod' faults 513 in
+    let low = mul-le (sweep_calls claims volumes) (times / 513) (sweep_calls claims volumes) (33 + faults / 513) (omega arith) (omega (arith, whole, by_faults, few, counted, small)) in
+    let split : sweep_calls claims volumes * (33 + faults / 513) ≡ sweep_calls claims volumes * 33 + sweep_calls claims volumes * (faults / 513) = mul-add (sweep_calls claims volumes) 33 (faults / 513) in
+    let each = mul-le (sweep_calls claims volumes) (faults / 513) 21009 (faults / 513) (omega (arith, is, counted, small)) (omega arith) in
+    omega (arith, is, low, split, each, by_faults)
 
-    by : (more : Bool) → nat_lt 45 (writes / 513) ≡ more → 8 * writes + (7 * size + 6 * claims + actors * (3 * pods + 62)) + sweep_calls size claims * (writes / 513) ≤ 256 * (size + faults + 16)
-    by true e =
-        let many : 45 < writes / 513 = grind (arith, nat_tests, e) in
-        let swept = mul-le (sweep_calls size claims) (writes / 513) 2543 (writes / 513) (swept_few size claims (omega (arith, counted)) small) (omega arith) in
-        let whole = div-add-mod' writes 513 in
-        let all = each in
-        omega (arith, many, all, swept, whole, counted, pods_less, small, written)
-    by false e =
-        let most_sweeps : writes / 513 ≤ 45 = grind (arith, nat_tests, e) in
-        let swept = mul-le (sweep_calls size claims) (writes / 513) (sweep_calls size claims) 45 (omega arith) most_sweeps in
-        let is = swept_is size claims in
-        let all = each in
-        omega (arith, all, swept, is, counted, pods_less, small, written)
+agents_swept : (size pods pod_count : ℕ) → pods ≤ size → pod_count ≤ pods → size ≤ 8192 → agent_sweep_calls pods * (pod_count / 513) ≤ ((3 * pods + 3) - 7 * 513) * 15
+agents_swept size pods pod_count counted fewer small =
+    let is = agent_sweep_is pods in
+    let whole = div-add-mod' pod_count 513 in
+    let low = mul-le (agent_sweep_calls pods) (pod_count / 513) (agent_sweep_calls pods) 15 (omega arith) (omega (arith, whole, counted, fewer, small)) in
+    omega (arith, is, low)
+
+-- eight calls for each write, what ops and the agents decide, and what is listed again after 513 writes
+stated : (size claims volumes pods pod_count faults writes times actors : ℕ) → claims + volumes + pods ≤ size → pod_count ≤ pods → size ≤ 8192 → actors ≤ 13 → writes ≤ 19 * claims + 10 * volumes + 4 * pod_count + 2 * pods + faults → times ≤ 2 * claims + volumes + 512 + faults
+    → less_calls actors claims volumes pods writes + (sweep_calls claims volumes * (times / 513) + agent_sweep_calls pods * (pod_count / 513)) ≤ 256 * (size + faults + 16)
+stated size claims volumes pods pod_count faults writes times actors counted pods_less small few written taken =
+    let each = mul-le actors (3 * pods + 65) 13 (3 * pods + 65) few (omega arith) in
+    let ops = ops_swept size claims volumes faults times (omega (arith, counted)) small taken in
+    let agents = agents_swept size pods pod_count (omega (arith, counted)) pods_less small in
+    omega (arith, each, ops, agents, counted, pods_less, small, written)
 
 -- what a scheduler may write is among what is counted
 pub small_worlds_have_short_rounds : SmallWorldsHaveShortRounds
@@ -98,13 +104,13 @@ rounds_are_short setup lets ds after h past b left whole allow roles rests run p
     let counts = sizes (world setup h).store.rows in
     let pods = pods_few (world setup h).store.rows in
     let scheduled = writes_few (world setup h).store.rows in
-    let calls = rounds_cost_less setup lets ds after h past b left whole roles rests run passes round in
-    let paid = rounds_write_little setup lets ds after h past b left whole roles run round (payer_at setup allow ds roles rests) short.scheduled in
-    let size = short.size in
+    let may = short.scheduled in
+    let calls = rounds_cost_less setup lets ds after h past b left whole roles rests run passes round may in
+    let paid = rounds_write_little setup lets ds after h past b left whole roles run round (payer_at setup allow ds roles rests) may in
     let most = left_is_bounded (world setup h).store.rows (world setup h).devices in
     let nodes = nodes_are_few (world setup h) (rows_stand_in_order setup h) order in
-    let number = stated (total (λ o. 1 + names_in o) (world setup h).store.rows) (claims_in (world setup h).store.rows) (volumes_in (world setup h).store.rows) (total pod_size (world setup h).store.rows) (pods_in (world setup h).store.rows) (faults_left setup (world setup h).devices) (writes_since setup h past) (length ds) counts pods size few
-    (omega (arith, paid, most, nodes, scheduled)) in
+    let number = stated (total (λ o. 1 + names_in o) (world setup h).store.rows) (claims_in (world setup h).store.rows) (volumes_in (world setup h).store.rows) (total pod_size (world setup h).store.rows) (pods_in (world setup h).store.rows) (faults_left setup (world setup h).devices) (writes_since setup h past)
+        (ops_most setup (world setup h)) (length ds) counts pods short.size few (omega (arith, paid, most, nodes, scheduled)) (omega (arith, nodes, may)) in
     omega (arith, calls, number)
 
 -- ---- drains
@@ -115,7 +121,7 @@ none_more lets setup after past left ds h b none (NothingDue settled same entrie
 none_more lets setup after past left ds h b none (IsSpent first due empty same entries rest) = tt
 none_more lets setup after past left ds h b none (Goes first due some between middle rest whole round more) = absurd (omega (arith, none, some))
 
-module _ (setup : Setup) (lets : Lets) (after : List Drainer) (past : List Entry) (left : ℕ) (allow : ImportsAllow setup) (run : IsRunOf setup past) (passes : PassesReads lets) (order : AreAlwaysInOrder setup past) where
+module _ (setup : Setup) (lets : Lets) (after : List Drainer) (past : List Entry) (left : ℕ) (allow : ImportsAllow setup) (run : IsRunOf setup past) (passes : PassesAll lets) (order : AreAlwaysInOrder setup past) where
   middle_run : (ds : List Drainer) (h : List Entry) (b : ℕ) → Drains lets setup after past left ds h b → IsRunOf setup h
   middle_run ds h b drained = let g = drains_grow lets setup after past left ds h b drained in older_run setup g.longer.added h (subst (IsRunOf setup) g.longer.are run)
 

@@ -5,38 +5,53 @@ use Rattle.call_types.specs.declared.entry.Entry.{Entry}
 use Rattle.call_types.specs.declared.setup.Setup.{Setup}
 use Rattle.binder_model.specs.Promises.{IsRunOf}
 use Rattle.binder_model.specs.World.{World, world}
-use Rattle.settle_measure.specs.Measure.{claims_in, faults_left}
+use Rattle.settle_measure.specs.Measure.{claims_in, faults_left, pods_in, volumes_in}
 use Rattle.worker_threads.specs.declared.drainers.Drainer.{Drainer}
 use Rattle.worker_threads.specs.Drainers.{AreAtRest, AreRoles, roles_of}
 use Rattle.worker_threads.specs.Rounds.{Drains, Goes, IsRound, IsSpent, Lets, NothingDue}
 use Rattle.short_law.specs.Rounds.{size_of_world}
-use Rattle.short_law.specs.Slots.{PassesReads, writes_since}
+use Rattle.short_law.specs.Slots.{writes_since}
 use Rattle.scheduler_writes.specs.Pods.{pods_writes}
-use Rattle.write_count.specs.Counts.{AnnotationsAreInOrder}
+use Rattle.write_count.specs.Counts.{AnnotationsAreInOrder, nodes_in}
 use Rattle.call_count.specs.Rounds.{pods_size}
 use Rattle.settle_law.specs.Settling.{MayDrain}
 use Rattle.all_pay.specs.All.{ImportsAllow}
+use Rattle.sure_slots.specs.Sure.{PassesAll}
 use Rattle.drain_budget.specs.Budget.{AreAlwaysInOrder}
 
 -- ---- by the writes of the round
 
--- how many calls a sweep costs at most beyond those that the writes before it have left: the kinds that an actor follows are listed again where it
--- made 513 writes since it read them, and each of these has seven calls left for its event, which is never told. What is listed costs the actor that
--- pays most for it, ops, three for each volume and for each that may be made for a claim, two for each claim, and six for each of its four kinds
+-- how many calls a sweep of ops costs at most beyond those that the writes before it have left: the kinds that it follows are listed again where it
+-- made 513 writes since it read them, and each of these has seven calls left for its event, which is never told. What is listed costs it two for each
+-- claim, three for each volume that has ended, and six for each of its four kinds
 unfoldable pub sweep_calls : ℕ → ℕ → ℕ
-sweep_calls size claims = (3 * size + 2 * claims + 24) - 7 * 513
+sweep_calls claims volumes = (2 * claims + 3 * volumes + 24) - 7 * 513
 
--- how many calls so many actors make at most, by what stood when the round began and by the writes of the round. Each write costs eight. Of
--- the rest a volume costs the binder and ops three and volume protection one, as much again for the volume that may be made for a claim, and a
--- claim two for the binder, ops and claim protection; pods cost three for every actor; and after each 513 writes of an actor there may be a sweep
+-- and a sweep of an agent, which follows pods alone
+unfoldable pub agent_sweep_calls : ℕ → ℕ
+agent_sweep_calls pods = (3 * pods + 3) - 7 * 513
+
+-- how often ops may write at most in a round: a volume for each claim, the end of each volume, each node that was selected for a claim or that the
+-- scheduler selects, and phase Failed for each planned fault that is ahead
+abbrev pub ops_most : Setup → World → ℕ
+ops_most setup w = claims_in w.store.rows + volumes_in w.store.rows + nodes_in w + pods_writes w + faults_left setup w.devices
+
+-- how many calls so many actors make at most, by what stood when the round began and by the writes of the round. Each write costs eight. Of the
+-- rest a claim costs ops two and a volume three, and pods cost an agent three; the others pay nothing beside their writes and their passes
 abbrev pub less_calls : ℕ → ℕ → ℕ → ℕ → ℕ → ℕ
-less_calls actors size claims pods writes = 8 * writes + (7 * size + 6 * claims + actors * (3 * pods + 62)) + sweep_calls size claims * (writes / 513)
+less_calls actors claims volumes pods writes = 8 * writes + (2 * claims + 3 * volumes + actors * (3 * pods + 65))
 
--- of a round of the actors of a drain that begins with nothing under way, in a world of any size
+-- after each 513 writes of ops there may be a sweep, and after each 513 of an agent, which writes once for each pod
+abbrev pub swept_calls : Setup → World → ℕ
+swept_calls setup w = sweep_calls (claims_in w.store.rows) (volumes_in w.store.rows) * (ops_most setup w / 513) + agent_sweep_calls (pods_size w) * (pods_in w.store.rows / 513)
+
+-- of a round of the actors of a drain that begins with nothing under way and in which no call is held back, in a world of any size in which a scheduler
+-- may write at most 512 times
 abbrev pub RoundsCostLess : Type 0
 RoundsCostLess =
-    (setup : Setup) (lets : Lets) (ds after : List Drainer) (h past : List Entry) (b left : ℕ) (whole : Bool) → AreRoles (roles_of ds) → AreAtRest ds → IsRunOf setup past → PassesReads lets → IsRound lets past left ds h b after whole
-    → b ≤ left + less_calls (length ds) (size_of_world (world setup h)) (claims_in (world setup h).store.rows) (pods_size (world setup h)) (writes_since setup h past)
+    (setup : Setup) (lets : Lets) (ds after : List Drainer) (h past : List Entry) (b left : ℕ) (whole : Bool) → AreRoles (roles_of ds) → AreAtRest ds → IsRunOf setup past → PassesAll lets → IsRound lets past left ds h b after whole
+    → pods_writes (world setup h) ≤ 512
+    → b ≤ left + (less_calls (length ds) (claims_in (world setup h).store.rows) (volumes_in (world setup h).store.rows) (pods_size (world setup h)) (writes_since setup h past) + swept_calls setup (world setup h))
 
 -- ---- by the sizes
 
@@ -44,10 +59,10 @@ RoundsCostLess =
 abbrev pub stated_calls : Setup → World → ℕ
 stated_calls setup w = 256 * (size_of_world w + faults_left setup w.devices + 16)
 
--- a world whose rounds are short: it has at most 1,222 objects and claims that pods name, and a scheduler writes at most 512 times, once for each pod
+-- a world whose rounds are short: it has at most 8,192 objects and claims that pods name, and a scheduler writes at most 512 times, once for each pod
 -- that no node runs and for each claim that such a pod names
 pub record HasShortRounds (w : World) : Type 0 where
-  pub size : size_of_world w ≤ 1222
+  pub size : size_of_world w ≤ 8192
   pub scheduled : pods_writes w ≤ 512
 
 -- such is each with at most 512 objects and claims that pods name
@@ -57,7 +72,7 @@ SmallWorldsHaveShortRounds = (w : World) → size_of_world w ≤ 512 → HasShor
 -- a round of at most 13 actors, those of a drain with at most eight agents, that begins with such a world, whatever the number of planned faults
 abbrev pub RoundsAreShort : Type 0
 RoundsAreShort =
-    (setup : Setup) (lets : Lets) (ds after : List Drainer) (h past : List Entry) (b left : ℕ) (whole : Bool) → ImportsAllow setup → AreRoles (roles_of ds) → AreAtRest ds → IsRunOf setup past → PassesReads lets → IsRound lets past left ds h b after whole
+    (setup : Setup) (lets : Lets) (ds after : List Drainer) (h past : List Entry) (b left : ℕ) (whole : Bool) → ImportsAllow setup → AreRoles (roles_of ds) → AreAtRest ds → IsRunOf setup past → PassesAll lets → IsRound lets past left ds h b after whole
     → length ds ≤ 13 → AnnotationsAreInOrder (world setup h) → HasShortRounds (world setup h) → b ≤ left + stated_calls setup (world setup h)
 
 -- ---- drains
@@ -71,7 +86,7 @@ EachRoundIsShort lets setup after past left ds h b (Goes first due some between 
 
 abbrev pub DrainedRoundsAreShort : Type 0
 DrainedRoundsAreShort =
-    (setup : Setup) (lets : Lets) (ds after : List Drainer) (h past : List Entry) (b left : ℕ) → ImportsAllow setup → MayDrain setup h ds → AreAtRest ds → IsRunOf setup past → PassesReads lets → AreAlwaysInOrder setup past → length ds ≤ 13
+    (setup : Setup) (lets : Lets) (ds after : List Drainer) (h past : List Entry) (b left : ℕ) → ImportsAllow setup → MayDrain setup h ds → AreAtRest ds → IsRunOf setup past → PassesAll lets → AreAlwaysInOrder setup past → length ds ≤ 13
     → (drained : Drains lets setup after past left ds h b) → EachRoundIsShort lets setup after past left ds h b drained
 
 -- and whatever the actors have under way as the drain begins, each round behind the first is
@@ -82,5 +97,5 @@ EachLaterRoundIsShort lets setup after past left ds h b (Goes first due some bet
 
 abbrev pub LaterRoundsAreShort : Type 0
 LaterRoundsAreShort =
-    (setup : Setup) (lets : Lets) (ds after : List Drainer) (h past : List Entry) (b left : ℕ) → ImportsAllow setup → MayDrain setup h ds → IsRunOf setup past → PassesReads lets → AreAlwaysInOrder setup past → length ds ≤ 13
+    (setup : Setup) (lets : Lets) (ds after : List Drainer) (h past : List Entry) (b left : ℕ) → ImportsAllow setup → MayDrain setup h ds → IsRunOf setup past → PassesAll lets → AreAlwaysInOrder setup past → length ds ≤ 13
     → (drained : Drains lets setup after past left ds h b) → EachLaterRoundIsShort lets setup after past left ds h b drained

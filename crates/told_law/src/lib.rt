@@ -2,11 +2,11 @@
 //!
 //! Promises: the newest that a seat was told of a key is what stands there, unless the key was changed since
 //! (`newest_is_true`). Where a seat has reached the store's version with a kind, by a list or by a watch, the newest
-//! told of each key of that kind is what stands (`reached_is_exact`), also where its watches started anywhere that
-//! they may (`allowed_is_exact`). It stays so as long as only this seat calls and each answer arrives
-//! (`stays_exact`). The same step by step: a seat knows a kind after a watch whose answer was not full
-//! (`watches_make_known`), it goes on knowing it with each call of its own (`knowledge_stays`), and what it knows is
-//! what stands (`known_is_exact`). Not said: that a seat ever reaches the store's version, which is for what runs an actor to say.
+//! told of each key of that kind is what stands (`reached_is_exact`), also where its watches started anywhere that they
+//! may (`allowed_is_exact`). It stays so as long as only this seat calls and each answer arrives (`stays_exact`). The
+//! same step by step: a seat knows a kind after a watch whose answer was not full (`watches_make_known`), it goes on
+//! knowing it with each call of its own (`knowledge_stays`), and what it knows is what stands (`known_is_exact`). Not
+//! said: that a seat ever reaches the store's version, which is for what runs an actor to say.
 #![tactic(auto)]
 
 ghost use Rattle.told_law.specs.Exact.{AllowedIsExact, ReachedIsExact, StaysExact};

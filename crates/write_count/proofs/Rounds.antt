@@ -1,5 +1,5 @@
 -- A round does few writes: the sum of its slots.
-use Rattle.std.proofs.Common.{◌≡◌, ◌≢◌, ◌∙◌, ℕ, suc, ◌+◌, ◌*◌, ◌≤◌, List, [], ◌∷◌, Bool, true, false, true≢false, Some, refl, sym, ap, subst, arith}
+use Rattle.std.proofs.Common.{◌≡◌, ◌≢◌, ◌∙◌, ℕ, suc, ◌+◌, ◌*◌, ◌≤◌, List, [], ◌∷◌, Bool, true, false, true≢false, None, Some, refl, sym, ap, subst, arith}
 use Rattle.std.specs.Prelude.{map, slice_get, ⊤}
 use Rattle.call_types.specs.declared.entry.Entry.{Entry}
 use Rattle.call_types.specs.declared.request.SeatKind.{SeatKind}
@@ -10,9 +10,10 @@ use Rattle.binder_model.specs.World.{world}
 use Rattle.model_laws.proofs.Growing.{runs_are_histories}
 use Rattle.worker_core.specs.declared.role.Role.{Role}
 use Rattle.worker_core.specs.Absorbs.{woken}
+use Rattle.worker_core.specs.States.{ActorState}
 use Rattle.worker_threads.specs.declared.drainers.Drainer.{Drainer}
 use Rattle.worker_threads.specs.Drainers.{AreRoles, agent_of, roles_of}
-use Rattle.worker_threads.specs.Rounds.{Ends, IsRound, Lets, Turns}
+use Rattle.worker_threads.specs.Rounds.{Ends, IsRound, Lets, Runs, Turns}
 use Rattle.worker_threads.proofs.RoundFacts.{round_grows}
 use Rattle.worker_threads.proofs.RunFacts.{run_grows}
 use Rattle.short_law.specs.Slots.{writes_since}
@@ -56,6 +57,12 @@ stand_so roles these = subst StandSo (sym these.are) (refl, (refl, (refl, (refl,
 
 -- ---- rounds
 
+-- a scheduler that is run from here with nothing under way writes no more than it may
+abbrev pub WritesLittleFrom : Setup → Lets → List Entry → Type 0
+WritesLittleFrom setup lets h =
+    (seat : ℕ) (old after : ActorState) (past : List Entry) (b left : ℕ) (idle : Bool) → old.role.kind ≡ seats.Scheduler → IsRunOf setup past → (old.memory.stale ≡ false → old.under ≡ None) → Runs lets seat after past left idle (woken old) h b
+    → (world setup past).store.version ≤ (world setup h).store.version + pods_writes (world setup h)
+
 module _ (setup : Setup) (lets : Lets) (past : List Entry) (left : ℕ) (run : IsRunOf setup past) where
   abbrev ArePayers : List Drainer → Type 0
   ArePayers ds = (place : ℕ) (d : Drainer) → slice_get ds place ≡ Some d → IsPayer setup d
@@ -95,7 +102,7 @@ module _ (setup : Setup) (lets : Lets) (past : List Entry) (left : ℕ) (run : I
       let m = counted setup g.longer.added h middle g.longer.are in
       omega (arith, slot, later, n, m)
 
-  whole_round : (ds : List Drainer) (h : List Entry) (b : ℕ) (after : List Drainer) (whole : Bool) → IsRound lets past left ds h b after whole → StandSo (roles_of ds) → ArePayers ds → pods_writes (world setup h) ≤ 512
+  whole_round : (ds : List Drainer) (h : List Entry) (b : ℕ) (after : List Drainer) (whole : Bool) → IsRound lets past left ds h b after whole → StandSo (roles_of ds) → ArePayers ds → WritesLittleFrom setup lets h
       → writes_since setup h past + to_write setup (world setup past) ≤ to_write setup (world setup h) + 2 * pods_writes (world setup h)
   whole_round _ h b _ _ (Ends entries rest) so payers few = absurd so
   whole_round _ h b _ _ (Turns {ds = ds} {after = after} {whole = whole} d ran middle rest idle seat runs more) so payers few =
@@ -104,7 +111,7 @@ module _ (setup : Setup) (lets : Lets) (past : List Entry) (left : ℕ) (run : I
       let kind = first_kind (roles_of ds) so in
       let paid = slots_pay setup lets d.seat d.actor ran.actor h middle b rest idle p.built here runs p.rests p.pays in
       let stays = (paid_is_less setup h middle (runs_are_histories setup middle here.run) paid).stays in
-      let writes = schedulers_write_little setup lets d.seat d.actor ran.actor h middle b rest idle kind here p.rests few runs in
+      let writes = few d.seat d.actor ran.actor middle b rest idle kind here p.rests runs in
       let nodes = schedulers_select_few setup lets d.seat d.actor ran.actor h middle b rest idle kind here runs in
       let later = ops_round d.actor.role ds middle rest after whole more so (λ place x at. payers (suc place) x at) in
       let n = more_done ds middle rest after whole more in
@@ -116,5 +123,13 @@ module _ (setup : Setup) (lets : Lets) (past : List Entry) (left : ℕ) (run : I
       first_kind [] s = absurd s
       first_kind (r ∷ roles) s = s.0
 
+-- however much the scheduler may write
+pub rounds_write_as :
+    (setup : Setup) (lets : Lets) (ds after : List Drainer) (h past : List Entry) (b left : ℕ) (whole : Bool) → AreRoles (roles_of ds) → IsRunOf setup past → IsRound lets past left ds h b after whole
+    → ((place : ℕ) (d : Drainer) → slice_get ds place ≡ Some d → IsPayer setup d) → WritesLittleFrom setup lets h
+    → writes_since setup h past + to_write setup (world setup past) ≤ to_write setup (world setup h) + 2 * pods_writes (world setup h)
+rounds_write_as setup lets ds after h past b left whole roles run round payers few = whole_round setup lets past left run ds h b after whole round (stand_so (roles_of ds) roles) payers few
+
 pub rounds_write_little : RoundsWriteLittle
-rounds_write_little setup lets ds after h past b left whole roles run round payers few = whole_round setup lets past left run ds h b after whole round (stand_so (roles_of ds) roles) payers few
+rounds_write_little setup lets ds after h past b left whole roles run round payers few =
+    rounds_write_as setup lets ds after h past b left whole roles run round payers (λ seat old ran middle c rest idle kind here rests runs. schedulers_write_little setup lets seat old ran h middle c rest idle kind here rests few runs)

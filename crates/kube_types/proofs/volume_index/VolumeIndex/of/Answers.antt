@@ -1,18 +1,20 @@
-use Rattle.std.proofs.Common.{◌≡◌, drop, arith, subst}
+use Rattle.std.proofs.Common.{sym, subst}
+use Rattle.std.specs.List.Sorted.{IsPermutation}
+use Rattle.std.proofs.lemmas.Result.{IfOk-weaker}
+use Rattle.kube_types.specs.Steps.IndexEdits.{HaveOwnNames}
 use Rattle.kube_types.specs.VolumeIndex.{StandsFor, volumes_in}
-use Rattle.kube_types.proofs.IndexRows.{begun, one_more}
+use Rattle.kube_types.proofs.IndexRows.{own_names, own_names-permuted, stands_alike}
 use Rattle.kube_types.proofs.volume_index.VolumeIndex.of.Goals as goal
 
-pub loop-left-init : goal.loop-left-init
-loop-left-init c = (begun c.new-index.result c.args.rows.now c.new-index.ensures, omega arith)
-
-pub loop-left-preserved : goal.loop-left-preserved
-loop-left-preserved c = (
-  one_more c.loop-left.index c.add.new.self c.args.rows.now c.loop-left.left c.index-rows-left.result (omega arith) c.loop-left.invariant.1 c.index-rows-left.is c.requires c.in_ok-add.ensures c.loop-left.invariant.0,
-  omega (arith, c.loop-left.invariant.1),
-)
+pub of_volumes-requires : goal.of_volumes-requires
+of_volumes-requires c =
+    let own = own_names c.args.rows.now c.requires in
+    let sorted = own_names-permuted c.in_ok-volumes.volumes.items c.sort_unstable_by.new.self.items c.sort_unstable_by.ensures.permutation (subst HaveOwnNames (sym c.in_ok-volumes.ensures) own) in
+    subst HaveOwnNames (sym c.deref.ensures.value) sorted
 
 pub returns : goal.returns
 returns c =
-    let none : c.loop-left.left ≡ 0 = omega arith in
-    subst (λ n. StandsFor c.loop-left.index (volumes_in (drop n c.args.rows.now))) none c.loop-left.invariant.0
+    let same : IsPermutation (volumes_in c.args.rows.now) c.deref.result.now =
+    subst (λ vs. IsPermutation vs c.deref.result.now) c.in_ok-volumes.ensures (subst (IsPermutation c.in_ok-volumes.volumes.items) (sym c.deref.ensures.value) c.sort_unstable_by.ensures.permutation) in
+    IfOk-weaker c.of_volumes.result (λ index. StandsFor index c.deref.result.now) (λ index. StandsFor index (volumes_in c.args.rows.now))
+    (λ index stands. stands_alike index (volumes_in c.args.rows.now) c.deref.result.now same stands) c.of_volumes.ensures

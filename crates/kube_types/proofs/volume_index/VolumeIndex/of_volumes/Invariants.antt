@@ -1,10 +1,10 @@
 use Rattle.std.proofs.Common.{◌≤◌, length, drop}
-use Rattle.kube_types.specs.VolumeIndex.{StandsFor, volumes_in}
-use Rattle.kube_types.proofs.volume_index.VolumeIndex.of.Given as goal
+use Rattle.kube_types.specs.VolumeIndex.{StandsFor}
+use Rattle.kube_types.proofs.volume_index.VolumeIndex.of_volumes.Given as goal
 
 -- the index stands for the volumes from the place on
 abbrev pub invariant-loop-left : goal.invariant-loop-left
-invariant-loop-left l = StandsFor l.index (volumes_in (drop l.left l.rows)) × (l.left ≤ length l.rows)
+invariant-loop-left l = StandsFor l.index (drop l.left l.volumes) × (l.left ≤ length l.volumes)
 
 abbrev pub decreases-loop-left : goal.decreases-loop-left
 decreases-loop-left l = l.left
