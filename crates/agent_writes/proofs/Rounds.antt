@@ -36,12 +36,12 @@ module _ (setup : Setup) (lets : Lets) (past : List Entry) (left : ℕ) (run : I
 
       by : (kind : SeatKind) → d.actor.role.kind ≡ kind → if_agent kind (writes_since setup h middle) + pods_at middle ≤ pods_at h
       by seats.Agent is = agents_write_little setup lets d.seat d.actor ran.actor h middle b rest idle is here runs
-      by seats.User is = stays
-      by seats.Binder is = stays
-      by seats.Ops is = stays
-      by seats.Scheduler is = stays
-      by seats.ClaimProtect is = stays
-      by seats.VolumeProtect is = stays
+      by seats.User is = let few = stays in omega (arith, few)
+      by seats.Binder is = let few = stays in omega (arith, few)
+      by seats.Ops is = let few = stays in omega (arith, few)
+      by seats.Scheduler is = let few = stays in omega (arith, few)
+      by seats.ClaimProtect is = let few = stays in omega (arith, few)
+      by seats.VolumeProtect is = let few = stays in omega (arith, few)
 
 pub agents_of_a_round_write_little : AgentsOfARoundWriteLittle
 agents_of_a_round_write_little setup lets ds after h past b left whole roles run round = sum setup lets past left run ds h b after whole round (roles_built (roles_of ds) roles)

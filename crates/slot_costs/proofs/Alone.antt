@@ -8,15 +8,15 @@ use Rattle.call_types.specs.declared.request.SeatKind.{SeatKind}
 use Rattle.call_types.specs.declared.request.SeatKind.TheVariants as seats
 use Rattle.binder_model.specs.World.{world}
 use Rattle.model_laws.proofs.Histories.{rows_stand_in_order}
-use Rattle.settle_measure.specs.Measure.{claims_in, total}
+use Rattle.settle_measure.specs.Measure.{claims_in}
 use Rattle.worker_core.specs.Roles.{kinds_of}
 use Rattle.event_law.specs.Ahead.{sum_over}
 use Rattle.short_law.specs.Slots.{writes_since}
-use Rattle.call_count.proofs.Growth.{given_first, made_few, made_keys}
-use Rattle.slot_costs.specs.Costs.{own_calls, volume_calls}
+use Rattle.call_count.proofs.Growth.{made_few, made_keys}
+use Rattle.slot_costs.specs.Costs.{made_calls}
 use Rattle.slot_costs.specs.Slots.{SlotsCostLess, again_calls, objects_calls}
 use Rattle.slot_costs.proofs.Calls.{sweep_cost, sweep_is}
-use Rattle.slot_costs.proofs.RoundCosts.{kinds_cost, most}
+use Rattle.slot_costs.proofs.RoundCosts.{kept_first, kinds_cost, most}
 use Rattle.slot_costs.proofs.Slots.{slots_cost_less}
 
 -- what a pass costs in which each kind is listed again
@@ -37,10 +37,10 @@ kinds_few : (kind : SeatKind) (rows : List Object) → sum_over (most kind rows)
 kinds_few kind rows =
     let all = kinds_cost kind rows in
     let made = made_few rows in
-    let times = mul-le (length (made_keys rows)) (volume_calls kind) (claims_in rows) (volume_calls kind) made (omega arith) in
+    let times = mul-le (length (made_keys rows)) (made_calls kind) (claims_in rows) (made_calls kind) made (omega arith) in
     omega (arith, all, times)
 
-again_is : (kind : SeatKind) (rows : List Object) → again_calls kind rows ≡ (objects_calls kind rows + pass_calls kind) - 7 * 513
+pub again_is : (kind : SeatKind) (rows : List Object) → again_calls kind rows ≡ (objects_calls kind rows + pass_calls kind) - 7 * 513
 unfolding again_calls
 again_is kind rows = refl
 
@@ -55,7 +55,7 @@ again_more kind rows =
 pub slots_cost_by_rows : SlotsCostLess
 slots_cost_by_rows setup lets seat old after h past b left idle built run passes rests runs =
     let rows = rows_stand_in_order setup h in
-    let bound = slots_cost_less setup lets seat old after h past b left idle (world setup h).store.rows built run passes rests rows (given_first (world setup h).store.rows) runs in
+    let bound = slots_cost_less setup lets seat old after h past b left idle (world setup h).store.rows built run passes rests rows (kept_first old.role.kind (world setup h).store.rows) runs in
     let few = kinds_few old.role.kind (world setup h).store.rows in
     let swept = mul-le (sweep_cost (world setup h).store.rows old.role.kind) (writes_since setup h past / 513) (again_calls old.role.kind (world setup h).store.rows) (writes_since setup h past / 513) (again_more old.role.kind (world setup h).store.rows) (omega arith) in
     omega (arith, bound, few, swept)

@@ -1,14 +1,17 @@
 -- What a decision begins makes no more calls than the object that stands there costs an actor of this role, and a key that is queued in place of
 -- another costs no more.
-use Rattle.std.proofs.Common.{◌≡◌, ℕ, ◌≤◌, List, Bool, true, false, true≢false, Option, Some, None, refl, sym, ap, subst, arith}
+use Rattle.std.proofs.Common.{◌≡◌, ◌∙◌, ℕ, ◌≤◌, List, Bool, true, false, true≢false, Option, Some, None, refl, sym, ap, subst, arith, if◌then◌else◌}
+use Rattle.std.specs.Prelude.{is_some, not, ◌&&◌}
 use Rattle.kube_types.specs.declared.key.Key.{Key}
 use Rattle.kube_types.specs.declared.lookup.Live.TheVariants.{NotAsked}
-use Rattle.kube_types.specs.declared.parts.Kind.TheVariants as kinds
+use Rattle.kube_types.specs.declared.names.Due.TheVariants as dues
 use Rattle.kube_types.specs.declared.objects.Claim.{Claim as ClaimData}
 use Rattle.kube_types.specs.declared.objects.Object.{Object}
 use Rattle.kube_types.specs.declared.objects.Object.TheVariants.{Class, Node, Volume, Claim, Pod}
-use Rattle.kube_types.specs.Bindings.{is_empty}
+use Rattle.kube_types.specs.declared.objects.Volume.{Volume as VolumeData}
+use Rattle.kube_types.specs.Bindings.{is_delete, is_deleting, is_empty, is_ended, ref_uid}
 use Rattle.kube_types.specs.Keys.{kind_of, row_at}
+use Rattle.call_types.specs.declared.reply.MountRow.{MountRow}
 use Rattle.call_types.specs.declared.request.SeatKind.{SeatKind}
 use Rattle.call_types.specs.declared.request.SeatKind.TheVariants as seats
 use Rattle.binder_model.specs.Reading.{follows}
@@ -21,6 +24,8 @@ use Rattle.claim_sync.specs.ClaimDecision.{claim_decision}
 use Rattle.claim_sync.specs.declared.action.ClaimStep.{ClaimStep}
 use Rattle.claim_sync.specs.declared.action.ClaimStep.TheVariants as steps
 use Rattle.model_laws.proofs.Lists.{none_some, one}
+use Rattle.node_agent.specs.declared.agent.AgentOp.{AgentOp}
+use Rattle.node_agent.specs.Agents.{agent_begins}
 use Rattle.pod_scheduler.specs.Decisions.{BeginsOn}
 use Rattle.pod_scheduler.specs.declared.schedule.ScheduleStep.{ScheduleStep}
 use Rattle.pod_scheduler.specs.declared.schedule.ScheduleStep.TheVariants as schedule_steps
@@ -37,17 +42,18 @@ use Rattle.reclaim_ops.specs.declared.erase.EraseStep.TheVariants as erase_steps
 use Rattle.reclaim_ops.specs.declared.provision.ProvisionOp.{ProvisionOp}
 use Rattle.reclaim_ops.specs.declared.provision.ProvisionStep.{ProvisionStep}
 use Rattle.reclaim_ops.specs.declared.provision.ProvisionStep.TheVariants as provision_steps
-use Rattle.reclaim_ops.specs.Decisions.{claim_begins, volume_begins}
+use Rattle.reclaim_ops.specs.Decisions.{claim_begins, volume_begins, volume_for}
 use Rattle.worker_core.specs.declared.task.First.{First}
 use Rattle.worker_core.specs.declared.task.First.TheVariants as firsts
 use Rattle.worker_core.specs.declared.task.Task.{Task}
 use Rattle.worker_core.specs.declared.task.Task.TheVariants as tasks
 use Rattle.worker_core.specs.Memories.{Memory}
-use Rattle.worker_core.specs.Tasks.{IsFirstOf, claim_guard_first, ops_first, volume_guard_first}
+use Rattle.worker_core.specs.Tasks.{IsAgentFirst, IsFirstOf, agent_first, claim_guard_first, ops_first, volume_guard_first}
 use Rattle.cost_law.specs.Costs.{calls_for}
 use Rattle.cost_law.specs.Tasks.{claim_guard_left, erase_left, machine_left, provision_left, schedule_left, task_left, volume_guard_left}
 use Rattle.cost_law.proofs.Begun.{begun_on}
-use Rattle.slot_costs.specs.Costs.{claim_calls, own_calls, volume_calls}
+use Rattle.slot_costs.specs.Costs.{claim_calls, made_calls, own_calls, volume_calls}
+use Rattle.slot_costs.proofs.RoundCosts.{is_now}
 
 -- the decision rests on an object of a kind that is followed, and what it begins makes no more calls than that costs
 pub record BeginsOnOwn (kind : SeatKind) (row : Option Object) (task : Task) : Type 0 where
@@ -130,17 +136,28 @@ task_in first = None
 of_task : {kind : SeatKind} {row : Option Object} (t task : Task) → Some t ≡ Some task → BeginsOnOwn kind row t → BeginsOnOwn kind row task
 of_task {kind = kind} {row = row} t task e b = subst (BeginsOnOwn kind row) (one t task e) b
 
+-- nothing is due of a volume that has not ended
+no_reclaim : (v : VolumeData) → is_ended v.phase ≡ false → volume_begins (Some (Volume v)) ≡ None
+no_reclaim v not_over = ap (λ b. volume_for v (if b && is_delete v.policy && is_some (ref_uid v.claim_ref) && not (is_deleting v.meta) then Some dues.Reclaim else None)) not_over
+
 ops_begun : (rows : List Object) (row : Option Object) (task : Task) → firsts.Begins task ≡ ops_first (claim_begins rows row) (volume_begins row) → BeginsOnOwn seats.Ops row task
 ops_begun rows (Some (Claim c)) task first = by (claim_begins rows (Some (Claim c))) (ap task_in first)
   where
     by : (x : Option ProvisionOp) → Some task ≡ task_in (ops_first x None) → BeginsOnOwn seats.Ops (Some (Claim c)) task
     by None e = none_some (sym e)
     by (Some op) e = of_task (tasks.Provision op) task (sym e) (record { object = Claim c; there = refl; followed = refl; light = few_provisions op.step })
-ops_begun rows (Some (Volume v)) task first = by (volume_begins (Some (Volume v))) (ap task_in first)
+ops_begun rows (Some (Volume v)) task first = ended (is_ended v.phase) refl
   where
-    by : (x : Option EraseOp) → Some task ≡ task_in (ops_first None x) → BeginsOnOwn seats.Ops (Some (Volume v)) task
-    by None e = none_some (sym e)
-    by (Some op) e = of_task (tasks.Erase op) task (sym e) (record { object = Volume v; there = refl; followed = refl; light = few_erases op.step })
+    by : is_ended v.phase ≡ true → (x : Option EraseOp) → Some task ≡ task_in (ops_first None x) → BeginsOnOwn seats.Ops (Some (Volume v)) task
+    by over None e = none_some (sym e)
+    by over (Some op) e =
+        let few = few_erases op.step in
+        let own : volume_calls seats.Ops v ≡ 3 = ap (λ b. if b then 3 else 0) over in
+        of_task (tasks.Erase op) task (sym e) (record { object = Volume v; there = refl; followed = refl; light = omega (arith, few, own) })
+
+    ended : (b : Bool) → is_ended v.phase ≡ b → BeginsOnOwn seats.Ops (Some (Volume v)) task
+    ended true over = by over (volume_begins (Some (Volume v))) (ap task_in first)
+    ended false not_over = none_some (sym (ap task_in first ∙ ap (λ x. task_in (ops_first None x)) (no_reclaim v not_over)))
 ops_begun rows (Some (Class x)) task first = none_some (sym (ap task_in first))
 ops_begun rows (Some (Node x)) task first = none_some (sym (ap task_in first))
 ops_begun rows (Some (Pod x)) task first = none_some (sym (ap task_in first))
@@ -201,10 +218,42 @@ begun_on_own seats.Agent node m rows key task first =
     record { object = b.object; there = b.there; followed = b.followed; light = omega (arith, light, own) }
 begun_on_own seats.User node m rows key task first = absurd first
 
--- who decides a volume pays no more for a claim that is queued in its place
-pub claim_for_volume : (kind : SeatKind) → follows kind kinds.PersistentVolume ≡ true → claim_calls kind ≤ volume_calls kind
-claim_for_volume seats.ClaimProtect followed = absurd (true≢false (sym followed))
-claim_for_volume seats.Binder followed = omega arith
-claim_for_volume seats.Ops followed = omega arith
-claim_for_volume seats.VolumeProtect followed = omega arith
-claim_for_volume _ followed = omega arith
+-- who queues a claim in place of a volume pays no more for it
+abbrev queues : First → Bool
+queues (firsts.Queues other) = true
+queues first = false
+
+pub record QueuesSo (kind : SeatKind) : Type 0 where
+  pub then_ : is_now kind ≡ false
+  pub less : claim_calls kind ≤ made_calls kind
+
+pub queues_so : (kind : SeatKind) (node : List ℕ) (m : Memory) (rows : List Object) (key other : Key) → IsFirstOf kind node m rows key (firsts.Queues other) → QueuesSo kind
+queues_so seats.User node m rows key other first = record { then_ = refl; less = omega arith }
+queues_so seats.Binder node m rows key other first = record { then_ = refl; less = omega arith }
+queues_so seats.Scheduler node m rows key other first = absurd first
+queues_so seats.Ops node m rows key other first = by (claim_begins rows (row_at key rows)) (volume_begins (row_at key rows)) (ap queues first)
+  where
+    by : (x : Option ProvisionOp) (y : Option EraseOp) → true ≡ queues (ops_first x y) → QueuesSo seats.Ops
+    by None None e = absurd (true≢false e)
+    by None (Some op) e = absurd (true≢false e)
+    by (Some op) y e = absurd (true≢false e)
+queues_so seats.ClaimProtect node m rows key other first = by (claim_guard_begins rows (row_at key rows)) (ap queues first)
+  where
+    by : (x : Option ClaimGuardOp) → true ≡ queues (claim_guard_first x) → QueuesSo seats.ClaimProtect
+    by None e = absurd (true≢false e)
+    by (Some op) e = absurd (true≢false e)
+queues_so seats.VolumeProtect node m rows key other first = by (volume_guard_begins (row_at key rows)) (ap queues first)
+  where
+    by : (x : Option VolumeGuardOp) → true ≡ queues (volume_guard_first x) → QueuesSo seats.VolumeProtect
+    by None e = absurd (true≢false e)
+    by (Some op) e = absurd (true≢false e)
+queues_so seats.Agent node m rows key other first = by m.epoch m.mounts first
+  where
+    begun : (x : Option AgentOp) → true ≡ queues (agent_first x) → QueuesSo seats.Agent
+    begun None e = absurd (true≢false e)
+    begun (Some op) e = absurd (true≢false e)
+
+    by : (epoch : Option ℕ) (mounts : Option (List MountRow)) → IsAgentFirst node epoch mounts (row_at key rows) (firsts.Queues other) → QueuesSo seats.Agent
+    by (Some epoch) (Some mounts) f = begun (agent_begins node epoch mounts (row_at key rows)) (ap queues f)
+    by (Some epoch) None f = absurd f
+    by None mounts f = absurd f

@@ -1,7 +1,9 @@
 pub mod Alone
 pub mod Begun
 pub mod Calls
+pub mod Ending
 pub mod Made
+pub mod Ops
 pub mod Passes
 pub mod Reaching
 pub mod RoundCosts

@@ -60,9 +60,11 @@ use Rattle.done_lasts.proofs.Doing.{write_asked}
 use Rattle.write_count.proofs.Runs.{IsCalled}
 use Rattle.write_count.proofs.Slots.{ComesTo, Leaves, Wrote, comes_to}
 use Rattle.short_law.specs.Slots.{is_own_read}
-use Rattle.call_count.proofs.Growth.{AreGiven, Comes, IsFor, IsOver, moved_given}
+use Rattle.call_count.proofs.Growth.{Comes, IsFor, IsOver}
 use Rattle.call_count.proofs.Made.{IsOrdered, NothingUnder, PassIsOver}
-use Rattle.slot_costs.proofs.RoundCosts.{CallMoves, IsSame, Moved}
+use Rattle.slot_costs.specs.Costs.{own_calls}
+use Rattle.slot_costs.proofs.Ending.{ops_end_none}
+use Rattle.slot_costs.proofs.RoundCosts.{CallMoves, IsSame, Moved, agents_come, is_now, now_cost}
 
 -- ---- what a controller may write
 
@@ -189,6 +191,18 @@ module _ (w : World) (mine : List Entry) (kind : SeatKind) (built : IsBuiltKind 
       over key (Pod i.pod) o i.there (ap key_of i.is) (omega (arith, names)) (ap (λ y. (meta_of y).uid) i.is)
   comes _ o may i knows = absurd i
 
+-- ---- what it writes costs ops and an agent no more than what stood in its place
+
+now_light : (setup : Setup) (seat : ℕ) (h : List Entry) → IsHistory setup h → (kind : SeatKind) (r : Request) (o : Object) → is_now kind ≡ true → Licensed kind (own seat h) r → Writes (world setup h) kind r o → Comes (world setup h).store.rows o
+    → own_calls kind o ≤ now_cost kind (world setup h).store.rows (key_of o)
+now_light setup seat h history seats.Ops r o now may writes come = ops_end_none setup seat h history o r may writes
+now_light setup seat h history seats.Agent r o now may writes come = agents_come (world setup h).store.rows o come
+now_light setup seat h history seats.User r o now may writes come = absurd (true≢false (sym now))
+now_light setup seat h history seats.Binder r o now may writes come = absurd (true≢false (sym now))
+now_light setup seat h history seats.Scheduler r o now may writes come = absurd (true≢false (sym now))
+now_light setup seat h history seats.ClaimProtect r o now may writes come = absurd (true≢false (sym now))
+now_light setup seat h history seats.VolumeProtect r o now may writes come = absurd (true≢false (sym now))
+
 -- ---- what is under way is so past the pass
 
 pub turned_ordered : (s given : ActorState) (request : Request) → IsTurn s given (Call request) → IsOrdered s → IsOrdered given
@@ -262,7 +276,7 @@ module _ (setup : Setup) (seat : ℕ) (x : ActorState) (request : Request) (repl
       by (Some (givens.Read k)) e o = read k (ask_of (cache_of k x.caches)) (one (read_of_kind x.caches k) request (ap (given_call x) (sym e) ∙ called.ask))
 
   -- what comes of a call
-  pub call_moves : IsBuiltKind x.role.kind → KnowsBehind setup seat x.role x.pass h → IsOrdered x → CallMoves (world setup h).store.rows (world setup (told_entry seat x request reply ∷ h)).store.rows
+  pub call_moves : IsBuiltKind x.role.kind → KnowsBehind setup seat x.role x.pass h → IsOrdered x → CallMoves x.role.kind (world setup h).store.rows (world setup (told_entry seat x request reply ∷ h)).store.rows
   call_moves built knows ordered = by (comes_to (world setup h) (effect setup (world setup h) x.role.kind request))
     where
       history : IsHistory setup (told_entry seat x request reply ∷ h)
@@ -273,16 +287,15 @@ module _ (setup : Setup) (seat : ℕ) (x : ActorState) (request : Request) (repl
           let shown = sees setup seat x h history.0 called.stands knows (create_over kind is ordered) (claim_key c.meta.namespace c.meta.name) (ap (λ k. follows k kinds.PersistentVolumeClaim) kind) in
           sym shown ∙ (called.stands.caches.rows (claim_key c.meta.namespace c.meta.name) ∙ newest)
 
-      by : ComesTo (world setup h) (effect setup (world setup h) x.role.kind request) → CallMoves (world setup h).store.rows (world setup (told_entry seat x request reply ∷ h)).store.rows
+      no_more : (o : Object) → Writes (world setup h) x.role.kind request o → Comes (world setup h).store.rows o → is_now x.role.kind ≡ true → own_calls x.role.kind o ≤ now_cost x.role.kind (world setup h).store.rows (key_of o)
+      no_more o writes come now = now_light setup seat h history.0 x.role.kind request o now called.may writes come
+
+      by : ComesTo (world setup h) (effect setup (world setup h) x.role.kind request) → CallMoves x.role.kind (world setup h).store.rows (world setup (told_entry seat x request reply ∷ h)).store.rows
       by (Leaves same) = IsSame (ap (λ s. s.rows) same)
       by (Wrote o written version moved) =
           let writes = write_asked setup (world setup h) x.role.kind request o (effect setup (world setup h) x.role.kind request) (effect_form setup (world setup h) x.role.kind request (rows_stand_in_order setup h)) written in
-          Moved o (comes (world setup h) (own seat h) x.role.kind built request o called.may writes claims) moved
-
--- and keeps what is given
-pub given_on : (setup : Setup) (first : List Object) (h : List Entry) (new : List Object) → CallMoves (world setup h).store.rows new → AreGiven first (world setup h).store.rows → AreGiven first new
-given_on setup first h new (IsSame same) given = subst (AreGiven first) (sym same) given
-given_on setup first h new (Moved o comes moved) given = moved_given first (world setup h).store.rows given (rows_stand_in_order setup h) new o comes moved
+          let come = comes (world setup h) (own seat h) x.role.kind built request o called.may writes claims in
+          Moved o come (no_more o writes come) moved
 
 -- ---- a list, a watch of a whole kind and a call of the start write nothing
 

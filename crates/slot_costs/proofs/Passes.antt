@@ -59,10 +59,9 @@ use Rattle.event_law.specs.Ahead.{Point, from_of, sum_over}
 use Rattle.cost_law.specs.Ends.{done_by, start_left}
 use Rattle.event_law.specs.Telling.{told}
 use Rattle.pass_law.specs.Passes.{KindsHaveReached, IsCallGiven}
-use Rattle.call_count.proofs.Growth.{AreGiven}
 use Rattle.call_count.proofs.Sums.{one_more}
 use Rattle.slot_costs.proofs.Calls.{AtKeys, IsLess, call_pays, few_on, kind_left, kinds_left, low_on, pass_left, rest_left, slot_left, told_cost_or}
-use Rattle.slot_costs.proofs.RoundCosts.{cost_in, cost_light, event_calls, key_calls, listed_few, most, work_less}
+use Rattle.slot_costs.proofs.RoundCosts.{AreKept, cost_in, cost_light, event_calls, key_calls, listed_few, most, work_less}
 
 -- the answers
 
@@ -128,7 +127,7 @@ kind_still setup kind keys e h k (Some from) stays =
     ap (λ n. told_cost_or kind (nat_lt (from + 512) n) keys (pending k from (world setup (e ∷ h)).log)) stays.version ∙ ap (λ l. told_cost_or kind (nat_lt (from + 512) (world setup h).store.version) keys (pending k from l)) stays.log
 
 module _ (setup : Setup) (first : List Object) (seat base m high : ℕ) (x : ActorState) (request : Request) (reply : Reply) (h : List Entry) (given : IsCallGiven setup seat x request reply h) (at : Point setup x.role.kind base m high h)
-    (begins : base_of setup ≤ base) (reached : KindsHaveReached base seat x.role.kind h) (short : (world setup (told_entry seat x request reply ∷ h)).store.version ≤ high) (order : AreRows first) (so : AreGiven first (world setup h).store.rows)
+    (begins : base_of setup ≤ base) (reached : KindsHaveReached base seat x.role.kind h) (short : (world setup (told_entry seat x request reply ∷ h)).store.version ≤ high) (order : AreRows first) (so : AreKept x.role.kind first (world setup h).store.rows)
     (falls : (key : Key) → cost_in x.role.kind first (world setup (told_entry seat x request reply ∷ h)).store.rows key ≤ cost_in x.role.kind first (world setup h).store.rows key) where
   moves : Stays (world setup h) (world setup (told_entry seat x request reply ∷ h)) request reply ⊎ Wrote (world setup h) (world setup (told_entry seat x request reply ∷ h)) reply
   moves = world_moves setup (told_entry seat x request reply) h given.history.1

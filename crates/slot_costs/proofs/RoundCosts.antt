@@ -13,8 +13,9 @@ use Rattle.kube_types.specs.declared.parts.Kind.TheVariants as kinds
 use Rattle.kube_types.specs.declared.objects.Claim.{Claim as ClaimData}
 use Rattle.kube_types.specs.declared.objects.Object.{Object}
 use Rattle.kube_types.specs.declared.objects.Object.TheVariants.{Class, Node, Volume, Claim, Pod}
-use Rattle.kube_types.specs.declared.objects.Pod.{Pod as PodData}
+use Rattle.kube_types.specs.declared.objects.Volume.{Volume as VolumeData}
 use Rattle.kube_types.specs.declared.uid.Uid.{Uid}
+use Rattle.kube_types.specs.Bindings.{is_ended}
 use Rattle.kube_types.specs.Keys.{AreRows, is_of_kind, key_cmp, key_of, kind_index, kind_of, row_at, rows_of, same_key, same_kind, without_row}
 use Rattle.kube_types.proofs.KeyOrder.{key_cmp_total, row_at-put_row, row_at-put_row_other, row_at-without_row, row_at-without_row_other, row_at_key}
 use Rattle.kube_types.proofs.SameKeys.{key_tells, same_key-Decides, same_key_itself, same_kind-Decides}
@@ -32,16 +33,22 @@ use Rattle.cost_law.proofs.Works.{changed_cost, cost_without}
 use Rattle.event_law.proofs.Sums.{sum_less}
 use Rattle.event_law.specs.Ahead.{sum_over}
 use Rattle.short_law.specs.Rounds.{names_in}
-use Rattle.call_count.proofs.Growth.{AreGiven, Comes, IsFor, IsGiven, IsMade, IsOld, IsOver, made_keys}
+use Rattle.call_count.proofs.Growth.{AreGiven, Comes, IsFor, IsGiven, IsMade, IsOld, IsOver, given_first, made_keys, moved_given}
 use Rattle.call_count.proofs.Sums.{one_more}
 use Rattle.write_count.proofs.Nodes.{IsMoved}
-use Rattle.slot_costs.specs.Costs.{claim_calls, own_calls, pod_calls, volume_calls}
+use Rattle.slot_costs.specs.Costs.{claim_calls, made_calls, own_calls, pod_calls, volume_calls}
 
 -- ---- the costs
 
 abbrev pub is_agent : SeatKind → Bool
 is_agent seats.Agent = true
 is_agent kind = false
+
+-- a key costs ops and an agent by what stands there now, any other by what stood there when the round began
+abbrev pub is_now : SeatKind → Bool
+is_now seats.Ops = true
+is_now seats.Agent = true
+is_now kind = false
 
 -- and one that was written in the slot no more than that
 abbrev pub key_calls : SeatKind → ℕ
@@ -80,61 +87,82 @@ cost_or fresh kind None = fresh
 cost_or fresh kind (Some o) = own_calls kind o
 
 abbrev pub stood_cost : SeatKind → List Object → Key → ℕ
-stood_cost kind first key = cost_or (fresh_cost (volume_calls kind) (is_fresh first key)) kind (row_at key first)
+stood_cost kind first key = cost_or (fresh_cost (made_calls kind) (is_fresh first key)) kind (row_at key first)
 
--- by what stands now for an agent, whose pods leave
+-- by what stands now for an agent, whose pods leave, and for ops, by which no volume ends
 abbrev pub cost_by : Bool → SeatKind → List Object → List Object → Key → ℕ
 cost_by true kind first rows key = weigh_if (own_calls kind) (row_at key rows)
 cost_by false kind first rows key = stood_cost kind first key
 
 abbrev pub cost_in : SeatKind → List Object → List Object → Key → ℕ
-cost_in kind first rows key = cost_by (is_agent kind) kind first rows key
+cost_in kind first rows key = cost_by (is_now kind) kind first rows key
 
 -- what the objects of a kind may cost an actor at most, with the volumes that may be made
 abbrev pub picked : SeatKind → Kind → Object → ℕ
 picked kind k o = if is_of_kind k o then own_calls kind o else 0
 
 abbrev pub made_most : SeatKind → List Object → Kind → ℕ
-made_most kind first k = if same_kind k kinds.PersistentVolume then length (made_keys first) * volume_calls kind else 0
+made_most kind first k = if same_kind k kinds.PersistentVolume then length (made_keys first) * made_calls kind else 0
 
 abbrev pub most : SeatKind → List Object → Kind → ℕ
 most kind first k = total (picked kind k) first + made_most kind first k
 
 -- ---- one object
 
--- but for an agent by its kind alone
+-- but for an agent and ops by its kind alone
 abbrev plain_pod : SeatKind → ℕ
 plain_pod seats.Scheduler = 1
 plain_pod kind = 0
 
 abbrev plain_of : SeatKind → Kind → ℕ
-plain_of kind kinds.PersistentVolume = volume_calls kind
+plain_of kind kinds.PersistentVolume = made_calls kind
 plain_of kind kinds.PersistentVolumeClaim = claim_calls kind
 plain_of kind kinds.Pod = plain_pod kind
 plain_of kind k = 0
 
-own_plain : (kind : SeatKind) → is_agent kind ≡ false → (o : Object) → own_calls kind o ≡ plain_of kind (kind_of o)
-own_plain kind no_agent (Class x) = refl
-own_plain kind no_agent (Node x) = refl
-own_plain kind no_agent (Volume v) = refl
-own_plain kind no_agent (Claim c) = refl
-own_plain seats.Agent no_agent (Pod p) = absurd (true≢false no_agent)
-own_plain seats.User no_agent (Pod p) = refl
-own_plain seats.Binder no_agent (Pod p) = refl
-own_plain seats.Ops no_agent (Pod p) = refl
-own_plain seats.Scheduler no_agent (Pod p) = refl
-own_plain seats.ClaimProtect no_agent (Pod p) = refl
-own_plain seats.VolumeProtect no_agent (Pod p) = refl
+plain_volume : (kind : SeatKind) → is_now kind ≡ false → (v : VolumeData) → volume_calls kind v ≡ made_calls kind
+plain_volume seats.Ops then_ v = absurd (true≢false then_)
+plain_volume seats.Agent then_ v = absurd (true≢false then_)
+plain_volume seats.User then_ v = refl
+plain_volume seats.Binder then_ v = refl
+plain_volume seats.Scheduler then_ v = refl
+plain_volume seats.ClaimProtect then_ v = refl
+plain_volume seats.VolumeProtect then_ v = refl
 
-own_same : (kind : SeatKind) → is_agent kind ≡ false → (o was : Object) → kind_of o ≡ kind_of was → own_calls kind o ≡ own_calls kind was
-own_same kind no_agent o was same = own_plain kind no_agent o ∙ (ap (plain_of kind) same ∙ sym (own_plain kind no_agent was))
+own_plain : (kind : SeatKind) → is_now kind ≡ false → (o : Object) → own_calls kind o ≡ plain_of kind (kind_of o)
+own_plain kind then_ (Class x) = refl
+own_plain kind then_ (Node x) = refl
+own_plain kind then_ (Volume v) = plain_volume kind then_ v
+own_plain kind then_ (Claim c) = refl
+own_plain seats.Agent then_ (Pod p) = absurd (true≢false then_)
+own_plain seats.Ops then_ (Pod p) = absurd (true≢false then_)
+own_plain seats.User then_ (Pod p) = refl
+own_plain seats.Binder then_ (Pod p) = refl
+own_plain seats.Scheduler then_ (Pod p) = refl
+own_plain seats.ClaimProtect then_ (Pod p) = refl
+own_plain seats.VolumeProtect then_ (Pod p) = refl
+
+own_same : (kind : SeatKind) → is_now kind ≡ false → (o was : Object) → kind_of o ≡ kind_of was → own_calls kind o ≡ own_calls kind was
+own_same kind then_ o was same = own_plain kind then_ o ∙ (ap (plain_of kind) same ∙ sym (own_plain kind then_ was))
 
 -- no more than it may cost any actor
-pub volume_less : (kind : SeatKind) → volume_calls kind ≤ 3
-volume_less seats.Binder = omega arith
-volume_less seats.Ops = omega arith
-volume_less seats.VolumeProtect = omega arith
-volume_less _ = omega arith
+pub made_less : (kind : SeatKind) → made_calls kind ≤ 3
+made_less seats.Binder = omega arith
+made_less seats.VolumeProtect = omega arith
+made_less _ = omega arith
+
+pub volume_less : (kind : SeatKind) (v : VolumeData) → volume_calls kind v ≤ 3
+volume_less seats.Ops v = by (is_ended v.phase)
+  where
+    by : (b : Bool) → (if b then 3 else 0) ≤ 3
+    by true = omega arith
+    by false = omega arith
+volume_less seats.User v = omega arith
+volume_less seats.Binder v = omega arith
+volume_less seats.Scheduler v = omega arith
+volume_less seats.ClaimProtect v = omega arith
+volume_less seats.VolumeProtect v = omega arith
+volume_less seats.Agent v = omega arith
 
 pub claim_less : (kind : SeatKind) → claim_calls kind ≤ 2
 claim_less seats.Binder = omega arith
@@ -145,7 +173,7 @@ claim_less _ = omega arith
 own_less : (kind : SeatKind) (o : Object) → own_calls kind o ≤ calls_for kind o
 own_less kind (Class x) = omega arith
 own_less kind (Node x) = omega arith
-own_less kind (Volume v) = volume_less kind
+own_less kind (Volume v) = volume_less kind v
 own_less kind (Claim c) = let few = claim_less kind in omega (arith, few)
 own_less kind (Pod p) = pods kind
   where
@@ -155,11 +183,19 @@ own_less kind (Pod p) = pods kind
     pods _ = omega arith
 
 -- but for an agent no more than any key
-volume_light : (kind : SeatKind) → volume_calls kind ≤ key_calls kind
-volume_light seats.Binder = omega arith
-volume_light seats.Ops = omega arith
-volume_light seats.VolumeProtect = omega arith
-volume_light _ = omega arith
+made_light : (kind : SeatKind) → made_calls kind ≤ key_calls kind
+made_light seats.Binder = omega arith
+made_light seats.VolumeProtect = omega arith
+made_light _ = omega arith
+
+volume_light : (kind : SeatKind) (v : VolumeData) → volume_calls kind v ≤ key_calls kind
+volume_light seats.Ops v = volume_less seats.Ops v
+volume_light seats.User v = omega arith
+volume_light seats.Binder v = omega arith
+volume_light seats.Scheduler v = omega arith
+volume_light seats.ClaimProtect v = omega arith
+volume_light seats.VolumeProtect v = omega arith
+volume_light seats.Agent v = omega arith
 
 claim_light : (kind : SeatKind) → claim_calls kind ≤ key_calls kind
 claim_light seats.Binder = omega arith
@@ -170,35 +206,51 @@ claim_light _ = omega arith
 pub own_light : (kind : SeatKind) → is_agent kind ≡ false → (o : Object) → own_calls kind o ≤ key_calls kind
 own_light kind no_agent (Class x) = omega arith
 own_light kind no_agent (Node x) = omega arith
-own_light kind no_agent (Volume v) = volume_light kind
+own_light kind no_agent (Volume v) = volume_light kind v
 own_light kind no_agent (Claim c) = claim_light kind
 own_light seats.Agent no_agent (Pod p) = absurd (true≢false no_agent)
 own_light seats.Scheduler no_agent (Pod p) = omega arith
 own_light _ no_agent (Pod p) = omega arith
 
 -- a volume, and a claim, by the kinds of their keys
-pub of_volume : (kind : SeatKind) (o : Object) → kind_index (kind_of o) ≡ 2 → own_calls kind o ≡ volume_calls kind
-of_volume kind (Volume v) two = refl
-of_volume kind (Class x) two = absurd (omega (arith, two))
-of_volume kind (Node x) two = absurd (omega (arith, two))
-of_volume kind (Claim x) two = absurd (omega (arith, two))
-of_volume kind (Pod x) two = absurd (omega (arith, two))
+pub of_volume : (kind : SeatKind) → is_now kind ≡ false → (o : Object) → kind_index (kind_of o) ≡ 2 → own_calls kind o ≡ made_calls kind
+of_volume kind then_ (Volume v) two = plain_volume kind then_ v
+of_volume kind then_ (Class x) two = absurd (omega (arith, two))
+of_volume kind then_ (Node x) two = absurd (omega (arith, two))
+of_volume kind then_ (Claim x) two = absurd (omega (arith, two))
+of_volume kind then_ (Pod x) two = absurd (omega (arith, two))
 
-of_claim : (kind : SeatKind) (o : Object) → kind_index (kind_of o) ≡ 3 → own_calls kind o ≡ claim_calls kind
+agents_volume : (o : Object) → kind_index (kind_of o) ≡ 2 → own_calls seats.Agent o ≡ 0
+agents_volume (Volume v) two = refl
+agents_volume (Class x) two = refl
+agents_volume (Node x) two = refl
+agents_volume (Claim x) two = refl
+agents_volume (Pod x) two = absurd (omega (arith, two))
+
+pub of_claim : (kind : SeatKind) (o : Object) → kind_index (kind_of o) ≡ 3 → own_calls kind o ≡ claim_calls kind
 of_claim kind (Claim c) three = refl
 of_claim kind (Class x) three = absurd (omega (arith, three))
 of_claim kind (Node x) three = absurd (omega (arith, three))
 of_claim kind (Volume x) three = absurd (omega (arith, three))
 of_claim kind (Pod x) three = absurd (omega (arith, three))
 
-pub agent_kind : (kind : SeatKind) → is_agent kind ≡ true → kind ≡ seats.Agent
-agent_kind seats.Agent e = refl
-agent_kind seats.User e = absurd (true≢false (sym e))
-agent_kind seats.Binder e = absurd (true≢false (sym e))
-agent_kind seats.Ops e = absurd (true≢false (sym e))
-agent_kind seats.Scheduler e = absurd (true≢false (sym e))
-agent_kind seats.ClaimProtect e = absurd (true≢false (sym e))
-agent_kind seats.VolumeProtect e = absurd (true≢false (sym e))
+now_three : (kind : SeatKind) → is_now kind ≡ true → key_calls kind ≡ 3
+now_three seats.Ops e = refl
+now_three seats.Agent e = refl
+now_three seats.User e = absurd (true≢false (sym e))
+now_three seats.Binder e = absurd (true≢false (sym e))
+now_three seats.Scheduler e = absurd (true≢false (sym e))
+now_three seats.ClaimProtect e = absurd (true≢false (sym e))
+now_three seats.VolumeProtect e = absurd (true≢false (sym e))
+
+no_agent : (kind : SeatKind) → is_now kind ≡ false → is_agent kind ≡ false
+no_agent seats.Agent e = e
+no_agent seats.Ops e = refl
+no_agent seats.User e = refl
+no_agent seats.Binder e = refl
+no_agent seats.Scheduler e = refl
+no_agent seats.ClaimProtect e = refl
+no_agent seats.VolumeProtect e = refl
 
 -- ---- the volumes that may be made
 
@@ -254,44 +306,44 @@ not_fresh first key other = by (list_any (same_key key) (made_keys first)) refl
 
 -- ---- what a decision costs
 
-pub stood_light : (kind : SeatKind) → is_agent kind ≡ false → (first : List Object) (key : Key) → stood_cost kind first key ≤ key_calls kind
-stood_light kind no_agent first key = by (row_at key first) (is_fresh first key)
+pub stood_light : (kind : SeatKind) → is_now kind ≡ false → (first : List Object) (key : Key) → stood_cost kind first key ≤ key_calls kind
+stood_light kind then_ first key = by (row_at key first) (is_fresh first key)
   where
-    by : (x : Option Object) (b : Bool) → cost_or (fresh_cost (volume_calls kind) b) kind x ≤ key_calls kind
-    by None true = volume_light kind
+    by : (x : Option Object) (b : Bool) → cost_or (fresh_cost (made_calls kind) b) kind x ≤ key_calls kind
+    by None true = made_light kind
     by None false = omega arith
-    by (Some o) b = own_light kind no_agent o
+    by (Some o) b = own_light kind (no_agent kind then_) o
 
 pub cost_light : (kind : SeatKind) (first rows : List Object) (key : Key) → key_cost kind rows key ≤ 3 → cost_in kind first rows key ≤ key_calls kind
-cost_light kind first rows key light = by (is_agent kind) refl
+cost_light kind first rows key light = by (is_now kind) refl
   where
     at : (x : Option Object) → calls_if kind x ≤ 3 → weigh_if (own_calls kind) x ≤ 3
     at None l = omega arith
     at (Some o) l = let less = own_less kind o in omega (arith, less, l)
 
-    by : (b : Bool) → is_agent kind ≡ b → cost_by b kind first rows key ≤ key_calls kind
-    by true e = let few = at (row_at key rows) light in let three : key_calls kind ≡ 3 = ap key_calls (agent_kind kind e) in omega (arith, few, three)
+    by : (b : Bool) → is_now kind ≡ b → cost_by b kind first rows key ≤ key_calls kind
+    by true e = let few = at (row_at key rows) light in let three = now_three kind e in omega (arith, few, three)
     by false e = stood_light kind e first key
 
 -- what stands at a key costs no more than was reckoned for the key
 module _ (kind : SeatKind) (first rows : List Object) (given : AreGiven first rows) where
-  covers_stood : is_agent kind ≡ false → (key : Key) (o : Object) → row_at key rows ≡ Some o → own_calls kind o ≤ stood_cost kind first key
-  covers_stood no_agent key o there = by (given key o there)
+  covers_stood : is_now kind ≡ false → (key : Key) (o : Object) → row_at key rows ≡ Some o → own_calls kind o ≤ stood_cost kind first key
+  covers_stood then_ key o there = by (given key o there)
     where
       keyed : kind_of o ≡ key.kind
       keyed = ap (λ (k : Key). k.kind) (row_at_key key o rows there)
 
       by_old : (was : Object) → row_at key first ≡ Some was → own_calls kind o ≤ stood_cost kind first key
       by_old was before =
-          let same = own_same kind no_agent o was (keyed ∙ sym (ap (λ (k : Key). k.kind) (row_at_key key was first before))) in
-          let is : stood_cost kind first key ≡ own_calls kind was = ap (cost_or (fresh_cost (volume_calls kind) (is_fresh first key)) kind) before in
+          let same = own_same kind then_ o was (keyed ∙ sym (ap (λ (k : Key). k.kind) (row_at_key key was first before))) in
+          let is : stood_cost kind first key ≡ own_calls kind was = ap (cost_or (fresh_cost (made_calls kind) (is_fresh first key)) kind) before in
           omega (arith, same, is)
 
       by_made : IsIn key (made_keys first) → (x : Option Object) → row_at key first ≡ x → own_calls kind o ≤ stood_cost kind first key
       by_made i None none =
           let any : is_fresh first key ≡ true = any_in key (made_keys first) i in
-          let is : stood_cost kind first key ≡ volume_calls kind = ap (cost_or (fresh_cost (volume_calls kind) (is_fresh first key)) kind) none ∙ ap (fresh_cost (volume_calls kind)) any in
-          let own = of_volume kind o (ap kind_index keyed ∙ made_kind key first i) in
+          let is : stood_cost kind first key ≡ made_calls kind = ap (cost_or (fresh_cost (made_calls kind) (is_fresh first key)) kind) none ∙ ap (fresh_cost (made_calls kind)) any in
+          let own = of_volume kind then_ o (ap kind_index keyed ∙ made_kind key first i) in
           omega (arith, is, own)
       by_made i (Some was) before = by_old was before
 
@@ -300,15 +352,15 @@ module _ (kind : SeatKind) (first rows : List Object) (given : AreGiven first ro
       by (IsMade i none) = by_made i (row_at key first) refl
 
   pub covers : (key : Key) (o : Object) → row_at key rows ≡ Some o → own_calls kind o ≤ cost_in kind first rows key
-  covers key o there = by (is_agent kind) refl
+  covers key o there = by (is_now kind) refl
     where
-      by : (b : Bool) → is_agent kind ≡ b → own_calls kind o ≤ cost_by b kind first rows key
+      by : (b : Bool) → is_now kind ≡ b → own_calls kind o ≤ cost_by b kind first rows key
       by true e = let is : weigh_if (own_calls kind) (row_at key rows) ≡ own_calls kind o = ap (weigh_if (own_calls kind)) there in omega (arith, is)
       by false e = covers_stood e key o there
 
 -- the key of a claim that is queued
 pub queued_cost : (kind : SeatKind) (first rows : List Object) (other : Key) → kind_index other.kind ≡ 3 → cost_in kind first rows other ≤ claim_calls kind
-queued_cost kind first rows other claim = by (is_agent kind)
+queued_cost kind first rows other claim = by (is_now kind)
   where
     one_of : (os : List Object) (o : Object) → row_at other os ≡ Some o → own_calls kind o ≤ claim_calls kind
     one_of os o there = let own = of_claim kind o (ap (λ (k : Key). kind_index k.kind) (row_at_key other o os there) ∙ claim) in omega (arith, own)
@@ -320,8 +372,8 @@ queued_cost kind first rows other claim = by (is_agent kind)
     none_fresh : is_fresh first other ≡ false
     none_fresh = not_fresh first other (λ two. absurd (omega (arith, two, claim)))
 
-    then_ : (x : Option Object) → row_at other first ≡ x → cost_or (fresh_cost (volume_calls kind) (is_fresh first other)) kind x ≤ claim_calls kind
-    then_ None e = let z : fresh_cost (volume_calls kind) (is_fresh first other) ≡ 0 = ap (fresh_cost (volume_calls kind)) none_fresh in omega (arith, z)
+    then_ : (x : Option Object) → row_at other first ≡ x → cost_or (fresh_cost (made_calls kind) (is_fresh first other)) kind x ≤ claim_calls kind
+    then_ None e = let z : fresh_cost (made_calls kind) (is_fresh first other) ≡ 0 = ap (fresh_cost (made_calls kind)) none_fresh in omega (arith, z)
     then_ (Some o) e = one_of first o e
 
     by : (b : Bool) → cost_by b kind first rows other ≤ claim_calls kind
@@ -330,10 +382,14 @@ queued_cost kind first rows other claim = by (is_agent kind)
 
 -- ---- a call makes no key cost more
 
--- the rows after a call of a controller
-pub data CallMoves (old new : List Object) : Type 0 where
-  IsSame : new ≡ old → CallMoves old new
-  Moved : (o : Object) → Comes old o → IsMoved old new o → CallMoves old new
+-- what an object costs that stands at the key
+abbrev pub now_cost : SeatKind → List Object → Key → ℕ
+now_cost kind rows key = weigh_if (own_calls kind) (row_at key rows)
+
+-- the rows after a call of a controller of this role: what it writes costs ops and an agent no more than what stood in its place
+pub data CallMoves (kind : SeatKind) (old new : List Object) : Type 0 where
+  IsSame : new ≡ old → CallMoves kind old new
+  Moved : (o : Object) → Comes old o → (is_now kind ≡ true → own_calls kind o ≤ now_cost kind old (key_of o)) → IsMoved old new o → CallMoves kind old new
 
 agents_same : (o was : Object) → kind_index (kind_of o) ≡ kind_index (kind_of was) → names_in o ≤ names_in was → own_calls seats.Agent o ≤ own_calls seats.Agent was
 agents_same (Class x) was same few = omega arith
@@ -346,42 +402,92 @@ agents_same (Pod p) (Node x) same few = absurd (omega (arith, same))
 agents_same (Pod p) (Volume x) same few = absurd (omega (arith, same))
 agents_same (Pod p) (Claim x) same few = absurd (omega (arith, same))
 
-abbrev agents_at : List Object → Key → ℕ
-agents_at rows key = weigh_if (own_calls seats.Agent) (row_at key rows)
-
-agents_come : (old : List Object) (o : Object) → Comes old o → own_calls seats.Agent o ≤ agents_at old (key_of o)
+pub agents_come : (old : List Object) (o : Object) → Comes old o → own_calls seats.Agent o ≤ now_cost seats.Agent old (key_of o)
 agents_come old o (IsOver was there few uid) =
     let keyed : kind_index (kind_of o) ≡ kind_index (kind_of was) = ap (λ (k : Key). kind_index k.kind) (sym (row_at_key (key_of o) was old there)) in
     let less = agents_same o was keyed few in
-    let is : agents_at old (key_of o) ≡ own_calls seats.Agent was = ap (weigh_if (own_calls seats.Agent)) there in
+    let is : now_cost seats.Agent old (key_of o) ≡ own_calls seats.Agent was = ap (weigh_if (own_calls seats.Agent)) there in
     omega (arith, less, is)
-agents_come old o (IsFor c uid there has keyed none) = let z = of_volume seats.Agent o (ap (λ (k : Key). kind_index k.kind) keyed) in omega (arith, z)
+agents_come old o (IsFor c uid there has keyed none) = let z = agents_volume o (ap (λ (k : Key). kind_index k.kind) keyed) in omega (arith, z)
 
-agents_fall : (old new : List Object) → AreRows old → CallMoves old new → (key : Key) → agents_at new key ≤ agents_at old key
-agents_fall old new order (IsSame same) key = let e = ap (λ rows. agents_at rows key) same in omega (arith, e)
-agents_fall old new order (Moved o comes moved) key = by moved (key_tells (key_of o) key)
+-- an object that costs no more than what stood in its place is written
+pub moved_falls : (kind : SeatKind) (old new : List Object) → AreRows old → (o : Object) → own_calls kind o ≤ now_cost kind old (key_of o) → IsMoved old new o → (key : Key) → now_cost kind new key ≤ now_cost kind old key
+moved_falls kind old new order o come moved key = by moved (key_tells (key_of o) key)
   where
-    by : IsMoved old new o → (key_of o ≡ key) ⊎ (key_of o ≢ key) → agents_at new key ≤ agents_at old key
+    by : IsMoved old new o → (key_of o ≡ key) ⊎ (key_of o ≢ key) → now_cost kind new key ≤ now_cost kind old key
     by (inl put) (inl same) =
-        let is : agents_at new (key_of o) ≡ own_calls seats.Agent o = ap (λ rows. agents_at rows (key_of o)) put ∙ ap (weigh_if (own_calls seats.Agent)) (row_at-put_row o old) in
-        let come = agents_come old o comes in
-        subst (λ k. agents_at new k ≤ agents_at old k) same (omega (arith, is, come))
+        let is : now_cost kind new (key_of o) ≡ own_calls kind o = ap (λ rows. now_cost kind rows (key_of o)) put ∙ ap (weigh_if (own_calls kind)) (row_at-put_row o old) in
+        subst (λ k. now_cost kind new k ≤ now_cost kind old k) same (omega (arith, is, come))
     by (inl put) (inr other) =
-        let is : agents_at new key ≡ agents_at old key = ap (λ rows. agents_at rows key) put ∙ ap (weigh_if (own_calls seats.Agent)) (row_at-put_row_other key o old other) in
+        let is : now_cost kind new key ≡ now_cost kind old key = ap (λ rows. now_cost kind rows key) put ∙ ap (weigh_if (own_calls kind)) (row_at-put_row_other key o old other) in
         omega (arith, is)
     by (inr gone) (inl same) =
-        let is : agents_at new (key_of o) ≡ 0 = ap (λ rows. agents_at rows (key_of o)) gone ∙ ap (weigh_if (own_calls seats.Agent)) (row_at-without_row (key_of o) old order) in
-        subst (λ k. agents_at new k ≤ agents_at old k) same (omega (arith, is))
+        let is : now_cost kind new (key_of o) ≡ 0 = ap (λ rows. now_cost kind rows (key_of o)) gone ∙ ap (weigh_if (own_calls kind)) (row_at-without_row (key_of o) old order) in
+        subst (λ k. now_cost kind new k ≤ now_cost kind old k) same (omega (arith, is))
     by (inr gone) (inr other) =
-        let is : agents_at new key ≡ agents_at old key = ap (λ rows. agents_at rows key) gone ∙ ap (weigh_if (own_calls seats.Agent)) (row_at-without_row_other (key_of o) key old other) in
+        let is : now_cost kind new key ≡ now_cost kind old key = ap (λ rows. now_cost kind rows key) gone ∙ ap (weigh_if (own_calls kind)) (row_at-without_row_other (key_of o) key old other) in
         omega (arith, is)
 
-pub cost_falls : (kind : SeatKind) (first old new : List Object) → AreRows old → CallMoves old new → (key : Key) → cost_in kind first new key ≤ cost_in kind first old key
-cost_falls kind first old new order moves key = by (is_agent kind) refl
+now_falls : (kind : SeatKind) (old new : List Object) → AreRows old → is_now kind ≡ true → CallMoves kind old new → (key : Key) → now_cost kind new key ≤ now_cost kind old key
+now_falls kind old new order now (IsSame same) key = let e = ap (λ rows. now_cost kind rows key) same in omega (arith, e)
+now_falls kind old new order now (Moved o comes come moved) key = moved_falls kind old new order o (come now) moved key
+
+pub cost_falls : (kind : SeatKind) (first old new : List Object) → AreRows old → CallMoves kind old new → (key : Key) → cost_in kind first new key ≤ cost_in kind first old key
+cost_falls kind first old new order moves key = by (is_now kind) refl
   where
-    by : (b : Bool) → is_agent kind ≡ b → cost_by b kind first new key ≤ cost_by b kind first old key
-    by true e = subst (λ k. weigh_if (own_calls k) (row_at key new) ≤ weigh_if (own_calls k) (row_at key old)) (sym (agent_kind kind e)) (agents_fall old new order moves key)
+    by : (b : Bool) → is_now kind ≡ b → cost_by b kind first new key ≤ cost_by b kind first old key
+    by true e = now_falls kind old new order e moves key
     by false e = omega arith
+
+-- ---- what stands is given, and costs ops and an agent no more than what stood in its place
+
+abbrev pub CostsNoMore : SeatKind → List Object → List Object → Type 0
+CostsNoMore kind first rows = (key : Key) → now_cost kind rows key ≤ now_cost kind first key
+
+pub record AreKept (kind : SeatKind) (first rows : List Object) : Type 0 where
+  pub given : AreGiven first rows
+  pub no_more : is_now kind ≡ true → CostsNoMore kind first rows
+
+pub kept_first : (kind : SeatKind) (rows : List Object) → AreKept kind rows rows
+kept_first kind rows = record { given = given_first rows; no_more = λ now key. omega arith }
+
+pub kept_on : (kind : SeatKind) (first old new : List Object) → AreRows old → CallMoves kind old new → AreKept kind first old → AreKept kind first new
+kept_on kind first old new order moves kept = record {
+  given = given_by moves;
+  no_more = λ now key. let less = now_falls kind old new order now moves key in let before = kept.no_more now key in omega (arith, less, before);
+}
+  where
+    given_by : CallMoves kind old new → AreGiven first new
+    given_by (IsSame same) = subst (AreGiven first) (sym same) kept.given
+    given_by (Moved o comes come moved) = moved_given first old kept.given order new o comes moved
+
+-- for any other than ops it is enough that they are given
+agents_kept : (first rows : List Object) → AreGiven first rows → CostsNoMore seats.Agent first rows
+agents_kept first rows given key = by (row_at key rows) refl
+  where
+    at : (o : Object) → kind_of o ≡ key.kind → IsGiven first key o → own_calls seats.Agent o ≤ now_cost seats.Agent first key
+    at o keyed (IsOld was there few uid) =
+        let less = agents_same o was (ap kind_index (keyed ∙ sym (ap (λ (k : Key). k.kind) (row_at_key key was first there)))) few in
+        let is : now_cost seats.Agent first key ≡ own_calls seats.Agent was = ap (weigh_if (own_calls seats.Agent)) there in
+        omega (arith, less, is)
+    at o keyed (IsMade i none) = let z = agents_volume o (ap kind_index keyed ∙ made_kind key first i) in omega (arith, z)
+
+    by : (x : Option Object) → row_at key rows ≡ x → weigh_if (own_calls seats.Agent) x ≤ now_cost seats.Agent first key
+    by None e = omega arith
+    by (Some o) e = at o (ap (λ (k : Key). k.kind) (row_at_key key o rows e)) (given key o e)
+
+abbrev pub is_ops : SeatKind → Bool
+is_ops seats.Ops = true
+is_ops kind = false
+
+pub given_kept : (kind : SeatKind) (first rows : List Object) → is_ops kind ≡ false → AreGiven first rows → AreKept kind first rows
+given_kept seats.Ops first rows other given = absurd (true≢false other)
+given_kept seats.Agent first rows other given = record { given = given; no_more = λ now. agents_kept first rows given }
+given_kept seats.User first rows other given = record { given = given; no_more = λ now. absurd (true≢false (sym now)) }
+given_kept seats.Binder first rows other given = record { given = given; no_more = λ now. absurd (true≢false (sym now)) }
+given_kept seats.Scheduler first rows other given = record { given = given; no_more = λ now. absurd (true≢false (sym now)) }
+given_kept seats.ClaimProtect first rows other given = record { given = given; no_more = λ now. absurd (true≢false (sym now)) }
+given_kept seats.VolumeProtect first rows other given = record { given = given; no_more = λ now. absurd (true≢false (sym now)) }
 
 -- ---- sums over keys
 
@@ -568,63 +674,95 @@ module _ (f : Object → ℕ) (n : ℕ) where
       by (ByNothing none) rest = let more = rest old spare before (λ o i. each o (inr i)) in omega (arith, none, more)
 
 -- so the objects of a kind never cost more than that
-module _ (kind : SeatKind) (first rows : List Object) (before : AreRows first) (order : AreRows rows) (given : AreGiven first rows) (k : Kind) where
-  own_grows : (o was : Object) → kind_of o ≡ kind_of was → names_in o ≤ names_in was → own_calls kind o ≤ own_calls kind was
-  own_grows o was same few = by (is_agent kind) refl
-    where
-      by : (b : Bool) → is_agent kind ≡ b → own_calls kind o ≤ own_calls kind was
-      by true e = subst (λ j. own_calls j o ≤ own_calls j was) (sym (agent_kind kind e)) (agents_same o was (ap kind_index same) few)
-      by false e = let is = own_same kind e o was same in omega (arith, is)
-
-  picked_less : (o was : Object) → kind_of o ≡ kind_of was → names_in o ≤ names_in was → picked kind k o ≤ picked kind k was
-  picked_less o was same few =
+module _ (kind : SeatKind) (first rows : List Object) (before : AreRows first) (order : AreRows rows) (kept : AreKept kind first rows) (k : Kind) where
+  picked_less : (o was : Object) → kind_of o ≡ kind_of was → own_calls kind o ≤ own_calls kind was → picked kind k o ≤ picked kind k was
+  picked_less o was same less =
       let is : picked kind k o ≡ (if is_of_kind k was then own_calls kind o else 0) = ap (λ j. if same_kind j k then own_calls kind o else 0) same in
-      let less = by (is_of_kind k was) (own_grows o was same few) in
-      omega (arith, is, less)
+      let few = by (is_of_kind k was) in
+      omega (arith, is, few)
     where
-      by : (b : Bool) → own_calls kind o ≤ own_calls kind was → (if b then own_calls kind o else 0) ≤ (if b then own_calls kind was else 0)
-      by true grows = grows
-      by false grows = omega arith
+      by : (b : Bool) → (if b then own_calls kind o else 0) ≤ (if b then own_calls kind was else 0)
+      by true = less
+      by false = omega arith
 
-  by_old : (spare : List Key) (o was : Object) → row_at (key_of o) first ≡ Some was → names_in o ≤ names_in was → IsCovered (picked kind k) (volume_calls kind) first spare o
-  by_old spare o was there few = ByOld was there (picked_less o was (ap (λ (key : Key). key.kind) (sym (row_at_key (key_of o) was first there))) few)
-
-  light : (o : Object) → kind_index (kind_of o) ≡ 2 → picked kind k o ≤ volume_calls kind
-  light o two = by (is_of_kind k o) (of_volume kind o two)
+  picked_own : (o : Object) → picked kind k o ≤ own_calls kind o
+  picked_own o = by (is_of_kind k o)
     where
-      by : (b : Bool) → own_calls kind o ≡ volume_calls kind → (if b then own_calls kind o else 0) ≤ volume_calls kind
-      by true own = omega (arith, own)
-      by false own = omega arith
+      by : (b : Bool) → (if b then own_calls kind o else 0) ≤ own_calls kind o
+      by true = omega arith
+      by false = omega arith
 
-  other_kind : same_kind k kinds.PersistentVolume ≡ false → (o : Object) → kind_index (kind_of o) ≡ 2 → picked kind k o ≡ 0
-  other_kind other o two = ap (λ b. if b then own_calls kind o else 0) (by (is_of_kind k o) refl)
+  stood_kind : (o was : Object) → row_at (key_of o) first ≡ Some was → kind_of o ≡ kind_of was
+  stood_kind o was there = ap (λ (key : Key). key.kind) (sym (row_at_key (key_of o) was first there))
+
+  -- by what stands now
+  now_most : is_now kind ≡ true → total (picked kind k) rows ≤ total (picked kind k) first
+  now_most now = let few = covered (picked kind k) 0 rows first [] order before each in omega (arith, few)
     where
-      by : (b : Bool) → is_of_kind k o ≡ b → is_of_kind k o ≡ false
-      by true e =
-          let is : kind_of o ≡ k = (same_kind-Decides (kind_of o) k).0 e in
-          let volume : k ≡ kinds.PersistentVolume = sym is ∙ volume_kind (kind_of o) two in
-          absurd (true≢false (sym ((same_kind-Decides k kinds.PersistentVolume).1 volume) ∙ other))
-      by false e = e
+      each : (o : Object) → IsIn o rows → IsCovered (picked kind k) 0 first [] o
+      each o i = by (row_at (key_of o) first) refl
+        where
+          less : own_calls kind o ≤ now_cost kind first (key_of o)
+          less =
+              let more = kept.no_more now (key_of o) in
+              let is : now_cost kind rows (key_of o) ≡ own_calls kind o = ap (weigh_if (own_calls kind)) (stands rows order o i) in
+              omega (arith, more, is)
+
+          by : (x : Option Object) → row_at (key_of o) first ≡ x → IsCovered (picked kind k) 0 first [] o
+          by (Some was) there =
+              let is : now_cost kind first (key_of o) ≡ own_calls kind was = ap (weigh_if (own_calls kind)) there in
+              let few = less in
+              ByOld was there (picked_less o was (stood_kind o was there) (omega (arith, few, is)))
+          by None free =
+              let is : now_cost kind first (key_of o) ≡ 0 = ap (weigh_if (own_calls kind)) free in
+              let few = less in
+              let own = picked_own o in
+              ByNothing (omega (arith, few, own, is))
+
+  -- by what stood when the round began
+  module _ (then_ : is_now kind ≡ false) where
+    by_old : (spare : List Key) (o was : Object) → row_at (key_of o) first ≡ Some was → IsCovered (picked kind k) (made_calls kind) first spare o
+    by_old spare o was there = ByOld was there (picked_less o was (stood_kind o was there) (let is = own_same kind then_ o was (stood_kind o was there) in omega (arith, is)))
+
+    light : (o : Object) → kind_index (kind_of o) ≡ 2 → picked kind k o ≤ made_calls kind
+    light o two = let few = picked_own o in let own = of_volume kind then_ o two in omega (arith, few, own)
+
+    other_kind : same_kind k kinds.PersistentVolume ≡ false → (o : Object) → kind_index (kind_of o) ≡ 2 → picked kind k o ≡ 0
+    other_kind other o two = ap (λ b. if b then own_calls kind o else 0) (by (is_of_kind k o) refl)
+      where
+        by : (b : Bool) → is_of_kind k o ≡ b → is_of_kind k o ≡ false
+        by true e =
+            let is : kind_of o ≡ k = (same_kind-Decides (kind_of o) k).0 e in
+            let volume : k ≡ kinds.PersistentVolume = sym is ∙ volume_kind (kind_of o) two in
+            absurd (true≢false (sym ((same_kind-Decides k kinds.PersistentVolume).1 volume) ∙ other))
+        by false e = e
+
+    stood_most : total (picked kind k) rows ≤ most kind first k
+    stood_most = by (same_kind k kinds.PersistentVolume) refl
+      where
+        by : (b : Bool) → same_kind k kinds.PersistentVolume ≡ b → total (picked kind k) rows ≤ total (picked kind k) first + (if b then length (made_keys first) * made_calls kind else 0)
+        by true e = covered (picked kind k) (made_calls kind) rows first (made_keys first) order before (λ o i. at o (kept.given (key_of o) o (stands rows order o i)))
+          where
+            at : (o : Object) → IsGiven first (key_of o) o → IsCovered (picked kind k) (made_calls kind) first (made_keys first) o
+            at o (IsOld was there few uid) = by_old (made_keys first) o was there
+            at o (IsMade i none) = BySpare i (light o (made_kind (key_of o) first i))
+        by false e = let few = covered (picked kind k) (made_calls kind) rows first [] order before (λ o i. at o (kept.given (key_of o) o (stands rows order o i))) in omega (arith, few)
+          where
+            at : (o : Object) → IsGiven first (key_of o) o → IsCovered (picked kind k) (made_calls kind) first [] o
+            at o (IsOld was there few uid) = by_old [] o was there
+            at o (IsMade i none) = ByNothing (other_kind e o (made_kind (key_of o) first i))
 
   pub stays_most : total (picked kind k) rows ≤ most kind first k
-  stays_most = by (same_kind k kinds.PersistentVolume) refl
+  stays_most = by (is_now kind) refl
     where
-      by : (b : Bool) → same_kind k kinds.PersistentVolume ≡ b → total (picked kind k) rows ≤ total (picked kind k) first + (if b then length (made_keys first) * volume_calls kind else 0)
-      by true e = covered (picked kind k) (volume_calls kind) rows first (made_keys first) order before (λ o i. at o (given (key_of o) o (stands rows order o i)))
-        where
-          at : (o : Object) → IsGiven first (key_of o) o → IsCovered (picked kind k) (volume_calls kind) first (made_keys first) o
-          at o (IsOld was there few uid) = by_old (made_keys first) o was there few
-          at o (IsMade i none) = BySpare i (light o (made_kind (key_of o) first i))
-      by false e = let few = covered (picked kind k) (volume_calls kind) rows first [] order before (λ o i. at o (given (key_of o) o (stands rows order o i))) in omega (arith, few)
-        where
-          at : (o : Object) → IsGiven first (key_of o) o → IsCovered (picked kind k) (volume_calls kind) first [] o
-          at o (IsOld was there few uid) = by_old [] o was there few
-          at o (IsMade i none) = ByNothing (other_kind e o (made_kind (key_of o) first i))
+      by : (b : Bool) → is_now kind ≡ b → total (picked kind k) rows ≤ most kind first k
+      by true e = let few = now_most e in omega (arith, few)
+      by false e = stood_most e
 
 -- ---- the keys of a kind, and keys that differ
 
 -- volumes are followed where they cost something
-with_made : (kind : SeatKind) (f : Kind → ℕ) (n : ℕ) → sum_over (λ k. f k + (if same_kind k kinds.PersistentVolume then n * volume_calls kind else 0)) (kinds_of kind) ≡ sum_over f (kinds_of kind) + n * volume_calls kind
+with_made : (kind : SeatKind) (f : Kind → ℕ) (n : ℕ) → sum_over (λ k. f k + (if same_kind k kinds.PersistentVolume then n * made_calls kind else 0)) (kinds_of kind) ≡ sum_over f (kinds_of kind) + n * made_calls kind
 with_made seats.User f n = omega arith
 with_made seats.Binder f n = omega arith
 with_made seats.Ops f n = omega arith
@@ -634,26 +772,26 @@ with_made seats.VolumeProtect f n = omega arith
 with_made seats.Agent f n = omega arith
 
 -- what the kinds cost that an actor follows
-pub kinds_cost : (kind : SeatKind) (first : List Object) → sum_over (most kind first) (kinds_of kind) ≡ total (own_calls kind) first + length (made_keys first) * volume_calls kind
+pub kinds_cost : (kind : SeatKind) (first : List Object) → sum_over (most kind first) (kinds_of kind) ≡ total (own_calls kind) first + length (made_keys first) * made_calls kind
 kinds_cost kind first =
     let own = own_total kind first in
     let all = with_made kind (λ k. total (picked kind k) first) (length (made_keys first)) in
     omega (arith, own, all)
 
-module _ (kind : SeatKind) (first rows : List Object) (before : AreRows first) (order : AreRows rows) (given : AreGiven first rows) where
+module _ (kind : SeatKind) (first rows : List Object) (before : AreRows first) (order : AreRows rows) (kept : AreKept kind first rows) where
   pub waiting_few : (ks : List Key) → AreOnce ks → keys_cost (cost_in kind first rows) ks ≤ sum_over (most kind first) (kinds_of kind)
-  waiting_few ks once = by (is_agent kind)
+  waiting_few ks once = by (is_now kind)
     where
       by : (b : Bool) → keys_cost (cost_by b kind first rows) ks ≤ sum_over (most kind first) (kinds_of kind)
       by true =
           let few = distinct_keys (own_calls kind) ks rows order once in
           let own = own_total kind rows in
-          let less = sum_less (most kind first) (λ k. total (picked kind k) rows) (kinds_of kind) (λ k. stays_most kind first rows before order given k) in
+          let less = sum_less (most kind first) (λ k. total (picked kind k) rows) (kinds_of kind) (λ k. stays_most kind first rows before order kept k) in
           omega (arith, few, own, less)
       by false =
-          let split = keys_sum (λ key. weigh_if (own_calls kind) (row_at key first)) (λ key. fresh_cost (volume_calls kind) (is_fresh first key)) (stood_cost kind first) ks (λ key. at (row_at key first) (fresh_cost (volume_calls kind) (is_fresh first key))) in
+          let split = keys_sum (λ key. weigh_if (own_calls kind) (row_at key first)) (λ key. fresh_cost (made_calls kind) (is_fresh first key)) (stood_cost kind first) ks (λ key. at (row_at key first) (fresh_cost (made_calls kind) (is_fresh first key))) in
           let few = distinct_keys (own_calls kind) ks first before once in
-          let fresh = fresh_few (volume_calls kind) (made_keys first) ks once in
+          let fresh = fresh_few (made_calls kind) (made_keys first) ks once in
           let all = kinds_cost kind first in
           omega (arith, split, few, fresh, all)
         where
@@ -663,19 +801,19 @@ module _ (kind : SeatKind) (first rows : List Object) (before : AreRows first) (
 
   -- what stands costs no more than its own
   cost_few : (o : Object) → IsIn o rows → cost_in kind first rows (key_of o) ≤ own_calls kind o
-  cost_few o i = by (is_agent kind) refl
+  cost_few o i = by (is_now kind) refl
     where
-      stood : is_agent kind ≡ false → (x : Option Object) → row_at (key_of o) first ≡ x → (b : Bool) → is_fresh first (key_of o) ≡ b → cost_or (fresh_cost (volume_calls kind) b) kind x ≤ own_calls kind o
-      stood no_agent (Some was) there b fresh = let same = own_same kind no_agent o was (ap (λ (key : Key). key.kind) (sym (row_at_key (key_of o) was first there))) in omega (arith, same)
-      stood no_agent None there true fresh = let own = of_volume kind o (any_kind first (key_of o) fresh) in omega (arith, own)
-      stood no_agent None there false fresh = omega arith
+      stood : is_now kind ≡ false → (x : Option Object) → row_at (key_of o) first ≡ x → (b : Bool) → is_fresh first (key_of o) ≡ b → cost_or (fresh_cost (made_calls kind) b) kind x ≤ own_calls kind o
+      stood then_ (Some was) there b fresh = let same = own_same kind then_ o was (ap (λ (key : Key). key.kind) (sym (row_at_key (key_of o) was first there))) in omega (arith, same)
+      stood then_ None there true fresh = let own = of_volume kind then_ o (any_kind first (key_of o) fresh) in omega (arith, own)
+      stood then_ None there false fresh = omega arith
 
-      by : (b : Bool) → is_agent kind ≡ b → cost_by b kind first rows (key_of o) ≤ own_calls kind o
+      by : (b : Bool) → is_now kind ≡ b → cost_by b kind first rows (key_of o) ≤ own_calls kind o
       by true e = let is : weigh_if (own_calls kind) (row_at (key_of o) rows) ≡ own_calls kind o = ap (weigh_if (own_calls kind)) (stands rows order o i) in omega (arith, is)
       by false e = stood e (row_at (key_of o) first) refl (is_fresh first (key_of o)) refl
 
   pub listed_few : (k : Kind) → keys_cost (cost_in kind first rows) (map key_of (rows_of k rows)) ≤ most kind first k
-  listed_few k = let h = in_all rows (λ o i. i) in let m = stays_most kind first rows before order given k in omega (arith, h, m)
+  listed_few k = let h = in_all rows (λ o i. i) in let m = stays_most kind first rows before order kept k in omega (arith, h, m)
     where
       in_all : (xs : List Object) → ((o : Object) → IsIn o xs → IsIn o rows) → keys_cost (cost_in kind first rows) (map key_of (filter (is_of_kind k) xs)) ≤ total (picked kind k) xs
       in_all [] within = omega arith

@@ -64,11 +64,10 @@ use Rattle.event_law.specs.Ahead.{Point, from_of, sum_over}
 use Rattle.pass_law.proofs.Told.{within_five}
 use Rattle.pass_law.specs.Passes.{IsCallGiven, KindsHaveReached, first_cost, wait_cost}
 use Rattle.write_count.proofs.Runs.{IsCalled, called_at, run_at}
-use Rattle.call_count.proofs.Growth.{AreGiven}
 use Rattle.call_count.proofs.Made.{IsOrdered, NothingUnder}
 use Rattle.slot_costs.proofs.Calls.{AtKeys, InPass, IsLess, Stage, kinds_left, pass_left, rest_left, slot_left, sweep_cost}
-use Rattle.slot_costs.proofs.RoundCosts.{CallMoves, cost_falls, cost_in, most, waiting_few}
-use Rattle.slot_costs.proofs.Made.{call_moves, given_on, lost_ordered, reads_stay, told_ordered, turned_ordered}
+use Rattle.slot_costs.proofs.RoundCosts.{AreKept, CallMoves, cost_falls, cost_in, kept_on, most, waiting_few}
+use Rattle.slot_costs.proofs.Made.{call_moves, lost_ordered, reads_stay, told_ordered, turned_ordered}
 use Rattle.slot_costs.proofs.Passes.{none_read, read_falls, start_falls, start_pays, task_pays}
 use Rattle.slot_costs.proofs.Reaching.{ReachedBehind, IsBefore, IsPast, TurnOf, behind_on, first_low, given_at, light_of, none_told, own_read, reached_all, reached_on, turn_of, kind_is_read, start_is_read}
 use Rattle.slot_costs.proofs.Stages.{all_read, nothing_told}
@@ -118,7 +117,7 @@ module _ (setup : Setup) (lets : Lets) (passes : PassesReads lets) (seat : ℕ) 
 
   -- a call that was answered, and what the slot may still cost behind it
   module _ (x : ActorState) (request : Request) (reply : Reply) (h : List Entry) (given : IsCallGiven setup seat x request reply h) (at : Point setup x.role.kind base m high h) (reached : KindsHaveReached base seat x.role.kind h)
-      (short : (world setup (told_entry seat x request reply ∷ h)).store.version ≤ high) (so : AreGiven first (world setup h).store.rows)
+      (short : (world setup (told_entry seat x request reply ∷ h)).store.version ≤ high) (so : AreKept x.role.kind first (world setup h).store.rows)
       (falls : (key : Key) → cost_in x.role.kind first (world setup (told_entry seat x request reply ∷ h)).store.rows key ≤ cost_in x.role.kind first (world setup h).store.rows key) where
     -- in a pass nothing is written
     module _ (none : x.under ≡ None) (behind : ReachedBehind setup seat (world setup h).store.version x.role x.pass h) where
@@ -189,15 +188,15 @@ module _ (setup : Setup) (lets : Lets) (passes : PassesReads lets) (seat : ℕ) 
       subst (λ y. IsLess setup first seat high y h 1 (slot_left setup first seat high x h (AtKeys read over kinds low few))) (sym t.is) (record { stage = AtKeys read over kinds low few; less = omega (arith, some_left, under, work) })
 
   second_pass : (s : ActorState) (h : List Entry) (b : ℕ) → Runs lets seat after past left idle s h b → IsBuiltKind s.role.kind → Point setup s.role.kind base m (world setup past).store.version h → KindsHaveReached base seat s.role.kind h → KnowsBehind setup seat s.role s.pass h
-      → IsOrdered s → AreGiven first (world setup h).store.rows → (stage : Stage setup seat s h) → b ≤ left + slot_left setup first seat (world setup past).store.version s h stage
+      → IsOrdered s → AreKept s.role.kind first (world setup h).store.rows → (stage : Stage setup seat s h) → b ≤ left + slot_left setup first seat (world setup past).store.version s h stage
   second_pass s h b (IsSpent none state entries rest busy) built at reached knows ordered so stage = omega (arith, none)
   second_pass s h b (IsIdle some ready turn entries rest calm) built at reached knows ordered so stage = omega (arith, rest)
   second_pass s h b (Asks given next request reply some ready turn lets_it absorbs more) built at reached knows ordered so stage =
       let kept = turn_costs setup first seat (world setup past).store.version s given request h so high_enough ready built whole.0 turn (λ over. sees setup seat s h whole.0 ready.stands.told knows over) stage in
-      let told = calls_pay given request reply h g given_point given_reached short so (cost_falls given.role.kind first (world setup h).store.rows (world setup (told_entry seat given request reply ∷ h)).store.rows (rows_stand_in_order setup h) moves) next.caches kept.stage in
+      let told = calls_pay given request reply h g given_point given_reached short given_kept (cost_falls given.role.kind first (world setup h).store.rows (world setup (told_entry seat given request reply ∷ h)).store.rows (rows_stand_in_order setup h) moves) next.caches kept.stage in
       let less = subst (λ y. IsLess setup first seat (world setup past).store.version y (told_entry seat given request reply ∷ h) 1 (slot_left setup first seat (world setup past).store.version given h kept.stage)) (sym absorbs) told in
       let ih = second_pass next (told_entry seat given request reply ∷ h) (b - 1) more next_built next_at next_reached (told_knows setup seat s given request reply h built ready turn whole knows next absorbs)
-      (subst IsOrdered (sym absorbs) (told_ordered setup seat given request reply h called next.caches turned)) (given_on setup first h (world setup (told_entry seat given request reply ∷ h)).store.rows moves so) less.stage in
+      (subst IsOrdered (sym absorbs) (told_ordered setup seat given request reply h called next.caches turned)) next_kept less.stage in
       let now = kept.less in
       let then_ = less.less in
       omega (arith, ih, now, then_, some)
@@ -217,7 +216,7 @@ module _ (setup : Setup) (lets : Lets) (passes : PassesReads lets) (seat : ℕ) 
       turned : IsOrdered given
       turned = turned_ordered s given request turn ordered
 
-      moves : CallMoves (world setup h).store.rows (world setup (told_entry seat given request reply ∷ h)).store.rows
+      moves : CallMoves given.role.kind (world setup h).store.rows (world setup (told_entry seat given request reply ∷ h)).store.rows
       moves = call_moves setup seat given request reply h called (subst (λ (r : Role). IsBuiltKind r.kind) (sym (turn_role s given (Call request) turn)) built) (turned_knows setup seat s given (Call request) h turn knows) turned
 
       short : (world setup (told_entry seat given request reply ∷ h)).store.version ≤ (world setup past).store.version
@@ -234,6 +233,13 @@ module _ (setup : Setup) (lets : Lets) (passes : PassesReads lets) (seat : ℕ) 
 
       next_built : IsBuiltKind next.role.kind
       next_built = subst IsBuiltKind (sym next_kind) built
+
+      given_kept : AreKept given.role.kind first (world setup h).store.rows
+      given_kept = subst (λ k. AreKept k first (world setup h).store.rows) (sym given_kind) so
+
+      next_kept : AreKept next.role.kind first (world setup (told_entry seat given request reply ∷ h)).store.rows
+      next_kept = subst (λ k. AreKept k first (world setup (told_entry seat given request reply ∷ h)).store.rows) (given_kind ∙ sym next_kind)
+          (kept_on given.role.kind first (world setup h).store.rows (world setup (told_entry seat given request reply ∷ h)).store.rows (rows_stand_in_order setup h) moves given_kept)
 
       given_point : Point setup given.role.kind base m (world setup past).store.version h
       given_point = subst (λ k. Point setup k base m (world setup past).store.version h) (sym given_kind) at
@@ -252,7 +258,7 @@ module _ (setup : Setup) (lets : Lets) (passes : PassesReads lets) (seat : ℕ) 
       let lost = held_pays given h t kept.stage in
       let less = subst (λ y. IsLess setup first seat (world setup past).store.version y h 1 (slot_left setup first seat (world setup past).store.version given h kept.stage)) (sym absorbs) lost in
       let ih = second_pass next h (b - 1) more next_built (subst (λ k. Point setup k base m (world setup past).store.version h) (sym next_kind) at) (subst (λ k. KindsHaveReached base seat k h) (sym next_kind) reached) (lost_knows setup seat given next request h (turned_knows setup seat s given (Call request) h turn knows) absorbs)
-      (subst IsOrdered (sym absorbs) (lost_ordered given (turned_ordered s given request turn ordered))) so less.stage in
+      (subst IsOrdered (sym absorbs) (lost_ordered given (turned_ordered s given request turn ordered))) (subst (λ k. AreKept k first (world setup h).store.rows) (sym next_kind) so) less.stage in
       let now = kept.less in
       let then_ = less.less in
       omega (arith, ih, now, then_, some)
@@ -287,7 +293,7 @@ module _ (setup : Setup) (lets : Lets) (passes : PassesReads lets) (seat : ℕ) 
   no_again f (t ∷ ts) e = none_some (sym (ap oldest_of e))
 
   -- past the pass the first cost covers what is still to come
-  covered : (s : ActorState) (h : List Entry) → IsReady seat s h → IsBuiltKind s.role.kind → IsHistory setup h → (world setup h).store.version ≡ base → ReachedBehind setup seat base s.role s.pass h → AreGiven first (world setup h).store.rows → s.under ≡ None → unlisted s ≡ None → passing s ≡ None
+  covered : (s : ActorState) (h : List Entry) → IsReady seat s h → IsBuiltKind s.role.kind → IsHistory setup h → (world setup h).store.version ≡ base → ReachedBehind setup seat base s.role s.pass h → AreKept s.role.kind first (world setup h).store.rows → s.under ≡ None → unlisted s ≡ None → passing s ≡ None
       → IsLess setup first seat (world setup past).store.version s h 0 (cost_first s h + after_cost s.role.kind)
   covered s h ready built history version behind so none listed over =
       let taken : taken_keys s.work ≡ [] = ready.stands.queue.taken ∙ ap under_keys none in
@@ -312,7 +318,7 @@ module _ (setup : Setup) (lets : Lets) (passes : PassesReads lets) (seat : ℕ) 
       reached place kind from lt there is = let r = behind place kind from lt there is in omega (arith, r, version)
 
   first_pass : (s : ActorState) (h : List Entry) (b : ℕ) → Runs lets seat after past left idle s h b → IsBuiltKind s.role.kind → s.under ≡ None → (world setup h).store.version ≡ base → Point setup s.role.kind base m (world setup past).store.version h → ReachedBehind setup seat base s.role s.pass h → KnowsBehind setup seat s.role s.pass h
-      → AreGiven first (world setup h).store.rows → b ≤ left + (cost_first s h + after_cost s.role.kind)
+      → AreKept s.role.kind first (world setup h).store.rows → b ≤ left + (cost_first s h + after_cost s.role.kind)
   first_pass s h b (IsSpent none state entries rest busy) built rests version at behind knows so = omega (arith, none)
   first_pass s h b (IsIdle some ready turn entries rest calm) built rests version at behind knows so = omega (arith, rest)
   first_pass s h b (Asks given next request reply some ready turn lets_it absorbs more) built rests version at behind knows so =
@@ -352,7 +358,7 @@ module _ (setup : Setup) (lets : Lets) (passes : PassesReads lets) (seat : ℕ) 
 
       by : TurnOf s given
           → (IsBuiltKind next.role.kind → next.under ≡ None → (world setup (told_entry seat given request reply ∷ h)).store.version ≡ base → Point setup next.role.kind base m (world setup past).store.version (told_entry seat given request reply ∷ h) → ReachedBehind setup seat base next.role next.pass (told_entry seat given request reply ∷ h)
-          → KnowsBehind setup seat next.role next.pass (told_entry seat given request reply ∷ h) → AreGiven first (world setup (told_entry seat given request reply ∷ h)).store.rows → b - 1 ≤ left + (cost_first next (told_entry seat given request reply ∷ h) + after_cost next.role.kind))
+          → KnowsBehind setup seat next.role next.pass (told_entry seat given request reply ∷ h) → AreKept next.role.kind first (world setup (told_entry seat given request reply ∷ h)).store.rows → b - 1 ≤ left + (cost_first next (told_entry seat given request reply ∷ h) + after_cost next.role.kind))
           → b ≤ left + (cost_first s h + after_cost s.role.kind)
       by (IsPast eu el ep) more_of =
           let c = covered s h ready built whole.0 version behind so eu el ep in
@@ -365,7 +371,7 @@ module _ (setup : Setup) (lets : Lets) (passes : PassesReads lets) (seat : ℕ) 
           let stay = reads_stay setup seat given request reply h (own_read given request given_none ask) in
           let next_none : next.under ≡ None = ap (λ (y : ActorState). y.under) absorbs ∙ none_told given request reply next.caches given_none ask in
           let next_version : (world setup (told_entry seat given request reply ∷ h)).store.version ≡ base = stay.0 ∙ version in
-          let ih = more_of (subst IsBuiltKind (sym (next_kind ∙ given_kind)) built) next_none next_version next_at (next_behind (ap (λ (y : ActorState). y.pass) (sym e))) (told_knows setup seat s given request reply h built ready turn whole knows next absorbs) (subst (AreGiven first) (sym stay.1) so) in
+          let ih = more_of (subst IsBuiltKind (sym (next_kind ∙ given_kind)) built) next_none next_version next_at (next_behind (ap (λ (y : ActorState). y.pass) (sym e))) (told_knows setup seat s given request reply h built ready turn whole knows next absorbs) (subst (λ k. AreKept k first (world setup (told_entry seat given request reply ∷ h)).store.rows) (sym (next_kind ∙ given_kind)) (subst (AreKept s.role.kind first) (sym stay.1) so)) in
           let pays = first_calls_pay setup seat base base given request reply h next.caches g (omega (arith, next_version)) in
           let same = ap (λ k. first_cost setup seat k base base next (told_entry seat given request reply ∷ h)) next_kind in
           let became = ap (λ y. first_cost setup seat given.role.kind base base y (told_entry seat given request reply ∷ h)) absorbs in
@@ -408,7 +414,7 @@ abbrev pub slot_most : List Object → SeatKind → ℕ → ℕ
 slot_most first kind writes = 8 * writes + (sum_over (most kind first) (kinds_of kind) + (sweep_cost first kind * (writes / 513) + 62))
 
 pub slots_cost_less : (setup : Setup) (lets : Lets) (seat : ℕ) (old after : ActorState) (h past : List Entry) (b left : ℕ) (idle : Bool) (first : List Object) → IsBuiltKind old.role.kind → IsRunOf setup past → PassesReads lets → old.under ≡ None → AreRows first
-    → AreGiven first (world setup h).store.rows → Runs lets seat after past left idle (woken old) h b → b ≤ left + slot_most first old.role.kind (writes_since setup h past)
+    → AreKept old.role.kind first (world setup h).store.rows → Runs lets seat after past left idle (woken old) h b → b ≤ left + slot_most first old.role.kind (writes_since setup h past)
 slots_cost_less setup lets seat old after h past b left idle first built run passes rests order so runs =
     let bound = first_pass setup lets passes seat after past left idle run first order (world setup h).store.version (total (calls_for old.role.kind) (world setup h).store.rows + 3 * writes_since setup h past) (first_low setup h) (woken old) h b runs built rests refl begun_point (λ place kind from lt. absurd (omega (arith, lt)))
     (nothing_behind setup seat old h) so in

@@ -37,10 +37,10 @@ use Rattle.cost_law.proofs.Begun.{queued_on}
 use Rattle.cost_law.proofs.Works.{added_cost, begun_cost, finished_cost}
 use Rattle.worker_core.proofs.Machines.{queued_kinds}
 use Rattle.call_count.proofs.Growth.{AreGiven}
-use Rattle.slot_costs.proofs.Begun.{begun_on_own, claim_for_volume}
+use Rattle.slot_costs.proofs.Begun.{begun_on_own, queues_so}
 use Rattle.slot_costs.proofs.Calls.{AtKeys, InPass, IsLess, Stage, kinds_ahead, pass_left, slot_left}
 use Rattle.slot_costs.specs.Costs.{own_calls}
-use Rattle.slot_costs.proofs.RoundCosts.{cost_in, covers, of_volume, queued_cost, volume_kind}
+use Rattle.slot_costs.proofs.RoundCosts.{AreKept, cost_in, covers, of_volume, queued_cost}
 use Rattle.slot_costs.proofs.Stages.{IsAtKeys, keys_of, pass_begins}
 
 -- the turns
@@ -66,8 +66,9 @@ module _ (role : Role) (memory : Memory) (rows : List Object) (first stored : Li
       let kinds = queued_kinds role memory rows key other gives.decided in
       let two : kind_index (kind_of q.object) ≡ 2 = ap (λ (k : Key). kind_index k.kind) (row_at_key key q.object rows q.there) ∙ kinds.0 in
       let own = row_cost key q.object q.there q.followed in
-      let volume = of_volume role.kind q.object two in
-      let less = claim_for_volume role.kind (sym (ap (follows role.kind) (volume_kind (kind_of q.object) two)) ∙ q.followed) in
+      let who = queues_so role.kind role.node memory rows key other gives.decided in
+      let volume = of_volume role.kind who.then_ q.object two in
+      let less = who.less in
       let more = queued_cost role.kind first stored other kinds.1 in
       let a = begun_cost (cost_in role.kind first stored) key w old in
       let b = added_cost (cost_in role.kind first stored) other (begun w) (single_once key (begun w) (begun_taken key w old none)) in
@@ -95,7 +96,7 @@ module _ (role : Role) (memory : Memory) (rows : List Object) (first stored : Li
       omega (arith, a, b)
 
 -- a turn that gives a call costs nothing: it decides keys, or begins a pass
-pub turn_costs : (setup : Setup) (first : List Object) (seat high : ℕ) (s given : ActorState) (request : Request) (h : List Entry) → AreGiven first (world setup h).store.rows → (world setup h).store.version ≤ high → IsReady seat s h → IsBuiltKind s.role.kind → IsHistory setup h
+pub turn_costs : (setup : Setup) (first : List Object) (seat high : ℕ) (s given : ActorState) (request : Request) (h : List Entry) → AreKept s.role.kind first (world setup h).store.rows → (world setup h).store.version ≤ high → IsReady seat s h → IsBuiltKind s.role.kind → IsHistory setup h
     → IsTurn s given (Call request) → (passing s ≡ None → SeesStore setup s h) → (stage : Stage setup seat s h) → IsLess setup first seat high given h 0 (slot_left setup first seat high s h stage)
 turn_costs setup first seat high s given request h so short ready built history turn exact stage = by s.memory.stale s.under (start_call s.role s.memory) (unlisted s) (passing s) refl refl refl turn
   where
@@ -111,13 +112,13 @@ turn_costs setup first seat high s given request h so short ready built history 
         → IsLess setup first seat high given h 0 (slot_left setup first seat high s h stage)
     keys w (Some u) eu at d ep b =
         let none : taken_keys s.work ≡ [] = ready.stands.queue.taken ∙ ap under_keys eu in
-        let c = decided_cost s.role s.memory (all_objects s.caches) first (world setup h).store.rows so (exact ep) w (Some u) s.work d none in
+        let c = decided_cost s.role s.memory (all_objects s.caches) first (world setup h).store.rows so.given (exact ep) w (Some u) s.work d none in
         let z = ap under_left eu in
         let less = at.less in
         same (record s { work = w; under = Some u; given = Some givens.Task }) b.state (record { stage = AtKeys at.read at.over at.kinds at.low at.few; less = omega (arith, c, z, less) })
     keys w None eu at d ep (inl b) =
         let none : taken_keys s.work ≡ [] = ready.stands.queue.taken ∙ ap under_keys eu in
-        let c = decided_cost s.role s.memory (all_objects s.caches) first (world setup h).store.rows so (exact ep) w None s.work d none in
+        let c = decided_cost s.role s.memory (all_objects s.caches) first (world setup h).store.rows so.given (exact ep) w None s.work d none in
         let brought : pass_left s.role.kind s.pass ≡ (length (kinds_of s.role.kind) - s.pass.behind) + length (kinds_of s.role.kind) = ap (λ e. (length (kinds_of s.role.kind) - s.pass.behind) + (if e then length (kinds_of s.role.kind) else 0)) b.brought in
         let begins = pass_begins setup first seat high s h (kinds_ahead setup first seat high s h stage) short at in
         let z = ap under_left eu in
