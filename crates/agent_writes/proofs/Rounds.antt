@@ -7,7 +7,6 @@ use Rattle.call_types.specs.declared.setup.Setup.{Setup}
 use Rattle.binder_model.specs.Promises.{IsRunOf}
 use Rattle.binder_model.specs.World.{world}
 use Rattle.settle_measure.specs.Measure.{pods_in}
-use Rattle.worker_core.specs.Roles.{IsBuiltKind}
 use Rattle.worker_threads.specs.declared.drainers.Drainer.{Drainer}
 use Rattle.worker_threads.specs.Drainers.{roles_of}
 use Rattle.worker_threads.specs.Rounds.{Ends, IsRound, Lets, Turns}

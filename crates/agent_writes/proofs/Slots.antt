@@ -24,7 +24,6 @@ use Rattle.worker_core.specs.Roles.{IsBuiltKind}
 use Rattle.worker_core.specs.States.{ActorState}
 use Rattle.worker_threads.specs.Rounds.{Lets, Runs, told_entry}
 use Rattle.worker_threads.proofs.RunFacts.{run_grows}
-use Rattle.short_law.specs.Slots.{writes_since}
 use Rattle.done_lasts.proofs.Doing.{write_asked}
 use Rattle.write_count.proofs.Runs.{IsCalled, run_moves}
 use Rattle.write_count.proofs.Slots.{ComesTo, Leaves, Wrote, comes_to, counted}
