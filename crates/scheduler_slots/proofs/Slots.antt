@@ -44,7 +44,7 @@ use Rattle.slot_law.proofs.Knowing.{sees, told_knows}
 use Rattle.slot_law.proofs.Slots.{nothing_behind}
 use Rattle.paid_law.proofs.Slots.{decides_gives, older_run}
 use Rattle.scheduler_writes.specs.Pods.{pods_writes}
-use Rattle.scheduler_slots.specs.Slots.{PassedSchedulersWriteLittle, PassesAll}
+use Rattle.scheduler_slots.specs.Slots.{PassedSchedulersWriteLittle}
 use Rattle.scheduler_slots.proofs.Costs.{costs_bounded, costs_on}
 use Rattle.scheduler_slots.proofs.Deciding.{decision_spends}
 use Rattle.scheduler_slots.proofs.Spending.{EachSpends, Spends}
@@ -165,7 +165,7 @@ module _ (setup : Setup) (seat : ℕ) (role : Role) (kind : role.kind ≡ seats.
             let costs = ap (λ t. costs_on t.rows) same in
             omega (arith, le, version, costs)
 
-  module _ (lets : Lets) (passes : PassesAll lets) (after_ : ActorState) (past : List Entry) (left : ℕ) (idle : Bool) (run : IsRunOf setup past) where
+  module _ (lets : Lets) (passes : (g : List Entry) (request : Request) → lets g request ≡ true) (after_ : ActorState) (past : List Entry) (left : ℕ) (idle : Bool) (run : IsRunOf setup past) where
     runs_low : (s : ActorState) (h : List Entry) (b : ℕ) → Runs lets seat after_ past left idle s h b → s.role ≡ role → KnowsBehind setup seat s.role s.pass h → (world setup h).store.version ≤ bound → (s.memory.stale ≡ false → IsWithin h s.under) → (world setup past).store.version ≤ bound
     runs_low s h b (IsSpent spent state entries rest busy) is knows le within = subst (λ es. (world setup es).store.version ≤ bound) (sym entries) le
     runs_low s h b (IsIdle some ready turn entries rest calm) is knows le within = subst (λ es. (world setup es).store.version ≤ bound) (sym entries) le

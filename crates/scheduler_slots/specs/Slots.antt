@@ -12,12 +12,8 @@ use Rattle.worker_core.specs.States.{ActorState}
 use Rattle.worker_threads.specs.Rounds.{Lets, Runs}
 use Rattle.scheduler_writes.specs.Pods.{pods_writes}
 
--- each request reaches the world
-abbrev pub PassesAll : Lets → Type 0
-PassesAll lets = (h : List Entry) (request : Request) → lets h request ≡ true
-
--- the version rises by one at each write. A scheduler that was told that its epoch is stale makes no call
+-- each request reaches the world. The version rises by one at each write. A scheduler that was told that its epoch is stale makes no call
 abbrev pub PassedSchedulersWriteLittle : Type 0
 PassedSchedulersWriteLittle =
-    (setup : Setup) (lets : Lets) (seat : ℕ) (old after : ActorState) (h past : List Entry) (b left : ℕ) (idle : Bool) → old.role.kind ≡ seats.Scheduler → IsRunOf setup past → PassesAll lets → (old.memory.stale ≡ false → old.under ≡ None)
+    (setup : Setup) (lets : Lets) (seat : ℕ) (old after : ActorState) (h past : List Entry) (b left : ℕ) (idle : Bool) → old.role.kind ≡ seats.Scheduler → IsRunOf setup past → ((g : List Entry) (request : Request) → lets g request ≡ true) → (old.memory.stale ≡ false → old.under ≡ None)
     → Runs lets seat after past left idle (woken old) h b → (world setup past).store.version ≤ (world setup h).store.version + pods_writes (world setup h)
