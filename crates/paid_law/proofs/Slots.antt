@@ -50,7 +50,7 @@ older_run setup newer past run = record { imports = run.imports; short = shorter
     shorter (x ∷ xs) h lt = shorter xs h (omega (arith, lt))
 
 -- what was decided gives a call
-decides_gives : (role : Role) (memory : Memory) (rows : List Object) (after : Work) (under : Option Under) (u : Under) (w : Work) → Decides role memory rows after under w → under ≡ Some u → GivesCall role memory rows u
+pub decides_gives : (role : Role) (memory : Memory) (rows : List Object) (after : Work) (under : Option Under) (u : Under) (w : Work) → Decides role memory rows after under w → under ≡ Some u → GivesCall role memory rows u
 decides_gives role memory rows after under u w (Nothing empty same none) e = none_some (sym none ∙ e)
 decides_gives role memory rows after under u w (Begins v old gives same some) e = subst (GivesCall role memory rows) (one v u (sym some ∙ e)) gives
 decides_gives role memory rows after under u w (Drops k first old none rest) e = decides_gives role memory rows after under u _ rest e

@@ -9,12 +9,11 @@
 //! (`threaded_drains_settle`). The premises on the script are those that a text gives, and the history is a run that a
 //! text can give.
 //!
-//! Of such a replay each round of each of its drains that begins with at most 8,192 objects, and with at most 512 pods
-//! without a node and claims that these name (`HasShortRounds` of `short_rounds`), makes at most 256 calls for each
-//! object and each claim that a pod names, for each planned fault that is ahead, and for 16 more
-//! (`replayed_drains_are_short`); and so does each such round of the drain with which a run on threads ends
-//! (`threaded_drains_are_short`). The first round of a drain only where its actors begin it with nothing under way, as
-//! they do where a budget was given and is not spent.
+//! Of such a replay each round of each of its drains that begins with at most 8,192 objects (`HasShortRounds` of
+//! `short_rounds`) makes at most 256 calls for each object and each claim that a pod names, for each planned fault that
+//! is ahead, and for 16 more (`replayed_drains_are_short`); and so does each such round of the drain with which a run
+//! on threads ends (`threaded_drains_are_short`). The first round of a drain only where its actors begin it with
+//! nothing under way, as they do where a budget was given and is not spent.
 //!
 //! It rests on what a text can give: the annotations of claims are in order in each world of such a run
 //! (`given_runs_stay_in_order`), and the UIDs of its imports have 128 bits (`given_imports_fit`). So a drain of new

@@ -69,7 +69,7 @@ use Rattle.schedule_pays.proofs.Open.{each_placed, others_seek, placed_apart, pl
 use Rattle.schedule_pays.proofs.Taking.{IsTaken, is_taken, still_uncarried}
 
 -- an eligible volume stays
-eligible_stays : (v : VolumeData) (c : ClaimData) (n : NodeData) → eligible v c (Some n) ≡ true → is_deleting v.meta ≡ false
+pub eligible_stays : (v : VolumeData) (c : ClaimData) (n : NodeData) → eligible v c (Some n) ≡ true → is_deleting v.meta ≡ false
 eligible_stays v c n e = by (is_deleting v.meta) e
   where
     by : (b : Bool) → (not b && has_name pv_protection v.meta.finalizers && fits v c && is_selected c.selector v.meta.labels && is_admitted_on v (Some n) && may_serve v c) ≡ true → b ≡ false
@@ -77,13 +77,13 @@ eligible_stays v c n e = by (is_deleting v.meta) e
     by false e = refl
 
 -- a claim of the pod that seeks a volume
-record IsOpen (c : ClaimData) : Type 0 where
-  seeks : is_seeking c ≡ true
-  known : is_some c.meta.uid ≡ true
+pub record IsOpen (c : ClaimData) : Type 0 where
+  pub seeks : is_seeking c ≡ true
+  pub known : is_some c.meta.uid ≡ true
 
 -- the references that are written, by the shares
 module _ (rows : List Object) (n : NodeData) where
-  abbrev refs_in : (cs : List ClaimData) (shares : List Share) (taken : List ℕ) → AreShares rows n taken cs shares → List Request
+  abbrev pub refs_in : (cs : List ClaimData) (shares : List Share) (taken : List ℕ) → AreShares rows n taken cs shares → List Request
   refs_in (c ∷ cs) (TakesVolume place ∷ shares) taken are = write_reference are.0.volume c ∷ refs_in cs shares (place ∷ taken) are.1
   refs_in (c ∷ cs) (IsProvisioned ∷ shares) taken are = refs_in cs shares taken are.2
   refs_in (c ∷ cs) [] taken are = []
@@ -91,7 +91,7 @@ module _ (rows : List Object) (n : NodeData) where
 
 module _ (rows : List Object) (order : AreRows rows) (n : NodeData) where
   -- these are the writes of the choice
-  refs_are : (cs : List ClaimData) (shares : List Share) (taken : List ℕ) (are : AreShares rows n taken cs shares) → Each (Stands rows) cs → present (map (bind_write rows) (binds_of rows cs shares)) ≡ refs_in rows n cs shares taken are
+  pub refs_are : (cs : List ClaimData) (shares : List Share) (taken : List ℕ) (are : AreShares rows n taken cs shares) → Each (Stands rows) cs → present (map (bind_write rows) (binds_of rows cs shares)) ≡ refs_in rows n cs shares taken are
   refs_are [] [] taken are stand = refl
   refs_are [] (TakesVolume p ∷ shares) taken are stand = absurd are
   refs_are [] (IsProvisioned ∷ shares) taken are stand = absurd are
@@ -107,18 +107,18 @@ module _ (rows : List Object) (order : AreRows rows) (n : NodeData) where
 
 module _ (setup : Setup) (seat : ℕ) (key : Key) (writes : List Request) where
   -- the machine before this write
-  abbrev at_call : ℕ → Request → Under
+  abbrev pub at_call : ℕ → Request → Under
   at_call place call = record { key = key; task = tasks.Schedule (record { writes = writes; step = steps.Writes place }); call = call }
 
-  abbrev next_entry : List Entry → Request → List Entry
+  abbrev pub next_entry : List Entry → Request → List Entry
   next_entry h call = own_entry setup seat seats.Scheduler h call ∷ h
 
   -- where the machine goes on, it makes the next write
-  record IsNext (place : ℕ) (next : Under) : Type 0 where
-    there : slice_get writes (place + 1) ≡ Some next.call
-    is : next ≡ at_call (place + 1) next.call
+  pub record IsNext (place : ℕ) (next : Under) : Type 0 where
+    pub there : slice_get writes (place + 1) ≡ Some next.call
+    pub is : next ≡ at_call (place + 1) next.call
 
-  next_of : (place : ℕ) (call : Request) (reply : Reply) (next : Under) → under_after (at_call place call) reply ≡ Some next → IsNext place next
+  pub next_of : (place : ℕ) (call : Request) (reply : Reply) (next : Under) → under_after (at_call place call) reply ≡ Some next → IsNext place next
   unfolding schedule_moved schedule_call
   next_of place call reply next e = by (is_refused reply) (is_written reply && nat_lt place (length writes)) e
     where
@@ -144,7 +144,7 @@ module _ (setup : Setup) (seat : ℕ) (key : Key) (writes : List Request) where
       record { order = rows_stand_in_order setup h; there = there; stays = ap (λ b. b && has_no_names c.meta.finalizers) (seeking_parts c open_.seeks).staying; uid = uid.uid; has = uid.is }
 
   module _ (pass : ImportsPass setup.imports) (name : List ℕ) where
-    stays_there : (w : World) (c : ClaimData) (s : IsStored w (Claim c)) → is_deleting c.meta ≡ false → leaves (placed setup w name c s) ≡ false
+    pub stays_there : (w : World) (c : ClaimData) (s : IsStored w (Claim c)) → is_deleting c.meta ≡ false → leaves (placed setup w name c s) ≡ false
     unfolding leaves updated_object with_meta with_status_of
     stays_there w c s staying = ap (λ b. b && has_no_names c.meta.finalizers) staying
 
@@ -170,10 +170,10 @@ module _ (setup : Setup) (seat : ℕ) (key : Key) (writes : List Request) where
 
     module _ (rows : List Object) (order : AreRows rows) (n : NodeData) (nodes : List ClaimData) (nodes_stand : Each (Stands rows) nodes) (nodes_open : Each IsOpen nodes) (nodes_apart : AreApart nodes) where
       -- the world after some of the writes: its claims are those of the choice, as are the volumes that were not taken yet
-      record IsBehind (h : List Entry) (taken : List ℕ) (cs : List ClaimData) : Type 0 where
-        claims : (c : ClaimData) → row_at (key_of (Claim c)) (world setup h).store.rows ≡ row_at (key_of (Claim c)) rows
-        volumes : (place : ℕ) (v : VolumeData) → slice_get (rows_of kinds.PersistentVolume rows) place ≡ Some (Volume v) → is_excluded taken place ≡ false → row_at (key_of (Volume v)) (world setup h).store.rows ≡ Some (Volume v)
-        uncarried : Each (λ c. has_carrier (world setup h).store.rows c ≡ false) cs
+      pub record IsBehind (h : List Entry) (taken : List ℕ) (cs : List ClaimData) : Type 0 where
+        pub claims : (c : ClaimData) → row_at (key_of (Claim c)) (world setup h).store.rows ≡ row_at (key_of (Claim c)) rows
+        pub volumes : (place : ℕ) (v : VolumeData) → slice_get (rows_of kinds.PersistentVolume rows) place ≡ Some (Volume v) → is_excluded taken place ≡ false → row_at (key_of (Volume v)) (world setup h).store.rows ≡ Some (Volume v)
+        pub uncarried : Each (λ c. has_carrier (world setup h).store.rows c ≡ false) cs
 
       all_uncarried : (old new : List Object) (c : ClaimData) (cs : List ClaimData) → ((d : ClaimData) → key_of (Claim c) ≢ key_of (Claim d) → has_carrier old d ≡ false → has_carrier new d ≡ false) → Each (Differ c) cs → Each (λ d. has_carrier old d ≡ false) cs
           → Each (λ d. has_carrier new d ≡ false) cs
@@ -213,17 +213,17 @@ module _ (setup : Setup) (seat : ℕ) (key : Key) (writes : List Request) where
         lowers : Lowers setup (world setup h) seats.Scheduler (write_reference v c) 1
         lowers = prepare_pays setup (world setup h) seats.Scheduler v c n stands_volume (stands_claim h c claim_there open_) open_.seeks fit none
 
-        took : IsTaken setup (world setup h) v c
+        pub took : IsTaken setup (world setup h) v c
         took = is_taken setup (world setup h) v c on_store (rows_are_valid setup h pass (key_of (Claim c)) (Claim c) claim_there) staying
 
         abbrev next : List Entry
         next = next_entry h (write_reference v c)
 
-        rows_next : (world setup next).store.rows ≡ put_row (Volume took.new) (world setup h).store.rows
+        pub rows_next : (world setup next).store.rows ≡ put_row (Volume took.new) (world setup h).store.rows
         unfolding world_after after log_after
         rows_next = ap (λ (x : Effect). (world_after (world setup h) x).store.rows) took.is
 
-        behind : (cs : List ClaimData) → Each (Differ c) cs → IsBehind h taken_before (c ∷ cs) → IsBehind next (place_of ∷ taken_before) cs
+        pub behind : (cs : List ClaimData) → Each (Differ c) cs → IsBehind h taken_before (c ∷ cs) → IsBehind next (place_of ∷ taken_before) cs
         behind cs apart b = record { claims = claims; volumes = volumes; uncarried = all_uncarried (world setup h).store.rows (world setup next).store.rows c cs uncarried apart b.uncarried.1 }
           where
             claims : (d : ClaimData) → row_at (key_of (Claim d)) (world setup next).store.rows ≡ row_at (key_of (Claim d)) rows
@@ -263,28 +263,28 @@ module _ (setup : Setup) (seat : ℕ) (key : Key) (writes : List Request) where
           subst (λ u. Pays setup seat seats.Scheduler (next_entry h (write_reference v c)) u) (sym m.is)
           (takes_pay cs shares (p ∷ taken) are.1 (place + 1) (next_entry h (write_reference v c)) after_it stand.1 open_.1 apart.1 (later_from writes place (write_reference v c) rest from) next.call m.there)))
 
-all_open : (rows : List Object) (cs : List ClaimData) → Each (λ c. is_seeking c ≡ true) cs → Each (IsSought rows) cs → Each IsOpen cs
+pub all_open : (rows : List Object) (cs : List ClaimData) → Each (λ c. is_seeking c ≡ true) cs → Each (IsSought rows) cs → Each IsOpen cs
 all_open rows [] seeks sought = tt
 all_open rows (c ∷ cs) seeks sought = (record { seeks = seeks.0; known = sought.0.known }, all_open rows cs seeks.1 sought.1)
 
-all_free : (rows : List Object) (cs : List ClaimData) → Each (IsSought rows) cs → Each (λ c. has_carrier rows c ≡ false) cs
+pub all_free : (rows : List Object) (cs : List ClaimData) → Each (IsSought rows) cs → Each (λ c. has_carrier rows c ≡ false) cs
 all_free rows [] sought = tt
 all_free rows (c ∷ cs) sought = (sought.0.uncarried, all_free rows cs sought.1)
 
-present_both : (xs ys : List (Option Request)) → present (xs ++ ys) ≡ present xs ++ present ys
+pub present_both : (xs ys : List (Option Request)) → present (xs ++ ys) ≡ present xs ++ present ys
 present_both [] ys = refl
 present_both (None ∷ xs) ys = present_both xs ys
 present_both (Some x ∷ xs) ys = ap (λ zs. x ∷ zs) (present_both xs ys)
 
 -- what begins with writes makes the first of them
-from_begun : (setup : Setup) (past : List Entry) (seat : ℕ) (key : Key) (op : ScheduleOp) (call : Request) (writes : List Request) → Some op ≡ begun_with writes → schedule_call op ≡ Some call
-    → (slice_get writes 0 ≡ Some call → Pays setup seat seats.Scheduler past (at_call setup seat key writes 0 call)) → Pays setup seat seats.Scheduler past (record { key = key; task = tasks.Schedule op; call = call })
+pub from_begun : (setup : Setup) (seat : ℕ) (key : Key) (P : Under → Type 0) (op : ScheduleOp) (call : Request) (writes : List Request) → Some op ≡ begun_with writes → schedule_call op ≡ Some call
+    → (slice_get writes 0 ≡ Some call → P (at_call setup seat key writes 0 call)) → P (record { key = key; task = tasks.Schedule op; call = call })
 unfolding schedule_call
-from_begun setup past seat key op call [] begins asks pays = none_some (sym begins)
-from_begun setup past seat key op call (w ∷ writes) begins asks pays =
+from_begun setup seat key P op call [] begins asks holds = none_some (sym begins)
+from_begun setup seat key P op call (w ∷ writes) begins asks holds =
     let same : op ≡ record { writes = w ∷ writes; step = steps.Writes 0 } = one op _ begins in
     let first = write_of_is (Some w) call (ap (λ (x : ScheduleOp). schedule_call_at x.writes x.step) (sym same) ∙ asks) in
-    subst (λ (x : ScheduleOp). Pays setup seat seats.Scheduler past (record { key = key; task = tasks.Schedule x; call = call })) (sym same) (pays first.is)
+    subst (λ (x : ScheduleOp). P (record { key = key; task = tasks.Schedule x; call = call })) (sym same) (holds first.is)
 
 module _ (setup : Setup) (past : List Entry) (seat : ℕ) (p : PodData) (pass : ImportsPass setup.imports) (there : row_at (key_of (Pod p)) (world setup past).store.rows ≡ Some (Pod p)) (unscheduled : is_scheduled p ≡ false) (last : Option (List ℕ)) (op : ScheduleOp) (call : Request)
     (asks : schedule_call op ≡ Some call) where
@@ -307,7 +307,7 @@ module _ (setup : Setup) (past : List Entry) (seat : ℕ) (p : PodData) (pass : 
       let named : is_empty name ≡ false = ap is_empty a.named ∙ node_named a.node (rows_are_valid setup past pass (node_key a.node.meta.name) (Node a.node) a.first.there) in
       let bind = BindPod (key_of (Pod p)) uid.uid name in
       let lowers = assign_pays setup (world setup past) seats.Scheduler p uid.uid name order there unscheduled named in
-      from_begun setup past seat (key_of (Pod p)) op call (bind ∷ []) (begins ∙ ap (λ u. begun_with (binding p u name)) uid.is) asks
+      from_begun setup seat (key_of (Pod p)) (Pays setup seat seats.Scheduler past) op call (bind ∷ []) (begins ∙ ap (λ u. begun_with (binding p u name)) uid.is) asks
       (λ at. subst (λ r. Pays setup seat seats.Scheduler past (at_call setup seat (key_of (Pod p)) (bind ∷ []) 0 r)) (one bind call at)
       (EachPays lowers (λ next e. let m = next_of setup seat (key_of (Pod p)) (bind ∷ []) 0 bind _ next e in none_some m.there)))
 
@@ -331,7 +331,7 @@ module _ (setup : Setup) (past : List Entry) (seat : ℕ) (p : PodData) (pass : 
       ap (λ ks. present (map (node_write rows name) ks)) provided ∙ node_writes rows name nodes (each_placed (Stands rows) others shares stand) in
       let writes_are : writes_for rows p (Prepare name binds provisions) ≡ writes =
       written rows order p known last name binds provisions ∙ (present_both (map (bind_write rows) binds) (map (node_write rows name) provisions) ∙ (λ i. taken_are i ++ placed_are i)) in
-      from_begun setup past seat (key_of (Pod p)) op call writes (begins ∙ ap begun_with writes_are) asks
+      from_begun setup seat (key_of (Pod p)) (Pays setup seat seats.Scheduler past) op call writes (begins ∙ ap begun_with writes_are) asks
       (λ at. takes_pay setup seat (key_of (Pod p)) writes pass name rows order n nodes (each_placed (Stands rows) others shares stand) (each_placed IsOpen others shares open_) (placed_apart others shares apart) others shares (set_aside rows) are 0 past
       (record { claims = λ c. refl; volumes = λ place v spot out. row_at_place kinds.PersistentVolume place (Volume v) rows order spot; uncarried = all_free rows others sought }) stand open_ apart (all_from writes) call at)
 

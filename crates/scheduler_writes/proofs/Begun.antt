@@ -50,11 +50,11 @@ inserted c (d ∷ ds) = by (is_gt (claim_cmp c d)) (inserted c ds)
     by true rest = omega (arith, rest)
     by false rest = omega arith
 
-sized : (cs : List ClaimData) → length (by_size cs) ≡ length cs
+pub sized : (cs : List ClaimData) → length (by_size cs) ≡ length cs
 sized [] = refl
 sized (c ∷ cs) = let a = inserted c (by_size cs) in let b = sized cs in omega (arith, a, b)
 
-filtered : {X : Type 0} (p : X → Bool) (xs : List X) → length (filter p xs) ≤ length xs
+pub filtered : {X : Type 0} (p : X → Bool) (xs : List X) → length (filter p xs) ≤ length xs
 filtered p [] = omega arith
 filtered p (x ∷ xs) = by (p x) (filtered p xs)
   where
@@ -62,7 +62,7 @@ filtered p (x ∷ xs) = by (p x) (filtered p xs)
     by true rest = omega (arith, rest)
     by false rest = omega (arith, rest)
 
-mapped : {X Y : Type 0} (f : X → Option Y) (xs : List X) → length (filter_map f xs) ≤ length xs
+pub mapped : {X Y : Type 0} (f : X → Option Y) (xs : List X) → length (filter_map f xs) ≤ length xs
 mapped f [] = omega arith
 mapped {Y = Y} f (x ∷ xs) = by (f x) refl (mapped f xs)
   where
@@ -75,7 +75,7 @@ presents [] = omega arith
 presents (None ∷ xs) = let rest = presents xs in omega (arith, rest)
 presents (Some x ∷ xs) = let rest = presents xs in omega (arith, rest)
 
-counted : {X Y : Type 0} (f : X → Y) (xs : List X) → length (map f xs) ≡ length xs
+pub counted : {X Y : Type 0} (f : X → Y) (xs : List X) → length (map f xs) ≡ length xs
 counted f [] = refl
 counted f (x ∷ xs) = let rest = counted f xs in omega (arith, rest)
 

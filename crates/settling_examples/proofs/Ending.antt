@@ -29,7 +29,7 @@ use Rattle.script_runs.specs.Parts.{drain_roles}
 use Rattle.kube_types.specs.VolumePlaces.{count_before, has_size, those_in}
 use Rattle.scheduler_writes.specs.Pods.{pod_writes}
 use Rattle.drain_budget.specs.Measured.{SharesWell, WaitingPodNames, is_immediate}
-use Rattle.settling_examples.specs.Ending.{AgentExamples, AllowanceExamples, BudgetExamples, CallExamples, ClassExamples, LineExamples, NamingExamples, NumberExamples, SharingExamples, SizeExamples, bare_pod, class_of, copies, faults_upto, one_node, pod_on, script_naming, setup_with, shared_rows, takes, three_volumes, world_with}
+use Rattle.settling_examples.specs.Ending.{AgentExamples, AllowanceExamples, BudgetExamples, CallExamples, ClassExamples, LineExamples, NamingExamples, NumberExamples, SharingExamples, SizeExamples, class_of, copies, faults_upto, one_node, pod_on, script_naming, setup_with, shared_rows, takes, three_volumes, world_with}
 
 abbrev is_agent_role : Role → Bool
 is_agent_role r = is_agent r.kind
@@ -185,17 +185,7 @@ call_examples = record { nothing = refl; pair = refl; fault = refl; named = refl
 
 -- ---- worlds whose rounds are short
 
--- each of so many counts as one, or as nothing
-all_copies : (f : Object → ℕ) (o : Object) → f o ≡ 1 → (n : ℕ) → total f (copies n o) ≡ n
-unfolding copies
-all_copies f o own zero = refl
-all_copies f o own (suc n) = let rest = all_copies f o own n in omega (arith, own, rest)
-
-no_copies : (f : Object → ℕ) (o : Object) → f o ≡ 0 → (n : ℕ) → total f (copies n o) ≡ 0
-unfolding copies
-no_copies f o own zero = refl
-no_copies f o own (suc n) = let rest = no_copies f o own n in omega (arith, own, rest)
-
+-- so many are so many
 many : (o : Object) (n : ℕ) → length (copies n o) ≡ n
 unfolding copies
 many o zero = refl
@@ -203,24 +193,10 @@ many o (suc n) = ap suc (many o n)
 
 pub size_examples : SizeExamples
 size_examples = record {
-  largest = record {
-    objects = let all = many (Claim open_claim) 8192 in omega (arith, all);
-    scheduled = let none = no_copies pod_writes (Claim open_claim) refl 8192 in omega (arith, none);
-  };
-  too_large = λ h. let few = h.objects in let all = many (Claim open_claim) 8193 in absurd (omega (arith, few, all));
-  naming = record {
-    objects = let all = many (Pod (pod_on (codes "p") (codes "n"))) 8192 in omega (arith, all);
-    scheduled = let none = no_copies pod_writes (Pod (pod_on (codes "p") (codes "n"))) refl 8192 in omega (arith, none);
-  };
-  waiting = record {
-    objects = let all = many (Pod (bare_pod [])) 512 in omega (arith, all);
-    scheduled = let all = all_copies pod_writes (Pod (bare_pod [])) refl 512 in omega (arith, all);
-  };
-  too_many = λ h. let few = h.scheduled in let all = all_copies pod_writes (Pod (bare_pod [])) refl 513 in absurd (omega (arith, few, all));
-  placed = record {
-    objects = let all = many (Pod (bare_pod (codes "n"))) 513 in omega (arith, all);
-    scheduled = let none = no_copies pod_writes (Pod (bare_pod (codes "n"))) refl 513 in omega (arith, none);
-  };
+  largest = let all = many (Claim open_claim) 8192 in omega (arith, all);
+  too_large = λ h. let all = many (Claim open_claim) 8193 in absurd (omega (arith, h, all));
+  naming = let all = many (Pod (pod_on (codes "p") [])) 8192 in omega (arith, all);
+  placed = let all = many (Pod (pod_on (codes "p") (codes "n"))) 8192 in omega (arith, all);
 }
 
 -- ---- lines

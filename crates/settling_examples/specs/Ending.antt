@@ -76,20 +76,13 @@ unfoldable pub copies : ℕ → Object → List Object
 copies zero o = []
 copies (suc n) o = o ∷ copies n o
 
--- a pod on this node or none that names no claim
-abbrev pub bare_pod : List ℕ → PodData
-bare_pod node = record { meta = meta (codes "ns") (codes "p") 5 []; claims = []; node = node; extra = [] }
-
 pub record SizeExamples : Type 0 where
   -- 8,192 claims are such a world, and one claim more is none
   pub largest : HasShortRounds (world_with (copies 8192 (Claim open_claim)))
   pub too_large : HasShortRounds (world_with (copies 8193 (Claim open_claim))) → ⊥
-  -- the claims that pods name do not count in it
-  pub naming : HasShortRounds (world_with (copies 8192 (Pod (pod_on (codes "p") (codes "n")))))
-  -- so are 512 pods that no node runs, but not one more; and more pods that a node runs
-  pub waiting : HasShortRounds (world_with (copies 512 (Pod (bare_pod []))))
-  pub too_many : HasShortRounds (world_with (copies 513 (Pod (bare_pod [])))) → ⊥
-  pub placed : HasShortRounds (world_with (copies 513 (Pod (bare_pod (codes "n")))))
+  -- the claims that pods name do not count in it, nor whether a node runs them
+  pub naming : HasShortRounds (world_with (copies 8192 (Pod (pod_on (codes "p") []))))
+  pub placed : HasShortRounds (world_with (copies 8192 (Pod (pod_on (codes "p") (codes "n")))))
 
 -- ---- classes, and claims that pods share
 

@@ -35,7 +35,7 @@ pub fn call_examples()
     ensures { CallExamples }
 {}
 
-/// Worlds whose rounds are short, and two that are too large for it.
+/// Worlds whose rounds are short, and one that is too large for it.
 pub fn size_examples()
     ensures { SizeExamples }
 {}

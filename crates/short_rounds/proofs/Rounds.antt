@@ -24,9 +24,8 @@ use Rattle.worker_threads.proofs.RunFacts.{run_grows}
 use Rattle.event_law.specs.Ahead.{sum_over}
 use Rattle.event_law.proofs.Sums.{div_less, mul_less}
 use Rattle.short_law.specs.Slots.{writes_since}
-use Rattle.scheduler_writes.proofs.Pods.{schedulers_write_little}
+use Rattle.scheduler_slots.proofs.Slots.{passed_schedulers_write_little}
 use Rattle.paid_law.proofs.Slots.{older_run}
-use Rattle.write_count.proofs.Rounds.{WritesLittleFrom}
 use Rattle.write_count.proofs.Runs.{silent_run}
 use Rattle.write_count.proofs.Slots.{counted, schedulers_select_few}
 use Rattle.ops_writes.specs.Ops.{ops_writes}
@@ -47,7 +46,7 @@ use Rattle.slot_costs.proofs.RoundCosts.{kept_first, kinds_cost, most}
 use Rattle.slot_costs.proofs.Slots.{slots_cost_less}
 use Rattle.sure_slots.specs.Sure.{PassesAll}
 use Rattle.sure_slots.proofs.Slots.{sure_slots_cost_writes}
-use Rattle.short_rounds.specs.ShortRounds.{RoundsCostLess, agent_sweep_calls, less_calls, ops_most, sweep_calls, swept_calls}
+use Rattle.short_rounds.specs.ShortRounds.{RoundsCostLess, agent_sweep_calls, ops_most, sweep_calls}
 use Rattle.short_rounds.proofs.Kept.{scheduler_keeps}
 
 -- ---- what a slot costs
@@ -226,15 +225,15 @@ module _ (setup : Setup) (lets : Lets) (past : List Entry) (left : ℕ) (run : I
 
   -- ---- the scheduler before it
 
-  whole_round : (ds : List Drainer) (h : List Entry) (b : ℕ) (after : List Drainer) (whole : Bool) → IsRound lets past left ds h b after whole → StandSo (roles_of ds) → AreBuilt (roles_of ds) → AreAtRest ds → given_at h → WritesLittleFrom setup lets h
+  whole_round : (ds : List Drainer) (h : List Entry) (b : ℕ) (after : List Drainer) (whole : Bool) → IsRound lets past left ds h b after whole → StandSo (roles_of ds) → AreBuilt (roles_of ds) → AreAtRest ds → given_at h
       → b ≤ left + (8 * writes_since setup h past + (2 * claims_in (world setup h).store.rows + 3 * volumes_in (world setup h).store.rows + idle_of pods (roles_of ds)) + sweep_calls (claims_in (world setup h).store.rows) (volumes_in (world setup h).store.rows) * (ops_most setup (world setup h) / 513)
       + agent_sweep_calls pods * (pods_in (world setup h).store.rows / 513))
-  whole_round _ h b _ _ (Ends entries rest) so built rests given few = absurd so
-  whole_round _ h b _ _ (Turns {ds = ds} {after = after} {whole = whole} d ran middle rest idle seat runs more) so built rests given few =
+  whole_round _ h b _ _ (Ends entries rest) so built rests given = absurd so
+  whole_round _ h b _ _ (Turns {ds = ds} {after = after} {whole = whole} d ran middle rest idle seat runs more) so built rests given =
       let here = middle_run ds middle rest after whole more in
       let kind = first_kind (roles_of ds) so in
       let kept = scheduler_keeps setup lets d.seat d.actor ran.actor h middle b rest idle kind here runs in
-      let writes = few d.seat d.actor ran.actor middle b rest idle kind here (rests 0 d refl) runs in
+      let writes = passed_schedulers_write_little setup lets d.seat d.actor ran.actor h middle b rest idle kind here passes (rests 0 d refl) runs in
       let nodes = schedulers_select_few setup lets d.seat d.actor ran.actor h middle b rest idle kind here runs in
       let bounded = ops_writes_are_bounded setup (world setup middle) in
       let claims = kept.claims in
@@ -277,18 +276,11 @@ idle_few pods nodes =
     let sum = add-mul 5 (length nodes) (3 * pods + 65) in
     omega (arith, agents, each, sum)
 
--- however much the scheduler may write
-pub rounds_cost_as :
-    (setup : Setup) (lets : Lets) (ds after : List Drainer) (h past : List Entry) (b left : ℕ) (whole : Bool) → AreRoles (roles_of ds) → AreAtRest ds → IsRunOf setup past → PassesAll lets → IsRound lets past left ds h b after whole → WritesLittleFrom setup lets h
-    → b ≤ left + (less_calls (length ds) (claims_in (world setup h).store.rows) (volumes_in (world setup h).store.rows) (total pod_size (world setup h).store.rows) (writes_since setup h past) + swept_calls setup (world setup h))
-rounds_cost_as setup lets ds after h past b left whole roles rests run passes round few =
-    let all = whole_round setup lets past left run passes h ds h b after whole round (stand_so (roles_of ds) roles) (roles_built (roles_of ds) roles) rests (given_first (world setup h).store.rows) few in
+pub rounds_cost_less : RoundsCostLess
+rounds_cost_less setup lets ds after h past b left whole roles rests run passes round =
+    let all = whole_round setup lets past left run passes h ds h b after whole round (stand_so (roles_of ds) roles) (roles_built (roles_of ds) roles) rests (given_first (world setup h).store.rows) in
     let idle = idle_few (total pod_size (world setup h).store.rows) roles.nodes in
     let are = ap (idle_of (total pod_size (world setup h).store.rows)) roles.are in
     let many : length ds ≡ 5 + length roles.nodes = (let a = lengths ds in let c = ap (λ (rs : List Role). length rs) roles.are in let d = nodes_many roles.nodes in omega (arith, a, c, d)) in
     let actors = ap (λ n. n * (3 * total pod_size (world setup h).store.rows + 65)) many in
     omega (arith, all, idle, are, actors)
-
-pub rounds_cost_less : RoundsCostLess
-rounds_cost_less setup lets ds after h past b left whole roles rests run passes round few =
-    rounds_cost_as setup lets ds after h past b left whole roles rests run passes round (λ seat old ran middle c rest idle kind here still runs. schedulers_write_little setup lets seat old ran h middle c rest idle kind here still few runs)

@@ -1,5 +1,5 @@
 -- Rounds are short: the stated number, by the sizes of the world with which a round begins.
-use Rattle.std.proofs.Common.{◌≡◌, ℕ, ◌+◌, ◌*◌, ◌-◌, ◌≤◌, List, [], ◌∷◌, length, Bool, true, false, refl, subst, arith}
+use Rattle.std.proofs.Common.{◌≡◌, ℕ, ◌+◌, ◌*◌, ◌-◌, ◌≤◌, List, [], ◌∷◌, length, true, false, refl, subst, arith}
 use Rattle.std.specs.Prelude.{◌/◌}
 use Rattle.std.proofs.Math.Nat.{mul-add}
 use Rattle.std.proofs.lemmas.Nat.{div-add-mod', mul-le}
@@ -13,17 +13,17 @@ use Rattle.model_laws.proofs.Histories.{rows_stand_in_order}
 use Rattle.settle_measure.specs.Measure.{claims_in, faults_left, pods_in, total, volumes_in}
 use Rattle.settle_measure.proofs.Bounds.{left_is_bounded}
 use Rattle.worker_threads.specs.declared.drainers.Drainer.{Drainer}
-use Rattle.worker_threads.specs.Drainers.{AreAtRest, AreRoles, roles_of}
-use Rattle.worker_threads.specs.Rounds.{Drains, Goes, IsRound, IsSpent, Lets, NothingDue}
+use Rattle.worker_threads.specs.Drainers.{AreAtRest}
+use Rattle.worker_threads.specs.Rounds.{Drains, Goes, IsSpent, Lets, NothingDue}
 use Rattle.worker_threads.proofs.DrainFacts.{drains_grow}
 use Rattle.worker_threads.proofs.RoundFacts.{round_part, round_seats, same_length}
 use Rattle.short_law.specs.Rounds.{names_in}
 use Rattle.short_law.specs.Slots.{writes_since}
-use Rattle.scheduler_writes.proofs.Pods.{schedulers_write_little}
+use Rattle.scheduler_slots.proofs.Slots.{passed_schedulers_write_little}
 use Rattle.paid_law.proofs.Slots.{older_run}
 use Rattle.write_count.specs.Counts.{AnnotationsAreInOrder}
 use Rattle.write_count.proofs.Ordered.{nodes_are_few}
-use Rattle.write_count.proofs.Rounds.{WritesLittleFrom, rounds_write_as}
+use Rattle.write_count.proofs.Rounds.{rounds_write_as}
 use Rattle.call_count.specs.Rounds.{pod_size}
 use Rattle.settle_law.specs.Settling.{MayDrain}
 use Rattle.settle_law.proofs.Leaving.{rounds_leave_drainers}
@@ -31,8 +31,8 @@ use Rattle.all_pay.specs.All.{ImportsAllow}
 use Rattle.all_pay.proofs.Rounds.{payer_at}
 use Rattle.drain_budget.specs.Budget.{AreAlwaysInOrder}
 use Rattle.sure_slots.specs.Sure.{PassesAll}
-use Rattle.short_rounds.specs.ShortRounds.{DrainedRoundsAreShort, EachLaterRoundIsShort, EachRoundIsShort, LaterRoundsAreShort, RoundsAreShort, SmallWorldsHaveShortRounds, agent_sweep_calls, less_calls, ops_most, stated_calls, sweep_calls}
-use Rattle.short_rounds.proofs.Rounds.{rounds_cost_as}
+use Rattle.short_rounds.specs.ShortRounds.{DrainedRoundsAreShort, EachLaterRoundIsShort, EachRoundIsShort, LaterRoundsAreShort, RoundsAreShort, SmallWorldsHaveShortRounds, agent_sweep_calls, less_calls, ops_most, sweep_calls}
+use Rattle.short_rounds.proofs.Rounds.{rounds_cost_less}
 use Rattle.drain_budget.proofs.Drains.{writes_few}
 
 -- ---- numbers
@@ -104,37 +104,25 @@ stated size claims volumes pods pod_count faults writes times actors counted sma
     let agents = agents_swept pods pod_count (omega (arith, small)) in
     omega (arith, each, ops, agents, counted, small, pods_less, written)
 
--- what a scheduler may write is among what is counted
 pub small_worlds_have_short_rounds : SmallWorldsHaveShortRounds
-small_worlds_have_short_rounds w small =
-    let counts = sizes w.store.rows in
-    let all = all_counted w.store.rows in
-    let scheduled = writes_few w.store.rows in
-    record { objects = omega (arith, all, small); scheduled = omega (arith, counts, scheduled, small) }
+small_worlds_have_short_rounds w small = let all = all_counted w.store.rows in omega (arith, all, small)
 
 -- ---- rounds
 
--- however much the scheduler may write
-pub rounds_short_as :
-    (setup : Setup) (lets : Lets) (ds after : List Drainer) (h past : List Entry) (b left : ℕ) (whole : Bool) → ImportsAllow setup → AreRoles (roles_of ds) → AreAtRest ds → IsRunOf setup past → PassesAll lets → IsRound lets past left ds h b after whole
-    → length ds ≤ 13 → AnnotationsAreInOrder (world setup h) → length (world setup h).store.rows ≤ 8192 → WritesLittleFrom setup lets h → b ≤ left + stated_calls setup (world setup h)
-rounds_short_as setup lets ds after h past b left whole allow roles rests run passes round few order small writes =
+pub rounds_are_short : RoundsAreShort
+rounds_are_short setup lets ds after h past b left whole allow roles rests run passes round few order small =
     let counts = sizes (world setup h).store.rows in
     let stand = objects (world setup h).store.rows in
     let pods = pods_few (world setup h).store.rows in
     let scheduled = writes_few (world setup h).store.rows in
-    let calls = rounds_cost_as setup lets ds after h past b left whole roles rests run passes round writes in
-    let paid = rounds_write_as setup lets ds after h past b left whole roles run round (payer_at setup allow ds roles rests) writes in
+    let calls = rounds_cost_less setup lets ds after h past b left whole roles rests run passes round in
+    let paid = rounds_write_as setup lets ds after h past b left whole roles run round (payer_at setup allow ds roles rests)
+    (λ seat old ran middle c rest idle kind here still runs. passed_schedulers_write_little setup lets seat old ran h middle c rest idle kind here passes still runs) in
     let most = left_is_bounded (world setup h).store.rows (world setup h).devices in
     let nodes = nodes_are_few (world setup h) (rows_stand_in_order setup h) order in
     let number = stated (total (λ o. 1 + names_in o) (world setup h).store.rows) (claims_in (world setup h).store.rows) (volumes_in (world setup h).store.rows) (total pod_size (world setup h).store.rows) (pods_in (world setup h).store.rows) (faults_left setup (world setup h).devices) (writes_since setup h past)
     (ops_most setup (world setup h)) (length ds) counts (omega (arith, stand, small)) pods few (omega (arith, paid, most, nodes, scheduled)) (omega (arith, nodes, scheduled)) in
     omega (arith, calls, number)
-
-pub rounds_are_short : RoundsAreShort
-rounds_are_short setup lets ds after h past b left whole allow roles rests run passes round few order short =
-    rounds_short_as setup lets ds after h past b left whole allow roles rests run passes round few order short.objects
-    (λ seat old ran middle c rest idle kind here still runs. schedulers_write_little setup lets seat old ran h middle c rest idle kind here still short.scheduled runs)
 
 -- ---- drains
 

@@ -45,12 +45,10 @@ less_calls actors claims volumes pods writes = 8 * writes + (2 * claims + 3 * vo
 abbrev pub swept_calls : Setup → World → ℕ
 swept_calls setup w = sweep_calls (claims_in w.store.rows) (volumes_in w.store.rows) * (ops_most setup w / 513) + agent_sweep_calls (pods_size w) * (pods_in w.store.rows / 513)
 
--- of a round of the actors of a drain that begins with nothing under way and in which no call is held back, in a world of any size in which a scheduler
--- may write at most 512 times
+-- of a round of the actors of a drain that begins with nothing under way and in which no call is held back, in a world of any size
 abbrev pub RoundsCostLess : Type 0
 RoundsCostLess =
     (setup : Setup) (lets : Lets) (ds after : List Drainer) (h past : List Entry) (b left : ℕ) (whole : Bool) → AreRoles (roles_of ds) → AreAtRest ds → IsRunOf setup past → PassesAll lets → IsRound lets past left ds h b after whole
-    → pods_writes (world setup h) ≤ 512
     → b ≤ left + (less_calls (length ds) (claims_in (world setup h).store.rows) (volumes_in (world setup h).store.rows) (pods_size (world setup h)) (writes_since setup h past) + swept_calls setup (world setup h))
 
 -- ---- by the sizes
@@ -59,11 +57,9 @@ RoundsCostLess =
 abbrev pub stated_calls : Setup → World → ℕ
 stated_calls setup w = 256 * (size_of_world w + faults_left setup w.devices + 16)
 
--- a world whose rounds are short, however many claims the pods name and faults are planned: it has at most 8,192 objects, and a scheduler writes at
--- most 512 times, once for each pod that no node runs and for each claim that such a pod names
-pub record HasShortRounds (w : World) : Type 0 where
-  pub objects : length w.store.rows ≤ 8192
-  pub scheduled : pods_writes w ≤ 512
+-- a world whose rounds are short: it has at most 8,192 objects, however many claims the pods name and faults are planned
+abbrev pub HasShortRounds : World → Type 0
+HasShortRounds w = length w.store.rows ≤ 8192
 
 -- such is each with at most 512 objects and claims that pods name
 abbrev pub SmallWorldsHaveShortRounds : Type 0

@@ -4,11 +4,11 @@
 //! for each write, what the claims and volumes with which it began cost the provisioner and reclaimer and the pods cost
 //! the agents, and what these cost again after each 513 of their writes, beyond the seven calls that each of the 513
 //! has left (`rounds_cost_less`). The other actors cost nothing beside their writes and their passes. So where it
-//! begins with at most 8,192 objects, and a scheduler may write at most 512 times in it (`HasShortRounds`), as where it
-//! begins with at most 512 objects and claims that pods name (`small_worlds_have_short_rounds`), it makes at most 256
-//! calls for each object, for each claim that a pod names, for each planned fault that is ahead, and for 16 more
-//! (`rounds_are_short`); and so does each such round of a drain (`drained_rounds_are_short`), and each but the first
-//! where the drain begins with something under way (`later_rounds_are_short`).
+//! begins with at most 8,192 objects (`HasShortRounds`), as where it begins with at most 512 objects and claims that
+//! pods name (`small_worlds_have_short_rounds`), it makes at most 256 calls for each object, for each claim that a pod
+//! names, for each planned fault that is ahead, and for 16 more (`rounds_are_short`); and so does each such round of a
+//! drain (`drained_rounds_are_short`), and each but the first where the drain begins with something under way
+//! (`later_rounds_are_short`).
 //!
 //! Premises: no call is held back; and for the stated number UIDs of imports have 128 bits, the actors of a round are
 //! at most 13, and the annotations of claims are in order in the world with which it begins. Not said: the number for

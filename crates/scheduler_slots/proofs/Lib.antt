@@ -1,0 +1,5 @@
+mod Costs
+mod Covered
+mod Deciding
+pub mod Slots
+mod Spending
