@@ -18,11 +18,10 @@ use Rattle.sync_queue.specs.Work.{Taken, Work, mark_of, oldest_of}
 use Rattle.worker_core.specs.declared.role.Role.{Role}
 use Rattle.worker_core.specs.declared.task.First.{First}
 use Rattle.worker_core.specs.declared.task.Under.{Under}
-use Rattle.worker_core.specs.declared.turn.Given.{Given}
 use Rattle.worker_core.specs.declared.turn.Given.TheVariants as givens
 use Rattle.worker_core.specs.declared.turn.Next.TheVariants.{Call, Idle}
 use Rattle.worker_core.specs.declared.turn.Outcome.TheVariants.{Told}
-use Rattle.worker_core.specs.Absorbs.{absorbed, given_told, learned, woken}
+use Rattle.worker_core.specs.Absorbs.{absorbed, woken}
 use Rattle.worker_core.specs.Roles.{IsBuiltKind}
 use Rattle.worker_core.specs.States.{ActorState, call_in, start_call, waits, read_of_kind, read_request, start_of}
 use Rattle.worker_core.specs.Tasks.{GivesCall, GivesNone, under_after}
@@ -34,9 +33,10 @@ use Rattle.worker_threads.specs.Rounds.{Asks, IsHeld, IsIdle, IsReady, IsSpent, 
 use Rattle.worker_threads.proofs.RunFacts.{run_grows, turn_memory, turn_role, still_role}
 use Rattle.slot_law.specs.Slots.{IsDecisionPoint, KnowsBehind, own_entry}
 use Rattle.slot_law.proofs.Knowing.{sees, told_knows}
-use Rattle.slot_law.proofs.Slots.{older, run_older}
+use Rattle.slot_law.proofs.Slots.{ByCall, ByNone, Called, NotCalled, Stopped, StopsBy, asks_under, decides_gives, decides_stops, none_told, older, run_older, stops_by, told_under}
 use Rattle.wake_law.specs.Wakes.{ComesAgain}
 use Rattle.wake_law.proofs.Wakes.{come_by}
+use Rattle.wake_law.proofs.Decided.{ready_at}
 use Rattle.attention_law.specs.Queues.{key_in, under_keys}
 use Rattle.std.specs.Prelude.{map}
 use Rattle.kube_types.proofs.SameKeys.{key_tells}
@@ -51,8 +51,7 @@ use Rattle.done_lasts.proofs.Doing.{write_asked}
 use Rattle.write_count.proofs.Slots.{ComesTo, Leaves, Wrote, comes_to}
 use Rattle.slot_law.specs.Would.{Here}
 use Rattle.tries_law.specs.Coming.{IsCallOf, IsDecidedIn}
-use Rattle.tries_law.proofs.Coming.{decides_gives, leads_on}
-use Rattle.tries_law.proofs.Deciding.{ByCall, ByNone, Called, NotCalled, Stopped, StopsBy, asks_under, decides_stops, ready_at, stops_by}
+use Rattle.tries_law.proofs.Coming.{leads_on}
 
 -- ---- the calls of a slot of the scheduler, by the key for which they are made
 
@@ -153,23 +152,11 @@ module _ (setup : Setup) (seat : ℕ) (role : Role) (kind : role.kind ≡ seats.
         let told = said_so u asked in
         λ i. record { seat = seat; kind = (sym of_kind) i; request = (sym asked) i; reply = told i; told = true }
 
-    told_under : (u : Under) (caches : AllKnown) (g : Option Given) (x : Option Under) → g ≡ Some givens.Task → x ≡ Some u → (given_told (record (learned given caches request reply) { under = x }) request reply g).under ≡ under_after u reply
-    told_under u caches g x eg ex = rw (eg, ex) refl
-
-    none_told : (caches : AllKnown) (g : Option Given) (x : Option Under) → x ≡ None → (given_told (record (learned given caches request reply) { under = x }) request reply g).under ≡ None
-    none_told caches g x ex = rw ex (by g)
-      where
-        by : (y : Option Given) → (given_told (record (learned given caches request reply) { under = None }) request reply y).under ≡ None
-        by None = refl
-        by (Some givens.Start) = refl
-        by (Some givens.Task) = refl
-        by (Some (givens.Read k)) = refl
-
     follows_so : (u : Under) → given.under ≡ Some u → given.given ≡ Some givens.Task → request ≡ u.call → next.under ≡ under_after u (reply_to (effect setup (world setup h) role.kind u.call))
-    follows_so u under task asked = ap (λ (x : ActorState). x.under) absorbs ∙ (told_under u next.caches given.given given.under task under ∙ ap (under_after u) (sym (said_so u asked)))
+    follows_so u under task asked = ap (λ (x : ActorState). x.under) absorbs ∙ (told_under given request reply u next.caches given.given given.under task under ∙ ap (under_after u) (sym (said_so u asked)))
 
     none_follows : given.under ≡ None → next.under ≡ None
-    none_follows none = ap (λ (x : ActorState). x.under) absorbs ∙ none_told next.caches given.given given.under none
+    none_follows none = ap (λ (x : ActorState). x.under) absorbs ∙ none_told given request reply next.caches given.given given.under none
 
     goes_under : (start : List Entry) (u : Under) → given.under ≡ Some u → given.given ≡ Some givens.Task → request ≡ u.call → (i : IsDecidedIn setup seat role start h u) → i.first.key ≢ key → UnderOthers start (told_entry seat given request reply ∷ h) next
     goes_under start u under task asked i other n e =
