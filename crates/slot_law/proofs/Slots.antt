@@ -366,7 +366,7 @@ remembers_awake seats.Scheduler node request reply m other = refl
 remembers_awake seats.ClaimProtect node request reply m other = refl
 remembers_awake seats.VolumeProtect node request reply m other = refl
 
-memory_awake : (role : Role) (mine : List Entry) → role.kind ≢ seats.Agent → (memory_of role mine).stale ≡ false
+pub memory_awake : (role : Role) (mine : List Entry) → role.kind ≢ seats.Agent → (memory_of role mine).stale ≡ false
 memory_awake role [] other = refl
 memory_awake role (e ∷ mine) other = by e.told (memory_awake role mine other)
   where
