@@ -6,7 +6,6 @@ use Rattle.std.proofs.lemmas.Bool.{and_parts, or_parts}
 use Rattle.std.proofs.lemmas.Slice.Eq.{bytes_eq-Decides}
 use Rattle.kube_types.specs.declared.key.Key.{Key}
 use Rattle.kube_types.specs.declared.names.Due.TheVariants as dues
-use Rattle.kube_types.specs.declared.names.Field.{Field}
 use Rattle.kube_types.specs.declared.uid.Uid.{Uid}
 use Rattle.kube_types.specs.declared.objects.Claim.{Claim as ClaimData}
 use Rattle.kube_types.specs.declared.objects.Pod.{Pod as PodData}
@@ -27,7 +26,7 @@ use Rattle.binder_model.specs.BindWrites.{is_claim_bound}
 use Rattle.binder_model.specs.Choice.{claim_in, claim_named}
 use Rattle.binder_model.specs.Devices.{is_mounted_on}
 use Rattle.binder_model.specs.Due.{carried_by, is_pod_uid_mounted, is_ready}
-use Rattle.binder_model.specs.Fields.{create_fault, faulty, has_twice, kind_fault, pod_fault}
+use Rattle.binder_model.specs.Fields.{has_twice}
 use Rattle.binder_model.specs.Imports.{ImportsPass}
 use Rattle.binder_model.specs.ObjectKeys.{claim_key, volume_key}
 use Rattle.binder_model.specs.World.{World, effect, reply_to, world}
@@ -43,12 +42,12 @@ use Rattle.worker_core.specs.declared.task.Under.{Under}
 use Rattle.worker_core.specs.Tasks.{under_after, with_call}
 use Rattle.worker_threads.specs.Drainers.{agent_of}
 use Rattle.write_law.specs.Lasting.{Lasts}
-use Rattle.write_law.specs.Valid.{IsValid}
 use Rattle.write_law.proofs.Valid.{rows_are_valid}
+use Rattle.write_law.proofs.Pods.{claims_once}
 use Rattle.alike_law.specs.Alike.{AreAlike}
 use Rattle.slot_law.specs.Slots.{own_entry}
 use Rattle.slot_law.specs.Would.{AtOnce, Later, WouldLast}
-use Rattle.due_law.proofs.Deciding.{DecisionLasts}
+use Rattle.due_law.proofs.Deciding.{DecisionLasts, volume_in}
 use Rattle.due_law.proofs.Known.{rows_known}
 use Rattle.due_law.proofs.Reclaims.{HasUid, has_uid}
 use Rattle.due_law.proofs.Volumes.{get_said, get_stays, got}
@@ -56,26 +55,6 @@ use Rattle.agent_law.specs.Acts.{AgentWouldActOn, AgentsAct, MountsAct}
 use Rattle.agent_law.proofs.Finishing.{finishes_act}
 use Rattle.agent_law.proofs.Lasting.{mount_lasts}
 use Rattle.agent_law.proofs.Points.{IsDecided, IsMountDue, agent_acts_each, decided_so, mount_due, mount_or_finish}
-
--- no pod that stands names a claim twice
-
-abbrev is_fault : Option Field → Bool
-is_fault None = false
-is_fault (Some field) = true
-
-next_none : (b : Bool) (field : Field) (next : Option Field) → faulty b field next ≡ None → next ≡ None
-unfolding faulty
-next_none true field next e = absurd (true≢false (ap is_fault e))
-next_none false field next e = e
-
-test_false : (b : Bool) (field : Field) (next : Option Field) → faulty b field next ≡ None → b ≡ false
-unfolding faulty
-test_false true field next e = absurd (true≢false (ap is_fault e))
-test_false false field next e = refl
-
-named_once : (p : PodData) → IsValid (Pod p) → has_twice p.claims ≡ false
-unfolding create_fault kind_fault pod_fault
-named_once p e = (or_parts (has_name [] p.claims) (has_twice p.claims) (test_false _ _ _ (next_none _ _ _ (next_none _ _ _ (next_none _ _ _ e))))).1
 
 -- a claim that a pod may use, as it stands
 
@@ -135,10 +114,6 @@ one_name v a b ea eb = by v.claim_ref refl
     by : (x : Option Ref) → v.claim_ref ≡ x → a.meta.name ≡ b.meta.name
     by None is = absurd (true≢false (sym (ap (λ y. refers_carrying y a) (sym is) ∙ ea)))
     by (Some r) is = sym (names_of v.claim_ref a ea r is) ∙ names_of v.claim_ref b eb r is
-
-abbrev volume_in : VolumeData → Option Object → VolumeData
-volume_in v (Some (Volume x)) = x
-volume_in v o = v
 
 -- claims that have one volume have one name
 same_volume : (rows : List Object) (namespace a b : List ℕ) (x : IsReadyClaim rows namespace a) (y : IsReadyClaim rows namespace b) → x.claim.volume_name ≡ y.claim.volume_name → a ≡ b
@@ -227,7 +202,7 @@ module _ (setup : Setup) (seat : ℕ) (node : List ℕ) (start : List Entry) (ke
   unmounted = (λ i. is_pod_uid_mounted (world setup h).devices ((sym d.placed) i) ((sym d.known) i)) ∙ due.unmounted
 
   once : has_twice d.pod.claims ≡ false
-  once = named_once d.pod (rows_are_valid setup h pass key (Pod d.pod) d.there)
+  once = claims_once d.pod (rows_are_valid setup h pass key (Pod d.pod) d.there)
 
   abbrev op_at : List ReadyClaim → AgentStep → AgentOp
   op_at ready step = record { node = node; epoch = d.epoch; pod = d.pod; uid = d.uid; ready = ready; step = step }

@@ -1,6 +1,6 @@
 -- A node agent at a point of its slot: the pod of the key as it stands, the epoch and the mounts by which it is decided.
 use Rattle.std.proofs.Common.{◌≡◌, ◌∙◌, ◌⊎◌, ℕ, List, [], ◌∷◌, Bool, true, false, true≢false, Option, Some, None, inl, inr, refl, sym, ap, subst, if◌then◌else◌}
-use Rattle.std.specs.Prelude.{◌&&◌, bytes_eq, not, option_map}
+use Rattle.std.specs.Prelude.{◌&&◌, bytes_eq, not}
 use Rattle.std.specs.List.{list_all}
 use Rattle.std.proofs.lemmas.Slice.Eq.{bytes_eq-Decides}
 use Rattle.std.proofs.lemmas.Bool.Decides.{Decides-eqb}
@@ -42,7 +42,6 @@ use Rattle.safety_invariant.specs.Holders.{epoch_now}
 use Rattle.worker_core.specs.declared.role.Role.{Role}
 use Rattle.worker_core.specs.declared.task.First.{First}
 use Rattle.worker_core.specs.declared.task.Under.{Under}
-use Rattle.worker_core.specs.declared.task.Task.{Task}
 use Rattle.worker_core.specs.declared.task.First.TheVariants as firsts
 use Rattle.worker_core.specs.Memories.{Memory, memory_of}
 use Rattle.worker_core.specs.Stands.{AreLicensed}
@@ -51,13 +50,10 @@ use Rattle.worker_core.specs.States.{ActorState}
 use Rattle.worker_core.specs.Tasks.{GivesCall, GivesNone, IsAgentFirst, IsDecision, agent_first, task_call}
 use Rattle.worker_core.proofs.ByKind.{epoch_stands}
 use Rattle.worker_threads.specs.Drainers.{agent_of}
-use Rattle.write_law.specs.Lasting.{content_of}
-use Rattle.alike_law.specs.Alike.{AreAlike}
 use Rattle.alike_law.proofs.Dues.{alike_is_due}
-use Rattle.alike_law.proofs.Rows.{plain_pod, row_plain}
 use Rattle.slot_law.specs.Slots.{IsDecisionPoint}
 use Rattle.slot_law.specs.Would.{WouldLast}
-use Rattle.due_law.proofs.Deciding.{DecisionLasts}
+use Rattle.due_law.proofs.Deciding.{DecisionLasts, IsPodAt, pod_alike, task_in}
 use Rattle.due_law.proofs.Known.{rows_known}
 use Rattle.due_law.proofs.Reclaims.{HasUid, has_uid}
 use Rattle.agent_law.specs.Acts.{AgentWouldActOn, IsHolding}
@@ -65,10 +61,6 @@ use Rattle.epoch_law.specs.Remembered.{AreRemembered, WasLost, is_unmount_of}
 use Rattle.epoch_law.proofs.Remembered.{mounts_are_remembered}
 
 -- the agent acts on a key where each decision on it begins a task that will make a call that lasts
-
-abbrev task_in : Task → First → Task
-task_in t (firsts.Begins task) = task
-task_in t first = t
 
 pub agent_acts_each : (setup : Setup) (seat : ℕ) (role : Role) (start : List Entry) (key : Key)
     → ((s : ActorState) (h : List Entry) → IsDecisionPoint setup seat role start s h → IsHolding setup h role.node seat → (first : First) → IsDecision s.role s.memory (all_objects s.caches) key first → DecisionLasts setup seat role start key h first)
@@ -84,33 +76,6 @@ agent_acts_each setup seat role start key each = record { lasts = lasts; acts = 
 
     acts : (s : ActorState) (h : List Entry) (first : First) → IsDecisionPoint setup seat role start s h → IsHolding setup h role.node seat → GivesNone s.role s.memory (all_objects s.caches) key first → ⊥
     acts s h first p holding none = let b = each s h p holding first none.decided in none_some (sym (none.none b.task b.is) ∙ b.asks)
-
--- what stands under the key in a world that is alike
-
-pub record IsPodAt (x : Option Object) (p : PodData) : Type 0 where
-  pub pod : PodData
-  pub is : x ≡ Some (Pod pod)
-  pub same : plain_pod pod ≡ plain_pod p
-
-abbrev pod_in : PodData → Option Object → PodData
-pod_in p (Some (Pod x)) = x
-pod_in p o = p
-
-abbrev is_pod : Option Object → Bool
-is_pod (Some (Pod x)) = true
-is_pod o = false
-
-pod_back : (x : Option Object) (p : PodData) → option_map content_of x ≡ Some (Pod (plain_pod p)) → IsPodAt x p
-pod_back None p e = none_some e
-pod_back (Some (Pod x)) p e = record { pod = x; is = refl; same = ap (pod_in p) e }
-pod_back (Some (Class x)) p e = absurd (true≢false (sym (ap is_pod e)))
-pod_back (Some (Node x)) p e = absurd (true≢false (sym (ap is_pod e)))
-pod_back (Some (Volume x)) p e = absurd (true≢false (sym (ap is_pod e)))
-pod_back (Some (Claim x)) p e = absurd (true≢false (sym (ap is_pod e)))
-
-pod_alike : (old new : World) (key : Key) (p : PodData) → AreAlike old new → row_at key old.store.rows ≡ Some (Pod p) → IsPodAt (row_at key new.store.rows) p
-pod_alike old new key p alike there =
-    pod_back (row_at key new.store.rows) p (sym (row_plain key new.store.rows) ∙ (ap (row_at key) (sym alike.rows) ∙ (row_plain key old.store.rows ∙ ap (option_map content_of) there)))
 
 -- what is due for an agent
 

@@ -21,7 +21,7 @@ use Rattle.worker_core.specs.States.{ActorState}
 use Rattle.worker_threads.specs.declared.drainers.Drainer.{Drainer}
 use Rattle.worker_threads.specs.Drainers.{agent_of, roles_of}
 use Rattle.worker_threads.specs.Longer.{GrowsWithin}
-use Rattle.worker_threads.specs.Rounds.{Lets, Runs, told_entry}
+use Rattle.worker_threads.specs.Rounds.{IsRound, Lets, Runs, told_entry}
 use Rattle.worker_threads.proofs.RoundFacts.{AreBuilt, roles_built, round_grows}
 use Rattle.worker_threads.proofs.RunFacts.{run_grows}
 use Rattle.write_law.specs.Lasting.{HasLasting}
@@ -33,7 +33,7 @@ use Rattle.wake_law.proofs.Decided.{keys_kept}
 use Rattle.wake_law.proofs.Wakes.{LastsWhereWaiting, StaysKept}
 use Rattle.round_law.proofs.Rounds.{rounds_kept}
 use Rattle.agent_law.specs.Acts.{AgentWouldActOn, IsHolding}
-use Rattle.agent_law.specs.Rounds.{AgentRoundsLast}
+use Rattle.agent_law.specs.Rounds.{AgentRoundsLast, HasAgent}
 use Rattle.epoch_law.proofs.Awake.{run_awake}
 use Rattle.epoch_law.specs.Epochs.{IsCurrent, TakesNoMore}
 use Rattle.epoch_law.proofs.Epochs.{entry_stays, run_stays, takes_none_later}
@@ -114,16 +114,20 @@ built_at [] i d built at = none_some at
 built_at (x ∷ xs) zero d built at = subst (λ (y : Drainer). IsBuiltKind y.actor.role.kind) (one x d at) built.0
 built_at (x ∷ xs) (suc i) d built at = built_at xs i d built.1 at
 
-pub agent_rounds_last : AgentRoundsLast
-agent_rounds_last setup lets ds after h past b left run roles round a =
+-- so a whole round of actors that were built has an entry that lasts where such an agent is among them
+pub built_rounds_last : (setup : Setup) (lets : Lets) (ds after : List Drainer) (h past : List Entry) (b left : ℕ) → IsRunOf setup past → AreBuilt (roles_of ds) → IsRound lets past left ds h b after true → HasAgent setup lets ds h → HasLasting setup h past
+built_rounds_last setup lets ds after h past b left run built round a =
     rounds_kept setup lets past left (runs_are_histories setup past run.run) h first.drainer (λ x. IsHolding setup x a.node first.drainer.seat × HasMore h x) (λ x. IsBuiltKind x.actor.role.kind × (x.actor.role ≡ agent_of a.node → TakesNoMore a.node x.seat x.actor h)) (λ x. ⊤)
     (λ other ran x middle newer n rest idle is runs are k. passed setup lets h first.drainer a.node first.role a.key a.object a.stands a.followed (a.acts first.drainer.seat) (a.passes first.drainer.seat) past run other ran x middle newer n rest idle is runs are k)
     (λ ran x middle newer n rest are alike k runs awake. decided setup lets h first.drainer a.node first.role a.key a.object a.stands a.followed (a.acts first.drainer.seat) (a.passes first.drainer.seat) past run ran x middle newer n rest first.awake.fresh are alike k.0 runs)
     ds h b after true round refl (record { rows = refl; stored = refl; mounts = refl }) (record { run = start_run; current = first.awake.current }, record { newer = []; are = refl }) first.place first.there
-    (λ i other lt at. (built_at ds i other (roles_built (roles_of ds) roles) at, first.before i other lt at)) (λ x at. tt)
+    (λ i other lt at. (built_at ds i other built at, first.before i other lt at)) (λ x at. tt)
   where
     first : IsFirstAwake setup h a.node ds
     first = first_awake setup h a.node ds a.agent.place a.agent.drainer a.agent.there a.agent.role a.agent.awake
 
     start_run : IsRunOf setup h
     start_run = let g = round_grows lets past left ds h b after true round in older_run setup g.longer.added h (subst (IsRunOf setup) g.longer.are run)
+
+pub agent_rounds_last : AgentRoundsLast
+agent_rounds_last setup lets ds after h past b left run roles round a = built_rounds_last setup lets ds after h past b left run (roles_built (roles_of ds) roles) round a

@@ -34,13 +34,13 @@ use Rattle.worker_core.specs.States.{ActorState}
 use Rattle.worker_core.specs.Tasks.{GivesCall, IsBinderFirst, IsFirstOf}
 use Rattle.slot_law.specs.Slots.{IsDecisionPoint}
 use Rattle.slot_law.specs.Would.{WouldLast}
-use Rattle.due_law.proofs.Volumes.{volumes_act}
+use Rattle.due_law.proofs.Volumes.{begins_one, volumes_act}
 use Rattle.bind_law.proofs.Claims.{claims_act}
 use Rattle.bind_law.proofs.Matches.{AgreeForBinder}
 use Rattle.begun_lasts.specs.Begun.{BindingLasts}
 use Rattle.begun_lasts.proofs.Claims.{begun_due, claim_begins_due}
 use Rattle.begun_lasts.proofs.Seeing.{by_acting}
-use Rattle.begun_lasts.proofs.Volumes.{is_begun, volume_begins_due}
+use Rattle.begun_lasts.proofs.Volumes.{volume_begins_due}
 
 module _ (setup : Setup) (seat : ℕ) (role : Role) (start : List Entry) (pass : ImportsPass setup.imports) (kind : role.kind ≡ seats.Binder) (s : ActorState) (h : List Entry) (u : Under) (p : IsDecisionPoint setup seat role start s h) (gives : GivesCall s.role s.memory (all_objects s.caches) u) where
   abbrev cached : List Object
@@ -66,13 +66,13 @@ module _ (setup : Setup) (seat : ℕ) (role : Role) (start : List Entry) (pass :
   stands o f row = sym (agree u.key (ap (λ (key : Key). follows seats.Binder key.kind) (sym (row_at_key u.key o cached row)) ∙ f)) ∙ row
 
   not_begun : {X : Type 0} (machine : Machine) → binder_firsts.Begins machine ≡ binder_firsts.Drops → X
-  not_begun machine e = absurd (true≢false (ap is_begun e))
+  not_begun machine e = absurd (true≢false (ap begins_one e))
 
   of_volume : (v : VolumeData) → row_at u.key rows ≡ Some (Volume v) → (machine : Machine) → binder_firsts.Begins machine ≡ volume_first v (volume_decision cached v NotAsked) → WouldHere
   of_volume v there machine begins = by (volume_due rows v) refl
     where
       begun : true ≡ is_some (volume_due rows v)
-      begun = ap is_begun begins ∙ volume_begins_due v cached rows (λ r. agree (claim_key r.namespace r.name) refl)
+      begun = ap begins_one begins ∙ volume_begins_due v cached rows (λ r. agree (claim_key r.namespace r.name) refl)
 
       by : (due : Option Due) → volume_due rows v ≡ due → WouldHere
       by None is = absurd (true≢false (begun ∙ ap is_some is))

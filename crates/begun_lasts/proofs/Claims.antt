@@ -1,18 +1,17 @@
 -- What the binder decides on a claim is what is due for it: to read the volume is to find that the claim is Lost.
-use Rattle.std.proofs.Common.{◌≡◌, ◌∙◌, List, Bool, true, false, true≢false, Option, Some, None, refl, sym, ap, if◌then◌else◌}
+use Rattle.std.proofs.Common.{◌≡◌, ◌∙◌, List, Bool, true, false, true≢false, Option, Some, None, refl, ap, if◌then◌else◌}
 use Rattle.std.specs.Prelude.{◌&&◌, is_none}
 use Rattle.std.specs.List.{list_any}
 use Rattle.kube_types.specs.declared.names.Due.{Due}
 use Rattle.kube_types.specs.declared.names.Due.TheVariants as dues
 use Rattle.kube_types.specs.declared.lookup.Live.TheVariants.{NotAsked}
-use Rattle.kube_types.specs.declared.parts.Kind.TheVariants as kinds
 use Rattle.kube_types.specs.declared.objects.Claim.{Claim as ClaimData}
 use Rattle.kube_types.specs.declared.objects.Ref.{Ref}
 use Rattle.kube_types.specs.declared.objects.Volume.{Volume as VolumeData}
 use Rattle.kube_types.specs.declared.objects.Object.{Object}
 use Rattle.kube_types.specs.declared.objects.Object.TheVariants.{Class, Node, Volume, Claim, Pod}
 use Rattle.kube_types.specs.Bindings.{is_completed, is_deleting, is_empty, is_for, is_lost, lacks_class}
-use Rattle.kube_types.specs.Keys.{AreRows, key_of, row_at}
+use Rattle.kube_types.specs.Keys.{AreRows, row_at}
 use Rattle.kube_types.specs.VolumeIndex.{as_volume}
 use Rattle.call_types.specs.declared.request.SeatKind.TheVariants as seats
 use Rattle.binder_model.specs.BinderDue.{claim_due, class_due, completed_due, has_other_uid, is_default_row, lost_due, named_due}
@@ -25,9 +24,10 @@ use Rattle.claim_sync.specs.ClaimDecision.{claim_decision, completed_step, has_w
 use Rattle.binder_machines.specs.declared.decide.First.TheVariants as binder_firsts
 use Rattle.binder_machines.specs.declared.machine.Machine.{Machine}
 use Rattle.binder_machines.specs.FirstSteps.{IsClaimFirst}
+use Rattle.due_law.proofs.Volumes.{begins_one}
 use Rattle.bind_law.proofs.Matches.{AgreeForBinder, match_same}
+use Rattle.bind_law.proofs.Claims.{default_class_row}
 use Rattle.begun_lasts.proofs.Seeing.{any_seen}
-use Rattle.begun_lasts.proofs.Volumes.{is_begun}
 
 -- what is due where this is decided
 abbrev pub due_by : ClaimStep → Option Due
@@ -43,19 +43,11 @@ pub record IsSome (x : Option Due) : Type 0 where
   pub is : x ≡ Some action
 
 pub begun_due : (rows : List Object) (c : ClaimData) (step : ClaimStep) (machine : Machine) → IsClaimFirst rows c step (binder_firsts.Begins machine) → IsSome (due_by step)
-begun_due rows c steps.Nothing machine begins = absurd (true≢false (ap is_begun begins))
+begun_due rows c steps.Nothing machine begins = absurd (true≢false (ap begins_one begins))
 begun_due rows c steps.ReadVolume machine begins = record { action = dues.Lost; is = refl }
 begun_due rows c steps.Bind machine begins = record { action = dues.Bind; is = refl }
 begun_due rows c steps.AssignClass machine begins = record { action = dues.AssignClass; is = refl }
 begun_due rows c steps.Lost machine begins = record { action = dues.Lost; is = refl }
-
--- only classes are default ones
-default_class : (o : Object) → is_default_row o ≡ true → (key_of o).kind ≡ kinds.StorageClass
-default_class (Class x) e = refl
-default_class (Node x) e = absurd (true≢false (sym e))
-default_class (Volume x) e = absurd (true≢false (sym e))
-default_class (Claim x) e = absurd (true≢false (sym e))
-default_class (Pod x) e = absurd (true≢false (sym e))
 
 module _ (c : ClaimData) where
   lost_so : due_by (unless_lost c steps.Lost) ≡ lost_due c
@@ -110,7 +102,7 @@ module _ (c : ClaimData) where
   -- on rows that agree where the binder follows
   module _ (cached rows : List Object) (ordered : AreRows cached) (order : AreRows rows) (agree : AgreeForBinder cached rows) where
     default_seen : list_any is_default_row cached ≡ list_any is_default_row rows
-    default_seen = any_seen seats.Binder cached rows ordered order agree is_default_row (λ o e. ap (λ k. follows seats.Binder k) (default_class o e))
+    default_seen = any_seen seats.Binder cached rows ordered order agree is_default_row (λ o e. ap (λ k. follows seats.Binder k) (default_class_row o e))
 
     unnamed_so : due_by (unnamed_step cached c) ≡ (if has_match rows c then Some dues.Bind else class_due rows c)
     unnamed_so =

@@ -2,7 +2,6 @@
 use Rattle.std.proofs.Common.{◌≡◌, ◌∙◌, ℕ, List, Bool, true, false, true≢false, Option, Some, None, refl, sym, ap, subst}
 use Rattle.kube_types.specs.declared.key.Key.{Key}
 use Rattle.kube_types.specs.declared.names.Due.{Due}
-use Rattle.kube_types.specs.declared.parts.Kind.TheVariants as kinds
 use Rattle.kube_types.specs.declared.objects.Claim.{Claim as ClaimData}
 use Rattle.kube_types.specs.declared.objects.Volume.{Volume as VolumeData}
 use Rattle.kube_types.specs.declared.objects.Object.{Object}
@@ -30,7 +29,7 @@ use Rattle.worker_core.specs.States.{ActorState}
 use Rattle.worker_core.specs.Tasks.{GivesCall, IsFirstOf, claim_guard_first, volume_guard_first}
 use Rattle.slot_law.specs.Slots.{IsDecisionPoint}
 use Rattle.slot_law.specs.Would.{WouldLast}
-use Rattle.due_law.proofs.Claims.{claim_guards_act}
+use Rattle.due_law.proofs.Claims.{claim_guards_act, uses_pod}
 use Rattle.due_law.proofs.Guards.{volume_guards_act}
 use Rattle.begun_lasts.specs.Begun.{ClaimGuardsLast, VolumeGuardsLast}
 use Rattle.begun_lasts.proofs.Seeing.{any_seen, by_acting}
@@ -42,14 +41,6 @@ is_drop first = false
 -- a task is no key that is dropped
 pub not_dropped : {X : Type 0} (task : Task) → firsts.Begins task ≡ firsts.Drops → X
 not_dropped task e = absurd (true≢false (sym (ap is_drop e)))
-
--- only pods use a claim
-uses_pod : (c : ClaimData) (o : Object) → uses c o ≡ true → (key_of o).kind ≡ kinds.Pod
-uses_pod c (Pod p) e = refl
-uses_pod c (Class x) e = absurd (true≢false (sym e))
-uses_pod c (Node x) e = absurd (true≢false (sym e))
-uses_pod c (Volume x) e = absurd (true≢false (sym e))
-uses_pod c (Claim x) e = absurd (true≢false (sym e))
 
 module _ (setup : Setup) (seat : ℕ) (role : Role) (start : List Entry) (pass : ImportsPass setup.imports) (s : ActorState) (h : List Entry) (u : Under) (p : IsDecisionPoint setup seat role start s h) (gives : GivesCall s.role s.memory (all_objects s.caches) u) where
   abbrev cached : List Object

@@ -16,20 +16,15 @@ use Rattle.binder_model.specs.ObjectKeys.{claim_key}
 use Rattle.volume_sync.specs.declared.action.VolumeAction.{VolumeAction}
 use Rattle.volume_sync.specs.declared.action.VolumeAction.TheVariants as actions
 use Rattle.volume_sync.specs.VolumeDecision.{claim_by_reference, claim_by_uid, claimed_action, free_action, or_else, referred_action, volume_decision}
-use Rattle.binder_machines.specs.declared.decide.First.{First as BinderFirst}
-use Rattle.binder_machines.specs.declared.decide.First.TheVariants as binder_firsts
 use Rattle.binder_machines.specs.FirstSteps.{queue_of, volume_first}
-
-abbrev pub is_begun : BinderFirst → Bool
-is_begun (binder_firsts.Begins machine) = true
-is_begun first = false
+use Rattle.due_law.proofs.Volumes.{begins_one}
 
 module _ (v : VolumeData) where
   abbrev begins : VolumeAction → Bool
-  begins action = is_begun (volume_first v action)
+  begins action = begins_one (volume_first v action)
 
   -- another key is queued
-  queued : (r : Option Ref) → is_begun (queue_of r) ≡ false
+  queued : (r : Option Ref) → begins_one (queue_of r) ≡ false
   queued None = refl
   queued (Some r) = refl
 

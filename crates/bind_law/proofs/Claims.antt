@@ -67,12 +67,12 @@ use Rattle.slot_law.specs.Slots.{IsDecisionPoint, own_entry}
 use Rattle.slot_law.specs.Would.{AtOnce, Later, WouldLast}
 use Rattle.bind_law.specs.Claims.{ClaimsAct}
 use Rattle.due_law.proofs.Claims.{or_true}
-use Rattle.due_law.proofs.Deciding.{DecisionLasts, acts_each, claim_alike, stored}
+use Rattle.due_law.proofs.Deciding.{DecisionLasts, acts_each, claim_alike, stored, volume_in}
 use Rattle.due_law.proofs.Known.{rows_known}
 use Rattle.bind_law.proofs.Matches.{AgreeForBinder, goes_over, match_same, some_among}
 use Rattle.bind_law.proofs.NextWrites.{IsOpenTo, carries_for, next_lasts, next_some}
 use Rattle.due_law.proofs.Reclaims.{HasUid, has_uid}
-use Rattle.due_law.proofs.Volumes.{get_said, get_stays, got}
+use Rattle.due_law.proofs.Volumes.{begins_one, get_said, get_stays, got, machine_in}
 
 -- the machine has a call, and will make one that lasts
 record MachineLasts (setup : Setup) (seat : ℕ) (role : Role) (start : List Entry) (key : Key) (h : List Entry) (f : BinderFirst) : Type 0 where
@@ -81,14 +81,6 @@ record MachineLasts (setup : Setup) (seat : ℕ) (role : Role) (start : List Ent
   call : Request
   asks : call_of machine ≡ Some call
   will : WouldLast setup seat role.kind start h (record { key = key; task = tasks.Binder machine; call = call })
-
-abbrev begins_one : BinderFirst → Bool
-begins_one (binder_firsts.Begins machine) = true
-begins_one first = false
-
-abbrev machine_in : Machine → BinderFirst → Machine
-machine_in m (binder_firsts.Begins machine) = machine
-machine_in m first = m
 
 -- a decision of the binder is one of a machine
 by_machine : (setup : Setup) (seat : ℕ) (role : Role) (start : List Entry) (key : Key) (h : List Entry) (rows : List Object) → ((f : BinderFirst) → IsFirst rows (row_at key rows) f → MachineLasts setup seat role start key h f)
@@ -135,13 +127,13 @@ has_request None e = absurd (true≢false (sym e))
 has_request (Some r) e = record { request = r; is = refl }
 
 -- an element at a place is among the elements
-at_place_in : (xs : List Object) (place : ℕ) (o : Object) → slice_get xs place ≡ Some o → IsIn o xs
+pub at_place_in : (xs : List Object) (place : ℕ) (o : Object) → slice_get xs place ≡ Some o → IsIn o xs
 at_place_in [] place o e = none_some e
 at_place_in (x ∷ xs) zero o e = inl (one x o e)
 at_place_in (x ∷ xs) (suc place) o e = inr (at_place_in xs place o e)
 
 -- only classes are default ones
-default_class_row : (o : Object) → is_default_row o ≡ true → (key_of o).kind ≡ kinds.StorageClass
+pub default_class_row : (o : Object) → is_default_row o ≡ true → (key_of o).kind ≡ kinds.StorageClass
 default_class_row (Class x) e = refl
 default_class_row (Volume v) e = absurd (true≢false (sym e))
 default_class_row (Node x) e = absurd (true≢false (sym e))
@@ -149,21 +141,17 @@ default_class_row (Claim x) e = absurd (true≢false (sym e))
 default_class_row (Pod x) e = absurd (true≢false (sym e))
 
 -- under a volume's key stands a volume or nothing
-data VolumeOr (x : Option Object) : Type 0 where
+pub data VolumeOr (x : Option Object) : Type 0 where
   IsNone : x ≡ None → VolumeOr x
   IsOne : (v : VolumeData) → x ≡ Some (Volume v) → VolumeOr x
 
-volume_or : (name : List ℕ) (rows : List Object) (x : Option Object) → row_at (volume_key name) rows ≡ x → VolumeOr x
+pub volume_or : (name : List ℕ) (rows : List Object) (x : Option Object) → row_at (volume_key name) rows ≡ x → VolumeOr x
 volume_or name rows None e = IsNone refl
 volume_or name rows (Some (Volume v)) e = IsOne v refl
 volume_or name rows (Some (Class o)) e = let k = ap (λ (k : Key). kind_index k.kind) (row_at_key (volume_key name) (Class o) rows e) in absurd (omega (arith, k))
 volume_or name rows (Some (Node o)) e = let k = ap (λ (k : Key). kind_index k.kind) (row_at_key (volume_key name) (Node o) rows e) in absurd (omega (arith, k))
 volume_or name rows (Some (Claim o)) e = let k = ap (λ (k : Key). kind_index k.kind) (row_at_key (volume_key name) (Claim o) rows e) in absurd (omega (arith, k))
 volume_or name rows (Some (Pod o)) e = let k = ap (λ (k : Key). kind_index k.kind) (row_at_key (volume_key name) (Pod o) rows e) in absurd (omega (arith, k))
-
-abbrev volume_in : VolumeData → Option Object → VolumeData
-volume_in v (Some (Volume x)) = x
-volume_in v o = v
 
 -- a volume without a reference, or that carries the claim, is open to it
 carried_open : (v : VolumeData) (c : ClaimData) → (is_none v.claim_ref || carries v c) ≡ true → (is_none v.claim_ref || is_for v c) ≡ true

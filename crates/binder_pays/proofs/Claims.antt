@@ -1,6 +1,6 @@
 -- What the binder begins for a claim pays.
-use Rattle.std.proofs.Common.{◌≡◌, ◌∙◌, ℕ, zero, suc, List, [], ◌∷◌, Bool, true, false, true≢false, Option, Some, None, inl, inr, refl, sym, ap, subst, arith, if◌then◌else◌}
-use Rattle.std.specs.Prelude.{◌&&◌, ◌||◌, is_none, is_some, not, slice_get}
+use Rattle.std.proofs.Common.{◌≡◌, ◌∙◌, ℕ, List, [], ◌∷◌, Bool, true, false, true≢false, Option, Some, None, inl, inr, refl, sym, ap, subst, if◌then◌else◌}
+use Rattle.std.specs.Prelude.{◌&&◌, ◌||◌, is_none, is_some, not}
 use Rattle.std.specs.List.{list_any}
 use Rattle.std.proofs.lemmas.Bool.{and_parts}
 use Rattle.kube_types.specs.declared.key.Key.{Key}
@@ -15,9 +15,9 @@ use Rattle.kube_types.specs.declared.objects.Ref.{Ref}
 use Rattle.kube_types.specs.declared.objects.Claim.{Claim as ClaimData}
 use Rattle.kube_types.specs.declared.objects.Volume.{Volume as VolumeData}
 use Rattle.kube_types.specs.declared.objects.Object.{Object}
-use Rattle.kube_types.specs.declared.objects.Object.TheVariants.{Class, Node, Volume, Claim, Pod}
+use Rattle.kube_types.specs.declared.objects.Object.TheVariants.{Volume}
 use Rattle.kube_types.specs.Bindings.{beta_class, carries, has_key, is_completed, is_deleting, is_empty, is_for, is_lost, is_uid, lacks_class, names_claim, ref_uid, refers_carrying, uid_carries}
-use Rattle.kube_types.specs.Keys.{AreRows, is_of_kind, key_of, kind_index, row_at, rows_of}
+use Rattle.kube_types.specs.Keys.{AreRows, is_of_kind, key_of, row_at, rows_of}
 use Rattle.kube_types.proofs.KeyOrder.{row_at_key}
 use Rattle.call_types.specs.declared.entry.Entry.{Entry}
 use Rattle.call_types.specs.declared.request.Request.{Request}
@@ -52,7 +52,9 @@ use Rattle.write_law.proofs.Fitting.{no_namespace, volume_facts}
 use Rattle.write_law.proofs.Valid.{rows_are_valid}
 use Rattle.bind_law.proofs.Best.{best_is_own}
 use Rattle.bind_law.proofs.Matches.{AgreeForBinder, goes_over, match_same}
+use Rattle.bind_law.proofs.Claims.{IsNone, IsOne, VolumeOr, at_place_in, volume_or}
 use Rattle.due_law.proofs.Volumes.{get_said, get_stays, got}
+use Rattle.due_law.proofs.Deciding.{volume_in}
 use Rattle.binder_pays.proofs.Binding.{GoesOnWith, binds_pay}
 use Rattle.binder_pays.proofs.Volumes.{drops_none, this_begins}
 use Rattle.binder_pays.proofs.Walking.{MachinePays, PaysFrom, answer, read_pays, volume_stands, with_own, write_pays}
@@ -63,29 +65,6 @@ lost_same : (p : ClaimPhase) → measure.is_lost p ≡ is_lost p
 lost_same claims.Lost = refl
 lost_same claims.Pending = refl
 lost_same claims.Bound = refl
-
--- an element at a place is among the elements
-at_place_in : (xs : List Object) (place : ℕ) (o : Object) → slice_get xs place ≡ Some o → IsIn o xs
-at_place_in [] place o e = none_some e
-at_place_in (x ∷ xs) zero o e = inl (one x o e)
-at_place_in (x ∷ xs) (suc place) o e = inr (at_place_in xs place o e)
-
--- under a volume's key stands a volume or nothing
-data VolumeOr (x : Option Object) : Type 0 where
-  IsNone : x ≡ None → VolumeOr x
-  IsOne : (v : VolumeData) → x ≡ Some (Volume v) → VolumeOr x
-
-volume_or : (name : List ℕ) (rows : List Object) (x : Option Object) → row_at (volume_key name) rows ≡ x → VolumeOr x
-volume_or name rows None e = IsNone refl
-volume_or name rows (Some (Volume v)) e = IsOne v refl
-volume_or name rows (Some (Class o)) e = let k = ap (λ (k : Key). kind_index k.kind) (row_at_key (volume_key name) (Class o) rows e) in absurd (omega (arith, k))
-volume_or name rows (Some (Node o)) e = let k = ap (λ (k : Key). kind_index k.kind) (row_at_key (volume_key name) (Node o) rows e) in absurd (omega (arith, k))
-volume_or name rows (Some (Claim o)) e = let k = ap (λ (k : Key). kind_index k.kind) (row_at_key (volume_key name) (Claim o) rows e) in absurd (omega (arith, k))
-volume_or name rows (Some (Pod o)) e = let k = ap (λ (k : Key). kind_index k.kind) (row_at_key (volume_key name) (Pod o) rows e) in absurd (omega (arith, k))
-
-abbrev volume_in : VolumeData → Option Object → VolumeData
-volume_in v (Some (Volume x)) = x
-volume_in v o = v
 
 -- a volume whose reference has another UID does not carry the claim
 other_free : (v : VolumeData) (c : ClaimData) → has_other_uid v c ≡ true → carries v c ≡ false

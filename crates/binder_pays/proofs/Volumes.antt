@@ -28,7 +28,6 @@ use Rattle.binder_model.specs.World.{effect, world}
 use Rattle.model_laws.proofs.Lists.{none_some, one}
 use Rattle.volume_sync.specs.declared.action.VolumeAction.TheVariants as actions
 use Rattle.volume_sync.specs.VolumeDecision.{claim_by_reference, claim_by_uid, claim_of, claimed_action, free_action, or_else, referred_action, volume_decision}
-use Rattle.binder_machines.specs.declared.decide.First.{First as BinderFirst}
 use Rattle.binder_machines.specs.declared.decide.First.TheVariants as binder_firsts
 use Rattle.binder_machines.specs.declared.machine.Machine.{Machine}
 use Rattle.binder_machines.specs.declared.machine.Machine.TheVariants as machines
@@ -36,7 +35,7 @@ use Rattle.binder_machines.specs.FirstSteps.{queue_of, volume_first}
 use Rattle.binder_machines.specs.Machines.{call_of, machine_for, moved, phase_call, read_of, unbound_to, volume_read, write_phase}
 use Rattle.settle_measure.specs.Lowers.{Lowers, StandsVolume}
 use Rattle.settle_binding.proofs.Stages.{at_key, available_pays, bound_pays, release_pays, rewritten, unbind_pays}
-use Rattle.due_law.proofs.Volumes.{get_said, get_stays, got}
+use Rattle.due_law.proofs.Volumes.{begins_one, get_said, get_stays, got, machine_in}
 use Rattle.binder_pays.proofs.Answered.{Answered, Goes, Refuses, Stays, volume_updated}
 use Rattle.binder_pays.proofs.Walking.{MachinePays, PaysFrom, answer, new_volume, read_pays, with_own, write_pays}
 
@@ -48,14 +47,6 @@ pub data VolumeBegun (rows : List Object) (v : VolumeData) (machine : Machine) :
   Releases : machine ≡ machines.Releases v → volume_due rows v ≡ Some dues.Release → VolumeBegun rows v machine
   Unbinds : machine ≡ machines.Unbinds v → volume_due rows v ≡ Some dues.Unbind → VolumeBegun rows v machine
   Reads : (r : Ref) (uid : Uid) → machine ≡ machines.ReadsClaim v → v.claim_ref ≡ Some r → r.uid ≡ Some uid → is_ended v.phase ≡ false → claim_with uid (row_at (claim_key r.namespace r.name) rows) ≡ None → volume_due rows v ≡ Some dues.Release → VolumeBegun rows v machine
-
-abbrev machine_in : Machine → BinderFirst → Machine
-machine_in m (binder_firsts.Begins machine) = machine
-machine_in m first = m
-
-abbrev begins_one : BinderFirst → Bool
-begins_one (binder_firsts.Begins machine) = true
-begins_one first = false
 
 pub this_begins : (a b : Machine) → binder_firsts.Begins a ≡ binder_firsts.Begins b → a ≡ b
 this_begins a b e = ap (machine_in a) e

@@ -72,7 +72,7 @@ or_true true = refl
 or_true false = refl
 
 -- only pods use a claim
-uses_pod : (c : ClaimData) (o : Object) → uses c o ≡ true → (key_of o).kind ≡ kinds.Pod
+pub uses_pod : (c : ClaimData) (o : Object) → uses c o ≡ true → (key_of o).kind ≡ kinds.Pod
 uses_pod c (Pod p) e = refl
 uses_pod c (Class x) e = absurd (true≢false (sym e))
 uses_pod c (Node x) e = absurd (true≢false (sym e))
@@ -80,7 +80,7 @@ uses_pod c (Volume x) e = absurd (true≢false (sym e))
 uses_pod c (Claim x) e = absurd (true≢false (sym e))
 
 -- a list changes nothing
-list_stays : (setup : Setup) (w : World) (kind : SeatKind) (namespace : List ℕ) → world_after w (effect setup w kind (requests.List kinds.Pod (Some namespace))) ≡ w
+pub list_stays : (setup : Setup) (w : World) (kind : SeatKind) (namespace : List ℕ) → world_after w (effect setup w kind (requests.List kinds.Pod (Some namespace))) ≡ w
 unfolding effect on_devices device_answer outcome list world_after after log_after
 list_stays setup w kind namespace = refl
 

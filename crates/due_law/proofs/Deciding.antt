@@ -8,6 +8,7 @@ use Rattle.kube_types.specs.declared.objects.Object.{Object}
 use Rattle.kube_types.specs.declared.objects.Object.TheVariants.{Class, Node, Volume, Claim, Pod}
 use Rattle.kube_types.specs.Keys.{row_at}
 use Rattle.kube_types.proofs.KeyOrder.{row_at_key}
+use Rattle.kube_types.specs.declared.objects.Pod.{Pod as PodData}
 use Rattle.call_types.specs.declared.entry.Entry.{Entry}
 use Rattle.call_types.specs.declared.request.Request.{Request}
 use Rattle.call_types.specs.declared.setup.Setup.{Setup}
@@ -26,7 +27,7 @@ use Rattle.write_law.specs.Lasting.{content_of}
 use Rattle.write_law.specs.Writes.{IsStored}
 use Rattle.write_law.proofs.Valid.{rows_are_valid}
 use Rattle.alike_law.specs.Alike.{AreAlike}
-use Rattle.alike_law.proofs.Rows.{plain_claim, plain_volume, row_plain}
+use Rattle.alike_law.proofs.Rows.{plain_claim, plain_pod, plain_volume, row_plain}
 use Rattle.slot_law.specs.Slots.{IsDecisionPoint}
 use Rattle.slot_law.specs.Would.{WouldActOn, WouldLast}
 
@@ -38,7 +39,7 @@ pub record BeginsLasting (setup : Setup) (seat : ℕ) (role : Role) (start : Lis
   pub asks : task_call task ≡ Some call
   pub will : WouldLast setup seat role.kind start h (record { key = key; task = task; call = call })
 
-abbrev task_in : Task → First → Task
+abbrev pub task_in : Task → First → Task
 task_in t (firsts.Begins task) = task
 task_in t first = t
 
@@ -63,7 +64,7 @@ pub record IsVolumeAt (x : Option Object) (v : VolumeData) : Type 0 where
   pub is : x ≡ Some (Volume volume)
   pub same : plain_volume volume ≡ plain_volume v
 
-abbrev volume_in : VolumeData → Option Object → VolumeData
+abbrev pub volume_in : VolumeData → Option Object → VolumeData
 volume_in v (Some (Volume x)) = x
 volume_in v o = v
 
@@ -107,6 +108,31 @@ claim_back (Some (Pod x)) c e = absurd (true≢false (sym (ap is_claim e)))
 pub claim_alike : (old new : World) (key : Key) (c : ClaimData) → AreAlike old new → row_at key old.store.rows ≡ Some (Claim c) → IsClaimAt (row_at key new.store.rows) c
 claim_alike old new key c alike there =
     claim_back (row_at key new.store.rows) c (sym (row_plain key new.store.rows) ∙ (ap (row_at key) (sym alike.rows) ∙ (row_plain key old.store.rows ∙ ap (option_map content_of) there)))
+
+pub record IsPodAt (x : Option Object) (p : PodData) : Type 0 where
+  pub pod : PodData
+  pub is : x ≡ Some (Pod pod)
+  pub same : plain_pod pod ≡ plain_pod p
+
+abbrev pod_in : PodData → Option Object → PodData
+pod_in p (Some (Pod x)) = x
+pod_in p o = p
+
+abbrev is_pod : Option Object → Bool
+is_pod (Some (Pod x)) = true
+is_pod o = false
+
+pod_back : (x : Option Object) (p : PodData) → option_map content_of x ≡ Some (Pod (plain_pod p)) → IsPodAt x p
+pod_back None p e = none_some e
+pod_back (Some (Pod x)) p e = record { pod = x; is = refl; same = ap (pod_in p) e }
+pod_back (Some (Class x)) p e = absurd (true≢false (sym (ap is_pod e)))
+pod_back (Some (Node x)) p e = absurd (true≢false (sym (ap is_pod e)))
+pod_back (Some (Volume x)) p e = absurd (true≢false (sym (ap is_pod e)))
+pod_back (Some (Claim x)) p e = absurd (true≢false (sym (ap is_pod e)))
+
+pub pod_alike : (old new : World) (key : Key) (p : PodData) → AreAlike old new → row_at key old.store.rows ≡ Some (Pod p) → IsPodAt (row_at key new.store.rows) p
+pod_alike old new key p alike there =
+    pod_back (row_at key new.store.rows) p (sym (row_plain key new.store.rows) ∙ (ap (row_at key) (sym alike.rows) ∙ (row_plain key old.store.rows ∙ ap (option_map content_of) there)))
 
 -- an object that stands is stored
 pub stored : (setup : Setup) (h : List Entry) (key : Key) (o : Object) → ImportsPass setup.imports → row_at key (world setup h).store.rows ≡ Some o → IsStored (world setup h) o

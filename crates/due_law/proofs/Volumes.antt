@@ -146,11 +146,11 @@ phase_differs test a b f t e = true≢false (sym t ∙ (ap test (sym e) ∙ f))
 
 -- the binder's decision begins this machine and no other
 
-abbrev machine_in : Machine → BinderFirst → Machine
+abbrev pub machine_in : Machine → BinderFirst → Machine
 machine_in m (binder_firsts.Begins machine) = machine
 machine_in m first = m
 
-abbrev begins_one : BinderFirst → Bool
+abbrev pub begins_one : BinderFirst → Bool
 begins_one (binder_firsts.Begins machine) = true
 begins_one first = false
 

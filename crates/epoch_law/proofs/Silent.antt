@@ -127,7 +127,7 @@ module _ (setup : Setup) (lets : Lets) (seat : ℕ) (node : List ℕ) (after : A
 -- a round
 
 -- none of these stands twice
-abbrev Differ : List ℕ → Type 0
+abbrev pub Differ : List ℕ → Type 0
 Differ seats = (i j seat : ℕ) → slice_get seats i ≡ Some seat → slice_get seats j ≡ Some seat → i ≡ j
 
 not_among : (seat : ℕ) (seats : List ℕ) → ((i : ℕ) → slice_get seats i ≡ Some seat → ⊥) → IsOneOf seats seat → ⊥
@@ -135,11 +135,15 @@ not_among seat [] none among = absurd among
 not_among seat (s ∷ seats) none (inl is) = none 0 (ap Some is)
 not_among seat (s ∷ seats) none (inr more) = not_among seat seats (λ i at. none (suc i) at) more
 
-others_differ : (seat : ℕ) (seats : List ℕ) → Differ (seat ∷ seats) → Differ seats
+pub others_differ : (seat : ℕ) (seats : List ℕ) → Differ (seat ∷ seats) → Differ seats
 others_differ seat seats differ i j s at there = let same = differ (suc i) (suc j) s at there in omega (arith, same)
 
 apart : (seat : ℕ) (seats : List ℕ) → Differ (seat ∷ seats) → (i other : ℕ) → slice_get seats i ≡ Some other → other ≢ seat
 apart seat seats differ i other at is = let same = differ (suc i) 0 seat (at ∙ ap Some is) refl in omega (arith, same)
+
+-- so none of them stands among the others
+pub not_again : (seat : ℕ) (seats : List ℕ) → Differ (seat ∷ seats) → IsOneOf seats seat → ⊥
+not_again seat seats differ = not_among seat seats (λ i at. apart seat seats differ i seat at refl)
 
 seat_there : (ds : List Drainer) (place : ℕ) (d : Drainer) → slice_get ds place ≡ Some d → slice_get (seats_of ds) place ≡ Some d.seat
 seat_there [] place d at = none_some at
@@ -160,7 +164,7 @@ module _ (setup : Setup) (lets : Lets) (past : List Entry) (left : ℕ) (run : I
       middle_run = older_run setup further.longer.added middle (subst (IsRunOf setup) further.longer.are run)
 
       stays_own : own first.seat past ≡ own first.seat middle
-      stays_own = grown_others (seats_of ds) middle past further first.seat (not_among first.seat (seats_of ds) (λ i at. apart first.seat (seats_of ds) differ i first.seat at refl))
+      stays_own = grown_others (seats_of ds) middle past further first.seat (not_again first.seat (seats_of ds) differ)
 
       at_first : ran.actor.role ≡ agent_of node → ran.actor.memory.stale ≡ true → WasOvertaken setup past node first.seat
       at_first own_role is_silent =

@@ -22,13 +22,14 @@ use Rattle.settle_measure.specs.Tries.{TriesLeft}
 use Rattle.write_law.specs.Lasting.{content_of}
 use Rattle.alike_law.specs.Alike.{contents_of}
 use Rattle.alike_law.proofs.Rows.{plain_claim, plain_node, plain_pod, plain_volume}
+use Rattle.alike_law.proofs.Pods.{plain_step}
 use Rattle.near_law.specs.Near.{AlikeAreNear, AreNear, NearAssigns, NearImmediates, NearPrepares, NearProvisions, NearSearches, NearServe, NearTries, rest_of, rests_of}
 use Rattle.near_law.proofs.Annotations.{rest_claim}
 use Rattle.near_law.proofs.Provisioning.{immediate_rest, late_rest, provision_rest}
 use Rattle.near_law.proofs.Rows.{rest_world, row_rest}
 use Rattle.near_law.proofs.Serving.{prepare_from, prepare_to, serves_from, serves_to, volume_back}
 use Rattle.near_law.proofs.Trying.{left_from, left_to}
-use Rattle.near_law.proofs.Steps.{assigning_plain, assigns_any, is_assigning, is_searching, plain_step, searches_is, searches_so, searching_plain, step_rest, step_with}
+use Rattle.near_law.proofs.Steps.{assigning_plain, assigns_any, is_assigning, is_searching, searches_is, searches_so, searching_plain, step_rest, step_with}
 use Rattle.binder_model.specs.Due.{IsDue, IsPodDue, IsStepDue}
 use Rattle.binder_model.specs.Choice.{Assigns, GoesNowhere, Searches, Step, Waits, claims_of, is_under_way, step_of}
 use Rattle.kube_types.specs.Bindings.{is_scheduled}
@@ -62,7 +63,7 @@ back_near a b ab = record { rows = sym ab.rows; stored = sym ab.stored; mounts =
 pub one_rest : (old new : World) → AreNear old new → rest_world old ≡ rest_world new
 one_rest old new a = λ i. record { store = record { rows = a.rows i; version = 0 }; moment = []; log = []; devices = record { stored = a.stored i; epochs = []; mounts = a.mounts i; calls = 0 } }
 
-abbrev pod_or : PodData → Object → PodData
+abbrev pub pod_or : PodData → Object → PodData
 pod_or p (Pod x) = x
 pod_or p o = p
 
@@ -76,7 +77,7 @@ node_or n o = n
 one_node : (n m : NodeData) → content_of (Node n) ≡ content_of (Node m) → plain_node n ≡ plain_node m
 one_node n m same = ap (node_or n) same
 
-abbrev claim_or : ClaimData → Object → ClaimData
+abbrev pub claim_or : ClaimData → Object → ClaimData
 claim_or c (Claim x) = x
 claim_or c o = c
 

@@ -215,7 +215,7 @@ module _ (setup : Setup) (w : World) (n : NodeData) where
   served_rest c (Some uid) (Some (Claim x)) = refl
   served_rest c (Some uid) (Some (Pod x)) = refl
 
-  share_rest : (c : ClaimData) (s : Share) → share_is_served setup (rest_world w) (plain_node n) (rest_claim c) s ≡ share_is_served setup w n c s
+  pub share_rest : (c : ClaimData) (s : Share) → share_is_served setup (rest_world w) (plain_node n) (rest_claim c) s ≡ share_is_served setup w n c s
   share_rest c (TakesVolume place) = refl
   share_rest c IsProvisioned = ap (is_served_on setup (rest_world w) (plain_node n) (rest_claim c) c.meta.uid) (class_row_rest w.store.rows c) ∙ served_rest c c.meta.uid (row_at (class_key (class_of_claim c)) w.store.rows)
 

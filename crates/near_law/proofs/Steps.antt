@@ -12,6 +12,7 @@ use Rattle.kube_types.specs.Bindings.{is_completed, is_empty}
 use Rattle.kube_types.specs.Keys.{rows_of}
 use Rattle.binder_model.specs.Choice.{Assigns, GoesNowhere, Searches, Step, Waits, are_completed, assigned_node, claim_named, claims_of, first_taking, is_missing, is_served_elsewhere, lacks_claim, takes_pod, volume_admits}
 use Rattle.alike_law.proofs.Rows.{any_mapped, any_same, plain_node, plain_pod}
+use Rattle.alike_law.proofs.Pods.{plain_step}
 use Rattle.near_law.specs.Near.{rests_of}
 use Rattle.near_law.proofs.Annotations.{completed_rest, rest_claim}
 use Rattle.near_law.proofs.Provisioning.{late_rest}
@@ -53,12 +54,6 @@ step_with rows p under_way =
     else if list_any (is_served_elsewhere rows) (claims_of rows p) then Waits
     else if under_way then Waits
     else Searches
-
-abbrev pub plain_step : Step → Step
-plain_step (Assigns n) = Assigns (plain_node n)
-plain_step GoesNowhere = GoesNowhere
-plain_step Waits = Waits
-plain_step Searches = Searches
 
 assigned_rest : (x : Option NodeData) → assigned_node (option_map plain_node x) ≡ plain_step (assigned_node x)
 assigned_rest None = refl

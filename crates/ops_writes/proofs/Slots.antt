@@ -27,21 +27,20 @@ use Rattle.reclaim_ops.specs.Decisions.{claim_begins, volume_begins}
 use Rattle.worker_core.specs.declared.role.Role.{Role}
 use Rattle.worker_core.specs.declared.task.First.TheVariants as firsts
 use Rattle.worker_core.specs.declared.task.Under.{Under}
-use Rattle.worker_core.specs.declared.turn.Given.{Given}
 use Rattle.worker_core.specs.declared.turn.Given.TheVariants as givens
 use Rattle.worker_core.specs.declared.turn.Next.TheVariants.{Call}
 use Rattle.worker_core.specs.declared.turn.Outcome.TheVariants.{Lost, Told}
-use Rattle.worker_core.specs.Absorbs.{absorbed, given_told, learned, lost_given, woken}
+use Rattle.worker_core.specs.Absorbs.{absorbed, lost_given, woken}
 use Rattle.worker_core.specs.Memories.{Memory}
 use Rattle.worker_core.specs.Roles.{IsBuiltKind}
 use Rattle.worker_core.specs.States.{ActorState, call_in, read_of_kind, read_request, start_call, start_of}
 use Rattle.worker_core.specs.Tasks.{GivesCall, IsFirstOf, ops_first, under_after}
-use Rattle.worker_core.specs.Turns.{AfterKeys, Begins, Decides, Drops, IsTurn, Nothing, TurnBy, passing, unlisted}
+use Rattle.worker_core.specs.Turns.{AfterKeys, Decides, IsTurn, TurnBy, passing, unlisted}
 use Rattle.worker_threads.specs.Rounds.{Asks, IsHeld, IsIdle, IsReady, IsSpent, Lets, Runs, told_entry}
 use Rattle.worker_threads.proofs.RunFacts.{run_grows, still_role, turn_role}
 use Rattle.slot_law.specs.Slots.{KnowsBehind, SeesStore}
 use Rattle.slot_law.proofs.Knowing.{lost_knows, sees, told_knows, turned_knows}
-use Rattle.slot_law.proofs.Slots.{nothing_behind}
+use Rattle.slot_law.proofs.Slots.{decides_gives, none_lost, none_told, nothing_behind, task_lost, told_under}
 use Rattle.short_law.specs.Slots.{writes_since}
 use Rattle.write_count.proofs.Failing.{none_begins, under_fails}
 use Rattle.write_count.proofs.Runs.{IsCalled, called_at, run_at, silent_run}
@@ -56,12 +55,6 @@ use Rattle.ops_writes.proofs.Machines.{Fits, TaskFits, UnderFits, begun_fits, go
 data CallsSo (rows : List Object) (before : ℕ) (given : ActorState) (request : Request) : Type 0 where
   OfUnder : (u : Under) → given.under ≡ Some u → given.given ≡ Some givens.Task → request ≡ u.call → UnderFits rows u → under_fails (Some u) ≤ before → CallsSo rows before given request
   Reads : given.under ≡ None → IsRead request → CallsSo rows before given request
-
--- what was decided gives a call
-decides_gives : (role : Role) (memory : Memory) (rows : List Object) (after : Work) (under : Option Under) (u : Under) (w : Work) → Decides role memory rows after under w → under ≡ Some u → GivesCall role memory rows u
-decides_gives role memory rows after under u w (Nothing empty same none) e = none_some (sym none ∙ e)
-decides_gives role memory rows after under u w (Begins v old gives same some) e = subst (GivesCall role memory rows) (one v u (sym some ∙ e)) gives
-decides_gives role memory rows after under u w (Drops k first old none rest) e = decides_gives role memory rows after under u _ rest e
 
 read_is : (caches : AllKnown) (k : Kind) → IsRead (read_of_kind caches k)
 read_is caches k = by (ask_of (cache_of k caches))
@@ -136,18 +129,6 @@ module _ (setup : Setup) (seat : ℕ) (given next : ActorState) (request : Reque
   history : IsHistory setup (entry ∷ h)
   history = runs_are_histories setup (entry ∷ h) called.run.run
 
-  told_under : (u : Under) (caches : AllKnown) (g : Option Given) (x : Option Under) → g ≡ Some givens.Task → x ≡ Some u → (given_told (record (learned given caches request reply) { under = x }) request reply g).under ≡ under_after u reply
-  told_under u caches g x eg ex = rw (eg, ex) refl
-
-  none_told : (caches : AllKnown) (g : Option Given) (x : Option Under) → x ≡ None → (given_told (record (learned given caches request reply) { under = x }) request reply g).under ≡ None
-  none_told caches g x ex = rw ex (by g)
-    where
-      by : (y : Option Given) → (given_told (record (learned given caches request reply) { under = None }) request reply y).under ≡ None
-      by None = refl
-      by (Some givens.Start) = refl
-      by (Some givens.Task) = refl
-      by (Some (givens.Read k)) = refl
-
   -- the number falls with a write, and what is then under way fits
   record Goes : Type 0 where
     fits : Fits (world setup (entry ∷ h)).store.rows next.under
@@ -178,7 +159,7 @@ module _ (setup : Setup) (seat : ℕ) (given next : ActorState) (request : Reque
       answered = history.1 ∙ ap reply_to made
 
       became : next.under ≡ under_after u reply
-      became = ap (λ (x : ActorState). x.under) absorbs ∙ told_under u next.caches given.given given.under task under
+      became = ap (λ (x : ActorState). x.under) absorbs ∙ told_under given request reply u next.caches given.given given.under task under
   goes (Reads none read) = record {
     fits = subst (Fits (world setup (entry ∷ h)).store.rows) (sym became) tt;
     lowers =
@@ -188,28 +169,15 @@ module _ (setup : Setup) (seat : ℕ) (given next : ActorState) (request : Reque
   }
     where
       became : next.under ≡ None
-      became = ap (λ (x : ActorState). x.under) absorbs ∙ none_told next.caches given.given given.under none
+      became = ap (λ (x : ActorState). x.under) absorbs ∙ none_told given request reply next.caches given.given given.under none
 
 -- a call that was lost leaves nothing under way
 lost_none : (rows : List Object) (before : ℕ) (given next : ActorState) (request : Request) → CallsSo rows before given request → next ≡ absorbed given next.caches request Lost → next.under ≡ None
 lost_none rows before given next request so absorbs = ap (λ (x : ActorState). x.under) absorbs ∙ by so
   where
-    lost_task : (g : Option Given) (x : Option Under) → g ≡ Some givens.Task → (lost_given (record given { under = x }) g).under ≡ None
-    lost_task g None eg = rw eg refl
-    lost_task g (Some u) eg = rw eg refl
-
-    lost_read : (g : Option Given) (x : Option Under) → x ≡ None → (lost_given (record given { under = x }) g).under ≡ None
-    lost_read g x ex = rw ex (of_given g)
-      where
-        of_given : (y : Option Given) → (lost_given (record given { under = None }) y).under ≡ None
-        of_given None = refl
-        of_given (Some givens.Start) = refl
-        of_given (Some givens.Task) = refl
-        of_given (Some (givens.Read k)) = refl
-
     by : CallsSo rows before given request → (lost_given given given.given).under ≡ None
-    by (OfUnder u under task asked fits few) = lost_task given.given given.under task
-    by (Reads none read) = lost_read given.given given.under none
+    by (OfUnder u under task asked fits few) = task_lost given given.given given.under task
+    by (Reads none read) = none_lost given given.given given.under none
 
 -- ---- the slot
 

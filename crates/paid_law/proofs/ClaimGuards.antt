@@ -17,16 +17,13 @@ use Rattle.call_types.specs.declared.reply.Reply.{Reply}
 use Rattle.call_types.specs.declared.reply.Reply.TheVariants as replies
 use Rattle.call_types.specs.declared.request.Request.{Request}
 use Rattle.call_types.specs.declared.request.Request.TheVariants as requests
-use Rattle.call_types.specs.declared.request.SeatKind.{SeatKind}
 use Rattle.call_types.specs.declared.request.SeatKind.TheVariants as seats
 use Rattle.call_types.specs.declared.setup.Setup.{Setup}
 use Rattle.binder_model.specs.Due.{claim_guard_due}
 use Rattle.binder_model.specs.Promises.{IsRunOf}
 use Rattle.binder_model.specs.Reading.{follows}
 use Rattle.binder_model.specs.Store.{has_no_names, leaves}
-use Rattle.binder_model.specs.Answers.{after, list, outcome}
-use Rattle.binder_model.specs.Devices.{device_answer}
-use Rattle.binder_model.specs.World.{World, effect, log_after, on_devices, reply_to, world, world_after}
+use Rattle.binder_model.specs.World.{World, effect, reply_to, world}
 use Rattle.informer_cache.specs.All.{all_objects}
 use Rattle.model_laws.proofs.Histories.{rows_stand_in_order}
 use Rattle.model_laws.proofs.Lists.{none_some, one}
@@ -37,37 +34,22 @@ use Rattle.protect_sync.specs.declared.claims.ClaimGuardStep.TheVariants as step
 use Rattle.settle_measure.specs.Lowers.{StandsClaim}
 use Rattle.settle_upkeep.proofs.Guards.{claim_guard_pays, claim_unguard_pays}
 use Rattle.worker_core.specs.declared.role.Role.{Role}
-use Rattle.worker_core.specs.declared.task.First.{First}
 use Rattle.worker_core.specs.declared.task.First.TheVariants as firsts
-use Rattle.worker_core.specs.declared.task.Task.{Task}
 use Rattle.worker_core.specs.declared.task.Task.TheVariants as tasks
 use Rattle.worker_core.specs.declared.task.Under.{Under}
 use Rattle.worker_core.specs.States.{ActorState}
 use Rattle.worker_core.specs.Tasks.{GivesCall, IsFirstOf, claim_guard_first, task_call, under_after, with_call}
 use Rattle.write_law.specs.Writes.{IsStored}
 use Rattle.slot_law.specs.Slots.{IsDecisionPoint, own_entry}
-use Rattle.due_law.proofs.Claims.{none_among}
+use Rattle.due_law.proofs.Claims.{list_stays, none_among, uses_pod}
 use Rattle.model_laws.proofs.Readings.{found_stands, member_stands}
-use Rattle.due_law.proofs.Deciding.{stored}
+use Rattle.due_law.proofs.Deciding.{stored, task_in}
 use Rattle.due_law.proofs.Known.{rows_known}
 use Rattle.due_law.proofs.Reclaims.{has_uid}
 use Rattle.paid_law.specs.Guards.{ClaimGuardsPay}
 use Rattle.paid_law.specs.Pays.{EachPays, Pays, WillPay}
 use Rattle.paid_law.proofs.Calls.{list_never, lowering_pays}
-use Rattle.paid_law.proofs.VolumeGuards.{Adds, Drops, Guarding, Rests, guarding}
-
--- only pods use a claim
-uses_pod : (c : ClaimData) (o : Object) → uses c o ≡ true → (key_of o).kind ≡ kinds.Pod
-uses_pod c (Pod p) e = refl
-uses_pod c (Class x) e = absurd (true≢false (sym e))
-uses_pod c (Node x) e = absurd (true≢false (sym e))
-uses_pod c (Volume x) e = absurd (true≢false (sym e))
-uses_pod c (Claim x) e = absurd (true≢false (sym e))
-
--- a list changes nothing
-list_stays : (setup : Setup) (w : World) (kind : SeatKind) (namespace : List ℕ) → world_after w (effect setup w kind (requests.List kinds.Pod (Some namespace))) ≡ w
-unfolding effect on_devices device_answer outcome list world_after after log_after
-list_stays setup w kind namespace = refl
+use Rattle.paid_law.proofs.VolumeGuards.{Adds, Drops, Guarding, Rests, guarding, is_drop}
 
 -- ---- the machine
 
@@ -105,14 +87,6 @@ drops_next key c call (replies.Refused refusal) next e = none_some e
 drops_next key c call _ next e = none_some e
 
 -- ---- a decision
-
-abbrev task_in : Task → First → Task
-task_in t (firsts.Begins task) = task
-task_in t first = t
-
-abbrev is_drop : First → Bool
-is_drop firsts.Drops = true
-is_drop first = false
 
 module _ (setup : Setup) (seat : ℕ) (role : Role) (kind : role.kind ≡ seats.ClaimProtect) (s : ActorState) (h : List Entry) (u : Under) (run : IsRunOf setup h) (p : IsDecisionPoint setup seat role h s h) (gives : GivesCall s.role s.memory (all_objects s.caches) u) where
   s_kind : s.role.kind ≡ seats.ClaimProtect

@@ -2,7 +2,6 @@
 use Rattle.std.proofs.Common.{◌≡◌, ◌∙◌, ℕ, ◌-◌, List, [], ◌∷◌, ◌++◌, ◌<◌, length, Bool, true, false, Option, Some, None, inl, inr, refl, sym, ap, subst, arith}
 use Rattle.std.specs.Prelude.{is_some}
 use Rattle.kube_types.specs.declared.parts.Kind.{Kind}
-use Rattle.kube_types.specs.declared.objects.Object.{Object}
 use Rattle.call_types.specs.declared.entry.Entry.{Entry}
 use Rattle.call_types.specs.declared.reply.Reply.{Reply}
 use Rattle.call_types.specs.declared.request.Request.{Request}
@@ -22,21 +21,20 @@ use Rattle.attention_law.proofs.Turned.{calls_fresh}
 use Rattle.sync_queue.specs.Work.{Work}
 use Rattle.worker_core.specs.declared.role.Role.{Role}
 use Rattle.worker_core.specs.declared.task.Under.{Under}
-use Rattle.worker_core.specs.declared.turn.Given.{Given}
 use Rattle.worker_core.specs.declared.turn.Given.TheVariants as givens
 use Rattle.worker_core.specs.declared.turn.Next.TheVariants.{Call}
 use Rattle.worker_core.specs.declared.turn.Outcome.TheVariants.{Lost, Told}
-use Rattle.worker_core.specs.Absorbs.{absorbed, given_told, learned, lost_given, woken}
+use Rattle.worker_core.specs.Absorbs.{absorbed, lost_given, woken}
 use Rattle.worker_core.specs.Memories.{Memory}
 use Rattle.worker_core.specs.Roles.{IsBuiltKind}
 use Rattle.worker_core.specs.States.{ActorState, agent_start, call_in, read_of_kind, read_request, start_call, start_of}
-use Rattle.worker_core.specs.Tasks.{GivesCall, under_after}
-use Rattle.worker_core.specs.Turns.{AfterKeys, Begins, Decides, Drops, IsTurn, Nothing, TurnBy, passing, unlisted}
+use Rattle.worker_core.specs.Tasks.{under_after}
+use Rattle.worker_core.specs.Turns.{AfterKeys, Decides, IsTurn, TurnBy, passing, unlisted}
 use Rattle.worker_threads.specs.Rounds.{Asks, IsHeld, IsIdle, IsReady, IsSpent, Lets, Runs, told_entry}
 use Rattle.worker_threads.proofs.RunFacts.{run_grows, still_role, turn_role}
 use Rattle.slot_law.specs.Slots.{IsDecisionPoint, KnowsBehind, own_entry}
 use Rattle.slot_law.proofs.Knowing.{lost_knows, sees, told_knows, turned_knows}
-use Rattle.slot_law.proofs.Slots.{nothing_behind}
+use Rattle.slot_law.proofs.Slots.{decides_gives, none_lost, none_told, nothing_behind, task_lost, told_under}
 use Rattle.paid_law.specs.Pays.{DecisionsPay, EachPays, HavePaid, Pays, SlotsPay, WillPay}
 use Rattle.paid_law.proofs.Calls.{NeverLasts, list_never, mounts_never, take_never, watch_never}
 use Rattle.paid_law.proofs.Entries.{none_paid, one_paid, then_paid}
@@ -49,12 +47,6 @@ older_run setup newer past run = record { imports = run.imports; short = shorter
     shorter [] h lt = lt
     shorter (x ∷ xs) h lt = shorter xs h (omega (arith, lt))
 
--- what was decided gives a call
-pub decides_gives : (role : Role) (memory : Memory) (rows : List Object) (after : Work) (under : Option Under) (u : Under) (w : Work) → Decides role memory rows after under w → under ≡ Some u → GivesCall role memory rows u
-decides_gives role memory rows after under u w (Nothing empty same none) e = none_some (sym none ∙ e)
-decides_gives role memory rows after under u w (Begins v old gives same some) e = subst (GivesCall role memory rows) (one v u (sym some ∙ e)) gives
-decides_gives role memory rows after under u w (Drops k first old none rest) e = decides_gives role memory rows after under u _ rest e
-
 -- the calls of what is under way pay
 pub data PaysUnder (setup : Setup) (seat : ℕ) (kind : SeatKind) (h : List Entry) : Option Under → Type 0 where
   NothingUnder : PaysUnder setup seat kind h None
@@ -66,14 +58,14 @@ data CallsSo (setup : Setup) (seat : ℕ) (kind : SeatKind) (h : List Entry) (gi
   Reads : given.under ≡ None → ((k : SeatKind) → NeverLasts setup (world setup h) k request) → CallsSo setup seat kind h given request
 
 module _ (setup : Setup) (w : World) where
-  read_never : (caches : AllKnown) (k : Kind) (kind : SeatKind) → NeverLasts setup w kind (read_of_kind caches k)
+  pub read_never : (caches : AllKnown) (k : Kind) (kind : SeatKind) → NeverLasts setup w kind (read_of_kind caches k)
   read_never caches k kind = by (ask_of (cache_of k caches))
     where
       by : (a : Ask) → NeverLasts setup w kind (read_request k a)
       by asks.List = list_never setup w kind k None
       by (asks.Watch from) = watch_never setup w kind k from
 
-  start_never : (start : SeatKind) (node : List ℕ) (m : Memory) (request : Request) → start_of start node m ≡ Some request → (kind : SeatKind) → NeverLasts setup w kind request
+  pub start_never : (start : SeatKind) (node : List ℕ) (m : Memory) (request : Request) → start_of start node m ≡ Some request → (kind : SeatKind) → NeverLasts setup w kind request
   start_never seats.Agent node m request is kind = by m.epoch (is_some m.mounts) is
     where
       by : (epoch : Option ℕ) (told : Bool) → agent_start node epoch told ≡ Some request → NeverLasts setup w kind request
@@ -129,23 +121,11 @@ module _ (setup : Setup) (lets : Lets) (seat : ℕ) (role : Role) (built : IsBui
     call_pays (OfUnder u under task asked (EachPays pays on)) = subst (λ k. Pays setup (world setup h) k request) (sym of_kind) (subst (Pays setup (world setup h) role.kind) (sym asked) pays)
     call_pays (Reads none never) = λ lasts. absurd (never given.role.kind lasts)
 
-    told_under : (u : Under) (caches : AllKnown) (g : Option Given) (x : Option Under) → g ≡ Some givens.Task → x ≡ Some u → (given_told (record (learned given caches request reply) { under = x }) request reply g).under ≡ under_after u reply
-    told_under u caches g x eg ex = rw (eg, ex) refl
-
-    none_told : (caches : AllKnown) (g : Option Given) (x : Option Under) → x ≡ None → (given_told (record (learned given caches request reply) { under = x }) request reply g).under ≡ None
-    none_told caches g x ex = rw ex (by g)
-      where
-        by : (y : Option Given) → (given_told (record (learned given caches request reply) { under = None }) request reply y).under ≡ None
-        by None = refl
-        by (Some givens.Start) = refl
-        by (Some givens.Task) = refl
-        by (Some (givens.Read k)) = refl
-
     told_pays : CallsSo setup seat role.kind h given request → next ≡ absorbed given next.caches request (Told reply) → PaysUnder setup seat role.kind (entry ∷ h) next.under
     told_pays (OfUnder u under task asked (EachPays pays on)) absorbs = subst (PaysUnder setup seat role.kind (entry ∷ h)) (sym after_) (by (under_after u reply) refl)
       where
         after_ : next.under ≡ under_after u reply
-        after_ = ap (λ (x : ActorState). x.under) absorbs ∙ told_under u next.caches given.given given.under task under
+        after_ = ap (λ (x : ActorState). x.under) absorbs ∙ told_under given request reply u next.caches given.given given.under task under
 
         answered : reply ≡ reply_to (effect setup (world setup h) role.kind u.call)
         answered = said ∙ (ap (λ k. reply_to (effect setup (world setup h) k request)) of_kind ∙ ap (λ r. reply_to (effect setup (world setup h) role.kind r)) asked)
@@ -156,28 +136,15 @@ module _ (setup : Setup) (lets : Lets) (seat : ℕ) (role : Role) (built : IsBui
         by : (x : Option Under) → under_after u reply ≡ x → PaysUnder setup seat role.kind (entry ∷ h) x
         by None e = NothingUnder
         by (Some n) e = PaysSo n (subst (λ x. WillPay setup seat role.kind (x ∷ h) n) same_entry (on n (ap (under_after u) (sym answered) ∙ e)))
-    told_pays (Reads none never) absorbs = subst (PaysUnder setup seat role.kind (entry ∷ h)) (sym (ap (λ (x : ActorState). x.under) absorbs ∙ none_told next.caches given.given given.under none)) NothingUnder
+    told_pays (Reads none never) absorbs = subst (PaysUnder setup seat role.kind (entry ∷ h)) (sym (ap (λ (x : ActorState). x.under) absorbs ∙ none_told given request reply next.caches given.given given.under none)) NothingUnder
 
   -- a call that was lost leaves nothing under way
   lost_pays : (given next : ActorState) (request : Request) (h : List Entry) → CallsSo setup seat role.kind h given request → next ≡ absorbed given next.caches request Lost → PaysUnder setup seat role.kind h next.under
   lost_pays given next request h so absorbs = subst (PaysUnder setup seat role.kind h) (sym (ap (λ (x : ActorState). x.under) absorbs ∙ by so)) NothingUnder
     where
-      lost_task : (g : Option Given) (x : Option Under) → g ≡ Some givens.Task → (lost_given (record given { under = x }) g).under ≡ None
-      lost_task g None eg = rw eg refl
-      lost_task g (Some u) eg = rw eg refl
-
-      lost_read : (g : Option Given) (x : Option Under) → x ≡ None → (lost_given (record given { under = x }) g).under ≡ None
-      lost_read g x ex = rw ex (of_given g)
-        where
-          of_given : (y : Option Given) → (lost_given (record given { under = None }) y).under ≡ None
-          of_given None = refl
-          of_given (Some givens.Start) = refl
-          of_given (Some givens.Task) = refl
-          of_given (Some (givens.Read k)) = refl
-
       by : CallsSo setup seat role.kind h given request → (lost_given given given.given).under ≡ None
-      by (OfUnder u under task asked will) = lost_task given.given given.under task
-      by (Reads none never) = lost_read given.given given.under none
+      by (OfUnder u under task asked will) = task_lost given given.given given.under task
+      by (Reads none never) = none_lost given given.given given.under none
 
   module _ (after : ActorState) (past : List Entry) (left : ℕ) (idle : Bool) (run : IsRunOf setup past) where
     run_before : (s : ActorState) (h : List Entry) (b : ℕ) → Runs lets seat after past left idle s h b → IsRunOf setup h

@@ -35,7 +35,6 @@ use Rattle.settle_upkeep.proofs.Guards.{volume_guard_pays, volume_unguard_pays}
 use Rattle.worker_core.specs.declared.role.Role.{Role}
 use Rattle.worker_core.specs.declared.task.First.{First}
 use Rattle.worker_core.specs.declared.task.First.TheVariants as firsts
-use Rattle.worker_core.specs.declared.task.Task.{Task}
 use Rattle.worker_core.specs.declared.task.Task.TheVariants as tasks
 use Rattle.worker_core.specs.declared.task.Under.{Under}
 use Rattle.worker_core.specs.States.{ActorState}
@@ -43,7 +42,7 @@ use Rattle.worker_core.specs.Tasks.{GivesCall, IsFirstOf, task_call, under_after
 use Rattle.write_law.specs.Writes.{IsStored}
 use Rattle.write_law.proofs.Fitting.{no_namespace}
 use Rattle.slot_law.specs.Slots.{IsDecisionPoint}
-use Rattle.due_law.proofs.Deciding.{stored}
+use Rattle.due_law.proofs.Deciding.{stored, task_in}
 use Rattle.paid_law.specs.Guards.{VolumeGuardsPay}
 use Rattle.paid_law.specs.Pays.{EachPays, WillPay}
 use Rattle.paid_law.proofs.Calls.{lowering_pays}
@@ -76,11 +75,7 @@ ends key v steps.Parked call reply = refl
 
 -- ---- a decision
 
-abbrev task_in : Task → First → Task
-task_in t (firsts.Begins task) = task
-task_in t first = t
-
-abbrev is_drop : First → Bool
+abbrev pub is_drop : First → Bool
 is_drop firsts.Drops = true
 is_drop first = false
 

@@ -53,14 +53,14 @@ use Rattle.alike_law.specs.Alike.{AreAlike}
 use Rattle.alike_law.proofs.Dues.{alike_is_due}
 use Rattle.slot_law.specs.Slots.{IsDecisionPoint}
 use Rattle.slot_law.specs.Would.{AtOnce, WouldLast}
-use Rattle.due_law.proofs.Deciding.{DecisionLasts, acts_each, stored}
+use Rattle.due_law.proofs.Deciding.{DecisionLasts, IsPodAt, acts_each, pod_alike, stored}
 use Rattle.due_law.proofs.Known.{rows_known}
 use Rattle.due_law.proofs.Reclaims.{has_uid}
 use Rattle.schedule_law.specs.Acts.{AssignsAct, PodsAct, PreparesAct}
 use Rattle.schedule_law.specs.Writes.{AreWritesOn, Places, Takes, placing}
 use Rattle.schedule_law.proofs.Choosing.{are_writes, assigned_of, claims_known, search_of, some_open}
 use Rattle.schedule_law.proofs.Placing.{SomeOpen, all_from, places_last}
-use Rattle.schedule_law.proofs.Seeing.{IsPodAt, pod_alike, schedulers_see_all}
+use Rattle.schedule_law.proofs.Seeing.{schedulers_see_all}
 
 -- a machine begins that will make a call that lasts
 record BeginsWith (setup : Setup) (seat : ℕ) (role : Role) (start : List Entry) (key : Key) (h : List Entry) (op : Option ScheduleOp) : Type 0 where

@@ -19,6 +19,7 @@ use Rattle.binder_model.specs.BindWrites.{write_reference}
 use Rattle.binder_model.specs.Choice.{AreShares, IsProvisioned, Share, TakesVolume, are_completed, by_size, carries_claim, claim_cmp, claim_in, claim_named, claims_of, has_carrier, insert_claim, is_other, is_served_elsewhere, is_under_way, lacks_claim}
 use Rattle.binder_model.specs.ObjectKeys.{claim_key}
 use Rattle.kube_types.specs.VolumeIndex.{as_volume}
+use Rattle.call_types.specs.declared.request.Request.{Request}
 use Rattle.volume_match.specs.Volumes.{volume_at}
 use Rattle.model_laws.proofs.Lists.{IsIn}
 use Rattle.model_laws.proofs.Readings.{found_stands}
@@ -37,7 +38,7 @@ use Rattle.schedule_law.proofs.Placing.{SomeOpen}
 
 -- the node to which a pod is bound
 
-abbrev is_assign : Choice → Bool
+abbrev pub is_assign : Choice → Bool
 is_assign (Assign name) = true
 is_assign choice = false
 
@@ -138,7 +139,7 @@ carried_by_none rows c v there none = by (carries v c) (none_among (carries_clai
 
 -- the writes: where no volume is taken, each of the claims gets the node; where one is taken, the first write is its reference
 
-abbrev is_empty_list : {X : Type 0} → List X → Bool
+abbrev pub is_empty_list : {X : Type 0} → List X → Bool
 is_empty_list [] = true
 is_empty_list (x ∷ xs) = false
 
@@ -158,6 +159,14 @@ node_writes rows name (c ∷ cs) stand =
     let here : node_write rows name (key_of (Claim c)) ≡ Some (placing name c) = ap (λ o. selecting_write name (claim_in o)) stand.0 in
     ap (λ o. present (o ∷ map (node_write rows name) (map (λ (d : ClaimData). key_of (Claim d)) cs))) here ∙ ap (λ ws. placing name c ∷ ws) (node_writes rows name cs stand.1)
 
+-- the first write takes a volume
+pub record TakesFirst (rows : List Object) (writes : List Request) : Type 0 where
+  pub volume : VolumeData
+  pub claim : ClaimData
+  pub rest : List Request
+  pub are : writes ≡ write_reference volume claim ∷ rest
+  pub apart : IsApart rows volume claim
+
 module _ (rows : List Object) (order : AreRows rows) (p : PodData) (known : are_known rows p ≡ true) (last : Option (List ℕ)) (name : List ℕ) where
   abbrev others : List ClaimData
   others = others_in rows (claims_of rows p)
@@ -171,22 +180,29 @@ module _ (rows : List Object) (order : AreRows rows) (p : PodData) (known : are_
       ap (λ x. reference_write x (as_volume (row_at pair.1 rows))) (ap claim_in (ap (λ k. row_at k rows) first ∙ apart.claim))
       ∙ ap (λ x. reference_write (Some c) x) (ap as_volume (ap (λ k. row_at k rows) second ∙ apart.volume))
 
+  -- where a volume is taken, its reference is written first
+  pub takes_first : (pair : Key × Key) (more : List (Key × Key)) (provisions : List Key) → IsSearch rows p last name (pair ∷ more) provisions → TakesFirst rows (writes_for rows p (Prepare name (pair ∷ more) provisions))
+  takes_first pair more provisions search =
+      let shares = search.prepared.prepares.shares in
+      let b = bound_at rows search.prepared.node {P = IsSought rows} others shares (set_aside rows) (others_sought rows p (all_known rows p known) search.here) search.prepared.prepares.serves.shared 0 pair (ap (λ bs. slice_get bs 0) (sym search.prepared.prepares.binds_are)) in
+      let there = row_at_place kinds.PersistentVolume b.place (Volume b.volume) rows order b.there in
+      let apart : IsApart rows b.volume b.claim = record {
+        volume = there;
+        claim = b.holds.stored;
+        known = b.holds.known;
+        uncarried = carried_by_none rows b.claim b.volume (found_stands (key_of (Volume b.volume)) (Volume b.volume) rows there) b.holds.uncarried;
+      } in
+      record {
+        volume = b.volume;
+        claim = b.claim;
+        rest = _;
+        are = written (pair ∷ more) provisions ∙ ap (λ o. present (o ∷ (map (bind_write rows) more ++ map (node_write rows name) provisions))) (bind_is pair b.claim b.volume b.first b.second apart);
+        apart = apart;
+      }
+
   pub are_writes : (binds : List (Key × Key)) (provisions : List Key) → IsSearch rows p last name binds provisions → AreWritesOn rows p name (writes_for rows p (Prepare name binds provisions))
-  are_writes binds provisions search = by binds search.prepared.prepares.binds_are
-    where
-      by : (bs : List (Key × Key)) → bs ≡ binds_of rows others search.prepared.prepares.shares → AreWritesOn rows p name (writes_for rows p (Prepare name bs provisions))
-      by [] none =
-          let shares = search.prepared.prepares.shares in
-          let provided = search.prepared.prepares.provisions_are ∙ all_provided rows search.prepared.node others shares (set_aside rows) search.prepared.prepares.serves.shared (sym none) in
-          Places (written [] provisions ∙ (ap (λ ks. present (map (node_write rows name) ks)) provided ∙ node_writes rows name others (others_stored rows p)))
-      by (pair ∷ more) are =
-          let shares = search.prepared.prepares.shares in
-          let b = bound_at rows search.prepared.node {P = IsSought rows} others shares (set_aside rows) (others_sought rows p (all_known rows p known) search.here) search.prepared.prepares.serves.shared 0 pair (ap (λ bs. slice_get bs 0) (sym are)) in
-          let there = row_at_place kinds.PersistentVolume b.place (Volume b.volume) rows order b.there in
-          let apart : IsApart rows b.volume b.claim = record {
-            volume = there;
-            claim = b.holds.stored;
-            known = b.holds.known;
-            uncarried = carried_by_none rows b.claim b.volume (found_stands (key_of (Volume b.volume)) (Volume b.volume) rows there) b.holds.uncarried;
-          } in
-          Takes b.volume b.claim _ (written (pair ∷ more) provisions ∙ ap (λ o. present (o ∷ (map (bind_write rows) more ++ map (node_write rows name) provisions))) (bind_is pair b.claim b.volume b.first b.second apart)) apart
+  are_writes [] provisions search =
+      let shares = search.prepared.prepares.shares in
+      let provided = search.prepared.prepares.provisions_are ∙ all_provided rows search.prepared.node others shares (set_aside rows) search.prepared.prepares.serves.shared (sym search.prepared.prepares.binds_are) in
+      Places (written [] provisions ∙ (ap (λ ks. present (map (node_write rows name) ks)) provided ∙ node_writes rows name others (others_stored rows p)))
+  are_writes (pair ∷ more) provisions search = let first = takes_first pair more provisions search in Takes first.volume first.claim first.rest first.are first.apart

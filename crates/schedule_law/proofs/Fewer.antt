@@ -145,7 +145,7 @@ turns_on refused ns before n behind rises are = by refused are
 
 -- the nodes in turn are the nodes
 
-in_passing : (p : NodeData → Bool) (m : NodeData) (ns : List NodeData) → IsIn m ns → p m ≡ true → IsIn m (filter p ns)
+pub in_passing : {X : Type 0} (p : X → Bool) (m : X) (ns : List X) → IsIn m ns → p m ≡ true → IsIn m (filter p ns)
 in_passing p m [] there e = absurd there
 in_passing p m (x ∷ xs) (inl is) e = subst (λ b. IsIn m (cond b (x ∷ filter p xs) (filter p xs))) (sym (ap p is ∙ e)) (inl is)
 in_passing p m (x ∷ xs) (inr more) e = by (p x) (in_passing p m xs more e)
@@ -154,7 +154,7 @@ in_passing p m (x ∷ xs) (inr more) e = by (p x) (in_passing p m xs more e)
     by true i = inr i
     by false i = i
 
-all_in_turn : (refused : Option (List ℕ)) (m : NodeData) (ns : List NodeData) → IsIn m ns → IsIn m (in_turn refused ns)
+pub all_in_turn : (refused : Option (List ℕ)) (m : NodeData) (ns : List NodeData) → IsIn m ns → IsIn m (in_turn refused ns)
 all_in_turn None m ns there = there
 all_in_turn (Some r) m ns there = by (is_after r m) refl
   where

@@ -26,7 +26,7 @@ use Rattle.schedule_law.proofs.Choosing.{are_writes, claims_known, search_of}
 use Rattle.schedule_law.proofs.Turning.{first_serving}
 
 -- what begins with writes has these writes
-begun_writes : (writes : List Request) (op : ScheduleOp) → Some op ≡ begun_with writes → op.writes ≡ writes
+pub begun_writes : (writes : List Request) (op : ScheduleOp) → Some op ≡ begun_with writes → op.writes ≡ writes
 begun_writes [] op e = none_some (sym e)
 begun_writes (w ∷ writes) op e = ap (λ (x : ScheduleOp). x.writes) (one op _ e)
 

@@ -109,25 +109,26 @@ pub still_stand : (old new : List Object) (c : ClaimData) (cs : List ClaimData) 
 still_stand old new c [] kept apart stand = tt
 still_stand old new c (d ∷ ds) kept apart stand = (kept (key_of (Claim d)) apart.0 ∙ stand.0, still_stand old new c ds kept apart.1 stand.1)
 
-module _ (setup : Setup) (seat : ℕ) (role : Role) (start : List Entry) (key : Key) (pass : ImportsPass setup.imports) (kind : role.kind ≡ seats.Scheduler)
-    (name : List ℕ) (writes : List Request) where
-  controller : is_user role.kind ≡ false
-  controller = ap is_user kind
-
+module _ (key : Key) (name : List ℕ) (writes : List Request) where
   -- the machine of the pod, before the write of this claim
   abbrev pub at_place : ℕ → ClaimData → Under
   at_place place c = record { key = key; task = tasks.Schedule (record { writes = writes; step = steps.Writes place }); call = placing name c }
 
   -- a write that was done leads to the next
-  goes_on : (place : ℕ) (c d new : ClaimData) → slice_get writes place ≡ Some (placing name c) → slice_get writes (place + 1) ≡ Some (placing name d) → under_after (at_place place c) (Done (Claim new)) ≡ Some (at_place (place + 1) d)
+  pub goes_on : (place : ℕ) (c d new : ClaimData) → slice_get writes place ≡ Some (placing name c) → slice_get writes (place + 1) ≡ Some (placing name d) → under_after (at_place place c) (Done (Claim new)) ≡ Some (at_place (place + 1) d)
   unfolding schedule_call schedule_moved
   goes_on place c d new here next =
       let within = slice_get_within writes place (placing name c) here in
       let below : nat_lt place (length writes) ≡ true = grind (arith, nat_tests, within) in
       rw (below, next) refl
 
+module _ (setup : Setup) (seat : ℕ) (role : Role) (start : List Entry) (key : Key) (pass : ImportsPass setup.imports) (kind : role.kind ≡ seats.Scheduler)
+    (name : List ℕ) (writes : List Request) where
+  controller : is_user role.kind ≡ false
+  controller = ap is_user kind
+
   pub places_last : (c : ClaimData) (cs : List ClaimData) (place : ℕ) (h : List Entry) → AreAlike (world setup start) (world setup h) → AreFrom writes place (map (placing name) (c ∷ cs)) → Each (Stands (world setup h).store.rows) (c ∷ cs) → AreApart (c ∷ cs)
-      → SomeOpen (c ∷ cs) → WouldLast setup seat role.kind start h (at_place place c)
+      → SomeOpen (c ∷ cs) → WouldLast setup seat role.kind start h (at_place key name writes place c)
   places_last c cs place h alike are stand apart (inl open_) =
       AtOnce alike (node_lasts setup (world setup h) role.kind c name controller (stored setup h (key_of (Claim c)) (Claim c) pass stand.0) (λ e. none_some (sym open_ ∙ e)))
   places_last c [] place h alike are stand apart (inr none) = absurd none
@@ -139,16 +140,16 @@ module _ (setup : Setup) (seat : ℕ) (role : Role) (start : List Entry) (key : 
       on_store = stored setup h (key_of (Claim c)) (Claim c) pass stand.0
 
       by_leaving : (b : Bool) → leaves (placed setup (world setup h) name c on_store) ≡ b
-          → (AreAlike (world setup start) (world setup (own_entry setup seat role.kind h (placing name c) ∷ h)) → Each (Stands (world setup (own_entry setup seat role.kind h (placing name c) ∷ h)).store.rows) (d ∷ ds) → WouldLast setup seat role.kind start (own_entry setup seat role.kind h (placing name c) ∷ h) (at_place (place + 1) d))
-          → WouldLast setup seat role.kind start h (at_place place c)
+          → (AreAlike (world setup start) (world setup (own_entry setup seat role.kind h (placing name c) ∷ h)) → Each (Stands (world setup (own_entry setup seat role.kind h (placing name c) ∷ h)).store.rows) (d ∷ ds) → WouldLast setup seat role.kind start (own_entry setup seat role.kind h (placing name c) ∷ h) (at_place key name writes (place + 1) d))
+          → WouldLast setup seat role.kind start h (at_place key name writes place c)
       by_leaving true e rest = AtOnce alike (inl (leaving setup (world setup h) name c on_store role.kind kind e))
       by_leaving false e rest = by (calls_last_or_leave_alike setup (world setup h) role.kind (placing name c) (rows_stand_in_order setup h))
         where
-          by : LastsOrAlike (world setup h) (effect setup (world setup h) role.kind (placing name c)) → WouldLast setup seat role.kind start h (at_place place c)
+          by : LastsOrAlike (world setup h) (effect setup (world setup h) role.kind (placing name c)) → WouldLast setup seat role.kind start h (at_place key name writes place c)
           by (inl lasts) = AtOnce alike lasts
           by (inr same) =
               let said = staying setup (world setup h) name c on_store role.kind kind e in
               let here = at_from writes place (map (placing name) (c ∷ d ∷ ds)) are in
               let after_it = at_from writes (place + 1) (map (placing name) (d ∷ ds)) (later_from writes place (placing name c) (map (placing name) (d ∷ ds)) are) in
-              Later alike (at_place (place + 1) d) (ap (under_after (at_place place c)) said.1 ∙ goes_on place c d said.0 here after_it)
+              Later alike (at_place key name writes (place + 1) d) (ap (under_after (at_place key name writes place c)) said.1 ∙ goes_on key name writes place c d said.0 here after_it)
               (rest (then_alike _ _ _ alike same) (still_stand (world setup h).store.rows (world setup (own_entry setup seat role.kind h (placing name c) ∷ h)).store.rows c (d ∷ ds) (others_stay setup (world setup h) name c on_store role.kind kind e) apart.0 stand.1))

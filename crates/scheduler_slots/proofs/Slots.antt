@@ -41,8 +41,8 @@ use Rattle.worker_threads.specs.Rounds.{Asks, IsHeld, IsIdle, IsReady, IsSpent, 
 use Rattle.worker_threads.proofs.RunFacts.{run_grows, still_role, turn_role}
 use Rattle.slot_law.specs.Slots.{IsDecisionPoint, KnowsBehind, own_entry}
 use Rattle.slot_law.proofs.Knowing.{sees, told_knows}
-use Rattle.slot_law.proofs.Slots.{nothing_behind}
-use Rattle.paid_law.proofs.Slots.{decides_gives, older_run}
+use Rattle.slot_law.proofs.Slots.{decides_gives, nothing_behind}
+use Rattle.paid_law.proofs.Slots.{older_run}
 use Rattle.scheduler_writes.specs.Pods.{pods_writes}
 use Rattle.scheduler_slots.specs.Slots.{PassedSchedulersWriteLittle}
 use Rattle.scheduler_slots.proofs.Costs.{costs_bounded, costs_on}

@@ -1,5 +1,5 @@
 -- A whole round leaves its drainers so that the next may begin with them.
-use Rattle.std.proofs.Common.{◌≡◌, ℕ, zero, suc, List, [], ◌∷◌, Bool, true, false, true≢false, Some, inl, inr, refl, sym, ap, subst, arith}
+use Rattle.std.proofs.Common.{◌≡◌, ℕ, zero, suc, List, Bool, true, false, true≢false, Some, refl, sym, subst}
 use Rattle.std.specs.Prelude.{slice_get}
 use Rattle.std.proofs.lemmas.Bool.{and_parts}
 use Rattle.call_types.specs.declared.entry.Entry.{Entry}
@@ -11,12 +11,13 @@ use Rattle.worker_core.specs.States.{ActorState}
 use Rattle.worker_core.proofs.Turning.{turn_stands}
 use Rattle.worker_threads.specs.declared.drainers.Drainer.{Drainer}
 use Rattle.worker_threads.specs.Drainers.{AreRoles, AreSeats, IsStanding, StandsWhole, seats_of}
-use Rattle.worker_threads.specs.Longer.{HasGrown, IsOneOf}
+use Rattle.worker_threads.specs.Longer.{HasGrown}
 use Rattle.worker_threads.specs.Rounds.{Asks, Ends, IsHeld, IsIdle, IsRound, IsSpent, Lets, Runs, Turns}
 use Rattle.worker_threads.proofs.Entries.{grown_others}
 use Rattle.worker_threads.proofs.RoundFacts.{round_grows, round_roles, round_seats}
 use Rattle.worker_threads.proofs.Resting.{round_rests}
 use Rattle.worker_threads.proofs.RunFacts.{turned_whole}
+use Rattle.epoch_law.proofs.Silent.{Differ, not_again, others_differ}
 use Rattle.settle_law.specs.Settling.{RoundsLeaveDrainers}
 
 -- an actor that was run until it was idle stands whole for the entries of its seat
@@ -27,25 +28,6 @@ module _ (lets : Lets) (seat : ℕ) (after : ActorState) (past : List Entry) (le
       subst (λ es. StandsWhole after (own seat es)) (sym entries) (turned_whole s after Idle (own seat h) turn (turn_stands s after Idle (own seat h) ready.rows ready.stands.told turn) ready.stands)
   run_whole s h b (Asks given next request reply some ready turn passes absorbs more) = run_whole _ _ _ more
   run_whole s h b (IsHeld given next request some ready turn held absorbs more) = run_whole _ _ _ more
-
--- none of these stands twice
-abbrev Differ : List ℕ → Type 0
-Differ seats = (i j seat : ℕ) → slice_get seats i ≡ Some seat → slice_get seats j ≡ Some seat → i ≡ j
-
-record IsPlaced (seats : List ℕ) (seat : ℕ) : Type 0 where
-  place : ℕ
-  at : slice_get seats place ≡ Some seat
-
-placed : (seats : List ℕ) (seat : ℕ) → IsOneOf seats seat → IsPlaced seats seat
-placed [] seat among = absurd among
-placed (s ∷ seats) seat (inl is) = record { place = 0; at = ap Some is }
-placed (s ∷ seats) seat (inr more) = let p = placed seats seat more in record { place = suc p.place; at = p.at }
-
-not_again : (seat : ℕ) (seats : List ℕ) → Differ (seat ∷ seats) → IsOneOf seats seat → ⊥
-not_again seat seats differ among = let p = placed seats seat among in let same = differ 0 (suc p.place) seat refl p.at in omega (arith, same)
-
-others_differ : (seat : ℕ) (seats : List ℕ) → Differ (seat ∷ seats) → Differ seats
-others_differ seat seats differ i j s at there = let same = differ (suc i) (suc j) s at there in omega (arith, same)
 
 module _ (lets : Lets) (past : List Entry) (left : ℕ) where
   round_stands : (ds : List Drainer) (h : List Entry) (b : ℕ) (after : List Drainer) (whole : Bool) → IsRound lets past left ds h b after whole → whole ≡ true → Differ (seats_of ds) → (place : ℕ) (x : Drainer) → slice_get after place ≡ Some x → IsStanding x past

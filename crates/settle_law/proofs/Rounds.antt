@@ -80,7 +80,7 @@ abbrev pub is_agent : SeatKind → Bool
 is_agent seats.Agent = true
 is_agent kind = false
 
-not_agent : (kind : SeatKind) → is_agent kind ≡ false → kind ≢ seats.Agent
+pub not_agent : (kind : SeatKind) → is_agent kind ≡ false → kind ≢ seats.Agent
 not_agent kind e is = true≢false (sym (ap is_agent is) ∙ e)
 
 controllers_built : (kind : SeatKind) → IsController kind → IsBuiltKind kind × (kind ≢ seats.Agent)
@@ -106,35 +106,36 @@ module _ (lets : Lets) (past : List Entry) (left : ℕ) where
       awake_in ds middle rest after whole more (and_parts idle whole is_whole).1 place d x there ran_there other
 
 -- the kind of what stands under a key
-followed_by : (kind : SeatKind) (key : Key) (o : Object) (rows : List Object) → row_at key rows ≡ Some o → follows kind (key_of o).kind ≡ true → follows kind key.kind ≡ true
+pub followed_by : (kind : SeatKind) (key : Key) (o : Object) (rows : List Object) → row_at key rows ≡ Some o → follows kind (key_of o).kind ≡ true → follows kind key.kind ≡ true
 followed_by kind key o rows there is = ap (λ (k : Key). follows kind k.kind) (sym (row_at_key key o rows there)) ∙ is
 
-module _ (setup : Setup) (lets : Lets) (ds after : List Drainer) (h past : List Entry) (b left : ℕ) (may : MayDrain setup h ds) (run : IsRunOf setup past) (round : IsRound lets past left ds h b after true) (key : Key) (o : Object) (stands : row_at key (world setup h).store.rows ≡ Some o) where
-  -- a controller acts
-  controller_lasts : (kind : SeatKind) → IsController kind → follows kind (key_of o).kind ≡ true → ((seat : ℕ) → CallsPass setup lets seat (of_kind kind) h key) → ((seat : ℕ) → WouldActOn setup seat (of_kind kind) h key) → HasLasting setup h past
-  controller_lasts kind is followed passes would =
+module _ (setup : Setup) (lets : Lets) (ds after : List Drainer) (h past : List Entry) (b left : ℕ) (run : IsRunOf setup past) (round : IsRound lets past left ds h b after true) (key : Key) (o : Object) (stands : row_at key (world setup h).store.rows ≡ Some o) where
+  -- a drainer that serves no node acts
+  pub kind_lasts : (kind : SeatKind) → IsBuiltKind kind → kind ≢ seats.Agent → HasRole ds (of_kind kind) → follows kind (key_of o).kind ≡ true → ((seat : ℕ) → CallsPass setup lets seat (of_kind kind) h key) → ((seat : ℕ) → WouldActOn setup seat (of_kind kind) h key) → HasLasting setup h past
+  kind_lasts kind built other at followed passes would =
       rounds_last setup lets ds after h past b left (runs_are_histories setup past run.run) round (record {
         place = at.place;
         drainer = at.drainer;
         there = at.there;
-        built = subst IsBuiltKind (sym kind_is) kinds.0;
+        built = subst IsBuiltKind (sym kind_is) built;
         key = key;
         object = o;
         stands = stands;
         followed = ap (λ k. follows k key.kind) kind_is ∙ followed_by kind key o (world setup h).store.rows stands followed;
         acts = would_act_where_calls_pass setup lets at.drainer.seat at.drainer.actor.role h key (subst (λ r. CallsPass setup lets at.drainer.seat r h key) (sym at.role_is) (passes at.drainer.seat))
             (subst (λ r. WouldActOn setup at.drainer.seat r h key) (sym at.role_is) (would at.drainer.seat));
-        awake = λ x there. awake_in lets past left ds h b after true round refl at.place at.drainer x at.there there (subst (λ k. k ≢ seats.Agent) (sym kind_is) kinds.1);
+        awake = λ x there. awake_in lets past left ds h b after true round refl at.place at.drainer x at.there there (subst (λ k. k ≢ seats.Agent) (sym kind_is) other);
       })
     where
-      at : HasRole ds (of_kind kind)
-      at = controller_at ds may.stand.roles.nodes may.stand.roles.are kind is
-
       kind_is : at.drainer.actor.role.kind ≡ kind
       kind_is = ap (λ (r : Role). r.kind) at.role_is
 
-      kinds : IsBuiltKind kind × (kind ≢ seats.Agent)
-      kinds = controllers_built kind is
+module _ (setup : Setup) (lets : Lets) (ds after : List Drainer) (h past : List Entry) (b left : ℕ) (may : MayDrain setup h ds) (run : IsRunOf setup past) (round : IsRound lets past left ds h b after true) (key : Key) (o : Object) (stands : row_at key (world setup h).store.rows ≡ Some o) where
+  -- a controller acts
+  controller_lasts : (kind : SeatKind) → IsController kind → follows kind (key_of o).kind ≡ true → ((seat : ℕ) → CallsPass setup lets seat (of_kind kind) h key) → ((seat : ℕ) → WouldActOn setup seat (of_kind kind) h key) → HasLasting setup h past
+  controller_lasts kind is followed passes would =
+      let kinds = controllers_built kind is in
+      kind_lasts setup lets ds after h past b left run round key o stands kind kinds.0 kinds.1 (controller_at ds may.stand.roles.nodes may.stand.roles.are kind is) followed passes would
 
 -- an agent whose epoch is its node's is no stale one
 awake_of : (setup : Setup) (ds : List Drainer) (h : List Entry) (node : List ℕ) → OnlyOvertakenAreSilent setup ds h → HasCurrent setup ds h node → HasAwake setup ds h node

@@ -49,7 +49,7 @@ pub watches_from : (kind : SeatKind) (mine : List Entry) (k : Kind) → IsBuiltK
 watches_from kind [] k built l = tt
 watches_from kind (e ∷ mine) k built l = (watches_from kind mine k built l.0, λ from is. watch_licensed kind mine k from built (subst (Licensed kind mine) is l.2))
 
-at_or_before : (i n : ℕ) → i < n + 1 → (i < n) ⊎ (i ≡ n)
+pub at_or_before : (i n : ℕ) → i < n + 1 → (i < n) ⊎ (i ≡ n)
 at_or_before i n lt = by (nat_lt i n) refl
   where
     by : (b : Bool) → nat_lt i n ≡ b → (i < n) ⊎ (i ≡ n)

@@ -15,7 +15,7 @@ use Rattle.call_types.specs.declared.request.SeatKind.TheVariants as seats
 use Rattle.call_types.specs.declared.setup.Setup.{Setup}
 use Rattle.binder_model.specs.Told.{own}
 use Rattle.binder_model.specs.World.{IsHistory, effect, reply_to, world}
-use Rattle.informer_cache.specs.All.{all_objects, cache_of}
+use Rattle.informer_cache.specs.All.{AllKnown, all_objects, cache_of}
 use Rattle.informer_cache.specs.Cache.{kind_known, objects_of}
 use Rattle.model_laws.proofs.Histories.{rows_stand_in_order}
 use Rattle.model_laws.proofs.Lists.{IsIn, none_some, one}
@@ -29,7 +29,7 @@ use Rattle.worker_core.specs.declared.turn.Given.TheVariants as givens
 use Rattle.worker_core.specs.declared.turn.Next.{Next}
 use Rattle.worker_core.specs.declared.turn.Next.TheVariants.{Call, Idle}
 use Rattle.worker_core.specs.declared.turn.Outcome.TheVariants.{Lost, Told}
-use Rattle.worker_core.specs.Absorbs.{absorbed, given_told, learned, woken}
+use Rattle.worker_core.specs.Absorbs.{absorbed, given_told, learned, lost_given, woken}
 use Rattle.worker_core.specs.Roles.{IsBuiltKind, kinds_of}
 use Rattle.worker_core.specs.States.{ActorState, call_in, start_call, waits}
 use Rattle.worker_core.specs.Tasks.{GivesCall, GivesNone, under_after}
@@ -80,12 +80,12 @@ passed_see_the_store setup lets seat old after h past b left idle built history 
 
 -- a key that stops waiting in a turn
 
-data Stopped (role : Role) (memory : Memory) (rows : List Object) (under : Option Under) (key : Key) : Type 0 where
+pub data Stopped (role : Role) (memory : Memory) (rows : List Object) (under : Option Under) (key : Key) : Type 0 where
   Called : (u : Under) → under ≡ Some u → u.key ≡ key → GivesCall role memory rows u → Stopped role memory rows under key
   NotCalled : (first : First) → GivesNone role memory rows key first → Stopped role memory rows under key
 
 module _ (role : Role) (memory : Memory) (rows : List Object) (after : Work) (under : Option Under) (key : Key) where
-  decides_stops : (w : Work) → Decides role memory rows after under w → waits key w ≡ true → waits key after ≡ false → Stopped role memory rows under key
+  pub decides_stops : (w : Work) → Decides role memory rows after under w → waits key w ≡ true → waits key after ≡ false → Stopped role memory rows under key
   decides_stops w (Nothing empty same none) e f = absurd (true≢false (sym e ∙ sym (ap (waits key) same) ∙ f))
   decides_stops w (Begins u old gives same some) e f = elim (begun_waits u.key key w old e) [
     | inl own ↦ Called u some own gives
@@ -97,11 +97,11 @@ module _ (role : Role) (memory : Memory) (rows : List Object) (after : Work) (un
   ]
 
 -- it does so past the pass: its decision begins what is then under way, or gives no call
-data StopsBy (s new : ActorState) (answer : Next) (key : Key) : Type 0 where
+pub data StopsBy (s new : ActorState) (answer : Next) (key : Key) : Type 0 where
   ByCall : (u : Under) → passing s ≡ None → new.under ≡ Some u → new.given ≡ Some givens.Task → answer ≡ Call u.call → u.key ≡ key → GivesCall s.role s.memory (all_objects s.caches) u → StopsBy s new answer key
   ByNone : (first : First) → passing s ≡ None → GivesNone s.role s.memory (all_objects s.caches) key first → StopsBy s new answer key
 
-stops_by : (s new : ActorState) (answer : Next) (key : Key) → IsTurn s new answer → waits key s.work ≡ true → waits key new.work ≡ false → StopsBy s new answer key
+pub stops_by : (s new : ActorState) (answer : Next) (key : Key) → IsTurn s new answer → waits key s.work ≡ true → waits key new.work ≡ false → StopsBy s new answer key
 stops_by s new answer key turn waiting stopped = by s.memory.stale s.under (start_call s.role s.memory) (unlisted s) (passing s) refl turn
   where
     no_change : {G : Type 0} → new.work ≡ s.work → G
@@ -135,12 +135,12 @@ stops_by s new answer key turn waiting stopped = by s.memory.stale s.under (star
     by false None None None None over t = keys t.work t.under over t.decides t.then_
 
 -- what is under way is asked next
-record AsksUnder (s new : ActorState) (answer : Next) (u : Under) : Type 0 where
-  under : new.under ≡ Some u
-  given : new.given ≡ Some givens.Task
-  call : answer ≡ Call u.call
+pub record AsksUnder (s new : ActorState) (answer : Next) (u : Under) : Type 0 where
+  pub under : new.under ≡ Some u
+  pub given : new.given ≡ Some givens.Task
+  pub call : answer ≡ Call u.call
 
-asks_under : (s new : ActorState) (answer : Next) (u : Under) → IsTurn s new answer → s.memory.stale ≡ false → s.under ≡ Some u → AsksUnder s new answer u
+pub asks_under : (s new : ActorState) (answer : Next) (u : Under) → IsTurn s new answer → s.memory.stale ≡ false → s.under ≡ Some u → AsksUnder s new answer u
 asks_under s new answer u turn awake under = by s.memory.stale s.under refl refl turn
   where
     by : (stale : Bool) (x : Option Under) → s.memory.stale ≡ stale → s.under ≡ x → TurnBy s new answer stale x (start_call s.role s.memory) (unlisted s) (passing s) → AsksUnder s new answer u
@@ -150,6 +150,40 @@ asks_under s new answer u turn awake under = by s.memory.stale s.under refl refl
         let is : v ≡ u = one v u (sym ex ∙ under) in
         record { under = ap (λ (x : ActorState). x.under) t.state ∙ under; given = ap (λ (x : ActorState). x.given) t.state; call = t.call ∙ ap (λ (x : Under). Call x.call) is }
 
+-- what was decided gives a call
+pub decides_gives : (role : Role) (memory : Memory) (rows : List Object) (after : Work) (under : Option Under) (u : Under) (w : Work) → Decides role memory rows after under w → under ≡ Some u → GivesCall role memory rows u
+decides_gives role memory rows after under u w (Nothing empty same none) e = none_some (sym none ∙ e)
+decides_gives role memory rows after under u w (Begins v old gives same some) e = subst (GivesCall role memory rows) (one v u (sym some ∙ e)) gives
+decides_gives role memory rows after under u w (Drops k first old none rest) e = decides_gives role memory rows after under u _ rest e
+
+-- what is under way behind a call that was told
+module _ (given : ActorState) (request : Request) (reply : Reply) where
+  pub told_under : (u : Under) (caches : AllKnown) (g : Option Given) (x : Option Under) → g ≡ Some givens.Task → x ≡ Some u → (given_told (record (learned given caches request reply) { under = x }) request reply g).under ≡ under_after u reply
+  told_under u caches g x eg ex = rw (eg, ex) refl
+
+  pub none_told : (caches : AllKnown) (g : Option Given) (x : Option Under) → x ≡ None → (given_told (record (learned given caches request reply) { under = x }) request reply g).under ≡ None
+  none_told caches g x ex = rw ex (by g)
+    where
+      by : (y : Option Given) → (given_told (record (learned given caches request reply) { under = None }) request reply y).under ≡ None
+      by None = refl
+      by (Some givens.Start) = refl
+      by (Some givens.Task) = refl
+      by (Some (givens.Read k)) = refl
+
+-- a call that was lost leaves nothing under way
+pub task_lost : (given : ActorState) (g : Option Given) (x : Option Under) → g ≡ Some givens.Task → (lost_given (record given { under = x }) g).under ≡ None
+task_lost given g None eg = rw eg refl
+task_lost given g (Some u) eg = rw eg refl
+
+pub none_lost : (given : ActorState) (g : Option Given) (x : Option Under) → x ≡ None → (lost_given (record given { under = x }) g).under ≡ None
+none_lost given g x ex = rw ex (by g)
+  where
+    by : (y : Option Given) → (lost_given (record given { under = None }) y).under ≡ None
+    by None = refl
+    by (Some givens.Start) = refl
+    by (Some givens.Task) = refl
+    by (Some (givens.Read k)) = refl
+
 -- one entry that lasts, and more behind it
 pub lasting_here : (setup : Setup) (e : Entry) (h past newer : List Entry) → past ≡ newer ++ (e ∷ h) → LastsBetween (world setup h) (world setup (e ∷ h)) e.reply → HasLasting setup h past
 lasting_here setup e h past newer are lasts = record { entry = e; newer = newer; older = []; are = are; lasts = lasts }
@@ -158,7 +192,7 @@ pub lasting_later : (setup : Setup) (e : Entry) (h past : List Entry) → HasLas
 lasting_later setup e h past l = record { entry = l.entry; newer = l.newer; older = l.older ++ e ∷ []; are = l.are ∙ ap (λ es. l.newer ++ (l.entry ∷ es)) (sym (append_assoc l.older (e ∷ []) h)); lasts = subst (λ es. LastsBetween (world setup es) (world setup (l.entry ∷ es)) l.entry.reply) (sym (append_assoc l.older (e ∷ []) h)) l.lasts }
 
 -- its next call reaches the world
-will_pass : (setup : Setup) (lets : Lets) (seat : ℕ) (kind : SeatKind) (h : List Entry) (u : Under) → WillLast setup lets seat kind h u → lets h u.call ≡ true
+pub will_pass : (setup : Setup) (lets : Lets) (seat : ℕ) (kind : SeatKind) (h : List Entry) (u : Under) → WillLast setup lets seat kind h u → lets h u.call ≡ true
 will_pass setup lets seat kind h u (Now passes lasts) = passes
 will_pass setup lets seat kind h u (Then passes n follows more) = passes
 
@@ -192,11 +226,8 @@ module _ (setup : Setup) (lets : Lets) (seat : ℕ) (kind : SeatKind) (after : A
       next_kind : next.role.kind ≡ kind
       next_kind = ap (λ (x : ActorState). x.role.kind) absorbs ∙ (ap (λ (r : Role). r.kind) (answer_role given next.caches request (Told reply)) ∙ of_kind)
 
-      told_under : (g : Option Given) (x : Option Under) → g ≡ Some givens.Task → x ≡ Some u → (given_told (record (learned given next.caches request reply) { under = x }) request reply g).under ≡ under_after u reply
-      told_under g x eg ex = rw (eg, ex) refl
-
       next_under : next.under ≡ Some n
-      next_under = ap (λ (x : ActorState). x.under) absorbs ∙ (told_under given.given given.under task under ∙ (ap (under_after u) said ∙ follows))
+      next_under = ap (λ (x : ActorState). x.under) absorbs ∙ (told_under given request reply u next.caches given.given given.under task under ∙ (ap (under_after u) said ∙ follows))
 
   follow : (s : ActorState) (h : List Entry) (b : ℕ) → Runs lets seat after past left true s h b → (u : Under) → s.role.kind ≡ kind → s.under ≡ Some u → WillLast setup lets seat kind h u → HasLasting setup h past
   follow s h b (IsSpent none state entries rest busy) u of_kind under will = absurd (true≢false busy)
@@ -335,7 +366,7 @@ remembers_awake seats.Scheduler node request reply m other = refl
 remembers_awake seats.ClaimProtect node request reply m other = refl
 remembers_awake seats.VolumeProtect node request reply m other = refl
 
-memory_awake : (role : Role) (mine : List Entry) → role.kind ≢ seats.Agent → (memory_of role mine).stale ≡ false
+pub memory_awake : (role : Role) (mine : List Entry) → role.kind ≢ seats.Agent → (memory_of role mine).stale ≡ false
 memory_awake role [] other = refl
 memory_awake role (e ∷ mine) other = by e.told (memory_awake role mine other)
   where

@@ -1,7 +1,6 @@
 -- Past its first pass a turn of such an actor costs nothing: what a decision begins will write, and a new pass is paid for by the writes since the last one.
 use Rattle.std.proofs.Common.{◌≡◌, ◌∙◌, ℕ, ◌+◌, ◌-◌, List, length, Bool, true, false, Option, Some, None, inl, inr, refl, sym, ap, subst, arith, if◌then◌else◌}
 use Rattle.kube_types.specs.declared.parts.Kind.{Kind}
-use Rattle.kube_types.specs.declared.objects.Object.{Object}
 use Rattle.call_types.specs.declared.entry.Entry.{Entry}
 use Rattle.call_types.specs.declared.request.Request.{Request}
 use Rattle.call_types.specs.declared.setup.Setup.{Setup}
@@ -10,18 +9,16 @@ use Rattle.binder_model.specs.World.{IsHistory}
 use Rattle.informer_cache.specs.All.{all_objects}
 use Rattle.model_laws.proofs.Lists.{none_some, one}
 use Rattle.sync_queue.specs.Work.{Work}
-use Rattle.worker_core.specs.declared.role.Role.{Role}
 use Rattle.worker_core.specs.declared.task.Under.{Under}
 use Rattle.worker_core.specs.declared.turn.Given.{Given}
 use Rattle.worker_core.specs.declared.turn.Given.TheVariants as givens
 use Rattle.worker_core.specs.declared.turn.Next.TheVariants.{Call}
-use Rattle.worker_core.specs.Memories.{Memory}
 use Rattle.worker_core.specs.Roles.{kinds_of}
 use Rattle.worker_core.specs.States.{ActorState, call_in, start_call}
-use Rattle.worker_core.specs.Tasks.{GivesCall}
-use Rattle.worker_core.specs.Turns.{AfterKeys, Begins, Decides, Drops, IsTurn, Nothing, TurnBy, passing, unlisted}
+use Rattle.worker_core.specs.Turns.{AfterKeys, Decides, IsTurn, TurnBy, passing, unlisted}
 use Rattle.worker_threads.specs.Rounds.{IsReady, Lets}
 use Rattle.slot_law.specs.Slots.{IsDecisionPoint, SeesStore, WillLast}
+use Rattle.slot_law.proofs.Slots.{decides_gives}
 use Rattle.begun_lasts.specs.Begun.{begins_to_last}
 use Rattle.begun_lasts.proofs.Passing.{begun_is_lasting}
 use Rattle.slot_costs.proofs.Begun.{begun_on_own}
@@ -31,12 +28,6 @@ use Rattle.sure_slots.specs.Sure.{PassesAll}
 use Rattle.sure_slots.proofs.Passes.{IsAtKeys, keys_of, pass_begins}
 use Rattle.sure_slots.proofs.Lasting.{no_agent, sure_built}
 use Rattle.sure_slots.proofs.Left.{HasWritten, IsFree, IsLess, Owing, WillWrite, kinds_owed, owed, sure_left}
-
--- what was decided gives a call
-decides_gives : (role : Role) (memory : Memory) (rows : List Object) (after : Work) (under : Option Under) (u : Under) (w : Work) → Decides role memory rows after under w → under ≡ Some u → GivesCall role memory rows u
-decides_gives role memory rows after under u w (Nothing empty same none) e = none_some (sym none ∙ e)
-decides_gives role memory rows after under u w (Begins v old gives same some) e = subst (GivesCall role memory rows) (one v u (sym some ∙ e)) gives
-decides_gives role memory rows after under u w (Drops k first old none rest) e = decides_gives role memory rows after under u _ rest e
 
 -- a turn that gives a call costs nothing: it begins a task, or a pass
 pub turn_costs : (setup : Setup) (lets : Lets) (seat high : ℕ) (s given : ActorState) (request : Request) (h : List Entry) → ImportsPass setup.imports → PassesAll lets → begins_to_last s.role.kind ≡ true → IsReady seat s h → IsHistory setup h

@@ -4,7 +4,6 @@ use Rattle.std.proofs.lemmas.List.{append_cancel_right}
 use Rattle.std.specs.Prelude.{is_some, map, ⊤}
 use Rattle.kube_types.specs.declared.key.Key.{Key}
 use Rattle.kube_types.specs.declared.objects.Claim.{Claim as ClaimData}
-use Rattle.kube_types.specs.declared.objects.Object.{Object}
 use Rattle.kube_types.specs.declared.objects.Object.TheVariants.{Claim}
 use Rattle.kube_types.specs.Bindings.{has_key, selected_node}
 use Rattle.kube_types.specs.Keys.{key_of, row_at}
@@ -46,7 +45,7 @@ use Rattle.paid_law.specs.Pays.{HavePaid}
 use Rattle.paid_law.proofs.Entries.{paid_is_less}
 use Rattle.drain_budget.specs.Budget.{AreAlwaysInOrder}
 use Rattle.near_law.specs.Near.{AreNear}
-use Rattle.near_law.proofs.Near.{ClaimNear, claim_near}
+use Rattle.near_law.proofs.Near.{ClaimNear, claim_near, claim_or}
 use Rattle.slot_law.specs.Slots.{own_entry}
 use Rattle.tries_law.specs.Coming.{IsCallOf}
 use Rattle.tries_law.specs.Deciding.{IsWithin}
@@ -56,7 +55,7 @@ use Rattle.tries_law.proofs.Coming.{lasting_are_decided}
 use Rattle.tries_law.proofs.Moving.{AreOfKind, entries_move_nodes, one_node_so, paid_split, stood_alike}
 use Rattle.tries_law.proofs.Parts.{HasParts, rest_of_roles}
 use Rattle.tries_law.proofs.Points.{IsQuietAt, near_ahead, order_within, quiet_at, run_kinds, run_within}
-use Rattle.tries_law.proofs.Quiet.{all_paid, scheduler_idle, stands_alike, stays_up}
+use Rattle.tries_law.proofs.Quiet.{all_paid, is_scheduler, scheduler_idle, stands_alike, stays_up}
 use Rattle.tries_law.proofs.Calling.{IsPlacing, calls_are, decided_within}
 use Rattle.tries_law.proofs.Open.{each_in, open_is_other}
 use Rattle.tries_law.specs.Waiting.{IsSlotOf}
@@ -66,10 +65,6 @@ use Rattle.tries_law.proofs.Slot.{first_kind, not_so, parts_with, slot_run, slot
 use Rattle.tries_law.proofs.Told.{IsPut, row_step}
 
 -- ---- the kinds of those behind the scheduler
-
-abbrev is_scheduler : SeatKind → Bool
-is_scheduler seats.Scheduler = true
-is_scheduler kind = false
 
 abbrev AreOthers : List Entry → Type 0
 AreOthers [] = ⊤
@@ -110,10 +105,6 @@ round_others past left _ h b _ _ (Turns {ds = ds} {after = after} {whole = whole
       are = later.are ∙ (ap (λ es. later.newer ++ es) slot.are ∙ sym (append_assoc later.newer slot.newer h));
       others = others_both later.newer slot.newer later.others (of_kind_others d.actor.role.kind slot.newer other.0 slot.kinds);
     }
-
-abbrev claim_or : ClaimData → Object → ClaimData
-claim_or c (Claim x) = x
-claim_or c o = c
 
 -- ---- a claim that needs no volume
 

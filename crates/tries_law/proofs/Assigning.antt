@@ -14,7 +14,6 @@ use Rattle.kube_types.proofs.KeyOrder.{row_at_key}
 use Rattle.call_types.specs.declared.entry.Entry.{Entry}
 use Rattle.call_types.specs.declared.reply.Reply.{Reply}
 use Rattle.call_types.specs.declared.request.Request.{Request}
-use Rattle.call_types.specs.declared.request.SeatKind.{SeatKind}
 use Rattle.call_types.specs.declared.request.SeatKind.TheVariants as seats
 use Rattle.call_types.specs.declared.setup.Setup.{Setup}
 use Rattle.binder_model.specs.Due.{IsDue}
@@ -56,6 +55,7 @@ use Rattle.schedule_law.proofs.Seeing.{schedulers_see_all}
 use Rattle.paid_law.specs.Pays.{HavePaid, worth}
 use Rattle.drain_budget.specs.Budget.{AreAlwaysInOrder}
 use Rattle.near_law.proofs.Near.{PodNear, back_near, near_assigns, pod_near}
+use Rattle.settle_law.proofs.Rounds.{is_agent, not_agent}
 use Rattle.tries_law.specs.Deciding.{IsActedOn, IsWithin}
 use Rattle.tries_law.proofs.Deciding.{cached_are_decided}
 use Rattle.tries_law.proofs.Leading.{goes_on, leads_keep, leads_more}
@@ -151,10 +151,6 @@ assigned_writes setup h p refused op pass open_ due b = by b.choice ((choices_ar
 
 -- ---- a slot
 
-abbrev is_agent : SeatKind → Bool
-is_agent seats.Agent = true
-is_agent kind = false
-
 module _ (setup : Setup) (seat : ℕ) (old after : ActorState) (h past : List Entry) (b left : ℕ) (kind : old.role.kind ≡ seats.Scheduler) (run : IsRunOf setup past) (order : AreAlwaysInOrder setup past) (idle : old.under ≡ None)
     (runs : Runs all_pass seat after past left true (woken old) h b) (paid : HavePaid setup h past) (le : work_left setup (world setup h) ≤ work_left setup (world setup past)) where
   pub no_assign : (key : Key) (p : PodData) (o : Object) → row_at key (world setup past).store.rows ≡ Some (Pod p) → is_scheduled p ≡ false → IsDue setup (world setup past) (Pod p) (Some dues.Assign) → row_at key (all_objects old.caches) ≡ Some o → ⊥
@@ -182,7 +178,7 @@ module _ (setup : Setup) (seat : ℕ) (old after : ActorState) (h past : List En
       acted =
           cached_are_decided setup all_pass seat key o old after h past b left (subst IsBuiltKind (sym kind) tt) (runs_are_histories setup past run.run) idle
           (ap (λ k. follows k key.kind) kind ∙ ap (λ (k : Key). follows seats.Scheduler k.kind) (sym (row_at_key key (Pod p) (world setup past).store.rows there))) cached runs
-          (others_stay_awake all_pass seat (woken old) after h past b left (λ is. true≢false (sym (ap is_agent is) ∙ ap is_agent kind)) runs) acts
+          (others_stay_awake all_pass seat (woken old) after h past b left (not_agent _ (ap is_agent kind)) runs) acts
 
       by : IsActedOn setup seat old.role key h past → ⊥
       by a =

@@ -1,5 +1,5 @@
 -- A whole round tells its actors what stands: behind its slot an actor has each object of a kind that it follows, and those behind create nothing that it decides.
-use Rattle.std.proofs.Common.{◌≡◌, ◌∙◌, ℕ, zero, suc, ◌-◌, List, [], ◌∷◌, Bool, true, false, true≢false, Some, None, refl, sym, ap, subst}
+use Rattle.std.proofs.Common.{◌≡◌, ◌∙◌, ℕ, zero, suc, ◌-◌, List, [], ◌∷◌, true, false, true≢false, Some, None, refl, sym, ap, subst}
 use Rattle.std.specs.Prelude.{is_some, slice_get}
 use Rattle.kube_types.specs.declared.key.Key.{Key}
 use Rattle.kube_types.specs.declared.parts.Kind.{Kind}
@@ -41,6 +41,7 @@ use Rattle.worker_core.specs.declared.role.Role.{Role}
 use Rattle.model_laws.proofs.Lists.{none_some, one}
 use Rattle.model_laws.proofs.Growing.{runs_are_histories}
 use Rattle.kube_types.specs.declared.parts.Kind.TheVariants as kinds
+use Rattle.settle_law.proofs.Rounds.{is_agent, not_agent}
 use Rattle.std.specs.Prelude.{map, option_map}
 
 -- an actor that was run until it was idle is ready at the end, past its pass
@@ -121,12 +122,8 @@ behind_decide nodes (suc zero) role k at = subst (λ (r : Role). decides_kind r.
 behind_decide nodes (suc (suc zero)) role k at = subst (λ (r : Role). decides_kind r.kind k ≡ false) (one (of_kind seats.VolumeProtect) role at) refl
 behind_decide nodes (suc (suc (suc place))) role k at = agents_decide nodes place role k at
 
-abbrev is_agent : SeatKind → Bool
-is_agent seats.Agent = true
-is_agent kind = false
-
 awake_slot : (lets : Lets) (kind : SeatKind) (seat : ℕ) (old after : ActorState) (h past : List Entry) (b left : ℕ) → old.role ≡ of_kind kind → is_agent kind ≡ false → Runs lets seat after past left true (woken old) h b → after.memory.stale ≡ false
-awake_slot lets kind seat old after h past b left role other runs = others_stay_awake lets seat (woken old) after h past b left (λ is. true≢false (sym (ap is_agent is) ∙ (ap (λ (r : Role). is_agent r.kind) role ∙ other))) runs
+awake_slot lets kind seat old after h past b left role other runs = others_stay_awake lets seat (woken old) after h past b left (not_agent _ (ap (λ (r : Role). is_agent r.kind) role ∙ other)) runs
 
 role_ran : (lets : Lets) (seat : ℕ) (old after : ActorState) (h past : List Entry) (b left : ℕ) → Runs lets seat after past left true (woken old) h b → after.role ≡ old.role
 role_ran lets seat old after h past b left runs = run_role lets seat after past left true (woken old) h b runs

@@ -47,7 +47,7 @@ use Rattle.write_law.proofs.Volumes.{reference_lasts}
 use Rattle.slot_law.specs.Slots.{IsDecisionPoint, own_entry}
 use Rattle.slot_law.specs.Would.{Here, Leads, On}
 use Rattle.schedule_law.specs.Writes.{placing}
-use Rattle.schedule_law.proofs.Choosing.{claims_known}
+use Rattle.schedule_law.proofs.Choosing.{TakesFirst, claims_known}
 use Rattle.paid_law.specs.Pays.{HavePaid, worth}
 use Rattle.drain_budget.specs.Budget.{AreAlwaysInOrder}
 use Rattle.drain_budget.specs.Measured.{SharesWell, WaitingPodNames, is_immediate}
@@ -61,7 +61,7 @@ use Rattle.tries_law.proofs.Assigning.{begins_schedule}
 use Rattle.tries_law.proofs.ForPods.{decided_are_for_pods}
 use Rattle.tries_law.proofs.Leading.{leads_keep, leads_more}
 use Rattle.tries_law.proofs.Points.{run_within, worth_none}
-use Rattle.tries_law.proofs.Choosing.{Binds, Chosen, IsSearched, Schedules, Searches, TakesFirst, TakesVolumes, among_writes, begun_first, chosen, first_write, schedules_on}
+use Rattle.tries_law.proofs.Choosing.{Binds, Chosen, IsSearched, Schedules, Searches, TakesVolumes, among_writes, begun_first, chosen, first_write, schedules_on}
 use Rattle.tries_law.proofs.Open.{IsNamed, each_in, others_named}
 
 -- ---- lists
@@ -194,15 +194,15 @@ not_both (Some (Volume x)) i d = true≢false (sym i)
 not_both (Some (Claim x)) i d = true≢false (sym i)
 not_both (Some (Pod x)) i d = true≢false (sym i)
 
-abbrev pods_namespace : Object → List ℕ
+abbrev pub pods_namespace : Object → List ℕ
 pods_namespace (Pod p) = p.meta.namespace
 pods_namespace o = []
 
-abbrev pods_claims : Object → List (List ℕ)
+abbrev pub pods_claims : Object → List (List ℕ)
 pods_claims (Pod p) = p.claims
 pods_claims o = []
 
-abbrev pods_waiting : Object → Bool
+abbrev pub pods_waiting : Object → Bool
 pods_waiting (Pod p) = is_scheduled p
 pods_waiting o = false
 

@@ -1,44 +1,32 @@
 -- What a decision of the scheduler for a pod comes to: it binds the pod, takes a volume first, or gives each claim that needs a volume its node.
-use Rattle.std.proofs.Common.{◌≡◌, ◌∙◌, ℕ, List, [], ◌∷◌, ◌++◌, Bool, true, false, true≢false, Option, Some, None, inl, inr, refl, sym, ap, subst, if◌then◌else◌}
-use Rattle.std.specs.Prelude.{◌||◌, map, slice_get}
+use Rattle.std.proofs.Common.{◌≡◌, ◌∙◌, ℕ, List, [], ◌∷◌, Bool, true, false, true≢false, Option, Some, None, refl, sym, ap, subst, if◌then◌else◌}
+use Rattle.std.specs.Prelude.{map, slice_get}
 use Rattle.std.specs.List.{list_all, list_any}
 use Rattle.kube_types.specs.declared.key.Key.{Key}
-use Rattle.kube_types.specs.declared.parts.Kind.TheVariants as kinds
 use Rattle.kube_types.specs.declared.uid.Uid.{Uid}
-use Rattle.kube_types.specs.declared.objects.Claim.{Claim as ClaimData}
 use Rattle.kube_types.specs.declared.objects.Pod.{Pod as PodData}
-use Rattle.kube_types.specs.declared.objects.Volume.{Volume as VolumeData}
 use Rattle.kube_types.specs.declared.objects.Object.{Object}
-use Rattle.kube_types.specs.declared.objects.Object.TheVariants.{Claim, Pod, Volume}
-use Rattle.kube_types.specs.Bindings.{carries}
-use Rattle.kube_types.specs.Keys.{AreRows, key_of, row_at}
-use Rattle.kube_types.specs.VolumeIndex.{as_volume}
-use Rattle.kube_types.proofs.RowPlaces.{row_at_place}
+use Rattle.kube_types.specs.declared.objects.Object.TheVariants.{Pod}
+use Rattle.kube_types.specs.Keys.{AreRows, key_of}
 use Rattle.call_types.specs.declared.reply.Reply.{Reply}
 use Rattle.call_types.specs.declared.request.Request.{Request}
 use Rattle.call_types.specs.declared.request.Request.TheVariants.{BindPod}
-use Rattle.binder_model.specs.BindWrites.{write_reference}
-use Rattle.binder_model.specs.Choice.{are_completed, carries_claim, claim_in, claims_of, has_carrier, is_served_elsewhere, is_under_way, lacks_claim, others_of}
-use Rattle.model_laws.proofs.Lists.{IsIn, none_some, one}
-use Rattle.model_laws.proofs.Readings.{found_stands}
+use Rattle.binder_model.specs.Choice.{are_completed, claims_of, is_served_elsewhere, is_under_way, lacks_claim, others_of}
+use Rattle.model_laws.proofs.Lists.{none_some, one}
 use Rattle.delayed_binding.specs.declared.choice.Choice.{Choice}
 use Rattle.delayed_binding.specs.declared.choice.Choice.TheVariants.{Assign, NoNode, Prepare, Wait}
 use Rattle.delayed_binding.specs.Choices.{IsChoice, IsChoiceAt, IsCompleted, IsSearching, IsServedElsewhere, IsUnderWay, LacksClaim, others_in, set_aside}
-use Rattle.delayed_binding.specs.Writes.{bind_write, node_write, reference_write}
-use Rattle.delayed_binding.proofs.Known.{IsSought, others_sought}
-use Rattle.delayed_binding.proofs.Written.{bound_at}
 use Rattle.pod_scheduler.specs.declared.schedule.ScheduleOp.{ScheduleOp}
 use Rattle.pod_scheduler.specs.declared.schedule.ScheduleStep.{ScheduleStep}
 use Rattle.pod_scheduler.specs.declared.schedule.ScheduleStep.TheVariants as steps
-use Rattle.pod_scheduler.specs.Decisions.{are_known, begun_with, binding, present, writes_for}
+use Rattle.pod_scheduler.specs.Decisions.{are_known, begun_with, binding, writes_for}
 use Rattle.pod_scheduler.specs.Schedules.{is_write, only_write, schedule_call, schedule_call_at, schedule_moved}
-use Rattle.pod_scheduler.proofs.Begun.{all_known}
-use Rattle.due_law.proofs.Claims.{none_among}
 use Rattle.worker_core.specs.declared.task.Task.TheVariants as tasks
 use Rattle.worker_core.specs.declared.task.Under.{Under}
 use Rattle.worker_core.specs.Tasks.{task_moved, under_after}
-use Rattle.schedule_law.specs.Writes.{AreWritesOn, IsApart, Places, Takes, placing}
-use Rattle.schedule_law.proofs.Choosing.{IsSearch, are_writes, search_of, written}
+use Rattle.schedule_law.specs.Writes.{AreWritesOn, Places, Takes, placing}
+use Rattle.schedule_law.proofs.Choosing.{IsSearch, TakesFirst, are_writes, is_assign, search_of, takes_first}
+use Rattle.schedule_law.proofs.Firsts.{begun_writes}
 use Rattle.tries_law.proofs.Leading.{goes_on}
 use Rattle.tries_law.proofs.Served.{AreProvisioned, all_provisioned}
 
@@ -53,14 +41,6 @@ pub record IsSearched (rows : List Object) (p : PodData) (last : Option (List �
   pub provisioned : AreProvisioned (others_of rows p) search.prepared.prepares.shares
   pub are : writes ≡ map (placing name) (others_of rows p)
 
--- the first write takes a volume
-pub record TakesFirst (rows : List Object) (writes : List Request) : Type 0 where
-  pub volume : VolumeData
-  pub claim : ClaimData
-  pub rest : List Request
-  pub are : writes ≡ write_reference volume claim ∷ rest
-  pub apart : IsApart rows volume claim
-
 -- the pod is bound to a node, since its claims are completed
 pub record BindsPod (rows : List Object) (p : PodData) (writes : List Request) : Type 0 where
   pub uid : Uid
@@ -73,10 +53,6 @@ pub data Chosen (rows : List Object) (p : PodData) (last : Option (List ℕ)) (w
   TakesVolumes : TakesFirst rows writes → Chosen rows p last writes
   Searches : IsSearched rows p last writes → Chosen rows p last writes
 
-abbrev is_assign : Choice → Bool
-is_assign (Assign name) = true
-is_assign choice = false
-
 module _ (rows : List Object) (p : PodData) (last : Option (List ℕ)) (name : List ℕ) where
   completed_at : (lacks done elsewhere under : Bool) → IsChoiceAt (if lacks then LacksClaim else if done then IsCompleted else if elsewhere then IsServedElsewhere else if under then IsUnderWay else IsSearching) rows (claims_of rows p) last (Assign name) → done ≡ true
   completed_at true done elsewhere under f = absurd (true≢false (ap is_assign f))
@@ -88,55 +64,13 @@ module _ (rows : List Object) (p : PodData) (last : Option (List ℕ)) (name : L
   assign_completed : IsChoice rows p last (Assign name) → are_completed rows p ≡ true
   assign_completed f = completed_at (lacks_claim rows p) (are_completed rows p) (list_any (is_served_elsewhere rows) (claims_of rows p)) (list_all (is_under_way rows) (claims_of rows p)) f
 
--- no volume carries a claim that needs one
-carried_by_none : (rows : List Object) (c : ClaimData) (v : VolumeData) → IsIn (Volume v) rows → has_carrier rows c ≡ false → carries v c ≡ false
-carried_by_none rows c v there none = by (carries v c) (none_among (carries_claim c) (Volume v ∷ []) rows only none)
-  where
-    only : (o : Object) → IsIn o (Volume v ∷ []) → carries_claim c o ≡ true → IsIn o rows
-    only o (inl is) e = subst (λ x. IsIn x rows) is there
-    only o (inr more) e = absurd more
-
-    by : (b : Bool) → (b || false) ≡ false → b ≡ false
-    by true e = e
-    by false e = e
-
--- what begins has these writes, and begins with the first
-begun_writes : (writes : List Request) (op : ScheduleOp) → Some op ≡ begun_with writes → op.writes ≡ writes
-begun_writes [] op e = none_some (sym e)
-begun_writes (w ∷ writes) op e = ap (λ (x : ScheduleOp). x.writes) (one op _ e)
-
 pub begun_first : (writes : List Request) (op : ScheduleOp) → Some op ≡ begun_with writes → op.step ≡ steps.Writes 0
 begun_first [] op e = none_some (sym e)
 begun_first (w ∷ writes) op e = ap (λ (x : ScheduleOp). x.step) (one op _ e)
 
 module _ (rows : List Object) (order : AreRows rows) (p : PodData) (known : are_known rows p ≡ true) (last : Option (List ℕ)) where
-  bind_is : (pair : Key × Key) (c : ClaimData) (v : VolumeData) → pair.0 ≡ key_of (Claim c) → pair.1 ≡ key_of (Volume v) → IsApart rows v c → bind_write rows pair ≡ Some (write_reference v c)
-  bind_is pair c v first second apart =
-      ap (λ x. reference_write x (as_volume (row_at pair.1 rows))) (ap claim_in (ap (λ k. row_at k rows) first ∙ apart.claim))
-      ∙ ap (λ x. reference_write (Some c) x) (ap as_volume (ap (λ k. row_at k rows) second ∙ apart.volume))
-
-  -- where a volume is taken, its reference is written first
-  takes_first : (name : List ℕ) (provisions : List Key) (pair : Key × Key) (more : List (Key × Key)) → IsSearch rows p last name (pair ∷ more) provisions → TakesFirst rows (writes_for rows p (Prepare name (pair ∷ more) provisions))
-  takes_first name provisions pair more search =
-      let shares = search.prepared.prepares.shares in
-      let b = bound_at rows search.prepared.node {P = IsSought rows} (others_in rows (claims_of rows p)) shares (set_aside rows) (others_sought rows p (all_known rows p known) search.here) search.prepared.prepares.serves.shared 0 pair (ap (λ bs. slice_get bs 0) (sym search.prepared.prepares.binds_are)) in
-      let there = row_at_place kinds.PersistentVolume b.place (Volume b.volume) rows order b.there in
-      let apart : IsApart rows b.volume b.claim = record {
-        volume = there;
-        claim = b.holds.stored;
-        known = b.holds.known;
-        uncarried = carried_by_none rows b.claim b.volume (found_stands (key_of (Volume b.volume)) (Volume b.volume) rows there) b.holds.uncarried;
-      } in
-      record {
-        volume = b.volume;
-        claim = b.claim;
-        rest = _;
-        are = written rows order p known last name (pair ∷ more) provisions ∙ ap (λ o. present (o ∷ (map (bind_write rows) more ++ map (node_write rows name) provisions))) (bind_is pair b.claim b.volume b.first b.second apart);
-        apart = apart;
-      }
-
   prepared : (name : List ℕ) (binds : List (Key × Key)) (provisions : List Key) → IsSearch rows p last name binds provisions → Chosen rows p last (writes_for rows p (Prepare name binds provisions))
-  prepared name (pair ∷ more) provisions search = TakesVolumes (takes_first name provisions pair more search)
+  prepared name (pair ∷ more) provisions search = TakesVolumes (takes_first rows order p known last name pair more provisions search)
   prepared name [] provisions search = by (are_writes rows order p known last name [] provisions search)
     where
       by : AreWritesOn rows p name (writes_for rows p (Prepare name [] provisions)) → Chosen rows p last (writes_for rows p (Prepare name [] provisions))

@@ -1,45 +1,37 @@
 -- Each entry of a slot that lasts is a call of what the actor decided in it.
 use Rattle.std.proofs.Common.{◌≡◌, ◌∙◌, ◌⊎◌, ℕ, ◌-◌, List, [], ◌∷◌, ◌++◌, append_assoc, Bool, true, false, true≢false, Option, Some, None, inl, inr, refl, sym, ap, subst}
 use Rattle.std.proofs.lemmas.List.{append_cancel_right}
-use Rattle.std.specs.Prelude.{is_some, ⊤}
+use Rattle.std.specs.Prelude.{⊤}
 use Rattle.kube_types.specs.declared.parts.Kind.{Kind}
-use Rattle.kube_types.specs.declared.objects.Object.{Object}
 use Rattle.call_types.specs.declared.entry.Entry.{Entry}
 use Rattle.call_types.specs.declared.reply.Reply.{Reply}
 use Rattle.call_types.specs.declared.request.Request.{Request}
-use Rattle.call_types.specs.declared.request.Request.TheVariants as requests
 use Rattle.call_types.specs.declared.request.SeatKind.{SeatKind}
-use Rattle.call_types.specs.declared.request.SeatKind.TheVariants as seats
 use Rattle.call_types.specs.declared.setup.Setup.{Setup}
 use Rattle.binder_model.specs.Promises.{IsRunOf}
 use Rattle.binder_model.specs.World.{IsHistory, effect, reply_to, world}
-use Rattle.informer_cache.specs.declared.cache.Ask.{Ask}
-use Rattle.informer_cache.specs.declared.cache.Ask.TheVariants as asks
-use Rattle.informer_cache.specs.All.{AllKnown, all_objects, cache_of}
-use Rattle.informer_cache.specs.Cache.{ask_of}
+use Rattle.informer_cache.specs.All.{all_objects}
 use Rattle.model_laws.proofs.Growing.{runs_are_histories}
 use Rattle.model_laws.proofs.Lists.{none_some, one}
 use Rattle.sync_queue.specs.Work.{Work}
 use Rattle.worker_core.specs.declared.role.Role.{Role}
 use Rattle.worker_core.specs.declared.task.Under.{Under}
-use Rattle.worker_core.specs.declared.turn.Given.{Given}
 use Rattle.worker_core.specs.declared.turn.Given.TheVariants as givens
 use Rattle.worker_core.specs.declared.turn.Next.TheVariants.{Call}
 use Rattle.worker_core.specs.declared.turn.Outcome.TheVariants.{Told}
-use Rattle.worker_core.specs.Absorbs.{absorbed, given_told, learned, woken}
-use Rattle.worker_core.specs.Memories.{Memory}
+use Rattle.worker_core.specs.Absorbs.{absorbed, woken}
 use Rattle.worker_core.specs.Roles.{IsBuiltKind}
-use Rattle.worker_core.specs.States.{ActorState, agent_start, call_in, read_of_kind, read_request, start_call, start_of}
-use Rattle.worker_core.specs.Tasks.{GivesCall, under_after}
-use Rattle.worker_core.specs.Turns.{AfterKeys, Begins, Decides, Drops, IsTurn, Nothing, TurnBy, passing, unlisted}
+use Rattle.worker_core.specs.States.{ActorState, call_in, read_of_kind, start_call}
+use Rattle.worker_core.specs.Tasks.{under_after}
+use Rattle.worker_core.specs.Turns.{AfterKeys, Decides, IsTurn, TurnBy, passing, unlisted}
 use Rattle.worker_threads.specs.Rounds.{Asks, IsHeld, IsIdle, IsReady, IsSpent, Runs, all_pass, told_entry}
 use Rattle.worker_threads.proofs.RunFacts.{still_role, turn_role}
 use Rattle.write_law.specs.Lasting.{Lasts}
 use Rattle.slot_law.specs.Slots.{IsDecisionPoint, KnowsBehind, own_entry}
 use Rattle.slot_law.specs.Would.{Here, Leads, On}
 use Rattle.slot_law.proofs.Knowing.{sees, told_knows}
-use Rattle.slot_law.proofs.Slots.{nothing_behind, run_older}
-use Rattle.paid_law.proofs.Calls.{list_never, mounts_never, take_never, watch_never}
+use Rattle.slot_law.proofs.Slots.{decides_gives, none_told, nothing_behind, run_older, told_under}
+use Rattle.paid_law.proofs.Slots.{read_never, start_never}
 use Rattle.tries_law.specs.Coming.{IsCallOf, IsDecidedIn, LastingAreDecided}
 
 -- what leads on leads on by one call more
@@ -47,37 +39,9 @@ pub leads_on : (setup : Setup) (seat : ℕ) (kind : SeatKind) {h g : List Entry}
 leads_on setup seat kind next Here follows = On next follows Here
 leads_on setup seat kind next (On n goes more) follows = On n goes (leads_on setup seat kind next more follows)
 
--- what was decided gives a call
-pub decides_gives : (role : Role) (memory : Memory) (rows : List Object) (after : Work) (under : Option Under) (u : Under) (w : Work) → Decides role memory rows after under w → under ≡ Some u → GivesCall role memory rows u
-decides_gives role memory rows after under u w (Nothing empty same none) e = none_some (sym none ∙ e)
-decides_gives role memory rows after under u w (Begins v old gives same some) e = subst (GivesCall role memory rows) (one v u (sym some ∙ e)) gives
-decides_gives role memory rows after under u w (Drops k first old none rest) e = decides_gives role memory rows after under u _ rest e
-
 -- a call never lasts
 abbrev NeverLasts : Setup → List Entry → Request → Type 0
 NeverLasts setup h request = (kind : SeatKind) → Lasts setup (world setup h) kind request → ⊥
-
-module _ (setup : Setup) (h : List Entry) where
-  read_never : (caches : AllKnown) (k : Kind) → NeverLasts setup h (read_of_kind caches k)
-  read_never caches k kind = by (ask_of (cache_of k caches))
-    where
-      by : (a : Ask) → Lasts setup (world setup h) kind (read_request k a) → ⊥
-      by asks.List = list_never setup (world setup h) kind k None
-      by (asks.Watch from) = watch_never setup (world setup h) kind k from
-
-  start_never : (start : SeatKind) (node : List ℕ) (m : Memory) (request : Request) → start_of start node m ≡ Some request → NeverLasts setup h request
-  start_never seats.Agent node m request is kind = by m.epoch (is_some m.mounts) is
-    where
-      by : (epoch : Option ℕ) (told : Bool) → agent_start node epoch told ≡ Some request → Lasts setup (world setup h) kind request → ⊥
-      by None told e = subst (λ r. Lasts setup (world setup h) kind r → ⊥) (one (requests.TakeNode node) request e) (take_never setup (world setup h) kind node)
-      by (Some epoch) false e = subst (λ r. Lasts setup (world setup h) kind r → ⊥) (one (requests.Mounts node epoch) request e) (mounts_never setup (world setup h) kind node epoch)
-      by (Some epoch) true e = none_some e
-  start_never seats.User node m request is kind = none_some is
-  start_never seats.Binder node m request is kind = none_some is
-  start_never seats.Ops node m request is kind = none_some is
-  start_never seats.Scheduler node m request is kind = none_some is
-  start_never seats.ClaimProtect node m request is kind = none_some is
-  start_never seats.VolumeProtect node m request is kind = none_some is
 
 module _ (setup : Setup) (seat : ℕ) (role : Role) (built : IsBuiltKind role.kind) (start : List Entry) where
   abbrev Under_ : List Entry → ActorState → Type 0
@@ -95,7 +59,7 @@ module _ (setup : Setup) (seat : ℕ) (role : Role) (built : IsBuiltKind role.ki
       asked x e = one request x (ap call_in e)
 
       reads_so : (k : Kind) → given.under ≡ None → Call request ≡ Call (read_of_kind s.caches k) → CallsSo h given request
-      reads_so k none e = Reads none (subst (NeverLasts setup h) (sym (asked (read_of_kind s.caches k) e)) (read_never setup h s.caches k))
+      reads_so k none e = Reads none (subst (NeverLasts setup h) (sym (asked (read_of_kind s.caches k) e)) (read_never setup (world setup h) s.caches k))
 
       point : passing s ≡ None → IsDecisionPoint setup seat role h s h
       point over = record { role_is = is; history = history; alike = record { rows = refl; stored = refl; mounts = refl }; ready = ready; sees = sees setup seat s h history ready.stands.told knows over }
@@ -110,7 +74,7 @@ module _ (setup : Setup) (seat : ℕ) (role : Role) (built : IsBuiltKind role.ki
       by : (stale : Bool) (under : Option Under) (begin : Option Request) (l p : Option Kind) → s.under ≡ under → start_call s.role s.memory ≡ begin → passing s ≡ p → TurnBy s given (Call request) stale under begin l p → CallsSo h given request
       by true under begin l p eu est ep t = none_some (sym (ap call_in t.idle))
       by false (Some u) begin l p eu est ep t = OfUnder u (ap (λ (x : ActorState). x.under) t.state ∙ eu) (ap (λ (x : ActorState). x.given) t.state) (asked u.call t.call) (under_way u eu)
-      by false None (Some r) l p eu est ep t = Reads (ap (λ (x : ActorState). x.under) t.state ∙ eu) (subst (NeverLasts setup h) (sym (asked r t.call)) (start_never setup h s.role.kind s.role.node s.memory r est))
+      by false None (Some r) l p eu est ep t = Reads (ap (λ (x : ActorState). x.under) t.state ∙ eu) (subst (NeverLasts setup h) (sym (asked r t.call)) (start_never setup (world setup h) s.role.kind s.role.node s.memory r est))
       by false None None (Some k) p eu est ep t = reads_so k (ap (λ (x : ActorState). x.under) t.state ∙ eu) t.call
       by false None None None (Some k) eu est ep t = reads_so k (ap (λ (x : ActorState). x.under) t.state ∙ eu) t.call
       by false None None None None eu est ep t = keys t.work t.under eu ep t.decides t.then_
@@ -129,24 +93,12 @@ module _ (setup : Setup) (seat : ℕ) (role : Role) (built : IsBuiltKind role.ki
     comes (OfUnder u under task asked decided) = inr (record { under = u; decided = decided; is = entry_is u asked })
     comes (Reads none never) = inl (never given.role.kind)
 
-    told_under : (u : Under) (caches : AllKnown) (g : Option Given) (x : Option Under) → g ≡ Some givens.Task → x ≡ Some u → (given_told (record (learned given caches request reply) { under = x }) request reply g).under ≡ under_after u reply
-    told_under u caches g x eg ex = rw (eg, ex) refl
-
-    none_told : (caches : AllKnown) (g : Option Given) (x : Option Under) → x ≡ None → (given_told (record (learned given caches request reply) { under = x }) request reply g).under ≡ None
-    none_told caches g x ex = rw ex (by g)
-      where
-        by : (y : Option Given) → (given_told (record (learned given caches request reply) { under = None }) request reply y).under ≡ None
-        by None = refl
-        by (Some givens.Start) = refl
-        by (Some givens.Task) = refl
-        by (Some (givens.Read k)) = refl
-
     next_under : CallsSo h given request → Under_ (told_entry seat given request reply ∷ h) next
     next_under (OfUnder u under task asked d) n e =
-        let follows : under_after u (reply_to (effect setup (world setup h) role.kind u.call)) ≡ Some n = ap (λ (x : Entry). under_after u x.reply) (entry_is u asked) ∙ (sym (told_under u next.caches given.given given.under task under) ∙ (sym (ap (λ (x : ActorState). x.under) absorbs) ∙ e)) in
+        let follows : under_after u (reply_to (effect setup (world setup h) role.kind u.call)) ≡ Some n = ap (λ (x : Entry). under_after u x.reply) (entry_is u asked) ∙ (sym (told_under given request reply u next.caches given.given given.under task under) ∙ (sym (ap (λ (x : ActorState). x.under) absorbs) ∙ e)) in
         subst (λ x. IsDecidedIn setup seat role start (x ∷ h) n) (entry_is u asked)
         (record { state = d.state; point = d.point; older = d.older; behind = d.behind; sees = d.sees; first = d.first; gives = d.gives; leads = leads_on setup seat role.kind n d.leads follows })
-    next_under (Reads none never) n e = none_some (sym (none_told next.caches given.given given.under none) ∙ (sym (ap (λ (x : ActorState). x.under) absorbs) ∙ e))
+    next_under (Reads none never) n e = none_some (sym (none_told given request reply next.caches given.given given.under none) ∙ (sym (ap (λ (x : ActorState). x.under) absorbs) ∙ e))
 
   -- ---- all of them
 

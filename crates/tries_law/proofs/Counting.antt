@@ -14,10 +14,11 @@ use Rattle.call_types.specs.declared.setup.Setup.{Setup}
 use Rattle.binder_model.specs.Choice.{others_of}
 use Rattle.binder_model.specs.Due.{shares_are_served}
 use Rattle.binder_model.specs.World.{World}
-use Rattle.model_laws.proofs.Lists.{IsIn, none_some, one, some_left, some_right}
+use Rattle.model_laws.proofs.Lists.{IsIn, none_some, one}
 use Rattle.settle_measure.specs.Tries.{IsOn, ServesNot, Tries, in_turn, is_after}
 use Rattle.worker_core.specs.declared.role.Role.{Role}
 use Rattle.worker_threads.specs.Drainers.{agent_of, of_kind, roles_for}
+use Rattle.settle_law.proofs.Rounds.{is_agent}
 use Rattle.std.proofs.lemmas.Bool.Decides.{nat_tests}
 
 -- ---- a number is at most another where it cannot fail to be
@@ -51,24 +52,6 @@ module _ (setup : Setup) (w : World) (p : PodData) where
   one_tried (m ∷ ns) n k (inr i) on (inl none) = one_tried ns n k i on none.1
   one_tried (m ∷ ns) n k i on (inr (inl given)) = let e = given.1 in omega (arith, e)
   one_tried (m ∷ ns) n k i on (inr (inr failed)) = let e = failed.1.1.0 in omega (arith, e)
-
-in_passing : (p : NodeData → Bool) (m : NodeData) (ns : List NodeData) → IsIn m ns → p m ≡ true → IsIn m (filter p ns)
-in_passing p m [] i e = absurd i
-in_passing p m (x ∷ xs) (inl is) e = let h : p x ≡ true = ap p is ∙ e in rw h (inl is)
-in_passing p m (x ∷ xs) (inr more) e = by (p x) (in_passing p m xs more e)
-  where
-    by : (b : Bool) → IsIn m (filter p xs) → IsIn m (cond b (x ∷ filter p xs) (filter p xs))
-    by true i = inr i
-    by false i = i
-
--- a node comes in its turn
-pub all_in_turn : (refused : Option (List ℕ)) (m : NodeData) (ns : List NodeData) → IsIn m ns → IsIn m (in_turn refused ns)
-all_in_turn None m ns i = i
-all_in_turn (Some r) m ns i = by (is_after r m) refl
-  where
-    by : (b : Bool) → is_after r m ≡ b → IsIn m (in_turn (Some r) ns)
-    by true e = some_left (λ y. y ≡ m) (filter (is_after r) ns) (filter (λ x. not (is_after r x)) ns) (in_passing (is_after r) m ns i e)
-    by false e = some_right (λ y. y ≡ m) (filter (is_after r) ns) (filter (λ x. not (is_after r x)) ns) (in_passing (λ x. not (is_after r x)) m ns i (ap not e))
 
 -- the turn has each node once
 pub turn_length : (refused : Option (List ℕ)) (ns : List NodeData) → length (in_turn refused ns) ≡ length ns
@@ -130,10 +113,6 @@ few_nodes (n ∷ ns) names rises each =
     omega (arith, few, fewer)
 
 -- the agents of a drain
-
-abbrev is_agent : SeatKind → Bool
-is_agent seats.Agent = true
-is_agent kind = false
 
 abbrev node_or : List ℕ → Role → List ℕ
 node_or name role = role.node

@@ -1,10 +1,9 @@
 -- A slot decides each cached key, whatever is written in it before.
-use Rattle.std.proofs.Common.{◌≡◌, ◌∙◌, ℕ, ◌-◌, List, [], ◌∷◌, ◌++◌, append_assoc, Bool, true, false, true≢false, Option, Some, None, inl, inr, refl, sym, ap, subst}
+use Rattle.std.proofs.Common.{◌≡◌, ◌∙◌, ℕ, ◌-◌, List, [], ◌∷◌, ◌++◌, append_assoc, Bool, true, false, true≢false, Some, None, inl, inr, refl, sym, ap, subst}
 use Rattle.std.specs.List.{list_any}
 use Rattle.kube_types.specs.declared.key.Key.{Key}
-use Rattle.kube_types.specs.declared.parts.Kind.{Kind}
+use Rattle.kube_types.specs.Keys.{row_at, same_key}
 use Rattle.kube_types.specs.declared.objects.Object.{Object}
-use Rattle.kube_types.specs.Keys.{same_key}
 use Rattle.call_types.specs.declared.entry.Entry.{Entry}
 use Rattle.call_types.specs.declared.reply.Reply.{Reply}
 use Rattle.call_types.specs.declared.request.Request.{Request}
@@ -12,24 +11,20 @@ use Rattle.call_types.specs.declared.request.SeatKind.{SeatKind}
 use Rattle.call_types.specs.declared.setup.Setup.{Setup}
 use Rattle.binder_model.specs.Told.{own}
 use Rattle.binder_model.specs.World.{IsHistory, effect, reply_to, world}
-use Rattle.informer_cache.specs.All.{all_objects}
+use Rattle.binder_model.specs.Reading.{follows}
 use Rattle.model_laws.proofs.Lists.{none_some, one}
-use Rattle.sync_queue.specs.Work.{Taken, Work, mark_of, oldest_of}
+use Rattle.sync_queue.specs.Work.{Taken, mark_of, oldest_of}
+use Rattle.informer_cache.specs.All.{all_objects}
 use Rattle.worker_core.specs.declared.role.Role.{Role}
-use Rattle.worker_core.specs.declared.task.First.{First}
 use Rattle.worker_core.specs.declared.task.Under.{Under}
-use Rattle.worker_core.specs.declared.turn.Given.{Given}
 use Rattle.worker_core.specs.declared.turn.Given.TheVariants as givens
-use Rattle.worker_core.specs.declared.turn.Next.{Next}
 use Rattle.worker_core.specs.declared.turn.Next.TheVariants.{Call, Idle}
 use Rattle.worker_core.specs.declared.turn.Outcome.TheVariants.{Lost, Told}
-use Rattle.worker_core.specs.Absorbs.{absorbed, given_told, learned, woken}
-use Rattle.worker_core.specs.Memories.{Memory}
+use Rattle.worker_core.specs.Absorbs.{absorbed, woken}
 use Rattle.worker_core.specs.Roles.{IsBuiltKind}
-use Rattle.worker_core.specs.States.{ActorState, call_in, start_call, waits}
-use Rattle.worker_core.specs.Tasks.{GivesCall, GivesNone, under_after}
-use Rattle.worker_core.specs.Turns.{AfterKeys, Begins, Decides, Drops, IsTurn, Nothing, TurnBy, passing, unlisted}
-use Rattle.worker_core.proofs.KeyMoves.{begun_waits, dropped_waits}
+use Rattle.worker_core.specs.States.{ActorState, call_in, waits}
+use Rattle.worker_core.specs.Tasks.{under_after}
+use Rattle.worker_core.specs.Turns.{passing}
 use Rattle.worker_core.proofs.KeysKept.{answers_keep_keys}
 use Rattle.attention_law.proofs.Turned.{answer_role, calls_fresh, idle_rests}
 use Rattle.worker_threads.specs.Rounds.{Asks, IsHeld, IsIdle, IsReady, IsSpent, Lets, Runs, told_entry}
@@ -37,89 +32,17 @@ use Rattle.worker_threads.proofs.RunFacts.{run_grows, turn_memory, turn_role}
 use Rattle.slot_law.specs.Slots.{ActsOn, IsDecisionPoint, KnowsBehind, Now, Then, WillLast, own_entry}
 use Rattle.slot_law.specs.Would.{Here, Leads, On}
 use Rattle.slot_law.proofs.Knowing.{lost_knows, sees, told_knows, turned_knows}
-use Rattle.slot_law.proofs.Slots.{nothing_behind, older, run_older}
+use Rattle.slot_law.proofs.Slots.{ByCall, ByNone, StopsBy, asks_under, nothing_behind, older, run_older, stops_by, told_under, will_pass}
 use Rattle.wake_law.specs.Wakes.{ComesAgain}
 use Rattle.wake_law.proofs.Wakes.{come_by}
+use Rattle.wake_law.proofs.Decided.{ready_at}
 use Rattle.attention_law.specs.Queues.{key_in, under_keys}
 use Rattle.std.specs.Prelude.{map}
 use Rattle.tries_law.specs.Deciding.{CachedAreDecided, IsActedOn, IsWithin, Reaches}
 
 -- ---- a key that stops waiting in a turn
 
-pub data Stopped (role : Role) (memory : Memory) (rows : List Object) (under : Option Under) (key : Key) : Type 0 where
-  Called : (u : Under) → under ≡ Some u → u.key ≡ key → GivesCall role memory rows u → Stopped role memory rows under key
-  NotCalled : (first : First) → GivesNone role memory rows key first → Stopped role memory rows under key
-
-module _ (role : Role) (memory : Memory) (rows : List Object) (after : Work) (under : Option Under) (key : Key) where
-  pub decides_stops : (w : Work) → Decides role memory rows after under w → waits key w ≡ true → waits key after ≡ false → Stopped role memory rows under key
-  decides_stops w (Nothing empty same none) e f = absurd (true≢false (sym e ∙ sym (ap (waits key) same) ∙ f))
-  decides_stops w (Begins u old gives same some) e f = elim (begun_waits u.key key w old e) [
-    | inl own ↦ Called u some own gives
-    | inr more ↦ absurd (true≢false (sym more ∙ sym (ap (waits key) same) ∙ f))
-  ]
-  decides_stops w (Drops k first old none rest) e f = elim (dropped_waits first k key w old e) [
-    | inl own ↦ NotCalled first (subst (λ j. GivesNone role memory rows j first) own none)
-    | inr more ↦ decides_stops _ rest more f
-  ]
-
-pub data StopsBy (s new : ActorState) (answer : Next) (key : Key) : Type 0 where
-  ByCall : (u : Under) → passing s ≡ None → new.under ≡ Some u → new.given ≡ Some givens.Task → answer ≡ Call u.call → u.key ≡ key → GivesCall s.role s.memory (all_objects s.caches) u → StopsBy s new answer key
-  ByNone : (first : First) → passing s ≡ None → GivesNone s.role s.memory (all_objects s.caches) key first → StopsBy s new answer key
-
-pub stops_by : (s new : ActorState) (answer : Next) (key : Key) → IsTurn s new answer → waits key s.work ≡ true → waits key new.work ≡ false → StopsBy s new answer key
-stops_by s new answer key turn waiting stopped = by s.memory.stale s.under (start_call s.role s.memory) (unlisted s) (passing s) refl turn
-  where
-    no_change : {G : Type 0} → new.work ≡ s.work → G
-    no_change same = absurd (true≢false (sym waiting ∙ (ap (waits key) (sym same) ∙ stopped)))
-
-    keys : (w : Work) (under : Option Under) → passing s ≡ None → Decides s.role s.memory (all_objects s.caches) w under s.work → AfterKeys s new answer w under → StopsBy s new answer key
-    keys w (Some u) over d b = found (decides_stops s.role s.memory (all_objects s.caches) w (Some u) key s.work d waiting (sym (ap (λ (x : ActorState). waits key x.work) b.state) ∙ stopped))
-      where
-        found : Stopped s.role s.memory (all_objects s.caches) (Some u) key → StopsBy s new answer key
-        found (Called v same own gives) =
-            let is : u ≡ v = one u v same in
-            ByCall v over (ap (λ (x : ActorState). x.under) b.state ∙ ap Some is) (ap (λ (x : ActorState). x.given) b.state) (b.call ∙ ap (λ (x : Under). Call x.call) is) own gives
-        found (NotCalled first none) = ByNone first over none
-    keys w None over d (inl b) = found (decides_stops s.role s.memory (all_objects s.caches) w None key s.work d waiting (sym (ap (λ (x : ActorState). waits key x.work) b.state) ∙ stopped))
-      where
-        found : Stopped s.role s.memory (all_objects s.caches) None key → StopsBy s new answer key
-        found (Called v same own gives) = none_some same
-        found (NotCalled first none) = ByNone first over none
-    keys w None over d (inr b) = found (decides_stops s.role s.memory (all_objects s.caches) w None key s.work d waiting (sym (ap (λ (x : ActorState). waits key x.work) b.state) ∙ stopped))
-      where
-        found : Stopped s.role s.memory (all_objects s.caches) None key → StopsBy s new answer key
-        found (Called v same own gives) = none_some same
-        found (NotCalled first none) = ByNone first over none
-
-    by : (stale : Bool) (u : Option Under) (start : Option Request) (l p : Option Kind) → passing s ≡ p → TurnBy s new answer stale u start l p → StopsBy s new answer key
-    by true u start l p over t = no_change (ap (λ (x : ActorState). x.work) t.state)
-    by false (Some u) start l p over t = no_change (ap (λ (x : ActorState). x.work) t.state)
-    by false None (Some request) l p over t = no_change (ap (λ (x : ActorState). x.work) t.state)
-    by false None None (Some kind) p over t = no_change (ap (λ (x : ActorState). x.work) t.state)
-    by false None None None (Some kind) over t = no_change (ap (λ (x : ActorState). x.work) t.state)
-    by false None None None None over t = keys t.work t.under over t.decides t.then_
-
--- what is under way is asked next
-pub record AsksUnder (s new : ActorState) (answer : Next) (u : Under) : Type 0 where
-  pub under : new.under ≡ Some u
-  pub given : new.given ≡ Some givens.Task
-  pub call : answer ≡ Call u.call
-
-pub asks_under : (s new : ActorState) (answer : Next) (u : Under) → IsTurn s new answer → s.memory.stale ≡ false → s.under ≡ Some u → AsksUnder s new answer u
-asks_under s new answer u turn awake under = by s.memory.stale s.under refl refl turn
-  where
-    by : (stale : Bool) (x : Option Under) → s.memory.stale ≡ stale → s.under ≡ x → TurnBy s new answer stale x (start_call s.role s.memory) (unlisted s) (passing s) → AsksUnder s new answer u
-    by true x es ex t = absurd (true≢false (sym es ∙ awake))
-    by false None es ex t = none_some (sym ex ∙ under)
-    by false (Some v) es ex t =
-        let is : v ≡ u = one v u (sym ex ∙ under) in
-        record { under = ap (λ (x : ActorState). x.under) t.state ∙ under; given = ap (λ (x : ActorState). x.given) t.state; call = t.call ∙ ap (λ (x : Under). Call x.call) is }
-
 -- ---- what is under way and will make a call that lasts makes it
-
-lets_call : (setup : Setup) (lets : Lets) (seat : ℕ) (kind : SeatKind) (h : List Entry) (u : Under) → WillLast setup lets seat kind h u → lets h u.call ≡ true
-lets_call setup lets seat kind h u (Now passes lasts) = passes
-lets_call setup lets seat kind h u (Then passes n follows more) = passes
 
 module _ (setup : Setup) (lets : Lets) (seat : ℕ) (kind : SeatKind) (after : ActorState) (past : List Entry) (left : ℕ) (history : IsHistory setup past) (fresh : after.memory.stale ≡ false) where
   abbrev Rest : ActorState → List Entry → Type 0
@@ -141,11 +64,8 @@ module _ (setup : Setup) (lets : Lets) (seat : ℕ) (kind : SeatKind) (after : A
       next_kind : next.role.kind ≡ kind
       next_kind = ap (λ (x : ActorState). x.role.kind) absorbs ∙ (ap (λ (r : Role). r.kind) (answer_role given next.caches request (Told reply)) ∙ of_kind)
 
-      told_under : (g : Option Given) (x : Option Under) → g ≡ Some givens.Task → x ≡ Some u → (given_told (record (learned given next.caches request reply) { under = x }) request reply g).under ≡ under_after u reply
-      told_under g x eg ex = rw (eg, ex) refl
-
       next_under : (n : Under) → under_after u (reply_to (effect setup (world setup h) kind u.call)) ≡ Some n → next.under ≡ Some n
-      next_under n follows = ap (λ (x : ActorState). x.under) absorbs ∙ (told_under given.given given.under task under ∙ (ap (under_after u) said ∙ follows))
+      next_under n follows = ap (λ (x : ActorState). x.under) absorbs ∙ (told_under given request reply u next.caches given.given given.under task under ∙ (ap (under_after u) said ∙ follows))
 
       by : WillLast setup lets seat kind h u → Reaches setup seat kind past h u
       by (Now passes lasts) = record { at = h; last = u; newer = newer; leads = Here; lasts = lasts; are = are ∙ ap (λ e. newer ++ (e ∷ h)) (sym entry) }
@@ -165,7 +85,7 @@ module _ (setup : Setup) (lets : Lets) (seat : ℕ) (kind : SeatKind) (after : A
       reach_asked given next request reply h g.longer.added u kind_is g.longer.are a.under a.given (one request u.call (ap call_in a.call)) absorbs will (λ n k e w. reach next (told_entry seat given request reply ∷ h) (b - 1) more n k e w)
   reach s h b (IsHeld given next request some ready turn held absorbs more) u of_kind under will =
       let a = asks_under s given (Call request) u turn (calls_fresh s given request turn) under in
-      absurd (true≢false (sym (lets_call setup lets seat kind h u will) ∙ (ap (lets h) (sym (one request u.call (ap call_in a.call))) ∙ held)))
+      absurd (true≢false (sym (will_pass setup lets seat kind h u will) ∙ (ap (lets h) (sym (one request u.call (ap call_in a.call))) ∙ held)))
 
 -- ---- a key that waits is decided
 
@@ -256,7 +176,7 @@ module _ (setup : Setup) (lets : Lets) (seat : ℕ) (role : Role) (key : Key) (b
       held_so (ByCall u over under task call own gives) =
           let p = point s h is before ready knows over in
           let asked : request ≡ u.call = one request u.call (ap call_in call) in
-          absurd (true≢false (sym (lets_call setup lets seat role.kind h u ((acts h at_h).lasts s h u p own gives)) ∙ (ap (lets h) (sym asked) ∙ held)))
+          absurd (true≢false (sym (will_pass setup lets seat role.kind h u ((acts h at_h).lasts s h u p own gives)) ∙ (ap (lets h) (sym asked) ∙ held)))
       held_so (ByNone first over none) = absurd ((acts h at_h).acts s h first (point s h is before ready knows over) none)
 
       by : (b : Bool) → waits key given.work ≡ b → (next.role ≡ role → KnowsBehind setup seat next.role next.pass h → waits key next.work ≡ true → IsActedOn setup seat role key h past) → IsActedOn setup seat role key h past
@@ -265,16 +185,9 @@ module _ (setup : Setup) (lets : Lets) (seat : ℕ) (role : Role) (key : Key) (b
           (subst (λ w. waits key w ≡ true) (sym (ap (λ (x : ActorState). x.work) absorbs)) ((answers_keep_keys given next.caches request Lost).stays key still))
       by false stopped rest = held_so (stops_by s given (Call request) key turn waiting stopped)
 
--- the actor stands when the slot begins
-pub ready_at : (lets : Lets) (seat : ℕ) (s after : ActorState) (h past : List Entry) (b left : ℕ) → Runs lets seat after past left true s h b → IsReady seat s h
-ready_at lets seat s after h past b left (IsSpent none state entries rest busy) = absurd (true≢false busy)
-ready_at lets seat s after h past b left (IsIdle some ready turn entries rest calm) = ready
-ready_at lets seat s after h past b left (Asks given next request reply some ready turn passes absorbs more) = ready
-ready_at lets seat s after h past b left (IsHeld given next request some ready turn held absorbs more) = ready
-
-pub cached_are_decided : CachedAreDecided
-cached_are_decided setup lets seat key o old after h past b left built history idle followed cached run awake acts =
-    acted setup lets seat old.role key built after past left history awake (woken old) h b run refl (nothing_behind setup seat old h) acts (by (come_by old (own seat h) key o ready.stands.told.caches followed cached))
+-- a key that the actor had cached waits once it is woken
+pub cached_waits : (lets : Lets) (seat : ℕ) (key : Key) (o : Object) (old after : ActorState) (h past : List Entry) (b left : ℕ) → old.under ≡ None → follows old.role.kind key.kind ≡ true → row_at key (all_objects old.caches) ≡ Some o → Runs lets seat after past left true (woken old) h b → waits key (woken old).work ≡ true
+cached_waits lets seat key o old after h past b left idle followed cached run = by (come_by old (own seat h) key o ready.stands.told.caches followed cached)
   where
     ready : IsReady seat (woken old) h
     ready = ready_at lets seat (woken old) after h past b left run
@@ -286,3 +199,7 @@ cached_are_decided setup lets seat key o old after h past b left built history i
     by : ComesAgain key (woken old).work → waits key (woken old).work ≡ true
     by (inl waiting) = waiting
     by (inr marked) = none_taken (woken old).work.taken (ready.stands.queue.taken ∙ ap under_keys idle) marked
+
+pub cached_are_decided : CachedAreDecided
+cached_are_decided setup lets seat key o old after h past b left built history idle followed cached run awake acts =
+    acted setup lets seat old.role key built after past left history awake (woken old) h b run refl (nothing_behind setup seat old h) acts (cached_waits lets seat key o old after h past b left idle followed cached run)

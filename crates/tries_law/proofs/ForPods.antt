@@ -1,63 +1,23 @@
 -- What a scheduler has under way is one of the writes of its choice for a pod that no node runs.
-use Rattle.std.proofs.Common.{◌≡◌, ◌∙◌, ℕ, List, ◌∷◌, [], Bool, true, false, Option, Some, None, refl, sym, ap, if◌then◌else◌}
-use Rattle.std.specs.Prelude.{slice_get}
+use Rattle.std.proofs.Common.{◌≡◌, ◌∙◌, Bool, true, false, Option, Some, None, refl, sym, ap}
 use Rattle.kube_types.specs.declared.objects.Object.{Object}
 use Rattle.kube_types.specs.declared.objects.Object.TheVariants.{Class, Node, Volume, Claim, Pod}
 use Rattle.kube_types.specs.declared.objects.Pod.{Pod as PodData}
 use Rattle.kube_types.specs.Bindings.{is_scheduled}
 use Rattle.kube_types.specs.Keys.{row_at}
-use Rattle.call_types.specs.declared.reply.Reply.{Reply}
-use Rattle.call_types.specs.declared.request.Request.{Request}
 use Rattle.binder_model.specs.World.{world}
-use Rattle.model_laws.proofs.Lists.{none_some, one}
+use Rattle.model_laws.proofs.Lists.{none_some}
 use Rattle.pod_scheduler.specs.declared.schedule.ScheduleOp.{ScheduleOp}
-use Rattle.pod_scheduler.specs.declared.schedule.ScheduleStep.{ScheduleStep}
-use Rattle.pod_scheduler.specs.declared.schedule.ScheduleStep.TheVariants as steps
-use Rattle.pod_scheduler.specs.Decisions.{BeginsFor, BeginsIf, BeginsOn, begun_with, writes_for}
-use Rattle.pod_scheduler.specs.Schedules.{is_write, only_write, schedule_call, schedule_call_at, schedule_moved}
+use Rattle.pod_scheduler.specs.Decisions.{BeginsFor, BeginsIf, BeginsOn, writes_for}
 use Rattle.worker_core.specs.declared.task.First.TheVariants as firsts
 use Rattle.worker_core.specs.declared.task.Task.{Task}
 use Rattle.worker_core.specs.declared.task.Task.TheVariants as tasks
-use Rattle.worker_core.specs.declared.task.Under.{Under}
-use Rattle.worker_core.specs.Tasks.{IsPodFirst, task_call, task_moved, under_after}
+use Rattle.worker_core.specs.Tasks.{IsPodFirst, task_call}
+use Rattle.schedule_law.proofs.Firsts.{begun_writes}
 use Rattle.tries_law.specs.Coming.{DecidedAreForPods, IsForPod}
 use Rattle.tries_law.proofs.Assigning.{on_rows}
-use Rattle.tries_law.proofs.Leading.{goes_on, leads_keep}
-
--- the writes of what is under way
-record Schedules (writes : List Request) (u : Under) : Type 0 where
-  op : ScheduleOp
-  task : u.task ≡ tasks.Schedule op
-  are : op.writes ≡ writes
-  call : schedule_call op ≡ Some u.call
-
-schedules_on : (writes : List Request) (u next : Under) (reply : Reply) → under_after u reply ≡ Some next → Schedules writes u → Schedules writes next
-unfolding schedule_moved
-schedules_on writes u next reply follows p =
-    let g = goes_on u next reply (tasks.Schedule (schedule_moved p.op reply)) (ap (λ t. task_moved t reply) p.task) follows in
-    record { op = schedule_moved p.op reply; task = g.task_is; are = p.are; call = g.call }
-
--- the call is one of them
-among_writes : (writes : List Request) (u : Under) → Schedules writes u → (place : ℕ) × (slice_get writes place ≡ Some u.call)
-unfolding schedule_call
-among_writes writes u p = by p.op.step p.call
-  where
-    tested : (place : ℕ) (r : Request) (b : Bool) → slice_get p.op.writes place ≡ Some r → (if b then Some r else None) ≡ Some u.call → (place_ : ℕ) × (slice_get writes place_ ≡ Some u.call)
-    tested place r true at e = (place, ap (λ rs. slice_get rs place) (sym p.are) ∙ (at ∙ e))
-    tested place r false at e = none_some e
-
-    written : (place : ℕ) (x : Option Request) → slice_get p.op.writes place ≡ x → only_write x ≡ Some u.call → (place_ : ℕ) × (slice_get writes place_ ≡ Some u.call)
-    written place None at e = none_some e
-    written place (Some r) at e = tested place r (is_write r) at e
-
-    by : (step : ScheduleStep) → schedule_call_at p.op.writes step ≡ Some u.call → (place : ℕ) × (slice_get writes place ≡ Some u.call)
-    by (steps.Writes place) e = written place (slice_get p.op.writes place) refl e
-    by steps.Done e = none_some e
-    by steps.Parked e = none_some e
-
-writes_are : (op : ScheduleOp) (writes : List Request) → Some op ≡ begun_with writes → op.writes ≡ writes
-writes_are op [] e = none_some (sym e)
-writes_are op (w ∷ writes) e = ap (λ (o : ScheduleOp). o.writes) (one op _ e)
+use Rattle.tries_law.proofs.Leading.{leads_keep}
+use Rattle.tries_law.proofs.Choosing.{Schedules, among_writes, schedules_on}
 
 pub decided_are_for_pods : DecidedAreForPods
 decided_are_for_pods setup seat role h g u kind i = by_task i.first.task refl rows_say
@@ -71,7 +31,7 @@ decided_are_for_pods setup seat role h g u kind i = by_task i.first.task refl ro
         let first : Schedules (writes_for (world setup i.point).store.rows p b.choice) i.first = record {
           op = op;
           task = task;
-          are = writes_are op (writes_for (world setup i.point).store.rows p b.choice) b.begins;
+          are = begun_writes (writes_for (world setup i.point).store.rows p b.choice) op b.begins;
           call = sym (ap task_call task) ∙ i.gives.call;
         } in
         let a = among_writes (writes_for (world setup i.point).store.rows p b.choice) u (leads_keep setup seat role.kind (Schedules (writes_for (world setup i.point).store.rows p b.choice)) (schedules_on (writes_for (world setup i.point).store.rows p b.choice)) i.leads first) in

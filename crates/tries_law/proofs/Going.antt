@@ -19,7 +19,6 @@ use Rattle.kube_types.proofs.KeyOrder.{row_at_key}
 use Rattle.call_types.specs.declared.entry.Entry.{Entry}
 use Rattle.call_types.specs.declared.request.Request.{Request}
 use Rattle.call_types.specs.declared.request.Request.TheVariants.{Update}
-use Rattle.call_types.specs.declared.request.SeatKind.{SeatKind}
 use Rattle.call_types.specs.declared.request.SeatKind.TheVariants as seats
 use Rattle.call_types.specs.declared.reply.Reply.{Reply}
 use Rattle.call_types.specs.declared.reply.Reply.TheVariants.{Done}
@@ -64,8 +63,9 @@ use Rattle.std.proofs.lemmas.Slice.Eq.{bytes_eq-Decides}
 use Rattle.write_law.specs.Lasting.{content_of}
 use Rattle.near_law.specs.Near.{AreNear}
 use Rattle.near_law.proofs.Annotations.{completed_rest}
-use Rattle.near_law.proofs.Near.{ClaimNear, back_near, claim_near, one_rest_claim, pod_near, prepare_due, then_near, waiting_due}
+use Rattle.near_law.proofs.Near.{ClaimNear, back_near, claim_near, claim_or, one_rest_claim, pod_near, prepare_due, then_near, waiting_due}
 use Rattle.near_law.proofs.Steps.{is_searching}
+use Rattle.settle_law.proofs.Rounds.{is_agent, not_agent}
 use Rattle.tries_law.specs.Deciding.{IsWithin}
 use Rattle.tries_law.specs.Quiet.{AreCached, IsQuietRound, OnlyPrepares}
 use Rattle.tries_law.specs.Waiting.{IsSlotOf, WasTried}
@@ -162,14 +162,6 @@ under_false rows p e = by (lacks_claim rows p) (are_completed rows p) (list_any 
 not_completed : (a b : Bool) → (not a && not b) ≡ true → a ≡ false
 not_completed true b e = absurd (true≢false (sym e))
 not_completed false b e = refl
-
-abbrev is_agent : SeatKind → Bool
-is_agent seats.Agent = true
-is_agent kind = false
-
-abbrev claim_or : ClaimData → Object → ClaimData
-claim_or x (Claim y) = y
-claim_or x o = x
 
 -- ---- two rounds
 
@@ -356,7 +348,7 @@ module _ (setup : Setup) (ds mid between after : List Drainer) (h middle past : 
   reached_slot : KindsHaveReached base seat first.tried.scheduler.actor.role.kind slot
   reached_slot =
       slot_reaches setup seat first.tried.scheduler.actor front.ran.actor h slot b front.rest (runs_are_histories setup slot run_slot.run)
-      (others_stay_awake all_pass seat (woken first.tried.scheduler.actor) front.ran.actor h slot b front.rest (λ is. true≢false (sym (ap is_agent is) ∙ ap is_agent kind_first)) front.runs) (subst IsBuiltKind (sym kind_first) tt) front.runs
+      (others_stay_awake all_pass seat (woken first.tried.scheduler.actor) front.ran.actor h slot b front.rest (not_agent _ (ap is_agent kind_first)) front.runs) (subst IsBuiltKind (sym kind_first) tt) front.runs
 
   reached_middle : KindsHaveReached base second.tried.scheduler.seat second.tried.scheduler.actor.role.kind middle
   reached_middle kind from f is =

@@ -57,6 +57,7 @@ use Rattle.slot_law.specs.Slots.{ActsOn, IsDecisionPoint, own_entry}
 use Rattle.slot_law.proofs.Slots.{others_stay_awake}
 use Rattle.slot_law.proofs.Would.{would_act_where_calls_pass}
 use Rattle.due_law.proofs.Reclaims.{reclaims_act}
+use Rattle.due_law.proofs.Deciding.{task_in}
 use Rattle.provision_law.proofs.Begun.{begins_same}
 use Rattle.provision_law.proofs.Provisions.{provisioner_acts}
 use Rattle.paid_law.specs.Pays.{HavePaid, worth}
@@ -88,6 +89,7 @@ use Rattle.binder_model.specs.World.{OnDevices, OnStore, SetsMoment, reply_to, w
 use Rattle.worker_core.specs.declared.role.Role.{Role}
 use Rattle.std.specs.Prelude.{⊤}
 use Rattle.binder_model.specs.World.{Effect}
+use Rattle.settle_law.proofs.Rounds.{is_agent, not_agent}
 use Rattle.tries_law.proofs.Leading.{HasMore, goes_on, leads_keep, leads_more}
 
 -- ---- of a claim
@@ -206,20 +208,16 @@ erases_worth u p = by p.op.step p.call
 
 -- ---- the decision of ops
 
-abbrev task_of : Task → First → Task
-task_of t (firsts.Begins task) = task
-task_of t first = t
-
 abbrev begins : First → Bool
 begins (firsts.Begins task) = true
 begins first = false
 
 provides_first : (x : Option ProvisionOp) (task : Task) → firsts.Begins task ≡ ops_first x None → (op : ProvisionOp) × ((x ≡ Some op) × (task ≡ tasks.Provision op))
-provides_first (Some op) task e = (op, (refl, ap (task_of task) e))
+provides_first (Some op) task e = (op, (refl, ap (task_in task) e))
 provides_first None task e = absurd (true≢false (ap begins e))
 
 erases_first : (x : Option EraseOp) (task : Task) → firsts.Begins task ≡ ops_first None x → (op : EraseOp) × (task ≡ tasks.Erase op)
-erases_first (Some op) task e = (op, ap (task_of task) e)
+erases_first (Some op) task e = (op, ap (task_in task) e)
 erases_first None task e = absurd (true≢false (ap begins e))
 
 module _ (setup : Setup) (seat : ℕ) (role : Role) (kind : role.kind ≡ seats.Ops) (key : Key) (s : ActorState) (h : List Entry) (p : IsDecisionPoint setup seat role h s h) (u : Under) (own : u.key ≡ key) (gives : GivesCall s.role s.memory (all_objects s.caches) u) where
@@ -373,10 +371,6 @@ module _ (setup : Setup) (e : Entry) (h : List Entry) (run : IsRunOf setup (e �
 
 -- ---- a slot
 
-abbrev is_agent : SeatKind → Bool
-is_agent seats.Agent = true
-is_agent kind = false
-
 -- a claim at a point of the slot, where the same was due
 record IsDueAt (setup : Setup) (key : Key) (c : ClaimData) (action : Due) (x : List Entry) : Type 0 where
   claim : ClaimData
@@ -390,7 +384,7 @@ module _ (setup : Setup) (seat : ℕ) (old after : ActorState) (h past : List En
   built = subst IsBuiltKind (sym kind) tt
 
   awake : after.memory.stale ≡ false
-  awake = others_stay_awake all_pass seat (woken old) after h past b left (λ is. true≢false (sym (ap is_agent is) ∙ ap is_agent kind)) runs
+  awake = others_stay_awake all_pass seat (woken old) after h past b left (not_agent _ (ap is_agent kind)) runs
 
   kinds : HaveKind seats.Ops h past
   kinds = run_kinds all_pass seat seats.Ops after past left true (woken old) h b runs kind

@@ -44,7 +44,7 @@ use Rattle.epoch_law.proofs.Silent.{current_are_awake}
 use Rattle.agent_law.specs.Rounds.{HasAwake}
 use Rattle.settle_law.specs.Rounds.{DueFor, for_claim, for_volume, ForAgent, ForBinder, ForBinderOfClaims, ForClaimProtection, ForProvisioner, ForReclaimer, ForScheduler, ForVolumeProtection, HasCurrent, doer_of}
 use Rattle.settle_law.proofs.Doers.{due_is_for}
-use Rattle.settle_law.proofs.Rounds.{HasRole, role_at}
+use Rattle.settle_law.proofs.Rounds.{HasRole, is_agent, not_agent, role_at}
 use Rattle.paid_law.specs.Pays.{HavePaid, worth}
 use Rattle.paid_law.proofs.Entries.{paid_is_less}
 use Rattle.all_pay.proofs.Rounds.{round_paid}
@@ -63,10 +63,9 @@ use Rattle.epoch_law.specs.Awake.{IsAwake}
 use Rattle.node_law.specs.Nodes.{WasGiven}
 use Rattle.binder_model.specs.Told.{own}
 use Rattle.worker_threads.specs.Drainers.{IsStanding}
+use Rattle.slot_law.proofs.Slots.{memory_awake}
 use Rattle.std.specs.Prelude.{map}
 use Rattle.std.proofs.Common.{if◌then◌else◌}
-use Rattle.worker_core.specs.Memories.{Memory, memory_after, memory_of, remembers}
-use Rattle.call_types.specs.declared.reply.Reply.{Reply}
 use Rattle.tries_law.proofs.Points.{IsQuietAt, near_ahead}
 use Rattle.tries_law.proofs.Assigning.{no_assign}
 
@@ -172,7 +171,7 @@ doer_plain (Volume x) action = refl
 doer_plain (Claim x) action = refl
 doer_plain (Pod x) action = refl
 
-abbrev is_scheduler : SeatKind → Bool
+abbrev pub is_scheduler : SeatKind → Bool
 is_scheduler seats.Scheduler = true
 is_scheduler kind = false
 
@@ -189,33 +188,10 @@ not_claim dues.Guard is = true≢false (sym (ap is_scheduler is))
 not_claim dues.Unguard is = true≢false (sym (ap is_scheduler is))
 not_claim _ is = true≢false (sym (ap is_scheduler is))
 
--- ---- who is no agent is not silent
-
-abbrev is_agent_kind : SeatKind → Bool
-is_agent_kind seats.Agent = true
-is_agent_kind kind = false
-
-remembers_awake : (kind : SeatKind) (node : List ℕ) (request : Request) (reply : Reply) (m : Memory) → is_agent_kind kind ≡ false → (remembers kind node request reply m).stale ≡ m.stale
-remembers_awake seats.Agent node request reply m other = absurd (true≢false other)
-remembers_awake seats.User node request reply m other = refl
-remembers_awake seats.Binder node request reply m other = refl
-remembers_awake seats.Ops node request reply m other = refl
-remembers_awake seats.Scheduler node request reply m other = refl
-remembers_awake seats.ClaimProtect node request reply m other = refl
-remembers_awake seats.VolumeProtect node request reply m other = refl
-
-memory_awake : (role : Role) (mine : List Entry) → is_agent_kind role.kind ≡ false → (memory_of role mine).stale ≡ false
-memory_awake role [] other = refl
-memory_awake role (e ∷ mine) other = by e.told (memory_awake role mine other)
-  where
-    by : (b : Bool) → (memory_of role mine).stale ≡ false → (if b then memory_after role e.request e.reply (memory_of role mine) else memory_of role mine).stale ≡ false
-    by true before = remembers_awake role.kind role.node e.request e.reply (memory_of role mine) other ∙ before
-    by false before = before
-
 -- ---- an agent behind ops is no stale one
 
-not_agents : (kind : SeatKind) (node : List ℕ) → is_agent_kind kind ≡ false → of_kind kind ≡ agent_of node → ⊥
-not_agents kind node plain same = true≢false (sym (ap (λ (r : Role). is_agent_kind r.kind) same) ∙ plain)
+not_agents : (kind : SeatKind) (node : List ℕ) → is_agent kind ≡ false → of_kind kind ≡ agent_of node → ⊥
+not_agents kind node plain same = true≢false (sym (ap (λ (r : Role). is_agent r.kind) same) ∙ plain)
 
 module _ (setup : Setup) (ds after : List Drainer) (h past : List Entry) (b left : ℕ) (q : IsQuietRound setup ds after h past b left) (p : HasParts all_pass past left ds h b after) where
   pub all_paid : HavePaid setup h past
@@ -346,7 +322,7 @@ module _ (setup : Setup) (ds after : List Drainer) (h past : List Entry) (b left
     ops_idle = q.may.rests 1 p.second.drainer second_there (ops_fresh (q.may.may.stand.each 1 p.second.drainer second_there))
       where
         ops_fresh : IsStanding p.second.drainer h → p.second.drainer.actor.memory.stale ≡ false
-        ops_fresh stands = ap (λ m. m.stale) stands.told.memory ∙ memory_awake p.second.drainer.actor.role (own p.second.drainer.seat h) (ap (λ (r : Role). is_agent_kind r.kind) p.ops)
+        ops_fresh stands = ap (λ m. m.stale) stands.told.memory ∙ memory_awake p.second.drainer.actor.role (own p.second.drainer.seat h) (not_agent _ (ap (λ (r : Role). is_agent r.kind) p.ops))
 
     ops_done : (key : Key) (o : Object) (role : Role) → row_at key (world setup p.second.middle).store.rows ≡ Some o → DueFor setup (world setup p.second.middle) o role → role.kind ≡ seats.Ops → ⊥
     ops_done key _ _ there (ForReclaimer v action due) is =
@@ -383,7 +359,7 @@ module _ (setup : Setup) (ds after : List Drainer) (h past : List Entry) (b left
     scheduler_idle = q.may.rests 0 p.first.drainer first_there (scheduler_fresh (q.may.may.stand.each 0 p.first.drainer first_there))
       where
         scheduler_fresh : IsStanding p.first.drainer h → p.first.drainer.actor.memory.stale ≡ false
-        scheduler_fresh stands = ap (λ m. m.stale) stands.told.memory ∙ memory_awake p.first.drainer.actor.role (own p.first.drainer.seat h) (ap (λ (r : Role). is_agent_kind r.kind) p.scheduler)
+        scheduler_fresh stands = ap (λ m. m.stale) stands.told.memory ∙ memory_awake p.first.drainer.actor.role (own p.first.drainer.seat h) (not_agent _ (ap (λ (r : Role). is_agent r.kind) p.scheduler))
 
     pub near_first : AreNear (world setup h) (world setup p.first.middle)
     near_first = near_behind setup h past q.run q.order all_paid stays_up p.first.middle at_first
@@ -426,7 +402,7 @@ module _ (setup : Setup) (ds after : List Drainer) (h past : List Entry) (b left
         by_step Waits open_ is = none_some (sym is)
 
         by : (b : Bool) → is_scheduled pod ≡ b → PreparesPod (Pod pod) action
-        by true e = absurd (true≢false (sym (ap (λ (c : Bool). is_agent_kind (if c then agent_of pod.node else of_kind seats.Scheduler).kind) e) ∙ ap is_agent_kind (only_pods key (Pod pod) action there due)))
+        by true e = absurd (true≢false (sym (ap (λ (c : Bool). is_agent (if c then agent_of pod.node else of_kind seats.Scheduler).kind) e) ∙ ap is_agent (only_pods key (Pod pod) action there due)))
         by false e = elim (by_step (step_of (world setup past).store.rows pod) e (waiting_due setup (world setup past) pod (Some action) e due)) [
           | inl assign ↦ absurd (none_assigned key pod there e (subst (λ a. IsDue setup (world setup past) (Pod pod) (Some a)) assign due))
           | inr prepare ↦ record { pod = pod; is = refl; waits = e; prepares = prepare }

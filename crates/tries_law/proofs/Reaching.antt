@@ -23,8 +23,7 @@ use Rattle.worker_core.proofs.Answered.{answer_licensed}
 use Rattle.std.proofs.Common.{◌++◌, append_assoc}
 use Rattle.std.specs.Prelude.{⊤}
 use Rattle.std.proofs.Common.{◌≡◌, ◌∙◌, ◌⊎◌, ℕ, ◌+◌, ◌-◌, ◌≤◌, ◌<◌, List, [], ◌∷◌, length, Bool, true, false, true≢false, Some, None, inl, inr, refl, sym, ap, subst, arith, if◌then◌else◌}
-use Rattle.std.specs.Prelude.{◌==◌, nat_lt, not}
-use Rattle.std.proofs.lemmas.Bool.Decides.{nat_tests}
+use Rattle.std.specs.Prelude.{◌==◌, not}
 use Rattle.kube_types.specs.declared.parts.Kind.{Kind}
 use Rattle.kube_types.specs.Keys.{same_kind}
 use Rattle.kube_types.proofs.SameKeys.{same_kind-Decides}
@@ -63,6 +62,7 @@ use Rattle.attention_law.proofs.Turned.{Kept, PassAfter, Renewed, answer_role, c
 use Rattle.worker_threads.specs.Rounds.{all_pass, Asks, IsHeld, IsIdle, IsReady, IsSpent, Runs, told_entry}
 use Rattle.worker_threads.proofs.RunFacts.{still_role, turn_memory, turn_role}
 use Rattle.slot_law.proofs.Slots.{run_older}
+use Rattle.slot_law.proofs.Knowing.{at_or_before}
 use Rattle.event_law.proofs.Calls.{gone_from, listed_from, unread_from, watched_from}
 use Rattle.event_law.proofs.Events.{told_so}
 use Rattle.pass_law.proofs.Given.{FindsGone, GivenSo, GivesRead, GivesStart, GivesTask, IsTold, Lists, Reads, given_so, read_called, start_called, task_called}
@@ -159,13 +159,6 @@ module _ (setup : Setup) (seat : ℕ) where
           Stands (ap (λ (y : ActorState). y.pass.behind) (ap (given_told (learned x caches request reply) request reply) eg ∙ ap (task_told (learned x caches request reply) reply) t.there))
       by (GivesStart eg) = Stands (ap (λ (y : ActorState). y.pass.behind) (ap (given_told (learned x caches request reply) request reply) eg))
       by (GivesRead kind eg) = read_by kind eg (read_called setup seat x request reply h given kind eg).reads
-
-at_or_before : (i n : ℕ) → i < n + 1 → (i < n) ⊎ (i ≡ n)
-at_or_before i n lt = by (nat_lt i n) refl
-  where
-    by : (b : Bool) → nat_lt i n ≡ b → (i < n) ⊎ (i ≡ n)
-    by true e = inl (grind (arith, nat_tests))
-    by false e = inr (grind (arith, nat_tests))
 
 module _ (setup : Setup) (seat base : ℕ) where
   abbrev ReachedBehind : Role → Pass → List Entry → Type 0

@@ -17,7 +17,6 @@ use Rattle.kube_types.specs.Keys.{key_of, row_at, rows_of}
 use Rattle.kube_types.proofs.KeyOrder.{row_at_key}
 use Rattle.call_types.specs.declared.entry.Entry.{Entry}
 use Rattle.call_types.specs.declared.request.Request.{Request}
-use Rattle.call_types.specs.declared.request.SeatKind.{SeatKind}
 use Rattle.call_types.specs.declared.request.SeatKind.TheVariants as seats
 use Rattle.call_types.specs.declared.setup.Setup.{Setup}
 use Rattle.binder_model.specs.Choice.{GoesNowhere, Searches, Waits, are_completed, assigned_node, claims_of, first_taking, has_carrier, is_other, is_served_elsewhere, is_under_way, lacks_claim, others_of, step_of}
@@ -49,7 +48,7 @@ use Rattle.slot_law.specs.Slots.{IsDecisionPoint, own_entry}
 use Rattle.slot_law.proofs.Slots.{nothing_behind, others_stay_awake}
 use Rattle.schedule_law.specs.Writes.{placing}
 use Rattle.schedule_law.proofs.Acts.{pods_act}
-use Rattle.schedule_law.proofs.Placing.{AreFrom, all_from}
+use Rattle.schedule_law.proofs.Placing.{AreFrom, all_from, at_place}
 use Rattle.paid_law.specs.Pays.{HavePaid}
 use Rattle.drain_budget.specs.Budget.{AreAlwaysInOrder}
 use Rattle.drain_budget.specs.Measured.{SharesWell}
@@ -58,15 +57,17 @@ use Rattle.near_law.proofs.Annotations.{completed_rest}
 use Rattle.near_law.proofs.Near.{ClaimNear, PodNear, back_near, claim_near, near_searches, no_nearer, one_rest_claim, pod_near, prepare_due, then_near, waiting_due}
 use Rattle.near_law.proofs.Serving.{carrier_rest}
 use Rattle.near_law.proofs.Steps.{is_searching}
+use Rattle.settle_law.proofs.Rounds.{is_agent, not_agent}
 use Rattle.tries_law.specs.Deciding.{IsWithin}
 use Rattle.tries_law.proofs.Points.{near_behind, run_within}
-use Rattle.tries_law.proofs.Calling.{IsChosen, is_chosen, takes_none}
+use Rattle.tries_law.proofs.Calling.{IsChosen, is_chosen, pods_claims, pods_namespace, pods_waiting, takes_none}
 use Rattle.tries_law.proofs.Choosing.{Binds, BindsPod, Chosen, IsSearched, TakesVolumes}
 use Rattle.tries_law.proofs.Choosing.{Searches as SearchesOne}
 use Rattle.tries_law.proofs.Keeping.{RowsStay, StayUpTo, keep, stay_here}
 use Rattle.tries_law.proofs.Open.{HasOpen, IsNamed, all_at, named_in, open_is_other, open_of, open_waits, other_of}
-use Rattle.tries_law.proofs.Walking.{Asked, EntrySo, IsDropped, IsTakenUp, OnRun, cached_waits, walks}
-use Rattle.tries_law.proofs.Writing.{EndsAt, NodeAt, at_place, through}
+use Rattle.tries_law.proofs.Walking.{Asked, EntrySo, IsDropped, IsTakenUp, OnRun, walks}
+use Rattle.tries_law.proofs.Writing.{EndsAt, NodeAt, through}
+use Rattle.tries_law.proofs.Deciding.{cached_waits}
 
 -- ---- words that are the same in worlds that are near
 
@@ -78,18 +79,6 @@ carrier_near old new c d near same =
 
 pub completed_near : (c d : ClaimData) → rest_of (Claim c) ≡ rest_of (Claim d) → is_completed c ≡ is_completed d
 completed_near c d same = sym (completed_rest c) ∙ (ap is_completed (one_rest_claim c d same) ∙ completed_rest d)
-
-abbrev pub pods_namespace : Object → List ℕ
-pods_namespace (Pod p) = p.meta.namespace
-pods_namespace o = []
-
-abbrev pub pods_claims : Object → List (List ℕ)
-pods_claims (Pod p) = p.claims
-pods_claims o = []
-
-abbrev pub pods_waiting : Object → Bool
-pods_waiting (Pod p) = is_scheduled p
-pods_waiting o = false
 
 -- a pod that is searched for has a claim that is not under way
 searched_waits : (rows : List Object) (p : PodData) → is_searching (step_of rows p) ≡ true → list_all (is_under_way rows) (claims_of rows p) ≡ false
@@ -116,10 +105,6 @@ named_there rows p q c d same n others there = record {
   among = subst (SomeOf (λ m. m ≡ n.name)) (ap pods_claims same) n.among;
   there = ap (λ s. row_at (claim_key s n.name) others) (sym (ap pods_namespace same)) ∙ there;
 }
-
-abbrev is_agent : SeatKind → Bool
-is_agent seats.Agent = true
-is_agent kind = false
 
 abbrev pod_or : PodData → Object → PodData
 pod_or p (Pod q) = q
@@ -159,7 +144,7 @@ module _ (setup : Setup) (seat : ℕ) (old after : ActorState) (h past : List En
   history = runs_are_histories setup past run.run
 
   fresh : after.memory.stale ≡ false
-  fresh = others_stay_awake all_pass seat (woken old) after h past b left (λ is. true≢false (sym (ap is_agent is) ∙ ap is_agent kind)) runs
+  fresh = others_stay_awake all_pass seat (woken old) after h past b left (not_agent _ (ap is_agent kind)) runs
 
   near_at : (x : List Entry) → IsWithin h x past → AreNear (world setup h) (world setup x)
   near_at x w = near_behind setup h past run order paid le x w
@@ -214,7 +199,7 @@ module _ (setup : Setup) (seat : ℕ) (old after : ActorState) (h past : List En
           (pods_act setup seat old.role g key (pod_at g k.near).pod dues.Prepare run.imports kind (pod_at g k.near).there (waits_at g k.near) (due_at g k.near (k.stay g (record { newer = []; older = older; ahead = refl; behind = since })))).acts s g d.first d.sees d.none
 
       waiting : true ≡ true → waits_in key (woken old).work ≡ true
-      waiting m = cached_waits seat key o old after h past b left idle
+      waiting m = cached_waits all_pass seat key o old after h past b left idle
           (ap (λ k. follows k key.kind) kind ∙ ap (λ (k : Key). follows seats.Scheduler k.kind) (sym (row_at_key key (Pod pod) (world setup h).store.rows there))) cached runs
 
   -- ---- the decision
@@ -280,7 +265,7 @@ module _ (setup : Setup) (seat : ℕ) (old after : ActorState) (h past : List En
       call_is : first.under.call ≡ placing searched.name c
       call_is = sym (one (placing searched.name c) first.under.call (sym (ap (λ ws. slice_get ws 0) are) ∙ is_one.first))
 
-      under_is : first.under ≡ at_place setup seat old.role kind key run_x.imports searched.name is_one.writes 0 c
+      under_is : first.under ≡ at_place key searched.name is_one.writes 0 c
       under_is = λ i. record { key = first.own i; task = task_is i; call = call_is i }
 
   end : Ends (others_of (world setup first.point).store.rows is_one.pod)

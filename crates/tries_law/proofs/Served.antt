@@ -1,6 +1,7 @@
 -- What the devices can give on a node: a claim that is to lose its node is not served there, and so the shares of its pod cannot be given.
 use Rattle.std.proofs.Common.{◌≡◌, ◌∙◌, ℕ, List, [], ◌∷◌, ◌++◌, Bool, true, false, true≢false, Option, Some, None, refl, sym, ap, if◌then◌else◌}
-use Rattle.std.specs.Prelude.{◌&&◌, not, is_none, option_map, ⊤}
+use Rattle.std.specs.Prelude.{◌&&◌, not, is_none, ⊤}
+use Rattle.std.proofs.lemmas.Bool.{and_parts}
 use Rattle.plain_data.specs.Pairs.{value_at}
 use Rattle.kube_types.specs.declared.uid.Uid.{Uid}
 use Rattle.kube_types.specs.declared.names.Due.{Due}
@@ -24,12 +25,11 @@ use Rattle.volume_match.specs.Volumes.{volume_at}
 use Rattle.model_laws.proofs.Lists.{none_some}
 use Rattle.alike_law.proofs.Rows.{plain_node}
 use Rattle.delayed_binding.specs.Choices.{binds_of, pair_of}
-use Rattle.delayed_binding.proofs.Known.{Each, and_right}
+use Rattle.delayed_binding.proofs.Known.{Each}
 use Rattle.near_law.specs.Near.{AreNear, rest_of}
-use Rattle.near_law.proofs.Annotations.{rest_claim}
 use Rattle.near_law.proofs.Near.{one_rest, one_rest_claim}
-use Rattle.near_law.proofs.Rows.{rest_world}
-use Rattle.near_law.proofs.Serving.{class_row_rest}
+use Rattle.near_law.proofs.Serving.{share_rest}
+use Rattle.schedule_law.proofs.Choosing.{is_empty_list}
 
 -- ---- a claim on a node
 
@@ -78,25 +78,12 @@ module _ (setup : Setup) (w : World) (c : ClaimData) (n : NodeData) where
 
 -- ---- in worlds that are near
 
-module _ (setup : Setup) (w : World) (n : NodeData) where
-  served_rest : (c : ClaimData) (u : Option Uid) (x : Option Object) → is_served_on setup (rest_world w) (plain_node n) (rest_claim c) u (option_map rest_of x) ≡ is_served_on setup w n c u x
-  served_rest c None x = refl
-  served_rest c (Some uid) None = refl
-  served_rest c (Some uid) (Some (Class x)) = refl
-  served_rest c (Some uid) (Some (Node x)) = refl
-  served_rest c (Some uid) (Some (Volume x)) = refl
-  served_rest c (Some uid) (Some (Claim x)) = refl
-  served_rest c (Some uid) (Some (Pod x)) = refl
-
-  served_plain : (c : ClaimData) (given : Bool) → is_served_on setup (rest_world w) (plain_node n) (rest_claim c) (rest_claim c).meta.uid (row_at (class_key (class_of_claim (rest_claim c))) (rest_world w).store.rows) ≡ is_served_on setup w n c c.meta.uid (row_at (class_key (class_of_claim c)) w.store.rows)
-  served_plain c given = ap (is_served_on setup (rest_world w) (plain_node n) (rest_claim c) c.meta.uid) (class_row_rest w.store.rows c) ∙ served_rest c c.meta.uid (row_at (class_key (class_of_claim c)) w.store.rows)
-
 pub served_near : (setup : Setup) (old new : World) (n m : NodeData) (c d : ClaimData) (given : Bool) → AreNear old new → plain_node n ≡ plain_node m → rest_of (Claim c) ≡ rest_of (Claim d) → IsServedOn setup old n c given → IsServedOn setup new m d given
 served_near setup old new n m c d given near node claim served =
     let world = one_rest old new near in
     let same = one_rest_claim c d claim in
     let moved = ap (λ (x : World × (NodeData × ClaimData)). is_served_on setup x.0 x.1.0 x.1.1 x.1.1.meta.uid (row_at (class_key (class_of_claim x.1.1)) x.0.store.rows)) (λ i. (world i, (node i, same i))) in
-    sym (served_plain setup new m d given) ∙ (sym moved ∙ (served_plain setup old n c given ∙ served))
+    sym (share_rest setup new m d IsProvisioned) ∙ (sym moved ∙ (share_rest setup old n c IsProvisioned ∙ served))
 
 -- ---- the shares of a pod
 
@@ -105,10 +92,6 @@ abbrev pub AreProvisioned : List ClaimData → List Share → Type 0
 AreProvisioned [] [] = ⊤
 AreProvisioned (c ∷ cs) (IsProvisioned ∷ shares) = AreProvisioned cs shares
 AreProvisioned _ _ = ⊥
-
-abbrev is_empty_list : {X : Type 0} → List X → Bool
-is_empty_list [] = true
-is_empty_list (x ∷ xs) = false
 
 -- so it is where no volume is taken
 pub all_provisioned : (rows : List Object) (n : NodeData) (cs : List ClaimData) (shares : List Share) (taken : List ℕ) → AreShares rows n taken cs shares → binds_of rows cs shares ≡ [] → AreProvisioned cs shares
@@ -128,8 +111,5 @@ each_served setup w n [] (IsProvisioned ∷ shares) are given = absurd are
 each_served setup w n (c ∷ cs) [] are given = absurd are
 each_served setup w n (c ∷ cs) (TakesVolume place ∷ shares) are given = absurd are
 each_served setup w n (c ∷ cs) (IsProvisioned ∷ shares) are given =
-    (and_left (is_served_on setup w n c c.meta.uid (row_at (class_key (class_of_claim c)) w.store.rows)) (shares_are_served setup w n cs shares) given, each_served setup w n cs shares are (and_right (is_served_on setup w n c c.meta.uid (row_at (class_key (class_of_claim c)) w.store.rows)) (shares_are_served setup w n cs shares) given))
-  where
-    and_left : (a b : Bool) → (a && b) ≡ true → a ≡ true
-    and_left true b e = refl
-    and_left false b e = e
+    let parts = and_parts (is_served_on setup w n c c.meta.uid (row_at (class_key (class_of_claim c)) w.store.rows)) (shares_are_served setup w n cs shares) given in
+    (parts.0, each_served setup w n cs shares are parts.1)

@@ -64,13 +64,14 @@ use Rattle.write_law.specs.Valid.{IsValid}
 use Rattle.binder_model.specs.Fields.{create_fault, faulty, kind_fault}
 use Rattle.binder_model.specs.Told.{SomeOf}
 use Rattle.binder_model.specs.Choice.{claim_in}
-use Rattle.kube_types.specs.declared.names.Field.TheVariants as fields
 use Rattle.kube_types.specs.declared.names.Field.{Field}
+use Rattle.kube_types.specs.declared.names.Field.TheVariants as fields
 use Rattle.call_types.specs.declared.request.NewStatus.{NewStatus}
 use Rattle.kube_types.specs.Keys.{AreRows}
 use Rattle.std.proofs.Common.{◌+◌}
 use Rattle.binder_model.specs.Fields.{is_subdomain}
 use Rattle.binder_model.specs.Store.{State}
+use Rattle.near_law.proofs.Near.{claim_or, pod_or}
 
 -- ---- what is written
 
@@ -91,14 +92,6 @@ is_kind_claim kind = false
 abbrev is_kind_class : Kind → Bool
 is_kind_class kinds.StorageClass = true
 is_kind_class kind = false
-
-abbrev pod_or : PodData → Object → PodData
-pod_or p (Pod x) = x
-pod_or p o = p
-
-abbrev claim_or : ClaimData → Object → ClaimData
-claim_or c (Claim x) = x
-claim_or c o = c
 
 -- what stands at its key then, if it stands
 module _ (w : World) (o : Object) (keeps : Keeps w o) where

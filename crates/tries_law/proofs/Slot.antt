@@ -1,5 +1,5 @@
 -- Behind the scheduler's slot of a quiet round: what it remembers of the claims that it wrote.
-use Rattle.std.proofs.Common.{◌≡◌, ◌∙◌, ℕ, suc, ◌-◌, List, [], ◌∷◌, ◌++◌, append_assoc, Bool, true, false, true≢false, Some, inl, inr, refl, sym, ap, subst, arith}
+use Rattle.std.proofs.Common.{◌≡◌, ◌∙◌, ℕ, ◌-◌, List, [], ◌∷◌, ◌++◌, append_assoc, Bool, true, false, Some, inl, inr, refl, sym, ap, subst}
 use Rattle.std.proofs.lemmas.List.{append_cancel_right}
 use Rattle.std.specs.Prelude.{is_some, slice_get}
 use Rattle.std.proofs.lemmas.Bool.{and_parts}
@@ -29,7 +29,7 @@ use Rattle.worker_core.specs.Absorbs.{woken}
 use Rattle.worker_core.specs.Roles.{IsBuiltKind}
 use Rattle.worker_threads.specs.declared.drainers.Drainer.{Drainer}
 use Rattle.worker_threads.specs.Drainers.{AreRoles, StandsWhole, of_kind, roles_of, seats_of}
-use Rattle.worker_threads.specs.Longer.{AreToldOf, GrowsWithin, HasGrown, IsOneOf}
+use Rattle.worker_threads.specs.Longer.{AreToldOf, GrowsWithin, HasGrown}
 use Rattle.worker_threads.specs.Rounds.{Ends, IsRound, Runs, Turns, all_pass}
 use Rattle.worker_threads.proofs.Entries.{grown_others}
 use Rattle.worker_threads.proofs.RoundFacts.{round_grows}
@@ -39,6 +39,8 @@ use Rattle.slot_law.specs.Slots.{SeesStore}
 use Rattle.slot_law.proofs.Slots.{others_stay_awake}
 use Rattle.near_law.specs.Near.{AreNear}
 use Rattle.near_law.proofs.Near.{claim_near, near_provisions}
+use Rattle.epoch_law.proofs.Silent.{Differ, not_again}
+use Rattle.settle_law.proofs.Rounds.{is_agent, not_agent}
 use Rattle.drain_budget.proofs.Counting.{settles_next}
 use Rattle.tries_law.specs.Deciding.{IsWithin}
 use Rattle.tries_law.specs.Quiet.{AreCached, IsQuietRound, OnlyPrepares}
@@ -84,15 +86,6 @@ parts_with ds after h past b left first slot roles s =
 
 -- ---- who calls
 
-record IsPlaced (seats_ : List ℕ) (seat : ℕ) : Type 0 where
-  place : ℕ
-  at : slice_get seats_ place ≡ Some seat
-
-placed_at : (seats_ : List ℕ) (seat : ℕ) → IsOneOf seats_ seat → IsPlaced seats_ seat
-placed_at [] seat among = absurd among
-placed_at (s ∷ seats_) seat (inl is) = record { place = 0; at = ap Some is }
-placed_at (s ∷ seats_) seat (inr more) = let p = placed_at seats_ seat more in record { place = suc p.place; at = p.at }
-
 record ToldBy (seat : ℕ) (e : Entry) : Type 0 where
   of_seat : e.seat ≡ seat
   told : e.told ≡ true
@@ -104,10 +97,6 @@ told_by seat (x ∷ ahead) e behind t = told_by seat ahead e behind t.2
 kind_at : (kind : SeatKind) (ahead : List Entry) (e : Entry) (behind : List Entry) → AreOfKind kind (ahead ++ (e ∷ behind)) → e.kind ≡ kind
 kind_at kind [] e behind k = k.0
 kind_at kind (x ∷ ahead) e behind k = kind_at kind ahead e behind k.1
-
-abbrev is_agent : SeatKind → Bool
-is_agent seats.Agent = true
-is_agent kind = false
 
 -- ---- a quiet round
 
@@ -136,17 +125,10 @@ module _ (setup : Setup) (ds after : List Drainer) (h past : List Entry) (b left
 
   -- behind its slot the scheduler calls no more
   pub own_same : own first.seat past ≡ own first.seat slot
-  own_same = grown_others (seats_of s.others) slot past grown first.seat not_again
+  own_same = grown_others (seats_of s.others) slot past grown first.seat (not_again first.seat (seats_of s.others) (subst Differ (ap seats_of s.ds_are) q.may.may.seats.differ))
     where
       grown : HasGrown (seats_of s.others) slot past
       grown = let g = round_grows all_pass past left s.others slot s.rest s.later true s.round in record { made = g.made; longer = g.longer }
-
-      not_again : IsOneOf (seats_of s.others) first.seat → ⊥
-      not_again among =
-          let p = placed_at (seats_of s.others) first.seat among in
-          let are : seats_of ds ≡ first.seat ∷ seats_of s.others = ap seats_of s.ds_are in
-          let same = q.may.may.seats.differ 0 (suc p.place) first.seat (ap (λ xs. slice_get xs 0) are) (ap (λ xs. slice_get xs (suc p.place)) are ∙ p.at) in
-          omega (arith, same)
 
   -- it stands for its entries, and sees the store there
   pub slot_told : (k : Key) (c : ClaimData) → row_at k (world setup slot).store.rows ≡ Some (Claim c) → ToldObject (λ o. o ≡ Claim c) (own first.seat slot)
@@ -155,7 +137,7 @@ module _ (setup : Setup) (ds after : List Drainer) (h past : List Entry) (b left
       let stands : StandsWhole s.ran.actor (own s.ran.seat past) = next.may.stand.each 0 s.ran (ap (λ xs. slice_get xs 0) s.after_are) in
       let sees : SeesStore setup s.ran.actor slot =
       sees_at_end setup all_pass first.seat first.actor s.ran.actor h slot b s.rest (subst IsBuiltKind (sym first_kind) tt) (runs_are_histories setup slot slot_run.run)
-      (others_stay_awake all_pass first.seat (woken first.actor) s.ran.actor h slot b s.rest (λ is. true≢false (sym (ap is_agent is) ∙ ap is_agent first_kind)) s.runs) s.runs in
+      (others_stay_awake all_pass first.seat (woken first.actor) s.ran.actor h slot b s.rest (not_agent _ (ap is_agent first_kind)) s.runs) s.runs in
       let mine : own s.ran.seat past ≡ own first.seat slot = ap (λ n. own n past) s.seat ∙ own_same in
       let newest_is : object_of (newest (own first.seat slot) k) ≡ Some (Claim c) = ap (λ m. object_of (newest m k)) (sym mine) ∙ (sym (stands.told.caches.rows k) ∙ (sees k follows_it ∙ there)) in
       newest_told (own first.seat slot) k (Claim c) newest_is

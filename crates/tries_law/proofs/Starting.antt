@@ -36,10 +36,10 @@ use Rattle.tries_law.specs.Taking.{HasNone, IsGiven, IsWritten}
 use Rattle.tries_law.proofs.Giving.{taken_were_given}
 use Rattle.tries_law.proofs.Moving.{one_node_so}
 use Rattle.tries_law.proofs.Points.{HaveKind, IsQuietAt, moves_behind, near_ahead, near_behind, order_within, quiet_at, run_kinds, run_within}
-use Rattle.tries_law.proofs.Calling.{IsPlacing, calls_are, decided_within, own_claim}
+use Rattle.tries_law.proofs.Calling.{IsPlacing, calls_are, decided_within, own_claim, pods_claims, pods_namespace, pods_waiting}
 use Rattle.tries_law.proofs.Keeping.{bind_keeps, place_keeps}
 use Rattle.tries_law.proofs.Open.{HasOpen, open_of, open_waits}
-use Rattle.tries_law.proofs.Searching.{carrier_near, completed_near, due_open, named_there, pods_claims, pods_namespace, pods_waiting}
+use Rattle.tries_law.proofs.Searching.{carrier_near, completed_near, due_open, named_there}
 
 -- ---- a claim that has no node behind some writes of the scheduler had none before
 

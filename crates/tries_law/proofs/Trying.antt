@@ -32,7 +32,7 @@ use Rattle.alike_law.proofs.Rows.{get_mapped, plain_node}
 use Rattle.write_law.specs.Lasting.{content_of}
 use Rattle.near_law.proofs.Trying.{nodes_rest}
 use Rattle.node_law.proofs.Nodes.{nodes_were_given}
-use Rattle.schedule_law.proofs.Fewer.{one_node_less}
+use Rattle.schedule_law.proofs.Fewer.{all_in_turn, one_node_less}
 use Rattle.schedule_law.proofs.Turning.{in_nodes, rising_nodes}
 use Rattle.paid_law.specs.Pays.{HavePaid}
 use Rattle.paid_law.proofs.Slots.{older_run}
@@ -53,7 +53,7 @@ use Rattle.tries_law.proofs.Waiting.{waiting_are_tried}
 use Rattle.drain_budget.proofs.Measured.{measured_drains_settle}
 use Rattle.tries_law.proofs.Going.{searches_go_on}
 use Rattle.tries_law.proofs.Caching.{rounds_cache}
-use Rattle.tries_law.proofs.Counting.{all_in_turn, at_most, few_nodes, mapped_length, one_tried, roles_have, tries_there, turn_length}
+use Rattle.tries_law.proofs.Counting.{at_most, few_nodes, mapped_length, one_tried, roles_have, tries_there, turn_length}
 use Rattle.tries_law.proofs.Moving.{in_order_before}
 use Rattle.tries_law.proofs.Points.{near_ahead, near_behind}
 use Rattle.tries_law.proofs.Quiet.{quiet_rounds_end}

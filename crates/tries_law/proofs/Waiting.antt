@@ -51,9 +51,10 @@ use Rattle.tries_law.proofs.Quiet.{all_paid, at_first, at_second, first_paid, fi
 use Rattle.tries_law.proofs.Taking.{taken_were_due}
 use Rattle.tries_law.specs.Waiting.{IsTried, WaitingAreTried, WasTried}
 use Rattle.tries_law.proofs.Open.{IsNamed, open_is_other, other_of}
-use Rattle.tries_law.proofs.Searching.{HasSearched, carrier_near, completed_near, has_searched, pods_claims, pods_namespace}
+use Rattle.tries_law.proofs.Searching.{HasSearched, carrier_near, completed_near, has_searched}
 use Rattle.tries_law.proofs.Served.{IsServedOn, each_served, served_near, unserved}
 use Rattle.tries_law.proofs.Starting.{HasWaited, has_waited}
+use Rattle.tries_law.proofs.Calling.{pods_claims, pods_namespace}
 
 -- a claim that needs a volume is neither completed nor carried
 other_parts : (rows : List Object) (c : ClaimData) → is_other rows c ≡ true → (is_completed c ≡ false) × (has_carrier rows c ≡ false)

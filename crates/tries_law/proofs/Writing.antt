@@ -20,11 +20,8 @@ use Rattle.binder_model.specs.Imports.{ImportsPass}
 use Rattle.binder_model.specs.Store.{leaves, updated_object, with_meta, with_status_of}
 use Rattle.binder_model.specs.World.{Effect, IsHistory, effect, log_after, reply_to, world, world_after}
 use Rattle.delayed_binding.proofs.Known.{AreApart, Each, IsStored as Stands, each_map}
-use Rattle.pod_scheduler.specs.declared.schedule.ScheduleStep.TheVariants as steps
 use Rattle.pod_scheduler.specs.Schedules.{schedule_call, schedule_moved}
 use Rattle.worker_core.specs.declared.role.Role.{Role}
-use Rattle.worker_core.specs.declared.task.Task.TheVariants as tasks
-use Rattle.worker_core.specs.declared.task.Under.{Under}
 use Rattle.worker_core.specs.States.{ActorState}
 use Rattle.worker_core.specs.Tasks.{under_after}
 use Rattle.write_law.specs.Writes.{IsStored}
@@ -33,7 +30,7 @@ use Rattle.settle_measure.proofs.Words.{value_put}
 use Rattle.binder_pays.proofs.Standing.{none_has_left}
 use Rattle.slot_law.specs.Slots.{own_entry}
 use Rattle.schedule_law.specs.Writes.{placing}
-use Rattle.schedule_law.proofs.Placing.{AreFrom, at_from, comes_to, later_from, others_stay, placed, staying, still_stand}
+use Rattle.schedule_law.proofs.Placing.{AreFrom, at_from, at_place, comes_to, goes_on, later_from, others_stay, placed, staying, still_stand}
 use Rattle.tries_law.proofs.Walking.{Asked, OnRun, asked_next}
 
 module _ (setup : Setup) (seat : ℕ) (role : Role) (kind : role.kind ≡ seats.Scheduler) (key : Key) (pass : ImportsPass setup.imports) (name : List ℕ) where
@@ -70,19 +67,8 @@ module _ (setup : Setup) (seat : ℕ) (role : Role) (kind : role.kind ≡ seats.
   -- ---- one after the other
 
   module _ (writes : List Request) where
-    abbrev pub at_place : ℕ → ClaimData → Under
-    at_place place c = record { key = key; task = tasks.Schedule (record { writes = writes; step = steps.Writes place }); call = placing name c }
-
-    -- a write that was done leads to the next
-    goes_on : (place : ℕ) (c d new : ClaimData) → slice_get writes place ≡ Some (placing name c) → slice_get writes (place + 1) ≡ Some (placing name d) → under_after (at_place place c) (Done (Claim new)) ≡ Some (at_place (place + 1) d)
-    unfolding schedule_call schedule_moved
-    goes_on place c d new here next =
-        let within = slice_get_within writes place (placing name c) here in
-        let below : nat_lt place (length writes) ≡ true = grind (arith, nat_tests, within) in
-        rw (below, next) refl
-
     -- the last one to nothing
-    ends_on : (place : ℕ) (c new : ClaimData) → slice_get writes place ≡ Some (placing name c) → slice_get writes (place + 1) ≡ None → under_after (at_place place c) (Done (Claim new)) ≡ None
+    ends_on : (place : ℕ) (c new : ClaimData) → slice_get writes place ≡ Some (placing name c) → slice_get writes (place + 1) ≡ None → under_after (at_place key name writes place c) (Done (Claim new)) ≡ None
     unfolding schedule_call schedule_moved
     ends_on place c new here next =
         let within = slice_get_within writes place (placing name c) here in
@@ -101,7 +87,7 @@ module _ (setup : Setup) (seat : ℕ) (role : Role) (kind : role.kind ≡ seats.
         pub placed : Each (NodeAt at) cs
         pub others : (k : Key) → Each (λ c. key_of (Claim c) ≢ k) cs → row_at k (world setup at).store.rows ≡ row_at k (world setup g).store.rows
 
-      pub through : (c : ClaimData) (cs : List ClaimData) (place : ℕ) (g : List Entry) → Asked setup seat role kind key after_ past left history fresh g (at_place place c) → AreFrom writes place (map (placing name) (c ∷ cs)) → Each (Stands (world setup g).store.rows) (c ∷ cs) → AreApart (c ∷ cs) → EndsAt g (c ∷ cs)
+      pub through : (c : ClaimData) (cs : List ClaimData) (place : ℕ) (g : List Entry) → Asked setup seat role kind key after_ past left history fresh g (at_place key name writes place c) → AreFrom writes place (map (placing name) (c ∷ cs)) → Each (Stands (world setup g).store.rows) (c ∷ cs) → AreApart (c ∷ cs) → EndsAt g (c ∷ cs)
       through c [] place g asked are stand apart =
           let s = said g c stand.0 in
           let e = own_entry setup seat role.kind g (placing name c) in
@@ -109,7 +95,7 @@ module _ (setup : Setup) (seat : ℕ) (role : Role) (kind : role.kind ≡ seats.
             state = asked.next;
             at = e ∷ g;
             on = asked.on;
-            idle = asked.follows ∙ (ap (under_after (at_place place c)) s.1 ∙ ends_on place c s.0 (at_from writes place (placing name c ∷ []) are) (at_from writes (place + 1) [] (later_from writes place (placing name c) [] are)));
+            idle = asked.follows ∙ (ap (under_after (at_place key name writes place c)) s.1 ∙ ends_on place c s.0 (at_from writes place (placing name c ∷ []) are) (at_from writes (place + 1) [] (later_from writes place (placing name c) [] are)));
             older = e ∷ [];
             behind = refl;
             placed = (node_there g c stand.0, tt);
@@ -119,8 +105,8 @@ module _ (setup : Setup) (seat : ℕ) (role : Role) (kind : role.kind ≡ seats.
           let s = said g c stand.0 in
           let e = own_entry setup seat role.kind g (placing name c) in
           let next_are = later_from writes place (placing name c) (map (placing name) (d ∷ ds)) are in
-          let under : asked.next.under ≡ Some (at_place (place + 1) d) = asked.follows ∙ (ap (under_after (at_place place c)) s.1 ∙ goes_on place c d s.0 (at_from writes place (map (placing name) (c ∷ d ∷ ds)) are) (at_from writes (place + 1) (map (placing name) (d ∷ ds)) next_are)) in
-          let next = asked_next setup seat role kind key after_ past left history fresh asked.next (e ∷ g) (at_place (place + 1) d) asked.on under in
+          let under : asked.next.under ≡ Some (at_place key name writes (place + 1) d) = asked.follows ∙ (ap (under_after (at_place key name writes place c)) s.1 ∙ goes_on key name writes place c d s.0 (at_from writes place (map (placing name) (c ∷ d ∷ ds)) are) (at_from writes (place + 1) (map (placing name) (d ∷ ds)) next_are)) in
+          let next = asked_next setup seat role kind key after_ past left history fresh asked.next (e ∷ g) (at_place key name writes (place + 1) d) asked.on under in
           let stands_next = still_stand (world setup g).store.rows (world setup (e ∷ g)).store.rows c (d ∷ ds) (others_there g c stand.0) apart.0 stand.1 in
           let rest = through d ds (place + 1) (e ∷ g) next next_are stands_next apart.1 in
           let n = node_there g c stand.0 in

@@ -22,7 +22,7 @@ use Rattle.wake_law.specs.Wakes.{ComesAgain, KeysAreDecided}
 use Rattle.wake_law.proofs.Untold.{Stands, There, stands_alike, untold, untold_last}
 use Rattle.wake_law.proofs.Wakes.{LastsWhereWaiting, StaysKept, come_by, marked_last}
 
-ready_at : (lets : Lets) (seat : ℕ) (s after : ActorState) (h past : List Entry) (b left : ℕ) → Runs lets seat after past left true s h b → IsReady seat s h
+pub ready_at : (lets : Lets) (seat : ℕ) (s after : ActorState) (h past : List Entry) (b left : ℕ) → Runs lets seat after past left true s h b → IsReady seat s h
 ready_at lets seat s after h past b left (IsSpent none state entries rest busy) = absurd (true≢false busy)
 ready_at lets seat s after h past b left (IsIdle some ready turn entries rest calm) = ready
 ready_at lets seat s after h past b left (Asks given next request reply some ready turn passes absorbs more) = ready

@@ -60,7 +60,7 @@ use Rattle.alike_law.specs.Alike.{AreAlike}
 use Rattle.alike_law.proofs.Calls.{LastsOrAlike, calls_last_or_leave_alike, then_alike}
 use Rattle.alike_law.proofs.Rows.{row_plain}
 use Rattle.slot_law.specs.Slots.{KnowsBehind}
-use Rattle.slot_law.proofs.Knowing.{lost_knows, told_knows, turned_knows, watches_from}
+use Rattle.slot_law.proofs.Knowing.{at_or_before, lost_knows, told_knows, turned_knows, watches_from}
 use Rattle.slot_law.proofs.Slots.{lasting_here, lasting_later, run_older}
 use Rattle.event_law.specs.Ahead.{from_of}
 use Rattle.event_law.specs.Telling.{told}
@@ -157,13 +157,6 @@ pass_further pass passes _ reply = inl refl
 pass_full : (pass : Pass) (passes : Bool) (kind : Kind) (from : ℕ) (events : EventsData) → (length events.events == most_events) ≡ true → (pass_after pass passes (requests.Watch kind from) (replies.Events events)).behind ≡ pass.behind
 pass_full pass true kind from events e = ap (λ f. if true && not f then pass.behind + 1 else pass.behind) e
 pass_full pass false kind from events e = refl
-
-at_or_before : (i n : ℕ) → i < n + 1 → (i < n) ⊎ (i ≡ n)
-at_or_before i n lt = by (nat_lt i n) refl
-  where
-    by : (b : Bool) → nat_lt i n ≡ b → (i < n) ⊎ (i ≡ n)
-    by true e = inl (grind (arith, nat_tests))
-    by false e = inr (grind (arith, nat_tests))
 
 same_kind-flip : (a b : Kind) → same_kind a b ≡ same_kind b a
 same_kind-flip a b = by (same_kind a b) (same_kind b a) refl refl
