@@ -53,7 +53,7 @@ use Rattle.slot_law.specs.Slots.{KnowsBehind}
 use Rattle.slot_law.proofs.Knowing.{lost_knows, sees, told_knows, turned_knows}
 use Rattle.slot_law.proofs.Slots.{nothing_behind}
 use Rattle.cost_law.specs.Costs.{keys_cost, work_cost}
-use Rattle.cost_law.proofs.Works.{put_off_cost}
+use Rattle.cost_law.proofs.Works.{none_again, put_off_cost, work_less}
 use Rattle.event_law.specs.Ahead.{from_of}
 use Rattle.event_law.specs.Telling.{told}
 use Rattle.event_law.proofs.Calls.{Stays, Wrote, unread_from, watched_from, world_moves}
@@ -63,11 +63,11 @@ use Rattle.pass_law.specs.Passes.{IsCallGiven}
 use Rattle.pass_law.proofs.First.{at_most}
 use Rattle.pass_law.proofs.Given.{FindsGone, GivenSo, GivesRead, GivesStart, GivesTask, IsTold, Lists, Reads, given_so, read_called, task_called}
 use Rattle.pass_law.proofs.Reaching.{GoesOn, IsBefore, IsPast, PassOn, Stands, TurnOf, at_or_before, first_low, given_at, pass_on, turn_of}
-use Rattle.pass_law.proofs.Told.{told_after}
+use Rattle.pass_law.proofs.Told.{all_added_cost, ended_cost, told_after}
 use Rattle.done_lasts.proofs.Doing.{assigned_filled, write_asked}
 use Rattle.scheduler_writes.specs.Pods.{SchedulersWriteLittle, pod_writes, pods_writes}
 use Rattle.scheduler_writes.proofs.Begun.{call_goes, key_writes, task_writes, under_writes}
-use Rattle.scheduler_writes.proofs.Queued.{IsBound, ahead, all_added_few, distinct_few, done_written, ended_few, follows_all, log_none, no_more, none_again, scheduled_none, told_free, turned_few, work_less}
+use Rattle.scheduler_writes.proofs.Queued.{IsBound, ahead, distinct_few, done_written, follows_all, log_none, no_more, scheduled_none, told_free, turned_few}
 
 -- ---- histories
 
@@ -175,7 +175,7 @@ module _ (setup : Setup) (seat : ℕ) (x : ActorState) (request : Request) (repl
           let goes = call_goes u reply (k.of_kind ∙ kind_is) k.call in
           let under : under_writes x.under ≡ task_writes u.task = ap under_writes eu in
           let is : told_to x caches request reply ≡ task_told (learned x caches request reply) reply (Some u) = ap (given_told (learned x caches request reply) request reply) eg ∙ ap (task_told (learned x caches request reply) reply) eu in
-          let ended = ended_few (key_writes (world setup (told_entry seat x request reply ∷ h)).store.rows) u reply x.work in
+          let ended = ended_cost (key_writes (world setup (told_entry seat x request reply ∷ h)).store.rows) u reply x.work in
           subst (λ y. (world setup (told_entry seat x request reply ∷ h)).store.version + ahead (world setup (told_entry seat x request reply ∷ h)) y ≤ (world setup h).store.version + ahead (world setup h) x) (sym is)
           (by (world_moves setup (told_entry seat x request reply) h given.history.1) goes under ended)
         where
@@ -189,7 +189,7 @@ module _ (setup : Setup) (seat : ℕ) (x : ActorState) (request : Request) (repl
               omega (arith, v, same, goes, under, ended)
           by (inr wrote) goes under ended =
               let v = wrote.version in
-              let less = work_less (key_writes (world setup h).store.rows) (key_writes (world setup (told_entry seat x request reply ∷ h)).store.rows) (no_more (world setup h) (world setup (told_entry seat x request reply ∷ h)) reply wrote (rows_stand_in_order setup h) (none wrote)) x.work in
+              let less = work_less (key_writes (world setup h).store.rows) (key_writes (world setup (told_entry seat x request reply ∷ h)).store.rows) x.work (no_more (world setup h) (world setup (told_entry seat x request reply ∷ h)) reply wrote (rows_stand_in_order setup h) (none wrote)) in
               omega (arith, v, less, goes, under, ended)
 
   -- a list or a watch tells no pod that is still to be decided
@@ -218,7 +218,7 @@ module _ (setup : Setup) (seat : ℕ) (x : ActorState) (request : Request) (repl
           let v = stays.version in
           let free = told_free (key_writes (world setup h).store.rows) (told kind f (world setup h).log) (λ y i. at.light y (told_after kind f (world setup h).log y i).0 (after_base is (told_after kind f (world setup h).log y i).1)) in
           let keys : keys_cost (key_writes (world setup h).store.rows) (keys_in reply) ≡ keys_cost (key_writes (world setup h).store.rows) (map (λ (y : Event). key_of y.object) (told kind f (world setup h).log)) = ap (λ a. keys_cost (key_writes (world setup h).store.rows) (keys_in a)) answered in
-          let more = all_added_few (key_writes (world setup h).store.rows) (keys_in reply) x.work (taken_once x.work given.queue.once) in
+          let more = all_added_cost (key_writes (world setup h).store.rows) (keys_in reply) x.work (taken_once x.work given.queue.once) in
           let same : work_cost (key_writes (world setup (told_entry seat x request reply ∷ h)).store.rows) (all_added (keys_in reply) x.work) ≡ work_cost (key_writes (world setup h).store.rows) (all_added (keys_in reply) x.work) = ap (λ rows. work_cost (key_writes rows) (all_added (keys_in reply) x.work)) stays.rows in
           omega (arith, v, free, keys, more, same)
         where

@@ -1,8 +1,7 @@
 -- A slot makes few calls: its first pass, and what comes after it.
 use Rattle.std.proofs.Common.{◌≡◌, ◌∙◌, ℕ, suc, ◌+◌, ◌*◌, ◌-◌, ◌≤◌, List, [], ◌∷◌, Bool, true, false, true≢false, Option, Some, None, inl, inr, refl, sym, ap, subst, arith, if◌then◌else◌}
-use Rattle.std.specs.Prelude.{◌/◌, is_some, map, slice_get}
+use Rattle.std.specs.Prelude.{◌/◌, is_some, slice_get}
 use Rattle.std.proofs.lemmas.Option.{slice_get_within}
-use Rattle.kube_types.specs.declared.key.Key.{Key}
 use Rattle.kube_types.specs.declared.parts.Kind.{Kind}
 use Rattle.call_types.specs.declared.entry.Entry.{Entry}
 use Rattle.call_types.specs.declared.request.Request.{Request}
@@ -18,7 +17,6 @@ use Rattle.model_laws.proofs.Lists.{IsIn, none_some}
 use Rattle.model_laws.proofs.Uids.{rises}
 use Rattle.model_laws.proofs.Watched.{logs}
 use Rattle.settle_measure.specs.Measure.{total}
-use Rattle.sync_queue.specs.Work.{Taken, oldest_of}
 use Rattle.worker_core.specs.declared.role.Role.{Role}
 use Rattle.worker_core.specs.declared.turn.Next.TheVariants.{Call}
 use Rattle.worker_core.specs.declared.turn.Outcome.TheVariants.{Lost, Told}
@@ -29,14 +27,14 @@ use Rattle.worker_core.specs.States.{ActorState, start_call}
 use Rattle.worker_core.specs.Turns.{first_unlisted, is_listed, passing, unlisted}
 use Rattle.worker_core.proofs.Answered.{gives_asked, passed}
 use Rattle.worker_core.proofs.Turning.{turn_stands}
-use Rattle.attention_law.specs.Queues.{key_in, taken_keys, under_keys}
+use Rattle.attention_law.specs.Queues.{taken_keys, under_keys}
 use Rattle.attention_law.proofs.Turned.{answer_role}
 use Rattle.worker_threads.specs.Rounds.{Asks, IsHeld, IsIdle, IsReady, IsSpent, Lets, Runs, told_entry}
 use Rattle.worker_threads.proofs.RunFacts.{run_grows, still_role, turn_role}
 use Rattle.slot_law.specs.Slots.{KnowsBehind}
 use Rattle.slot_law.proofs.Knowing.{lost_knows, sees, told_knows, turned_knows}
 use Rattle.slot_law.proofs.Slots.{nothing_behind, run_older}
-use Rattle.cost_law.specs.Costs.{again_cost, calls_for}
+use Rattle.cost_law.specs.Costs.{calls_for}
 use Rattle.event_law.specs.Counts.{pending}
 use Rattle.short_law.specs.Slots.{PassesReads, SlotsAreShort, writes_since}
 use Rattle.cost_law.specs.Tasks.{task_left, under_left}
@@ -49,7 +47,7 @@ use Rattle.pass_law.proofs.Reaching.{IsBefore, IsPast, ReachedBehind, TurnOf, be
 use Rattle.pass_law.proofs.Second.{turn_cost}
 use Rattle.event_law.proofs.Sums.{div_less, mul_less, of_each}
 use Rattle.pass_law.proofs.Told.{calls_pay}
-use Rattle.cost_law.proofs.Works.{put_off_cost}
+use Rattle.cost_law.proofs.Works.{none_again, put_off_cost}
 use Rattle.event_law.specs.Ahead.{Point, cost_at, from_of, kind_cost, sum_over}
 use Rattle.event_law.specs.Telling.{told}
 use Rattle.pass_law.specs.Passes.{KindsHaveReached, IsCallGiven, first_cost, second_cost, wait_cost}
@@ -159,10 +157,6 @@ module _ (setup : Setup) (lets : Lets) (passes : PassesReads lets) (seat : ℕ) 
   abbrev cost_first : ActorState → List Entry → ℕ
   cost_first s h = first_cost setup seat s.role.kind base (world setup past).store.version s h
 
-  no_again : (f : Key → ℕ) (ts : List Taken) → map key_in ts ≡ [] → again_cost f ts ≡ 0
-  no_again f [] e = refl
-  no_again f (t ∷ ts) e = none_some (sym (ap oldest_of e))
-
   sum_in : (f g : Kind → ℕ) (d : ℕ) (ks : List Kind) → ((k : Kind) → IsIn k ks → g k ≤ f k + d) → sum_over g ks ≤ sum_over f ks + sum_over (λ k. d) ks
   sum_in f g d [] each = omega arith
   sum_in f g d (k ∷ ks) each = let a = each k (inl refl) in let b = sum_in f g d ks (λ x i. each x (inr i)) in omega (arith, a, b)
@@ -172,7 +166,7 @@ module _ (setup : Setup) (lets : Lets) (passes : PassesReads lets) (seat : ℕ) 
       → second_cost setup seat s.role.kind m (world setup past).store.version s h ≤ cost_first s h + after_cost
   covered s h ready at behind none listed over =
       let taken : taken_keys s.work ≡ [] = ready.stands.queue.taken ∙ ap under_keys none in
-      let again = no_again (cost_at s.role.kind (world setup h)) s.work.taken taken in
+      let again = none_again (cost_at s.role.kind (world setup h)) s.work.taken taken in
       let waiting = distinct_cost s.role.kind s.work.waiting (world setup h).store.rows (rows_stand_in_order setup h) (waiting_once s.work ready.stands.queue.once) in
       let heavy = at.heavy in
       let sum = sum_in (λ k. 9 * pending k base (world setup h).log) (λ k. kind_cost m (world setup past).store.version (world setup h) k (from_of seat h k)) ((m + 7) * (((world setup past).store.version - base) / 513)) (kinds_of s.role.kind) each in

@@ -44,7 +44,8 @@ use Rattle.begun_lasts.specs.Begun.{begins_to_last}
 use Rattle.slot_costs.specs.Costs.{own_calls, volume_calls}
 use Rattle.slot_costs.proofs.Alone.{pass_calls, with_pass}
 use Rattle.slot_costs.proofs.Calls.{sweep_cost, sweep_is}
-use Rattle.slot_costs.proofs.RoundCosts.{kinds_cost, most}
+use Rattle.slot_costs.proofs.KindCosts.{kinds_cost}
+use Rattle.slot_costs.proofs.RoundCosts.{most}
 use Rattle.slot_costs.proofs.Slots.{slots_cost_less}
 use Rattle.sure_slots.specs.Sure.{PassesAll}
 use Rattle.sure_slots.proofs.Slots.{sure_slots_cost_writes}

@@ -2,6 +2,7 @@ pub mod Alone
 pub mod Begun
 pub mod Calls
 pub mod Ending
+pub mod KindCosts
 pub mod Made
 pub mod Ops
 pub mod Passes

@@ -1,6 +1,6 @@
 -- A slot that begins with nothing under way makes few calls: its first pass writes nothing, and past it each call lowers what is still to come.
 use Rattle.std.proofs.Common.{◌≡◌, ◌∙◌, ℕ, ◌+◌, ◌*◌, ◌-◌, ◌≤◌, List, [], ◌∷◌, length, Bool, true, false, true≢false, None, inl, inr, refl, sym, ap, subst, arith, if◌then◌else◌}
-use Rattle.std.specs.Prelude.{◌/◌, map}
+use Rattle.std.specs.Prelude.{◌/◌}
 use Rattle.kube_types.specs.declared.key.Key.{Key}
 use Rattle.kube_types.specs.declared.parts.Kind.{Kind}
 use Rattle.call_types.specs.declared.entry.Entry.{Entry}
@@ -16,7 +16,6 @@ use Rattle.model_laws.proofs.Lists.{IsIn, none_some}
 use Rattle.model_laws.proofs.Uids.{rises}
 use Rattle.model_laws.proofs.Watched.{logs}
 use Rattle.settle_measure.specs.Measure.{total}
-use Rattle.sync_queue.specs.Work.{Taken, oldest_of}
 use Rattle.worker_core.specs.declared.role.Role.{Role}
 use Rattle.worker_core.specs.declared.turn.Next.TheVariants.{Call}
 use Rattle.worker_core.specs.declared.turn.Outcome.TheVariants.{Lost, Told}
@@ -26,14 +25,14 @@ use Rattle.worker_core.specs.States.{ActorState}
 use Rattle.worker_core.specs.Turns.{passing, unlisted}
 use Rattle.worker_core.proofs.Answered.{gives_asked}
 use Rattle.worker_core.proofs.Turning.{turn_stands}
-use Rattle.attention_law.specs.Queues.{key_in, taken_keys, under_keys}
+use Rattle.attention_law.specs.Queues.{taken_keys, under_keys}
 use Rattle.attention_law.proofs.Turned.{answer_role}
 use Rattle.worker_threads.specs.Rounds.{Asks, IsHeld, IsIdle, IsReady, IsSpent, Lets, Runs, told_entry}
 use Rattle.worker_threads.proofs.RunFacts.{still_role, turn_role}
 use Rattle.slot_law.specs.Slots.{KnowsBehind}
 use Rattle.slot_law.proofs.Knowing.{lost_knows, sees, told_knows, turned_knows}
 use Rattle.slot_law.proofs.Slots.{nothing_behind, run_older}
-use Rattle.cost_law.specs.Costs.{again_cost, calls_for}
+use Rattle.cost_law.specs.Costs.{calls_for}
 use Rattle.event_law.specs.Counts.{pending}
 use Rattle.cost_law.specs.Tasks.{task_left, under_left}
 use Rattle.event_law.proofs.Calls.{Stays}
@@ -43,7 +42,7 @@ use Rattle.pass_law.proofs.Given.{GivenSo, GivesRead, GivesStart, GivesTask, giv
 use Rattle.event_law.proofs.Points.{point_on, waiting_once}
 use Rattle.event_law.proofs.Calls.{world_moves}
 use Rattle.event_law.proofs.Sums.{of_each}
-use Rattle.cost_law.proofs.Works.{put_off_cost}
+use Rattle.cost_law.proofs.Works.{none_again, put_off_cost}
 use Rattle.binder_model.specs.Promises.{IsRunOf}
 use Rattle.binder_model.specs.World.{IsHistory, base as base_of, world}
 use Rattle.kube_types.specs.declared.objects.Object.{Object}
@@ -59,7 +58,8 @@ use Rattle.pass_law.specs.Passes.{IsCallGiven, KindsHaveReached, first_cost, wai
 use Rattle.write_count.proofs.Runs.{IsCalled, called_at, run_at}
 use Rattle.call_count.proofs.Made.{IsOrdered, NothingUnder, lost_ordered, told_ordered, turned_ordered}
 use Rattle.slot_costs.proofs.Calls.{AtKeys, InPass, IsLess, Stage, kinds_left, pass_left, rest_left, slot_left, sweep_cost}
-use Rattle.slot_costs.proofs.RoundCosts.{AreKept, CallMoves, cost_falls, cost_in, kept_on, most, waiting_few}
+use Rattle.slot_costs.proofs.KindCosts.{waiting_few}
+use Rattle.slot_costs.proofs.RoundCosts.{AreKept, CallMoves, cost_falls, cost_in, kept_on, most}
 use Rattle.slot_costs.proofs.Made.{call_moves, reads_stay}
 use Rattle.slot_costs.proofs.Passes.{none_read, read_falls, start_falls, start_pays, task_pays}
 use Rattle.slot_costs.proofs.Stages.{all_read, nothing_told}
@@ -248,16 +248,12 @@ module _ (setup : Setup) (lets : Lets) (passes : PassesReads lets) (seat : ℕ) 
   abbrev cost_first : ActorState → List Entry → ℕ
   cost_first s h = first_cost setup seat s.role.kind base base s h
 
-  no_again : (f : Key → ℕ) (ts : List Taken) → map key_in ts ≡ [] → again_cost f ts ≡ 0
-  no_again f [] e = refl
-  no_again f (t ∷ ts) e = none_some (sym (ap oldest_of e))
-
   -- past the pass the first cost covers what is still to come
   covered : (s : ActorState) (h : List Entry) → IsReady seat s h → IsBuiltKind s.role.kind → IsHistory setup h → (world setup h).store.version ≡ base → ReachedBehind setup seat base s.role s.pass h → AreKept s.role.kind first (world setup h).store.rows → s.under ≡ None → unlisted s ≡ None → passing s ≡ None
       → IsLess setup first seat (world setup past).store.version s h 0 (cost_first s h + after_cost s.role.kind)
   covered s h ready built history version behind so none listed over =
       let taken : taken_keys s.work ≡ [] = ready.stands.queue.taken ∙ ap under_keys none in
-      let again = no_again (cost_in s.role.kind first (world setup h).store.rows) s.work.taken taken in
+      let again = none_again (cost_in s.role.kind first (world setup h).store.rows) s.work.taken taken in
       let waiting = waiting_few s.role.kind first (world setup h).store.rows order (rows_stand_in_order setup h) so s.work.waiting (waiting_once s.work ready.stands.queue.once) in
       let under = ap under_left none in
       let event = at_most_five s.pass.event in
