@@ -1,5 +1,7 @@
 -- Rows whose keys stood before, or are those of volumes that may be made, are few.
-use Rattle.std.proofs.Common.{◌≡◌, ◌≢◌, ◌∙◌, ℕ, ◌+◌, ◌≤◌, List, [], ◌∷◌, length, Option, Some, None, inl, inr, refl, sym, ap, subst, arith}
+use Rattle.std.proofs.Common.{◌≡◌, ◌≢◌, ◌∙◌, ℕ, ◌+◌, ◌*◌, ◌≤◌, List, [], ◌∷◌, length, Option, Some, None, inl, inr, refl, sym, ap, subst, arith}
+use Rattle.std.proofs.Math.Nat.{add-mul}
+use Rattle.std.proofs.lemmas.Nat.{mul-le}
 use Rattle.plain_data.proofs.RowFacts.{rising_without}
 use Rattle.kube_types.specs.declared.key.Key.{Key}
 use Rattle.kube_types.specs.declared.parts.Kind.TheVariants as kinds
@@ -61,7 +63,7 @@ is_made uid c (o ∷ os) has (inr more) = by o (is_made uid c os has more)
     by (Pod x) i = i
 
 -- each is the key of a volume
-made_kind : (key : Key) (rows : List Object) → IsIn key (made_keys rows) → kind_index key.kind ≡ 2
+pub made_kind : (key : Key) (rows : List Object) → IsIn key (made_keys rows) → kind_index key.kind ≡ 2
 made_kind key [] i = absurd i
 made_kind key (Claim c ∷ os) i = by c.meta.uid i (made_kind key os)
   where
@@ -152,20 +154,21 @@ without (k ∷ ks) key (inr i) = let w = without ks key i in let few = w.fewer i
     keep w other (inl here) differs = inl here
     keep w other (inr more) differs = inr (w.keeps other more differs)
 
-module _ (f : Object → ℕ) where
-  data IsCovered (old : List Object) (spare : List Key) (o : Object) : Type 0 where
+-- rows whose objects stood before, or stand at spare keys, where each counts no more than this
+module _ (f : Object → ℕ) (n : ℕ) where
+  pub data IsCovered (old : List Object) (spare : List Key) (o : Object) : Type 0 where
     ByOld : (was : Object) → row_at (key_of o) old ≡ Some was → f o ≤ f was → IsCovered old spare o
-    BySpare : IsIn (key_of o) spare → f o ≤ 1 → IsCovered old spare o
+    BySpare : IsIn (key_of o) spare → f o ≤ n → IsCovered old spare o
     ByNothing : f o ≡ 0 → IsCovered old spare o
 
-  covered : (rows old : List Object) (spare : List Key) → AreRows rows → AreRows old → ((o : Object) → IsIn o rows → IsCovered old spare o) → total f rows ≤ total f old + length spare
+  pub covered : (rows old : List Object) (spare : List Key) → AreRows rows → AreRows old → ((o : Object) → IsIn o rows → IsCovered old spare o) → total f rows ≤ total f old + length spare * n
   covered [] old spare order before each = omega arith
   covered (x ∷ xs) old spare order before each = by (each x (inl refl)) (λ o s b c. covered xs o s order.1 b c)
     where
       differs : (o : Object) → IsIn o xs → key_of o ≢ key_of x
       differs o i = others_behind x xs order.0 o i
 
-      by : IsCovered old spare x → ((o : List Object) (s : List Key) → AreRows o → ((y : Object) → IsIn y xs → IsCovered o s y) → total f xs ≤ total f o + length s) → f x + total f xs ≤ total f old + length spare
+      by : IsCovered old spare x → ((o : List Object) (s : List Key) → AreRows o → ((y : Object) → IsIn y xs → IsCovered o s y) → total f xs ≤ total f o + length s * n) → f x + total f xs ≤ total f old + length spare * n
       by (ByOld was there few) rest =
           let gone = gone_falls f f none_paid (key_of x) was old before there (λ o i other. omega arith) in
           let none = none_pays old in
@@ -180,7 +183,9 @@ module _ (f : Object → ℕ) where
           let w = without spare (key_of x) i in
           let fewer = w.fewer in
           let more = rest old w.rest before (λ o j. still w o (differs o j) (each o (inr j))) in
-          omega (arith, few, fewer, more)
+          let times = mul-le (length w.rest + 1) n (length spare) n fewer (omega arith) in
+          let one_time = add-mul (length w.rest) 1 n in
+          omega (arith, few, more, times, one_time)
         where
           still : (w : IsWithout spare (key_of x)) (o : Object) → key_of o ≢ key_of x → IsCovered old spare o → IsCovered old w.rest o
           still w o other (ByOld y at less) = ByOld y at less
@@ -191,17 +196,17 @@ module _ (f : Object → ℕ) where
 module _ (first rows : List Object) (before : AreRows first) (order : AreRows rows) (given : AreGiven first rows) where
   pub given_few : total (λ o. 1 + names_in o) rows ≤ total (λ o. 1 + names_in o) first + claims_in first
   given_few =
-      let few = covered (λ o. 1 + names_in o) rows first (made_keys first) order before (λ o i. by o (given (key_of o) o (stands rows order o i))) in
+      let few = covered (λ o. 1 + names_in o) 1 rows first (made_keys first) order before (λ o i. by o (given (key_of o) o (stands rows order o i))) in
       let made = made_few first in
       omega (arith, few, made)
     where
-      by : (o : Object) → IsGiven first (key_of o) o → IsCovered (λ x. 1 + names_in x) first (made_keys first) o
+      by : (o : Object) → IsGiven first (key_of o) o → IsCovered (λ x. 1 + names_in x) 1 first (made_keys first) o
       by o (IsOld was there few uid) = ByOld was there (omega (arith, few))
       by o (IsMade i none) = BySpare i (omega (arith, none))
 
   -- and no pod is new
   pub pods_few : total pod_size rows ≤ total pod_size first
-  pods_few = let few = covered pod_size rows first [] order before (λ o i. by o (given (key_of o) o (stands rows order o i))) in omega (arith, few)
+  pods_few = let few = covered pod_size 0 rows first [] order before (λ o i. by o (given (key_of o) o (stands rows order o i))) in omega (arith, few)
     where
       of_pod : (p : PodData) (was : Object) → kind_index (kind_of was) ≡ kind_index kinds.Pod → length p.claims ≤ names_in was → 1 + length p.claims ≤ pod_size was
       of_pod p (Pod q) kind few = omega (arith, few)
@@ -210,7 +215,7 @@ module _ (first rows : List Object) (before : AreRows first) (order : AreRows ro
       of_pod p (Volume x) kind few = absurd (omega (arith, kind))
       of_pod p (Claim x) kind few = absurd (omega (arith, kind))
 
-      by : (o : Object) → IsGiven first (key_of o) o → IsCovered pod_size first [] o
+      by : (o : Object) → IsGiven first (key_of o) o → IsCovered pod_size 0 first [] o
       by (Pod p) (IsOld was there few uid) = ByOld was there (of_pod p was (ap (λ (k : Key). kind_index k.kind) (row_at_key (key_of (Pod p)) was first there)) few)
       by (Pod p) (IsMade i none) = let k = made_kind (key_of (Pod p)) first i in absurd (omega (arith, k))
       by (Class x) g = ByNothing refl

@@ -143,3 +143,26 @@ module _ (f g : Key → ℕ) (j : Key) (d : ℕ) (others : (k : Key) → k ≢ j
       by false (One is same) later = omega (arith, later)
       by true (Two is differs) later = let h = others t.key (λ s. differs (sym s)) in omega (arith, h, later)
       by false (Two is differs) later = omega (arith, later)
+
+-- ---- a cost that is nowhere higher
+
+pub keys_less : (f g : Key → ℕ) (ks : List Key) → ((k : Key) → g k ≤ f k) → keys_cost g ks ≤ keys_cost f ks
+keys_less f g [] each = omega arith
+keys_less f g (k ∷ ks) each = let h = each k in let rest = keys_less f g ks each in omega (arith, h, rest)
+
+again_less : (f g : Key → ℕ) (ts : List Taken) → ((k : Key) → g k ≤ f k) → again_cost g ts ≤ again_cost f ts
+again_less f g [] each = omega arith
+again_less f g (t ∷ ts) each = by t.again (each t.key) (again_less f g ts each)
+  where
+    by : (b : Bool) → g t.key ≤ f t.key → again_cost g ts ≤ again_cost f ts → (if b then g t.key else 0) + again_cost g ts ≤ (if b then f t.key else 0) + again_cost f ts
+    by true h rest = omega (arith, h, rest)
+    by false h rest = omega (arith, rest)
+
+pub work_less : (f g : Key → ℕ) (w : Work) → ((k : Key) → g k ≤ f k) → work_cost g w ≤ work_cost f w
+work_less f g w each = let a = keys_less f g w.waiting each in let b = again_less f g w.taken each in omega (arith, a, b)
+
+-- ---- no key is in work
+
+pub none_again : (f : Key → ℕ) (ts : List Taken) → map (λ (t : Taken). t.key) ts ≡ [] → again_cost f ts ≡ 0
+none_again f [] e = refl
+none_again f (t ∷ ts) e = none_some (sym (ap oldest_of e))

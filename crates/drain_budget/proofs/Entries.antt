@@ -1,5 +1,5 @@
 -- Entries of actors that pay lower what may still be written.
-use Rattle.std.proofs.Common.{◌≡◌, ◌≢◌, ◌∙◌, ◌⊎◌, ℕ, ◌+◌, ◌*◌, ◌≤◌, List, [], ◌∷◌, ◌++◌, append_assoc, Bool, true, false, true≢false, Some, inl, inr, refl, sym, ap, subst, arith}
+use Rattle.std.proofs.Common.{◌≡◌, ◌∙◌, ◌⊎◌, ℕ, ◌+◌, ◌*◌, ◌≤◌, List, [], ◌∷◌, ◌++◌, append_assoc, true, Some, inl, inr, refl, sym, ap, subst, arith}
 use Rattle.std.proofs.lemmas.List.{append_cancel_right}
 use Rattle.kube_types.specs.declared.objects.Object.{Object}
 use Rattle.kube_types.specs.declared.objects.Object.TheVariants.{Class, Node, Volume, Claim, Pod}
@@ -32,21 +32,11 @@ use Rattle.paid_law.proofs.Slots.{older_run}
 use Rattle.write_count.specs.Counts.{nodes_in, nodes_on, to_write}
 use Rattle.write_count.proofs.Keeping.{other_nodes}
 use Rattle.write_count.proofs.Nodes.{IsMoved, no_node, ops_nodes, scheduled_nodes, taken_back, updated_none}
+use Rattle.write_count.proofs.Rounds.{is_plain, no_ops, no_scheduler}
 use Rattle.write_count.proofs.Slots.{ComesTo, Leaves, Wrote, comes_to}
 use Rattle.drain_budget.specs.Rounds.{AreOfActors, PaidEntriesLower, selected_in, selects_node}
 
 -- ---- kinds
-
-abbrev is_plain : SeatKind → Bool
-is_plain seats.Scheduler = false
-is_plain seats.Ops = false
-is_plain kind = true
-
-no_scheduler : (kind : SeatKind) → is_plain kind ≡ true → kind ≢ seats.Scheduler
-no_scheduler kind plain is = true≢false (sym plain ∙ ap is_plain is)
-
-no_ops : (kind : SeatKind) → is_plain kind ≡ true → kind ≢ seats.Ops
-no_ops kind plain is = true≢false (sym plain ∙ ap is_plain is)
 
 -- what a call is that lasts: one that is worth something, one of ops that takes a node back, or one of the scheduler that selects a node
 data IsOne (kind : SeatKind) (r : Request) : Type 0 where

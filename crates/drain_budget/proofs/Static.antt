@@ -53,6 +53,7 @@ use Rattle.worker_threads.proofs.DrainFacts.{drains_grow}
 use Rattle.worker_threads.proofs.RoundFacts.{AreBuilt, round_grows, round_roles}
 use Rattle.worker_threads.proofs.RunFacts.{run_grows, still_role}
 use Rattle.paid_law.proofs.Slots.{older_run}
+use Rattle.scheduler_writes.proofs.Begun.{is_scheduler}
 use Rattle.write_count.proofs.Runs.{IsCalled, called_at, run_at}
 use Rattle.drain_budget.specs.Rounds.{selected_in, selects_node}
 use Rattle.drain_budget.specs.Selections.{NoneProvisionsLate}
@@ -133,10 +134,6 @@ called_none op call none e = at_step op.step e
     at_step (steps.Writes place) found = written place (slice_get op.writes place) refl found
     at_step steps.Done found = none_some found
     at_step steps.Parked found = none_some found
-
-abbrev is_scheduler : SeatKind → Bool
-is_scheduler seats.Scheduler = true
-is_scheduler kind = false
 
 task_none : (task : Task) (call : Request) → task_kind task ≡ seats.Scheduler → TaskNone task → task_call task ≡ Some call → selects_node seats.Scheduler call ≡ 0
 task_none (tasks.Schedule op) call kind none e = called_none op call none e

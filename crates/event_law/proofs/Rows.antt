@@ -16,7 +16,11 @@ use Rattle.settle_measure.specs.Measure.{total}
 use Rattle.settle_measure.proofs.Sums.{stands}
 use Rattle.sync_queue.specs.Work.{AreOnce}
 use Rattle.cost_law.specs.Costs.{calls_for, calls_if, key_cost, keys_cost}
-use Rattle.cost_law.proofs.Works.{cost_without}
+use Rattle.cost_law.proofs.Works.{cost_without, keys_less}
+
+abbrev pub weigh_if : (Object → ℕ) → Option Object → ℕ
+weigh_if f None = 0
+weigh_if f (Some o) = f o
 
 module _ (f : Object → ℕ) where
   pub put_total : (o : Object) (rows : List Object) → total f (put_row o rows) ≤ total f rows + f o
@@ -37,7 +41,7 @@ module _ (f : Object → ℕ) where
       by false h = omega (arith, h)
 
   -- the row that is taken out
-  taken_total : (k : Key) (o : Object) (rows : List Object) → row_at k rows ≡ Some o → total f (without_row k rows) + f o ≤ total f rows
+  pub taken_total : (k : Key) (o : Object) (rows : List Object) → row_at k rows ≡ Some o → total f (without_row k rows) + f o ≤ total f rows
   taken_total k o [] e = none_some e
   taken_total k o (x ∷ xs) e = by (is_eq (key_cmp (key_of x) k)) e (taken_total k o xs)
     where
@@ -53,22 +57,36 @@ module _ (f : Object → ℕ) where
       by true h = omega (arith, h)
       by false h = omega (arith, h)
 
+  -- keys that differ cost no more than the objects at them
+  abbrev pub weigh_at : List Object → Key → ℕ
+  weigh_at rows key = weigh_if f (row_at key rows)
+
+  pub distinct_keys : (ks : List Key) (rows : List Object) → AreRows rows → AreOnce ks → keys_cost (weigh_at rows) ks ≤ total f rows
+  distinct_keys [] rows order once = omega arith
+  distinct_keys (k ∷ ks) rows order once = by (row_at k rows) refl (distinct_keys ks)
+    where
+      by : (x : Option Object) → row_at k rows ≡ x → ((os : List Object) → AreRows os → AreOnce ks → keys_cost (weigh_at os) ks ≤ total f os) → weigh_if f (row_at k rows) + keys_cost (weigh_at rows) ks ≤ total f rows
+      by None e rest = let h = rest rows order once.1 in let own : weigh_if f (row_at k rows) ≡ 0 = ap (weigh_if f) e in omega (arith, h, own)
+      by (Some o) e rest =
+          let h = rest (without_row k rows) (rising_without key_cmp_total key_of k rows order) once.1 in
+          let own : weigh_if f (row_at k rows) ≡ f o = ap (weigh_if f) e in
+          let taken = taken_total k o rows e in
+          let others = cost_without (weigh_at (without_row k rows)) (weigh_at rows) k (λ j other. same j other) ks once.0 in
+          omega (arith, h, own, taken, others)
+        where
+          same : (j : Key) → j ≢ k → weigh_at rows j ≤ weigh_at (without_row k rows) j
+          same j other = let e = ap (weigh_if f) (row_at-without_row_other k j rows (λ s. other (sym s))) in omega (arith, e)
+
 -- keys that differ
 pub distinct_cost : (kind : SeatKind) (ks : List Key) (rows : List Object) → AreRows rows → AreOnce ks → keys_cost (key_cost kind rows) ks ≤ total (calls_for kind) rows
-distinct_cost kind [] rows order once = omega arith
-distinct_cost kind (k ∷ ks) rows order once = by (row_at k rows) refl (distinct_cost kind ks)
+distinct_cost kind ks rows order once =
+    let few = distinct_keys (calls_for kind) ks rows order once in
+    let less = keys_less (weigh_at (calls_for kind) rows) (key_cost kind rows) ks (λ key. at (row_at key rows)) in
+    omega (arith, few, less)
   where
-    by : (x : Option Object) → row_at k rows ≡ x → ((os : List Object) → AreRows os → AreOnce ks → keys_cost (key_cost kind os) ks ≤ total (calls_for kind) os) → calls_if kind (row_at k rows) + keys_cost (key_cost kind rows) ks ≤ total (calls_for kind) rows
-    by None e rest = let h = rest rows order once.1 in let own : calls_if kind (row_at k rows) ≡ 0 = ap (calls_if kind) e in omega (arith, h, own)
-    by (Some o) e rest =
-        let h = rest (without_row k rows) (rising_without key_cmp_total key_of k rows order) once.1 in
-        let own : calls_if kind (row_at k rows) ≡ calls_for kind o = ap (calls_if kind) e in
-        let taken = taken_total (calls_for kind) k o rows e in
-        let others = cost_without (key_cost kind (without_row k rows)) (key_cost kind rows) k (λ j other. same j other) ks once.0 in
-        omega (arith, h, own, taken, others)
-      where
-        same : (j : Key) → j ≢ k → key_cost kind rows j ≤ key_cost kind (without_row k rows) j
-        same j other = let e = ap (calls_if kind) (row_at-without_row_other k j rows (λ s. other (sym s))) in omega (arith, e)
+    at : (x : Option Object) → calls_if kind x ≤ weigh_if (calls_for kind) x
+    at None = omega arith
+    at (Some o) = omega arith
 
 -- the keys of a kind
 pub listed_cost : (kind : SeatKind) (k : Kind) (rows : List Object) → AreRows rows → keys_cost (key_cost kind rows) (map key_of (rows_of k rows)) ≤ total (calls_for kind) rows

@@ -37,8 +37,15 @@ use Rattle.pass_law.specs.Passes.{second_cost}
 
 -- the turns
 
-single_once : (k : Key) (w : Work) → taken_keys w ≡ k ∷ [] → AreOnce (map (λ (t : Taken). t.key) w.taken)
+pub single_once : (k : Key) (w : Work) → taken_keys w ≡ k ∷ [] → AreOnce (map (λ (t : Taken). t.key) w.taken)
 single_once k w e = subst AreOnce (sym e) (refl, tt)
+
+-- no key is in work after a decision that begins nothing
+module _ (role : Role) (memory : Memory) (rows : List Object) where
+  pub dropped_none : (first : First) (key : Key) (w : Work) → oldest_of w.waiting ≡ Some key → taken_keys w ≡ [] → taken_keys (dropped first key w) ≡ []
+  dropped_none firsts.Drops key w old none = finished_taken key (begun w) (begun_taken key w old none)
+  dropped_none (firsts.Begins task) key w old none = finished_taken key (begun w) (begun_taken key w old none)
+  dropped_none (firsts.Queues other) key w old none = finished_taken key (added other (begun w)) (added_taken other (begun w) ∙ begun_taken key w old none)
 
 module _ (role : Role) (memory : Memory) (rows : List Object) (stored : List Object) (exact : (key : Key) → follows role.kind key.kind ≡ true → row_at key rows ≡ row_at key stored) where
   abbrev f : Key → ℕ
@@ -69,11 +76,6 @@ module _ (role : Role) (memory : Memory) (rows : List Object) (stored : List Obj
       let c = finished_cost (key_cost role.kind stored) key (added other (begun w)) in
       omega (arith, own, more, a, b, c)
 
-  dropped_none : (first : First) (key : Key) (w : Work) → oldest_of w.waiting ≡ Some key → taken_keys w ≡ [] → taken_keys (dropped first key w) ≡ []
-  dropped_none firsts.Drops key w old none = finished_taken key (begun w) (begun_taken key w old none)
-  dropped_none (firsts.Begins task) key w old none = finished_taken key (begun w) (begun_taken key w old none)
-  dropped_none (firsts.Queues other) key w old none = finished_taken key (added other (begun w)) (added_taken other (begun w) ∙ begun_taken key w old none)
-
   decided_cost : (after : Work) (under : Option Under) (w : Work) → Decides role memory rows after under w → taken_keys w ≡ [] → under_left under + work_cost (key_cost role.kind stored) after ≤ work_cost (key_cost role.kind stored) w
   decided_cost after under w (Nothing empty same none) e = let a = ap (work_cost (key_cost role.kind stored)) same in let b = ap under_left none in omega (arith, a, b)
   decided_cost after under w (Begins u old gives same some) e =
@@ -86,7 +88,7 @@ module _ (role : Role) (memory : Memory) (rows : List Object) (stored : List Obj
       omega (arith, own, light, a, c, d)
   decided_cost after under w (Drops key first old none rest) e =
       let a = dropped_cost first key w old e none in
-      let b = decided_cost after under _ rest (dropped_none first key w old e) in
+      let b = decided_cost after under _ rest (dropped_none role memory rows first key w old e) in
       omega (arith, a, b)
 
 -- a turn that gives a call leaves the rest as it is

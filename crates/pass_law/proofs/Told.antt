@@ -69,14 +69,14 @@ use Rattle.pass_law.specs.Passes.{KindsHaveReached, IsCallGiven, second_cost}
 
 -- the answers
 
-all_added_cost : (f : Key → ℕ) (ks : List Key) (w : Work) → AreOnce (taken_keys w) → work_cost f (all_added ks w) ≤ work_cost f w + keys_cost f ks
+pub all_added_cost : (f : Key → ℕ) (ks : List Key) (w : Work) → AreOnce (taken_keys w) → work_cost f (all_added ks w) ≤ work_cost f w + keys_cost f ks
 all_added_cost f [] w once = omega arith
 all_added_cost f (k ∷ ks) w once =
     let a = added_cost f k w once in
     let b = all_added_cost f ks (added k w) (subst AreOnce (sym (added_taken k w)) once) in
     omega (arith, a, b)
 
-ended_cost : (f : Key → ℕ) (u : Under) (reply : Reply) (w : Work) → work_cost f (work_after u reply w) ≤ work_cost f w
+pub ended_cost : (f : Key → ℕ) (u : Under) (reply : Reply) (w : Work) → work_cost f (work_after u reply w) ≤ work_cost f w
 ended_cost f u reply w = by (is_some (under_after u reply)) (task_parks u.task reply)
   where
     by : (a b : Bool) → work_cost f (if a then w else ended_work b u.key w) ≤ work_cost f w

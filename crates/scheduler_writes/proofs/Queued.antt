@@ -1,7 +1,6 @@
 -- What the keys that wait in a scheduler come to in writes: what it does to the queue, to the caches and to the store never raises it.
 use Rattle.std.proofs.Common.{◌≡◌, ◌≢◌, ◌∙◌, ◌⊎◌, ℕ, ◌+◌, ◌≤◌, List, [], ◌∷◌, length, Bool, true, false, true≢false, Option, Some, None, inl, inr, refl, sym, ap, subst, arith, if◌then◌else◌}
-use Rattle.std.specs.Prelude.{◌<◌, cond, is_some, map, not, ⊤}
-use Rattle.std.specs.Ordering.{is_eq}
+use Rattle.std.specs.Prelude.{◌<◌, map, not, ⊤}
 use Rattle.kube_types.specs.declared.key.Key.{Key}
 use Rattle.kube_types.specs.declared.parts.Kind.{Kind}
 use Rattle.kube_types.specs.declared.parts.Kind.TheVariants as kinds
@@ -10,8 +9,8 @@ use Rattle.kube_types.specs.declared.objects.Volume.{Volume as VolumeData}
 use Rattle.kube_types.specs.declared.objects.Object.{Object}
 use Rattle.kube_types.specs.declared.objects.Object.TheVariants.{Class, Node, Volume, Claim, Pod}
 use Rattle.kube_types.specs.Bindings.{is_empty}
-use Rattle.kube_types.specs.Keys.{AreRows, key_cmp, key_of, put_row, row_at, without_row}
-use Rattle.kube_types.proofs.KeyOrder.{key_cmp_total, row_at-put_row, row_at-put_row_other, row_at-without_row, row_at-without_row_other}
+use Rattle.kube_types.specs.Keys.{AreRows, key_of, put_row, row_at, without_row}
+use Rattle.kube_types.proofs.KeyOrder.{row_at-put_row, row_at-put_row_other, row_at-without_row, row_at-without_row_other}
 use Rattle.kube_types.proofs.SameKeys.{key_tells}
 use Rattle.call_types.specs.declared.entry.Entry.{Entry}
 use Rattle.call_types.specs.declared.reply.Event.{Event}
@@ -27,106 +26,49 @@ use Rattle.binder_model.specs.Reading.{follows}
 use Rattle.binder_model.specs.Store.{at_version, updated_object, with_meta, with_status_of}
 use Rattle.binder_model.specs.World.{Effect, OnDevices, OnStore, SetsMoment, World, reply_to, world, world_after}
 use Rattle.informer_cache.specs.All.{all_objects}
-use Rattle.model_laws.proofs.Lists.{IsIn, none_some, one}
-use Rattle.plain_data.proofs.RowFacts.{rising_without}
+use Rattle.model_laws.proofs.Lists.{IsIn, none_some}
 use Rattle.safety_invariant.specs.Moves.{written_by}
 use Rattle.safety_invariant.specs.Writes.{Writes}
-use Rattle.sync_queue.specs.Work.{AreOnce, Taken, Work, added, begun, oldest_of}
-use Rattle.attention_law.specs.Queues.{taken_keys}
-use Rattle.attention_law.proofs.Queues.{added_taken}
+use Rattle.sync_queue.specs.Work.{AreOnce, Work, begun, oldest_of}
 use Rattle.settle_measure.specs.Measure.{total}
-use Rattle.cost_law.specs.Costs.{again_cost, keys_cost, work_cost}
-use Rattle.cost_law.proofs.Works.{added_cost, begun_cost, cost_without, finished_cost, put_off_cost}
+use Rattle.cost_law.specs.Costs.{keys_cost, work_cost}
+use Rattle.cost_law.proofs.Starts.{is_done}
+use Rattle.cost_law.proofs.Works.{begun_cost, finished_cost, keys_less}
 use Rattle.worker_core.specs.declared.role.Role.{Role}
 use Rattle.worker_core.specs.declared.task.First.{First}
 use Rattle.worker_core.specs.declared.task.First.TheVariants as firsts
 use Rattle.worker_core.specs.declared.task.Under.{Under}
 use Rattle.worker_core.specs.declared.turn.Given.TheVariants as givens
 use Rattle.worker_core.specs.declared.turn.Next.TheVariants.{Call}
-use Rattle.worker_core.specs.Absorbs.{all_added, ended_work, work_after}
 use Rattle.worker_core.specs.Memories.{Memory}
 use Rattle.worker_core.specs.States.{ActorState, call_in, start_call}
-use Rattle.worker_core.specs.Tasks.{GivesNone, IsFirstOf, task_parks, under_after}
+use Rattle.worker_core.specs.Tasks.{GivesNone, IsFirstOf}
 use Rattle.worker_core.specs.Turns.{AfterKeys, Begins, Decides, Drops, IsTurn, Nothing, TurnBy, dropped, passing, unlisted}
 use Rattle.event_law.proofs.Calls.{Wrote}
+use Rattle.event_law.proofs.Rows.{distinct_keys, weigh_at, weigh_if}
 use Rattle.slot_law.specs.Slots.{SeesStore}
 use Rattle.scheduler_writes.specs.Pods.{pod_writes}
 use Rattle.scheduler_writes.proofs.Begun.{begins_few, key_writes, under_writes, writes_if}
 
 -- ---- the queue
 
-pub all_added_few : (f : Key → ℕ) (ks : List Key) (w : Work) → AreOnce (taken_keys w) → work_cost f (all_added ks w) ≤ work_cost f w + keys_cost f ks
-all_added_few f [] w once = omega arith
-all_added_few f (k ∷ ks) w once =
-    let a = added_cost f k w once in
-    let b = all_added_few f ks (added k w) (subst AreOnce (sym (added_taken k w)) once) in
-    omega (arith, a, b)
-
-pub ended_few : (f : Key → ℕ) (u : Under) (reply : Reply) (w : Work) → work_cost f (work_after u reply w) ≤ work_cost f w
-ended_few f u reply w = by (is_some (under_after u reply)) (task_parks u.task reply)
-  where
-    by : (a b : Bool) → work_cost f (if a then w else ended_work b u.key w) ≤ work_cost f w
-    by true b = omega arith
-    by false true = put_off_cost f u.key w
-    by false false = finished_cost f u.key w
-
--- another cost that is no higher
-module _ (f g : Key → ℕ) (less : (k : Key) → g k ≤ f k) where
-  keys_less : (ks : List Key) → keys_cost g ks ≤ keys_cost f ks
-  keys_less [] = omega arith
-  keys_less (k ∷ ks) = let a = less k in let b = keys_less ks in omega (arith, a, b)
-
-  again_less : (ts : List Taken) → again_cost g ts ≤ again_cost f ts
-  again_less [] = omega arith
-  again_less (t ∷ ts) = by t.again (less t.key) (again_less ts)
-    where
-      by : (b : Bool) → g t.key ≤ f t.key → again_cost g ts ≤ again_cost f ts → (if b then g t.key else 0) + again_cost g ts ≤ (if b then f t.key else 0) + again_cost f ts
-      by true a rest = omega (arith, a, rest)
-      by false a rest = omega (arith, rest)
-
-  pub work_less : (w : Work) → work_cost g w ≤ work_cost f w
-  work_less w = let a = keys_less w.waiting in let b = again_less w.taken in omega (arith, a, b)
-
-pub none_again : (f : Key → ℕ) (ts : List Taken) → map (λ (t : Taken). t.key) ts ≡ [] → again_cost f ts ≡ 0
-none_again f [] e = refl
-none_again f (t ∷ ts) e = none_some (sym (ap oldest_of e))
-
 -- the keys of events that cost nothing
 pub told_free : (f : Key → ℕ) (es : List Event) → ((y : Event) → IsIn y es → f (key_of y.object) ≤ 0) → keys_cost f (map (λ (y : Event). key_of y.object) es) ≤ 0
 told_free f [] each = omega arith
 told_free f (y ∷ ys) each = let a = each y (inl refl) in let b = told_free f ys (λ z i. each z (inr i)) in omega (arith, a, b)
 
--- the row that is taken out
-taken_few : (k : Key) (o : Object) (rows : List Object) → row_at k rows ≡ Some o → total pod_writes (without_row k rows) + pod_writes o ≤ total pod_writes rows
-taken_few k o [] e = none_some e
-taken_few k o (x ∷ xs) e = by (is_eq (key_cmp (key_of x) k)) e (taken_few k o xs)
-  where
-    by : (b : Bool) → cond b (Some x) (row_at k xs) ≡ Some o → (row_at k xs ≡ Some o → total pod_writes (without_row k xs) + pod_writes o ≤ total pod_writes xs)
-        → total pod_writes (cond b xs (x ∷ without_row k xs)) + pod_writes o ≤ pod_writes x + total pod_writes xs
-    by true is rest = let same = ap pod_writes (one x o is) in omega (arith, same)
-    by false is rest = let h = rest is in omega (arith, h)
-
 -- keys that differ cost no more than all objects
 pub distinct_few : (ks : List Key) (rows : List Object) → AreRows rows → AreOnce ks → keys_cost (key_writes rows) ks ≤ total pod_writes rows
-distinct_few [] rows order once = omega arith
-distinct_few (k ∷ ks) rows order once = by (row_at k rows) refl (distinct_few ks)
+distinct_few ks rows order once =
+    let few = distinct_keys pod_writes ks rows order once in
+    let less = keys_less (weigh_at pod_writes rows) (key_writes rows) ks (λ key. at (row_at key rows)) in
+    omega (arith, few, less)
   where
-    by : (x : Option Object) → row_at k rows ≡ x → ((os : List Object) → AreRows os → AreOnce ks → keys_cost (key_writes os) ks ≤ total pod_writes os) → writes_if (row_at k rows) + keys_cost (key_writes rows) ks ≤ total pod_writes rows
-    by None e rest = let h = rest rows order once.1 in let own_ : writes_if (row_at k rows) ≡ 0 = ap writes_if e in omega (arith, h, own_)
-    by (Some o) e rest =
-        let h = rest (without_row k rows) (rising_without key_cmp_total key_of k rows order) once.1 in
-        let own_ : writes_if (row_at k rows) ≡ pod_writes o = ap writes_if e in
-        let taken = taken_few k o rows e in
-        let others = cost_without (key_writes (without_row k rows)) (key_writes rows) k (λ j other. same j other) ks once.0 in
-        omega (arith, h, own_, taken, others)
-      where
-        same : (j : Key) → j ≢ k → key_writes rows j ≤ key_writes (without_row k rows) j
-        same j other = let e = ap writes_if (row_at-without_row_other k j rows (λ s. other (sym s))) in omega (arith, e)
+    at : (x : Option Object) → writes_if x ≤ weigh_if pod_writes x
+    at None = omega arith
+    at (Some o) = omega arith
 
 -- ---- a turn
-
-single_once : (k : Key) (w : Work) → taken_keys w ≡ k ∷ [] → AreOnce (map (λ (t : Taken). t.key) w.taken)
-single_once k w e = subst AreOnce (sym e) (refl, tt)
 
 -- what is still to be written: of what is under way, and of the keys that wait
 abbrev pub ahead : World → ActorState → ℕ
@@ -198,10 +140,6 @@ turned_few setup s given request h kind turn exact = by s.memory.stale s.under (
 abbrev object_in : Object → Reply → Object
 object_in none (replies.Done o) = o
 object_in none reply = none
-
-abbrev is_done : Reply → Bool
-is_done (replies.Done o) = true
-is_done reply = false
 
 pub done_written : (w : World) (o : Object) (x : Effect) → (world_after w x).store.version ≡ w.store.version + 1 → reply_to x ≡ replies.Done o → written_by x ≡ Some o
 unfolding world_after after reply_to reply_of

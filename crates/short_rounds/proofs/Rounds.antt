@@ -41,8 +41,9 @@ use Rattle.slot_costs.specs.Costs.{own_calls}
 use Rattle.slot_costs.specs.Slots.{ops_sweep_calls}
 use Rattle.slot_costs.proofs.Alone.{with_pass}
 use Rattle.slot_costs.proofs.Calls.{sweep_cost, sweep_is}
+use Rattle.slot_costs.proofs.KindCosts.{kinds_cost}
 use Rattle.slot_costs.proofs.Ops.{ended_few, ops_slots_cost_less}
-use Rattle.slot_costs.proofs.RoundCosts.{kept_first, kinds_cost, most}
+use Rattle.slot_costs.proofs.RoundCosts.{kept_first, most}
 use Rattle.slot_costs.proofs.Slots.{slots_cost_less}
 use Rattle.sure_slots.specs.Sure.{PassesAll}
 use Rattle.sure_slots.proofs.Slots.{sure_slots_cost_writes}

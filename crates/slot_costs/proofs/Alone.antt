@@ -16,7 +16,8 @@ use Rattle.call_count.proofs.Growth.{made_few, made_keys}
 use Rattle.slot_costs.specs.Costs.{made_calls}
 use Rattle.slot_costs.specs.Slots.{SlotsCostLess, again_calls, objects_calls}
 use Rattle.slot_costs.proofs.Calls.{sweep_cost, sweep_is}
-use Rattle.slot_costs.proofs.RoundCosts.{kept_first, kinds_cost, most}
+use Rattle.slot_costs.proofs.KindCosts.{kinds_cost}
+use Rattle.slot_costs.proofs.RoundCosts.{kept_first, most}
 use Rattle.slot_costs.proofs.Slots.{slots_cost_less}
 
 -- what a pass costs in which each kind is listed again

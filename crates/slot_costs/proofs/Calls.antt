@@ -21,10 +21,11 @@ use Rattle.cost_law.specs.Tasks.{under_left}
 use Rattle.worker_core.specs.declared.turn.Pass.{Pass}
 use Rattle.event_law.specs.Ahead.{from_of, sum_over}
 use Rattle.event_law.specs.Counts.{pending}
+use Rattle.cost_law.proofs.Works.{work_less}
 use Rattle.event_law.proofs.Calls.{Stays, Wrote}
 use Rattle.event_law.proofs.Events.{one_more}
 use Rattle.event_law.proofs.Sums.{at_kind, once, sum_more}
-use Rattle.slot_costs.proofs.RoundCosts.{cost_in, most, work_less}
+use Rattle.slot_costs.proofs.RoundCosts.{cost_in, most}
 
 -- ---- what is still to come
 

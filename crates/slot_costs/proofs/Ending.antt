@@ -29,7 +29,8 @@ use Rattle.safety_invariant.specs.Writes.{IsStatus, Writes}
 use Rattle.safety_invariant.proofs.Whence.{status_next}
 use Rattle.done_lasts.proofs.Doing.{stands_it, told_one}
 use Rattle.slot_costs.specs.Costs.{own_calls}
-use Rattle.slot_costs.proofs.RoundCosts.{now_cost, of_claim, volume_less, weigh_if}
+use Rattle.event_law.proofs.Rows.{weigh_if}
+use Rattle.slot_costs.proofs.RoundCosts.{now_cost, of_claim, volume_less}
 
 -- no object costs ops more than a volume that has ended
 ops_three : (o : Object) → own_calls seats.Ops o ≤ 3

@@ -2,10 +2,10 @@ pub mod Alone
 pub mod Begun
 pub mod Calls
 pub mod Ending
+pub mod KindCosts
 pub mod Made
 pub mod Ops
 pub mod Passes
-pub mod Reaching
 pub mod RoundCosts
 pub mod Slots
 pub mod Stages

@@ -1,6 +1,6 @@
 -- Past the first pass, each call whose answer is told lowers what is still to come.
 use Rattle.std.proofs.Common.{◌≡◌, ◌∙◌, ◌⊎◌, ℕ, ◌+◌, ◌*◌, ◌-◌, ◌≤◌, ◌<◌, List, [], ◌∷◌, length, Bool, true, false, Option, Some, None, inl, inr, refl, sym, ap, subst, arith, if◌then◌else◌}
-use Rattle.std.specs.Prelude.{◌==◌, ◌&&◌, ◌||◌, is_some, map, nat_lt, not}
+use Rattle.std.specs.Prelude.{◌==◌, ◌&&◌, ◌||◌, map, nat_lt, not}
 use Rattle.std.proofs.lemmas.Bool.Decides.{nat_tests}
 use Rattle.std.proofs.Math.Nat.{mul-add}
 use Rattle.std.proofs.lemmas.Nat.{mul-le}
@@ -26,24 +26,19 @@ use Rattle.informer_cache.specs.All.{AllKnown}
 use Rattle.informer_cache.specs.Cache.{keys_in}
 use Rattle.model_laws.proofs.Histories.{rows_stand_in_order}
 use Rattle.model_laws.proofs.Lists.{IsIn, none_some}
-use Rattle.sync_queue.specs.Work.{AreOnce, Work, added}
 use Rattle.worker_core.specs.declared.role.Role.{Role}
-use Rattle.worker_core.specs.declared.task.Under.{Under}
 use Rattle.worker_core.specs.declared.turn.Given.TheVariants as givens
 use Rattle.worker_core.specs.declared.turn.Pass.{Pass}
-use Rattle.worker_core.specs.Absorbs.{all_added, ended_work, given_told, is_passing, learned, pass_after, read_told, task_told, work_after}
+use Rattle.worker_core.specs.Absorbs.{all_added, given_told, is_passing, learned, pass_after, read_told, task_told}
 use Rattle.worker_core.specs.Memories.{memory_after}
 use Rattle.worker_core.specs.Roles.{kind_in_order, kinds_of}
 use Rattle.worker_core.specs.States.{ActorState}
-use Rattle.worker_core.specs.Tasks.{task_parks, under_after}
 use Rattle.worker_core.specs.Turns.{passing}
-use Rattle.attention_law.specs.Queues.{taken_keys}
-use Rattle.attention_law.proofs.Queues.{added_taken}
 use Rattle.cost_law.specs.Costs.{keys_cost, work_cost}
 use Rattle.event_law.specs.Counts.{pending}
 use Rattle.cost_law.specs.Tasks.{task_left, under_left}
 use Rattle.event_law.proofs.Points.{taken_once}
-use Rattle.cost_law.proofs.Works.{added_cost, finished_cost, put_off_cost}
+use Rattle.cost_law.proofs.Works.{work_less}
 use Rattle.std.proofs.lemmas.Option.{slice_get_within}
 use Rattle.call_types.specs.declared.reply.Events.{Events as EventsData}
 use Rattle.model_laws.proofs.Watched.{logs}
@@ -51,7 +46,7 @@ use Rattle.worker_core.specs.Absorbs.{is_none_of, told_to}
 use Rattle.worker_threads.specs.Rounds.{told_entry}
 use Rattle.event_law.proofs.Calls.{Stays, Wrote, gone_from, listed_from, unread_from, watched_from, world_moves}
 use Rattle.event_law.proofs.Events.{none_pending, told_so}
-use Rattle.pass_law.proofs.Told.{told_after}
+use Rattle.pass_law.proofs.Told.{all_added_cost, ended_cost, told_after}
 use Rattle.pass_law.proofs.Given.{FindsGone, IsTold, Lists, ReadCalled, Reads, read_called, start_called, task_called}
 use Rattle.event_law.proofs.Sums.{sum_falls, sum_less}
 use Rattle.cost_law.proofs.Tasks.{done_few}
@@ -61,24 +56,10 @@ use Rattle.event_law.specs.Telling.{told}
 use Rattle.pass_law.specs.Passes.{KindsHaveReached, IsCallGiven}
 use Rattle.call_count.proofs.Sums.{one_more}
 use Rattle.slot_costs.proofs.Calls.{AtKeys, IsLess, call_pays, few_on, kind_left, kinds_left, low_on, pass_left, rest_left, slot_left, told_cost_or}
-use Rattle.slot_costs.proofs.RoundCosts.{AreKept, cost_in, cost_light, event_calls, key_calls, listed_few, most, work_less}
+use Rattle.slot_costs.proofs.KindCosts.{listed_few}
+use Rattle.slot_costs.proofs.RoundCosts.{AreKept, cost_in, cost_light, event_calls, key_calls, most}
 
 -- the answers
-
-all_added_cost : (f : Key → ℕ) (ks : List Key) (w : Work) → AreOnce (taken_keys w) → work_cost f (all_added ks w) ≤ work_cost f w + keys_cost f ks
-all_added_cost f [] w once = omega arith
-all_added_cost f (k ∷ ks) w once =
-    let a = added_cost f k w once in
-    let b = all_added_cost f ks (added k w) (subst AreOnce (sym (added_taken k w)) once) in
-    omega (arith, a, b)
-
-ended_cost : (f : Key → ℕ) (u : Under) (reply : Reply) (w : Work) → work_cost f (work_after u reply w) ≤ work_cost f w
-ended_cost f u reply w = by (is_some (under_after u reply)) (task_parks u.task reply)
-  where
-    by : (a b : Bool) → work_cost f (if a then w else ended_work b u.key w) ≤ work_cost f w
-    by true b = omega arith
-    by false true = put_off_cost f u.key w
-    by false false = finished_cost f u.key w
 
 -- the keys of events that cost little
 told_cost : (f : Key → ℕ) (n : ℕ) (es : List Event) → ((y : Event) → IsIn y es → f (key_of y.object) ≤ n) → keys_cost f (map (λ (y : Event). key_of y.object) es) ≤ length es * n

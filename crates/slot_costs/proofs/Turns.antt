@@ -1,7 +1,6 @@
 -- Past its first pass a turn of an actor costs nothing: a decision begins no more than was reckoned for its key, and a new pass is paid for by the
 -- writes since the last one.
-use Rattle.std.proofs.Common.{◌≡◌, ◌∙◌, ℕ, ◌+◌, ◌-◌, ◌≤◌, List, [], ◌∷◌, length, Bool, true, false, Option, Some, None, inl, inr, refl, sym, ap, subst, arith, if◌then◌else◌}
-use Rattle.std.specs.Prelude.{map}
+use Rattle.std.proofs.Common.{◌≡◌, ◌∙◌, ℕ, ◌+◌, ◌-◌, ◌≤◌, List, [], length, Bool, true, false, Option, Some, None, inl, inr, refl, sym, ap, subst, arith, if◌then◌else◌}
 use Rattle.kube_types.specs.declared.key.Key.{Key}
 use Rattle.kube_types.specs.declared.parts.Kind.{Kind}
 use Rattle.kube_types.specs.declared.objects.Object.{Object}
@@ -14,7 +13,7 @@ use Rattle.binder_model.specs.Reading.{follows}
 use Rattle.binder_model.specs.World.{IsHistory, world}
 use Rattle.informer_cache.specs.All.{all_objects}
 use Rattle.model_laws.proofs.Lists.{none_some}
-use Rattle.sync_queue.specs.Work.{AreOnce, Taken, Work, added, begun, oldest_of}
+use Rattle.sync_queue.specs.Work.{Work, added, begun, oldest_of}
 use Rattle.worker_core.specs.declared.role.Role.{Role}
 use Rattle.worker_core.specs.declared.task.First.{First}
 use Rattle.worker_core.specs.declared.task.First.TheVariants as firsts
@@ -28,7 +27,7 @@ use Rattle.worker_core.specs.States.{ActorState, call_in, start_call}
 use Rattle.worker_core.specs.Tasks.{GivesNone}
 use Rattle.worker_core.specs.Turns.{AfterKeys, Begins, Decides, Drops, IsTurn, Nothing, TurnBy, dropped, passing, unlisted}
 use Rattle.attention_law.specs.Queues.{taken_keys, under_keys}
-use Rattle.attention_law.proofs.Queues.{added_taken, begun_taken, finished_taken}
+use Rattle.attention_law.proofs.Queues.{begun_taken}
 use Rattle.worker_threads.specs.Rounds.{IsReady}
 use Rattle.slot_law.specs.Slots.{SeesStore}
 use Rattle.cost_law.specs.Costs.{work_cost}
@@ -36,6 +35,7 @@ use Rattle.cost_law.specs.Tasks.{under_left}
 use Rattle.cost_law.proofs.Begun.{queued_on}
 use Rattle.cost_law.proofs.Works.{added_cost, begun_cost, finished_cost}
 use Rattle.worker_core.proofs.Machines.{queued_kinds}
+use Rattle.pass_law.proofs.Second.{dropped_none, single_once}
 use Rattle.call_count.proofs.Growth.{AreGiven}
 use Rattle.slot_costs.proofs.Begun.{begun_on_own, queues_so}
 use Rattle.slot_costs.proofs.Calls.{AtKeys, InPass, IsLess, Stage, kinds_ahead, pass_left, slot_left}
@@ -44,9 +44,6 @@ use Rattle.slot_costs.proofs.RoundCosts.{AreKept, cost_in, covers, of_volume, qu
 use Rattle.slot_costs.proofs.Stages.{IsAtKeys, keys_of, pass_begins}
 
 -- the turns
-
-single_once : (k : Key) (w : Work) → taken_keys w ≡ k ∷ [] → AreOnce (map (λ (t : Taken). t.key) w.taken)
-single_once k w e = subst AreOnce (sym e) (refl, tt)
 
 module _ (role : Role) (memory : Memory) (rows : List Object) (first stored : List Object) (so : AreGiven first stored) (exact : (key : Key) → follows role.kind key.kind ≡ true → row_at key rows ≡ row_at key stored) where
   abbrev f : Key → ℕ
@@ -75,11 +72,6 @@ module _ (role : Role) (memory : Memory) (rows : List Object) (first stored : Li
       let c = finished_cost (cost_in role.kind first stored) key (added other (begun w)) in
       omega (arith, own, volume, less, more, a, b, c)
 
-  dropped_none : (what : First) (key : Key) (w : Work) → oldest_of w.waiting ≡ Some key → taken_keys w ≡ [] → taken_keys (dropped what key w) ≡ []
-  dropped_none firsts.Drops key w old none = finished_taken key (begun w) (begun_taken key w old none)
-  dropped_none (firsts.Begins task) key w old none = finished_taken key (begun w) (begun_taken key w old none)
-  dropped_none (firsts.Queues other) key w old none = finished_taken key (added other (begun w)) (added_taken other (begun w) ∙ begun_taken key w old none)
-
   decided_cost : (after : Work) (under : Option Under) (w : Work) → Decides role memory rows after under w → taken_keys w ≡ [] → under_left under + work_cost (cost_in role.kind first stored) after ≤ work_cost (cost_in role.kind first stored) w
   decided_cost after under w (Nothing empty same none) e = let a = ap (work_cost (cost_in role.kind first stored)) same in let b = ap under_left none in omega (arith, a, b)
   decided_cost after under w (Begins u old gives same some) e =
@@ -92,7 +84,7 @@ module _ (role : Role) (memory : Memory) (rows : List Object) (first stored : Li
       omega (arith, own, light, a, c, d)
   decided_cost after under w (Drops key what old none rest) e =
       let a = dropped_cost what key w old e none in
-      let b = decided_cost after under _ rest (dropped_none what key w old e) in
+      let b = decided_cost after under _ rest (dropped_none role memory rows what key w old e) in
       omega (arith, a, b)
 
 -- a turn that gives a call costs nothing: it decides keys, or begins a pass

@@ -121,7 +121,7 @@ provision_none (provision_steps.Provisions labels) c uid x request call = sym (a
 provision_none (provision_steps.Creates id topology) c uid x request call = sym (ap phase_written (one (create_call c uid x id topology) request call))
 provision_none provision_steps.ClearsNode c uid x request call = sym (ap phase_written (one (clear_call c) request call))
 
-abbrev is_ops : SeatKind → Bool
+abbrev pub is_ops : SeatKind → Bool
 is_ops seats.Ops = true
 is_ops kind = false
 

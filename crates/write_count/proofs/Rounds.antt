@@ -27,15 +27,15 @@ use Rattle.write_count.proofs.Slots.{counted, ops_write_little, others_select_no
 
 -- ---- roles
 
-abbrev is_plain : SeatKind → Bool
+abbrev pub is_plain : SeatKind → Bool
 is_plain seats.Scheduler = false
 is_plain seats.Ops = false
 is_plain kind = true
 
-no_scheduler : (kind : SeatKind) → is_plain kind ≡ true → kind ≢ seats.Scheduler
+pub no_scheduler : (kind : SeatKind) → is_plain kind ≡ true → kind ≢ seats.Scheduler
 no_scheduler kind plain is = true≢false (sym plain ∙ ap is_plain is)
 
-no_ops : (kind : SeatKind) → is_plain kind ≡ true → kind ≢ seats.Ops
+pub no_ops : (kind : SeatKind) → is_plain kind ≡ true → kind ≢ seats.Ops
 no_ops kind plain is = true≢false (sym plain ∙ ap is_plain is)
 
 abbrev ArePlain : List Role → Type 0
