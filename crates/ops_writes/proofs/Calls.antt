@@ -22,7 +22,7 @@ use Rattle.call_types.specs.declared.request.SeatKind.{SeatKind}
 use Rattle.call_types.specs.declared.request.SeatKind.TheVariants as seats
 use Rattle.call_types.specs.declared.setup.Setup.{Setup}
 use Rattle.binder_model.specs.Answers.{Says, after, is_for_store, list, outcome}
-use Rattle.binder_model.specs.Devices.{Data, DeviceAnswer, after_call, data_named, device_answer, erase, first_fit, is_planned, provision, provision_new, unless_planned}
+use Rattle.binder_model.specs.Devices.{DeviceAnswer, after_call, data_named, device_answer, erase, is_planned, provision, unless_planned}
 use Rattle.binder_model.specs.Due.{reclaim_due}
 use Rattle.binder_model.specs.Licence.{RowAllows}
 use Rattle.binder_model.specs.Provisioning.{data_name, provisioned_volume}
@@ -49,7 +49,7 @@ use Rattle.worker_core.specs.declared.task.Task.TheVariants as tasks
 use Rattle.worker_core.specs.declared.task.Under.{Under}
 use Rattle.worker_core.specs.Steps.Evidence.{task_kind}
 use Rattle.worker_core.specs.Tasks.{task_call, under_after}
-use Rattle.paid_law.proofs.Calls.{stored_effect}
+use Rattle.paid_law.proofs.Calls.{provision_rises, stored_effect}
 use Rattle.write_count.specs.Counts.{nodes_in, nodes_on}
 use Rattle.write_count.proofs.Failing.{erase_failed, fails_go, phase_written, under_fails}
 use Rattle.write_count.proofs.Nodes.{IsMoved, ops_nodes, taken_back}
@@ -78,15 +78,6 @@ module _ (setup : Setup) (w : World) where
       let same : faults_after request ≡ faults_left setup w.devices = ap (λ y. faults_left setup (world_after w y).devices) x.1.0 in
       omega (arith, same)
 
-  provision_rises : (name provisioner : List ℕ) (bytes : ℕ) (labels : Option (List Pair)) (x : Option Data) → w.devices.calls ≤ (provision setup.pools w.devices name provisioner bytes labels x).devices.calls
-  unfolding provision provision_new
-  provision_rises name provisioner bytes labels (Some x) = omega arith
-  provision_rises name provisioner bytes labels None = by (first_fit provisioner bytes labels w.devices.stored 0 setup.pools)
-    where
-      by : (place : Option ℕ) → w.devices.calls ≤ (provision_new setup.pools w.devices name provisioner bytes labels place).devices.calls
-      by None = omega arith
-      by (Some place) = omega arith
-
   asked_faults : (name provisioner : List ℕ) (bytes : ℕ) (labels : Option (List Pair)) → faults_after (requests.Provision name provisioner bytes labels) ≤ faults_left setup w.devices
   unfolding effect on_devices device_answer world_after unless_planned
   asked_faults name provisioner bytes labels = by (is_planned (w.devices.calls + 1) setup.faults)
@@ -96,7 +87,7 @@ module _ (setup : Setup) (w : World) where
 
       by : (b : Bool) → faults_left setup (if b then after_call w.devices (replies.Refused (refusals.BackFault (w.devices.calls + 1))) else given).devices ≤ faults_left setup w.devices
       by true = calls_stay setup w.devices (record w.devices { calls = w.devices.calls + 1 }) (omega arith)
-      by false = calls_stay setup w.devices given.devices (provision_rises name provisioner bytes labels (data_named name w.devices.stored))
+      by false = calls_stay setup w.devices given.devices (provision_rises setup w.devices name provisioner bytes labels (data_named name w.devices.stored))
 
   erased_faults : (id : DataId) → faults_after (requests.Erase id) + failed (requests.Erase id) ≤ faults_left setup w.devices
   unfolding effect on_devices device_answer world_after reply_to unless_planned erase

@@ -175,7 +175,6 @@ module _ (setup : Setup) (seat : ℕ) (given next : ActorState) (request : Reque
 lost_none : (rows : List Object) (before : ℕ) (given next : ActorState) (request : Request) → CallsSo rows before given request → next ≡ absorbed given next.caches request Lost → next.under ≡ None
 lost_none rows before given next request so absorbs = ap (λ (x : ActorState). x.under) absorbs ∙ by so
   where
-
     by : CallsSo rows before given request → (lost_given given given.given).under ≡ None
     by (OfUnder u under task asked fits few) = task_lost given given.given given.under task
     by (Reads none read) = none_lost given given.given given.under none

@@ -281,7 +281,7 @@ module _ (setup : Setup) (d : Devices) where
       by true = omega arith
       by false = on
 
-  provision_rises : (name provisioner : List ℕ) (bytes : ℕ) (labels : Option (List Pair)) (x : Option Data) → d.calls ≤ (provision setup.pools d name provisioner bytes labels x).devices.calls
+  pub provision_rises : (name provisioner : List ℕ) (bytes : ℕ) (labels : Option (List Pair)) (x : Option Data) → d.calls ≤ (provision setup.pools d name provisioner bytes labels x).devices.calls
   unfolding provision provision_new
   provision_rises name provisioner bytes labels (Some x) = omega arith
   provision_rises name provisioner bytes labels None = by (first_fit provisioner bytes labels d.stored 0 setup.pools)

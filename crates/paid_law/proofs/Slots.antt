@@ -142,7 +142,6 @@ module _ (setup : Setup) (lets : Lets) (seat : ℕ) (role : Role) (built : IsBui
   lost_pays : (given next : ActorState) (request : Request) (h : List Entry) → CallsSo setup seat role.kind h given request → next ≡ absorbed given next.caches request Lost → PaysUnder setup seat role.kind h next.under
   lost_pays given next request h so absorbs = subst (PaysUnder setup seat role.kind h) (sym (ap (λ (x : ActorState). x.under) absorbs ∙ by so)) NothingUnder
     where
-
       by : CallsSo setup seat role.kind h given request → (lost_given given given.given).under ≡ None
       by (OfUnder u under task asked will) = task_lost given given.given given.under task
       by (Reads none never) = none_lost given given.given given.under none

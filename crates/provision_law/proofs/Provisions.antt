@@ -56,7 +56,7 @@ use Rattle.provision_law.specs.Provisioning.{ActsWhereDue, ClearsAct, Provisions
 use Rattle.provision_law.proofs.Begun.{BeginsNone, BeginsOne, Begun, HasNode, IsChosen, begins_same, begun}
 use Rattle.provision_law.proofs.Devices.{Fails, Gives, Lacks, ProvisionSays, provision_keeps, provision_says}
 
-abbrev is_asking : ProvisionStep → Bool
+abbrev pub is_asking : ProvisionStep → Bool
 is_asking (steps.Provisions labels) = true
 is_asking step = false
 

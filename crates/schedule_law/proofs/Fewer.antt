@@ -145,7 +145,7 @@ turns_on refused ns before n behind rises are = by refused are
 
 -- the nodes in turn are the nodes
 
-pub in_passing : (p : NodeData → Bool) (m : NodeData) (ns : List NodeData) → IsIn m ns → p m ≡ true → IsIn m (filter p ns)
+pub in_passing : {X : Type 0} (p : X → Bool) (m : X) (ns : List X) → IsIn m ns → p m ≡ true → IsIn m (filter p ns)
 in_passing p m [] there e = absurd there
 in_passing p m (x ∷ xs) (inl is) e = subst (λ b. IsIn m (cond b (x ∷ filter p xs) (filter p xs))) (sym (ap p is ∙ e)) (inl is)
 in_passing p m (x ∷ xs) (inr more) e = by (p x) (in_passing p m xs more e)

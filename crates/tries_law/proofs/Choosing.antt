@@ -6,18 +6,16 @@ use Rattle.kube_types.specs.declared.key.Key.{Key}
 use Rattle.kube_types.specs.declared.uid.Uid.{Uid}
 use Rattle.kube_types.specs.declared.objects.Pod.{Pod as PodData}
 use Rattle.kube_types.specs.declared.objects.Object.{Object}
-use Rattle.kube_types.specs.declared.objects.Object.TheVariants.{Claim, Pod}
-use Rattle.kube_types.specs.Keys.{AreRows, key_of, row_at}
-use Rattle.kube_types.specs.VolumeIndex.{as_volume}
+use Rattle.kube_types.specs.declared.objects.Object.TheVariants.{Pod}
+use Rattle.kube_types.specs.Keys.{AreRows, key_of}
 use Rattle.call_types.specs.declared.reply.Reply.{Reply}
 use Rattle.call_types.specs.declared.request.Request.{Request}
 use Rattle.call_types.specs.declared.request.Request.TheVariants.{BindPod}
-use Rattle.binder_model.specs.Choice.{are_completed, claim_in, claims_of, is_served_elsewhere, is_under_way, lacks_claim, others_of}
+use Rattle.binder_model.specs.Choice.{are_completed, claims_of, is_served_elsewhere, is_under_way, lacks_claim, others_of}
 use Rattle.model_laws.proofs.Lists.{none_some, one}
 use Rattle.delayed_binding.specs.declared.choice.Choice.{Choice}
 use Rattle.delayed_binding.specs.declared.choice.Choice.TheVariants.{Assign, NoNode, Prepare, Wait}
 use Rattle.delayed_binding.specs.Choices.{IsChoice, IsChoiceAt, IsCompleted, IsSearching, IsServedElsewhere, IsUnderWay, LacksClaim, others_in, set_aside}
-use Rattle.delayed_binding.specs.Writes.{reference_write}
 use Rattle.pod_scheduler.specs.declared.schedule.ScheduleOp.{ScheduleOp}
 use Rattle.pod_scheduler.specs.declared.schedule.ScheduleStep.{ScheduleStep}
 use Rattle.pod_scheduler.specs.declared.schedule.ScheduleStep.TheVariants as steps
@@ -71,7 +69,6 @@ begun_first [] op e = none_some (sym e)
 begun_first (w ∷ writes) op e = ap (λ (x : ScheduleOp). x.step) (one op _ e)
 
 module _ (rows : List Object) (order : AreRows rows) (p : PodData) (known : are_known rows p ≡ true) (last : Option (List ℕ)) where
-
   prepared : (name : List ℕ) (binds : List (Key × Key)) (provisions : List Key) → IsSearch rows p last name binds provisions → Chosen rows p last (writes_for rows p (Prepare name binds provisions))
   prepared name (pair ∷ more) provisions search = TakesVolumes (takes_first rows order p known last name pair more provisions search)
   prepared name [] provisions search = by (are_writes rows order p known last name [] provisions search)

@@ -2,7 +2,8 @@
 use Rattle.std.proofs.Common.{◌≡◌, ◌∙◌, ℕ, ◌-◌, List, [], ◌∷◌, ◌++◌, append_assoc, Bool, true, false, true≢false, Some, None, inl, inr, refl, sym, ap, subst}
 use Rattle.std.specs.List.{list_any}
 use Rattle.kube_types.specs.declared.key.Key.{Key}
-use Rattle.kube_types.specs.Keys.{same_key}
+use Rattle.kube_types.specs.Keys.{row_at, same_key}
+use Rattle.kube_types.specs.declared.objects.Object.{Object}
 use Rattle.call_types.specs.declared.entry.Entry.{Entry}
 use Rattle.call_types.specs.declared.reply.Reply.{Reply}
 use Rattle.call_types.specs.declared.request.Request.{Request}
@@ -10,8 +11,10 @@ use Rattle.call_types.specs.declared.request.SeatKind.{SeatKind}
 use Rattle.call_types.specs.declared.setup.Setup.{Setup}
 use Rattle.binder_model.specs.Told.{own}
 use Rattle.binder_model.specs.World.{IsHistory, effect, reply_to, world}
+use Rattle.binder_model.specs.Reading.{follows}
 use Rattle.model_laws.proofs.Lists.{none_some, one}
 use Rattle.sync_queue.specs.Work.{Taken, mark_of, oldest_of}
+use Rattle.informer_cache.specs.All.{all_objects}
 use Rattle.worker_core.specs.declared.role.Role.{Role}
 use Rattle.worker_core.specs.declared.task.Under.{Under}
 use Rattle.worker_core.specs.declared.turn.Given.TheVariants as givens
@@ -182,9 +185,9 @@ module _ (setup : Setup) (lets : Lets) (seat : ℕ) (role : Role) (key : Key) (b
           (subst (λ w. waits key w ≡ true) (sym (ap (λ (x : ActorState). x.work) absorbs)) ((answers_keep_keys given next.caches request Lost).stays key still))
       by false stopped rest = held_so (stops_by s given (Call request) key turn waiting stopped)
 
-pub cached_are_decided : CachedAreDecided
-cached_are_decided setup lets seat key o old after h past b left built history idle followed cached run awake acts =
-    acted setup lets seat old.role key built after past left history awake (woken old) h b run refl (nothing_behind setup seat old h) acts (by (come_by old (own seat h) key o ready.stands.told.caches followed cached))
+-- a key that the actor had cached waits once it is woken
+pub cached_waits : (lets : Lets) (seat : ℕ) (key : Key) (o : Object) (old after : ActorState) (h past : List Entry) (b left : ℕ) → old.under ≡ None → follows old.role.kind key.kind ≡ true → row_at key (all_objects old.caches) ≡ Some o → Runs lets seat after past left true (woken old) h b → waits key (woken old).work ≡ true
+cached_waits lets seat key o old after h past b left idle followed cached run = by (come_by old (own seat h) key o ready.stands.told.caches followed cached)
   where
     ready : IsReady seat (woken old) h
     ready = ready_at lets seat (woken old) after h past b left run
@@ -196,3 +199,7 @@ cached_are_decided setup lets seat key o old after h past b left built history i
     by : ComesAgain key (woken old).work → waits key (woken old).work ≡ true
     by (inl waiting) = waiting
     by (inr marked) = none_taken (woken old).work.taken (ready.stands.queue.taken ∙ ap under_keys idle) marked
+
+pub cached_are_decided : CachedAreDecided
+cached_are_decided setup lets seat key o old after h past b left built history idle followed cached run awake acts =
+    acted setup lets seat old.role key built after past left history awake (woken old) h b run refl (nothing_behind setup seat old h) acts (cached_waits lets seat key o old after h past b left idle followed cached run)

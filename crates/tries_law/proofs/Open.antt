@@ -3,6 +3,7 @@ use Rattle.std.proofs.Common.{◌≡◌, ◌∙◌, ℕ, List, [], ◌∷◌, Bo
 use Rattle.std.specs.Prelude.{◌&&◌, ◌||◌, cond, filter}
 use Rattle.std.specs.List.{cons_option, list_all, list_any}
 use Rattle.std.specs.Ordering.{is_gt}
+use Rattle.std.proofs.lemmas.Bool.{and_parts, or_parts}
 use Rattle.kube_types.specs.declared.objects.Claim.{Claim as ClaimData}
 use Rattle.kube_types.specs.declared.objects.Object.{Object}
 use Rattle.kube_types.specs.declared.objects.Object.TheVariants.{Claim}
@@ -13,7 +14,8 @@ use Rattle.binder_model.specs.Choice.{by_size, claim_cmp, claim_named, claims_of
 use Rattle.binder_model.specs.ObjectKeys.{claim_key}
 use Rattle.binder_model.specs.Told.{SomeOf}
 use Rattle.model_laws.proofs.Lists.{IsIn}
-use Rattle.delayed_binding.proofs.Known.{Each, and_right, claim_of_row}
+use Rattle.delayed_binding.proofs.Known.{Each, claim_of_row}
+use Rattle.schedule_law.proofs.Fewer.{in_passing}
 
 -- ---- lists
 
@@ -24,34 +26,13 @@ each_in P x (y ∷ ys) each (inr more) = each_in P x ys each.1 more
 
 pub all_at : {X : Type 0} (f : X → Bool) (x : X) (xs : List X) → list_all f xs ≡ true → IsIn x xs → f x ≡ true
 all_at f x [] all there = absurd there
-all_at f x (y ∷ ys) all (inl is) = ap f (sym is) ∙ and_left (f y) (list_all f ys) all
-  where
-    and_left : (a b : Bool) → (a && b) ≡ true → a ≡ true
-    and_left true b e = refl
-    and_left false b e = e
-all_at f x (y ∷ ys) all (inr more) = all_at f x ys (and_right (f y) (list_all f ys) all) more
+all_at f x (y ∷ ys) all (inl is) = ap f (sym is) ∙ (and_parts (f y) (list_all f ys) all).0
+all_at f x (y ∷ ys) all (inr more) = all_at f x ys (and_parts (f y) (list_all f ys) all).1 more
 
 pub any_at : {X : Type 0} (f : X → Bool) (x : X) (xs : List X) → list_any f xs ≡ false → IsIn x xs → f x ≡ false
 any_at f x [] none there = absurd there
-any_at f x (y ∷ ys) none (inl is) = ap f (sym is) ∙ or_left (f y) (list_any f ys) none
-  where
-    or_left : (a b : Bool) → (a || b) ≡ false → a ≡ false
-    or_left true b e = absurd (true≢false e)
-    or_left false b e = refl
-any_at f x (y ∷ ys) none (inr more) = any_at f x ys (or_right (f y) (list_any f ys) none) more
-  where
-    or_right : (a b : Bool) → (a || b) ≡ false → b ≡ false
-    or_right true b e = absurd (true≢false e)
-    or_right false b e = e
-
-in_filter : {X : Type 0} (f : X → Bool) (x : X) (xs : List X) → IsIn x xs → f x ≡ true → IsIn x (filter f xs)
-in_filter f x [] there is = absurd there
-in_filter f x (y ∷ ys) (inl same) is = subst (λ b. IsIn x (cond b (y ∷ filter f ys) (filter f ys))) (sym (ap f same ∙ is)) (inl same)
-in_filter f x (y ∷ ys) (inr more) is = by (f y) (in_filter f x ys more is)
-  where
-    by : (b : Bool) → IsIn x (filter f ys) → IsIn x (cond b (y ∷ filter f ys) (filter f ys))
-    by true rest = inr rest
-    by false rest = rest
+any_at f x (y ∷ ys) none (inl is) = ap f (sym is) ∙ (or_parts (f y) (list_any f ys) none).0
+any_at f x (y ∷ ys) none (inr more) = any_at f x ys (or_parts (f y) (list_any f ys) none).1 more
 
 each_filter : {X : Type 0} (P : X → Type 0) (f : X → Bool) (xs : List X) → Each P xs → Each P (filter f xs)
 each_filter P f [] each = tt
@@ -144,7 +125,7 @@ module _ (rows : List Object) (p : PodData) where
 
   -- what holds of each that still needs a volume
   pub other_of : (P : ClaimData → Type 0) → Each P (others_of rows p) → (c : ClaimData) → IsNamed rows p c → is_other rows c ≡ true → P c
-  other_of P each c n other = each_in P c (filter (is_other rows) (claims_of rows p)) (each_unsized P (filter (is_other rows) (claims_of rows p)) each) (in_filter (is_other rows) c (claims_of rows p) (named_in c n) other)
+  other_of P each c n other = each_in P c (filter (is_other rows) (claims_of rows p)) (each_unsized P (filter (is_other rows) (claims_of rows p)) each) (in_passing (is_other rows) c (claims_of rows p) (named_in c n) other)
 
   -- ---- claims that are not under way
 

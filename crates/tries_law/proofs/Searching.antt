@@ -65,8 +65,9 @@ use Rattle.tries_law.proofs.Choosing.{Binds, BindsPod, Chosen, IsSearched, Takes
 use Rattle.tries_law.proofs.Choosing.{Searches as SearchesOne}
 use Rattle.tries_law.proofs.Keeping.{RowsStay, StayUpTo, keep, stay_here}
 use Rattle.tries_law.proofs.Open.{HasOpen, IsNamed, all_at, named_in, open_is_other, open_of, open_waits, other_of}
-use Rattle.tries_law.proofs.Walking.{Asked, EntrySo, IsDropped, IsTakenUp, OnRun, cached_waits, walks}
+use Rattle.tries_law.proofs.Walking.{Asked, EntrySo, IsDropped, IsTakenUp, OnRun, walks}
 use Rattle.tries_law.proofs.Writing.{EndsAt, NodeAt, through}
+use Rattle.tries_law.proofs.Deciding.{cached_waits}
 
 -- ---- words that are the same in worlds that are near
 
@@ -198,7 +199,7 @@ module _ (setup : Setup) (seat : ℕ) (old after : ActorState) (h past : List En
           (pods_act setup seat old.role g key (pod_at g k.near).pod dues.Prepare run.imports kind (pod_at g k.near).there (waits_at g k.near) (due_at g k.near (k.stay g (record { newer = []; older = older; ahead = refl; behind = since })))).acts s g d.first d.sees d.none
 
       waiting : true ≡ true → waits_in key (woken old).work ≡ true
-      waiting m = cached_waits seat key o old after h past b left idle
+      waiting m = cached_waits all_pass seat key o old after h past b left idle
           (ap (λ k. follows k key.kind) kind ∙ ap (λ (k : Key). follows seats.Scheduler k.kind) (sym (row_at_key key (Pod pod) (world setup h).store.rows there))) cached runs
 
   -- ---- the decision

@@ -1,6 +1,7 @@
 -- What the devices can give on a node: a claim that is to lose its node is not served there, and so the shares of its pod cannot be given.
 use Rattle.std.proofs.Common.{◌≡◌, ◌∙◌, ℕ, List, [], ◌∷◌, ◌++◌, Bool, true, false, true≢false, Option, Some, None, refl, sym, ap, if◌then◌else◌}
 use Rattle.std.specs.Prelude.{◌&&◌, not, is_none, ⊤}
+use Rattle.std.proofs.lemmas.Bool.{and_parts}
 use Rattle.plain_data.specs.Pairs.{value_at}
 use Rattle.kube_types.specs.declared.uid.Uid.{Uid}
 use Rattle.kube_types.specs.declared.names.Due.{Due}
@@ -24,7 +25,7 @@ use Rattle.volume_match.specs.Volumes.{volume_at}
 use Rattle.model_laws.proofs.Lists.{none_some}
 use Rattle.alike_law.proofs.Rows.{plain_node}
 use Rattle.delayed_binding.specs.Choices.{binds_of, pair_of}
-use Rattle.delayed_binding.proofs.Known.{Each, and_right}
+use Rattle.delayed_binding.proofs.Known.{Each}
 use Rattle.near_law.specs.Near.{AreNear, rest_of}
 use Rattle.near_law.proofs.Near.{one_rest, one_rest_claim}
 use Rattle.near_law.proofs.Serving.{share_rest}
@@ -110,8 +111,5 @@ each_served setup w n [] (IsProvisioned ∷ shares) are given = absurd are
 each_served setup w n (c ∷ cs) [] are given = absurd are
 each_served setup w n (c ∷ cs) (TakesVolume place ∷ shares) are given = absurd are
 each_served setup w n (c ∷ cs) (IsProvisioned ∷ shares) are given =
-    (and_left (is_served_on setup w n c c.meta.uid (row_at (class_key (class_of_claim c)) w.store.rows)) (shares_are_served setup w n cs shares) given, each_served setup w n cs shares are (and_right (is_served_on setup w n c c.meta.uid (row_at (class_key (class_of_claim c)) w.store.rows)) (shares_are_served setup w n cs shares) given))
-  where
-    and_left : (a b : Bool) → (a && b) ≡ true → a ≡ true
-    and_left true b e = refl
-    and_left false b e = e
+    let parts = and_parts (is_served_on setup w n c c.meta.uid (row_at (class_key (class_of_claim c)) w.store.rows)) (shares_are_served setup w n cs shares) given in
+    (parts.0, each_served setup w n cs shares are parts.1)

@@ -49,6 +49,7 @@ use Rattle.alike_law.specs.Alike.{AreAlike}
 use Rattle.slot_law.specs.Would.{Here, Leads, On}
 use Rattle.provision_law.proofs.Begun.{BeginsNone, BeginsOne, Begun, HasNode, IsChosen, begun}
 use Rattle.provision_law.proofs.Devices.{Fails, Gives, Lacks, ProvisionSays, provision_says}
+use Rattle.provision_law.proofs.Provisions.{is_asking}
 use Rattle.paid_law.specs.Pays.{HavePaid, worth}
 use Rattle.drain_budget.specs.Budget.{AreAlwaysInOrder}
 use Rattle.near_law.proofs.Near.{claim_near, near_provisions}
@@ -106,10 +107,6 @@ over_never c u p clear = by p.op.step p.over p.call
     by steps.Parked over e = none_some e
 
 -- ---- what was begun on a claim and takes its node back was due
-
-abbrev is_asking : ProvisionStep → Bool
-is_asking (steps.Provisions labels) = true
-is_asking step = false
 
 record IsTaken (setup : Setup) (h : List Entry) (op : ProvisionOp) : Type 0 where
   due : due_at setup (world setup h) op op.step ≡ Some dues.ClearNode

@@ -1,10 +1,10 @@
 -- A slot up to the decision of one key: each call before it is a read, or one of what was decided for another key.
-use Rattle.std.proofs.Common.{◌≡◌, ◌∙◌, ℕ, ◌-◌, List, [], ◌∷◌, ◌++◌, Bool, true, false, true≢false, Option, Some, None, inl, inr, refl, sym, ap, subst, ◌≢◌, ◌⊎◌}
+use Rattle.std.proofs.Common.{◌≡◌, ◌∙◌, ℕ, ◌-◌, List, ◌∷◌, ◌++◌, Bool, true, false, true≢false, Option, Some, None, inl, inr, refl, sym, ap, subst, ◌≢◌, ◌⊎◌}
 use Rattle.std.specs.List.{list_any}
 use Rattle.kube_types.specs.declared.key.Key.{Key}
 use Rattle.kube_types.specs.declared.parts.Kind.{Kind}
 use Rattle.kube_types.specs.declared.objects.Object.{Object}
-use Rattle.kube_types.specs.Keys.{row_at, same_key}
+use Rattle.kube_types.specs.Keys.{same_key}
 use Rattle.call_types.specs.declared.entry.Entry.{Entry}
 use Rattle.call_types.specs.declared.reply.Reply.{Reply}
 use Rattle.call_types.specs.declared.request.Request.{Request}
@@ -14,14 +14,14 @@ use Rattle.binder_model.specs.Told.{own}
 use Rattle.binder_model.specs.World.{IsHistory, effect, reply_to, world, World}
 use Rattle.informer_cache.specs.All.{all_objects, AllKnown, cache_of}
 use Rattle.model_laws.proofs.Lists.{none_some, one}
-use Rattle.sync_queue.specs.Work.{Taken, Work, mark_of, oldest_of}
+use Rattle.sync_queue.specs.Work.{Work}
 use Rattle.worker_core.specs.declared.role.Role.{Role}
 use Rattle.worker_core.specs.declared.task.First.{First}
 use Rattle.worker_core.specs.declared.task.Under.{Under}
 use Rattle.worker_core.specs.declared.turn.Given.TheVariants as givens
 use Rattle.worker_core.specs.declared.turn.Next.TheVariants.{Call, Idle}
 use Rattle.worker_core.specs.declared.turn.Outcome.TheVariants.{Told}
-use Rattle.worker_core.specs.Absorbs.{absorbed, woken}
+use Rattle.worker_core.specs.Absorbs.{absorbed}
 use Rattle.worker_core.specs.Roles.{IsBuiltKind}
 use Rattle.worker_core.specs.States.{ActorState, call_in, start_call, waits, read_of_kind, read_request, start_of}
 use Rattle.worker_core.specs.Tasks.{GivesCall, GivesNone, under_after}
@@ -34,11 +34,6 @@ use Rattle.worker_threads.proofs.RunFacts.{run_grows, turn_memory, turn_role, st
 use Rattle.slot_law.specs.Slots.{IsDecisionPoint, KnowsBehind, own_entry}
 use Rattle.slot_law.proofs.Knowing.{sees, told_knows}
 use Rattle.slot_law.proofs.Slots.{ByCall, ByNone, Called, NotCalled, Stopped, StopsBy, asks_under, decides_gives, decides_stops, none_told, older, run_older, stops_by, told_under}
-use Rattle.wake_law.specs.Wakes.{ComesAgain}
-use Rattle.wake_law.proofs.Wakes.{come_by}
-use Rattle.wake_law.proofs.Decided.{ready_at}
-use Rattle.attention_law.specs.Queues.{key_in, under_keys}
-use Rattle.std.specs.Prelude.{map}
 use Rattle.kube_types.proofs.SameKeys.{key_tells}
 use Rattle.call_types.specs.declared.request.SeatKind.TheVariants as seats
 use Rattle.informer_cache.specs.declared.cache.Ask.{Ask}
@@ -311,19 +306,3 @@ module _ (setup : Setup) (seat : ℕ) (role : Role) (kind : role.kind ≡ seats.
 
       pub walks : (s : ActorState) (h older : List Entry) → OnRun s h → h ≡ older ++ start → UnderOthers start h s → I h → (must ≡ true → waits key s.work ≡ true) → Outcome_
       walks s h older on since others holds waiting = walk s h older on.budget on.runs since on.role_is on.knows others holds waiting
-
--- ---- a key that the actor had cached waits once it is woken
-
-pub cached_waits : (seat : ℕ) (key : Key) (o : Object) (old after : ActorState) (h past : List Entry) (b left : ℕ) → old.under ≡ None → follows old.role.kind key.kind ≡ true → row_at key (all_objects old.caches) ≡ Some o → Runs all_pass seat after past left true (woken old) h b → waits key (woken old).work ≡ true
-cached_waits seat key o old after h past b left idle followed cached run = by (come_by old (own seat h) key o ready.stands.told.caches followed cached)
-  where
-    ready : IsReady seat (woken old) h
-    ready = ready_at all_pass seat (woken old) after h past b left run
-
-    none_taken : (ts : List Taken) → map key_in ts ≡ [] → mark_of key ts ≡ Some true → waits key (woken old).work ≡ true
-    none_taken [] e m = none_some m
-    none_taken (t ∷ ts) e m = none_some (sym (ap oldest_of e))
-
-    by : ComesAgain key (woken old).work → waits key (woken old).work ≡ true
-    by (inl waiting) = waiting
-    by (inr marked) = none_taken (woken old).work.taken (ready.stands.queue.taken ∙ ap under_keys idle) marked

@@ -67,7 +67,6 @@ module _ (setup : Setup) (seat : ℕ) (role : Role) (kind : role.kind ≡ seats.
   -- ---- one after the other
 
   module _ (writes : List Request) where
-
     -- the last one to nothing
     ends_on : (place : ℕ) (c new : ClaimData) → slice_get writes place ≡ Some (placing name c) → slice_get writes (place + 1) ≡ None → under_after (at_place key name writes place c) (Done (Claim new)) ≡ None
     unfolding schedule_call schedule_moved

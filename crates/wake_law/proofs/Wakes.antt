@@ -1,8 +1,7 @@
 -- A slot decides a key that is in work when it begins, once that work is over.
-use Rattle.std.proofs.Common.{◌≡◌, ◌∙◌, ℕ, zero, suc, ◌-◌, List, [], ◌∷◌, ◌++◌, Bool, true, false, true≢false, Option, Some, None, inl, inr, refl, sym, ap, subst, if◌then◌else◌}
-use Rattle.std.specs.Prelude.{cond, is_some, map, slice_get, ⊤}
+use Rattle.std.proofs.Common.{◌≡◌, ◌∙◌, ℕ, ◌-◌, List, [], ◌∷◌, ◌++◌, Bool, true, false, true≢false, Option, Some, None, inl, inr, refl, sym, ap, subst, if◌then◌else◌}
+use Rattle.std.specs.Prelude.{cond, is_some, map, ⊤}
 use Rattle.kube_types.specs.declared.key.Key.{Key}
-use Rattle.kube_types.specs.declared.parts.Kind.{Kind}
 use Rattle.kube_types.specs.declared.objects.Object.{Object}
 use Rattle.kube_types.specs.Keys.{row_at}
 use Rattle.call_types.specs.declared.entry.Entry.{Entry}
@@ -14,7 +13,7 @@ use Rattle.binder_model.specs.Reading.{follows}
 use Rattle.informer_cache.specs.All.{AllStandFor, all_objects, cache_of}
 use Rattle.informer_cache.specs.Cache.{kind_known, objects_of}
 use Rattle.model_laws.proofs.Histories.{rows_stand_in_order}
-use Rattle.model_laws.proofs.Lists.{IsIn, none_some, one}
+use Rattle.model_laws.proofs.Lists.{none_some, one}
 use Rattle.sync_queue.specs.Work.{Taken, Work, is_of, mark_of, oldest_of}
 use Rattle.worker_core.specs.declared.role.Role.{Role}
 use Rattle.worker_core.specs.declared.task.Under.{Under}
@@ -40,13 +39,9 @@ use Rattle.alike_law.proofs.Calls.{LastsOrAlike, calls_last_or_leave_alike, then
 use Rattle.slot_law.specs.Slots.{KnowsBehind}
 use Rattle.slot_law.proofs.Knowing.{lost_knows, told_knows, turned_knows}
 use Rattle.slot_law.proofs.Slots.{last, lasting_here, lasting_later, nothing_behind, run_older}
+use Rattle.pass_law.proofs.Given.{in_place}
 use Rattle.wake_law.specs.Wakes.{BusySlotsLast, CachedKeysCome, ComesAgain}
 use Rattle.wake_law.proofs.Adding.{finished_comes, kinds_come, put_off_comes}
-
-in_place : (ks : List Kind) (place : ℕ) (kind : Kind) → slice_get ks place ≡ Some kind → IsIn kind ks
-in_place [] place kind at = none_some at
-in_place (k ∷ ks) zero kind at = inl (one k kind at)
-in_place (k ∷ ks) (suc place) kind at = inr (in_place ks place kind at)
 
 pub come_by : (s : ActorState) (mine : List Entry) (key : Key) (o : Object) → AllStandFor s.caches mine → follows s.role.kind key.kind ≡ true → row_at key (all_objects s.caches) ≡ Some o → ComesAgain key (woken s).work
 come_by s mine key o c f there =
