@@ -62,6 +62,7 @@ use Rattle.slot_law.proofs.Knowing.{lost_knows, sees, told_knows, turned_knows}
 use Rattle.slot_law.proofs.Slots.{nothing_behind}
 use Rattle.short_law.specs.Rounds.{names_in}
 use Rattle.done_lasts.proofs.Doing.{write_asked}
+use Rattle.write_count.proofs.Nodes.{IsMoved}
 use Rattle.write_count.proofs.Runs.{IsCalled, called_at, run_at, silent_run}
 use Rattle.write_count.proofs.Slots.{ComesTo, Leaves, Wrote, comes_to}
 use Rattle.call_count.proofs.Growth.{AreGiven, Comes, IsFor, IsOver, moved_given}
@@ -197,7 +198,7 @@ pub data IsOrdered (s : ActorState) : Type 0 where
   NothingUnder : s.under ≡ None → IsOrdered s
   PassIsOver : passing s ≡ None → IsOrdered s
 
-turned_ordered : (s given : ActorState) (request : Request) → IsTurn s given (Call request) → IsOrdered s → IsOrdered given
+pub turned_ordered : (s given : ActorState) (request : Request) → IsTurn s given (Call request) → IsOrdered s → IsOrdered given
 turned_ordered s given request turn ordered = by s.memory.stale s.under (start_call s.role s.memory) (unlisted s) (passing s) refl refl turn ordered
   where
     same : (g : Option Given) → given ≡ record s { given = g } → IsOrdered s → IsOrdered given
@@ -217,7 +218,7 @@ turned_ordered s given request turn ordered = by s.memory.stale s.under (start_c
     by false None None None (Some k) eu ep t o = same (Some (givens.Read k)) t.state o
     by false None None None None eu ep t o = keys t.work t.under eu ep t.then_
 
-lost_ordered : (x : ActorState) → IsOrdered x → IsOrdered (lost_to x)
+pub lost_ordered : (x : ActorState) → IsOrdered x → IsOrdered (lost_to x)
 lost_ordered x ordered = by x.given ordered
   where
     task : (u : Option Under) → IsOrdered x → IsOrdered (lost_under x u)
@@ -235,7 +236,7 @@ lost_ordered x ordered = by x.given ordered
     by (Some (givens.Read k)) (PassIsOver over_) = PassIsOver over_
 
 module _ (setup : Setup) (seat : ℕ) (x : ActorState) (request : Request) (reply : Reply) (h : List Entry) (called : IsCalled setup seat x request reply h) where
-  told_ordered : (caches : AllKnown) → IsOrdered x → IsOrdered (told_to x caches request reply)
+  pub told_ordered : (caches : AllKnown) → IsOrdered x → IsOrdered (told_to x caches request reply)
   told_ordered caches ordered = by x.given called.stands.given ordered
     where
       task : (u : Option Under) → IsOrdered x → x.under ≡ u → IsOrdered (task_told (learned x caches request reply) reply u)
@@ -267,9 +268,13 @@ module _ (setup : Setup) (seat : ℕ) (x : ActorState) (request : Request) (repl
       by (Some givens.Task) e (PassIsOver over_) = over_
       by (Some (givens.Read k)) e o = read k (ask_of (cache_of k x.caches)) (one (read_of_kind x.caches k) request (ap (given_call x) (sym e) ∙ called.ask))
 
-  -- each call keeps what is given
-  given_on : (first : List Object) → IsBuiltKind x.role.kind → KnowsBehind setup seat x.role x.pass h → IsOrdered x → AreGiven first (world setup h).store.rows → AreGiven first (world setup (told_entry seat x request reply ∷ h)).store.rows
-  given_on first built knows ordered given = by (comes_to (world setup h) (effect setup (world setup h) x.role.kind request))
+  -- what a call writes comes so
+  pub data Writing : Type 0 where
+    WritesNone : (world setup (told_entry seat x request reply ∷ h)).store.rows ≡ (world setup h).store.rows → Writing
+    WritesOne : (o : Object) → Writes (world setup h) x.role.kind request o → Comes (world setup h).store.rows o → IsMoved (world setup h).store.rows (world setup (told_entry seat x request reply ∷ h)).store.rows o → Writing
+
+  pub call_writes : IsBuiltKind x.role.kind → KnowsBehind setup seat x.role x.pass h → IsOrdered x → Writing
+  call_writes built knows ordered = by (comes_to (world setup h) (effect setup (world setup h) x.role.kind request))
     where
       history : IsHistory setup (told_entry seat x request reply ∷ h)
       history = runs_are_histories setup (told_entry seat x request reply ∷ h) called.run.run
@@ -279,11 +284,19 @@ module _ (setup : Setup) (seat : ℕ) (x : ActorState) (request : Request) (repl
           let shown = sees setup seat x h history.0 called.stands knows (create_over kind is ordered) (claim_key c.meta.namespace c.meta.name) (ap (λ k. follows k kinds.PersistentVolumeClaim) kind) in
           sym shown ∙ (called.stands.caches.rows (claim_key c.meta.namespace c.meta.name) ∙ newest)
 
-      by : ComesTo (world setup h) (effect setup (world setup h) x.role.kind request) → AreGiven first (world setup (told_entry seat x request reply ∷ h)).store.rows
-      by (Leaves same) = subst (λ rows. AreGiven first rows) (sym (ap (λ s. s.rows) same)) given
+      by : ComesTo (world setup h) (effect setup (world setup h) x.role.kind request) → Writing
+      by (Leaves same) = WritesNone (ap (λ s. s.rows) same)
       by (Wrote o written version moved) =
           let writes = write_asked setup (world setup h) x.role.kind request o (effect setup (world setup h) x.role.kind request) (effect_form setup (world setup h) x.role.kind request (rows_stand_in_order setup h)) written in
-          moved_given first (world setup h).store.rows given (rows_stand_in_order setup h) (world setup (told_entry seat x request reply ∷ h)).store.rows o (comes (world setup h) (own seat h) x.role.kind built request o called.may writes claims) moved
+          WritesOne o writes (comes (world setup h) (own seat h) x.role.kind built request o called.may writes claims) moved
+
+  -- so each call keeps what is given
+  given_on : (first : List Object) → IsBuiltKind x.role.kind → KnowsBehind setup seat x.role x.pass h → IsOrdered x → AreGiven first (world setup h).store.rows → AreGiven first (world setup (told_entry seat x request reply ∷ h)).store.rows
+  given_on first built knows ordered given = by (call_writes built knows ordered)
+    where
+      by : Writing → AreGiven first (world setup (told_entry seat x request reply ∷ h)).store.rows
+      by (WritesNone same) = subst (AreGiven first) (sym same) given
+      by (WritesOne o writes come moved) = moved_given first (world setup h).store.rows given (rows_stand_in_order setup h) (world setup (told_entry seat x request reply ∷ h)).store.rows o come moved
 
 -- ---- a slot
 

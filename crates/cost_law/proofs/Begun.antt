@@ -53,43 +53,43 @@ use Rattle.cost_law.specs.Costs.{calls_for}
 use Rattle.cost_law.specs.Tasks.{agent_left, claim_guard_left, erase_left, machine_left, mount_left, provision_left, schedule_left, volume_guard_left}
 use Rattle.cost_law.specs.Ends.{BeginsOnRow}
 
-few_machine : (m : Machine) → machine_left m ≤ 3
+pub few_machine : (m : Machine) → machine_left m ≤ 3
 few_machine (ReadsClaim v) = omega arith
 few_machine (Unbinds v) = omega arith
 few_machine (ReadsVolume c) = omega arith
 few_machine _ = omega arith
 
-few_claims : (s : ClaimGuardStep) → claim_guard_left s ≤ 3
+pub few_claims : (s : ClaimGuardStep) → claim_guard_left s ≤ 2
 few_claims claim_steps.Adds = omega arith
 few_claims claim_steps.ListsPods = omega arith
 few_claims claim_steps.Drops = omega arith
 few_claims _ = omega arith
 
-few_volumes : (s : VolumeGuardStep) → volume_guard_left s ≤ 3
+pub few_volumes : (s : VolumeGuardStep) → volume_guard_left s ≤ 1
 few_volumes volume_steps.Adds = omega arith
 few_volumes volume_steps.Drops = omega arith
 few_volumes _ = omega arith
 
-few_erases : (s : EraseStep) → erase_left s ≤ 3
+pub few_erases : (s : EraseStep) → erase_left s ≤ 3
 few_erases erase_steps.ReadsVolume = omega arith
 few_erases (erase_steps.Erases uid) = omega arith
 few_erases (erase_steps.Deletes uid) = omega arith
 few_erases erase_steps.WritesFailed = omega arith
 few_erases _ = omega arith
 
-few_provisions : (s : ProvisionStep) → provision_left s ≤ 3
+pub few_provisions : (s : ProvisionStep) → provision_left s ≤ 2
 few_provisions (provision_steps.Provisions labels) = omega arith
 few_provisions (provision_steps.Creates id topology) = omega arith
 few_provisions provision_steps.ClearsNode = omega arith
 few_provisions _ = omega arith
 
-few_schedules : (s : ScheduleStep) → schedule_left s ≤ 1
+pub few_schedules : (s : ScheduleStep) → schedule_left s ≤ 1
 few_schedules (schedule_steps.Writes place) = omega arith
 few_schedules _ = omega arith
 
 -- the binder
 
-abbrev begins : BinderFirst → Bool
+abbrev pub begins : BinderFirst → Bool
 begins (binder_firsts.Begins m) = true
 begins first = false
 
@@ -103,7 +103,7 @@ binder_begun rows None m first = absurd (true≢false (ap begins first))
 
 -- the others
 
-abbrev task_in : First → Option Task
+abbrev pub task_in : First → Option Task
 task_in (firsts.Begins task) = Some task
 task_in first = None
 
@@ -115,7 +115,7 @@ ops_begun rows (Some (Claim c)) task first = by (claim_begins rows (Some (Claim 
   where
     by : (x : Option ProvisionOp) → Some task ≡ task_in (ops_first x None) → BeginsOnRow seats.Ops (Some (Claim c)) task
     by None e = none_some (sym e)
-    by (Some op) e = of_task (tasks.Provision op) task (sym e) (record { object = Claim c; there = refl; followed = refl; light = few_provisions op.step })
+    by (Some op) e = of_task (tasks.Provision op) task (sym e) (record { object = Claim c; there = refl; followed = refl; light = (let few = few_provisions op.step in omega (arith, few)) })
 ops_begun rows (Some (Volume v)) task first = by (volume_begins (Some (Volume v))) (ap task_in first)
   where
     by : (x : Option EraseOp) → Some task ≡ task_in (ops_first None x) → BeginsOnRow seats.Ops (Some (Volume v)) task
@@ -131,7 +131,7 @@ claims_begun rows (Some (Claim c)) task first = by (claim_guard_begins rows (Som
   where
     by : (x : Option ClaimGuardOp) → Some task ≡ task_in (claim_guard_first x) → BeginsOnRow seats.ClaimProtect (Some (Claim c)) task
     by None e = none_some (sym e)
-    by (Some op) e = of_task (tasks.ClaimProtect op) task (sym e) (record { object = Claim c; there = refl; followed = refl; light = few_claims op.step })
+    by (Some op) e = of_task (tasks.ClaimProtect op) task (sym e) (record { object = Claim c; there = refl; followed = refl; light = (let few = few_claims op.step in omega (arith, few)) })
 claims_begun rows (Some (Volume v)) task first = none_some (sym (ap task_in first))
 claims_begun rows (Some (Class x)) task first = none_some (sym (ap task_in first))
 claims_begun rows (Some (Node x)) task first = none_some (sym (ap task_in first))
@@ -143,7 +143,7 @@ volumes_begun (Some (Volume v)) task first = by (volume_guard_begins (Some (Volu
   where
     by : (x : Option VolumeGuardOp) → Some task ≡ task_in (volume_guard_first x) → BeginsOnRow seats.VolumeProtect (Some (Volume v)) task
     by None e = none_some (sym e)
-    by (Some op) e = of_task (tasks.VolumeProtect op) task (sym e) (record { object = Volume v; there = refl; followed = refl; light = few_volumes op.step })
+    by (Some op) e = of_task (tasks.VolumeProtect op) task (sym e) (record { object = Volume v; there = refl; followed = refl; light = (let few = few_volumes op.step in omega (arith, few)) })
 volumes_begun (Some (Claim c)) task first = none_some (sym (ap task_in first))
 volumes_begun (Some (Class x)) task first = none_some (sym (ap task_in first))
 volumes_begun (Some (Node x)) task first = none_some (sym (ap task_in first))
@@ -228,7 +228,7 @@ claim_is (Volume v) other e i = omega arith
 claim_is (Claim c) other e i = omega arith
 claim_is (Pod p) other e i = omega arith
 
-abbrev queues : First → Bool
+abbrev pub queues : First → Bool
 queues (firsts.Queues key) = true
 queues first = false
 

@@ -1,4 +1,5 @@
 pub mod First
 pub mod Given
+pub mod Reaching
 pub mod Second
 pub mod Told

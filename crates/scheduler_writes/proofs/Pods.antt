@@ -1,7 +1,6 @@
 -- A scheduler that is run with nothing under way decides each pod once, as long as the log reaches back to the beginning of its slot.
-use Rattle.std.proofs.Common.{◌≡◌, ◌∙◌, ◌⊎◌, ℕ, ◌+◌, ◌-◌, ◌≤◌, ◌<◌, List, [], ◌∷◌, ◌++◌, length, Bool, true, false, true≢false, Option, Some, None, inl, inr, refl, sym, ap, subst, arith, if◌then◌else◌}
-use Rattle.std.specs.Prelude.{◌==◌, map, nat_lt, not, option_map}
-use Rattle.std.proofs.lemmas.Bool.Decides.{nat_tests}
+use Rattle.std.proofs.Common.{◌≡◌, ◌∙◌, ◌⊎◌, ℕ, ◌+◌, ◌-◌, ◌≤◌, ◌<◌, List, [], ◌∷◌, ◌++◌, length, Bool, true, false, true≢false, Option, Some, None, inl, inr, refl, sym, ap, subst, arith}
+use Rattle.std.specs.Prelude.{◌==◌, map, option_map}
 use Rattle.kube_types.specs.declared.parts.Kind.{Kind}
 use Rattle.kube_types.specs.declared.objects.Object.{Object}
 use Rattle.kube_types.specs.Keys.{key_of, same_kind}
@@ -26,36 +25,30 @@ use Rattle.informer_cache.specs.Cache.{keys_in}
 use Rattle.model_laws.proofs.Growing.{older_parts_are_runs, runs_are_histories}
 use Rattle.model_laws.proofs.Histories.{rows_stand_in_order}
 use Rattle.model_laws.proofs.Lists.{IsIn, none_some, one}
-use Rattle.model_laws.proofs.Uids.{rises}
 use Rattle.model_laws.proofs.Watched.{logs}
 use Rattle.safety_invariant.specs.Writes.{Writes}
 use Rattle.safety_invariant.proofs.Effects.{effect_form}
 use Rattle.settle_measure.specs.Measure.{total}
 use Rattle.attention_law.specs.Queues.{taken_keys, under_keys}
-use Rattle.attention_law.proofs.Kept.{turns_queues}
-use Rattle.attention_law.proofs.Turned.{calls_fresh}
+use Rattle.attention_law.proofs.Turned.{answer_role, calls_fresh}
 use Rattle.worker_core.specs.declared.role.Role.{Role}
 use Rattle.worker_core.specs.declared.task.Under.{Under}
 use Rattle.worker_core.specs.declared.turn.Given.{Given}
 use Rattle.worker_core.specs.declared.turn.Given.TheVariants as givens
 use Rattle.worker_core.specs.declared.turn.Next.TheVariants.{Call}
 use Rattle.worker_core.specs.declared.turn.Outcome.TheVariants.{Lost, Told}
-use Rattle.worker_core.specs.declared.turn.Pass.{Pass}
-use Rattle.worker_core.specs.Absorbs.{all_added, given_told, is_passing, learned, lost_given, lost_to, lost_under, pass_after, read_told, task_told, told_to, work_after, woken}
-use Rattle.worker_core.specs.Memories.{Memory}
+use Rattle.worker_core.specs.Absorbs.{all_added, given_told, learned, lost_given, lost_to, lost_under, read_told, task_told, told_to, work_after, woken}
 use Rattle.worker_core.specs.Roles.{IsBuiltKind, kind_in_order, kinds_of}
 use Rattle.worker_core.specs.Stands.{AnyIsUnderWay}
-use Rattle.worker_core.specs.States.{ActorState, asked, call_in, call_under, given_call, start_call, start_of}
+use Rattle.worker_core.specs.States.{ActorState, asked, call_under, given_call, start_of}
 use Rattle.worker_core.specs.Tasks.{under_after}
-use Rattle.worker_core.specs.Turns.{IsTurn, TurnBy, passing, unlisted}
-use Rattle.worker_core.proofs.Answered.{answer_licensed, gives_asked, passed}
+use Rattle.worker_core.specs.Turns.{IsTurn, passing}
+use Rattle.worker_core.proofs.Answered.{answer_licensed, passed}
 use Rattle.worker_core.proofs.ByKind.{placed}
 use Rattle.worker_core.proofs.Machines.{KeepsUnder, keeps_under}
 use Rattle.worker_core.proofs.Owning.{stood}
-use Rattle.worker_core.proofs.PassRules.{watches_follow}
-use Rattle.worker_core.proofs.Turning.{turn_stands}
 use Rattle.worker_threads.specs.Rounds.{Asks, IsHeld, IsIdle, IsReady, IsSpent, Lets, Runs, told_entry}
-use Rattle.worker_threads.proofs.RunFacts.{run_grows, still_role, turn_memory, turn_role}
+use Rattle.worker_threads.proofs.RunFacts.{run_grows, still_role, turn_role}
 use Rattle.slot_law.specs.Slots.{KnowsBehind}
 use Rattle.slot_law.proofs.Knowing.{lost_knows, sees, told_knows, turned_knows}
 use Rattle.slot_law.proofs.Slots.{nothing_behind}
@@ -67,8 +60,9 @@ use Rattle.event_law.proofs.Calls.{Stays, Wrote, unread_from, watched_from, worl
 use Rattle.event_law.proofs.Events.{told_so}
 use Rattle.event_law.proofs.Points.{taken_once, waiting_once}
 use Rattle.pass_law.specs.Passes.{IsCallGiven}
-use Rattle.pass_law.proofs.First.{at_most, nil_right}
-use Rattle.pass_law.proofs.Given.{FindsGone, GivenSo, GivesRead, GivesStart, GivesTask, IsTold, Lists, ReadCalled, Reads, given_so, read_called, task_called}
+use Rattle.pass_law.proofs.First.{at_most}
+use Rattle.pass_law.proofs.Given.{FindsGone, GivenSo, GivesRead, GivesStart, GivesTask, IsTold, Lists, Reads, given_so, read_called, task_called}
+use Rattle.pass_law.proofs.Reaching.{GoesOn, IsBefore, IsPast, PassOn, Stands, TurnOf, at_or_before, first_low, given_at, pass_on, turn_of}
 use Rattle.pass_law.proofs.Told.{told_after}
 use Rattle.done_lasts.proofs.Doing.{assigned_filled, write_asked}
 use Rattle.scheduler_writes.specs.Pods.{SchedulersWriteLittle, pod_writes, pods_writes}
@@ -85,9 +79,6 @@ older_run setup newer past run = record { imports = run.imports; short = shorter
     shorter [] h lt = lt
     shorter (x ∷ xs) h lt = shorter xs h (omega (arith, lt))
 
-first_low : (setup : Setup) (h : List Entry) → base_of setup ≤ (world setup h).store.version
-first_low setup h = subst (λ es. base_of setup ≤ (world setup es).store.version) (nil_right h) (rises setup h [])
-
 -- ---- one call
 
 -- the kind was listed, and its watch has come to this version
@@ -95,22 +86,6 @@ record IsReached (base seat : ℕ) (h : List Entry) (kind : Kind) : Type 0 where
   from : ℕ
   is : from_of seat h kind ≡ Some from
   up : base ≤ from
-
--- a turn decides keys past the pass, or leaves all but what is given
-data TurnOf (s given : ActorState) : Type 0 where
-  IsPast : s.under ≡ None → unlisted s ≡ None → passing s ≡ None → TurnOf s given
-  IsBefore : (g : Option Given) → given ≡ record s { given = g } → TurnOf s given
-
-turn_of : (s given : ActorState) (request : Request) → IsTurn s given (Call request) → TurnOf s given
-turn_of s given request turn = by s.memory.stale s.under (start_call s.role s.memory) (unlisted s) (passing s) refl refl refl turn
-  where
-    by : (stale : Bool) (u : Option Under) (start : Option Request) (l p : Option Kind) → s.under ≡ u → unlisted s ≡ l → passing s ≡ p → TurnBy s given (Call request) stale u start l p → TurnOf s given
-    by true u start l p eu el ep t = none_some (sym (ap call_in t.idle))
-    by false (Some u) start l p eu el ep t = IsBefore (Some givens.Task) t.state
-    by false None (Some r) l p eu el ep t = IsBefore (Some givens.Start) t.state
-    by false None None (Some k) p eu el ep t = IsBefore (Some (givens.Read k)) t.state
-    by false None None None (Some k) eu el ep t = IsBefore (Some (givens.Read k)) t.state
-    by false None None None None eu el ep t = IsPast eu el ep
 
 no_start : {X : Type 0} (x : ActorState) (request : Request) → x.role.kind ≡ seats.Scheduler → asked x ≡ Some request → x.given ≡ Some givens.Start → X
 no_start x request kind ask eg = none_some (ap (λ k. start_of k x.role.node x.memory) (sym kind) ∙ (ap (given_call x) (sym eg) ∙ ask))
@@ -293,17 +268,6 @@ module _ (setup : Setup) (lets : Lets) (seat : ℕ) (after : ActorState) (past :
   run_at : (s : ActorState) (h : List Entry) (b : ℕ) → Runs lets seat after past left idle s h b → IsRunOf setup h
   run_at s h b runs = let g = run_grows lets seat after past left idle s h b runs in older_run setup g.longer.added h (subst (IsRunOf setup) g.longer.are run)
 
-  given_at : (s given : ActorState) (h : List Entry) (request : Request) (reply : Reply) → s.role.kind ≡ seats.Scheduler → IsReady seat s h → IsTurn s given (Call request) → IsHistory setup (told_entry seat given request reply ∷ h) → IsCallGiven setup seat given request reply h
-  given_at s given h request reply kind ready turn whole = record {
-    built = subst IsBuiltKind (sym (ap (λ (r : Role). r.kind) (turn_role s given (Call request) turn) ∙ kind)) tt;
-    stands = turn_stands s given (Call request) (own seat h) ready.rows ready.stands.told turn;
-    queue = turns_queues s given (Call request) turn ready.stands.queue;
-    ask = sym (gives_asked s given (Call request) turn);
-    fresh = ap (λ (x : Memory). x.stale) (turn_memory s given (Call request) turn) ∙ calls_fresh s given request turn;
-    history = whole;
-    passes = λ kind_ from eg is. watches_follow s given (Call request) kind_ from turn eg (ap Call is);
-  }
-
   may_at : (s given : ActorState) (h : List Entry) (request : Request) → s.role.kind ≡ seats.Scheduler → IsReady seat s h → IsTurn s given (Call request) → RowAllows seats.Scheduler (own seat h) request
   may_at s given h request kind ready turn =
       let l : Licensed s.role.kind (own seat h) request = answer_licensed s given (Call request) (own seat h) (subst IsBuiltKind (sym kind) tt) ready.rows ready.stands.told turn in
@@ -328,7 +292,7 @@ module _ (setup : Setup) (lets : Lets) (seat : ℕ) (after : ActorState) (past :
         here = older_run setup (told_entry seat given request reply ∷ []) h whole_run
 
         g : IsCallGiven setup seat given request reply h
-        g = given_at s given h request reply kind ready turn whole
+        g = given_at setup seat s given h request reply (subst IsBuiltKind (sym kind) tt) ready turn whole
 
         given_kind : given.role.kind ≡ seats.Scheduler
         given_kind = ap (λ (r : Role). r.kind) (turn_role s given (Call request) turn) ∙ kind
@@ -388,59 +352,28 @@ module _ (setup : Setup) (lets : Lets) (seat : ℕ) (after : ActorState) (past :
         light = λ y i lt. absurd (let top = at_most 0 (world setup h).store.version (world setup h).log y (logs setup h 0) i in omega (arith, top, lt));
       }
 
-  at_or_before : (i n : ℕ) → i < n + 1 → (i < n) ⊎ (i ≡ n)
-  at_or_before i n lt = by (nat_lt i n) refl
-    where
-      by : (b : Bool) → nat_lt i n ≡ b → (i < n) ⊎ (i ≡ n)
-      by true e = inl (grind (arith, nat_tests))
-      by false e = inr (grind (arith, nat_tests))
-
   -- a read of the first pass
-  pass_on : (x : ActorState) (request : Request) (reply : Reply) (h : List Entry) (caches : AllKnown) (k : Kind) → IsCallGiven setup seat x request reply h → x.role.kind ≡ seats.Scheduler → x.given ≡ Some (givens.Read k) → Behind x h
+  behind_on : (x : ActorState) (request : Request) (reply : Reply) (h : List Entry) (caches : AllKnown) (k : Kind) → IsCallGiven setup seat x request reply h → x.role.kind ≡ seats.Scheduler → x.given ≡ Some (givens.Read k) → Behind x h
       → Behind (told_to x caches request reply) (told_entry seat x request reply ∷ h)
-  pass_on x request reply h caches k given kind_is eg behind = subst (λ y. Behind y (told_entry seat x request reply ∷ h)) (sym is) (by r.reads)
+  behind_on x request reply h caches k given kind_is eg behind place kind lt there = by (pass_on setup seat x request reply h given caches)
     where
-      is : told_to x caches request reply ≡ read_told (learned x caches request reply) k request reply
-      is = ap (given_told (learned x caches request reply) request reply) eg
-
-      r : ReadCalled setup seat x k request reply h
-      r = read_called setup seat x request reply h given k eg
-
-      same_version : (world setup h).store.version ≡ (world setup (told_entry seat x request reply ∷ h)).store.version
-      same_version = sym (read_called setup seat x request reply h given k eg).stays.version
-
       moved : (kind : Kind) → IsReached (world setup h).store.version seat (told_entry seat x request reply ∷ h) kind → IsReached (world setup (told_entry seat x request reply ∷ h)).store.version seat (told_entry seat x request reply ∷ h) kind
-      moved kind q = let v = same_version in let up = q.up in record { from = q.from; is = q.is; up = omega (arith, v, up) }
+      moved kind q = let v = (read_called setup seat x request reply h given k eg).stays.version in let up = q.up in record { from = q.from; is = q.is; up = omega (arith, v, up) }
 
-      old : (place : ℕ) (kind : Kind) → place < x.pass.behind → kind_in_order x.role place ≡ Some kind → IsReached (world setup (told_entry seat x request reply ∷ h)).store.version seat (told_entry seat x request reply ∷ h) kind
-      old place kind lt there = moved kind (reached_on setup seat (world setup h).store.version x request reply h given kind_is (first_low setup h) (omega arith) (omega arith) kind (behind place kind lt there))
+      there_before : kind_in_order x.role place ≡ Some kind
+      there_before = ap (λ (r : Role). kind_in_order r place) (sym (answer_role x caches request (Told reply))) ∙ there
 
-      stays_so : (p : Pass) → p.behind ≡ x.pass.behind → (place : ℕ) (kind : Kind) → place < p.behind → kind_in_order x.role place ≡ Some kind → IsReached (world setup (told_entry seat x request reply ∷ h)).store.version seat (told_entry seat x request reply ∷ h) kind
-      stays_so p same place kind lt there = old place kind (omega (arith, same, lt)) there
+      old : place < x.pass.behind → IsReached (world setup (told_entry seat x request reply ∷ h)).store.version seat (told_entry seat x request reply ∷ h) kind
+      old before = moved kind (reached_on setup seat (world setup h).store.version x request reply h given kind_is (first_low setup h) (omega arith) (omega arith) kind (behind place kind before there_before))
 
-      by : Reads setup seat x k request reply h → (place : ℕ) (kind : Kind) → place < (pass_after x.pass (is_passing (passing x) k) request reply).behind → kind_in_order x.role place ≡ Some kind
-          → IsReached (world setup (told_entry seat x request reply ∷ h)).store.version seat (told_entry seat x request reply ∷ h) kind
-      by (Lists none asks answered) = stays_so (pass_after x.pass (is_passing (passing x) k) request reply) (ap (λ q. (pass_after x.pass (is_passing (passing x) k) q reply).behind) asks)
-      by (FindsGone f gone some passes asks low answered) = stays_so (pass_after x.pass (is_passing (passing x) k) request reply) (ap (λ q. (pass_after x.pass (is_passing (passing x) k) q reply).behind) asks ∙ ap (λ a. (pass_after x.pass (is_passing (passing x) k) (requests.Watch k f) a).behind) answered)
-      by (IsTold f some passes asks below within answered) = told_by (length (told k f (world setup h).log) == most_events) refl
-        where
-          behind_is : (full : Bool) → (length (told k f (world setup h).log) == most_events) ≡ full → (pass_after x.pass (is_passing (passing x) k) request reply).behind ≡ (if not full then x.pass.behind + 1 else x.pass.behind)
-          behind_is full e =
-              let is_p : is_passing (passing x) k ≡ true = ap (λ j. is_passing j k) passes ∙ (same_kind-Decides k k).1 refl in
-              ap (λ q. (pass_after x.pass (is_passing (passing x) k) q reply).behind) asks ∙ (ap (λ a. (pass_after x.pass (is_passing (passing x) k) (requests.Watch k f) a).behind) answered
-              ∙ (ap (λ p. (pass_after x.pass p (requests.Watch k f) (replies.Events (told_events k f (world setup h).store.version (world setup h).log))).behind) is_p ∙ ap (λ b. if not b then x.pass.behind + 1 else x.pass.behind) e))
-
-          told_by : (full : Bool) → (length (told k f (world setup h).log) == most_events) ≡ full → (place : ℕ) (kind : Kind) → place < (pass_after x.pass (is_passing (passing x) k) request reply).behind → kind_in_order x.role place ≡ Some kind
-              → IsReached (world setup (told_entry seat x request reply ∷ h)).store.version seat (told_entry seat x request reply ∷ h) kind
-          told_by true e place kind lt there = stays_so (pass_after x.pass (is_passing (passing x) k) request reply) (behind_is true e) place kind lt there
-          told_by false e place kind lt there = elim (at_or_before place x.pass.behind (let n = behind_is false e in omega (arith, lt, n))) [
-            | inl before ↦ old place kind before there
-            | inr here ↦
-                let k_is : k ≡ kind = one k kind (sym passes ∙ (ap (kind_in_order x.role) (sym here) ∙ there)) in
-                let now = watched_from seat (told_entry seat x request reply) h refl refl k f f (world setup h).store.version (world setup h).log asks answered some in
-                let whole = (told_so setup h k f false below e).whole refl in
-                moved kind (subst (IsReached (world setup h).store.version seat (told_entry seat x request reply ∷ h)) k_is (record { from = (told_events k f (world setup h).store.version (world setup h).log).upto; is = now; up = omega (arith, whole) }))
-          ]
+      by : PassOn seat x (told_to x caches request reply) (told_entry seat x request reply ∷ h) (world setup h).store.version → IsReached (world setup (told_entry seat x request reply ∷ h)).store.version seat (told_entry seat x request reply ∷ h) kind
+      by (Stands same) = old (omega (arith, lt, same))
+      by (GoesOn j at_j reached_j goes) = elim (at_or_before place x.pass.behind (omega (arith, lt, goes))) [
+        | inl before ↦ old before
+        | inr here ↦
+            let j_is = one j kind (sym at_j ∙ (ap (kind_in_order x.role) (sym here) ∙ there_before)) in
+            moved kind (subst (IsReached (world setup h).store.version seat (told_entry seat x request reply ∷ h)) j_is (record { from = (world setup h).store.version; is = reached_j; up = omega arith }))
+      ]
 
   first : (s : ActorState) (h : List Entry) (b : ℕ) → Runs lets seat after past left idle s h b → s.role.kind ≡ seats.Scheduler → s.under ≡ None → Behind s h → KnowsBehind setup seat s.role s.pass h → pods_writes (world setup h) ≤ 512
       → (world setup past).store.version ≤ (world setup h).store.version + pods_writes (world setup h)
@@ -453,7 +386,7 @@ module _ (setup : Setup) (lets : Lets) (seat : ℕ) (after : ActorState) (past :
       whole = runs_are_histories setup (told_entry seat given request reply ∷ h) (run_at next (told_entry seat given request reply ∷ h) (b - 1) more).run
 
       g : IsCallGiven setup seat given request reply h
-      g = given_at s given h request reply kind ready turn whole
+      g = given_at setup seat s given h request reply (subst IsBuiltKind (sym kind) tt) ready turn whole
 
       given_kind : given.role.kind ≡ seats.Scheduler
       given_kind = ap (λ (r : Role). r.kind) (turn_role s given (Call request) turn) ∙ kind
@@ -479,7 +412,7 @@ module _ (setup : Setup) (lets : Lets) (seat : ℕ) (after : ActorState) (past :
               let is_read : told_to given next.caches request reply ≡ read_told (learned given next.caches request reply) k request reply = ap (given_told (learned given next.caches request reply) request reply) eg in
               let here : Behind given h = subst (λ y. Behind y h) (sym e) behind in
               let ih = again (ap (λ (y : Role). y.kind) (still_role s given next (Call request) request (Told reply) turn absorbs) ∙ kind)
-              (ap (λ (y : ActorState). y.under) (is ∙ is_read) ∙ no_under) (subst (λ y. Behind y (told_entry seat given request reply ∷ h)) (sym is) (pass_on given request reply h next.caches k g given_kind eg here))
+              (ap (λ (y : ActorState). y.under) (is ∙ is_read) ∙ no_under) (subst (λ y. Behind y (told_entry seat given request reply ∷ h)) (sym is) (behind_on given request reply h next.caches k g given_kind eg here))
               (told_knows setup seat s given request reply h (subst IsBuiltKind (sym kind) tt) ready turn whole knows next absorbs) (omega (arith, p, few)) in
               omega (arith, ih, v, p)
   first s h b (IsHeld given next request some ready turn held absorbs more) kind rests behind knows few = by (turn_of s given request turn) (λ nk nu nb nn. first next h (b - 1) more nk nu nb nn few)

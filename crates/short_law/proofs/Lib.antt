@@ -1,2 +1,3 @@
+pub mod HeldCalls
 pub mod Rounds
 pub mod Slots

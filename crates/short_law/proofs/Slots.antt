@@ -1,135 +1,60 @@
 -- A slot makes few calls: its first pass, and what comes after it.
-use Rattle.std.proofs.Common.{◌≡◌, ◌∙◌, ◌⊎◌, ℕ, suc, ◌+◌, ◌*◌, ◌-◌, ◌≤◌, ◌<◌, List, [], ◌∷◌, length, Bool, true, false, true≢false, Option, Some, None, inl, inr, refl, sym, ap, subst, arith, if◌then◌else◌}
-use Rattle.std.specs.Prelude.{◌/◌, ◌==◌, is_some, map, nat_lt, not, option_map, slice_get}
-use Rattle.std.proofs.lemmas.Bool.Decides.{nat_tests}
+use Rattle.std.proofs.Common.{◌≡◌, ◌∙◌, ℕ, suc, ◌+◌, ◌*◌, ◌-◌, ◌≤◌, List, [], ◌∷◌, Bool, true, false, true≢false, Option, Some, None, inl, inr, refl, sym, ap, subst, arith, if◌then◌else◌}
+use Rattle.std.specs.Prelude.{◌/◌, is_some, map, slice_get}
 use Rattle.std.proofs.lemmas.Option.{slice_get_within}
 use Rattle.kube_types.specs.declared.key.Key.{Key}
 use Rattle.kube_types.specs.declared.parts.Kind.{Kind}
-use Rattle.kube_types.specs.Keys.{same_kind}
-use Rattle.kube_types.proofs.SameKeys.{same_kind-Decides}
 use Rattle.call_types.specs.declared.entry.Entry.{Entry}
-use Rattle.call_types.specs.declared.reply.Reply.{Reply}
-use Rattle.call_types.specs.declared.reply.Reply.TheVariants as replies
 use Rattle.call_types.specs.declared.request.Request.{Request}
 use Rattle.call_types.specs.declared.request.Request.TheVariants as requests
-use Rattle.call_types.specs.declared.request.SeatKind.{SeatKind}
-use Rattle.call_types.specs.declared.request.SeatKind.TheVariants as seats
 use Rattle.call_types.specs.declared.setup.Setup.{Setup}
-use Rattle.call_types.specs.Kinds.{reads_kind}
 use Rattle.binder_model.specs.Reading.{follows, following_of}
 use Rattle.binder_model.specs.Told.{own}
-use Rattle.binder_model.specs.Watching.{most_events, told_events}
 use Rattle.binder_model.specs.World.{IsHistory, base as base_of, world}
-use Rattle.informer_cache.specs.declared.cache.Ask.{Ask}
-use Rattle.informer_cache.specs.declared.cache.Ask.TheVariants as asks
 use Rattle.informer_cache.specs.All.{AllKnown, cache_of}
-use Rattle.informer_cache.specs.Cache.{ask_of, watch_from}
+use Rattle.informer_cache.specs.Cache.{watch_from}
 use Rattle.model_laws.proofs.Histories.{rows_stand_in_order}
-use Rattle.model_laws.proofs.Lists.{IsIn, none_some, one}
+use Rattle.model_laws.proofs.Lists.{IsIn, none_some}
 use Rattle.model_laws.proofs.Uids.{rises}
 use Rattle.model_laws.proofs.Watched.{logs}
 use Rattle.settle_measure.specs.Measure.{total}
 use Rattle.sync_queue.specs.Work.{Taken, oldest_of}
 use Rattle.worker_core.specs.declared.role.Role.{Role}
-use Rattle.worker_core.specs.declared.task.Under.{Under}
-use Rattle.worker_core.specs.declared.turn.Given.{Given}
-use Rattle.worker_core.specs.declared.turn.Given.TheVariants as givens
 use Rattle.worker_core.specs.declared.turn.Next.TheVariants.{Call}
 use Rattle.worker_core.specs.declared.turn.Outcome.TheVariants.{Lost, Told}
-use Rattle.worker_core.specs.declared.turn.Pass.{Pass}
-use Rattle.worker_core.specs.Absorbs.{given_told, is_passing, learned, lost_given, lost_to, lost_under, pass_after, read_told, task_told, told_to, woken}
+use Rattle.worker_core.specs.Absorbs.{woken}
 use Rattle.worker_core.specs.Memories.{Memory}
-use Rattle.worker_core.specs.Roles.{IsBuiltKind, kind_in_order, kinds_of}
-use Rattle.worker_core.specs.Stands.{AnyIsUnderWay, StandsFor}
-use Rattle.worker_core.specs.States.{ActorState, agent_start, asked, call_in, call_under, given_call, read_of_kind, read_request, start_call, start_of}
-use Rattle.worker_core.specs.Turns.{IsTurn, TurnBy, first_unlisted, is_listed, passing, unlisted}
+use Rattle.worker_core.specs.Roles.{IsBuiltKind, kinds_of}
+use Rattle.worker_core.specs.States.{ActorState, start_call}
+use Rattle.worker_core.specs.Turns.{first_unlisted, is_listed, passing, unlisted}
 use Rattle.worker_core.proofs.Answered.{gives_asked, passed}
-use Rattle.worker_core.proofs.ByKind.{placed}
-use Rattle.worker_core.proofs.Machines.{under_calls}
-use Rattle.worker_core.proofs.PassRules.{watches_follow}
 use Rattle.worker_core.proofs.Turning.{turn_stands}
 use Rattle.attention_law.specs.Queues.{key_in, taken_keys, under_keys}
-use Rattle.attention_law.proofs.Kept.{turns_queues}
-use Rattle.attention_law.proofs.Turned.{answer_role, calls_fresh}
+use Rattle.attention_law.proofs.Turned.{answer_role}
 use Rattle.worker_threads.specs.Rounds.{Asks, IsHeld, IsIdle, IsReady, IsSpent, Lets, Runs, told_entry}
-use Rattle.worker_threads.proofs.RunFacts.{run_grows, still_role, turn_memory, turn_role}
+use Rattle.worker_threads.proofs.RunFacts.{run_grows, still_role, turn_role}
 use Rattle.slot_law.specs.Slots.{KnowsBehind}
 use Rattle.slot_law.proofs.Knowing.{lost_knows, sees, told_knows, turned_knows}
 use Rattle.slot_law.proofs.Slots.{nothing_behind, run_older}
 use Rattle.cost_law.specs.Costs.{again_cost, calls_for}
 use Rattle.event_law.specs.Counts.{pending}
-use Rattle.short_law.specs.Slots.{PassesReads, SlotsAreShort, is_own_read, writes_since}
+use Rattle.short_law.specs.Slots.{PassesReads, SlotsAreShort, writes_since}
 use Rattle.cost_law.specs.Tasks.{task_left, under_left}
-use Rattle.event_law.proofs.Calls.{gone_from, listed_from, unread_from, watched_from}
-use Rattle.event_law.proofs.Events.{fewer_pending, none_pending, told_so}
-use Rattle.pass_law.proofs.First.{at_most, nil_right, first_calls_pay, wait_few}
-use Rattle.pass_law.proofs.Given.{FindsGone, GivenSo, GivesRead, GivesStart, GivesTask, IsTold, Lists, Reads, given_so, read_called, start_called, task_called}
-use Rattle.event_law.proofs.Points.{WritesLight, point_on, waiting_once}
+use Rattle.event_law.proofs.Events.{fewer_pending, none_pending}
+use Rattle.pass_law.proofs.First.{at_most, first_calls_pay, wait_few}
+use Rattle.event_law.proofs.Points.{point_on, waiting_once}
 use Rattle.event_law.proofs.Calls.{world_moves}
 use Rattle.event_law.proofs.Rows.{distinct_cost}
+use Rattle.pass_law.proofs.Reaching.{IsBefore, IsPast, ReachedBehind, TurnOf, behind_on, first_low, given_at, light_of, reached_all, reached_on, turn_of}
 use Rattle.pass_law.proofs.Second.{turn_cost}
 use Rattle.event_law.proofs.Sums.{div_less, mul_less, of_each}
-use Rattle.cost_law.proofs.Tasks.{under_goes}
 use Rattle.pass_law.proofs.Told.{calls_pay}
 use Rattle.cost_law.proofs.Works.{put_off_cost}
 use Rattle.event_law.specs.Ahead.{Point, cost_at, from_of, kind_cost, sum_over}
 use Rattle.event_law.specs.Telling.{told}
 use Rattle.pass_law.specs.Passes.{KindsHaveReached, IsCallGiven, first_cost, second_cost, wait_cost}
-use Rattle.cost_law.specs.Ends.{done_by, start_left, starts_left}
-
--- a call of the start is one that is not held back
-start_is_read : (kind : SeatKind) (node : List ℕ) (m : Memory) (request : Request) → start_of kind node m ≡ Some request → is_own_read request ≡ true
-start_is_read seats.Agent node m request e = by m.epoch (is_some m.mounts) e
-  where
-    by : (epoch : Option ℕ) (told : Bool) → agent_start node epoch told ≡ Some request → is_own_read request ≡ true
-    by None told h = ap is_own_read (sym (one _ request h))
-    by (Some epoch) false h = ap is_own_read (sym (one _ request h))
-    by (Some epoch) true h = none_some h
-start_is_read seats.User node m request e = none_some e
-start_is_read seats.Binder node m request e = none_some e
-start_is_read seats.Ops node m request e = none_some e
-start_is_read seats.Scheduler node m request e = none_some e
-start_is_read seats.ClaimProtect node m request e = none_some e
-start_is_read seats.VolumeProtect node m request e = none_some e
-
-kind_is_read : (caches : AllKnown) (kind : Kind) → is_own_read (read_of_kind caches kind) ≡ true
-kind_is_read caches kind = by (ask_of (cache_of kind caches))
-  where
-    by : (a : Ask) → is_own_read (read_request kind a) ≡ true
-    by asks.List = refl
-    by (asks.Watch from) = refl
-
-done_none : (request : Request) → done_by request replies.Timed ≡ 0
-done_none (requests.Delete key given) = refl
-done_none _ = refl
-
--- a call that is held back is a task's
-held_task : (lets : Lets) (x : ActorState) (request : Request) (h : List Entry) → PassesReads lets → asked x ≡ Some request → lets h request ≡ false → x.given ≡ Some givens.Task
-held_task lets x request h passes ask held = by (given_so x request ask)
-  where
-    passed_it : is_own_read request ≡ true → x.given ≡ Some givens.Task
-    passed_it e = absurd (true≢false (sym (passes h request e) ∙ held))
-
-    by : GivenSo x → x.given ≡ Some givens.Task
-    by (GivesTask e) = e
-    by (GivesStart e) = passed_it (start_is_read x.role.kind x.role.node x.memory request (ap (given_call x) (sym e) ∙ ask))
-    by (GivesRead kind e) = passed_it (ap is_own_read (sym (one (read_of_kind x.caches kind) request (ap (given_call x) (sym e) ∙ ask))) ∙ kind_is_read x.caches kind)
-
-record HeldTask (x : ActorState) : Type 0 where
-  under : Under
-  there : x.under ≡ Some under
-  is : lost_to x ≡ lost_under x (Some under)
-  some : 1 ≤ task_left under.task
-
-held_called : (x : ActorState) (mine : List Entry) (request : Request) → StandsFor x mine → asked x ≡ Some request → x.given ≡ Some givens.Task → HeldTask x
-held_called x mine request stands ask eg = by x.under refl stands.under_way (ap (given_call x) (sym eg) ∙ ask)
-  where
-    by : (u : Option Under) → x.under ≡ u → AnyIsUnderWay x.role u mine → option_map call_under u ≡ Some request → HeldTask x
-    by None eu way c = none_some c
-    by (Some u) eu way c =
-        let goes = under_goes u replies.Timed (under_calls x.role u mine way) in
-        let none = done_none u.call in
-        record { under = u; there = eu; is = ap (lost_given x) eg ∙ ap (lost_under x) eu; some = omega (arith, goes, none) }
+use Rattle.cost_law.specs.Ends.{start_left, starts_left}
+use Rattle.short_law.proofs.HeldCalls.{HeldTask, held_called, held_task}
 
 -- the versions that are still to come
 pub later : (setup : Setup) (lets : Lets) (seat : ℕ) (after : ActorState) (past : List Entry) (left : ℕ) (idle : Bool) (s : ActorState) (h : List Entry) (b : ℕ) → Runs lets seat after past left idle s h b → (world setup h).store.version ≤ (world setup past).store.version
@@ -137,92 +62,27 @@ later setup lets seat after past left idle s h b run =
     let g = run_grows lets seat after past left idle s h b run in
     subst (λ es. (world setup h).store.version ≤ (world setup es).store.version) (sym g.longer.are) (rises setup g.longer.added h)
 
-first_low : (setup : Setup) (h : List Entry) → base_of setup ≤ (world setup h).store.version
-first_low setup h = subst (λ es. base_of setup ≤ (world setup es).store.version) (nil_right h) (rises setup h [])
+-- ---- the kinds that are followed
 
--- what was reached, after one call
-module _ (setup : Setup) (seat base : ℕ) (x : ActorState) (request : Request) (reply : Reply) (h : List Entry) (given : IsCallGiven setup seat x request reply h) (begun : base ≤ (world setup h).store.version) where
-  light_of : WritesLight x.role.kind reply
-  light_of = by (given_so x request given.ask)
-    where
-      by : GivenSo x → WritesLight x.role.kind reply
-      by (GivesTask e) = (task_called setup seat x request reply h given e).light
-      by (GivesStart e) = (start_called setup seat x request reply h given e).light
-      by (GivesRead kind e) = (read_called setup seat x request reply h given kind e).light
-
-  -- a kind has reached so far, whether it is the one that was read or not
-  reached_on : (k : Kind) (from : ℕ) → ((f : ℕ) → from_of seat h k ≡ Some f → base ≤ f) → from_of seat (told_entry seat x request reply ∷ h) k ≡ Some from → base ≤ from
-  reached_on k from before is = by (given_so x request given.ask)
-    where
-      kept : reads_kind k request ≡ false → base ≤ from
-      kept unread = before from (sym (unread_from seat (told_entry seat x request reply) h refl refl k unread) ∙ is)
-
-      read_it : (kind : Kind) → Reads setup seat x kind request reply h → (b : Bool) → same_kind kind k ≡ b → base ≤ from
-      read_it kind (Lists none asks answered) false other = kept (ap (reads_kind k) asks ∙ other)
-      read_it kind (FindsGone f gone some passes asks old answered) false other = kept (ap (reads_kind k) asks ∙ other)
-      read_it kind (IsTold f some passes asks low within answered) false other = kept (ap (reads_kind k) asks ∙ other)
-      read_it kind (Lists none asks answered) true same =
-          let k_is : kind ≡ k = (same_kind-Decides kind k).0 same in
-          let now = listed_from seat (told_entry seat x request reply) h refl refl kind _ (world setup h).store.version asks answered in
-          let v = one (world setup h).store.version from (sym now ∙ (ap (from_of seat (told_entry seat x request reply ∷ h)) k_is ∙ is)) in
-          omega (arith, v, begun)
-      read_it kind (FindsGone f gone some passes asks old answered) true same =
-          let k_is : kind ≡ k = (same_kind-Decides kind k).0 same in
-          none_some (sym (gone_from seat (told_entry seat x request reply) h refl refl kind f gone asks answered) ∙ (ap (from_of seat (told_entry seat x request reply ∷ h)) k_is ∙ is))
-      read_it kind (IsTold f some passes asks low within answered) true same =
-          let k_is : kind ≡ k = (same_kind-Decides kind k).0 same in
-          let now = watched_from seat (told_entry seat x request reply) h refl refl kind f f (world setup h).store.version (world setup h).log asks answered some in
-          let u = one (told_events kind f (world setup h).store.version (world setup h).log).upto from (sym now ∙ (ap (from_of seat (told_entry seat x request reply ∷ h)) k_is ∙ is)) in
-          let old = before f (ap (from_of seat h) (sym k_is) ∙ some) in
-          up_to (length (told kind f (world setup h).log) == most_events) refl u old
-        where
-          up_to : (full : Bool) → (length (told kind f (world setup h).log) == most_events) ≡ full → (told_events kind f (world setup h).store.version (world setup h).log).upto ≡ from → base ≤ f → base ≤ from
-          up_to true e u old = let r = (told_so setup h kind f true low e).reached refl in omega (arith, r, u, old)
-          up_to false e u old = let r = (told_so setup h kind f false low e).whole refl in omega (arith, r, u, begun)
-
-      by : GivenSo x → base ≤ from
-      by (GivesTask e) = kept ((task_called setup seat x request reply h given e).unread k)
-      by (GivesStart e) = kept ((start_called setup seat x request reply h given e).unread k)
-      by (GivesRead kind e) = read_it kind (read_called setup seat x request reply h given kind e).reads (same_kind kind k) refl
-
--- a turn decides keys past the pass, or leaves all but what is given
-data TurnOf (s given : ActorState) : Type 0 where
-  IsPast : s.under ≡ None → unlisted s ≡ None → passing s ≡ None → TurnOf s given
-  IsBefore : (g : Option Given) → given ≡ record s { given = g } → TurnOf s given
-
-turn_of : (s given : ActorState) (request : Request) → IsTurn s given (Call request) → TurnOf s given
-turn_of s given request turn = by s.memory.stale s.under (start_call s.role s.memory) (unlisted s) (passing s) refl refl refl turn
+pub listed_in : (c : AllKnown) (ks : List Kind) (kind : Kind) → first_unlisted c ks ≡ None → IsIn kind ks → is_listed c kind ≡ true
+listed_in c [] kind none i = absurd i
+listed_in c (k ∷ ks) kind none i = by (is_listed c k) refl none i (listed_in c ks kind)
   where
-    by : (stale : Bool) (u : Option Under) (start : Option Request) (l p : Option Kind) → s.under ≡ u → unlisted s ≡ l → passing s ≡ p → TurnBy s given (Call request) stale u start l p → TurnOf s given
-    by true u start l p eu el ep t = none_some (sym (ap call_in t.idle))
-    by false (Some u) start l p eu el ep t = IsBefore (Some givens.Task) t.state
-    by false None (Some r) l p eu el ep t = IsBefore (Some givens.Start) t.state
-    by false None None (Some k) p eu el ep t = IsBefore (Some (givens.Read k)) t.state
-    by false None None None (Some k) eu el ep t = IsBefore (Some (givens.Read k)) t.state
-    by false None None None None eu el ep t = IsPast eu el ep
+    by : (b : Bool) → is_listed c k ≡ b → (if b then first_unlisted c ks else Some k) ≡ None → IsIn kind (k ∷ ks) → (first_unlisted c ks ≡ None → IsIn kind ks → is_listed c kind ≡ true) → is_listed c kind ≡ true
+    by false e n i rest = none_some (sym n)
+    by true e n (inl is) rest = subst (λ x. is_listed c x ≡ true) is e
+    by true e n (inr more) rest = rest n more
 
--- how far the pass goes on with one call
-data PassOn (seat : ℕ) (x next : ActorState) (entries : List Entry) (version : ℕ) : Type 0 where
-  Stands : next.pass.behind ≡ x.pass.behind → PassOn seat x next entries version
-  GoesOn : (kind : Kind) → kind_in_order x.role x.pass.behind ≡ Some kind → from_of seat entries kind ≡ Some version → next.pass.behind ≡ x.pass.behind + 1 → PassOn seat x next entries version
+pub place_in : (ks : List Kind) (kind : Kind) → IsIn kind ks → (place : ℕ) × (slice_get ks place ≡ Some kind)
+place_in [] kind i = absurd i
+place_in (k ∷ ks) kind (inl is) = (0, ap Some is)
+place_in (k ∷ ks) kind (inr i) = let p = place_in ks kind i in (suc p.0, p.1)
 
 -- past the first pass
 
 module _ (setup : Setup) (lets : Lets) (passes : PassesReads lets) (seat : ℕ) (after : ActorState) (past : List Entry) (left : ℕ) (idle : Bool) (history : IsHistory setup past) (base m : ℕ) (begins : base_of setup ≤ base) where
   abbrev high : ℕ
   high = (world setup past).store.version
-
-  -- a call that was given and told
-  given_at : (s given : ActorState) (h : List Entry) (request : Request) (reply : Reply) → IsBuiltKind s.role.kind → IsReady seat s h → IsTurn s given (Call request) → IsHistory setup (told_entry seat given request reply ∷ h) → IsCallGiven setup seat given request reply h
-  given_at s given h request reply built ready turn whole = record {
-    built = subst (λ (r : Role). IsBuiltKind r.kind) (sym (turn_role s given (Call request) turn)) built;
-    stands = turn_stands s given (Call request) (own seat h) ready.rows ready.stands.told turn;
-    queue = turns_queues s given (Call request) turn ready.stands.queue;
-    ask = sym (gives_asked s given (Call request) turn);
-    fresh = ap (λ (x : Memory). x.stale) (turn_memory s given (Call request) turn) ∙ calls_fresh s given request turn;
-    history = whole;
-    passes = λ kind from eg is. watches_follow s given (Call request) kind from turn eg (ap Call is);
-  }
 
   pub second_pass : (s : ActorState) (h : List Entry) (b : ℕ) → Runs lets seat after past left idle s h b → IsBuiltKind s.role.kind → Point setup s.role.kind base m (world setup past).store.version h → KindsHaveReached base seat s.role.kind h → KnowsBehind setup seat s.role s.pass h
       → b ≤ left + second_cost setup seat s.role.kind m (world setup past).store.version s h
@@ -242,7 +102,7 @@ module _ (setup : Setup) (lets : Lets) (passes : PassesReads lets) (seat : ℕ) 
       whole = run_older setup lets seat after past left idle next _ _ more history
 
       g : IsCallGiven setup seat given request reply h
-      g = given_at s given h request reply built ready turn whole
+      g = given_at setup seat s given h request reply built ready turn whole
 
       short : (world setup (told_entry seat given request reply ∷ h)).store.version ≤ (world setup past).store.version
       short = later setup lets seat after past left idle next _ _ more
@@ -292,9 +152,6 @@ module _ (setup : Setup) (lets : Lets) (passes : PassesReads lets) (seat : ℕ) 
 
   -- the first pass
 
-  abbrev ReachedBehind : Role → Pass → List Entry → Type 0
-  ReachedBehind role pass h = (place : ℕ) (kind : Kind) (from : ℕ) → place < pass.behind → kind_in_order role place ≡ Some kind → from_of seat h kind ≡ Some from → base ≤ from
-
   -- what comes after the first pass costs so much beside its writes
   abbrev after_cost : ℕ
   after_cost = m + 5 * ((m + 7) * (((world setup past).store.version - base) / 513)) + 5
@@ -306,26 +163,12 @@ module _ (setup : Setup) (lets : Lets) (passes : PassesReads lets) (seat : ℕ) 
   no_again f [] e = refl
   no_again f (t ∷ ts) e = none_some (sym (ap oldest_of e))
 
-  listed_in : (c : AllKnown) (ks : List Kind) (kind : Kind) → first_unlisted c ks ≡ None → IsIn kind ks → is_listed c kind ≡ true
-  listed_in c [] kind none i = absurd i
-  listed_in c (k ∷ ks) kind none i = by (is_listed c k) refl none i (listed_in c ks kind)
-    where
-      by : (b : Bool) → is_listed c k ≡ b → (if b then first_unlisted c ks else Some k) ≡ None → IsIn kind (k ∷ ks) → (first_unlisted c ks ≡ None → IsIn kind ks → is_listed c kind ≡ true) → is_listed c kind ≡ true
-      by false e n i rest = none_some (sym n)
-      by true e n (inl is) rest = subst (λ x. is_listed c x ≡ true) is e
-      by true e n (inr more) rest = rest n more
-
   sum_in : (f g : Kind → ℕ) (d : ℕ) (ks : List Kind) → ((k : Kind) → IsIn k ks → g k ≤ f k + d) → sum_over g ks ≤ sum_over f ks + sum_over (λ k. d) ks
   sum_in f g d [] each = omega arith
   sum_in f g d (k ∷ ks) each = let a = each k (inl refl) in let b = sum_in f g d ks (λ x i. each x (inr i)) in omega (arith, a, b)
 
-  place_in : (ks : List Kind) (kind : Kind) → IsIn kind ks → (place : ℕ) × (slice_get ks place ≡ Some kind)
-  place_in [] kind i = absurd i
-  place_in (k ∷ ks) kind (inl is) = (0, ap Some is)
-  place_in (k ∷ ks) kind (inr i) = let p = place_in ks kind i in (suc p.0, p.1)
-
   -- past the pass the first cost covers the second
-  covered : (s : ActorState) (h : List Entry) → IsReady seat s h → Point setup s.role.kind base m (world setup past).store.version h → ReachedBehind s.role s.pass h → s.under ≡ None → unlisted s ≡ None → passing s ≡ None
+  covered : (s : ActorState) (h : List Entry) → IsReady seat s h → Point setup s.role.kind base m (world setup past).store.version h → ReachedBehind setup seat base s.role s.pass h → s.under ≡ None → unlisted s ≡ None → passing s ≡ None
       → second_cost setup seat s.role.kind m (world setup past).store.version s h ≤ cost_first s h + after_cost
   covered s h ready at behind none listed over =
       let taken : taken_keys s.work ≡ [] = ready.stands.queue.taken ∙ ap under_keys none in
@@ -363,57 +206,7 @@ module _ (setup : Setup) (lets : Lets) (passes : PassesReads lets) (seat : ℕ) 
               let c = mul_less (m + 7) (((world setup past).store.version - from) / 513) (((world setup past).store.version - base) / 513) (div_less ((world setup past).store.version - from) ((world setup past).store.version - base) (omega (arith, r))) in
               omega (arith, a, c)
 
-  pass_on : (x : ActorState) (request : Request) (reply : Reply) (h : List Entry) (given : IsCallGiven setup seat x request reply h) (caches : AllKnown) → PassOn seat x (told_to x caches request reply) (told_entry seat x request reply ∷ h) (world setup h).store.version
-  pass_on x request reply h given caches = by (given_so x request given.ask)
-    where
-      is_read : (kind : Kind) → x.given ≡ Some (givens.Read kind) → told_to x caches request reply ≡ read_told (learned x caches request reply) kind request reply
-      is_read kind eg = ap (given_told (learned x caches request reply) request reply) eg
-
-      behind_is : (kind : Kind) (q : Request) (a : Reply) → x.given ≡ Some (givens.Read kind) → request ≡ q → reply ≡ a → (told_to x caches request reply).pass.behind ≡ (pass_after x.pass (is_passing (passing x) kind) q a).behind
-      behind_is kind q a eg asks answered = ap (λ (y : ActorState). y.pass.behind) (is_read kind eg) ∙ (ap (λ r. (pass_after x.pass (is_passing (passing x) kind) r reply).behind) asks ∙ ap (λ r. (pass_after x.pass (is_passing (passing x) kind) q r).behind) answered)
-
-      told_by : (kind : Kind) (from : ℕ) → x.given ≡ Some (givens.Read kind) → from_of seat h kind ≡ Some from → passing x ≡ Some kind → request ≡ requests.Watch kind from → from ≤ (world setup h).store.version → reply ≡ replies.Events (told_events kind from (world setup h).store.version (world setup h).log)
-          → (full : Bool) → (length (told kind from (world setup h).log) == most_events) ≡ full → PassOn seat x (told_to x caches request reply) (told_entry seat x request reply ∷ h) (world setup h).store.version
-      told_by kind from eg some passes asks low answered full e = with_full full e
-        where
-          goes : (f : Bool) → (length (told kind from (world setup h).log) == most_events) ≡ f → (told_to x caches request reply).pass.behind ≡ (if not f then x.pass.behind + 1 else x.pass.behind)
-          goes f e2 =
-              let is_p : is_passing (passing x) kind ≡ true = ap (λ k. is_passing k kind) passes ∙ (same_kind-Decides kind kind).1 refl in
-              behind_is kind (requests.Watch kind from) _ eg asks answered ∙ (ap (λ p. (pass_after x.pass p (requests.Watch kind from) (replies.Events (told_events kind from (world setup h).store.version (world setup h).log))).behind) is_p ∙ ap (λ f. if not f then x.pass.behind + 1 else x.pass.behind) e2)
-
-          with_full : (f : Bool) → (length (told kind from (world setup h).log) == most_events) ≡ f → PassOn seat x (told_to x caches request reply) (told_entry seat x request reply ∷ h) (world setup h).store.version
-          with_full true e2 = Stands (goes true e2)
-          with_full false e2 =
-              let now = watched_from seat (told_entry seat x request reply) h refl refl kind from from (world setup h).store.version (world setup h).log asks answered some in
-              GoesOn kind passes (now ∙ ap Some ((told_so setup h kind from false low e2).whole refl)) (goes false e2)
-
-      read_by : (kind : Kind) → x.given ≡ Some (givens.Read kind) → Reads setup seat x kind request reply h → PassOn seat x (told_to x caches request reply) (told_entry seat x request reply ∷ h) (world setup h).store.version
-      read_by kind eg (Lists none asks answered) = Stands (behind_is kind (requests.List kind None) reply eg asks refl)
-      read_by kind eg (FindsGone from gone some passes asks old answered) = Stands (behind_is kind (requests.Watch kind from) _ eg asks answered)
-      read_by kind eg (IsTold from some passes asks low within answered) = told_by kind from eg some passes asks low answered (length (told kind from (world setup h).log) == most_events) refl
-
-      by : GivenSo x → PassOn seat x (told_to x caches request reply) (told_entry seat x request reply ∷ h) (world setup h).store.version
-      by (GivesTask eg) =
-          let t = task_called setup seat x request reply h given eg in
-          Stands (ap (λ (y : ActorState). y.pass.behind) (ap (given_told (learned x caches request reply) request reply) eg ∙ ap (task_told (learned x caches request reply) reply) t.there))
-      by (GivesStart eg) = Stands (ap (λ (y : ActorState). y.pass.behind) (ap (given_told (learned x caches request reply) request reply) eg))
-      by (GivesRead kind eg) = read_by kind eg (read_called setup seat x request reply h given kind eg).reads
-
-  reached_all : (role : Role) (pass : Pass) (h : List Entry) → ReachedBehind role pass h → kind_in_order role pass.behind ≡ None → KindsHaveReached base seat role.kind h
-  reached_all role pass h behind over kind from f is =
-      let p = placed role.kind kind f in
-      let within = p.within in
-      let all = passed (kinds_of role.kind) pass.behind over in
-      behind p.place kind from (omega (arith, within, all)) p.at is
-
-  at_or_before : (i n : ℕ) → i < n + 1 → (i < n) ⊎ (i ≡ n)
-  at_or_before i n lt = by (nat_lt i n) refl
-    where
-      by : (b : Bool) → nat_lt i n ≡ b → (i < n) ⊎ (i ≡ n)
-      by true e = inl (grind (arith, nat_tests))
-      by false e = inr (grind (arith, nat_tests))
-
-  first_pass : (s : ActorState) (h : List Entry) (b : ℕ) → Runs lets seat after past left idle s h b → IsBuiltKind s.role.kind → Point setup s.role.kind base m (world setup past).store.version h → ReachedBehind s.role s.pass h → KnowsBehind setup seat s.role s.pass h
+  first_pass : (s : ActorState) (h : List Entry) (b : ℕ) → Runs lets seat after past left idle s h b → IsBuiltKind s.role.kind → Point setup s.role.kind base m (world setup past).store.version h → ReachedBehind setup seat base s.role s.pass h → KnowsBehind setup seat s.role s.pass h
       → b ≤ left + (cost_first s h + after_cost)
   first_pass s h b (IsSpent none state entries rest busy) built at behind knows = omega (arith, none)
   first_pass s h b (IsIdle some ready turn entries rest calm) built at behind knows = omega (arith, rest)
@@ -424,7 +217,7 @@ module _ (setup : Setup) (lets : Lets) (passes : PassesReads lets) (seat : ℕ) 
       whole = run_older setup lets seat after past left idle next _ _ more history
 
       g : IsCallGiven setup seat given request reply h
-      g = given_at s given h request reply built ready turn whole
+      g = given_at setup seat s given h request reply built ready turn whole
 
       short : (world setup (told_entry seat given request reply ∷ h)).store.version ≤ (world setup past).store.version
       short = later setup lets seat after past left idle next _ _ more
@@ -448,38 +241,16 @@ module _ (setup : Setup) (lets : Lets) (passes : PassesReads lets) (seat : ℕ) 
       next_at = subst (λ k. Point setup k base m (world setup past).store.version (told_entry seat given request reply ∷ h)) (sym next_kind)
           (point_on setup given.role.kind base m (world setup past).store.version (told_entry seat given request reply) h given_point short (light_of setup seat base given request reply h g at.begun) (world_moves setup (told_entry seat given request reply) h whole.1))
 
-      next_behind : s.pass ≡ given.pass → ReachedBehind next.role next.pass (told_entry seat given request reply ∷ h)
-      next_behind same place kind from lt there is = on (pass_on given request reply h g next.caches)
-        where
-          there_before : kind_in_order s.role place ≡ Some kind
-          there_before = ap (λ (r : Role). kind_in_order r place) (sym (next_role ∙ given_role)) ∙ there
-
-          kept : place < s.pass.behind → base ≤ from
-          kept before = reached_on setup seat base given request reply h g at.begun kind from (λ f e. behind place kind f before there_before e) is
-
-          next_is : next.pass.behind ≡ (told_to given next.caches request reply).pass.behind
-          next_is = ap (λ (y : ActorState). y.pass.behind) absorbs
-
-          same_behind : s.pass.behind ≡ given.pass.behind
-          same_behind = ap (λ (p : Pass). p.behind) same
-
-          on : PassOn seat given (told_to given next.caches request reply) (told_entry seat given request reply ∷ h) (world setup h).store.version → base ≤ from
-          on (Stands stays) = let n = next_is in let sb = same_behind in kept (omega (arith, lt, stays, n, sb))
-          on (GoesOn k at_k reached_k goes) = elim (at_or_before place given.pass.behind (let n = next_is in omega (arith, lt, goes, n))) [
-            | inl before ↦ let sb = same_behind in kept (omega (arith, before, sb))
-            | inr here ↦
-                let k_is : Some k ≡ Some kind = sym at_k ∙ (ap (kind_in_order given.role) (sym here) ∙ (ap (λ (r : Role). kind_in_order r place) (sym next_role) ∙ there)) in
-                let v = one (world setup h).store.version from (sym reached_k ∙ (ap (from_of seat (told_entry seat given request reply ∷ h)) (one k kind k_is) ∙ is)) in
-                let begun = at.begun in
-                omega (arith, v, begun)
-          ]
+      next_behind : s.pass ≡ given.pass → ReachedBehind setup seat base next.role next.pass (told_entry seat given request reply ∷ h)
+      next_behind same = subst (λ (y : ActorState). ReachedBehind setup seat base y.role y.pass (told_entry seat given request reply ∷ h)) (sym absorbs)
+          (behind_on setup seat base given request reply h g at.begun (subst (λ (r : Role). ReachedBehind setup seat base r given.pass h) (sym given_role) (subst (λ p. ReachedBehind setup seat base s.role p h) same behind)) next.caches)
 
       by : TurnOf s given
-          → (IsBuiltKind next.role.kind → Point setup next.role.kind base m (world setup past).store.version (told_entry seat given request reply ∷ h) → ReachedBehind next.role next.pass (told_entry seat given request reply ∷ h)
+          → (IsBuiltKind next.role.kind → Point setup next.role.kind base m (world setup past).store.version (told_entry seat given request reply ∷ h) → ReachedBehind setup seat base next.role next.pass (told_entry seat given request reply ∷ h)
           → KnowsBehind setup seat next.role next.pass (told_entry seat given request reply ∷ h) → b - 1 ≤ left + (cost_first next (told_entry seat given request reply ∷ h) + after_cost))
           → b ≤ left + (cost_first s h + after_cost)
       by (IsPast eu el ep) more_of =
-          let second = second_pass s h b (Asks given next request reply some ready turn lets_it absorbs more) built at (reached_all s.role s.pass h behind ep) knows in
+          let second = second_pass s h b (Asks given next request reply some ready turn lets_it absorbs more) built at (reached_all setup seat base s.role s.pass h behind ep) knows in
           let c = covered s h ready at behind eu el ep in
           omega (arith, second, c)
       by (IsBefore gg e) more_of =
@@ -509,16 +280,16 @@ module _ (setup : Setup) (lets : Lets) (passes : PassesReads lets) (seat : ℕ) 
       next_pass same = ap (λ (y : ActorState). y.pass) (absorbs ∙ t.is) ∙ sym same
 
       by : TurnOf s given
-          → (IsBuiltKind next.role.kind → Point setup next.role.kind base m (world setup past).store.version h → ReachedBehind next.role next.pass h → KnowsBehind setup seat next.role next.pass h → b - 1 ≤ left + (cost_first next h + after_cost))
+          → (IsBuiltKind next.role.kind → Point setup next.role.kind base m (world setup past).store.version h → ReachedBehind setup seat base next.role next.pass h → KnowsBehind setup seat next.role next.pass h → b - 1 ≤ left + (cost_first next h + after_cost))
           → b ≤ left + (cost_first s h + after_cost)
       by (IsPast eu el ep) more_of =
-          let second = second_pass s h b (IsHeld given next request some ready turn held absorbs more) built at (reached_all s.role s.pass h behind ep) knows in
+          let second = second_pass s h b (IsHeld given next request some ready turn held absorbs more) built at (reached_all setup seat base s.role s.pass h behind ep) knows in
           let c = covered s h ready at behind eu el ep in
           omega (arith, second, c)
       by (IsBefore gg e) more_of =
           let p = next_pass (ap (λ (y : ActorState). y.pass) (sym e)) in
           let ih = more_of (subst IsBuiltKind (sym next_kind) built) (subst (λ k. Point setup k base m (world setup past).store.version h) (sym next_kind) at)
-          (subst (λ r. ReachedBehind r next.pass h) (sym next_role) (subst (λ q. ReachedBehind s.role q h) (sym p) behind)) (lost_knows setup seat given next request h (turned_knows setup seat s given (Call request) h turn knows) absorbs) in
+          (subst (λ r. ReachedBehind setup seat base r next.pass h) (sym next_role) (subst (λ q. ReachedBehind setup seat base s.role q h) (sym p) behind)) (lost_knows setup seat given next request h (turned_knows setup seat s given (Call request) h turn knows) absorbs) in
           let some_left = t.some in
           let under : under_left given.under ≡ task_left t.under.task = ap under_left t.there in
           let same = ap (λ k. first_cost setup seat k base (world setup past).store.version next h) next_kind in
@@ -533,7 +304,7 @@ starts_few None = omega arith
 starts_few (Some (requests.TakeNode node)) = omega arith
 starts_few (Some _) = omega arith
 
-start_few : (role : Role) (m : Memory) → start_left role m ≤ 2
+pub start_few : (role : Role) (m : Memory) → start_left role m ≤ 2
 start_few role m = by m.stale
   where
     by : (b : Bool) → (if b then 0 else starts_left (start_call role m)) ≤ 2

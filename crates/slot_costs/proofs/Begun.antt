@@ -18,7 +18,6 @@ use Rattle.binder_model.specs.Reading.{follows}
 use Rattle.binder_machines.specs.declared.decide.First.{First as BinderFirst}
 use Rattle.binder_machines.specs.declared.decide.First.TheVariants as binder_firsts
 use Rattle.binder_machines.specs.declared.machine.Machine.{Machine}
-use Rattle.binder_machines.specs.declared.machine.Machine.TheVariants.{ReadsClaim, Unbinds, ReadsVolume}
 use Rattle.binder_machines.specs.FirstSteps.{IsClaimFirst, IsFirst, lost_for}
 use Rattle.claim_sync.specs.ClaimDecision.{claim_decision}
 use Rattle.claim_sync.specs.declared.action.ClaimStep.{ClaimStep}
@@ -27,31 +26,20 @@ use Rattle.model_laws.proofs.Lists.{none_some, one}
 use Rattle.node_agent.specs.declared.agent.AgentOp.{AgentOp}
 use Rattle.node_agent.specs.Agents.{agent_begins}
 use Rattle.pod_scheduler.specs.Decisions.{BeginsOn}
-use Rattle.pod_scheduler.specs.declared.schedule.ScheduleStep.{ScheduleStep}
-use Rattle.pod_scheduler.specs.declared.schedule.ScheduleStep.TheVariants as schedule_steps
 use Rattle.protect_sync.specs.Decisions.{claim_guard_begins, volume_guard_begins}
 use Rattle.protect_sync.specs.declared.claims.ClaimGuardOp.{ClaimGuardOp}
-use Rattle.protect_sync.specs.declared.claims.ClaimGuardStep.{ClaimGuardStep}
-use Rattle.protect_sync.specs.declared.claims.ClaimGuardStep.TheVariants as claim_steps
 use Rattle.protect_sync.specs.declared.volumes.VolumeGuardOp.{VolumeGuardOp}
-use Rattle.protect_sync.specs.declared.volumes.VolumeGuardStep.{VolumeGuardStep}
-use Rattle.protect_sync.specs.declared.volumes.VolumeGuardStep.TheVariants as volume_steps
 use Rattle.reclaim_ops.specs.declared.erase.EraseOp.{EraseOp}
-use Rattle.reclaim_ops.specs.declared.erase.EraseStep.{EraseStep}
-use Rattle.reclaim_ops.specs.declared.erase.EraseStep.TheVariants as erase_steps
 use Rattle.reclaim_ops.specs.declared.provision.ProvisionOp.{ProvisionOp}
-use Rattle.reclaim_ops.specs.declared.provision.ProvisionStep.{ProvisionStep}
-use Rattle.reclaim_ops.specs.declared.provision.ProvisionStep.TheVariants as provision_steps
 use Rattle.reclaim_ops.specs.Decisions.{claim_begins, volume_begins, volume_for}
-use Rattle.worker_core.specs.declared.task.First.{First}
 use Rattle.worker_core.specs.declared.task.First.TheVariants as firsts
 use Rattle.worker_core.specs.declared.task.Task.{Task}
 use Rattle.worker_core.specs.declared.task.Task.TheVariants as tasks
 use Rattle.worker_core.specs.Memories.{Memory}
 use Rattle.worker_core.specs.Tasks.{IsAgentFirst, IsFirstOf, agent_first, claim_guard_first, ops_first, volume_guard_first}
 use Rattle.cost_law.specs.Costs.{calls_for}
-use Rattle.cost_law.specs.Tasks.{claim_guard_left, erase_left, machine_left, provision_left, schedule_left, task_left, volume_guard_left}
-use Rattle.cost_law.proofs.Begun.{begun_on}
+use Rattle.cost_law.specs.Tasks.{machine_left, task_left}
+use Rattle.cost_law.proofs.Begun.{begins, begun_on, few_claims, few_erases, few_machine, few_provisions, few_schedules, few_volumes, queues, task_in}
 use Rattle.slot_costs.specs.Costs.{claim_calls, made_calls, own_calls, volume_calls}
 use Rattle.slot_costs.proofs.RoundCosts.{is_now}
 
@@ -62,50 +50,12 @@ pub record BeginsOnOwn (kind : SeatKind) (row : Option Object) (task : Task) : T
   pub followed : follows kind (kind_of object) ≡ true
   pub light : task_left task ≤ own_calls kind object
 
-few_machine : (m : Machine) → machine_left m ≤ 3
-few_machine (ReadsClaim v) = omega arith
-few_machine (Unbinds v) = omega arith
-few_machine (ReadsVolume c) = omega arith
-few_machine _ = omega arith
-
-few_claims : (s : ClaimGuardStep) → claim_guard_left s ≤ 2
-few_claims claim_steps.Adds = omega arith
-few_claims claim_steps.ListsPods = omega arith
-few_claims claim_steps.Drops = omega arith
-few_claims _ = omega arith
-
-few_volumes : (s : VolumeGuardStep) → volume_guard_left s ≤ 1
-few_volumes volume_steps.Adds = omega arith
-few_volumes volume_steps.Drops = omega arith
-few_volumes _ = omega arith
-
-few_erases : (s : EraseStep) → erase_left s ≤ 3
-few_erases erase_steps.ReadsVolume = omega arith
-few_erases (erase_steps.Erases uid) = omega arith
-few_erases (erase_steps.Deletes uid) = omega arith
-few_erases erase_steps.WritesFailed = omega arith
-few_erases _ = omega arith
-
-few_provisions : (s : ProvisionStep) → provision_left s ≤ 2
-few_provisions (provision_steps.Provisions labels) = omega arith
-few_provisions (provision_steps.Creates id topology) = omega arith
-few_provisions provision_steps.ClearsNode = omega arith
-few_provisions _ = omega arith
-
-few_schedules : (s : ScheduleStep) → schedule_left s ≤ 1
-few_schedules (schedule_steps.Writes place) = omega arith
-few_schedules _ = omega arith
-
 -- ---- the binder
 
 -- what begins makes so many calls
 abbrev first_left : BinderFirst → ℕ
 first_left (binder_firsts.Begins m) = machine_left m
 first_left first = 0
-
-abbrev begins : BinderFirst → Bool
-begins (binder_firsts.Begins m) = true
-begins first = false
 
 -- a claim is bound, gets its class, or is Lost once its volume was read
 claim_first_left : (rows : List Object) (c : ClaimData) (step : ClaimStep) (m : Machine) → IsClaimFirst rows c step (binder_firsts.Begins m) → machine_left m ≤ 2
@@ -128,10 +78,6 @@ binder_begun rows (Some (Pod x)) m first = absurd (true≢false (ap begins first
 binder_begun rows None m first = absurd (true≢false (ap begins first))
 
 -- ---- the others
-
-abbrev task_in : First → Option Task
-task_in (firsts.Begins task) = Some task
-task_in first = None
 
 of_task : {kind : SeatKind} {row : Option Object} (t task : Task) → Some t ≡ Some task → BeginsOnOwn kind row t → BeginsOnOwn kind row task
 of_task {kind = kind} {row = row} t task e b = subst (BeginsOnOwn kind row) (one t task e) b
@@ -219,10 +165,6 @@ begun_on_own seats.Agent node m rows key task first =
 begun_on_own seats.User node m rows key task first = absurd first
 
 -- who queues a claim in place of a volume pays no more for it
-abbrev queues : First → Bool
-queues (firsts.Queues other) = true
-queues first = false
-
 pub record QueuesSo (kind : SeatKind) : Type 0 where
   pub then_ : is_now kind ≡ false
   pub less : claim_calls kind ≤ made_calls kind

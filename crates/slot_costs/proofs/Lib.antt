@@ -5,7 +5,6 @@ pub mod Ending
 pub mod Made
 pub mod Ops
 pub mod Passes
-pub mod Reaching
 pub mod RoundCosts
 pub mod Slots
 pub mod Stages

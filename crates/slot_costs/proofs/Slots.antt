@@ -1,37 +1,30 @@
 -- A slot that begins with nothing under way makes few calls: its first pass writes nothing, and past it each call lowers what is still to come.
-use Rattle.std.proofs.Common.{◌≡◌, ◌∙◌, ℕ, ◌+◌, ◌*◌, ◌-◌, ◌≤◌, List, [], ◌∷◌, length, Bool, true, false, true≢false, Option, Some, None, inl, inr, refl, sym, ap, subst, arith, if◌then◌else◌}
-use Rattle.std.specs.Prelude.{◌/◌, map, option_map}
+use Rattle.std.proofs.Common.{◌≡◌, ◌∙◌, ℕ, ◌+◌, ◌*◌, ◌-◌, ◌≤◌, List, [], ◌∷◌, length, Bool, true, false, true≢false, None, inl, inr, refl, sym, ap, subst, arith, if◌then◌else◌}
+use Rattle.std.specs.Prelude.{◌/◌, map}
 use Rattle.kube_types.specs.declared.key.Key.{Key}
 use Rattle.kube_types.specs.declared.parts.Kind.{Kind}
 use Rattle.call_types.specs.declared.entry.Entry.{Entry}
 use Rattle.call_types.specs.declared.reply.Reply.{Reply}
-use Rattle.call_types.specs.declared.reply.Reply.TheVariants as replies
 use Rattle.call_types.specs.declared.request.Request.{Request}
-use Rattle.call_types.specs.declared.request.Request.TheVariants as requests
 use Rattle.call_types.specs.declared.request.SeatKind.{SeatKind}
 use Rattle.call_types.specs.declared.setup.Setup.{Setup}
 use Rattle.binder_model.specs.Reading.{follows}
 use Rattle.binder_model.specs.Told.{own}
 use Rattle.informer_cache.specs.All.{AllKnown}
 use Rattle.model_laws.proofs.Histories.{rows_stand_in_order}
-use Rattle.model_laws.proofs.Lists.{IsIn, none_some, one}
+use Rattle.model_laws.proofs.Lists.{IsIn, none_some}
 use Rattle.model_laws.proofs.Uids.{rises}
 use Rattle.model_laws.proofs.Watched.{logs}
 use Rattle.settle_measure.specs.Measure.{total}
 use Rattle.sync_queue.specs.Work.{Taken, oldest_of}
 use Rattle.worker_core.specs.declared.role.Role.{Role}
-use Rattle.worker_core.specs.declared.task.Under.{Under}
-use Rattle.worker_core.specs.declared.turn.Given.TheVariants as givens
 use Rattle.worker_core.specs.declared.turn.Next.TheVariants.{Call}
 use Rattle.worker_core.specs.declared.turn.Outcome.TheVariants.{Lost, Told}
-use Rattle.worker_core.specs.Absorbs.{lost_given, lost_to, lost_under, told_to, woken}
-use Rattle.worker_core.specs.Memories.{Memory}
+use Rattle.worker_core.specs.Absorbs.{lost_to, told_to, woken}
 use Rattle.worker_core.specs.Roles.{IsBuiltKind, kinds_of}
-use Rattle.worker_core.specs.Stands.{AnyIsUnderWay, StandsFor}
-use Rattle.worker_core.specs.States.{ActorState, asked, call_under, given_call, read_of_kind, start_call}
+use Rattle.worker_core.specs.States.{ActorState}
 use Rattle.worker_core.specs.Turns.{passing, unlisted}
 use Rattle.worker_core.proofs.Answered.{gives_asked}
-use Rattle.worker_core.proofs.Machines.{under_calls}
 use Rattle.worker_core.proofs.Turning.{turn_stands}
 use Rattle.attention_law.specs.Queues.{key_in, taken_keys, under_keys}
 use Rattle.attention_law.proofs.Turned.{answer_role}
@@ -50,60 +43,27 @@ use Rattle.pass_law.proofs.Given.{GivenSo, GivesRead, GivesStart, GivesTask, giv
 use Rattle.event_law.proofs.Points.{point_on, waiting_once}
 use Rattle.event_law.proofs.Calls.{world_moves}
 use Rattle.event_law.proofs.Sums.{of_each}
-use Rattle.cost_law.proofs.Tasks.{under_goes}
 use Rattle.cost_law.proofs.Works.{put_off_cost}
-use Rattle.cost_law.specs.Ends.{done_by, start_left, starts_left}
 use Rattle.binder_model.specs.Promises.{IsRunOf}
 use Rattle.binder_model.specs.World.{IsHistory, base as base_of, world}
 use Rattle.kube_types.specs.declared.objects.Object.{Object}
 use Rattle.kube_types.specs.Keys.{AreRows}
 use Rattle.model_laws.proofs.Growing.{runs_are_histories}
-use Rattle.short_law.specs.Slots.{PassesReads, is_own_read, writes_since}
-use Rattle.short_law.proofs.Slots.{later}
+use Rattle.short_law.specs.Slots.{PassesReads, writes_since}
+use Rattle.short_law.proofs.HeldCalls.{HeldTask, held_called, held_task, own_read}
+use Rattle.short_law.proofs.Slots.{later, start_few}
 use Rattle.event_law.specs.Ahead.{Point, from_of, sum_over}
+use Rattle.pass_law.proofs.Reaching.{IsBefore, IsPast, ReachedBehind, TurnOf, behind_on, first_low, given_at, light_of, none_told, reached_all, reached_on, turn_of}
 use Rattle.pass_law.proofs.Told.{within_five}
 use Rattle.pass_law.specs.Passes.{IsCallGiven, KindsHaveReached, first_cost, wait_cost}
 use Rattle.write_count.proofs.Runs.{IsCalled, called_at, run_at}
-use Rattle.call_count.proofs.Made.{IsOrdered, NothingUnder}
+use Rattle.call_count.proofs.Made.{IsOrdered, NothingUnder, lost_ordered, told_ordered, turned_ordered}
 use Rattle.slot_costs.proofs.Calls.{AtKeys, InPass, IsLess, Stage, kinds_left, pass_left, rest_left, slot_left, sweep_cost}
 use Rattle.slot_costs.proofs.RoundCosts.{AreKept, CallMoves, cost_falls, cost_in, kept_on, most, waiting_few}
-use Rattle.slot_costs.proofs.Made.{call_moves, lost_ordered, reads_stay, told_ordered, turned_ordered}
+use Rattle.slot_costs.proofs.Made.{call_moves, reads_stay}
 use Rattle.slot_costs.proofs.Passes.{none_read, read_falls, start_falls, start_pays, task_pays}
-use Rattle.slot_costs.proofs.Reaching.{ReachedBehind, IsBefore, IsPast, TurnOf, behind_on, first_low, given_at, light_of, none_told, own_read, reached_all, reached_on, turn_of, kind_is_read, start_is_read}
 use Rattle.slot_costs.proofs.Stages.{all_read, nothing_told}
 use Rattle.slot_costs.proofs.Turns.{turn_costs}
-
-done_none : (request : Request) → done_by request replies.Timed ≡ 0
-done_none (requests.Delete key given) = refl
-done_none _ = refl
-
--- a call that is held back is a task's
-held_task : (lets : Lets) (x : ActorState) (request : Request) (h : List Entry) → PassesReads lets → asked x ≡ Some request → lets h request ≡ false → x.given ≡ Some givens.Task
-held_task lets x request h passes ask held = by (given_so x request ask)
-  where
-    passed_it : is_own_read request ≡ true → x.given ≡ Some givens.Task
-    passed_it e = absurd (true≢false (sym (passes h request e) ∙ held))
-
-    by : GivenSo x → x.given ≡ Some givens.Task
-    by (GivesTask e) = e
-    by (GivesStart e) = passed_it (start_is_read x.role.kind x.role.node x.memory request (ap (given_call x) (sym e) ∙ ask))
-    by (GivesRead kind e) = passed_it (ap is_own_read (sym (one (read_of_kind x.caches kind) request (ap (given_call x) (sym e) ∙ ask))) ∙ kind_is_read x.caches kind)
-
-record HeldTask (x : ActorState) : Type 0 where
-  under : Under
-  there : x.under ≡ Some under
-  is : lost_to x ≡ lost_under x (Some under)
-  some : 1 ≤ task_left under.task
-
-held_called : (x : ActorState) (mine : List Entry) (request : Request) → StandsFor x mine → asked x ≡ Some request → x.given ≡ Some givens.Task → HeldTask x
-held_called x mine request stands ask eg = by x.under refl stands.under_way (ap (given_call x) (sym eg) ∙ ask)
-  where
-    by : (u : Option Under) → x.under ≡ u → AnyIsUnderWay x.role u mine → option_map call_under u ≡ Some request → HeldTask x
-    by None eu way c = none_some c
-    by (Some u) eu way c =
-        let goes = under_goes u replies.Timed (under_calls x.role u mine way) in
-        let none = done_none u.call in
-        record { under = u; there = eu; is = ap (lost_given x) eg ∙ ap (lost_under x) eu; some = omega (arith, goes, none) }
 
 sum_each : (f g : Kind → ℕ) (ks : List Kind) → ((k : Kind) → IsIn k ks → g k ≤ f k) → sum_over g ks ≤ sum_over f ks
 sum_each f g [] each = omega arith
@@ -396,18 +356,6 @@ module _ (setup : Setup) (lets : Lets) (passes : PassesReads lets) (seat : ℕ) 
           absurd (true≢false (sym (passes h request own) ∙ held))
 
 -- the slot
-
-starts_few : (x : Option Request) → starts_left x ≤ 2
-starts_few None = omega arith
-starts_few (Some (requests.TakeNode node)) = omega arith
-starts_few (Some _) = omega arith
-
-pub start_few : (role : Role) (m : Memory) → start_left role m ≤ 2
-start_few role m = by m.stale
-  where
-    by : (b : Bool) → (if b then 0 else starts_left (start_call role m)) ≤ 2
-    by true = omega arith
-    by false = starts_few (start_call role m)
 
 -- how many calls a slot makes at most, by the objects with which its round began and by its writes
 abbrev pub slot_most : List Object → SeatKind → ℕ → ℕ

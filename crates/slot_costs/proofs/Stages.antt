@@ -1,6 +1,6 @@
 -- Past a pass all kinds are as they stand, and a new pass is paid for by the writes that were made since the last one.
-use Rattle.std.proofs.Common.{◌≡◌, ◌∙◌, ℕ, suc, ◌+◌, ◌*◌, ◌-◌, ◌≤◌, ◌<◌, List, [], ◌∷◌, length, Bool, true, false, true≢false, Option, Some, None, inl, inr, refl, sym, ap, subst, arith, if◌then◌else◌}
-use Rattle.std.specs.Prelude.{◌/◌, is_some, nat_lt, slice_get}
+use Rattle.std.proofs.Common.{◌≡◌, ◌∙◌, ℕ, ◌+◌, ◌*◌, ◌-◌, ◌≤◌, ◌<◌, List, [], ◌∷◌, length, Bool, true, false, true≢false, Option, Some, None, inl, inr, refl, sym, ap, arith}
+use Rattle.std.specs.Prelude.{◌/◌, is_some, nat_lt}
 use Rattle.std.proofs.lemmas.Bool.Decides.{nat_tests}
 use Rattle.std.proofs.lemmas.Option.{slice_get_within}
 use Rattle.kube_types.specs.declared.parts.Kind.{Kind}
@@ -10,15 +10,15 @@ use Rattle.call_types.specs.declared.setup.Setup.{Setup}
 use Rattle.binder_model.specs.Reading.{following_of}
 use Rattle.binder_model.specs.Told.{own}
 use Rattle.binder_model.specs.World.{IsHistory, world}
-use Rattle.informer_cache.specs.All.{AllKnown, cache_of}
+use Rattle.informer_cache.specs.All.{cache_of}
 use Rattle.informer_cache.specs.Cache.{watch_from}
-use Rattle.model_laws.proofs.Lists.{IsIn, none_some}
+use Rattle.model_laws.proofs.Lists.{IsIn}
 use Rattle.model_laws.proofs.Watched.{logs}
 use Rattle.told_law.proofs.Allowed.{watches_on}
 use Rattle.told_law.proofs.Exact.{caught}
 use Rattle.worker_core.specs.Roles.{IsBuiltKind, kind_in_order, kinds_of}
 use Rattle.worker_core.specs.States.{ActorState}
-use Rattle.worker_core.specs.Turns.{first_unlisted, is_listed, passing, unlisted}
+use Rattle.worker_core.specs.Turns.{passing, unlisted}
 use Rattle.worker_core.proofs.Answered.{passed}
 use Rattle.worker_threads.specs.Rounds.{IsReady}
 use Rattle.slot_law.proofs.Knowing.{watches_from}
@@ -27,19 +27,11 @@ use Rattle.event_law.specs.Counts.{pending}
 use Rattle.event_law.proofs.Events.{none_pending}
 use Rattle.event_law.proofs.Sums.{div_falls, div_less, mul_falls, mul_less}
 use Rattle.pass_law.proofs.Given.{from_same}
+use Rattle.short_law.proofs.Slots.{listed_in, place_in}
 use Rattle.slot_costs.proofs.Calls.{AtKeys, InPass, Stage, kind_left, kinds_ahead, kinds_left, sweep_cost, sweep_is, told_cost_or}
 use Rattle.slot_costs.proofs.RoundCosts.{most}
 
 -- ---- the kinds
-
-pub listed_in : (c : AllKnown) (ks : List Kind) (kind : Kind) → first_unlisted c ks ≡ None → IsIn kind ks → is_listed c kind ≡ true
-listed_in c [] kind none i = absurd i
-listed_in c (k ∷ ks) kind none i = by (is_listed c k) refl none i (listed_in c ks kind)
-  where
-    by : (b : Bool) → is_listed c k ≡ b → (if b then first_unlisted c ks else Some k) ≡ None → IsIn kind (k ∷ ks) → (first_unlisted c ks ≡ None → IsIn kind ks → is_listed c kind ≡ true) → is_listed c kind ≡ true
-    by false e n i rest = none_some (sym n)
-    by true e n (inl is) rest = subst (λ x. is_listed c x ≡ true) is e
-    by true e n (inr more) rest = rest n more
 
 pub sum_none : (f : Kind → ℕ) (ks : List Kind) → ((k : Kind) → f k ≡ 0) → sum_over f ks ≡ 0
 sum_none f [] each = refl
@@ -52,11 +44,6 @@ sum_same f g (k ∷ ks) each = let a = each k (inl refl) in let rest = sum_same 
 seven_times : (f : Kind → ℕ) (ks : List Kind) → sum_over (λ k. 7 * f k) ks ≡ 7 * sum_over f ks
 seven_times f [] = omega arith
 seven_times f (k ∷ ks) = let rest = seven_times f ks in omega (arith, rest)
-
-followed_in : (ks : List Kind) (kind : Kind) → IsIn kind ks → (place : ℕ) × (slice_get ks place ≡ Some kind)
-followed_in [] kind i = absurd i
-followed_in (k ∷ ks) kind (inl is) = (0, ap Some is)
-followed_in (k ∷ ks) kind (inr i) = let p = followed_in ks kind i in (suc p.0, p.1)
 
 module _ (setup : Setup) (seat : ℕ) (s : ActorState) (h : List Entry) (ready : IsReady seat s h) (built : IsBuiltKind s.role.kind) (history : IsHistory setup h) where
   -- what was read is no newer than the store
@@ -76,7 +63,7 @@ module _ (setup : Setup) (seat : ℕ) (s : ActorState) (h : List Entry) (ready :
             let c = (ready.stands.told.caches.each kind).from ∙ (ap (λ x. watch_from (following_of (own seat h) x)) (ready.stands.told.caches.kinds kind) ∙ e) in
             absurd (true≢false (sym known ∙ ap is_some c))
         by (Some from) e =
-            let p = followed_in (kinds_of s.role.kind) kind followed in
+            let p = place_in (kinds_of s.role.kind) kind followed in
             let within = slice_get_within (kinds_of s.role.kind) p.0 kind p.1 in
             let all = passed (kinds_of s.role.kind) s.pass.behind over in
             let high_enough = behind p.0 kind from (omega (arith, within, all)) p.1 e in

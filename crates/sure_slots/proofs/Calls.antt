@@ -38,7 +38,8 @@ use Rattle.pass_law.specs.Passes.{IsCallGiven, KindsHaveReached}
 use Rattle.begun_lasts.specs.Begun.{begins_to_last}
 use Rattle.slot_costs.proofs.Calls.{AtKeys, InPass, Stage, few_on, low_on, pass_left}
 use Rattle.slot_costs.proofs.Made.{reads_stay}
-use Rattle.slot_costs.proofs.Reaching.{ReachedBehind, behind_on, none_told, own_read}
+use Rattle.pass_law.proofs.Reaching.{ReachedBehind, behind_on, none_told}
+use Rattle.short_law.proofs.HeldCalls.{own_read}
 use Rattle.slot_costs.proofs.RoundCosts.{event_calls, key_calls}
 use Rattle.sure_slots.proofs.Passes.{read_falls}
 use Rattle.sure_slots.proofs.Lasting.{lasting_rises}

@@ -37,14 +37,14 @@ use Rattle.pass_law.proofs.First.{first_calls_pay, wait_few}
 use Rattle.pass_law.proofs.Told.{within_five}
 use Rattle.pass_law.specs.Passes.{IsCallGiven, KindsHaveReached, first_cost, wait_cost}
 use Rattle.short_law.specs.Slots.{writes_since}
-use Rattle.short_law.proofs.Slots.{later}
+use Rattle.short_law.proofs.Slots.{later, start_few}
 use Rattle.write_count.proofs.Runs.{silent_run}
 use Rattle.begun_lasts.specs.Begun.{begins_to_last}
 use Rattle.slot_costs.proofs.Calls.{AtKeys, Stage}
 use Rattle.slot_costs.proofs.Made.{reads_stay}
-use Rattle.slot_costs.proofs.Reaching.{IsBefore, IsPast, ReachedBehind, TurnOf, behind_on, first_low, given_at, none_told, own_read, reached_all, reached_on, turn_of}
+use Rattle.pass_law.proofs.Reaching.{IsBefore, IsPast, ReachedBehind, TurnOf, behind_on, first_low, given_at, none_told, reached_all, reached_on, turn_of}
+use Rattle.short_law.proofs.HeldCalls.{own_read}
 use Rattle.slot_costs.proofs.RoundCosts.{key_calls}
-use Rattle.slot_costs.proofs.Slots.{start_few}
 use Rattle.slot_costs.proofs.Stages.{all_read, nothing_told}
 use Rattle.sure_slots.specs.Sure.{PassesAll, SureSlotsCostWrites}
 use Rattle.sure_slots.proofs.Calls.{calls_pay}

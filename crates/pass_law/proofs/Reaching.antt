@@ -1,6 +1,6 @@
 -- How far an actor has come with the kinds that it follows: what it reads is no older than its slot, and a kind behind its pass is as it stands.
 use Rattle.std.proofs.Common.{◌≡◌, ◌∙◌, ◌⊎◌, ℕ, ◌+◌, ◌≤◌, ◌<◌, List, [], ◌∷◌, length, Bool, true, false, Option, Some, None, inl, inr, refl, sym, ap, subst, arith, if◌then◌else◌}
-use Rattle.std.specs.Prelude.{◌==◌, is_some, nat_lt, not, option_map}
+use Rattle.std.specs.Prelude.{◌==◌, nat_lt, not, option_map}
 use Rattle.std.proofs.lemmas.Bool.Decides.{nat_tests}
 use Rattle.kube_types.specs.declared.parts.Kind.{Kind}
 use Rattle.kube_types.specs.Keys.{same_kind}
@@ -10,16 +10,12 @@ use Rattle.call_types.specs.declared.reply.Reply.{Reply}
 use Rattle.call_types.specs.declared.reply.Reply.TheVariants as replies
 use Rattle.call_types.specs.declared.request.Request.{Request}
 use Rattle.call_types.specs.declared.request.Request.TheVariants as requests
-use Rattle.call_types.specs.declared.request.SeatKind.{SeatKind}
-use Rattle.call_types.specs.declared.request.SeatKind.TheVariants as seats
 use Rattle.call_types.specs.declared.setup.Setup.{Setup}
 use Rattle.call_types.specs.Kinds.{reads_kind}
 use Rattle.binder_model.specs.Told.{own}
 use Rattle.binder_model.specs.Watching.{most_events, told_events}
-use Rattle.informer_cache.specs.declared.cache.Ask.{Ask}
 use Rattle.informer_cache.specs.declared.cache.Ask.TheVariants as asks
-use Rattle.informer_cache.specs.All.{AllKnown, cache_of}
-use Rattle.informer_cache.specs.Cache.{ask_of}
+use Rattle.informer_cache.specs.All.{AllKnown}
 use Rattle.model_laws.proofs.Lists.{none_some, one}
 use Rattle.model_laws.proofs.Uids.{rises}
 use Rattle.worker_core.specs.declared.role.Role.{Role}
@@ -32,7 +28,7 @@ use Rattle.worker_core.specs.declared.turn.Pass.{Pass}
 use Rattle.worker_core.specs.Absorbs.{given_told, is_passing, learned, pass_after, read_told, task_told, told_to}
 use Rattle.worker_core.specs.Memories.{Memory}
 use Rattle.worker_core.specs.Roles.{IsBuiltKind, kind_in_order, kinds_of}
-use Rattle.worker_core.specs.States.{ActorState, agent_start, asked, call_in, call_under, given_call, read_of_kind, read_request, start_call, start_of}
+use Rattle.worker_core.specs.States.{ActorState, asked, call_in, call_under, given_call, start_call}
 use Rattle.worker_core.specs.Turns.{IsTurn, TurnBy, passing, unlisted}
 use Rattle.worker_core.proofs.Answered.{gives_asked, passed}
 use Rattle.worker_core.proofs.ByKind.{placed}
@@ -49,31 +45,8 @@ use Rattle.pass_law.proofs.Given.{FindsGone, GivenSo, GivesRead, GivesStart, Giv
 use Rattle.event_law.proofs.Points.{WritesLight}
 use Rattle.event_law.specs.Telling.{told}
 use Rattle.binder_model.specs.World.{IsHistory, base as base_of, world}
-use Rattle.short_law.specs.Slots.{is_own_read}
 use Rattle.event_law.specs.Ahead.{from_of}
 use Rattle.pass_law.specs.Passes.{IsCallGiven, KindsHaveReached}
-
--- a call of the start is one that is not held back
-pub start_is_read : (kind : SeatKind) (node : List ℕ) (m : Memory) (request : Request) → start_of kind node m ≡ Some request → is_own_read request ≡ true
-start_is_read seats.Agent node m request e = by m.epoch (is_some m.mounts) e
-  where
-    by : (epoch : Option ℕ) (told : Bool) → agent_start node epoch told ≡ Some request → is_own_read request ≡ true
-    by None told h = ap is_own_read (sym (one _ request h))
-    by (Some epoch) false h = ap is_own_read (sym (one _ request h))
-    by (Some epoch) true h = none_some h
-start_is_read seats.User node m request e = none_some e
-start_is_read seats.Binder node m request e = none_some e
-start_is_read seats.Ops node m request e = none_some e
-start_is_read seats.Scheduler node m request e = none_some e
-start_is_read seats.ClaimProtect node m request e = none_some e
-start_is_read seats.VolumeProtect node m request e = none_some e
-
-pub kind_is_read : (caches : AllKnown) (kind : Kind) → is_own_read (read_of_kind caches kind) ≡ true
-kind_is_read caches kind = by (ask_of (cache_of kind caches))
-  where
-    by : (a : Ask) → is_own_read (read_request kind a) ≡ true
-    by asks.List = refl
-    by (asks.Watch from) = refl
 
 pub first_low : (setup : Setup) (h : List Entry) → base_of setup ≤ (world setup h).store.version
 first_low setup h = subst (λ es. base_of setup ≤ (world setup es).store.version) (nil_right h) (rises setup h [])
@@ -140,20 +113,11 @@ turn_of s given request turn = by s.memory.stale s.under (start_call s.role s.me
     by false None None None None eu el ep t = IsPast eu el ep
 
 -- how far the pass goes on with one call
-data PassOn (seat : ℕ) (x next : ActorState) (entries : List Entry) (version : ℕ) : Type 0 where
+pub data PassOn (seat : ℕ) (x next : ActorState) (entries : List Entry) (version : ℕ) : Type 0 where
   Stands : next.pass.behind ≡ x.pass.behind → PassOn seat x next entries version
   GoesOn : (kind : Kind) → kind_in_order x.role x.pass.behind ≡ Some kind → from_of seat entries kind ≡ Some version → next.pass.behind ≡ x.pass.behind + 1 → PassOn seat x next entries version
 
--- what is under way where a call is no task's, so that no write is made
-pub own_read : (x : ActorState) (request : Request) → x.under ≡ None → asked x ≡ Some request → is_own_read request ≡ true
-own_read x request none ask = by (given_so x request ask)
-  where
-    by : GivenSo x → is_own_read request ≡ true
-    by (GivesTask e) = none_some (sym (ap (option_map call_under) none) ∙ (ap (given_call x) (sym e) ∙ ask))
-    by (GivesStart e) = start_is_read x.role.kind x.role.node x.memory request (ap (given_call x) (sym e) ∙ ask)
-    by (GivesRead kind e) = ap is_own_read (sym (one (read_of_kind x.caches kind) request (ap (given_call x) (sym e) ∙ ask))) ∙ kind_is_read x.caches kind
-
--- nothing is under way after its answer
+-- nothing is under way after the answer to a call that is no task's
 pub none_told : (x : ActorState) (request : Request) (reply : Reply) (caches : AllKnown) → x.under ≡ None → asked x ≡ Some request → (told_to x caches request reply).under ≡ None
 none_told x request reply caches none ask = by (given_so x request ask)
   where
@@ -161,6 +125,13 @@ none_told x request reply caches none ask = by (given_so x request ask)
     by (GivesTask e) = none_some (sym (ap (option_map call_under) none) ∙ (ap (given_call x) (sym e) ∙ ask))
     by (GivesStart e) = ap (λ (y : ActorState). y.under) (ap (given_told (learned x caches request reply) request reply) e) ∙ none
     by (GivesRead kind e) = ap (λ (y : ActorState). y.under) (ap (given_told (learned x caches request reply) request reply) e) ∙ none
+
+pub at_or_before : (i n : ℕ) → i < n + 1 → (i < n) ⊎ (i ≡ n)
+at_or_before i n lt = by (nat_lt i n) refl
+  where
+    by : (b : Bool) → nat_lt i n ≡ b → (i < n) ⊎ (i ≡ n)
+    by true e = inl (grind (arith, nat_tests))
+    by false e = inr (grind (arith, nat_tests))
 
 -- one seat
 
@@ -181,7 +152,7 @@ module _ (setup : Setup) (seat : ℕ) where
   abbrev pub ReachedBehind : ℕ → Role → Pass → List Entry → Type 0
   ReachedBehind reached role pass h = (place : ℕ) (kind : Kind) (from : ℕ) → place < pass.behind → kind_in_order role place ≡ Some kind → from_of seat h kind ≡ Some from → reached ≤ from
 
-  pass_on : (x : ActorState) (request : Request) (reply : Reply) (h : List Entry) (given : IsCallGiven setup seat x request reply h) (caches : AllKnown) → PassOn seat x (told_to x caches request reply) (told_entry seat x request reply ∷ h) (world setup h).store.version
+  pub pass_on : (x : ActorState) (request : Request) (reply : Reply) (h : List Entry) (given : IsCallGiven setup seat x request reply h) (caches : AllKnown) → PassOn seat x (told_to x caches request reply) (told_entry seat x request reply ∷ h) (world setup h).store.version
   pass_on x request reply h given caches = by (given_so x request given.ask)
     where
       is_read : (kind : Kind) → x.given ≡ Some (givens.Read kind) → told_to x caches request reply ≡ read_told (learned x caches request reply) kind request reply
@@ -216,13 +187,6 @@ module _ (setup : Setup) (seat : ℕ) where
           Stands (ap (λ (y : ActorState). y.pass.behind) (ap (given_told (learned x caches request reply) request reply) eg ∙ ap (task_told (learned x caches request reply) reply) t.there))
       by (GivesStart eg) = Stands (ap (λ (y : ActorState). y.pass.behind) (ap (given_told (learned x caches request reply) request reply) eg))
       by (GivesRead kind eg) = read_by kind eg (read_called setup seat x request reply h given kind eg).reads
-
-  at_or_before : (i n : ℕ) → i < n + 1 → (i < n) ⊎ (i ≡ n)
-  at_or_before i n lt = by (nat_lt i n) refl
-    where
-      by : (b : Bool) → nat_lt i n ≡ b → (i < n) ⊎ (i ≡ n)
-      by true e = inl (grind (arith, nat_tests))
-      by false e = inr (grind (arith, nat_tests))
 
   -- and those behind it after one call have too
   pub behind_on : (version : ℕ) (x : ActorState) (request : Request) (reply : Reply) (h : List Entry) → IsCallGiven setup seat x request reply h → version ≤ (world setup h).store.version → ReachedBehind version x.role x.pass h → (caches : AllKnown)
