@@ -7,7 +7,7 @@ use Rattle.call_types.specs.declared.setup.Setup.{Setup}
 use Rattle.binder_model.specs.Imports.{ImportsPass}
 use Rattle.binder_model.specs.World.{IsHistory}
 use Rattle.informer_cache.specs.All.{all_objects}
-use Rattle.model_laws.proofs.Lists.{none_some, one}
+use Rattle.model_laws.proofs.Lists.{none_some}
 use Rattle.sync_queue.specs.Work.{Work}
 use Rattle.worker_core.specs.declared.task.Under.{Under}
 use Rattle.worker_core.specs.declared.turn.Given.{Given}

@@ -22,14 +22,11 @@ use Rattle.safety_invariant.proofs.Effects.{effect_form}
 use Rattle.worker_core.proofs.Answered.{answer_licensed}
 use Rattle.std.proofs.Common.{◌++◌, append_assoc}
 use Rattle.std.specs.Prelude.{⊤}
-use Rattle.std.proofs.Common.{◌≡◌, ◌∙◌, ◌⊎◌, ℕ, ◌+◌, ◌-◌, ◌≤◌, ◌<◌, List, [], ◌∷◌, length, Bool, true, false, true≢false, Some, None, inl, inr, refl, sym, ap, subst, arith, if◌then◌else◌}
-use Rattle.std.specs.Prelude.{◌==◌, not}
+use Rattle.std.proofs.Common.{◌≡◌, ◌∙◌, ◌⊎◌, ℕ, ◌+◌, ◌-◌, ◌≤◌, ◌<◌, List, [], ◌∷◌, Bool, true, false, true≢false, Some, None, inl, inr, refl, sym, ap, subst, arith}
 use Rattle.kube_types.specs.declared.parts.Kind.{Kind}
-use Rattle.kube_types.specs.Keys.{same_kind}
 use Rattle.kube_types.proofs.SameKeys.{same_kind-Decides}
 use Rattle.call_types.specs.declared.entry.Entry.{Entry}
 use Rattle.call_types.specs.declared.reply.Reply.{Reply}
-use Rattle.call_types.specs.declared.reply.Reply.TheVariants as replies
 use Rattle.call_types.specs.declared.request.Request.{Request}
 use Rattle.call_types.specs.declared.request.Request.TheVariants as requests
 use Rattle.call_types.specs.declared.request.SeatKind.TheVariants as seats
@@ -37,140 +34,30 @@ use Rattle.call_types.specs.declared.setup.Setup.{Setup}
 use Rattle.call_types.specs.Kinds.{reads_kind}
 use Rattle.binder_model.specs.Reading.{follows}
 use Rattle.binder_model.specs.Told.{own}
-use Rattle.binder_model.specs.Watching.{most_events, told_events}
 use Rattle.binder_model.specs.World.{IsHistory, world}
-use Rattle.informer_cache.specs.All.{AllKnown}
 use Rattle.model_laws.proofs.Histories.{rows_stand_in_order}
-use Rattle.model_laws.proofs.Lists.{IsIn, none_some, one}
+use Rattle.model_laws.proofs.Lists.{IsIn, none_some}
 use Rattle.model_laws.proofs.Uids.{rises}
 use Rattle.worker_core.specs.declared.role.Role.{Role}
-use Rattle.worker_core.specs.declared.turn.Given.TheVariants as givens
 use Rattle.worker_core.specs.declared.turn.Next.TheVariants.{Call, Idle}
 use Rattle.worker_core.specs.declared.turn.Outcome.TheVariants.{Told}
 use Rattle.worker_core.specs.declared.turn.Pass.{Pass}
-use Rattle.worker_core.specs.Absorbs.{absorbed, given_told, is_passing, learned, pass_after, read_told, task_told, told_to, woken}
+use Rattle.worker_core.specs.Absorbs.{absorbed, woken}
 use Rattle.worker_core.specs.Memories.{Memory}
-use Rattle.worker_core.specs.Roles.{IsBuiltKind, kind_in_order, kinds_of}
+use Rattle.worker_core.specs.Roles.{IsBuiltKind, kind_in_order}
 use Rattle.worker_core.specs.States.{ActorState}
-use Rattle.worker_core.specs.Turns.{IsTurn, passing}
-use Rattle.worker_core.proofs.Answered.{gives_asked, passed}
-use Rattle.worker_core.proofs.ByKind.{placed}
-use Rattle.worker_core.proofs.PassRules.{watches_follow}
-use Rattle.worker_core.proofs.Turning.{turn_stands}
-use Rattle.attention_law.proofs.Kept.{turns_queues}
-use Rattle.attention_law.proofs.Turned.{Kept, PassAfter, Renewed, answer_role, calls_fresh, idle_rests, turn_pass}
+use Rattle.worker_core.specs.Turns.{IsTurn}
+use Rattle.worker_core.proofs.Answered.{passed}
+use Rattle.attention_law.proofs.Turned.{Kept, PassAfter, Renewed, answer_role, idle_rests, turn_pass}
 use Rattle.worker_threads.specs.Rounds.{all_pass, Asks, IsHeld, IsIdle, IsReady, IsSpent, Runs, told_entry}
 use Rattle.worker_threads.proofs.RunFacts.{still_role, turn_memory, turn_role}
 use Rattle.slot_law.proofs.Slots.{run_older}
-use Rattle.slot_law.proofs.Knowing.{at_or_before}
-use Rattle.event_law.proofs.Calls.{gone_from, listed_from, unread_from, watched_from}
-use Rattle.event_law.proofs.Events.{told_so}
 use Rattle.pass_law.proofs.Given.{FindsGone, GivenSo, GivesRead, GivesStart, GivesTask, IsTold, Lists, Reads, given_so, read_called, start_called, task_called}
-use Rattle.event_law.specs.Ahead.{from_of}
 use Rattle.event_law.specs.Telling.{told}
 use Rattle.pass_law.specs.Passes.{KindsHaveReached, IsCallGiven}
-
-module _ (setup : Setup) (seat base : ℕ) (x : ActorState) (request : Request) (reply : Reply) (h : List Entry) (given : IsCallGiven setup seat x request reply h) (begun : base ≤ (world setup h).store.version) where
-  -- a kind has reached so far, whether it is the one that was read or not
-  reached_on : (k : Kind) (from : ℕ) → ((f : ℕ) → from_of seat h k ≡ Some f → base ≤ f) → from_of seat (told_entry seat x request reply ∷ h) k ≡ Some from → base ≤ from
-  reached_on k from before is = by (given_so x request given.ask)
-    where
-      kept : reads_kind k request ≡ false → base ≤ from
-      kept unread = before from (sym (unread_from seat (told_entry seat x request reply) h refl refl k unread) ∙ is)
-
-      read_it : (kind : Kind) → Reads setup seat x kind request reply h → (b : Bool) → same_kind kind k ≡ b → base ≤ from
-      read_it kind (Lists none asks answered) false other = kept (ap (reads_kind k) asks ∙ other)
-      read_it kind (FindsGone f gone some passes asks old answered) false other = kept (ap (reads_kind k) asks ∙ other)
-      read_it kind (IsTold f some passes asks low within answered) false other = kept (ap (reads_kind k) asks ∙ other)
-      read_it kind (Lists none asks answered) true same =
-          let k_is : kind ≡ k = (same_kind-Decides kind k).0 same in
-          let now = listed_from seat (told_entry seat x request reply) h refl refl kind _ (world setup h).store.version asks answered in
-          let v = one (world setup h).store.version from (sym now ∙ (ap (from_of seat (told_entry seat x request reply ∷ h)) k_is ∙ is)) in
-          omega (arith, v, begun)
-      read_it kind (FindsGone f gone some passes asks old answered) true same =
-          let k_is : kind ≡ k = (same_kind-Decides kind k).0 same in
-          none_some (sym (gone_from seat (told_entry seat x request reply) h refl refl kind f gone asks answered) ∙ (ap (from_of seat (told_entry seat x request reply ∷ h)) k_is ∙ is))
-      read_it kind (IsTold f some passes asks low within answered) true same =
-          let k_is : kind ≡ k = (same_kind-Decides kind k).0 same in
-          let now = watched_from seat (told_entry seat x request reply) h refl refl kind f f (world setup h).store.version (world setup h).log asks answered some in
-          let u = one (told_events kind f (world setup h).store.version (world setup h).log).upto from (sym now ∙ (ap (from_of seat (told_entry seat x request reply ∷ h)) k_is ∙ is)) in
-          let old = before f (ap (from_of seat h) (sym k_is) ∙ some) in
-          up_to (length (told kind f (world setup h).log) == most_events) refl u old
-        where
-          up_to : (full : Bool) → (length (told kind f (world setup h).log) == most_events) ≡ full → (told_events kind f (world setup h).store.version (world setup h).log).upto ≡ from → base ≤ f → base ≤ from
-          up_to true e u old = let r = (told_so setup h kind f true low e).reached refl in omega (arith, r, u, old)
-          up_to false e u old = let r = (told_so setup h kind f false low e).whole refl in omega (arith, r, u, begun)
-
-      by : GivenSo x → base ≤ from
-      by (GivesTask e) = kept ((task_called setup seat x request reply h given e).unread k)
-      by (GivesStart e) = kept ((start_called setup seat x request reply h given e).unread k)
-      by (GivesRead kind e) = read_it kind (read_called setup seat x request reply h given kind e).reads (same_kind kind k) refl
-
--- how far the pass goes on with one call
-data PassOn (seat : ℕ) (x next : ActorState) (entries : List Entry) (version : ℕ) : Type 0 where
-  Stands : next.pass.behind ≡ x.pass.behind → PassOn seat x next entries version
-  GoesOn : (kind : Kind) → kind_in_order x.role x.pass.behind ≡ Some kind → from_of seat entries kind ≡ Some version → next.pass.behind ≡ x.pass.behind + 1 → PassOn seat x next entries version
-
-module _ (setup : Setup) (seat : ℕ) where
-  -- a call that was given and told
-  given_at : (s given : ActorState) (h : List Entry) (request : Request) (reply : Reply) → IsBuiltKind s.role.kind → IsReady seat s h → IsTurn s given (Call request) → IsHistory setup (told_entry seat given request reply ∷ h) → IsCallGiven setup seat given request reply h
-  given_at s given h request reply built ready turn whole = record {
-    built = subst (λ (r : Role). IsBuiltKind r.kind) (sym (turn_role s given (Call request) turn)) built;
-    stands = turn_stands s given (Call request) (own seat h) ready.rows ready.stands.told turn;
-    queue = turns_queues s given (Call request) turn ready.stands.queue;
-    ask = sym (gives_asked s given (Call request) turn);
-    fresh = ap (λ (x : Memory). x.stale) (turn_memory s given (Call request) turn) ∙ calls_fresh s given request turn;
-    history = whole;
-    passes = λ kind from eg is. watches_follow s given (Call request) kind from turn eg (ap Call is);
-  }
-
-  pass_on : (x : ActorState) (request : Request) (reply : Reply) (h : List Entry) (given : IsCallGiven setup seat x request reply h) (caches : AllKnown) → PassOn seat x (told_to x caches request reply) (told_entry seat x request reply ∷ h) (world setup h).store.version
-  pass_on x request reply h given caches = by (given_so x request given.ask)
-    where
-      is_read : (kind : Kind) → x.given ≡ Some (givens.Read kind) → told_to x caches request reply ≡ read_told (learned x caches request reply) kind request reply
-      is_read kind eg = ap (given_told (learned x caches request reply) request reply) eg
-
-      behind_is : (kind : Kind) (q : Request) (a : Reply) → x.given ≡ Some (givens.Read kind) → request ≡ q → reply ≡ a → (told_to x caches request reply).pass.behind ≡ (pass_after x.pass (is_passing (passing x) kind) q a).behind
-      behind_is kind q a eg asks answered = ap (λ (y : ActorState). y.pass.behind) (is_read kind eg) ∙ (ap (λ r. (pass_after x.pass (is_passing (passing x) kind) r reply).behind) asks ∙ ap (λ r. (pass_after x.pass (is_passing (passing x) kind) q r).behind) answered)
-
-      told_by : (kind : Kind) (from : ℕ) → x.given ≡ Some (givens.Read kind) → from_of seat h kind ≡ Some from → passing x ≡ Some kind → request ≡ requests.Watch kind from → from ≤ (world setup h).store.version → reply ≡ replies.Events (told_events kind from (world setup h).store.version (world setup h).log)
-          → (full : Bool) → (length (told kind from (world setup h).log) == most_events) ≡ full → PassOn seat x (told_to x caches request reply) (told_entry seat x request reply ∷ h) (world setup h).store.version
-      told_by kind from eg some passes asks low answered full e = with_full full e
-        where
-          goes : (f : Bool) → (length (told kind from (world setup h).log) == most_events) ≡ f → (told_to x caches request reply).pass.behind ≡ (if not f then x.pass.behind + 1 else x.pass.behind)
-          goes f e2 =
-              let is_p : is_passing (passing x) kind ≡ true = ap (λ k. is_passing k kind) passes ∙ (same_kind-Decides kind kind).1 refl in
-              behind_is kind (requests.Watch kind from) _ eg asks answered ∙ (ap (λ p. (pass_after x.pass p (requests.Watch kind from) (replies.Events (told_events kind from (world setup h).store.version (world setup h).log))).behind) is_p ∙ ap (λ f. if not f then x.pass.behind + 1 else x.pass.behind) e2)
-
-          with_full : (f : Bool) → (length (told kind from (world setup h).log) == most_events) ≡ f → PassOn seat x (told_to x caches request reply) (told_entry seat x request reply ∷ h) (world setup h).store.version
-          with_full true e2 = Stands (goes true e2)
-          with_full false e2 =
-              let now = watched_from seat (told_entry seat x request reply) h refl refl kind from from (world setup h).store.version (world setup h).log asks answered some in
-              GoesOn kind passes (now ∙ ap Some ((told_so setup h kind from false low e2).whole refl)) (goes false e2)
-
-      read_by : (kind : Kind) → x.given ≡ Some (givens.Read kind) → Reads setup seat x kind request reply h → PassOn seat x (told_to x caches request reply) (told_entry seat x request reply ∷ h) (world setup h).store.version
-      read_by kind eg (Lists none asks answered) = Stands (behind_is kind (requests.List kind None) reply eg asks refl)
-      read_by kind eg (FindsGone from gone some passes asks old answered) = Stands (behind_is kind (requests.Watch kind from) _ eg asks answered)
-      read_by kind eg (IsTold from some passes asks low within answered) = told_by kind from eg some passes asks low answered (length (told kind from (world setup h).log) == most_events) refl
-
-      by : GivenSo x → PassOn seat x (told_to x caches request reply) (told_entry seat x request reply ∷ h) (world setup h).store.version
-      by (GivesTask eg) =
-          let t = task_called setup seat x request reply h given eg in
-          Stands (ap (λ (y : ActorState). y.pass.behind) (ap (given_told (learned x caches request reply) request reply) eg ∙ ap (task_told (learned x caches request reply) reply) t.there))
-      by (GivesStart eg) = Stands (ap (λ (y : ActorState). y.pass.behind) (ap (given_told (learned x caches request reply) request reply) eg))
-      by (GivesRead kind eg) = read_by kind eg (read_called setup seat x request reply h given kind eg).reads
+use Rattle.pass_law.proofs.Reaching.{ReachedBehind, behind_on as behind_told, given_at, reached_all, reached_on}
 
 module _ (setup : Setup) (seat base : ℕ) where
-  abbrev ReachedBehind : Role → Pass → List Entry → Type 0
-  ReachedBehind role pass h = (place : ℕ) (kind : Kind) (from : ℕ) → place < pass.behind → kind_in_order role place ≡ Some kind → from_of seat h kind ≡ Some from → base ≤ from
-
-  reached_all : (role : Role) (pass : Pass) (h : List Entry) → ReachedBehind role pass h → kind_in_order role pass.behind ≡ None → KindsHaveReached base seat role.kind h
-  reached_all role pass h behind over kind from f is =
-      let p = placed role.kind kind f in
-      let within = p.within in
-      let all = passed (kinds_of role.kind) pass.behind over in
-      behind p.place kind from (omega (arith, within, all)) p.at is
-
   -- one call on
   module _ (s given next : ActorState) (request : Request) (reply : Reply) (h : List Entry) (built : IsBuiltKind s.role.kind) (ready : IsReady seat s h) (turn : IsTurn s given (Call request)) (whole : IsHistory setup (told_entry seat given request reply ∷ h)) (absorbs : next ≡ absorbed given next.caches request (Told reply)) (begun : base ≤ (world setup h).store.version) where
     g : IsCallGiven setup seat given request reply h
@@ -187,34 +74,15 @@ module _ (setup : Setup) (seat base : ℕ) where
     all_on reached kind from f is =
         reached_on setup seat base given request reply h g begun kind from (λ v e. reached kind v (ap (λ (r : Role). follows r.kind kind) (sym (next_role ∙ given_role)) ∙ f) e) is
 
-    pub behind_on : ReachedBehind s.role s.pass h → ReachedBehind next.role next.pass (told_entry seat given request reply ∷ h)
-    behind_on behind place kind from lt there is = on (pass_on setup seat given request reply h g next.caches)
+    turned : ReachedBehind setup seat base s.role s.pass h → ReachedBehind setup seat base given.role given.pass h
+    turned behind place kind from lt there is = by (turn_pass s given (Call request) turn)
       where
-        there_before : kind_in_order s.role place ≡ Some kind
-        there_before = ap (λ (r : Role). kind_in_order r place) (sym (next_role ∙ given_role)) ∙ there
+        by : PassAfter s given → base ≤ from
+        by (Kept same) = behind place kind from (subst (λ (q : Pass). place < q.behind) same lt) (ap (λ (r : Role). kind_in_order r place) (sym given_role) ∙ there) is
+        by (Renewed brought same) = let none = subst (λ (q : Pass). place < q.behind) same lt in absurd (omega (arith, none))
 
-        kept : place < given.pass.behind → base ≤ from
-        kept before = reached_on setup seat base given request reply h g begun kind from (λ f e. at_given place kind f before there_before e) is
-          where
-            at_given : (place : ℕ) (kind : Kind) (f : ℕ) → place < given.pass.behind → kind_in_order s.role place ≡ Some kind → from_of seat h kind ≡ Some f → base ≤ f
-            at_given i k f lt at e = by (turn_pass s given (Call request) turn)
-              where
-                by : PassAfter s given → base ≤ f
-                by (Kept same) = behind i k f (subst (λ (q : Pass). i < q.behind) same lt) at e
-                by (Renewed brought same) = let none = subst (λ (q : Pass). i < q.behind) same lt in absurd (omega (arith, none))
-
-        next_is : next.pass.behind ≡ (told_to given next.caches request reply).pass.behind
-        next_is = ap (λ (y : ActorState). y.pass.behind) absorbs
-
-        on : PassOn seat given (told_to given next.caches request reply) (told_entry seat given request reply ∷ h) (world setup h).store.version → base ≤ from
-        on (Stands stays) = let n = next_is in kept (omega (arith, lt, stays, n))
-        on (GoesOn k at_k reached_k goes) = elim (at_or_before place given.pass.behind (let n = next_is in omega (arith, lt, goes, n))) [
-          | inl before ↦ kept before
-          | inr here ↦
-              let k_is : Some k ≡ Some kind = sym at_k ∙ (ap (kind_in_order given.role) (sym here) ∙ (ap (λ (r : Role). kind_in_order r place) (sym next_role) ∙ there)) in
-              let v = one (world setup h).store.version from (sym reached_k ∙ (ap (from_of seat (told_entry seat given request reply ∷ h)) (one k kind k_is) ∙ is)) in
-              omega (arith, v, begun)
-        ]
+    pub behind_on : ReachedBehind setup seat base s.role s.pass h → ReachedBehind setup seat base next.role next.pass (told_entry seat given request reply ∷ h)
+    behind_on behind = subst (λ (y : ActorState). ReachedBehind setup seat base y.role y.pass (told_entry seat given request reply ∷ h)) (sym absorbs) (behind_told setup seat base given request reply h g begun (turned behind) next.caches)
 
 -- ---- a slot that begins at this version leaves each kind so
 
