@@ -9,9 +9,9 @@ use Rattle.paid_law.specs.Pays.{DecisionsPay}
 use Rattle.paid_law.proofs.ClaimGuards.{claim_guards_pay}
 use Rattle.paid_law.proofs.VolumeGuards.{volume_guards_pay}
 use Rattle.payer_law.proofs.Scheduling.{scheduling_pays}
-use Rattle.reclaimer_pays.proofs.Reclaiming.{ops_pay}
-use Rattle.binder_pays.proofs.Paying.{binding_pays}
-use Rattle.agent_pays.proofs.Agents.{agents_pay}
+use Rattle.payer_law.proofs.Reclaiming.{ops_pay}
+use Rattle.payer_law.proofs.Paying.{binding_pays}
+use Rattle.payer_law.proofs.Agents.{agents_pay}
 use Rattle.all_pay.specs.All.{ActorsPay, ImportsAllow}
 
 module _ (setup : Setup) (seat : ℕ) (role : Role) (allow : ImportsAllow setup) where

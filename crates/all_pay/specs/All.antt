@@ -10,7 +10,7 @@ use Rattle.worker_threads.specs.declared.drainers.Drainer.{Drainer}
 use Rattle.worker_threads.specs.Drainers.{AreAtRest, AreNew, AreRoles, HaveNoEntries, roles_of, seats_of}
 use Rattle.worker_threads.specs.Rounds.{Drains, IsRound, Lets}
 use Rattle.paid_law.specs.Pays.{DecisionsPay, HasFallen, HavePaid}
-use Rattle.reclaimer_pays.specs.Reclaiming.{UidsFit}
+use Rattle.payer_law.specs.Reclaiming.{UidsFit}
 use Rattle.settle_law.specs.Settling.{MayDrain}
 
 -- each import has a UID of 128 bits

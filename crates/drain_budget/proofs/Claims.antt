@@ -8,8 +8,8 @@ use Rattle.kube_types.proofs.KeyOrder.{row_at_key}
 use Rattle.settle_measure.specs.Measure.{claims_in, pods_in, total, volumes_in}
 use Rattle.settle_measure.proofs.Sums.{stands}
 use Rattle.short_law.specs.Rounds.{names_in}
-use Rattle.call_count.specs.Rounds.{pod_size}
-use Rattle.call_count.proofs.Growth.{AreGiven, ByNothing, ByOld, IsCovered, IsGiven, IsMade, IsOld, covered, made_kind}
+use Rattle.write_count.specs.Rounds.{pod_size}
+use Rattle.write_count.proofs.Growth.{AreGiven, ByNothing, ByOld, IsCovered, IsGiven, IsMade, IsOld, covered, made_kind}
 
 -- ---- the sizes
 

@@ -24,9 +24,9 @@ use Rattle.all_pay.proofs.Rounds.{payer_at, rounds_pay}
 use Rattle.write_count.specs.Counts.{nodes_in, to_write}
 use Rattle.write_count.proofs.Ordered.{nodes_are_few}
 use Rattle.write_count.proofs.Rounds.{rounds_write_little}
-use Rattle.call_count.specs.Rounds.{most_size, pods_size}
-use Rattle.call_count.proofs.Growth.{AreGiven, given_first, pods_few}
-use Rattle.call_count.proofs.Sums.{round_given, sum}
+use Rattle.write_count.specs.Rounds.{most_size, pods_size}
+use Rattle.write_count.proofs.Growth.{AreGiven, given_first, pods_few}
+use Rattle.write_count.proofs.Sums.{round_given, sum}
 use Rattle.drain_budget.specs.Drains.{rounds_in}
 use Rattle.drain_budget.specs.Budget.{AreAlwaysInOrder, DrainsCostLittle, round_calls, round_writes}
 use Rattle.drain_budget.proofs.Claims.{claims_few}

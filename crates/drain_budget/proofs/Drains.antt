@@ -28,10 +28,10 @@ use Rattle.write_count.specs.Counts.{to_write}
 use Rattle.write_count.proofs.Rounds.{rounds_write_little}
 use Rattle.write_count.proofs.Slots.{counted}
 use Rattle.drain_budget.specs.Drains.{DrainsAreShort, DrainsMakeFewCalls, DrainsWriteLittle, RoundsAreBounded, ShortDrainsSettle, rounds_in}
-use Rattle.call_count.specs.Rounds.{most_size, pod_size, pods_size}
-use Rattle.call_count.proofs.Growth.{AreGiven, given_first, pods_few}
-use Rattle.call_count.proofs.Sizes.{writes_are_few}
-use Rattle.call_count.proofs.Sums.{calls_are_bounded, one_more, round_given, sum, swept, swept_more}
+use Rattle.write_count.specs.Rounds.{most_size, pod_size, pods_size}
+use Rattle.write_count.proofs.Growth.{AreGiven, given_first, pods_few}
+use Rattle.write_count.proofs.Sizes.{writes_are_few}
+use Rattle.write_count.proofs.Sums.{calls_are_bounded, one_more, round_given, sum, swept, swept_more}
 
 pub rounds_are_bounded : RoundsAreBounded
 rounds_are_bounded setup lets ds after h past b left whole allow roles rests run passes round few = record {

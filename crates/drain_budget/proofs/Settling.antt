@@ -10,7 +10,7 @@ use Rattle.worker_threads.proofs.DrainFacts.{drains_grow}
 use Rattle.short_law.specs.Rounds.{size_of_world}
 use Rattle.write_count.specs.Counts.{nodes_in}
 use Rattle.write_count.proofs.Ordered.{nodes_are_few}
-use Rattle.call_count.specs.Rounds.{pods_size}
+use Rattle.write_count.specs.Rounds.{pods_size}
 use Rattle.drain_budget.specs.Drains.{rounds_in}
 use Rattle.drain_budget.specs.Budget.{FewRoundsSettle}
 use Rattle.drain_budget.proofs.Amounts.{budget_is_enough}

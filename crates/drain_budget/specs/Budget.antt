@@ -15,7 +15,7 @@ use Rattle.short_law.specs.Slots.{PassesReads}
 use Rattle.write_count.specs.Counts.{AnnotationsAreInOrder, to_write}
 use Rattle.settle_law.specs.Settling.{MayDrain}
 use Rattle.all_pay.specs.All.{ImportsAllow}
-use Rattle.call_count.specs.Rounds.{most_size, pods_size}
+use Rattle.write_count.specs.Rounds.{most_size, pods_size}
 use Rattle.drain_budget.specs.Drains.{rounds_in}
 
 -- the annotations of claims are in order in each world of the history. Each text gives them so, and no controller puts them out of order

@@ -14,7 +14,7 @@ use Rattle.scheduler_writes.specs.Pods.{pods_writes}
 use Rattle.write_count.specs.Counts.{to_write}
 use Rattle.settle_law.specs.Settling.{MayDrain}
 use Rattle.all_pay.specs.All.{ImportsAllow}
-use Rattle.call_count.specs.Rounds.{idle_calls, most_size, most_writes, pods_size}
+use Rattle.write_count.specs.Rounds.{idle_calls, most_size, most_writes, pods_size}
 
 -- a round of the actors of a drain, which begin it with nothing under way, does few writes and makes few calls
 pub record IsBounded (setup : Setup) (h past : List Entry) (b left actors : ℕ) : Type 0 where

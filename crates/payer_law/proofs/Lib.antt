@@ -1,2 +1,16 @@
+pub mod Answered
+pub mod Binding
+pub mod Claims
+pub mod Deciding
+pub mod Paying
+pub mod Standing
+pub mod Volumes
+pub mod Walking
+pub mod Agents
+pub mod Calls
+pub mod Erasing
+pub mod Ids
+pub mod Names
+pub mod Reclaiming
 pub mod Provisioning
 pub mod Scheduling

@@ -9,7 +9,7 @@ use Rattle.history_laws.specs.Given.{IsSetup}
 use Rattle.printable_law.specs.Laws.{IsGivenRun}
 use Rattle.worker_threads.specs.declared.drainers.Drainer.{Drainer}
 use Rattle.worker_threads.specs.Rounds.{Drains, all_pass}
-use Rattle.reclaimer_pays.specs.Reclaiming.{UidsFit}
+use Rattle.payer_law.specs.Reclaiming.{UidsFit}
 use Rattle.drain_budget.specs.Budget.{AreAlwaysInOrder}
 use Rattle.drain_budget.specs.Selections.{AreFresh, HasBudget, NoneProvisionsLate}
 

@@ -32,10 +32,10 @@ use Rattle.ops_writes.specs.Ops.{ops_writes}
 use Rattle.ops_writes.proofs.Bounds.{ops_writes_are_bounded}
 use Rattle.ops_writes.proofs.Slots.{ops_writes_fall}
 use Rattle.agent_writes.proofs.Slots.{agents_write_little, slots_add_no_pod}
-use Rattle.call_count.specs.Rounds.{pod_size}
-use Rattle.call_count.proofs.Growth.{AreGiven, given_first, pods_few}
-use Rattle.call_count.proofs.Made.{slot_given}
-use Rattle.call_count.proofs.Sums.{one_more, swept}
+use Rattle.write_count.specs.Rounds.{pod_size}
+use Rattle.write_count.proofs.Growth.{AreGiven, given_first, pods_few}
+use Rattle.write_count.proofs.Made.{slot_given}
+use Rattle.write_count.proofs.Sums.{one_more, swept}
 use Rattle.begun_lasts.specs.Begun.{begins_to_last}
 use Rattle.slot_costs.specs.Costs.{own_calls}
 use Rattle.slot_costs.specs.Slots.{ops_sweep_calls}

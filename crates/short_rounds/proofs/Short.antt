@@ -24,7 +24,7 @@ use Rattle.paid_law.proofs.Slots.{older_run}
 use Rattle.write_count.specs.Counts.{AnnotationsAreInOrder}
 use Rattle.write_count.proofs.Ordered.{nodes_are_few}
 use Rattle.write_count.proofs.Rounds.{rounds_write_as}
-use Rattle.call_count.specs.Rounds.{pod_size}
+use Rattle.write_count.specs.Rounds.{pod_size}
 use Rattle.settle_law.specs.Settling.{MayDrain}
 use Rattle.settle_law.proofs.Leaving.{rounds_leave_drainers}
 use Rattle.all_pay.specs.All.{ImportsAllow}

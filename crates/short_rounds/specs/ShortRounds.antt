@@ -13,7 +13,7 @@ use Rattle.short_law.specs.Rounds.{size_of_world}
 use Rattle.short_law.specs.Slots.{writes_since}
 use Rattle.scheduler_writes.specs.Pods.{pods_writes}
 use Rattle.write_count.specs.Counts.{AnnotationsAreInOrder, nodes_in}
-use Rattle.call_count.specs.Rounds.{pods_size}
+use Rattle.write_count.specs.Rounds.{pods_size}
 use Rattle.settle_law.specs.Settling.{MayDrain}
 use Rattle.all_pay.specs.All.{ImportsAllow}
 use Rattle.sure_slots.specs.Sure.{PassesAll}

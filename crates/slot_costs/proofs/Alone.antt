@@ -12,7 +12,7 @@ use Rattle.settle_measure.specs.Measure.{claims_in}
 use Rattle.worker_core.specs.Roles.{kinds_of}
 use Rattle.event_law.specs.Ahead.{sum_over}
 use Rattle.short_law.specs.Slots.{writes_since}
-use Rattle.call_count.proofs.Growth.{made_few, made_keys}
+use Rattle.write_count.proofs.Growth.{made_few, made_keys}
 use Rattle.slot_costs.specs.Costs.{made_calls}
 use Rattle.slot_costs.specs.Slots.{SlotsCostLess, again_calls, objects_calls}
 use Rattle.slot_costs.proofs.Calls.{sweep_cost, sweep_is}

@@ -23,8 +23,8 @@ use Rattle.cost_law.proofs.Works.{changed_cost}
 use Rattle.event_law.proofs.Rows.{distinct_keys, weigh_if}
 use Rattle.event_law.proofs.Sums.{sum_less}
 use Rattle.event_law.specs.Ahead.{sum_over}
-use Rattle.call_count.proofs.Growth.{ByNothing, ByOld, BySpare, IsCovered, IsGiven, IsMade, IsOld, covered, made_keys, made_kind}
-use Rattle.call_count.proofs.Sums.{one_more}
+use Rattle.write_count.proofs.Growth.{ByNothing, ByOld, BySpare, IsCovered, IsGiven, IsMade, IsOld, covered, made_keys, made_kind}
+use Rattle.write_count.proofs.Sums.{one_more}
 use Rattle.slot_costs.specs.Costs.{made_calls, own_calls}
 use Rattle.slot_costs.proofs.RoundCosts.{AreKept, any_kind, cost_by, cost_in, cost_or, fresh_cost, is_fresh, is_now, most, now_cost, of_volume, own_same, picked, stood_cost}
 

@@ -25,8 +25,8 @@ use Rattle.done_lasts.proofs.Doing.{write_asked}
 use Rattle.write_count.proofs.Runs.{IsCalled}
 use Rattle.write_count.proofs.Slots.{ComesTo, Leaves, Wrote, comes_to}
 use Rattle.short_law.specs.Slots.{is_own_read}
-use Rattle.call_count.proofs.Growth.{Comes}
-use Rattle.call_count.proofs.Made.{IsOrdered, Writing, WritesNone, WritesOne, call_writes}
+use Rattle.write_count.proofs.Growth.{Comes}
+use Rattle.write_count.proofs.Made.{IsOrdered, Writing, WritesNone, WritesOne, call_writes}
 use Rattle.slot_costs.specs.Costs.{own_calls}
 use Rattle.slot_costs.proofs.Ending.{ops_end_none}
 use Rattle.slot_costs.proofs.RoundCosts.{CallMoves, IsSame, Moved, agents_come, is_now, now_cost}

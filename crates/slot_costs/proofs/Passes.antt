@@ -54,7 +54,7 @@ use Rattle.event_law.specs.Ahead.{Point, from_of, sum_over}
 use Rattle.cost_law.specs.Ends.{done_by, start_left}
 use Rattle.event_law.specs.Telling.{told}
 use Rattle.pass_law.specs.Passes.{KindsHaveReached, IsCallGiven}
-use Rattle.call_count.proofs.Sums.{one_more}
+use Rattle.write_count.proofs.Sums.{one_more}
 use Rattle.slot_costs.proofs.Calls.{AtKeys, IsLess, call_pays, few_on, kind_left, kinds_left, low_on, pass_left, rest_left, slot_left, told_cost_or}
 use Rattle.slot_costs.proofs.KindCosts.{listed_few}
 use Rattle.slot_costs.proofs.RoundCosts.{AreKept, cost_in, cost_light, event_calls, key_calls, most}

@@ -21,7 +21,7 @@ use Rattle.worker_core.specs.Roles.{kinds_of}
 use Rattle.cost_law.specs.Costs.{calls_for, calls_if, key_cost}
 use Rattle.event_law.proofs.Rows.{weigh_if}
 use Rattle.short_law.specs.Rounds.{names_in}
-use Rattle.call_count.proofs.Growth.{AreGiven, Comes, IsFor, IsGiven, IsMade, IsOld, IsOver, given_first, made_keys, made_kind, moved_given}
+use Rattle.write_count.proofs.Growth.{AreGiven, Comes, IsFor, IsGiven, IsMade, IsOld, IsOver, given_first, made_keys, made_kind, moved_given}
 use Rattle.write_count.proofs.Failing.{is_ops}
 use Rattle.write_count.proofs.Nodes.{IsMoved}
 use Rattle.slot_costs.specs.Costs.{claim_calls, made_calls, own_calls, pod_calls, volume_calls}

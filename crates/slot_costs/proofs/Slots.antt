@@ -56,7 +56,7 @@ use Rattle.pass_law.proofs.Reaching.{IsBefore, IsPast, ReachedBehind, TurnOf, be
 use Rattle.pass_law.proofs.Told.{within_five}
 use Rattle.pass_law.specs.Passes.{IsCallGiven, KindsHaveReached, first_cost, wait_cost}
 use Rattle.write_count.proofs.Runs.{IsCalled, called_at, run_at}
-use Rattle.call_count.proofs.Made.{IsOrdered, NothingUnder, lost_ordered, told_ordered, turned_ordered}
+use Rattle.write_count.proofs.Made.{IsOrdered, NothingUnder, lost_ordered, told_ordered, turned_ordered}
 use Rattle.slot_costs.proofs.Calls.{AtKeys, InPass, IsLess, Stage, kinds_left, pass_left, rest_left, slot_left, sweep_cost}
 use Rattle.slot_costs.proofs.KindCosts.{waiting_few}
 use Rattle.slot_costs.proofs.RoundCosts.{AreKept, CallMoves, cost_falls, cost_in, kept_on, most}

@@ -36,7 +36,7 @@ use Rattle.cost_law.proofs.Begun.{queued_on}
 use Rattle.cost_law.proofs.Works.{added_cost, begun_cost, finished_cost}
 use Rattle.worker_core.proofs.Machines.{queued_kinds}
 use Rattle.pass_law.proofs.Second.{dropped_none, single_once}
-use Rattle.call_count.proofs.Growth.{AreGiven}
+use Rattle.write_count.proofs.Growth.{AreGiven}
 use Rattle.slot_costs.proofs.Begun.{begun_on_own, queues_so}
 use Rattle.slot_costs.proofs.Calls.{AtKeys, InPass, IsLess, Stage, kinds_ahead, pass_left, slot_left}
 use Rattle.slot_costs.specs.Costs.{own_calls}

@@ -35,7 +35,7 @@ use Rattle.event_law.proofs.Sums.{mul_less, sum_falls}
 use Rattle.pass_law.proofs.Given.{FindsGone, IsTold, Lists, ReadCalled, Reads, read_called}
 use Rattle.pass_law.proofs.Told.{within_five}
 use Rattle.pass_law.specs.Passes.{IsCallGiven, KindsHaveReached}
-use Rattle.call_count.proofs.Sums.{one_more}
+use Rattle.write_count.proofs.Sums.{one_more}
 use Rattle.slot_costs.proofs.Calls.{AtKeys, InPass, Stage, pass_left}
 use Rattle.slot_costs.proofs.Passes.{pass_less}
 use Rattle.slot_costs.proofs.Stages.{all_read, nothing_told, sum_same}

@@ -50,7 +50,7 @@ use Rattle.alike_law.proofs.Rows.{row_plain}
 use Rattle.paid_law.specs.Pays.{AllPay, HavePaid, Pays, worth}
 use Rattle.paid_law.proofs.Entries.{paid_is_less}
 use Rattle.paid_law.proofs.Slots.{older_run}
-use Rattle.binder_pays.proofs.Standing.{none_has_left}
+use Rattle.payer_law.proofs.Standing.{none_has_left}
 use Rattle.write_count.specs.Counts.{AnnotationsAreInOrder}
 use Rattle.drain_budget.specs.Budget.{AreAlwaysInOrder}
 use Rattle.near_law.specs.Near.{AreNear, is_no_node, rest_of, rests_of}

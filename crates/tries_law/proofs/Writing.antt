@@ -27,7 +27,7 @@ use Rattle.worker_core.specs.Tasks.{under_after}
 use Rattle.write_law.specs.Writes.{IsStored}
 use Rattle.due_law.proofs.Deciding.{stored}
 use Rattle.settle_measure.proofs.Words.{value_put}
-use Rattle.binder_pays.proofs.Standing.{none_has_left}
+use Rattle.payer_law.proofs.Standing.{none_has_left}
 use Rattle.slot_law.specs.Slots.{own_entry}
 use Rattle.schedule_law.specs.Writes.{placing}
 use Rattle.schedule_law.proofs.Placing.{AreFrom, at_from, at_place, comes_to, goes_on, later_from, others_stay, placed, staying, still_stand}

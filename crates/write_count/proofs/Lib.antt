@@ -1,3 +1,7 @@
+pub mod Growth
+pub mod Made
+pub mod Sizes
+pub mod Sums
 pub mod Failing
 pub mod Keeping
 pub mod Nodes

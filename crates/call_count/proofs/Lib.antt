@@ -1,4 +1,0 @@
-pub mod Growth
-pub mod Made
-pub mod Sizes
-pub mod Sums

@@ -1,4 +1,0 @@
-pub mod Erasing
-pub mod Ids
-pub mod Names
-pub mod Reclaiming
