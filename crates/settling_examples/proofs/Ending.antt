@@ -1,6 +1,6 @@
 -- Budgets, classes, shared claims, nodes of scripts and numbers of volumes, computed.
 use Rattle.std.specs.Prelude.{slice_get}
-use Rattle.std.proofs.Common.{ℕ, zero, suc, ◌+◌, ◌≡◌, ◌≢◌, ◌∙◌, Bool, true, false, true≢false, not, List, [], ◌∷◌, Option, Some, None, arith, inl, inr, bytes_eq, codes, length, refl, sym, ap, subst}
+use Rattle.std.proofs.Common.{ℕ, zero, suc, ◌≡◌, ◌≢◌, ◌∙◌, Bool, true, false, true≢false, not, List, [], ◌∷◌, Option, Some, None, arith, inl, inr, bytes_eq, codes, length, refl, sym, ap, subst}
 use Rattle.kube_types.specs.declared.key.Key.{Key}
 use Rattle.kube_types.specs.declared.parts.VolumePhase.TheVariants as volumes
 use Rattle.kube_types.specs.declared.objects.Claim.{Claim as ClaimData}
@@ -19,7 +19,7 @@ use Rattle.binder_model.specs.Store.{leaves}
 use Rattle.binder_model.specs.World.{effect, on_devices, world, world_after}
 use Rattle.model_laws.proofs.Lists.{none_some, one}
 use Rattle.model_laws.proofs.Readings.{found_stands}
-use Rattle.settle_measure.specs.Measure.{faults_left, total}
+use Rattle.settle_measure.specs.Measure.{faults_left}
 use Rattle.settle_measure.specs.Small.{completed, open_claim, volume_of}
 use Rattle.worker_core.specs.declared.role.Role.{Role}
 use Rattle.worker_threads.specs.Drainers.{agent_of, seats_for}
@@ -27,7 +27,6 @@ use Rattle.epoch_law.specs.Epochs.{IsCurrent}
 use Rattle.settle_law.proofs.Rounds.{is_agent}
 use Rattle.script_runs.specs.Parts.{drain_roles}
 use Rattle.kube_types.specs.VolumePlaces.{count_before, has_size, those_in}
-use Rattle.scheduler_writes.specs.Pods.{pod_writes}
 use Rattle.drain_budget.specs.Measured.{SharesWell, WaitingPodNames, is_immediate}
 use Rattle.settling_examples.specs.Ending.{AgentExamples, AllowanceExamples, BudgetExamples, CallExamples, ClassExamples, LineExamples, NamingExamples, NumberExamples, SharingExamples, SizeExamples, class_of, copies, faults_upto, one_node, pod_on, script_naming, setup_with, shared_rows, takes, three_volumes, world_with}
 
