@@ -82,7 +82,7 @@ fn end_answer<K: Sink>(sink: &mut K, answer: Answer) -> Status
 /// that the script says; each actor that a turn line names is diligent in each of its lives. With status 0 nothing is due at its end; with 3 the
 /// calls of the drains are spent, and the last line names what is due first. Where the stated budget is left for the last
 /// drain of a small world, no two pods without a node share an open claim that waits for a pod, and no agent is stale, 3 does
-/// not come (`settling`). A round of a drain makes few calls, by the size of a small world (`short`). The
+/// not come (`settling`). A round of a drain makes few calls, by what stands as it begins (`short`). The
 /// same is promised of the history whose numbers `gen` prints (`Generates`). What `replay` writes is the text of this history alone, and of no other that a text
 /// can give (`alone`).
 ///

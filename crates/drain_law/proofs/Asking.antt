@@ -51,6 +51,10 @@ calls_users part new built n count past (NoCalls none same) = ap users_of same
 calls_users part new built n count past (MoreCalls rest middle some call more) =
     calls_users part new built (n + 1) rest middle more ∙ call_users (is_held [] n) (fate_of part.losses n) (seat_at part n) part.kind past middle built call
 
+pub turn_users : (part : Part) (calls : ℕ) (now next : Progress) → IsBuiltKind part.kind → (role : Role) → IsTurnLine all_pass [] role part calls now next → users_of next.past ≡ users_of now.past
+turn_users part calls now next built role (inl all) = ap (λ (p : Progress). users_of p.past) all.is ∙ calls_users part all.past built _ _ now.past all.made
+turn_users part calls now next built role (inr few) = ap (λ (p : Progress). users_of p.past) few.is ∙ calls_users part few.past built _ _ now.past few.made
+
 -- what is so of each call of a user's line is so of each entry of a user
 module _ (script : Script) (option : Option ℕ) (P : Entry → Type 0) where
   abbrev Asked : List Entry → Type 0
@@ -69,10 +73,6 @@ module _ (script : Script) (option : Option ℕ) (P : Entry → Type 0) where
 
   same_asked : (now next : Progress) → users_of next.past ≡ users_of now.past → Asked now.past → Asked next.past
   same_asked now next same h = subst (All P) (sym same) h
-
-  turn_users : (part : Part) (calls : ℕ) (now next : Progress) → IsBuiltKind part.kind → (role : Role) → IsTurnLine all_pass [] role part calls now next → users_of next.past ≡ users_of now.past
-  turn_users part calls now next built role (inl all) = ap (λ (p : Progress). users_of p.past) all.is ∙ calls_users part all.past built _ _ now.past all.made
-  turn_users part calls now next built role (inr few) = ap (λ (p : Progress). users_of p.past) few.is ∙ calls_users part few.past built _ _ now.past few.made
 
   drain_users : (now next : Progress) → IsDrain all_pass script option now next → users_of next.past ≡ users_of now.past
   drain_users now next d = (drains_come_to all_pass script option now next d).users

@@ -3,6 +3,7 @@ pub mod Asking
 pub mod Drained
 pub mod Moves
 pub mod Naming
+pub mod Objects
 pub mod Remembering
 pub mod Silent
 pub mod Threaded

@@ -9,7 +9,7 @@ use Rattle.call_types.specs.declared.request.SeatKind.{SeatKind}
 use Rattle.binder_model.specs.Answers.{is_user}
 use Rattle.binder_model.specs.Told.{SomeOf, own}
 use Rattle.model_laws.proofs.Evidence.{own_mine}
-use Rattle.model_laws.proofs.Lists.{some_filter, some_or, some_reverse}
+use Rattle.model_laws.proofs.Lists.{some_filter, some_map, some_or, some_reverse}
 use Rattle.world_core.specs.declared.drained.Drained.{Drained}
 use Rattle.worker_threads.specs.Longer.{users_of}
 use Rattle.worker_threads.specs.Rounds.{all_pass}
@@ -99,50 +99,56 @@ user_creates user node lines mine are some =
 
 -- ---- actors
 
--- none of these entries is a user's
-none_of_users : (node : List ℕ) (past : List Entry) → users_of past ≡ [] → SomeOf (UserCreates node) past → ⊥
-none_of_users node past none some = subst (SomeOf (UserCreates node)) none (among past some)
+-- the entry is a user's
+abbrev pub IsUsers : Entry → Type 0
+IsUsers e = is_user e.kind ≡ true
+
+-- none of these entries is
+none_of_users : (past : List Entry) → users_of past ≡ [] → SomeOf IsUsers past → ⊥
+none_of_users past none some = subst (SomeOf IsUsers) none (among past some)
   where
-    among : (es : List Entry) → SomeOf (UserCreates node) es → SomeOf (UserCreates node) (users_of es)
+    among : (es : List Entry) → SomeOf IsUsers es → SomeOf IsUsers (users_of es)
     among [] some = absurd some
     among (e ∷ es) some = by (is_user e.kind) refl some (among es)
       where
-        by : (b : Bool) → is_user e.kind ≡ b → SomeOf (UserCreates node) (e ∷ es) → (SomeOf (UserCreates node) es → SomeOf (UserCreates node) (users_of es)) → SomeOf (UserCreates node) (cond b (e ∷ users_of es) (users_of es))
+        by : (b : Bool) → is_user e.kind ≡ b → SomeOf IsUsers (e ∷ es) → (SomeOf IsUsers es → SomeOf IsUsers (users_of es)) → SomeOf IsUsers (cond b (e ∷ users_of es) (users_of es))
         by true is (inl here) rest = inl here
         by true is (inr more) rest = inr (rest more)
-        by false is (inl here) rest = absurd (true≢false (sym here.0 ∙ is))
+        by false is (inl here) rest = absurd (true≢false (sym here ∙ is))
         by false is (inr more) rest = rest more
 
-actors_create_none : (lines : List Line) (calls : ℕ) (past : List Entry) (node : List ℕ) (actors : List Actor) (first seat : ℕ) → EachStarted (HasMadeCalls calls past) lines first actors → first ≤ seat → seat < seat_after lines first actors → SomeOf (UserCreates node) (own seat past) → ⊥
-actors_create_none lines calls past node [] first seat each from below some = absurd (omega (arith, from, below))
-actors_create_none lines calls past node (actor ∷ actors) first seat each from below some =
-    by (λ later. actors_create_none lines calls past node actors (after_lives (started_part lines actor first)) seat each.1 later below some) (cases_lt seat (after_lives (started_part lines actor first)))
+actors_are_no_users : (lines : List Line) (calls : ℕ) (past : List Entry) (actors : List Actor) (first seat : ℕ) → EachStarted (HasMadeCalls calls past) lines first actors → first ≤ seat → seat < seat_after lines first actors → SomeOf IsUsers (own seat past) → ⊥
+actors_are_no_users lines calls past [] first seat each from below some = absurd (omega (arith, from, below))
+actors_are_no_users lines calls past (actor ∷ actors) first seat each from below some =
+    by (λ later. actors_are_no_users lines calls past actors (after_lives (started_part lines actor first)) seat each.1 later below some) (cases_lt seat (after_lives (started_part lines actor first)))
   where
     by : (after_lives (started_part lines actor first) ≤ seat → ⊥) → (seat < after_lives (started_part lines actor first)) ⊎ (after_lives (started_part lines actor first) ≤ seat) → ⊥
     by rest (inl here) =
-        none_of_users node each.0.mine (calls_users (started_part lines actor first) each.0.mine (actor_built actor) 1 each.0.made [] each.0.calls_are)
-        (own_some (UserCreates node) seat each.0.mine (subst (SomeOf (UserCreates node)) (each.0.own_are seat (from, here)) some))
+        none_of_users each.0.mine (calls_users (started_part lines actor first) each.0.mine (actor_built actor) 1 each.0.made [] each.0.calls_are)
+        (own_some IsUsers seat each.0.mine (subst (SomeOf IsUsers) (each.0.own_are seat (from, here)) some))
     by rest (inr later) = rest later
 
 -- ---- the whole
 
-module _ (script : Script) (workers calls : ℕ) (worked : List Entry) (work : IsThreadedWork script workers calls worked) (node : List ℕ) where
-  nobody : (seat : ℕ) → (seat ≡ 0) ⊎ (drain_seat workers script ≤ seat) → SomeOf (UserCreates node) (own seat worked) → SomeOf (λ line. created_node line ≡ Some node) script.lines
-  nobody seat none some = absurd (subst (SomeOf (UserCreates node)) (work.others seat none) some)
+module _ (script : Script) (workers calls : ℕ) (worked : List Entry) (work : IsThreadedWork script workers calls worked) where
+  nobody : (seat : ℕ) → (seat ≡ 0) ⊎ (drain_seat workers script ≤ seat) → SomeOf IsUsers (own seat worked) → ⊥
+  nobody seat none some = subst (SomeOf IsUsers) (work.others seat none) some
 
-  at_seat : (seat : ℕ) → SomeOf (UserCreates node) (own seat worked) → (0 < seat) ⊎ (seat ≤ 0) → (seat < 5) ⊎ (5 ≤ seat) → (seat < drain_seat workers script) ⊎ (drain_seat workers script ≤ seat) → SomeOf (λ line. created_node line ≡ Some node) script.lines
-  at_seat seat some (inr none) few below = nobody seat (inl (omega (arith, none))) some
-  at_seat seat some (inl above) (inl few) below = user_creates seat node script.lines (own seat worked) (work.done.users seat above few) (creating (own seat worked) some)
+  -- users have the first four seats
+  pub users_sit : (seat : ℕ) → SomeOf IsUsers (own seat worked) → (0 < seat) × (seat < 5)
+  users_sit seat some = by (cases_lt 0 seat) (cases_lt seat 5) (cases_lt seat (drain_seat workers script))
     where
-      creating : (es : List Entry) → SomeOf (UserCreates node) es → SomeOf (λ e. CreatesNode node e.request) es
-      creating [] some = absurd some
-      creating (e ∷ es) (inl here) = inl here.1
-      creating (e ∷ es) (inr more) = inr (creating es more)
-  at_seat seat some (inl above) (inr from) (inr after) = nobody seat (inr after) some
-  at_seat seat some (inl above) (inr from) (inl below) = absurd (actors_create_none script.lines calls worked node (started workers script) 5 seat work.done.actors from below some)
+      by : (0 < seat) ⊎ (seat ≤ 0) → (seat < 5) ⊎ (5 ≤ seat) → (seat < drain_seat workers script) ⊎ (drain_seat workers script ≤ seat) → (0 < seat) × (seat < 5)
+      by (inr none) few below = absurd (nobody seat (inl (omega (arith, none))) some)
+      by (inl above) (inl few) below = (above, few)
+      by (inl above) (inr from) (inr after) = absurd (nobody seat (inr after) some)
+      by (inl above) (inr from) (inl below) = absurd (actors_are_no_users script.lines calls worked (started workers script) 5 seat work.done.actors from below some)
 
-  work_named : SomeOf (UserCreates node) worked → SomeOf (λ line. created_node line ≡ Some node) script.lines
-  work_named some = let at = some_own (UserCreates node) worked some in at_seat at.seat at.some (cases_lt 0 at.seat) (cases_lt at.seat 5) (cases_lt at.seat (drain_seat workers script))
+  work_named : (node : List ℕ) → SomeOf (UserCreates node) worked → SomeOf (λ line. created_node line ≡ Some node) script.lines
+  work_named node some =
+      let at = some_own (UserCreates node) worked some in
+      let sits = users_sit at.seat (some_map (λ e is. is.0) (own at.seat worked) at.some) in
+      user_creates at.seat node script.lines (own at.seat worked) (work.done.users at.seat sits.0 sits.1) (some_map (λ e is. is.1) (own at.seat worked) at.some)
 
 pub run_creates : (script : Script) (workers calls : ℕ) (option : Option ℕ) (past : List Entry) (ending : Drained) → IsRun script workers calls option past ending → UsersCreateLines script.lines past
 run_creates script workers calls option past ending r node some = work_named script workers calls r.worked r.work node (some_filter (UserCreates node) (λ e. is_user e.kind) r.worked (subst (SomeOf (UserCreates node)) same some))

@@ -1,2 +1,3 @@
 pub mod Lasting
 pub mod Naming
+pub mod Objects

@@ -4,13 +4,15 @@
 //! actor that is no stale agent, has an entry that lasts (`replayed_drains_last`), and so has each whole round of the
 //! drain with which a run on threads ends (`threaded_drains_last`). At every point of both each pod that a node runs is
 //! on a node that the script names (`replayed_pods_are_on_named`, `threaded_pods_are_on_named`), so the drains have an
-//! agent of that node. All follows from what a replay and a run on threads are, with no premise on the actors of the
+//! agent of that node; and the objects that stand are at most twice those that the script imports and that its lines
+//! create (`replayed_objects_are_few`, `threaded_objects_are_few`). All follows from what a replay and a run on threads are, with no premise on the actors of the
 //! drains. Not said: that a drain ends settled; anything of a round that is not whole; that the agent of a node is no
 //! stale one, for another agent may have taken the node after it.
 #![tactic(auto)]
 
 ghost use Rattle.drain_law.specs.Lasting.{ReplayedDrainsLast, ThreadedDrainsLast};
 ghost use Rattle.drain_law.specs.Naming.{ReplayedPodsAreOnNamed, ThreadedPodsAreOnNamed};
+ghost use Rattle.drain_law.specs.Objects.{ReplayedObjectsAreFew, ThreadedObjectsAreFew};
 
 /// Each whole round of the drains of a replay that begins with something due has an entry that lasts.
 pub fn replayed_drains_last()
@@ -30,4 +32,14 @@ pub fn replayed_pods_are_on_named()
 /// So are those of a run on threads.
 pub fn threaded_pods_are_on_named()
     ensures { ThreadedPodsAreOnNamed }
+{}
+
+/// The objects of a replay are at most twice those that its script imports and creates.
+pub fn replayed_objects_are_few()
+    ensures { ReplayedObjectsAreFew }
+{}
+
+/// So are those of a run on threads.
+pub fn threaded_objects_are_few()
+    ensures { ThreadedObjectsAreFew }
 {}

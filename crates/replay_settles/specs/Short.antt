@@ -1,11 +1,14 @@
 -- How many calls the rounds of the drains of a script make at most.
 -- A choice of this project.
-use Rattle.std.specs.Prelude.{ℕ, ◌+◌, ◌-◌, List, Option, ⊤}
+use Rattle.std.specs.Prelude.{ℕ, ◌≤◌, ◌+◌, ◌-◌, List, Option, ⊤}
 use Rattle.call_types.specs.declared.entry.Entry.{Entry}
+use Rattle.call_types.specs.declared.setup.Setup.{Setup}
+use Rattle.binder_model.specs.World.{world}
 use Rattle.world_core.specs.declared.drained.Drained.{Drained}
+use Rattle.worker_threads.specs.declared.drainers.Drainer.{Drainer}
 use Rattle.worker_threads.specs.Drainers.{AreAtRest}
-use Rattle.worker_threads.specs.Rounds.{all_pass}
-use Rattle.short_rounds.specs.ShortRounds.{EachLaterRoundIsShort, EachRoundIsShort}
+use Rattle.worker_threads.specs.Rounds.{Drains, Goes, IsSpent, Lets, NothingDue, all_pass}
+use Rattle.short_rounds.specs.ShortRounds.{stated_calls}
 use Rattle.printable_law.specs.Laws.{IsGivenRun}
 use Rattle.script_text.specs.declared.script.Line.{Line}
 use Rattle.script_text.specs.declared.script.Line.TheVariants.{Call, Drain, Lose, Restart, Turn}
@@ -16,12 +19,24 @@ use Rattle.script_runs.specs.Replays.{AreMoves, IsDrainAt, IsMove, IsReplay, Mor
 use Rattle.script_threads.specs.Runs.{IsRun, progress_after}
 use Rattle.script_threads.specs.Started.{drain_seat as threads_drain_seat}
 
--- each round of the drain that begins in a small world makes no more than the stated number of calls: each behind the first, and the first
--- too where the actors of the drain begin it with nothing under way, as they do where a budget was given and is not spent (`rests` of
--- `IsDrainAt`)
+-- each round of the drain makes no more than the stated number of calls
+abbrev pub EachRoundMakesFew : (lets : Lets) (setup : Setup) (after : List Drainer) (past : List Entry) (left : ℕ) (ds : List Drainer) (h : List Entry) (b : ℕ) → Drains lets setup after past left ds h b → Type 0
+EachRoundMakesFew lets setup after past left ds h b (NothingDue settled same entries rest) = ⊤
+EachRoundMakesFew lets setup after past left ds h b (IsSpent first due none same entries rest) = ⊤
+EachRoundMakesFew lets setup after past left ds h b (Goes first due some between middle rest whole round more) =
+    (b ≤ rest + stated_calls setup (world setup h)) × EachRoundMakesFew lets setup after past left between middle rest more
+
+-- each behind the first does
+abbrev pub EachLaterRoundMakesFew : (lets : Lets) (setup : Setup) (after : List Drainer) (past : List Entry) (left : ℕ) (ds : List Drainer) (h : List Entry) (b : ℕ) → Drains lets setup after past left ds h b → Type 0
+EachLaterRoundMakesFew lets setup after past left ds h b (NothingDue settled same entries rest) = ⊤
+EachLaterRoundMakesFew lets setup after past left ds h b (IsSpent first due none same entries rest) = ⊤
+EachLaterRoundMakesFew lets setup after past left ds h b (Goes first due some between middle rest whole round more) = EachRoundMakesFew lets setup after past left between middle rest more
+
+-- each round of the drain makes no more than the stated number of calls: each behind the first, and the first too where the actors of the
+-- drain begin it with nothing under way, as they do where a budget was given and is not spent (`rests` of `IsDrainAt`)
 pub record DrainIsShort (script : Script) (first : ℕ) (option : Option ℕ) (before after : Progress) (d : IsDrainAt all_pass script first option before after) : Type 0 where
-  pub rested : AreAtRest d.drainers → EachRoundIsShort all_pass script.setup d.ran d.past (d.budget - (before.drained + d.made)) d.drainers before.past (d.budget - before.drained) d.rounds
-  pub later : EachLaterRoundIsShort all_pass script.setup d.ran d.past (d.budget - (before.drained + d.made)) d.drainers before.past (d.budget - before.drained) d.rounds
+  pub rested : AreAtRest d.drainers → EachRoundMakesFew all_pass script.setup d.ran d.past (d.budget - (before.drained + d.made)) d.drainers before.past (d.budget - before.drained) d.rounds
+  pub later : EachLaterRoundMakesFew all_pass script.setup d.ran d.past (d.budget - (before.drained + d.made)) d.drainers before.past (d.budget - before.drained) d.rounds
 
 -- so of what a line does, which only a drain line says anything of
 abbrev pub MoveIsShort : (script : Script) (option : Option ℕ) (line : Line) (before after : Progress) → IsMove script option line before after → Type 0

@@ -9,16 +9,16 @@
 //! (`threaded_drains_settle`). The premises on the script are those that a text gives, and the history is a run that a
 //! text can give.
 //!
-//! Of such a replay each round of each of its drains that begins with at most 8,192 objects (`HasShortRounds` of
-//! `short_rounds`) makes at most 256 calls for each object and each claim that a pod names, for each planned fault that
-//! is ahead, and for 16 more (`replayed_drains_are_short`); and so does each such round of the drain with which a run
-//! on threads ends (`threaded_drains_are_short`). The first round of a drain only where its actors begin it with
-//! nothing under way, as they do where a budget was given and is not spent.
+//! Of such a replay each round of each of its drains makes at most 256 calls for each object and each claim that a pod
+//! names, for each planned fault that is ahead, and for 16 more (`replayed_drains_are_short`); and so does each round of
+//! the drain with which a run on threads ends (`threaded_drains_are_short`). The first round of a drain only where its
+//! actors begin it with nothing under way, as they do where a budget was given and is not spent. Nothing is asked of the
+//! sizes: at most 2,048 objects ever stand, twice what the script may import and create.
 //!
 //! It rests on what a text can give: the annotations of claims are in order in each world of such a run
 //! (`given_runs_stay_in_order`), and the UIDs of its imports have 128 bits (`given_imports_fit`). So a drain of new
 //! drainers in it ends settled, where no class binds late and provisions (`given_drains_settle`). Not said: anything of a drain with the budget of a replay to which none was given, which is
-//! never as much as the stated one; nor of rounds that begin with more objects.
+//! never as much as the stated one.
 #![tactic(auto)]
 
 ghost use Rattle.replay_settles.specs.Given.{GivenDrainsSettle, GivenImportsFit, GivenRunsStayInOrder};
@@ -55,12 +55,12 @@ pub fn threaded_drains_settle()
     ensures { ThreadedDrainsSettle }
 {}
 
-/// Each small round of the drains of a replay makes few calls.
+/// Each round of the drains of a replay makes few calls.
 pub fn replayed_drains_are_short()
     ensures { ReplayedDrainsAreShort }
 {}
 
-/// So does each small round of the drain of a run on threads.
+/// So does each round of the drain of a run on threads.
 pub fn threaded_drains_are_short()
     ensures { ThreadedDrainsAreShort }
 {}

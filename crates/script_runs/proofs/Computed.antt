@@ -70,6 +70,7 @@ limits = record {
     imports = tt;
     lines = (omega arith, (omega arith, (tt, (tt, (tt, (tt, (tt, (tt, (tt, tt)))))))));
     few = omega arith;
+    objects = omega arith;
     nodes = omega arith;
     order = ((refl, tt), (tt, tt));
     known = (tt, (tt, (tt, (tt, (tt, (tt, (tt, (tt, (tt, tt)))))))));
@@ -83,6 +84,7 @@ limits = record {
     imports = tt;
     lines = (omega arith, (tt, (tt, (omega arith, (omega arith, tt)))));
     few = omega arith;
+    objects = omega arith;
     nodes = omega arith;
     order = ((refl, (refl, tt)), ((refl, tt), (tt, tt)));
     known = (refl, (refl, (refl, (refl, (tt, tt)))));
@@ -90,6 +92,6 @@ limits = record {
   no_other_agent = λ h. let known = h.known.0 in absurd (cc);
   no_node_twice = λ h. let order = h.order.0.0 in absurd (cc);
   no_other_order = λ h. let order = h.order.0.0 in absurd (cc);
-  an_import = record { imports = (refl, tt); lines = tt; few = omega arith; nodes = omega arith; order = (tt, tt); known = tt };
+  an_import = record { imports = (refl, tt); lines = tt; few = omega arith; objects = omega arith; nodes = omega arith; order = (tt, tt); known = tt };
   none_without_a_uid = λ h. let imports = h.imports.0 in absurd (cc);
 }

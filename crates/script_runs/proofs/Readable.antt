@@ -1,10 +1,11 @@
 -- What the reader of scripts gives keeps the limits of scripts: each is a script that a text can give.
-use Rattle.std.proofs.Common.{◌≡◌, ℕ, ◌≤◌, List, [], ◌∷◌, ◌++◌, length, Bool, true, false, true≢false, Option, Some, None, Result, Ok, Err, IfOk, refl, sym, ap, ◌∙◌, arith, subst, append_assoc, append-nil, if◌then◌else◌}
+use Rattle.std.proofs.Common.{◌≡◌, ℕ, ◌≤◌, ◌+◌, List, [], ◌∷◌, ◌++◌, length, Bool, true, false, true≢false, cond, Option, Some, None, Result, Ok, Err, IfOk, refl, sym, ap, ◌∙◌, arith, subst, append_assoc, append-nil, if◌then◌else◌}
 use Rattle.std.specs.Prelude.{◌&&◌, ◌||◌, bytes_eq, nat_le, nat_lt, is_some, option_and_then, option_map}
 use Rattle.std.specs.Ordering.{is_eq}
 use Rattle.std.proofs.lemmas.Bool.{leb-true, ltb-false}
 use Rattle.std.proofs.lemmas.Cmp.{nat_list_cmp_total}
 use Rattle.std.proofs.lemmas.List.{length-map}
+use Rattle.std.proofs.lemmas.List.Sums.{sum_by_push}
 use Rattle.std.proofs.lemmas.Slice.Eq.{bytes_eq-Decides}
 use Rattle.plain_data.specs.Pairs.{ArePairs, Pair, pair_at, pair_key, text_cmp, value_at}
 use Rattle.plain_data.specs.Rows.{IsAfter}
@@ -12,6 +13,7 @@ use Rattle.plain_data.proofs.RowFacts.{rising_put}
 use Rattle.kube_types.specs.Bindings.{has_name}
 use Rattle.kube_types.specs.Named.{value_named}
 use Rattle.kube_types.specs.declared.objects.Object.{Object}
+use Rattle.call_types.specs.declared.request.Request.{Request}
 use Rattle.script_lines.specs.declared.actors.Actor.{Actor}
 use Rattle.script_lines.specs.declared.actors.Actor.TheVariants.{Worker, Agent}
 use Rattle.script_lines.specs.declared.actors.Worker.{Worker as WorkerData}
@@ -23,7 +25,7 @@ use Rattle.script_text.specs.declared.script.Line.{Line}
 use Rattle.script_text.specs.declared.script.Line.TheVariants.{Call, Lose, Restart, Turn, Drain}
 use Rattle.script_text.specs.declared.script.Numbered.{Numbered}
 use Rattle.script_text.specs.declared.script.Script.{Script}
-use Rattle.script_text.specs.Said.{agents_after, agents_of, and_node, created_by, created_node, imported_after, imported_node, node_name, nodes_of, objects_of}
+use Rattle.script_text.specs.Said.{agents_after, agents_of, and_node, created, created_by, created_node, creates, imported_after, imported_node, node_name, nodes_of, objects_of}
 use Rattle.script_text.specs.Grammar.{create_limit, first_of, line_limit, most_nodes, most_objects, object_limit, passed, read_numbered_of, script_from, script_of}
 use Rattle.script_laws.specs.Given.{IsActor, IsCount, IsLineAfter}
 use Rattle.script_laws.specs.Scripts.{AreImportsAfter, AreLinesAfter, IsScript}
@@ -70,6 +72,51 @@ few_nodes imports lines none = by (nat_lt most_objects (objects_of imports lines
     by true c is h = absurd (cc)
     by false true is h = absurd (cc)
     by false false is h = ltb-false 8 (length (agents_of imports lines)) is
+
+-- ---- how many objects there are
+
+few_objects : (imports : List Object) (lines : List Line) → object_limit imports lines ≡ None → objects_of imports lines ≤ 1024
+few_objects imports lines none = by (nat_lt most_objects (objects_of imports lines)) (nat_lt most_nodes (length (agents_of imports lines))) refl none
+  where
+    by : (b c : Bool) → nat_lt most_objects (objects_of imports lines) ≡ b → first_of (passed b TooManyObjects) (passed c TooManyNodes) ≡ None → objects_of imports lines ≤ 1024
+    by true c is h = absurd (cc)
+    by false c is h = ltb-false 1024 (objects_of imports lines) is
+
+-- one line more creates an object, or none
+created_more : (lines : List Line) (line : Line) → creates (lines ++ line ∷ []) ≡ creates lines + cond (is_some (created line)) 1 0
+created_more lines line = sum_by_push (λ l. cond (is_some (created l)) 1 0) lines line
+
+module _ (imports : List Object) where
+  kept_objects : (lines : List Line) (line : Line) → created line ≡ None → objects_of imports lines ≤ 1024 → objects_of imports (lines ++ line ∷ []) ≤ 1024
+  kept_objects lines line none few =
+      let more = created_more lines line in
+      let zero_more : cond (is_some (created line)) 1 0 ≡ 0 = ap (λ o. cond (is_some o) 1 0) none in
+      omega (arith, few, more, zero_more)
+
+  asked_objects : (lines : List Line) (user : ℕ) (request : Request) (o : Option Object) → created_by request ≡ o → create_limit imports (lines ++ Call user request ∷ []) (is_some o) ≡ None → objects_of imports lines ≤ 1024
+      → objects_of imports (lines ++ Call user request ∷ []) ≤ 1024
+  asked_objects lines user request (Some o) is none few = few_objects imports (lines ++ Call user request ∷ []) none
+  asked_objects lines user request None is none few = kept_objects lines (Call user request) is few
+
+  objects_kept : (lines : List Line) (line : Line) → line_limit imports (lines ++ line ∷ []) line ≡ None → objects_of imports lines ≤ 1024 → objects_of imports (lines ++ line ∷ []) ≤ 1024
+  objects_kept lines (Call user request) none few = asked_objects lines user request (created_by request) refl none few
+  objects_kept lines (Lose actor call after) none few = kept_objects lines (Lose actor call after) refl few
+  objects_kept lines (Restart actor after) none few = kept_objects lines (Restart actor after) refl few
+  objects_kept lines (Turn actor calls) none few = kept_objects lines (Turn actor calls) refl few
+  objects_kept lines Drain none few = kept_objects lines Drain refl few
+
+  objects_few : (agents : List Pair) (before lines : List Line) → AreLinesAfter imports agents before lines → objects_of imports before ≤ 1024 → objects_of imports (before ++ lines) ≤ 1024
+  objects_few agents before [] are few = subst (λ (ls : List Line). objects_of imports ls ≤ 1024) (sym (append-nil before)) few
+  objects_few agents before (line ∷ lines) are few =
+      subst (λ (ls : List Line). objects_of imports ls ≤ 1024) (append_assoc before (line ∷ []) lines) (objects_few agents (before ++ line ∷ []) lines are.2 (objects_kept before line are.1 few))
+
+-- imported objects pass no limit either
+imported_few : (before imports : List Object) → AreImportsAfter before imports → objects_of before [] ≤ 1024 → objects_of (before ++ imports) [] ≤ 1024
+imported_few before [] are few = subst (λ (os : List Object). objects_of os [] ≤ 1024) (sym (append-nil before)) few
+imported_few before (o ∷ os) are few =
+    subst (λ (all : List Object). objects_of all [] ≤ 1024) (append_assoc before (o ∷ []) os) (imported_few (before ++ o ∷ []) os are.1 (few_objects (before ++ o ∷ []) [] are.0.few))
+
+-- ---- agents of as many nodes
 
 module _ (imports : List Object) where
   same_agents : (lines : List Line) (line : Line) → created_node line ≡ None → length (agents_of imports lines) ≤ 8 → length (agents_of imports (lines ++ line ∷ [])) ≤ 8
@@ -181,6 +228,7 @@ script_readable script is =
       imports = pass.pass;
       lines = lines_within imports agents [] script.lines is.lines;
       few = omega (arith, few);
+      objects = objects_few imports agents [] script.lines is.lines (imported_few [] imports is.imports (omega arith));
       nodes = subst (λ (names : List (List ℕ)). length names ≤ 8) nodes (omega (arith, long, most));
       order = subst NamesAreInOrder nodes (nodes_in_order agents named.names named.order);
       known = subst (λ (names : List (List ℕ)). NameKnown names script.lines) nodes (lines_known imports agents [] script.lines is.lines);

@@ -11,6 +11,7 @@ use Rattle.script_text.specs.declared.script.Line.{Line}
 use Rattle.script_text.specs.declared.script.Line.TheVariants.{Call, Lose, Restart, Turn, Drain}
 use Rattle.script_text.specs.declared.script.Numbered.{Numbered}
 use Rattle.script_text.specs.declared.script.Script.{Script}
+use Rattle.script_text.specs.Said.{objects_of}
 use Rattle.script_text.specs.Grammar.{read_numbered_of, script_of}
 
 -- what the reader of scripts gives for every line: users 1 to 4, and turns of at most 1,000 calls
@@ -44,12 +45,13 @@ NameKnown nodes (line ∷ lines) = NamesKnown nodes line × NameKnown nodes line
 abbrev pub NamesAreInOrder : List (List ℕ) → Type 0
 NamesAreInOrder names = IsRising text_cmp (λ name. name) names
 
--- what the reader of scripts gives: imports that pass one after another, at most 4,096 lines, at most 8 nodes in the order of
--- their names, and agents of these nodes
+-- what the reader of scripts gives: imports that pass one after another, at most 4,096 lines, at most 1,024 objects that are
+-- imported or created, at most 8 nodes in the order of their names, and agents of these nodes
 pub record IsReadable (script : Script) : Type 0 where
   pub imports : ImportsPass script.setup.imports
   pub lines : AreWithinLimits script.lines
   pub few : length script.lines ≤ 4096
+  pub objects : objects_of script.setup.imports script.lines ≤ 1024
   pub nodes : length script.node_names ≤ 8
   pub order : NamesAreInOrder script.node_names
   pub known : NameKnown script.node_names script.lines
