@@ -5,9 +5,9 @@
 //! drain with which a run on threads ends (`threaded_drains_last`). At every point of both each pod that a node runs is
 //! on a node that the script names (`replayed_pods_are_on_named`, `threaded_pods_are_on_named`), so the drains have an
 //! agent of that node; and the objects that stand are at most twice those that the script imports and that its lines
-//! create (`replayed_objects_are_few`, `threaded_objects_are_few`). All follows from what a replay and a run on threads are, with no premise on the actors of the
-//! drains. Not said: that a drain ends settled; anything of a round that is not whole; that the agent of a node is no
-//! stale one, for another agent may have taken the node after it.
+//! create (`replayed_objects_are_few`, `threaded_objects_are_few`). All follows from what a replay and a run on threads
+//! are, with no premise on the actors of the drains. Not said: that a drain ends settled; anything of a round that is not
+//! whole; that the agent of a node is no stale one, for another agent may have taken the node after it.
 #![tactic(auto)]
 
 ghost use Rattle.drain_law.specs.Lasting.{ReplayedDrainsLast, ThreadedDrainsLast};

@@ -123,7 +123,7 @@ module _ (script : Script) (option : Option ℕ) (readable : IsReadable script) 
   moves_are_short end lines now run order always (MoreMoves line rest next are move more) =
       let grown = moves_grow script option end rest next more in (
         move_is_short line now next move (run_of_older script.setup grown.newer next.past end.past grown.are run) (older_order script.setup grown.newer next.past end.past grown.are order)
-        (older_short script.setup grown.newer next.past end.past grown.are always),
+            (older_short script.setup grown.newer next.past end.past grown.are always),
         moves_are_short end rest next run order always more,
       )
 

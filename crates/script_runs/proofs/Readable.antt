@@ -82,15 +82,18 @@ few_objects imports lines none = by (nat_lt most_objects (objects_of imports lin
     by true c is h = absurd (cc)
     by false c is h = ltb-false 1024 (objects_of imports lines) is
 
+abbrev counted : Option Object → ℕ
+counted o = cond (is_some o) 1 0
+
 -- one line more creates an object, or none
-created_more : (lines : List Line) (line : Line) → creates (lines ++ line ∷ []) ≡ creates lines + cond (is_some (created line)) 1 0
-created_more lines line = sum_by_push (λ l. cond (is_some (created l)) 1 0) lines line
+created_more : (lines : List Line) (line : Line) → creates (lines ++ line ∷ []) ≡ creates lines + counted (created line)
+created_more lines line = sum_by_push (λ l. counted (created l)) lines line
 
 module _ (imports : List Object) where
   kept_objects : (lines : List Line) (line : Line) → created line ≡ None → objects_of imports lines ≤ 1024 → objects_of imports (lines ++ line ∷ []) ≤ 1024
   kept_objects lines line none few =
       let more = created_more lines line in
-      let zero_more : cond (is_some (created line)) 1 0 ≡ 0 = ap (λ o. cond (is_some o) 1 0) none in
+      let zero_more : counted (created line) ≡ 0 = ap counted none in
       omega (arith, few, more, zero_more)
 
   asked_objects : (lines : List Line) (user : ℕ) (request : Request) (o : Option Object) → created_by request ≡ o → create_limit imports (lines ++ Call user request ∷ []) (is_some o) ≡ None → objects_of imports lines ≤ 1024

@@ -1,5 +1,6 @@
 pub mod Ending
 pub mod Lasting
 pub mod Near
+pub mod Objects
 pub mod Ops
 pub mod Rounds

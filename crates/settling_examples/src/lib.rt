@@ -7,6 +7,7 @@
 ghost use Rattle.settling_examples.specs.Ending.{AgentExamples, AllowanceExamples, BudgetExamples, CallExamples, ClassExamples, LineExamples, NamingExamples, NumberExamples, SharingExamples, SizeExamples};
 ghost use Rattle.settling_examples.specs.Lasting.{AlikeExamples, LastingExamples};
 ghost use Rattle.settling_examples.specs.Near.{NearExamples};
+ghost use Rattle.settling_examples.specs.Objects.{ObjectExamples};
 ghost use Rattle.settling_examples.specs.Ops.{NoneDueExamples, OpsExamples};
 ghost use Rattle.settling_examples.specs.Rounds.{RoundExamples};
 
@@ -38,6 +39,11 @@ pub fn call_examples()
 /// Worlds whose rounds are short, and one that is too large for it.
 pub fn size_examples()
     ensures { SizeExamples }
+{}
+
+/// A run with one object more than was asked for: the volume that was made.
+pub fn object_examples()
+    ensures { ObjectExamples }
 {}
 
 /// Rounds that make no more calls, and one that makes one too many.
