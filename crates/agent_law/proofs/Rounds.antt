@@ -1,5 +1,5 @@
 -- A round with an agent for which something is due has an entry that lasts.
-use Rattle.std.proofs.Common.{◌≡◌, ◌∙◌, ℕ, zero, suc, ◌-◌, List, [], ◌∷◌, ◌++◌, append_assoc, Bool, true, false, Some, inr, refl, sym, ap, subst, arith}
+use Rattle.std.proofs.Common.{◌≡◌, ◌∙◌, ℕ, zero, suc, ◌-◌, List, [], ◌∷◌, ◌++◌, append_assoc, Bool, true, false, Some, inr, refl, sym, ap, subst}
 use Rattle.std.specs.Prelude.{slice_get, ⊤}
 use Rattle.kube_types.specs.declared.key.Key.{Key}
 use Rattle.kube_types.specs.declared.objects.Object.{Object}

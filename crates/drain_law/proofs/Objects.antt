@@ -1,6 +1,6 @@
 -- Users ask to create no more objects than lines create, so at most twice what the script imports and creates stands.
-use Rattle.std.proofs.Common.{◌≡◌, ◌∙◌, ℕ, zero, suc, ◌+◌, ◌*◌, ◌≤◌, ◌<◌, List, [], ◌∷◌, ◌++◌, length, map, reverse, cond, Bool, true, false, Option, Some, inl, inr, refl, sym, ap, subst, arith}
-use Rattle.std.specs.Prelude.{◌==◌, ◌&&◌, if◌then◌else◌, count_by, is_some, sum_by}
+use Rattle.std.proofs.Common.{◌≡◌, ◌∙◌, ℕ, zero, suc, ◌+◌, ◌≤◌, ◌<◌, List, [], ◌∷◌, ◌++◌, map, reverse, cond, Bool, true, false, Option, inl, inr, refl, sym, ap, subst, arith}
+use Rattle.std.specs.Prelude.{◌==◌, ◌&&◌, if◌then◌else◌, count_by, is_some}
 use Rattle.std.proofs.lemmas.Bool.{ne_eqb}
 use Rattle.std.proofs.lemmas.List.{reverse-append}
 use Rattle.std.proofs.lemmas.List.Sums.{sum_by-append, sum_by-cons}
@@ -22,7 +22,7 @@ use Rattle.worker_threads.specs.Rounds.{all_pass}
 use Rattle.script_text.specs.declared.script.Line.{Line}
 use Rattle.script_text.specs.declared.script.Line.TheVariants.{Call, Drain, Lose, Restart, Turn}
 use Rattle.script_text.specs.declared.script.Script.{Script}
-use Rattle.script_text.specs.Said.{created, created_by, creates, objects_of}
+use Rattle.script_text.specs.Said.{created, created_by, creates}
 use Rattle.shared_work.specs.Lines.{AreOfLines, asked_by, asked_if, asked_in, call_of, user_call}
 use Rattle.script_runs.specs.Parts.{part_of, role_of}
 use Rattle.script_runs.specs.Replays.{AreMoves, IsMove, IsReplay, MoreMoves, NoMoves, Progress, first_progress}
@@ -31,7 +31,7 @@ use Rattle.script_runs.proofs.Draining.{drains_at_come_to, drains_come_to}
 use Rattle.script_threads.specs.Runs.{IsRun, progress_after}
 use Rattle.script_threads.specs.Started.{drain_seat}
 use Rattle.script_threads.specs.Threads.{IsThreadedWork}
-use Rattle.drain_law.specs.Objects.{HasFewObjects, HasFewObjectsThroughout, ReplayedObjectsAreFew, ThreadedObjectsAreFew}
+use Rattle.drain_law.specs.Objects.{HasFewObjectsThroughout, ReplayedObjectsAreFew, ThreadedObjectsAreFew}
 use Rattle.drain_law.proofs.Asking.{turn_users}
 use Rattle.drain_law.proofs.Working.{IsUsers, users_sit}
 

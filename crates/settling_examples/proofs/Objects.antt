@@ -11,7 +11,7 @@ use Rattle.binder_model.specs.Run.{Run}
 use Rattle.binder_model.specs.Store.{admitted_object, created_object, lacks_node, with_meta, without_status}
 use Rattle.binder_model.specs.World.{effect, log_after, on_devices, reply_to, world_after}
 use Rattle.model_laws.specs.Worked.{c}
-use Rattle.settling_examples.specs.Objects.{ObjectExamples, asked, asked_again, data_1, made, pool_setup, slow_stands}
+use Rattle.settling_examples.specs.Objects.{ObjectExamples, data_1, made, pool_setup, slow_stands}
 
 made_run : Run pool_setup made
 unfolding effect on_devices device_answer unless_planned provision provision_new after_call outcome create list refuse refuse_field refuse_rule guard_on guard breaks create_fault kind_fault volume_fault claim_fault faulty lacks_node admitted_object without_status created_object with_meta provisioned_volume reply_to world_after reply_of after log_after xor
