@@ -50,7 +50,7 @@ older_short setup newer h past are short more older same = short (newer ++ more)
 
 -- so it is where a script that can be read has at most twice its objects
 always_short : (script : Script) (past : List Entry) → IsReadable script → HasFewObjectsThroughout script past → AlwaysHasShortRounds script.setup past
-always_short script past readable few newer h are = (let most = readable.objects in let here = few newer h are in omega (arith, most, here))
+always_short script past readable few newer h are = let most = readable.objects in let here = few newer h are in omega (arith, most, here)
 
 imports_allow : (setup : Setup) (past : List Entry) → IsGivenRun setup past → ImportsAllow setup
 imports_allow setup past given = record { uids = given_imports_fit setup given.setup_given }
