@@ -33,7 +33,8 @@ EachLaterRoundMakesFew lets setup after past left ds h b (IsSpent first due none
 EachLaterRoundMakesFew lets setup after past left ds h b (Goes first due some between middle rest whole round more) = EachRoundMakesFew lets setup after past left between middle rest more
 
 -- each round of the drain makes no more than the stated number of calls: each behind the first, and the first too where the actors of the
--- drain begin it with nothing under way, as they do where a budget was given and is not spent (`rests` of `IsDrainAt`)
+-- drain begin it with nothing under way, as they do where a budget was given and is not spent (`rests` of `IsDrainAt`), and where each drain
+-- before has left calls (`unspent` there)
 pub record DrainIsShort (script : Script) (first : ℕ) (option : Option ℕ) (before after : Progress) (d : IsDrainAt all_pass script first option before after) : Type 0 where
   pub rested : AreAtRest d.drainers → EachRoundMakesFew all_pass script.setup d.ran d.past (d.budget - (before.drained + d.made)) d.drainers before.past (d.budget - before.drained) d.rounds
   pub later : EachLaterRoundMakesFew all_pass script.setup d.ran d.past (d.budget - (before.drained + d.made)) d.drainers before.past (d.budget - before.drained) d.rounds

@@ -144,6 +144,7 @@ begins script option s first past setup added are seat stand drained budget unse
       seats = new_seats script first s.drainers are seat;
       roles = new_roles_for first script.node_names s.drainers are;
       rests = λ given is unspent. new_rest first script.node_names s.drainers are;
+      unspent = λ all. new_rest first script.node_names s.drainers are;
       drained = drained;
       budget = budget;
       few = omega (arith, drained);

@@ -1,6 +1,7 @@
 -- What the moves of a script leave standing.
-use Rattle.std.proofs.Common.{◌≡◌, ◌≢◌, ◌⊎◌, ℕ, ◌<◌, ◌≤◌, ◌+◌, ◌-◌, zero, suc, List, [], ◌∷◌, ◌++◌, length, set, Bool, true, false, Option, Some, None, inl, inr, refl, sym, ◌∙◌, ap, subst, arith, if◌then◌else◌}
-use Rattle.std.specs.Prelude.{◌==◌, bytes_eq, slice_get}
+use Rattle.std.proofs.Common.{◌≡◌, ◌≢◌, ◌⊎◌, ℕ, ◌<◌, ◌≤◌, ◌+◌, ◌-◌, zero, suc, List, [], ◌∷◌, ◌++◌, length, set, Bool, true, false, true≢false, Option, Some, None, inl, inr, refl, sym, ◌∙◌, ap, subst, arith, if◌then◌else◌}
+use Rattle.std.specs.Prelude.{◌==◌, ◌&&◌, bytes_eq, nat_lt, slice_get}
+use Rattle.std.proofs.lemmas.Bool.{ltb-true}
 use Rattle.std.proofs.lemmas.Bool.Decides.{Decides-eqb}
 use Rattle.std.proofs.lemmas.Slice.Eq.{bytes_eq-Decides}
 use Rattle.std.proofs.lemmas.Option.{slice_get_within}
@@ -136,6 +137,7 @@ module _ (script : Script) (option : Option ℕ) (user : ℕ) (request : Request
       seats = subst (λ ds. seats_of ds ≡ drain_seats script) (sym drainers) stands.seats;
       roles = subst (λ ds. roles_of ds ≡ drain_roles script) (sym drainers) stands.roles;
       rests = λ given is unspent. subst AreAtRest (sym drainers) (stands.rests given is (omega (arith, drained, unspent)));
+      unspent = λ all. subst AreAtRest (sym drainers) (stands.unspent all);
       drained = drained ∙ stands.drained;
       budget = budget ∙ stands.budget;
       few = let a = stands.few in omega (arith, a, drained, budget);
@@ -225,6 +227,7 @@ module _ (script : Script) (option : Option ℕ) (old new : Stage) (place : ℕ)
     seats = subst (λ ds. seats_of ds ≡ drain_seats script) (sym played.drainers) stands.seats;
     roles = subst (λ ds. roles_of ds ≡ drain_roles script) (sym played.drainers) stands.roles;
     rests = λ given is unspent. let d = played.drained in subst AreAtRest (sym played.drainers) (stands.rests given is (omega (arith, d, unspent)));
+    unspent = λ all. subst AreAtRest (sym played.drainers) (stands.unspent all);
     drained = played.drained ∙ stands.drained;
     budget = played.budget ∙ stands.budget;
     few = let a = stands.few in let d = played.drained in let b = played.budget in omega (arith, a, d, b);
@@ -376,7 +379,7 @@ given_budget None given budget is most = none_some is
 
 pub drain_moved : (script : Script) (option : Option ℕ) (old new : Stage) (made : ℕ) → drain_seat script ≡ seat_of_drains script → HasDrained script option old new made → HasMoved script option (IsDrain all_pass script option) old new
 drain_moved script option old new made last d p stands = record {
-  after = record p { past = new.world.past; drained = p.drained + made; budget = new.budget };
+  after = record p { past = new.world.past; drained = p.drained + made; budget = new.budget; unspent = p.unspent && nat_lt (p.drained + made) new.budget };
   move = record {
     past = new.world.past;
     made = made;
@@ -388,6 +391,7 @@ drain_moved script option old new made last d p stands = record {
     roles = stands.roles;
     stand = subst (AreStanding old.drainers) stands.past stands.drainers;
     rests = λ given is unspent. let e = stands.drained in stands.rests given is (omega (arith, e, unspent));
+    unspent = stands.unspent;
     few = let f = d.few in let r = d.room in let e = stands.drained in omega (arith, f, r, e);
     rounds = rounds;
     is = refl;
@@ -408,6 +412,7 @@ drain_moved script option old new made last d p stands = record {
     seats = d.seats ∙ stands.seats;
     roles = d.roles ∙ stands.roles;
     rests = rests;
+    unspent = unspent;
     drained = d.drained ∙ ap (λ n. n + made) stands.drained;
     budget = refl;
     few = let f = d.few in let r = d.room in let e = d.drained in omega (arith, f, r, e);
@@ -430,6 +435,18 @@ drain_moved script option old new made last d p stands = record {
         let all = given_budget option given new.budget is d.most in
         let made_is = d.drained in
         drains_rest all_pass old.world.setup new.drainers new.world.past (new.budget - old.drained - made) old.drainers old.world.past (new.budget - old.drained) d.rounds (omega (arith, all, made_is, unspent)) (stands.rests given is (omega (arith, made_is, unspent)))
+
+    both : (a b : Bool) → (a && b) ≡ true → (a ≡ true) × (b ≡ true)
+    both true b e = (refl, e)
+    both false b e = absurd (true≢false (sym e))
+
+    -- it has left calls, and so has each before it
+    unspent : (p.unspent && nat_lt (p.drained + made) new.budget) ≡ true → AreAtRest new.drainers
+    unspent all =
+        let parts = both p.unspent (nat_lt (p.drained + made) new.budget) all in
+        let left = ltb-true (p.drained + made) new.budget parts.1 in
+        let e = stands.drained in
+        drains_rest all_pass old.world.setup new.drainers new.world.past (new.budget - old.drained - made) old.drainers old.world.past (new.budget - old.drained) d.rounds (omega (arith, left, e)) (stands.unspent parts.0)
 
     below : (place : ℕ) (x : Player) → slice_get old.players.items place ≡ Some x → (s : ℕ) → IsLife x.part s → IsOneOf (drain_seats script) s → ⊥
     below place x there s life own =

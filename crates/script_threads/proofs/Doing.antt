@@ -1,5 +1,6 @@
 -- What users and actors have done stays so where other seats make calls; and the drain that comes after it.
 use Rattle.std.proofs.Common.{◌≡◌, ℕ, ◌+◌, ◌-◌, ◌<◌, ◌≤◌, true, List, [], ◌∷◌, Option, Some, inl, inr, refl, sym, ◌∙◌, ap, subst, subst₂, arith}
+use Rattle.std.specs.Prelude.{nat_lt}
 use Rattle.call_types.specs.declared.entry.Entry.{Entry}
 use Rattle.binder_model.specs.Due.{IsFirstDue, IsSettled}
 use Rattle.binder_model.specs.Told.{own}
@@ -103,7 +104,7 @@ pub record HasDrained (script : Script) (first : ℕ) (option : Option ℕ) (bef
 
 module _ (script : Script) (workers calls first : ℕ) (option : Option ℕ) (before after : History) (old ran : List Drainer) (budget : ℕ) (d : Drained) (drained : HasDrained script first option before after old ran budget d) (is : first ≡ drain_seat workers script) where
   abbrev end : Progress
-  end = record (progress_after before.past option) { past = after.past; drained = 0 + made_of d; budget = budget }
+  end = record (progress_after before.past option) { past = after.past; drained = 0 + made_of d; budget = budget; unspent = nat_lt (0 + made_of d) budget }
 
   ends_as : (e : Drained) → made_of e ≡ made_of d → EndsWith after.setup after.past budget e → EndsAs script.setup end e
   ends_as (Settled made) same settled = (omega (arith, same), subst (λ s. IsSettled s (world s after.past)) (drained.kept ∙ drained.setup) settled)
@@ -134,6 +135,7 @@ module _ (script : Script) (workers calls first : ℕ) (option : Option ℕ) (be
       roles = new_roles_for first script.node_names old drained.new;
       stand = drained.stand;
       rests = λ given is unspent. new_rest first script.node_names old drained.new;
+      unspent = λ all. new_rest first script.node_names old drained.new;
       few = let few = drained.few in omega (arith, few);
       rounds = rounds;
       is = refl;

@@ -107,6 +107,7 @@ run_cases = record {
       roles = new_roles_for 11 one_node (drainers 11 (codes "n1")) (drainers_new 11 (codes "n1"));
       stand = new_stand 11 one_node (drainers 11 (codes "n1")) (drainers_new 11 (codes "n1")) both (refl, (refl, (refl, (refl, (refl, (refl, tt))))));
       rests = λ given is unspent. new_rest 11 one_node (drainers 11 (codes "n1")) (drainers_new 11 (codes "n1"));
+      unspent = λ all. new_rest 11 one_node (drainers 11 (codes "n1")) (drainers_new 11 (codes "n1"));
       few = omega arith;
       rounds = NothingDue nothing_due refl refl refl;
       is = refl;

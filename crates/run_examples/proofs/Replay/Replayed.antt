@@ -51,6 +51,7 @@ settled_replay script past made moves budget settled none = record {
     roles = drainers_roles script;
     stand = drainers_stand script past none;
     rests = λ given is unspent. drainers_rest script;
+    unspent = λ all. drainers_rest script;
     few = omega arith;
     rounds = NothingDue settled refl refl refl;
     is = refl;

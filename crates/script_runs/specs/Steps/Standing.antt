@@ -121,6 +121,7 @@ pub record StageStands (script : Script) (option : Option ℕ) (p : Progress) (s
   pub seats : seats_of s.drainers ≡ drain_seats script
   pub roles : roles_of s.drainers ≡ drain_roles script
   pub rests : (given : ℕ) → option ≡ Some given → s.drained < given → AreAtRest s.drainers
+  pub unspent : p.unspent ≡ true → AreAtRest s.drainers
   pub drained : s.drained ≡ p.drained
   pub budget : s.budget ≡ p.budget
   pub few : s.drained ≤ s.budget
