@@ -6,12 +6,13 @@ ghost use Rattle.kube_types.specs.Keys.{AreRows};
 ghost use Rattle.binder_model.specs.Store.{newer_class, default_class, class_name, text_lt, lacks_named_node, lacks_node};
 ghost use Rattle.version_store.specs.Steps.Made.{default_from};
 
+use crate::object_map::ObjectMap;
 use kube_types::copies::{OutOfMemory, Plain};
 use kube_types::defaults::is_default;
 use kube_types::key::Key;
 use kube_types::objects::{Class, Object};
 use kube_types::parts::Kind;
-use kube_types::table::{count_of_kind, row};
+use kube_types::table::count_of_kind;
 use kube_types::text::Text;
 use std::alloc::Global;
 
@@ -79,9 +80,12 @@ pub fn default_class_name(rows: &[Object]) -> Option<&Text>
 }
 
 /// Whether a node is named that is not there.
-pub fn lacks_named_node(alloc: Global, node: &Text, rows: &[Object]) -> Result<bool, OutOfMemory>
-    requires { AreRows rows.now }
-    ensures { IfOk result (λ lacks. lacks ≡ lacks_named_node node.now rows.now) }
+pub fn lacks_named_node(
+    alloc: Global,
+    node: &Text,
+    objects: &ObjectMap,
+) -> Result<bool, OutOfMemory>
+    ensures { IfOk result (λ lacks. lacks ≡ lacks_named_node node.now objects.now) }
 {
     if node.as_str().is_empty() {
         return Ok(false);
@@ -91,7 +95,7 @@ pub fn lacks_named_node(alloc: Global, node: &Text, rows: &[Object]) -> Result<b
         namespace: Text::new(alloc, "")?,
         name: node.copy(alloc)?,
     };
-    match row(rows, &key) {
+    match objects.get(&key) {
         None => Ok(true),
         Some(_) => Ok(false),
     }
@@ -99,12 +103,11 @@ pub fn lacks_named_node(alloc: Global, node: &Text, rows: &[Object]) -> Result<b
 
 /// Whether the object is a pod that names a node that is not there.
 #[tactic(auto, unfolding(binder_model::specs::Store::lacks_node))]
-pub fn lacks_node(alloc: Global, object: &Object, rows: &[Object]) -> Result<bool, OutOfMemory>
-    requires { AreRows rows.now }
-    ensures { IfOk result (λ lacks. lacks ≡ lacks_node object.now rows.now) }
+pub fn lacks_node(alloc: Global, object: &Object, objects: &ObjectMap) -> Result<bool, OutOfMemory>
+    ensures { IfOk result (λ lacks. lacks ≡ lacks_node object.now objects.now) }
 {
     match object {
-        Object::Pod(pod) => lacks_named_node(alloc, &pod.node, rows),
+        Object::Pod(pod) => lacks_named_node(alloc, &pod.node, objects),
         _ => Ok(false),
     }
 }

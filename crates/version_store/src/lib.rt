@@ -1,4 +1,4 @@
-//! A store of objects, with a number for each write.
+//! A store of objects, in an ordered map by key, with a number for each write.
 //!
 //! Promises: `Store::call` answers each verb by the definition `outcome`, refusals in their order, and leaves exactly
 //! the store that it says; `answer` gives the same reply and changes nothing; out of memory, nothing has changed. An
@@ -9,8 +9,8 @@
 mod classes;
 mod edits;
 mod imports;
-mod indexed;
 mod metadata;
+mod object_map;
 pub mod outcome;
 mod starts;
 pub mod store;

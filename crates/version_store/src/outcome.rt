@@ -1,16 +1,14 @@
 //! What a request comes to, and the write that it makes.
 
 ghost use Rattle.std.specs.Prelude.{◌≡◌, ◌+◌, ◌^◌, ◌<◌, IfOk, OnOk, OnErr};
-ghost use Rattle.kube_types.specs.Keys.{AreRows, key_of, put_row, without_row};
+ghost use Rattle.kube_types.specs.Keys.{key_of, put_row, without_row};
 ghost use Rattle.call_types.specs.declared.reply.Reply.TheVariants as replies;
 ghost use Rattle.binder_model.specs.Answers.{after, is_for_store, reply_of};
-ghost use Rattle.kept_index.specs.Keeping.{Keeps};
 ghost use Rattle.version_store.specs.Steps.Made.{outcome_of, state_of};
 
-use crate::indexed::{put_in, take_from};
+use crate::object_map::ObjectMap;
 use call_types::reply::{Change, Reply};
 use call_types::request::Request;
-use kept_index::KeptIndex;
 use kube_types::copies::OutOfMemory;
 use kube_types::key::key_of;
 use kube_types::objects::{Object, Version};
@@ -39,22 +37,17 @@ impl Drop for Made {
 /// Puts in the object of the next write, and answers a copy of it.
 fn store_row(
     alloc: Global,
-    rows: &mut Vec<Object>,
-    index: &mut KeptIndex,
+    objects: &mut ObjectMap,
     version: &mut Version,
     object: Object,
 ) -> Result<Reply, OutOfMemory>
-    requires rows { AreRows rows.old.items }
-    requires index { Keeps index.old rows.old.items }
-    requires room { version.old + 1 < 2 ^ 62 }
+    requires { version.old + 1 < 2 ^ 62 }
     ensures reply { IfOk result (λ reply. reply ≡ replies.Done object) }
-    ensures rows { OnOk result (rows.new.items ≡ put_row object rows.old.items) }
+    ensures objects { OnOk result (objects.new ≡ put_row object objects.old) }
     ensures version { OnOk result (version.new ≡ version.old + 1) }
-    ensures err { OnErr result ((rows.new.items ≡ rows.old.items) × (version.new ≡ version.old)) }
-    ensures rising { AreRows rows.new.items }
-    ensures index { Keeps index.new rows.new.items }
+    ensures err { OnErr result ((objects.new ≡ objects.old) × (version.new ≡ version.old)) }
 {
-    let told = put_in(alloc, rows, index, object)?;
+    let told = objects.insert(alloc, object)?;
     *version += 1;
     Ok(Reply::Done(told))
 }
@@ -62,23 +55,18 @@ fn store_row(
 /// Takes out the object that leaves with the next write, and answers it as it leaves.
 fn remove_row(
     alloc: Global,
-    rows: &mut Vec<Object>,
-    index: &mut KeptIndex,
+    objects: &mut ObjectMap,
     version: &mut Version,
     object: Object,
 ) -> Result<Reply, OutOfMemory>
-    requires rows { AreRows rows.old.items }
-    requires index { Keeps index.old rows.old.items }
-    requires room { version.old + 1 < 2 ^ 62 }
+    requires { version.old + 1 < 2 ^ 62 }
     ensures reply { IfOk result (λ reply. reply ≡ replies.Left object) }
-    ensures rows { OnOk result (rows.new.items ≡ without_row (key_of object) rows.old.items) }
+    ensures objects { OnOk result (objects.new ≡ without_row (key_of object) objects.old) }
     ensures version { OnOk result (version.new ≡ version.old + 1) }
-    ensures err { OnErr result ((rows.new.items ≡ rows.old.items) × (version.new ≡ version.old)) }
-    ensures rising { AreRows rows.new.items }
-    ensures index { Keeps index.new rows.new.items }
+    ensures err { OnErr result ((objects.new ≡ objects.old) × (version.new ≡ version.old)) }
 {
     let key = key_of(alloc, &object)?;
-    take_from(alloc, rows, index, &key);
+    let _ = objects.remove(alloc, &key);
     *version += 1;
     Ok(Reply::Left(object))
 }
@@ -96,28 +84,23 @@ impl Made {
         }
     }
 
-    /// Makes the one write of the outcome, if any, in the rows, and answers it.
+    /// Makes the one write of the outcome, if any, in the map, and answers it.
     #[tactic(auto, unfolding(binder_model::specs::Answers::after, binder_model::specs::Answers::reply_of))]
     pub(crate) fn write(
         self,
         alloc: Global,
-        rows: &mut Vec<Object>,
-        index: &mut KeptIndex,
+        objects: &mut ObjectMap,
         version: &mut Version,
     ) -> Result<Reply, OutOfMemory>
-        requires rows { AreRows rows.old.items }
-        requires index { Keeps index.old rows.old.items }
-        requires room { version.old + 1 < 2 ^ 62 }
-        ensures state { OnOk result (state_of rows.new.items version.new ≡ after (state_of rows.old.items version.old) (outcome_of self)) }
+        requires { version.old + 1 < 2 ^ 62 }
+        ensures state { OnOk result (state_of objects.new version.new ≡ after (state_of objects.old version.old) (outcome_of self)) }
         ensures reply { IfOk result (λ reply. reply ≡ reply_of (outcome_of self)) }
-        ensures err { OnErr result ((rows.new.items ≡ rows.old.items) × (version.new ≡ version.old)) }
-        ensures rising { AreRows rows.new.items }
-        ensures index { Keeps index.new rows.new.items }
+        ensures err { OnErr result ((objects.new ≡ objects.old) × (version.new ≡ version.old)) }
     {
         match self {
             Made::Says(reply) => Ok(reply),
-            Made::Stores(_, object) => store_row(alloc, rows, index, version, object),
-            Made::Removes(object) => remove_row(alloc, rows, index, version, object),
+            Made::Stores(_, object) => store_row(alloc, objects, version, object),
+            Made::Removes(object) => remove_row(alloc, objects, version, object),
         }
     }
 }

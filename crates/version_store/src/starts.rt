@@ -1,4 +1,4 @@
-//! Where the objects of each kind begin among the rows of the store.
+//! Where the objects of each kind begin among the rows of the ordered map.
 
 ghost use Rattle.std.specs.Prelude.{◌≡◌};
 ghost use Rattle.kube_types.specs.Keys.{AreRows, rows_of};

@@ -9,18 +9,16 @@ ghost use Rattle.binder_model.specs.Answers.{after, is_for_store, outcome, reply
 ghost use Rattle.version_store.specs.Steps.Made.{outcome_of};
 
 use crate::imports::{base_of, rows_of_imports};
+use crate::object_map::ObjectMap;
 use crate::outcome::Made;
-use crate::starts::{Starts, objects_of, starts_of};
 use crate::verbs::outcome;
 use call_types::reply::Reply;
 use call_types::request::{Request, SeatKind};
-use kept_index::KeptIndex;
 use kube_types::copies::OutOfMemory;
 use kube_types::key::Key;
 use kube_types::lookup::Lookup;
 use kube_types::objects::{Object, Version};
 use kube_types::parts::Kind;
-use kube_types::table::row;
 use kube_types::text::Text;
 use kube_types::volume_index::VolumeIndex;
 use std::alloc::Global;
@@ -30,9 +28,7 @@ use std::marker::Model;
 /// their keys, and the version.
 pub struct Store {
     alloc: Global,
-    rows: Vec<Object>,
-    starts: Starts,
-    index: KeptIndex,
+    objects: ObjectMap,
     version: Version,
 }
 
@@ -40,25 +36,19 @@ impl Drop for Store {
     fn drop(self) {
         let Store {
             alloc: _,
-            rows,
-            starts: _,
-            index,
+            objects,
             version: _,
         } = self;
-        drop(rows);
-        drop(index);
+        drop(objects);
     }
 }
 
 impl Model for Store {
     ghost use Rattle.binder_model.specs.Store.{State};
-    ghost use Rattle.version_store.specs.Steps.Starts.{AreKept};
 
     ghost Value = { State };
 
-    ghost view = { λ s. record { rows = s.rows.items; version = s.version } };
-
-    ghost invariant = { λ s. AreKept s.rows.items s.starts s.index };
+    ghost view = { λ s. record { rows = s.objects; version = s.version } };
 }
 
 impl Store {
@@ -66,13 +56,9 @@ impl Store {
     pub fn new(alloc: Global) -> Store
         ensures { result ≡ no_store }
     {
-        let rows = Vec::new(alloc);
-        let starts = starts_of(&rows);
         Store {
             alloc,
-            rows,
-            starts,
-            index: KeptIndex::new(alloc),
+            objects: ObjectMap::new(alloc),
             version: 0,
         }
     }
@@ -82,13 +68,10 @@ impl Store {
         ensures { IfOk result (λ s. s ≡ record { rows = rows_of_imports imports.now imports.now; version = base_of imports.now }) }
     {
         let rows = rows_of_imports(alloc, imports)?;
-        let starts = starts_of(&rows);
-        let index = KeptIndex::of(alloc, &rows)?;
+        let objects = ObjectMap::of(alloc, rows)?;
         Ok(Store {
             alloc,
-            rows,
-            starts,
-            index,
+            objects,
             version: base_of(imports),
         })
     }
@@ -114,7 +97,7 @@ impl Store {
     {
         outcome(
             self.alloc,
-            &self.rows,
+            &self.objects,
             self.version,
             kind,
             request,
@@ -130,14 +113,7 @@ impl Store {
         ensures reply { IfOk result (λ reply. reply ≡ reply_of (outcome_of made)) }
         ensures err { OnErr result (self.new ≡ self.old) }
     {
-        let reply = made.write(
-            self.alloc,
-            &mut self.rows,
-            &mut self.index,
-            &mut self.version,
-        );
-        self.starts = starts_of(&self.rows);
-        reply
+        made.write(self.alloc, &mut self.objects, &mut self.version)
     }
 
     /// Answers a request that is the store's. A FinishPod's epoch has been tested before.
@@ -176,7 +152,7 @@ impl Store {
     pub fn objects(&self) -> &[Object]
         ensures { result.now ≡ self.now.rows }
     {
-        &self.rows
+        self.objects.objects()
     }
 
     /// The objects of a kind, in the order of namespace and name.
@@ -184,14 +160,14 @@ impl Store {
         ensures objects { result.now ≡ rows_of kind self.now.rows }
         ensures order { AreRows self.now.rows }
     {
-        objects_of(&self.rows, self.starts, kind)
+        self.objects.of_kind(kind)
     }
 
     /// The object of a key.
     pub fn row(&self, key: &Key) -> Option<&Object>
         ensures { option_copied result ≡ row_at key.now self.now.rows }
     {
-        row(&self.rows, key)
+        self.objects.get(key)
     }
 
     /// How many objects of the kind there are.
@@ -217,7 +193,7 @@ impl Lookup for Store {
     }
 
     fn of_kind(&self, kind: Kind) -> &[Object] {
-        objects_of(&self.rows, self.starts, kind)
+        self.objects.of_kind(kind)
     }
 
     fn at(&self, kind: Kind, place: usize) -> Option<&Object> {
@@ -225,10 +201,10 @@ impl Lookup for Store {
     }
 
     fn row(&self, key: &Key) -> Option<&Object> {
-        row(&self.rows, key)
+        self.objects.get(key)
     }
 
     fn volumes(&self) -> Option<&VolumeIndex> {
-        self.index.get()
+        self.objects.volumes()
     }
 }

@@ -1,11 +1,11 @@
-//! What each request comes to, over the rows.
+//! What each request comes to, over the objects of the store.
 
 ghost use Rattle.std.specs.Prelude.{◌≡◌, ◌+◌, ◌<◌, ◌^◌, List, Some, None, IfOk};
 ghost use Rattle.std.specs.Option.{option_copied};
 ghost use Rattle.std.specs.Result.{result_err};
 ghost use Rattle.kube_types.specs.declared.objects.Object.{Object};
 ghost use Rattle.kube_types.specs.declared.objects.Object.TheVariants as objects;
-ghost use Rattle.kube_types.specs.Keys.{AreRows, key_of, row_at};
+ghost use Rattle.kube_types.specs.Keys.{key_of, row_at};
 ghost use Rattle.kube_types.specs.declared.names.Rule.TheVariants as rules;
 ghost use Rattle.call_types.specs.declared.reply.Refusal.TheVariants as refusals;
 ghost use Rattle.call_types.specs.declared.reply.Reply.TheVariants as replies;
@@ -15,6 +15,7 @@ ghost use Rattle.version_store.specs.Steps.Made.{is_listed, outcome_of, state_of
 
 use crate::classes::{default_class_name, lacks_named_node, lacks_node};
 use crate::edits::edited_object;
+use crate::object_map::ObjectMap;
 use crate::outcome::Made;
 use crate::writes::{at_version, created_object, marked_object, updated_object, with_status};
 use call_types::edit::Edit;
@@ -30,7 +31,6 @@ use kube_types::names::{Field, Rule};
 use kube_types::objects::{Object, Pod, Version};
 use kube_types::parts::Kind;
 use kube_types::shared::Shared;
-use kube_types::table::{of_kind, row};
 use kube_types::text::Text;
 use kube_types::uid::Uid;
 use std::alloc::Global;
@@ -93,28 +93,33 @@ fn is_other_uid(given: Option<Uid>, current: Option<Uid>) -> bool
 #[tactic(auto, unfolding(binder_model::specs::Answers::create, binder_model::specs::Answers::refuse_rule, binder_model::specs::Answers::refuse_field))]
 fn create(
     alloc: Global,
-    rows: &[Object],
+    objects: &ObjectMap,
     version: Version,
     kind: SeatKind,
     object: &Object,
     moment: &Text,
 ) -> Result<Made, OutOfMemory>
-    requires rows { AreRows rows.now }
-    requires room { version + 1 < 2 ^ 62 }
-    ensures { IfOk result (λ made. outcome_of made ≡ create (state_of rows.now version) kind object.now moment.now (row_at (key_of object.now) rows.now)) }
+    requires { version + 1 < 2 ^ 62 }
+    ensures { IfOk result (λ made. outcome_of made ≡ create (state_of objects.now version) kind object.now moment.now (row_at (key_of object.now) objects.now)) }
 {
     let key = key_of(alloc, object)?;
-    if row(rows, &key).is_some() {
+    if objects.get(&key).is_some() {
         return Ok(refuse_with(Refusal::AlreadyExists));
     }
     if let Err(rule) = guard_on(kind, None, object) {
         return Ok(refuse_with(Refusal::Forbidden(rule)));
     }
-    let lacks = lacks_node(alloc, object, rows)?;
+    let lacks = lacks_node(alloc, object, objects)?;
     if let Err(field) = check_new(alloc, lacks, object)? {
         return Ok(refuse_with(Refusal::Invalid(field)));
     }
-    let made = created_object(alloc, default_class_name(rows), object, version + 1, moment)?;
+    let made = created_object(
+        alloc,
+        default_class_name(objects.objects()),
+        object,
+        version + 1,
+        moment,
+    )?;
     Ok(Made::Stores(Change::Added, made))
 }
 
@@ -270,15 +275,14 @@ fn listed_rows(
 #[tactic(auto, unfolding(binder_model::specs::Answers::list))]
 fn list(
     alloc: Global,
-    rows: &[Object],
+    objects: &ObjectMap,
     version: Version,
     kind: Kind,
     namespace: &Option<Text>,
 ) -> Result<Made, OutOfMemory>
-    requires { AreRows rows.now }
-    ensures { IfOk result (λ made. outcome_of made ≡ list (state_of rows.now version) kind namespace.now) }
+    ensures { IfOk result (λ made. outcome_of made ≡ list (state_of objects.now version) kind namespace.now) }
 {
-    let items = listed_rows(alloc, of_kind(rows, kind), namespace)?;
+    let items = listed_rows(alloc, objects.of_kind(kind), namespace)?;
     Ok(Made::Says(Reply::Listed { items, version }))
 }
 
@@ -317,14 +321,13 @@ fn bound_pod(
 #[tactic(auto, unfolding(binder_model::specs::Answers::bind, binder_model::specs::Answers::refuse))]
 fn bind(
     alloc: Global,
-    rows: &[Object],
+    objects: &ObjectMap,
     version: Version,
     node: &Text,
     pod: Option<&Shared<Pod>>,
 ) -> Result<Made, OutOfMemory>
-    requires rows { AreRows rows.now }
-    requires room { version + 1 < 2 ^ 62 }
-    ensures { IfOk result (λ made. outcome_of made ≡ bind (state_of rows.now version) node.now (option_copied pod.entry)) }
+    requires { version + 1 < 2 ^ 62 }
+    ensures { IfOk result (λ made. outcome_of made ≡ bind (state_of objects.now version) node.now (option_copied pod.entry)) }
 {
     let Some(pod) = pod else {
         return Ok(refuse_with(Refusal::NotFound));
@@ -333,7 +336,7 @@ fn bind(
         let node = pod.node.copy(alloc)?;
         return Ok(refuse_with(Refusal::Assigned { node }));
     }
-    if lacks_named_node(alloc, node, rows)? {
+    if lacks_named_node(alloc, node, objects)? {
         return Ok(refuse_with(Refusal::Invalid(Field::NodeName)));
     }
     let bound = bound_pod(alloc, pod, node, version + 1)?;
@@ -370,39 +373,37 @@ fn finish(
 /// What an update comes to.
 fn update_row(
     alloc: Global,
-    rows: &[Object],
+    objects: &ObjectMap,
     version: Version,
     kind: SeatKind,
     new: &Object,
     given: Option<Version>,
 ) -> Result<Made, OutOfMemory>
-    requires rows { AreRows rows.now }
-    requires room { version + 1 < 2 ^ 62 }
-    ensures { IfOk result (λ made. outcome_of made ≡ update (state_of rows.now version) kind new.now given (row_at (key_of new.now) rows.now)) }
+    requires { version + 1 < 2 ^ 62 }
+    ensures { IfOk result (λ made. outcome_of made ≡ update (state_of objects.now version) kind new.now given (row_at (key_of new.now) objects.now)) }
 {
     let key = key_of(alloc, new)?;
-    update(alloc, version, kind, new, given, row(rows, &key))
+    update(alloc, version, kind, new, given, objects.get(&key))
 }
 
 /// What a BindPod comes to. `row` is the object of its key.
 #[tactic(auto, unfolding(binder_model::specs::Answers::refuse))]
 fn bind_row(
     alloc: Global,
-    rows: &[Object],
+    objects: &ObjectMap,
     version: Version,
     kind: SeatKind,
     uid: Uid,
     node: &Text,
     row: Option<&Object>,
 ) -> Result<Made, OutOfMemory>
-    requires rows { AreRows rows.now }
-    requires room { version + 1 < 2 ^ 62 }
-    ensures { IfOk result (λ made. outcome_of made ≡ refuse (is_user kind) (refusals.Forbidden rules.Verb) (bind (state_of rows.now version) node.now (pod_with uid (option_copied row.entry)))) }
+    requires { version + 1 < 2 ^ 62 }
+    ensures { IfOk result (λ made. outcome_of made ≡ refuse (is_user kind) (refusals.Forbidden rules.Verb) (bind (state_of objects.now version) node.now (pod_with uid (option_copied row.entry)))) }
 {
     if is_user(kind) {
         return Ok(refuse_with(Refusal::Forbidden(Rule::Verb)));
     }
-    bind(alloc, rows, version, node, pod_with(uid, row))
+    bind(alloc, objects, version, node, pod_with(uid, row))
 }
 
 /// What a FinishPod comes to. `row` is the object of its key.
@@ -430,34 +431,33 @@ fn finish_row(
 #[tactic(auto, unfolding(binder_model::specs::Answers::outcome, binder_model::specs::Answers::refuse))]
 pub fn outcome(
     alloc: Global,
-    rows: &[Object],
+    objects: &ObjectMap,
     version: Version,
     kind: SeatKind,
     request: &Request,
     moment: &Text,
     stale: Option<u64>,
 ) -> Result<Made, OutOfMemory>
-    requires rows { AreRows rows.now }
-    requires room { version + 1 < 2 ^ 62 }
-    ensures { IfOk result (λ made. outcome_of made ≡ outcome (state_of rows.now version) kind request.now moment.now stale) }
+    requires { version + 1 < 2 ^ 62 }
+    ensures { IfOk result (λ made. outcome_of made ≡ outcome (state_of objects.now version) kind request.now moment.now stale) }
 {
     match request {
-        Request::Create { object } => create(alloc, rows, version, kind, object, moment),
+        Request::Create { object } => create(alloc, objects, version, kind, object, moment),
         Request::Update {
             object,
             version: given,
-        } => update_row(alloc, rows, version, kind, object, *given),
+        } => update_row(alloc, objects, version, kind, object, *given),
         Request::UpdateStatus {
             key,
             status,
             version: given,
-        } => update_status(alloc, version, kind, status, *given, row(rows, key)),
-        Request::Edit { key, edit: change } => edit(alloc, version, kind, change, row(rows, key)),
-        Request::Delete { key, uid } => delete(alloc, version, moment, *uid, row(rows, key)),
-        Request::Get { key } => get(alloc, row(rows, key)),
-        Request::List { kind, namespace } => list(alloc, rows, version, *kind, namespace),
+        } => update_status(alloc, version, kind, status, *given, objects.get(key)),
+        Request::Edit { key, edit: change } => edit(alloc, version, kind, change, objects.get(key)),
+        Request::Delete { key, uid } => delete(alloc, version, moment, *uid, objects.get(key)),
+        Request::Get { key } => get(alloc, objects.get(key)),
+        Request::List { kind, namespace } => list(alloc, objects, version, *kind, namespace),
         Request::BindPod { key, uid, node } => {
-            bind_row(alloc, rows, version, kind, *uid, node, row(rows, key))
+            bind_row(alloc, objects, version, kind, *uid, node, objects.get(key))
         }
         Request::FinishPod { key, uid, node, .. } => finish_row(
             alloc,
@@ -466,7 +466,7 @@ pub fn outcome(
             *uid,
             node,
             stale,
-            row(rows, key),
+            objects.get(key),
         ),
         _ => Ok(refuse_with(Refusal::Invalid(Field::Kind))),
     }

@@ -1,4 +1,4 @@
--- Where the objects of each kind begin among rows, as the store keeps it. A choice of this project.
+-- Where the objects of each kind begin among rows, as the ordered map keeps it. A choice of this project.
 use Rattle.std.specs.Prelude.{ℕ, ◌≤◌, List, Option, length}
 use Rattle.kube_types.specs.declared.objects.Object.{Object}
 use Rattle.kube_types.specs.Keys.{AreRows, IsKindStart}
@@ -17,7 +17,7 @@ pub record AreStarts (rows : List Object) (s : Starts) : Type 0 where
   pub claims : BeginsAt 3 rows s.claims
   pub pods : BeginsAt 4 rows s.pods
 
--- the rows of the store are in order, it knows where each kind begins, and where it has an index, that stands for the volumes among them
+-- the rows of the map are in order, it knows where each kind begins, and where it has an index, that stands for the volumes among them
 pub record AreKept (rows : List Object) (s : Starts) (i : Option Index) : Type 0 where
   pub order : AreRows rows
   pub starts : AreStarts rows s
