@@ -24,7 +24,7 @@ use Rattle.worker_core.specs.declared.task.First.TheVariants as firsts
 use Rattle.worker_core.specs.declared.task.Task.TheVariants as tasks
 use Rattle.worker_core.specs.declared.task.Under.{Under}
 use Rattle.worker_core.specs.Tasks.{under_after}
-use Rattle.worker_threads.specs.Drainers.{agent_of}
+use Rattle.drain_rounds.specs.Drainers.{agent_of}
 use Rattle.write_law.specs.Lasting.{Lasts}
 use Rattle.alike_law.specs.Alike.{AreAlike}
 use Rattle.alike_law.proofs.Calls.{LastsOrAlike, calls_last_or_leave_alike, then_alike}

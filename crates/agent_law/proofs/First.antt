@@ -10,8 +10,8 @@ use Rattle.binder_model.specs.AgentLicence.{last_epoch}
 use Rattle.binder_model.specs.Told.{own}
 use Rattle.model_laws.proofs.Lists.{none_some, one}
 use Rattle.worker_core.specs.declared.role.Role.{Role}
-use Rattle.worker_threads.specs.declared.drainers.Drainer.{Drainer}
-use Rattle.worker_threads.specs.Drainers.{agent_of}
+use Rattle.drain_rounds.specs.declared.drainers.Drainer.{Drainer}
+use Rattle.drain_rounds.specs.Drainers.{agent_of}
 use Rattle.epoch_law.specs.Awake.{IsAwake}
 use Rattle.epoch_law.specs.Epochs.{TakesNoMore}
 use Rattle.epoch_law.proofs.Epochs.{is_agent}

@@ -40,7 +40,7 @@ use Rattle.worker_core.specs.declared.task.First.TheVariants as firsts
 use Rattle.worker_core.specs.declared.task.Task.TheVariants as tasks
 use Rattle.worker_core.specs.declared.task.Under.{Under}
 use Rattle.worker_core.specs.Tasks.{under_after, with_call}
-use Rattle.worker_threads.specs.Drainers.{agent_of}
+use Rattle.drain_rounds.specs.Drainers.{agent_of}
 use Rattle.write_law.specs.Lasting.{Lasts}
 use Rattle.write_law.proofs.Valid.{rows_are_valid}
 use Rattle.write_law.proofs.Pods.{claims_once}

@@ -49,7 +49,7 @@ use Rattle.worker_core.proofs.AgentLaws.{are_agents}
 use Rattle.worker_core.specs.States.{ActorState}
 use Rattle.worker_core.specs.Tasks.{GivesCall, GivesNone, IsAgentFirst, IsDecision, agent_first, task_call}
 use Rattle.worker_core.proofs.ByKind.{epoch_stands}
-use Rattle.worker_threads.specs.Drainers.{agent_of}
+use Rattle.drain_rounds.specs.Drainers.{agent_of}
 use Rattle.alike_law.proofs.Dues.{alike_is_due}
 use Rattle.slot_law.specs.Slots.{IsDecisionPoint}
 use Rattle.slot_law.specs.Would.{WouldLast}

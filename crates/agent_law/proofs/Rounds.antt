@@ -18,12 +18,12 @@ use Rattle.worker_core.specs.declared.role.Role.{Role}
 use Rattle.worker_core.specs.Absorbs.{woken}
 use Rattle.worker_core.specs.Roles.{IsBuiltKind}
 use Rattle.worker_core.specs.States.{ActorState}
-use Rattle.worker_threads.specs.declared.drainers.Drainer.{Drainer}
-use Rattle.worker_threads.specs.Drainers.{agent_of, roles_of}
-use Rattle.worker_threads.specs.Longer.{GrowsWithin}
-use Rattle.worker_threads.specs.Rounds.{IsRound, Lets, Runs, told_entry}
-use Rattle.worker_threads.proofs.RoundFacts.{AreBuilt, roles_built, round_grows}
-use Rattle.worker_threads.proofs.RunFacts.{run_grows}
+use Rattle.drain_rounds.specs.declared.drainers.Drainer.{Drainer}
+use Rattle.drain_rounds.specs.Drainers.{agent_of, roles_of}
+use Rattle.drain_rounds.specs.Longer.{GrowsWithin}
+use Rattle.drain_rounds.specs.Rounds.{IsRound, Lets, Runs, told_entry}
+use Rattle.drain_rounds.proofs.RoundFacts.{AreBuilt, roles_built, round_grows}
+use Rattle.drain_rounds.proofs.RunFacts.{run_grows}
 use Rattle.write_law.specs.Lasting.{HasLasting}
 use Rattle.alike_law.specs.Alike.{AreAlike}
 use Rattle.slot_law.specs.Would.{CallsPass}

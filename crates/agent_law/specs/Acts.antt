@@ -20,7 +20,7 @@ use Rattle.worker_core.specs.declared.task.First.{First}
 use Rattle.worker_core.specs.declared.task.Under.{Under}
 use Rattle.worker_core.specs.States.{ActorState}
 use Rattle.worker_core.specs.Tasks.{GivesCall, GivesNone}
-use Rattle.worker_threads.specs.Drainers.{agent_of}
+use Rattle.drain_rounds.specs.Drainers.{agent_of}
 use Rattle.slot_law.specs.Slots.{IsDecisionPoint}
 use Rattle.slot_law.specs.Would.{WouldLast}
 use Rattle.epoch_law.specs.Epochs.{IsCurrent}

@@ -10,9 +10,9 @@ use Rattle.call_types.specs.declared.setup.Setup.{Setup}
 use Rattle.binder_model.specs.Promises.{IsRunOf}
 use Rattle.binder_model.specs.Reading.{follows}
 use Rattle.binder_model.specs.World.{world}
-use Rattle.worker_threads.specs.declared.drainers.Drainer.{Drainer}
-use Rattle.worker_threads.specs.Drainers.{AreRoles, agent_of, roles_of}
-use Rattle.worker_threads.specs.Rounds.{IsRound, Lets}
+use Rattle.drain_rounds.specs.declared.drainers.Drainer.{Drainer}
+use Rattle.drain_rounds.specs.Drainers.{AreRoles, agent_of, roles_of}
+use Rattle.drain_rounds.specs.Rounds.{IsRound, Lets}
 use Rattle.write_law.specs.Lasting.{HasLasting}
 use Rattle.slot_law.specs.Would.{CallsPass}
 use Rattle.agent_law.specs.Acts.{AgentWouldActOn}

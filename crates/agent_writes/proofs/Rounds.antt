@@ -7,10 +7,10 @@ use Rattle.call_types.specs.declared.setup.Setup.{Setup}
 use Rattle.binder_model.specs.Promises.{IsRunOf}
 use Rattle.binder_model.specs.World.{world}
 use Rattle.settle_measure.specs.Measure.{pods_in}
-use Rattle.worker_threads.specs.declared.drainers.Drainer.{Drainer}
-use Rattle.worker_threads.specs.Drainers.{roles_of}
-use Rattle.worker_threads.specs.Rounds.{Ends, IsRound, Lets, Turns}
-use Rattle.worker_threads.proofs.RoundFacts.{AreBuilt, roles_built, round_grows}
+use Rattle.drain_rounds.specs.declared.drainers.Drainer.{Drainer}
+use Rattle.drain_rounds.specs.Drainers.{roles_of}
+use Rattle.drain_rounds.specs.Rounds.{Ends, IsRound, Lets, Turns}
+use Rattle.drain_rounds.proofs.RoundFacts.{AreBuilt, roles_built, round_grows}
 use Rattle.short_law.specs.Slots.{writes_since}
 use Rattle.paid_law.proofs.Slots.{older_run}
 use Rattle.agent_writes.specs.Agents.{AgentsOfARoundWriteLittle, agents_writes, if_agent}

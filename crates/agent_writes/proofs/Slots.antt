@@ -22,8 +22,8 @@ use Rattle.worker_core.specs.declared.role.Role.{Role}
 use Rattle.worker_core.specs.Absorbs.{woken}
 use Rattle.worker_core.specs.Roles.{IsBuiltKind}
 use Rattle.worker_core.specs.States.{ActorState}
-use Rattle.worker_threads.specs.Rounds.{Lets, Runs, told_entry}
-use Rattle.worker_threads.proofs.RunFacts.{run_grows}
+use Rattle.drain_rounds.specs.Rounds.{Lets, Runs, told_entry}
+use Rattle.drain_rounds.proofs.RunFacts.{run_grows}
 use Rattle.done_lasts.proofs.Doing.{write_asked}
 use Rattle.write_count.proofs.Runs.{IsCalled, run_moves}
 use Rattle.write_count.proofs.Slots.{ComesTo, Leaves, Wrote, comes_to, counted}

@@ -11,9 +11,9 @@ use Rattle.settle_measure.specs.Measure.{pods_in}
 use Rattle.worker_core.specs.Absorbs.{woken}
 use Rattle.worker_core.specs.Roles.{IsBuiltKind}
 use Rattle.worker_core.specs.States.{ActorState}
-use Rattle.worker_threads.specs.declared.drainers.Drainer.{Drainer}
-use Rattle.worker_threads.specs.Drainers.{AreRoles, roles_of}
-use Rattle.worker_threads.specs.Rounds.{Ends, IsRound, Lets, Runs, Turns}
+use Rattle.drain_rounds.specs.declared.drainers.Drainer.{Drainer}
+use Rattle.drain_rounds.specs.Drainers.{AreRoles, roles_of}
+use Rattle.drain_rounds.specs.Rounds.{Ends, IsRound, Lets, Runs, Turns}
 use Rattle.short_law.specs.Slots.{writes_since}
 
 -- a pod leaves with each write of an agent

@@ -3,11 +3,11 @@ use Rattle.std.proofs.Common.{◌≡◌, ℕ, List, true, false, refl, subst, ar
 use Rattle.call_types.specs.declared.entry.Entry.{Entry}
 use Rattle.call_types.specs.declared.setup.Setup.{Setup}
 use Rattle.binder_model.specs.Promises.{IsRunOf}
-use Rattle.worker_threads.specs.declared.drainers.Drainer.{Drainer}
-use Rattle.worker_threads.specs.Drainers.{AreAtRest}
-use Rattle.worker_threads.specs.Rounds.{Drains, Goes, IsSpent, Lets, NothingDue}
-use Rattle.worker_threads.proofs.DrainFacts.{drains_grow}
-use Rattle.worker_threads.proofs.RoundFacts.{round_part}
+use Rattle.drain_rounds.specs.declared.drainers.Drainer.{Drainer}
+use Rattle.drain_rounds.specs.Drainers.{AreAtRest}
+use Rattle.drain_rounds.specs.Rounds.{Drains, Goes, IsSpent, Lets, NothingDue}
+use Rattle.drain_rounds.proofs.DrainFacts.{drains_grow}
+use Rattle.drain_rounds.proofs.RoundFacts.{round_part}
 use Rattle.paid_law.specs.Pays.{HavePaid}
 use Rattle.paid_law.proofs.Entries.{none_paid, then_paid}
 use Rattle.paid_law.proofs.Slots.{older_run}

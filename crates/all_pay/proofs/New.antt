@@ -1,6 +1,6 @@
 -- New actors have nothing under way, so a drain that begins with them pays.
-use Rattle.worker_threads.proofs.NewFacts.{new_differ, new_stand}
-use Rattle.worker_threads.proofs.Resting.{new_rest}
+use Rattle.drain_rounds.proofs.NewFacts.{new_differ, new_stand}
+use Rattle.drain_rounds.proofs.Resting.{new_rest}
 use Rattle.all_pay.specs.All.{NewDrainsPay}
 use Rattle.all_pay.proofs.Drains.{drains_pay}
 

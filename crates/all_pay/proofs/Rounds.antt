@@ -7,10 +7,10 @@ use Rattle.binder_model.specs.Promises.{IsRunOf}
 use Rattle.model_laws.proofs.Growing.{runs_are_histories}
 use Rattle.model_laws.proofs.Lists.{none_some, one}
 use Rattle.worker_core.specs.Roles.{IsBuiltKind}
-use Rattle.worker_threads.specs.declared.drainers.Drainer.{Drainer}
-use Rattle.worker_threads.specs.Drainers.{AreAtRest, AreRoles, roles_of}
-use Rattle.worker_threads.specs.Rounds.{IsRound, Lets}
-use Rattle.worker_threads.proofs.RoundFacts.{AreBuilt, roles_built}
+use Rattle.drain_rounds.specs.declared.drainers.Drainer.{Drainer}
+use Rattle.drain_rounds.specs.Drainers.{AreAtRest, AreRoles, roles_of}
+use Rattle.drain_rounds.specs.Rounds.{IsRound, Lets}
+use Rattle.drain_rounds.proofs.RoundFacts.{AreBuilt, roles_built}
 use Rattle.paid_law.specs.Pays.{HavePaid, IsPayer}
 use Rattle.paid_law.proofs.Entries.{paid_is_less}
 use Rattle.paid_law.proofs.Rounds.{rounds_of_payers_pay}

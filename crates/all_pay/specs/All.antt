@@ -6,9 +6,9 @@ use Rattle.call_types.specs.declared.setup.Setup.{Setup}
 use Rattle.binder_model.specs.Promises.{IsRunOf}
 use Rattle.worker_core.specs.declared.role.Role.{Role}
 use Rattle.worker_core.specs.Roles.{IsBuiltKind}
-use Rattle.worker_threads.specs.declared.drainers.Drainer.{Drainer}
-use Rattle.worker_threads.specs.Drainers.{AreAtRest, AreNew, AreRoles, HaveNoEntries, roles_of, seats_of}
-use Rattle.worker_threads.specs.Rounds.{Drains, IsRound, Lets}
+use Rattle.drain_rounds.specs.declared.drainers.Drainer.{Drainer}
+use Rattle.drain_rounds.specs.Drainers.{AreAtRest, AreNew, AreRoles, HaveNoEntries, roles_of, seats_of}
+use Rattle.drain_rounds.specs.Rounds.{Drains, IsRound, Lets}
 use Rattle.paid_law.specs.Pays.{DecisionsPay, HasFallen, HavePaid}
 use Rattle.payer_law.specs.Reclaiming.{UidsFit}
 use Rattle.settle_law.specs.Settling.{MayDrain}

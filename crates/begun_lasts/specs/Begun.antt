@@ -17,7 +17,7 @@ use Rattle.worker_core.specs.declared.role.Role.{Role}
 use Rattle.worker_core.specs.declared.task.Under.{Under}
 use Rattle.worker_core.specs.States.{ActorState}
 use Rattle.worker_core.specs.Tasks.{GivesCall}
-use Rattle.worker_threads.specs.Rounds.{Lets}
+use Rattle.drain_rounds.specs.Rounds.{Lets}
 use Rattle.slot_law.specs.Slots.{IsDecisionPoint, WillLast}
 use Rattle.slot_law.specs.Would.{CallsPass, WouldLast}
 

@@ -5,6 +5,7 @@ ghost use Rattle.benches.specs.UserCalls.{OthersStay};
 
 use crate::writes::{create_claim, create_sized_volume};
 use call_types::request::{Request, SeatKind};
+use drain_rounds::drainers::Drainers;
 use kube_types::copies::OutOfMemory;
 use kube_types::objects::Object;
 use kube_types::parts::ClaimPhase;
@@ -13,7 +14,6 @@ use sample_objects::setups::bare;
 use std::alloc::Global;
 use std::io;
 use worker_threads::drain::drain;
-use worker_threads::drainers::Drainers;
 use world_core::drained::Drained;
 use world_core::kept::KeptWorld;
 

@@ -71,7 +71,7 @@ pub record IsPromised (script : Script) (budget : Option ℕ) (past : List Entry
   -- at every point each pod that a node runs is on a node that the script names, so its drains have an agent of that node
   pub named : ArePodsOnNamedThroughout script past
   -- each round of a drain makes at most 256 calls for each object and each claim that a pod names, for each planned fault that is ahead, and
-  -- for 16 more: each but the first of a drain, and this too where it begins with nothing under way
+  -- for 16 more
   pub short : DrainsAreShort script budget past ending calls
   -- where its last drain may settle it does, so the status is 0: 3 does not come. It may where, as the drain begins, claims are shared well
   -- (or no class that ever stood both binds late and provisions), the world is small, the stated budget is left for it, and no agent of the

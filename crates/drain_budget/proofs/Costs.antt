@@ -9,11 +9,11 @@ use Rattle.binder_model.specs.Promises.{IsRunOf}
 use Rattle.binder_model.specs.World.{world}
 use Rattle.model_laws.proofs.Histories.{rows_stand_in_order}
 use Rattle.settle_measure.specs.Measure.{claims_in, work_left}
-use Rattle.worker_threads.specs.declared.drainers.Drainer.{Drainer}
-use Rattle.worker_threads.specs.Drainers.{AreAtRest, roles_of}
-use Rattle.worker_threads.specs.Rounds.{Drains, Goes, IsRound, IsSpent, Lets, NothingDue}
-use Rattle.worker_threads.proofs.DrainFacts.{drains_grow}
-use Rattle.worker_threads.proofs.RoundFacts.{roles_built, round_part, round_seats, same_length}
+use Rattle.drain_rounds.specs.declared.drainers.Drainer.{Drainer}
+use Rattle.drain_rounds.specs.Drainers.{AreAtRest, roles_of}
+use Rattle.drain_rounds.specs.Rounds.{Drains, Goes, IsRound, IsSpent, Lets, NothingDue}
+use Rattle.drain_rounds.proofs.DrainFacts.{drains_grow}
+use Rattle.drain_rounds.proofs.RoundFacts.{roles_built, round_part, round_seats, same_length}
 use Rattle.short_law.specs.Slots.{PassesReads, writes_since}
 use Rattle.scheduler_writes.specs.Pods.{pods_writes}
 use Rattle.paid_law.proofs.Slots.{older_run}

@@ -8,12 +8,12 @@ use Rattle.call_types.specs.declared.setup.Setup.{Setup}
 use Rattle.binder_model.specs.Due.{IsFirstDue}
 use Rattle.binder_model.specs.Promises.{IsRunOf}
 use Rattle.binder_model.specs.World.{world}
-use Rattle.worker_threads.specs.declared.drainers.Drainer.{Drainer}
-use Rattle.worker_threads.specs.Drainers.{roles_of}
-use Rattle.worker_threads.specs.Longer.{users_of}
-use Rattle.worker_threads.specs.Rounds.{Drains, Goes, IsRound, IsSpent, NothingDue, all_pass}
-use Rattle.worker_threads.proofs.DrainFacts.{drains_grow}
-use Rattle.worker_threads.proofs.RoundFacts.{roles_built, round_part, round_roles, round_users}
+use Rattle.drain_rounds.specs.declared.drainers.Drainer.{Drainer}
+use Rattle.drain_rounds.specs.Drainers.{roles_of}
+use Rattle.drain_rounds.specs.Longer.{users_of}
+use Rattle.drain_rounds.specs.Rounds.{Drains, Goes, IsRound, IsSpent, NothingDue, all_pass}
+use Rattle.drain_rounds.proofs.DrainFacts.{drains_grow}
+use Rattle.drain_rounds.proofs.RoundFacts.{roles_built, round_part, round_roles, round_users}
 use Rattle.write_law.specs.Lasting.{HasLasting}
 use Rattle.epoch_law.proofs.Silent.{rounds_silence_the_overtaken}
 use Rattle.node_law.proofs.Nodes.{pods_are_on_given_nodes}

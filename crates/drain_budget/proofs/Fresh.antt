@@ -8,10 +8,10 @@ use Rattle.call_types.specs.declared.setup.Setup.{Setup}
 use Rattle.binder_model.specs.Promises.{IsRunOf}
 use Rattle.model_laws.proofs.Lists.{none_some, one}
 use Rattle.worker_core.specs.declared.role.Role.{Role}
-use Rattle.worker_threads.specs.declared.drainers.Drainer.{Drainer}
-use Rattle.worker_threads.specs.Drainers.{AreStanding, agent_of, of_kind, roles_for}
-use Rattle.worker_threads.proofs.NewFacts.{new_differ, new_roles_for, new_stand}
-use Rattle.worker_threads.proofs.Resting.{new_rest}
+use Rattle.drain_rounds.specs.declared.drainers.Drainer.{Drainer}
+use Rattle.drain_rounds.specs.Drainers.{AreStanding, agent_of, of_kind, roles_for}
+use Rattle.drain_rounds.proofs.NewFacts.{new_differ, new_roles_for, new_stand}
+use Rattle.drain_rounds.proofs.Resting.{new_rest}
 use Rattle.alike_law.proofs.Rows.{get_mapped}
 use Rattle.settle_law.proofs.Fresh.{fresh_drainers_serve}
 use Rattle.settle_law.proofs.Rounds.{is_agent}

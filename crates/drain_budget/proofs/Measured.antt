@@ -5,10 +5,10 @@ use Rattle.call_types.specs.declared.setup.Setup.{Setup}
 use Rattle.binder_model.specs.Promises.{IsRunOf}
 use Rattle.binder_model.specs.World.{world}
 use Rattle.settle_measure.specs.Measure.{work_left}
-use Rattle.worker_threads.specs.declared.drainers.Drainer.{Drainer}
-use Rattle.worker_threads.specs.Rounds.{Drains, Goes, IsSpent, NothingDue, all_pass}
-use Rattle.worker_threads.proofs.DrainFacts.{drains_grow}
-use Rattle.worker_threads.proofs.RoundFacts.{round_part, same_or_not}
+use Rattle.drain_rounds.specs.declared.drainers.Drainer.{Drainer}
+use Rattle.drain_rounds.specs.Rounds.{Drains, Goes, IsSpent, NothingDue, all_pass}
+use Rattle.drain_rounds.proofs.DrainFacts.{drains_grow}
+use Rattle.drain_rounds.proofs.RoundFacts.{round_part, same_or_not}
 use Rattle.paid_law.proofs.Slots.{older_run}
 use Rattle.all_pay.specs.All.{ImportsAllow}
 use Rattle.all_pay.proofs.Rounds.{rounds_pay}
@@ -19,7 +19,7 @@ use Rattle.drain_budget.specs.Rounds.{MaySettle}
 use Rattle.drain_budget.proofs.Counting.{settles_next}
 use Rattle.drain_budget.specs.Measured.{AreFew, AreQuiet, NoRound, OneMore}
 use Rattle.drain_budget.specs.Budget.{AreAlwaysInOrder}
-use Rattle.worker_threads.proofs.RoundFacts.{round_seats, same_length}
+use Rattle.drain_rounds.proofs.RoundFacts.{round_seats, same_length}
 use Rattle.short_law.specs.Rounds.{names_in, size_of_world}
 use Rattle.settle_measure.specs.Measure.{total}
 use Rattle.model_laws.proofs.Lists.{none_some}

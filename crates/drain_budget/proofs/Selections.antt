@@ -2,9 +2,9 @@
 use Rattle.std.proofs.Common.{refl, arith}
 use Rattle.binder_model.specs.World.{world}
 use Rattle.model_laws.proofs.Histories.{rows_stand_in_order}
-use Rattle.worker_threads.specs.Drainers.{roles_of}
-use Rattle.worker_threads.specs.Rounds.{all_pass}
-use Rattle.worker_threads.proofs.RoundFacts.{roles_built}
+use Rattle.drain_rounds.specs.Drainers.{roles_of}
+use Rattle.drain_rounds.specs.Rounds.{all_pass}
+use Rattle.drain_rounds.proofs.RoundFacts.{roles_built}
 use Rattle.write_count.proofs.Ordered.{nodes_are_few}
 use Rattle.drain_budget.proofs.Claims.{pods_and_claims}
 use Rattle.drain_budget.proofs.Settling.{few_rounds_settle}

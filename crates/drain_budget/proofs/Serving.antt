@@ -16,10 +16,10 @@ use Rattle.model_laws.proofs.Growing.{runs_are_histories}
 use Rattle.model_laws.proofs.Lists.{none_some, one}
 use Rattle.worker_core.specs.declared.role.Role.{Role}
 use Rattle.worker_core.specs.Roles.{IsBuiltKind}
-use Rattle.worker_threads.specs.declared.drainers.Drainer.{Drainer}
-use Rattle.worker_threads.specs.Drainers.{agent_of, roles_of, seats_of}
-use Rattle.worker_threads.specs.Longer.{users_of}
-use Rattle.worker_threads.proofs.RoundFacts.{roles_built, round_grows, round_roles, round_seats, round_users}
+use Rattle.drain_rounds.specs.declared.drainers.Drainer.{Drainer}
+use Rattle.drain_rounds.specs.Drainers.{agent_of, roles_of, seats_of}
+use Rattle.drain_rounds.specs.Longer.{users_of}
+use Rattle.drain_rounds.proofs.RoundFacts.{roles_built, round_grows, round_roles, round_seats, round_users}
 use Rattle.alike_law.proofs.Rows.{get_mapped}
 use Rattle.epoch_law.specs.Epochs.{IsCurrent, TakesNoMore}
 use Rattle.epoch_law.proofs.Epochs.{rounds_keep_epochs}

@@ -6,7 +6,7 @@ use Rattle.binder_model.specs.World.{World, world}
 use Rattle.model_laws.proofs.Histories.{rows_stand_in_order}
 use Rattle.settle_measure.specs.Measure.{claims_in, faults_left, work_left}
 use Rattle.settle_measure.proofs.Bounds.{left_is_bounded}
-use Rattle.worker_threads.proofs.DrainFacts.{drains_grow}
+use Rattle.drain_rounds.proofs.DrainFacts.{drains_grow}
 use Rattle.short_law.specs.Rounds.{size_of_world}
 use Rattle.write_count.specs.Counts.{nodes_in}
 use Rattle.write_count.proofs.Ordered.{nodes_are_few}

@@ -46,12 +46,12 @@ use Rattle.worker_core.specs.Steps.Evidence.{task_kind}
 use Rattle.worker_core.specs.Tasks.{IsFirstOf, IsPodFirst, task_call, task_moved, under_after, with_call, with_task}
 use Rattle.worker_core.proofs.Machines.{KeepsUnder, keeps_under}
 use Rattle.worker_core.proofs.Owning.{stood}
-use Rattle.worker_threads.specs.declared.drainers.Drainer.{Drainer}
-use Rattle.worker_threads.specs.Drainers.{roles_of}
-use Rattle.worker_threads.specs.Rounds.{Asks, Drains, Ends, Goes, IsHeld, IsIdle, IsRound, IsSpent, Lets, NothingDue, Runs, Turns, told_entry}
-use Rattle.worker_threads.proofs.DrainFacts.{drains_grow}
-use Rattle.worker_threads.proofs.RoundFacts.{AreBuilt, round_grows, round_roles}
-use Rattle.worker_threads.proofs.RunFacts.{run_grows, still_role}
+use Rattle.drain_rounds.specs.declared.drainers.Drainer.{Drainer}
+use Rattle.drain_rounds.specs.Drainers.{roles_of}
+use Rattle.drain_rounds.specs.Rounds.{Asks, Drains, Ends, Goes, IsHeld, IsIdle, IsRound, IsSpent, Lets, NothingDue, Runs, Turns, told_entry}
+use Rattle.drain_rounds.proofs.DrainFacts.{drains_grow}
+use Rattle.drain_rounds.proofs.RoundFacts.{AreBuilt, round_grows, round_roles}
+use Rattle.drain_rounds.proofs.RunFacts.{run_grows, still_role}
 use Rattle.paid_law.proofs.Slots.{older_run}
 use Rattle.scheduler_writes.proofs.Begun.{is_scheduler}
 use Rattle.write_count.proofs.Runs.{IsCalled, called_at, run_at}

@@ -7,9 +7,9 @@ use Rattle.binder_model.specs.Due.{IsSettled}
 use Rattle.binder_model.specs.Promises.{IsRunOf}
 use Rattle.binder_model.specs.World.{World, world}
 use Rattle.settle_measure.specs.Measure.{claims_in, faults_left, work_left}
-use Rattle.worker_threads.specs.declared.drainers.Drainer.{Drainer}
-use Rattle.worker_threads.specs.Drainers.{AreAtRest}
-use Rattle.worker_threads.specs.Rounds.{Drains, Lets}
+use Rattle.drain_rounds.specs.declared.drainers.Drainer.{Drainer}
+use Rattle.drain_rounds.specs.Drainers.{AreAtRest}
+use Rattle.drain_rounds.specs.Rounds.{Drains, Lets}
 use Rattle.short_law.specs.Rounds.{size_of_world}
 use Rattle.short_law.specs.Slots.{PassesReads}
 use Rattle.write_count.specs.Counts.{AnnotationsAreInOrder, to_write}

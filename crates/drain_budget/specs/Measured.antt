@@ -19,8 +19,8 @@ use Rattle.binder_model.specs.Told.{SomeOf}
 use Rattle.binder_model.specs.World.{World, world}
 use Rattle.settle_measure.specs.Bounds.{measure}
 use Rattle.settle_measure.specs.Measure.{work_left}
-use Rattle.worker_threads.specs.declared.drainers.Drainer.{Drainer}
-use Rattle.worker_threads.specs.Rounds.{Drains, IsRound, all_pass}
+use Rattle.drain_rounds.specs.declared.drainers.Drainer.{Drainer}
+use Rattle.drain_rounds.specs.Rounds.{Drains, IsRound, all_pass}
 use Rattle.all_pay.specs.All.{ImportsAllow}
 use Rattle.drain_budget.specs.Budget.{AreAlwaysInOrder}
 use Rattle.drain_budget.specs.Drains.{rounds_in}

@@ -12,9 +12,9 @@ use Rattle.binder_model.specs.Promises.{IsRunOf}
 use Rattle.binder_model.specs.World.{world}
 use Rattle.worker_core.specs.declared.role.Role.{Role}
 use Rattle.worker_core.specs.Roles.{IsBuiltKind}
-use Rattle.worker_threads.specs.declared.drainers.Drainer.{Drainer}
-use Rattle.worker_threads.specs.Drainers.{AreAtRest, AreRoles, agent_of, roles_of}
-use Rattle.worker_threads.specs.Rounds.{Drains, IsRound, Lets, all_pass}
+use Rattle.drain_rounds.specs.declared.drainers.Drainer.{Drainer}
+use Rattle.drain_rounds.specs.Drainers.{AreAtRest, AreRoles, agent_of, roles_of}
+use Rattle.drain_rounds.specs.Rounds.{Drains, IsRound, Lets, all_pass}
 use Rattle.write_law.specs.Lasting.{HasLasting}
 use Rattle.epoch_law.specs.Silent.{OnlyOvertakenAreSilent}
 use Rattle.node_law.specs.Nodes.{WasGiven}

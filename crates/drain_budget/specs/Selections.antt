@@ -12,9 +12,9 @@ use Rattle.binder_model.specs.Told.{SomeOf}
 use Rattle.binder_model.specs.World.{world}
 use Rattle.model_laws.specs.Stood.{Stood}
 use Rattle.settle_measure.specs.Measure.{faults_left, work_left}
-use Rattle.worker_threads.specs.declared.drainers.Drainer.{Drainer}
-use Rattle.worker_threads.specs.Drainers.{AreNew, HaveNoEntries, seats_of}
-use Rattle.worker_threads.specs.Rounds.{Drains, all_pass}
+use Rattle.drain_rounds.specs.declared.drainers.Drainer.{Drainer}
+use Rattle.drain_rounds.specs.Drainers.{AreNew, HaveNoEntries, seats_of}
+use Rattle.drain_rounds.specs.Rounds.{Drains, all_pass}
 use Rattle.short_law.specs.Rounds.{size_of_world}
 use Rattle.node_law.specs.Nodes.{WasGiven}
 use Rattle.all_pay.specs.All.{ImportsAllow}

@@ -2,8 +2,8 @@
 use Rattle.std.proofs.Common.{◌≡◌, ℕ, ◌≤◌, ◌<◌, ◌+◌, zero, suc, List, [], ◌∷◌, Some, inl, inr, refl, sym, ap, subst, arith}
 use Rattle.std.specs.Prelude.{slice_get, ⊤}
 use Rattle.model_laws.proofs.Lists.{none_some, one}
-use Rattle.worker_threads.specs.Drainers.{AreSeats, seats_for, seats_from}
-use Rattle.worker_threads.specs.Longer.{IsOneOf}
+use Rattle.drain_rounds.specs.Drainers.{AreSeats, seats_for, seats_from}
+use Rattle.drain_rounds.specs.Longer.{IsOneOf}
 
 -- none of these stands twice
 abbrev pub Apart : List ℕ → Type 0

@@ -17,9 +17,9 @@ use Rattle.model_laws.proofs.Lists.{none_some, one, some_right}
 use Rattle.world_core.specs.declared.drained.Drained.{Drained}
 use Rattle.worker_core.specs.declared.role.Role.{Role}
 use Rattle.worker_core.specs.Roles.{IsBuiltKind}
-use Rattle.worker_threads.specs.Longer.{users_of}
-use Rattle.worker_threads.specs.Rounds.{all_pass}
-use Rattle.worker_threads.proofs.Entries.{users_as_before}
+use Rattle.drain_rounds.specs.Longer.{users_of}
+use Rattle.drain_rounds.specs.Rounds.{all_pass}
+use Rattle.drain_rounds.proofs.Entries.{users_as_before}
 use Rattle.node_law.specs.Nodes.{CreatesNode, WasGiven}
 use Rattle.node_law.proofs.Nodes.{pods_are_on_given_nodes}
 use Rattle.script_text.specs.declared.script.Line.{Line}

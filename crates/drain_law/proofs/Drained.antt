@@ -3,9 +3,9 @@ use Rattle.std.proofs.Common.{◌≡◌, ◌∙◌, ℕ, ◌+◌, ◌-◌, List,
 use Rattle.call_types.specs.declared.entry.Entry.{Entry}
 use Rattle.binder_model.specs.Promises.{IsRunOf}
 use Rattle.worker_core.specs.declared.role.Role.{Role}
-use Rattle.worker_threads.specs.Drainers.{AreSeats, roles_of, seats_for, seats_of}
-use Rattle.worker_threads.specs.Rounds.{all_pass}
-use Rattle.worker_threads.proofs.DrainFacts.{drains_grow, drains_roles, drains_seats}
+use Rattle.drain_rounds.specs.Drainers.{AreSeats, roles_of, seats_for, seats_of}
+use Rattle.drain_rounds.specs.Rounds.{all_pass}
+use Rattle.drain_rounds.proofs.DrainFacts.{drains_grow, drains_roles, drains_seats}
 use Rattle.epoch_law.specs.Silent.{OnlyOvertakenAreSilent}
 use Rattle.settle_law.specs.Settling.{MayDrain}
 use Rattle.settle_law.proofs.Drained.{drained_rounds_last}

@@ -17,8 +17,8 @@ use Rattle.model_laws.proofs.Growing.{older_parts_are_runs}
 use Rattle.object_count.specs.Objects.{asks_create, creations, is_create}
 use Rattle.object_count.proofs.Objects.{objects_are_few}
 use Rattle.world_core.specs.declared.drained.Drained.{Drained}
-use Rattle.worker_threads.specs.Longer.{users_of}
-use Rattle.worker_threads.specs.Rounds.{all_pass}
+use Rattle.drain_rounds.specs.Longer.{users_of}
+use Rattle.drain_rounds.specs.Rounds.{all_pass}
 use Rattle.script_text.specs.declared.script.Line.{Line}
 use Rattle.script_text.specs.declared.script.Line.TheVariants.{Call, Drain, Lose, Restart, Turn}
 use Rattle.script_text.specs.declared.script.Script.{Script}

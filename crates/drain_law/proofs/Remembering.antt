@@ -10,13 +10,13 @@ use Rattle.worker_core.specs.declared.turn.Outcome.TheVariants.{Lost, Told}
 use Rattle.worker_core.specs.Absorbs.{woken}
 use Rattle.worker_core.specs.Memories.{memory_after, memory_of}
 use Rattle.worker_core.specs.States.{ActorState}
-use Rattle.worker_threads.specs.declared.drainers.Drainer.{Drainer}
-use Rattle.worker_threads.specs.Drainers.{seats_of}
-use Rattle.worker_threads.specs.Longer.{HasGrown, IsOneOf}
-use Rattle.worker_threads.specs.Rounds.{Asks, Ends, IsHeld, IsIdle, IsRound, IsSpent, Lets, Runs, Turns, told_entry}
-use Rattle.worker_threads.proofs.Entries.{grown_others}
-use Rattle.worker_threads.proofs.RoundFacts.{one_of_seats, round_grows}
-use Rattle.worker_threads.proofs.RunFacts.{run_grows, still_role, turn_memory, turn_role}
+use Rattle.drain_rounds.specs.declared.drainers.Drainer.{Drainer}
+use Rattle.drain_rounds.specs.Drainers.{seats_of}
+use Rattle.drain_rounds.specs.Longer.{HasGrown, IsOneOf}
+use Rattle.drain_rounds.specs.Rounds.{Asks, Ends, IsHeld, IsIdle, IsRound, IsSpent, Lets, Runs, Turns, told_entry}
+use Rattle.drain_rounds.proofs.Entries.{grown_others}
+use Rattle.drain_rounds.proofs.RoundFacts.{one_of_seats, round_grows}
+use Rattle.drain_rounds.proofs.RunFacts.{run_grows, still_role, turn_memory, turn_role}
 use Rattle.epoch_law.proofs.Awake.{lost_memory, told_memory}
 use Rattle.drain_law.proofs.Apart.{Apart}
 

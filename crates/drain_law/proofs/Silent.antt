@@ -11,12 +11,12 @@ use Rattle.safety_invariant.specs.Holders.{epoch_now}
 use Rattle.safety_invariant.proofs.Holders.{epoch_rises}
 use Rattle.worker_core.specs.declared.role.Role.{Role}
 use Rattle.worker_core.specs.Memories.{Memory, memory_of}
-use Rattle.worker_threads.specs.declared.drainers.Drainer.{Drainer}
-use Rattle.worker_threads.specs.Drainers.{AreSeats, agent_of, roles_of, seats_of}
-use Rattle.worker_threads.specs.Longer.{IsOneOf}
-use Rattle.worker_threads.specs.Rounds.{Drains, Goes, IsSpent, NothingDue, all_pass}
-use Rattle.worker_threads.proofs.DrainFacts.{drains_grow}
-use Rattle.worker_threads.proofs.RoundFacts.{round_seats}
+use Rattle.drain_rounds.specs.declared.drainers.Drainer.{Drainer}
+use Rattle.drain_rounds.specs.Drainers.{AreSeats, agent_of, roles_of, seats_of}
+use Rattle.drain_rounds.specs.Longer.{IsOneOf}
+use Rattle.drain_rounds.specs.Rounds.{Drains, Goes, IsSpent, NothingDue, all_pass}
+use Rattle.drain_rounds.proofs.DrainFacts.{drains_grow}
+use Rattle.drain_rounds.proofs.RoundFacts.{round_seats}
 use Rattle.alike_law.proofs.Rows.{get_mapped}
 use Rattle.epoch_law.specs.Silent.{OnlyOvertakenAreSilent, WasOvertaken}
 use Rattle.epoch_law.proofs.Silent.{rounds_silence_the_overtaken}

@@ -4,7 +4,7 @@ use Rattle.call_types.specs.declared.entry.Entry.{Entry}
 use Rattle.binder_model.specs.Promises.{IsRunOf}
 use Rattle.binder_model.specs.Told.{own}
 use Rattle.worker_core.specs.Memories.{memory_of}
-use Rattle.worker_threads.specs.Drainers.{agent_of, seats_for}
+use Rattle.drain_rounds.specs.Drainers.{agent_of, seats_for}
 use Rattle.script_text.specs.declared.script.Script.{Script}
 use Rattle.script_runs.proofs.Staging.{after_first}
 use Rattle.script_threads.specs.Runs.{progress_after}

@@ -11,8 +11,8 @@ use Rattle.binder_model.specs.Told.{SomeOf, own}
 use Rattle.model_laws.proofs.Evidence.{own_mine}
 use Rattle.model_laws.proofs.Lists.{some_filter, some_map, some_or, some_reverse}
 use Rattle.world_core.specs.declared.drained.Drained.{Drained}
-use Rattle.worker_threads.specs.Longer.{users_of}
-use Rattle.worker_threads.specs.Rounds.{all_pass}
+use Rattle.drain_rounds.specs.Longer.{users_of}
+use Rattle.drain_rounds.specs.Rounds.{all_pass}
 use Rattle.node_law.specs.Nodes.{CreatesNode}
 use Rattle.script_lines.specs.declared.actors.Actor.{Actor}
 use Rattle.script_text.specs.declared.script.Line.{Line}

@@ -4,7 +4,7 @@ use Rattle.std.specs.Prelude.{ℕ, ◌+◌, ◌-◌, List, Option, ⊤}
 use Rattle.call_types.specs.declared.entry.Entry.{Entry}
 use Rattle.binder_model.specs.Promises.{IsRunOf}
 use Rattle.world_core.specs.declared.drained.Drained.{Drained}
-use Rattle.worker_threads.specs.Rounds.{all_pass}
+use Rattle.drain_rounds.specs.Rounds.{all_pass}
 use Rattle.settle_law.specs.Drained.{EachRoundLasts}
 use Rattle.script_text.specs.declared.script.Line.{Line}
 use Rattle.script_text.specs.declared.script.Line.TheVariants.{Call, Drain, Lose, Restart, Turn}

@@ -61,12 +61,12 @@ use Rattle.worker_core.proofs.ByKind.{epoch_stands}
 use Rattle.worker_core.proofs.Machines.{keeps_under}
 use Rattle.worker_core.proofs.Owning.{stood}
 use Rattle.worker_core.proofs.Turning.{turn_stands}
-use Rattle.worker_threads.specs.declared.drainers.Drainer.{Drainer}
-use Rattle.worker_threads.specs.Drainers.{agent_of, roles_of}
-use Rattle.worker_threads.specs.Longer.{GrowsWithin}
-use Rattle.worker_threads.specs.Rounds.{Asks, Ends, IsHeld, IsIdle, IsRound, IsSpent, Lets, Runs, Turns, told_entry}
-use Rattle.worker_threads.proofs.RoundFacts.{AreBuilt, roles_built, round_grows}
-use Rattle.worker_threads.proofs.RunFacts.{run_grows, still_role, turn_memory, turn_role}
+use Rattle.drain_rounds.specs.declared.drainers.Drainer.{Drainer}
+use Rattle.drain_rounds.specs.Drainers.{agent_of, roles_of}
+use Rattle.drain_rounds.specs.Longer.{GrowsWithin}
+use Rattle.drain_rounds.specs.Rounds.{Asks, Ends, IsHeld, IsIdle, IsRound, IsSpent, Lets, Runs, Turns, told_entry}
+use Rattle.drain_rounds.proofs.RoundFacts.{AreBuilt, roles_built, round_grows}
+use Rattle.drain_rounds.proofs.RunFacts.{run_grows, still_role, turn_memory, turn_role}
 use Rattle.slot_law.proofs.Slots.{older, run_older}
 use Rattle.epoch_law.specs.Awake.{AgentsStayAwake, IsAwake}
 use Rattle.epoch_law.specs.Epochs.{IsCurrent, TakesNoMore}

@@ -24,13 +24,13 @@ use Rattle.worker_core.specs.Memories.{Memory, agent_remembers, is_stale_told, m
 use Rattle.worker_core.specs.States.{ActorState}
 use Rattle.worker_core.proofs.Answered.{gives_asked}
 use Rattle.worker_core.proofs.Turning.{turn_stands}
-use Rattle.worker_threads.specs.declared.drainers.Drainer.{Drainer}
-use Rattle.worker_threads.specs.Drainers.{agent_of, seats_of}
-use Rattle.worker_threads.specs.Longer.{HasGrown, IsOneOf}
-use Rattle.worker_threads.specs.Rounds.{Asks, Ends, IsHeld, IsIdle, IsRound, IsSpent, Lets, Runs, Turns, told_entry}
-use Rattle.worker_threads.proofs.Entries.{grown_others}
-use Rattle.worker_threads.proofs.RoundFacts.{round_grows}
-use Rattle.worker_threads.proofs.RunFacts.{run_grows, run_role, still_role, turn_memory, turn_role}
+use Rattle.drain_rounds.specs.declared.drainers.Drainer.{Drainer}
+use Rattle.drain_rounds.specs.Drainers.{agent_of, seats_of}
+use Rattle.drain_rounds.specs.Longer.{HasGrown, IsOneOf}
+use Rattle.drain_rounds.specs.Rounds.{Asks, Ends, IsHeld, IsIdle, IsRound, IsSpent, Lets, Runs, Turns, told_entry}
+use Rattle.drain_rounds.proofs.Entries.{grown_others}
+use Rattle.drain_rounds.proofs.RoundFacts.{round_grows}
+use Rattle.drain_rounds.proofs.RunFacts.{run_grows, run_role, still_role, turn_memory, turn_role}
 use Rattle.epoch_law.specs.Epochs.{IsCurrent}
 use Rattle.epoch_law.specs.Silent.{CurrentAreAwake, OnlyOvertakenAreSilent, OthersSilenceNone, RoundsSilenceTheOvertaken, WasOvertaken}
 use Rattle.epoch_law.proofs.Awake.{asked_fresh, lost_memory, told_memory}

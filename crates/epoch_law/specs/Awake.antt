@@ -4,9 +4,9 @@ use Rattle.std.specs.Prelude.{ℕ, ◌≡◌, ◌⊎◌, Bool, false, List, Some
 use Rattle.call_types.specs.declared.entry.Entry.{Entry}
 use Rattle.call_types.specs.declared.setup.Setup.{Setup}
 use Rattle.binder_model.specs.World.{IsHistory}
-use Rattle.worker_threads.specs.declared.drainers.Drainer.{Drainer}
-use Rattle.worker_threads.specs.Drainers.{AreRoles, agent_of, roles_of}
-use Rattle.worker_threads.specs.Rounds.{IsRound, Lets}
+use Rattle.drain_rounds.specs.declared.drainers.Drainer.{Drainer}
+use Rattle.drain_rounds.specs.Drainers.{AreRoles, agent_of, roles_of}
+use Rattle.drain_rounds.specs.Rounds.{IsRound, Lets}
 use Rattle.epoch_law.specs.Epochs.{IsCurrent, TakesNoMore}
 
 -- the agent of the node is no stale one: it was not told so, and it took no epoch, or the one that the node has

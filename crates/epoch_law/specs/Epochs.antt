@@ -13,9 +13,9 @@ use Rattle.worker_core.specs.declared.turn.Next.TheVariants.{Call}
 use Rattle.worker_core.specs.Roles.{IsBuiltKind}
 use Rattle.worker_core.specs.States.{ActorState}
 use Rattle.worker_core.specs.Turns.{IsTurn}
-use Rattle.worker_threads.specs.declared.drainers.Drainer.{Drainer}
-use Rattle.worker_threads.specs.Drainers.{AreRoles, agent_of, roles_of}
-use Rattle.worker_threads.specs.Rounds.{IsReady, IsRound, Lets}
+use Rattle.drain_rounds.specs.declared.drainers.Drainer.{Drainer}
+use Rattle.drain_rounds.specs.Drainers.{AreRoles, agent_of, roles_of}
+use Rattle.drain_rounds.specs.Rounds.{IsReady, IsRound, Lets}
 
 -- the seat was told no epoch of the node, or the one that the node has
 abbrev pub IsCurrent : Setup → List Entry → List ℕ → ℕ → Type 0

@@ -15,7 +15,7 @@ use Rattle.binder_model.specs.Told.{SomeOf, own}
 use Rattle.binder_model.specs.World.{world}
 use Rattle.safety_invariant.specs.Holders.{Holds}
 use Rattle.worker_core.specs.Memories.{memory_of}
-use Rattle.worker_threads.specs.Drainers.{agent_of}
+use Rattle.drain_rounds.specs.Drainers.{agent_of}
 
 -- the request asks to unmount the pod with this UID
 abbrev pub is_unmount_of : Uid → Request → Bool

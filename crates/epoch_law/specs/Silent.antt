@@ -7,9 +7,9 @@ use Rattle.binder_model.specs.AgentLicence.{last_epoch}
 use Rattle.binder_model.specs.Promises.{IsRunOf}
 use Rattle.binder_model.specs.Told.{own}
 use Rattle.safety_invariant.specs.Holders.{epoch_now}
-use Rattle.worker_threads.specs.declared.drainers.Drainer.{Drainer}
-use Rattle.worker_threads.specs.Drainers.{AreSeats, agent_of, seats_of}
-use Rattle.worker_threads.specs.Rounds.{IsRound, Lets}
+use Rattle.drain_rounds.specs.declared.drainers.Drainer.{Drainer}
+use Rattle.drain_rounds.specs.Drainers.{AreSeats, agent_of, seats_of}
+use Rattle.drain_rounds.specs.Rounds.{IsRound, Lets}
 use Rattle.epoch_law.specs.Awake.{IsAwake}
 use Rattle.epoch_law.specs.Epochs.{IsCurrent}
 

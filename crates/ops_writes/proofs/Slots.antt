@@ -36,11 +36,11 @@ use Rattle.worker_core.specs.Roles.{IsBuiltKind}
 use Rattle.worker_core.specs.States.{ActorState, call_in, read_of_kind, read_request, start_call, start_of}
 use Rattle.worker_core.specs.Tasks.{GivesCall, IsFirstOf, ops_first, under_after}
 use Rattle.worker_core.specs.Turns.{AfterKeys, Decides, IsTurn, TurnBy, passing, unlisted}
-use Rattle.worker_threads.specs.Rounds.{Asks, IsHeld, IsIdle, IsReady, IsSpent, Lets, Runs, told_entry}
-use Rattle.worker_threads.proofs.RunFacts.{run_grows, still_role, turn_role}
-use Rattle.slot_law.specs.Slots.{KnowsBehind, SeesStore}
+use Rattle.drain_rounds.specs.Rounds.{Asks, IsHeld, IsIdle, IsReady, IsSpent, Lets, Runs, told_entry}
+use Rattle.drain_rounds.proofs.RunFacts.{run_grows, still_role, turn_role}
+use Rattle.slot_law.specs.Slots.{KnowsBehind, SeesStore, begun}
 use Rattle.slot_law.proofs.Knowing.{lost_knows, sees, told_knows, turned_knows}
-use Rattle.slot_law.proofs.Slots.{decides_gives, none_lost, none_told, nothing_behind, task_lost, told_under}
+use Rattle.slot_law.proofs.Slots.{begun_behind, decides_gives, none_lost, none_told, task_lost, told_under}
 use Rattle.short_law.specs.Slots.{writes_since}
 use Rattle.write_count.proofs.Failing.{none_begins, under_fails}
 use Rattle.write_count.proofs.Runs.{IsCalled, called_at, run_at, silent_run}
@@ -206,22 +206,28 @@ module _ (setup : Setup) (lets : Lets) (seat : ℕ) (after : ActorState) (past :
       let none = ap under_fails gone in
       omega (arith, later, none)
 
-pub ops_writes_fall : OpsWritesFall
+-- from where nothing is under way
+pub falls_from :
+    (setup : Setup) (lets : Lets) (seat : ℕ) (old after : ActorState) (h past : List Entry) (b left : ℕ) (idle : Bool) → old.role.kind ≡ seats.Ops → IsRunOf setup past → (old.memory.stale ≡ false → old.under ≡ None)
+    → Runs lets seat after past left idle (begun old) h b → writes_since setup h past + ops_writes setup (world setup past) ≤ ops_writes setup (world setup h)
 unfolding low
-ops_writes_fall setup lets seat old after h past b left idle kind run rests runs = by old.memory.stale refl
+falls_from setup lets seat old after h past b left idle kind run rests runs = by old.memory.stale refl
   where
     done : writes_since setup h past + (world setup h).store.version ≡ (world setup past).store.version
-    done = let g = run_grows lets seat after past left idle (woken old) h b runs in counted setup g.longer.added h past g.longer.are
+    done = let g = run_grows lets seat after past left idle (begun old) h b runs in counted setup g.longer.added h past g.longer.are
 
     by : (stale : Bool) → old.memory.stale ≡ stale → writes_since setup h past + ops_writes setup (world setup past) ≤ ops_writes setup (world setup h)
     by true stale =
-        let same = (silent_run setup lets seat after past left idle run (woken old) h b runs stale).0 in
+        let same = (silent_run setup lets seat after past left idle run (begun old) h b runs stale).0 in
         let version = ap (λ es. (world setup es).store.version) same in
         let writes = ap (λ es. ops_writes setup (world setup es)) same in
         let d = done in
         omega (arith, version, writes, d)
     by false fresh =
-        let lower = runs_low setup lets seat after past left idle run (woken old) h b runs kind (nothing_behind setup seat old h) (subst (Fits (world setup h).store.rows) (sym (rests fresh)) tt) in
+        let lower = runs_low setup lets seat after past left idle run (begun old) h b runs kind (begun_behind setup seat old h) (subst (Fits (world setup h).store.rows) (sym (rests fresh)) tt) in
         let none : under_fails old.under ≡ 0 = ap under_fails (rests fresh) in
         let d = done in
         omega (arith, lower, none, d)
+
+pub ops_writes_fall : OpsWritesFall
+ops_writes_fall setup lets seat old after h past b left idle kind run rests runs = falls_from setup lets seat (woken old) after h past b left idle kind run rests runs

@@ -16,7 +16,7 @@ use Rattle.binder_model.specs.World.{World, world}
 use Rattle.settle_measure.specs.Measure.{claims_in, faults_left, total, unless, volumes_in}
 use Rattle.worker_core.specs.Absorbs.{woken}
 use Rattle.worker_core.specs.States.{ActorState}
-use Rattle.worker_threads.specs.Rounds.{Lets, Runs}
+use Rattle.drain_rounds.specs.Rounds.{Lets, Runs}
 use Rattle.short_law.specs.Slots.{writes_since}
 use Rattle.write_count.specs.Counts.{AnnotationsAreInOrder, nodes_in}
 

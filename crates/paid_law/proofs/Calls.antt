@@ -304,7 +304,7 @@ module _ (setup : Setup) (w : World) (kind : SeatKind) where
       by true = omega arith
       by false = le
 
-  calls_rise : (request : Request) → w.devices.calls ≤ (world_after w (effect setup w kind request)).devices.calls
+  pub calls_rise : (request : Request) → w.devices.calls ≤ (world_after w (effect setup w kind request)).devices.calls
   unfolding effect device_answer on_devices world_after set_time watch erase take_node
   calls_rise (requests.Create o) = omega arith
   calls_rise (requests.Update o given) = omega arith

@@ -4,9 +4,9 @@ use Rattle.std.specs.Prelude.{slice_get}
 use Rattle.call_types.specs.declared.entry.Entry.{Entry}
 use Rattle.call_types.specs.declared.setup.Setup.{Setup}
 use Rattle.binder_model.specs.Promises.{IsRunOf}
-use Rattle.worker_threads.specs.declared.drainers.Drainer.{Drainer}
-use Rattle.worker_threads.specs.Rounds.{Ends, IsRound, Lets, Turns}
-use Rattle.worker_threads.proofs.RoundFacts.{round_grows}
+use Rattle.drain_rounds.specs.declared.drainers.Drainer.{Drainer}
+use Rattle.drain_rounds.specs.Rounds.{Ends, IsRound, Lets, Turns}
+use Rattle.drain_rounds.proofs.RoundFacts.{round_grows}
 use Rattle.paid_law.specs.Pays.{HavePaid, IsPayer, RoundsOfPayersPay}
 use Rattle.paid_law.proofs.Entries.{none_paid, then_paid}
 use Rattle.paid_law.proofs.Slots.{older_run, slots_pay}

@@ -30,11 +30,11 @@ use Rattle.worker_core.specs.Roles.{IsBuiltKind}
 use Rattle.worker_core.specs.States.{ActorState, agent_start, call_in, read_of_kind, read_request, start_call, start_of}
 use Rattle.worker_core.specs.Tasks.{under_after}
 use Rattle.worker_core.specs.Turns.{AfterKeys, Decides, IsTurn, TurnBy, passing, unlisted}
-use Rattle.worker_threads.specs.Rounds.{Asks, IsHeld, IsIdle, IsReady, IsSpent, Lets, Runs, told_entry}
-use Rattle.worker_threads.proofs.RunFacts.{run_grows, still_role, turn_role}
-use Rattle.slot_law.specs.Slots.{IsDecisionPoint, KnowsBehind, own_entry}
+use Rattle.drain_rounds.specs.Rounds.{Asks, IsHeld, IsIdle, IsReady, IsSpent, Lets, Runs, told_entry}
+use Rattle.drain_rounds.proofs.RunFacts.{run_grows, still_role, turn_role}
+use Rattle.slot_law.specs.Slots.{IsDecisionPoint, KnowsBehind, begun, own_entry}
 use Rattle.slot_law.proofs.Knowing.{lost_knows, sees, told_knows, turned_knows}
-use Rattle.slot_law.proofs.Slots.{decides_gives, none_lost, none_told, nothing_behind, task_lost, told_under}
+use Rattle.slot_law.proofs.Slots.{begun_behind, decides_gives, none_lost, none_told, task_lost, told_under}
 use Rattle.paid_law.specs.Pays.{DecisionsPay, EachPays, HavePaid, Pays, SlotsPay, WillPay}
 use Rattle.paid_law.proofs.Calls.{NeverLasts, list_never, mounts_never, take_never, watch_never}
 use Rattle.paid_law.proofs.Entries.{none_paid, one_paid, then_paid}
@@ -167,6 +167,12 @@ module _ (setup : Setup) (lets : Lets) (seat : ℕ) (role : Role) (built : IsBui
         let role_next : next.role ≡ role = still_role s given next (Call request) request Lost turn absorbs ∙ is in
         runs_pay next h (b - 1) more role_next (lost_knows setup seat given next request h (turned_knows setup seat s given (Call request) h turn knows) absorbs) (λ fresh. lost_pays given next request h so absorbs)
 
+-- from where nothing is under way
+pub pays_from :
+    (setup : Setup) (lets : Lets) (seat : ℕ) (old after : ActorState) (h past : List Entry) (b left : ℕ) (idle : Bool) → IsBuiltKind old.role.kind → IsRunOf setup past → Runs lets seat after past left idle (begun old) h b
+    → (old.memory.stale ≡ false → old.under ≡ None) → DecisionsPay setup seat old.role → HavePaid setup h past
+pays_from setup lets seat old after h past b left idle built run runs rests decides =
+    runs_pay setup lets seat old.role built decides after past left idle run (begun old) h b runs refl (begun_behind setup seat old h) (λ fresh. subst (PaysUnder setup seat old.role.kind h) (sym (rests fresh)) NothingUnder)
+
 pub slots_pay : SlotsPay
-slots_pay setup lets seat old after h past b left idle built run runs rests decides =
-    runs_pay setup lets seat old.role built decides after past left idle run (woken old) h b runs refl (nothing_behind setup seat old h) (λ fresh. subst (PaysUnder setup seat old.role.kind h) (sym (rests fresh)) NothingUnder)
+slots_pay setup lets seat old after h past b left idle built run runs rests decides = pays_from setup lets seat (woken old) after h past b left idle built run runs rests decides

@@ -31,7 +31,7 @@ use Rattle.std.proofs.lemmas.Option.{slice_get_within}
 use Rattle.model_laws.proofs.Uids.{rises}
 use Rattle.model_laws.proofs.Watched.{logs}
 use Rattle.worker_core.specs.Absorbs.{told_to}
-use Rattle.worker_threads.specs.Rounds.{told_entry}
+use Rattle.drain_rounds.specs.Rounds.{told_entry}
 use Rattle.event_law.proofs.Calls.{Stays, gone_from, listed_from, unread_from, watched_from, world_moves}
 use Rattle.event_law.proofs.Events.{told_so}
 use Rattle.pass_law.specs.Passes.{FirstCallsPay}

@@ -43,7 +43,7 @@ use Rattle.worker_core.specs.Turns.{passing}
 use Rattle.worker_core.proofs.ByKind.{placed, start_reads_none}
 use Rattle.worker_core.proofs.Machines.{KeepsUnder, keeps_under, task_reads_none}
 use Rattle.worker_core.proofs.Owning.{stood}
-use Rattle.worker_threads.specs.Rounds.{told_entry}
+use Rattle.drain_rounds.specs.Rounds.{told_entry}
 use Rattle.slot_law.proofs.Knowing.{watches_from}
 use Rattle.cost_law.specs.Costs.{calls_for}
 use Rattle.cost_law.specs.Tasks.{task_left, under_left}

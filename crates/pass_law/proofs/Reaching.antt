@@ -36,8 +36,8 @@ use Rattle.worker_core.proofs.PassRules.{watches_follow}
 use Rattle.worker_core.proofs.Turning.{turn_stands}
 use Rattle.attention_law.proofs.Kept.{turns_queues}
 use Rattle.attention_law.proofs.Turned.{answer_role, calls_fresh}
-use Rattle.worker_threads.specs.Rounds.{IsReady, told_entry}
-use Rattle.worker_threads.proofs.RunFacts.{turn_memory, turn_role}
+use Rattle.drain_rounds.specs.Rounds.{IsReady, told_entry}
+use Rattle.drain_rounds.proofs.RunFacts.{turn_memory, turn_role}
 use Rattle.event_law.proofs.Calls.{gone_from, listed_from, unread_from, watched_from}
 use Rattle.event_law.proofs.Events.{told_so}
 use Rattle.pass_law.proofs.First.{nil_right}

@@ -53,7 +53,7 @@ use Rattle.model_laws.proofs.Uids.{rises}
 use Rattle.model_laws.proofs.Watched.{logs}
 use Rattle.told_law.proofs.Exact.{filter_passes}
 use Rattle.worker_core.specs.Absorbs.{is_none_of, told_to}
-use Rattle.worker_threads.specs.Rounds.{told_entry}
+use Rattle.drain_rounds.specs.Rounds.{told_entry}
 use Rattle.event_law.proofs.Calls.{Stays, gone_from, listed_from, unread_from, watched_from, world_moves}
 use Rattle.event_law.proofs.Events.{none_pending, told_so}
 use Rattle.pass_law.specs.Passes.{CallsPay}

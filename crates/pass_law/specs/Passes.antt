@@ -25,7 +25,7 @@ use Rattle.worker_core.specs.States.{ActorState, asked}
 use Rattle.worker_core.specs.Turns.{passing}
 use Rattle.worker_core.specs.declared.turn.Given.TheVariants as givens
 use Rattle.worker_core.specs.declared.turn.Outcome.TheVariants.{Told}
-use Rattle.worker_threads.specs.Rounds.{told_entry}
+use Rattle.drain_rounds.specs.Rounds.{told_entry}
 
 -- the call that an actor has given, and the answer that the world gives to it
 pub record IsCallGiven (setup : Setup) (seat : ℕ) (x : ActorState) (request : Request) (reply : Reply) (h : List Entry) : Type 0 where

@@ -43,7 +43,7 @@ pub record IsErasable (w : World) (v : VolumeData) : Type 0 where
   pub short : most < 2 ^ 60
   pub few : AreFew most w.devices.stored
 
-owner : (rows : List Object) → HaveOwnNames rows → (name : List ℕ) (c e : ClaimData) → row_at (key_of (Claim c)) rows ≡ Some (Claim c) → row_at (key_of (Claim e)) rows ≡ Some (Claim e) → is_data_name name c.meta.uid ≡ true → is_data_name name e.meta.uid ≡ true
+pub owner : (rows : List Object) → HaveOwnNames rows → (name : List ℕ) (c e : ClaimData) → row_at (key_of (Claim c)) rows ≡ Some (Claim c) → row_at (key_of (Claim e)) rows ≡ Some (Claim e) → is_data_name name c.meta.uid ≡ true → is_data_name name e.meta.uid ≡ true
     → key_of (Claim c) ≡ key_of (Claim e)
 owner rows names name c e sc se nc ne = by c.meta.uid e.meta.uid refl refl nc ne
   where

@@ -266,7 +266,7 @@ module _ (setup : Setup) (seat : ℕ) (key : Key) (v : VolumeData) where
 -- ---- in a run
 
 -- claims have data of their own names
-own_names : (setup : Setup) (h : List Entry) → IsRunOf setup h → UidsFit setup → HaveOwnNames (world setup h).store.rows
+pub own_names : (setup : Setup) (h : List Entry) → IsRunOf setup h → UidsFit setup → HaveOwnNames (world setup h).store.rows
 own_names setup h run fit c e u v sc se cu eu same =
     let fits = rows_fit setup h run.imports run.short fit in
     let uid : u ≡ v = names_apart u v (fits (key_of (Claim c)) (Claim c) u sc cu) (fits (key_of (Claim e)) (Claim e) v se eu) same in

@@ -7,7 +7,7 @@ use Rattle.call_types.specs.declared.entry.Entry.{Entry}
 use Rattle.call_types.specs.declared.request.SeatKind.{SeatKind}
 use Rattle.binder_model.specs.Answers.{is_user}
 use Rattle.world_core.specs.declared.drained.Drained.{Drained}
-use Rattle.worker_threads.specs.Longer.{IsOneOf, AreToldOf, users_of}
+use Rattle.drain_rounds.specs.Longer.{IsOneOf, AreToldOf, users_of}
 use Rattle.history_laws.specs.Given.{IsNumber, IsRequest}
 use Rattle.script_lines.specs.declared.actors.WorkerKind.{WorkerKind}
 use Rattle.script_lines.specs.declared.actors.WorkerKind.TheVariants as workers
@@ -25,9 +25,9 @@ use Rattle.actor_turns.specs.declared.part.Part.{Part}
 use Rattle.actor_turns.specs.Fates.{fate_of}
 use Rattle.script_runs.specs.Parts.{kind_of_worker, seat_kind_of, drain_seat, part_of, role_of}
 use Rattle.actor_turns.specs.Calls.{seat_at, IsOneMore, IsCallWith, AreCalls, NoCalls, MoreCalls}
-use Rattle.worker_threads.specs.Rounds.{all_pass}
+use Rattle.drain_rounds.specs.Rounds.{all_pass}
 use Rattle.script_runs.proofs.Draining.{drains_at_come_to}
-use Rattle.worker_threads.specs.Drainers.{seats_for}
+use Rattle.drain_rounds.specs.Drainers.{seats_for}
 use Rattle.script_runs.specs.Replays.{Progress, first_progress, IsTurnLine, IsDrainAt, IsMove, AreMoves, NoMoves, MoreMoves, IsReplay}
 use Rattle.printable_law.specs.Laws.{IsAskedGiven, IsGivenRun}
 use Rattle.printable_law.proofs.Runs.{runs_give, run_texts_have_one}

@@ -18,8 +18,8 @@ use Rattle.script_text.specs.Said.{created_node, imported_node, and_node, import
 use Rattle.script_laws.specs.Scripts.{IsScript}
 use Rattle.script_runs.specs.Parts.{is_named, lives_in, all_actors, lives_before, all_lives, drain_seat, part_of}
 use Rattle.actor_turns.specs.Calls.{restarts_before, seat_at}
-use Rattle.worker_threads.specs.Drainers.{seats_for, seats_from}
-use Rattle.worker_threads.specs.Longer.{IsOneOf}
+use Rattle.drain_rounds.specs.Drainers.{seats_for, seats_from}
+use Rattle.drain_rounds.specs.Longer.{IsOneOf}
 use Rattle.history_laws.specs.Given.{IsNumber}
 use Rattle.script_runs.proofs.Casting.{few_restarts, few_lives}
 

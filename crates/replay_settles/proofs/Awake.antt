@@ -19,12 +19,12 @@ use Rattle.model_laws.proofs.Growing.{runs_are_histories}
 use Rattle.model_laws.proofs.Lists.{none_some, one}
 use Rattle.node_agent.specs.HistoryLaw.{is_take_of}
 use Rattle.worker_core.specs.Roles.{IsBuiltKind}
-use Rattle.worker_threads.specs.declared.drainers.Drainer.{Drainer}
-use Rattle.worker_threads.specs.Drainers.{AreRoles, agent_of, roles_of, seats_for, seats_of}
-use Rattle.worker_threads.specs.Longer.{IsOneOf}
-use Rattle.worker_threads.specs.Rounds.{Drains, Goes, IsSpent, NothingDue, all_pass}
-use Rattle.worker_threads.proofs.DrainFacts.{drains_grow}
-use Rattle.worker_threads.proofs.RoundFacts.{round_roles, round_seats}
+use Rattle.drain_rounds.specs.declared.drainers.Drainer.{Drainer}
+use Rattle.drain_rounds.specs.Drainers.{AreRoles, agent_of, roles_of, seats_for, seats_of}
+use Rattle.drain_rounds.specs.Longer.{IsOneOf}
+use Rattle.drain_rounds.specs.Rounds.{Drains, Goes, IsSpent, NothingDue, all_pass}
+use Rattle.drain_rounds.proofs.DrainFacts.{drains_grow}
+use Rattle.drain_rounds.proofs.RoundFacts.{round_roles, round_seats}
 use Rattle.epoch_law.specs.Epochs.{IsCurrent}
 use Rattle.epoch_law.proofs.Epochs.{epochs_stay, rounds_keep_epochs}
 use Rattle.settle_law.proofs.Paying.{run_of_older}

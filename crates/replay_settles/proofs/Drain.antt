@@ -9,9 +9,9 @@ use Rattle.binder_model.specs.Due.{IsSettled}
 use Rattle.binder_model.specs.Promises.{IsRunOf}
 use Rattle.binder_model.specs.Told.{SomeOf}
 use Rattle.binder_model.specs.World.{world}
-use Rattle.worker_threads.specs.declared.drainers.Drainer.{Drainer}
-use Rattle.worker_threads.specs.Drainers.{AreAtRest, agent_of}
-use Rattle.worker_threads.specs.Rounds.{all_pass}
+use Rattle.drain_rounds.specs.declared.drainers.Drainer.{Drainer}
+use Rattle.drain_rounds.specs.Drainers.{AreAtRest, agent_of}
+use Rattle.drain_rounds.specs.Rounds.{all_pass}
 use Rattle.alike_law.proofs.Rows.{get_mapped}
 use Rattle.node_law.specs.Nodes.{WasGiven}
 use Rattle.settle_law.specs.Rounds.{HasCurrent}

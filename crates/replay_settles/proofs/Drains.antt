@@ -1,20 +1,21 @@
 -- Each round of a script's drains makes few calls: few objects stand in the worlds of a script.
-use Rattle.std.proofs.Common.{◌≡◌, ◌∙◌, ℕ, ◌+◌, ◌-◌, ◌≤◌, List, ◌++◌, append_assoc, length, Option, refl, sym, ap, subst, arith}
+use Rattle.std.proofs.Common.{◌≡◌, ◌∙◌, ℕ, ◌+◌, ◌-◌, ◌≤◌, List, ◌++◌, append_assoc, length, Option, sym, ap, subst, arith}
 use Rattle.std.proofs.lemmas.List.{length-map}
 use Rattle.call_types.specs.declared.entry.Entry.{Entry}
 use Rattle.call_types.specs.declared.setup.Setup.{Setup}
 use Rattle.binder_model.specs.Promises.{IsRunOf}
 use Rattle.binder_model.specs.World.{world}
-use Rattle.worker_threads.specs.declared.drainers.Drainer.{Drainer}
-use Rattle.worker_threads.specs.Drainers.{AreSeats, agent_of}
-use Rattle.worker_threads.specs.Rounds.{Drains, Goes, IsSpent, Lets, NothingDue, all_pass}
-use Rattle.worker_threads.proofs.DrainFacts.{drains_grow}
+use Rattle.drain_rounds.specs.declared.drainers.Drainer.{Drainer}
+use Rattle.drain_rounds.specs.Drainers.{AreSeats, agent_of}
+use Rattle.drain_rounds.specs.Rounds.{Drains, Goes, IsSpent, Lets, NothingDue, all_pass}
+use Rattle.drain_rounds.proofs.DrainFacts.{drains_grow}
+use Rattle.slot_law.proofs.Held.{all_holds}
 use Rattle.settle_law.specs.Settling.{MayDrain}
 use Rattle.settle_law.proofs.Paying.{run_of_older}
 use Rattle.all_pay.specs.All.{ImportsAllow}
 use Rattle.drain_budget.specs.Budget.{AreAlwaysInOrder}
-use Rattle.short_rounds.specs.ShortRounds.{EachLaterRoundIsShort, EachRoundIsShort, HasShortRounds}
-use Rattle.short_rounds.proofs.Short.{drained_rounds_are_short, later_rounds_are_short}
+use Rattle.short_rounds.specs.ShortRounds.{EachRoundIsShort, HasShortRounds}
+use Rattle.every_round.proofs.Drains.{every_drained_round_is_short}
 use Rattle.printable_law.specs.Laws.{IsGivenRun}
 use Rattle.replay_settles.proofs.Given.{given_imports_fit, given_runs_stay_in_order}
 use Rattle.script_text.specs.declared.script.Line.{Line}
@@ -30,7 +31,7 @@ use Rattle.drain_law.specs.Objects.{HasFewObjectsThroughout}
 use Rattle.drain_law.proofs.Apart.{seats_differ}
 use Rattle.drain_law.proofs.Moves.{move_grows, moves_grow}
 use Rattle.drain_law.proofs.Objects.{replayed_objects_are_few, threaded_objects_are_few}
-use Rattle.replay_settles.specs.Short.{DrainIsShort, EachLaterRoundMakesFew, EachRoundMakesFew, MoveIsShort, MovesAreShort, ReplayedDrainsAreShort, ThreadedDrainsAreShort}
+use Rattle.replay_settles.specs.Short.{DrainIsShort, EachRoundMakesFew, MoveIsShort, MovesAreShort, ReplayedDrainsAreShort, ThreadedDrainsAreShort}
 
 -- ---- earlier parts of a history
 
@@ -65,10 +66,7 @@ module _ (setup : Setup) (lets : Lets) (after : List Drainer) (past : List Entry
       let g = drains_grow lets setup after past left ds h b (Goes first due some between middle rest whole round more) in
       (short.0 (always g.longer.added h g.longer.are), rounds_make_few between middle rest more short.1)
 
-  later_make_few : (ds : List Drainer) (h : List Entry) (b : ℕ) (drained : Drains lets setup after past left ds h b) → EachLaterRoundIsShort lets setup after past left ds h b drained → EachLaterRoundMakesFew lets setup after past left ds h b drained
-  later_make_few ds h b (NothingDue settled same entries rest) short = tt
-  later_make_few ds h b (IsSpent first due none same entries rest) short = tt
-  later_make_few ds h b (Goes first due some between middle rest whole round more) short = rounds_make_few between middle rest more short
+-- ---- a drain of a script
 
 module _ (script : Script) (first : ℕ) (option : Option ℕ) (before after : Progress) (d : IsDrainAt all_pass script first option before after) (readable : IsReadable script) (allow : ImportsAllow script.setup) (run : IsRunOf script.setup after.past) (order : AreAlwaysInOrder script.setup after.past) (always : AlwaysHasShortRounds script.setup after.past) where
   past_is : after.past ≡ d.past
@@ -99,14 +97,9 @@ module _ (script : Script) (first : ℕ) (option : Option ℕ) (before after : P
   always_there = subst (AlwaysHasShortRounds script.setup) past_is always
 
   drain_is_short : DrainIsShort script first option before after d
-  drain_is_short = record {
-    rested = λ rests.
-        rounds_make_few script.setup all_pass d.ran d.past (d.budget - (before.drained + d.made)) always_there d.drainers before.past (d.budget - before.drained) d.rounds
-        (drained_rounds_are_short script.setup all_pass d.drainers d.ran before.past d.past (d.budget - before.drained) (d.budget - (before.drained + d.made)) allow may_begin rests run_there (λ h request. refl) order_there few d.rounds);
-    later =
-        later_make_few script.setup all_pass d.ran d.past (d.budget - (before.drained + d.made)) always_there d.drainers before.past (d.budget - before.drained) d.rounds
-        (later_rounds_are_short script.setup all_pass d.drainers d.ran before.past d.past (d.budget - before.drained) (d.budget - (before.drained + d.made)) allow may_begin run_there (λ h request. refl) order_there few d.rounds);
-  }
+  drain_is_short =
+      rounds_make_few script.setup all_pass d.ran d.past (d.budget - (before.drained + d.made)) always_there d.drainers before.past (d.budget - before.drained) d.rounds
+      (every_drained_round_is_short script.setup all_pass d.drainers d.ran before.past d.past (d.budget - before.drained) (d.budget - (before.drained + d.made)) allow may_begin run_there all_holds order_there few d.rounds)
 
 -- ---- the lines
 

@@ -16,8 +16,8 @@ use Rattle.object_laws.specs.Given.{IsGivenObject, IsUid}
 use Rattle.printable_law.specs.Laws.{IsAskedGiven}
 use Rattle.printable_law.proofs.Runs.{past_given}
 use Rattle.settle_measure.proofs.Sums.{found_in}
-use Rattle.worker_threads.proofs.DrainFacts.{drains_grow}
-use Rattle.worker_threads.specs.Rounds.{all_pass}
+use Rattle.drain_rounds.proofs.DrainFacts.{drains_grow}
+use Rattle.drain_rounds.specs.Rounds.{all_pass}
 use Rattle.paid_law.proofs.Slots.{older_run}
 use Rattle.drain_budget.proofs.Fresh.{new_drains_settle}
 use Rattle.replay_settles.specs.Given.{GivenDrainsSettle, GivenImportsFit, GivenRunsStayInOrder}

@@ -6,7 +6,7 @@ use Rattle.std.proofs.lemmas.Cmp.{nat_list_cmp_total, tied_itself}
 use Rattle.plain_data.specs.Pairs.{text_cmp}
 use Rattle.plain_data.specs.Rows.{IsAfter}
 use Rattle.model_laws.proofs.Lists.{none_some, one}
-use Rattle.worker_threads.specs.Drainers.{roles_for}
+use Rattle.drain_rounds.specs.Drainers.{roles_for}
 use Rattle.script_runs.specs.Limits.{NamesAreInOrder}
 use Rattle.drain_budget.specs.Rounds.{AreNodesApart}
 use Rattle.drain_budget.proofs.Fresh.{agents_apart}

@@ -6,8 +6,8 @@ use Rattle.binder_model.specs.World.{world}
 use Rattle.settle_check.proofs.Settled.{not_settled}
 use Rattle.world_core.specs.declared.drained.Drained.{Drained}
 use Rattle.world_core.specs.declared.drained.Drained.TheVariants.{Settled, Spent}
-use Rattle.worker_threads.specs.Rounds.{all_pass}
-use Rattle.worker_threads.proofs.DrainFacts.{drains_grow}
+use Rattle.drain_rounds.specs.Rounds.{all_pass}
+use Rattle.drain_rounds.proofs.DrainFacts.{drains_grow}
 use Rattle.printable_law.specs.Laws.{IsGivenRun}
 use Rattle.script_text.specs.declared.script.Script.{Script}
 use Rattle.script_runs.specs.Parts.{drain_seat}

@@ -7,8 +7,8 @@ use Rattle.binder_model.specs.Due.{IsSettled}
 use Rattle.binder_model.specs.World.{world}
 use Rattle.history_laws.specs.Given.{IsSetup}
 use Rattle.printable_law.specs.Laws.{IsGivenRun}
-use Rattle.worker_threads.specs.declared.drainers.Drainer.{Drainer}
-use Rattle.worker_threads.specs.Rounds.{Drains, all_pass}
+use Rattle.drain_rounds.specs.declared.drainers.Drainer.{Drainer}
+use Rattle.drain_rounds.specs.Rounds.{Drains, all_pass}
 use Rattle.payer_law.specs.Reclaiming.{UidsFit}
 use Rattle.drain_budget.specs.Budget.{AreAlwaysInOrder}
 use Rattle.drain_budget.specs.Selections.{AreFresh, HasBudget, NoneProvisionsLate}

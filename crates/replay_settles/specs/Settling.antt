@@ -10,7 +10,7 @@ use Rattle.epoch_law.specs.Epochs.{IsCurrent}
 use Rattle.settle_measure.specs.Measure.{faults_left}
 use Rattle.world_core.specs.declared.drained.Drained.{Drained}
 use Rattle.world_core.specs.declared.drained.Drained.TheVariants.{Settled}
-use Rattle.worker_threads.specs.Drainers.{agent_of, seats_for}
+use Rattle.drain_rounds.specs.Drainers.{agent_of, seats_for}
 use Rattle.short_law.specs.Rounds.{size_of_world}
 use Rattle.drain_budget.specs.Budget.{IsSmallWorld, enough_calls}
 use Rattle.drain_budget.specs.Measured.{SharesWell}

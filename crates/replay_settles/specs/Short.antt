@@ -5,9 +5,8 @@ use Rattle.call_types.specs.declared.entry.Entry.{Entry}
 use Rattle.call_types.specs.declared.setup.Setup.{Setup}
 use Rattle.binder_model.specs.World.{world}
 use Rattle.world_core.specs.declared.drained.Drained.{Drained}
-use Rattle.worker_threads.specs.declared.drainers.Drainer.{Drainer}
-use Rattle.worker_threads.specs.Drainers.{AreAtRest}
-use Rattle.worker_threads.specs.Rounds.{Drains, Goes, IsSpent, Lets, NothingDue, all_pass}
+use Rattle.drain_rounds.specs.declared.drainers.Drainer.{Drainer}
+use Rattle.drain_rounds.specs.Rounds.{Drains, Goes, IsSpent, Lets, NothingDue, all_pass}
 use Rattle.short_rounds.specs.ShortRounds.{stated_calls}
 use Rattle.printable_law.specs.Laws.{IsGivenRun}
 use Rattle.script_text.specs.declared.script.Line.{Line}
@@ -26,18 +25,9 @@ EachRoundMakesFew lets setup after past left ds h b (IsSpent first due none same
 EachRoundMakesFew lets setup after past left ds h b (Goes first due some between middle rest whole round more) =
     (b ≤ rest + stated_calls setup (world setup h)) × EachRoundMakesFew lets setup after past left between middle rest more
 
--- each behind the first does
-abbrev pub EachLaterRoundMakesFew : (lets : Lets) (setup : Setup) (after : List Drainer) (past : List Entry) (left : ℕ) (ds : List Drainer) (h : List Entry) (b : ℕ) → Drains lets setup after past left ds h b → Type 0
-EachLaterRoundMakesFew lets setup after past left ds h b (NothingDue settled same entries rest) = ⊤
-EachLaterRoundMakesFew lets setup after past left ds h b (IsSpent first due none same entries rest) = ⊤
-EachLaterRoundMakesFew lets setup after past left ds h b (Goes first due some between middle rest whole round more) = EachRoundMakesFew lets setup after past left between middle rest more
-
--- each round of the drain makes no more than the stated number of calls: each behind the first, and the first too where the actors of the
--- drain begin it with nothing under way, as they do where a budget was given and is not spent (`rests` of `IsDrainAt`), and where each drain
--- before has left calls (`unspent` there)
-pub record DrainIsShort (script : Script) (first : ℕ) (option : Option ℕ) (before after : Progress) (d : IsDrainAt all_pass script first option before after) : Type 0 where
-  pub rested : AreAtRest d.drainers → EachRoundMakesFew all_pass script.setup d.ran d.past (d.budget - (before.drained + d.made)) d.drainers before.past (d.budget - before.drained) d.rounds
-  pub later : EachLaterRoundMakesFew all_pass script.setup d.ran d.past (d.budget - (before.drained + d.made)) d.drainers before.past (d.budget - before.drained) d.rounds
+-- so does each of this drain, whatever its actors have under way as it begins
+abbrev pub DrainIsShort : (script : Script) (first : ℕ) (option : Option ℕ) (before after : Progress) → IsDrainAt all_pass script first option before after → Type 0
+DrainIsShort script first option before after d = EachRoundMakesFew all_pass script.setup d.ran d.past (d.budget - (before.drained + d.made)) d.drainers before.past (d.budget - before.drained) d.rounds
 
 -- so of what a line does, which only a drain line says anything of
 abbrev pub MoveIsShort : (script : Script) (option : Option ℕ) (line : Line) (before after : Progress) → IsMove script option line before after → Type 0

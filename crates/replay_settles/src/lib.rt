@@ -11,10 +11,8 @@
 //!
 //! Of such a replay each round of each of its drains makes at most 256 calls for each object and each claim that a pod
 //! names, for each planned fault that is ahead, and for 16 more (`replayed_drains_are_short`); and so does each round
-//! of the drain with which a run on threads ends (`threaded_drains_are_short`). The first round of a drain only where
-//! its actors begin it with nothing under way, as they do where each drain before has left calls, or where a budget was
-//! given and is not spent. Nothing is asked of the sizes: at most 2,048 objects ever stand, twice what the script may
-//! import and create.
+//! of the drain with which a run on threads ends (`threaded_drains_are_short`), whatever its actors have under way as it
+//! begins. Nothing is asked of the sizes: at most 2,048 objects ever stand, twice what the script may import and create.
 //!
 //! It rests on what a text can give: the annotations of claims are in order in each world of such a run
 //! (`given_runs_stay_in_order`), and the UIDs of its imports have 128 bits (`given_imports_fit`). So a drain of new

@@ -8,12 +8,12 @@ use Rattle.binder_model.specs.World.{IsHistory, world}
 use Rattle.model_laws.proofs.Lists.{none_some, one}
 use Rattle.worker_core.specs.Absorbs.{woken}
 use Rattle.worker_core.specs.States.{ActorState}
-use Rattle.worker_threads.specs.declared.drainers.Drainer.{Drainer}
-use Rattle.worker_threads.specs.Drainers.{seats_of}
-use Rattle.worker_threads.specs.Longer.{GrowsWithin}
-use Rattle.worker_threads.specs.Rounds.{Ends, IsRound, Lets, Runs, Turns}
-use Rattle.worker_threads.proofs.RoundFacts.{round_grows}
-use Rattle.worker_threads.proofs.RunFacts.{run_grows}
+use Rattle.drain_rounds.specs.declared.drainers.Drainer.{Drainer}
+use Rattle.drain_rounds.specs.Drainers.{seats_of}
+use Rattle.drain_rounds.specs.Longer.{GrowsWithin}
+use Rattle.drain_rounds.specs.Rounds.{Ends, IsRound, Lets, Runs, Turns}
+use Rattle.drain_rounds.proofs.RoundFacts.{round_grows}
+use Rattle.drain_rounds.proofs.RunFacts.{run_grows}
 use Rattle.write_law.specs.Lasting.{HasLasting, LastsBetween}
 use Rattle.alike_law.specs.Alike.{AreAlike}
 use Rattle.alike_law.proofs.Calls.{entries_last_or_leave_alike, then_alike}

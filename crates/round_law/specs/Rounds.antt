@@ -9,8 +9,8 @@ use Rattle.call_types.specs.declared.setup.Setup.{Setup}
 use Rattle.binder_model.specs.Reading.{follows}
 use Rattle.binder_model.specs.World.{IsHistory, world}
 use Rattle.worker_core.specs.Roles.{IsBuiltKind}
-use Rattle.worker_threads.specs.declared.drainers.Drainer.{Drainer}
-use Rattle.worker_threads.specs.Rounds.{IsRound, Lets}
+use Rattle.drain_rounds.specs.declared.drainers.Drainer.{Drainer}
+use Rattle.drain_rounds.specs.Rounds.{IsRound, Lets}
 use Rattle.write_law.specs.Lasting.{HasLasting}
 use Rattle.slot_law.specs.Slots.{ActsOn}
 

@@ -1,6 +1,6 @@
--- A slot of a scheduler in which no call is held back: each of its calls reads, or is of what is under way, which costs no more writes than
+-- A slot of a scheduler in which no call of it is held back: each of its calls reads, or is of what is under way, which costs no more writes than
 -- the pods may.
-use Rattle.std.proofs.Common.{◌≡◌, ◌∙◌, ℕ, ◌+◌, ◌-◌, ◌≤◌, List, ◌∷◌, Bool, true, false, true≢false, Option, Some, None, inl, inr, refl, sym, ap, subst, arith, if◌then◌else◌}
+use Rattle.std.proofs.Common.{◌≡◌, ◌≢◌, ◌∙◌, ℕ, ◌+◌, ◌-◌, ◌≤◌, List, ◌∷◌, Bool, true, false, true≢false, Option, Some, None, inl, inr, refl, sym, ap, subst, arith, if◌then◌else◌}
 use Rattle.std.specs.Prelude.{nat_lt}
 use Rattle.kube_types.specs.declared.names.Field.TheVariants as fields
 use Rattle.kube_types.specs.declared.parts.Kind.{Kind}
@@ -37,11 +37,13 @@ use Rattle.worker_core.specs.Roles.{IsBuiltKind}
 use Rattle.worker_core.specs.States.{ActorState, call_in, read_of_kind, read_request, start_call, start_of}
 use Rattle.worker_core.specs.Tasks.{under_after}
 use Rattle.worker_core.specs.Turns.{AfterKeys, Decides, IsTurn, TurnBy, passing, unlisted}
-use Rattle.worker_threads.specs.Rounds.{Asks, IsHeld, IsIdle, IsReady, IsSpent, Lets, Runs, told_entry}
-use Rattle.worker_threads.proofs.RunFacts.{run_grows, still_role, turn_role}
-use Rattle.slot_law.specs.Slots.{IsDecisionPoint, KnowsBehind, own_entry}
+use Rattle.drain_rounds.specs.Rounds.{Asks, IsHeld, IsIdle, IsReady, IsSpent, Lets, Runs, told_entry}
+use Rattle.drain_rounds.proofs.RunFacts.{run_grows, still_role, turn_role}
+use Rattle.slot_law.specs.Gates.{HoldsMountsAlone}
+use Rattle.slot_law.specs.Slots.{IsDecisionPoint, KnowsBehind, begun, own_entry}
+use Rattle.slot_law.proofs.Held.{others_pass}
 use Rattle.slot_law.proofs.Knowing.{sees, told_knows}
-use Rattle.slot_law.proofs.Slots.{decides_gives, nothing_behind}
+use Rattle.slot_law.proofs.Slots.{begun_behind, decides_gives}
 use Rattle.paid_law.proofs.Slots.{older_run}
 use Rattle.scheduler_writes.specs.Pods.{pods_writes}
 use Rattle.scheduler_slots.specs.Slots.{PassedSchedulersWriteLittle}
@@ -66,6 +68,10 @@ module _ (setup : Setup) (w : World) (kind : SeatKind) where
       by true gone = refl
       by false true = refl
       by false false = refl
+
+abbrev is_scheduler : SeatKind → Bool
+is_scheduler seats.Scheduler = true
+is_scheduler kind = false
 
 module _ (setup : Setup) (seat : ℕ) (role : Role) (kind : role.kind ≡ seats.Scheduler) (pass : ImportsPass setup.imports) (bound : ℕ) where
   -- the version and what is still to be written are within the bound
@@ -165,11 +171,18 @@ module _ (setup : Setup) (seat : ℕ) (role : Role) (kind : role.kind ≡ seats.
             let costs = ap (λ t. costs_on t.rows) same in
             omega (arith, le, version, costs)
 
-  module _ (lets : Lets) (passes : (g : List Entry) (request : Request) → lets g request ≡ true) (after_ : ActorState) (past : List Entry) (left : ℕ) (idle : Bool) (run : IsRunOf setup past) where
+  module _ (lets : Lets) (holds : HoldsMountsAlone lets) (after_ : ActorState) (past : List Entry) (left : ℕ) (idle : Bool) (run : IsRunOf setup past) where
+    built : (s : ActorState) → s.role ≡ role → IsBuiltKind s.role.kind
+    built s is = subst (λ (r : Role). IsBuiltKind r.kind) (sym is) (subst IsBuiltKind (sym kind) tt)
+
+    not_agent : (s : ActorState) → s.role ≡ role → s.role.kind ≢ seats.Agent
+    not_agent s is agent = true≢false (sym (ap is_scheduler (ap (λ (r : Role). r.kind) is ∙ kind)) ∙ ap is_scheduler agent)
+
     runs_low : (s : ActorState) (h : List Entry) (b : ℕ) → Runs lets seat after_ past left idle s h b → s.role ≡ role → KnowsBehind setup seat s.role s.pass h → (world setup h).store.version ≤ bound → (s.memory.stale ≡ false → IsWithin h s.under) → (world setup past).store.version ≤ bound
     runs_low s h b (IsSpent spent state entries rest busy) is knows le within = subst (λ es. (world setup es).store.version ≤ bound) (sym entries) le
     runs_low s h b (IsIdle some ready turn entries rest calm) is knows le within = subst (λ es. (world setup es).store.version ≤ bound) (sym entries) le
-    runs_low s h b (IsHeld given next request some ready turn held absorbs more) is knows le within = absurd (true≢false (sym (passes h request) ∙ held))
+    runs_low s h b (IsHeld given next request some ready turn held absorbs more) is knows le within =
+        absurd (true≢false (sym (others_pass lets seat s given request h holds (built s is) (not_agent s is) ready turn) ∙ held))
     runs_low s h b (Asks given next request reply some ready turn lets_it absorbs more) is knows le within =
         let g = run_grows lets seat after_ past left idle next (told_entry seat given request reply ∷ h) (b - 1) more in
         let whole = runs_are_histories setup (told_entry seat given request reply ∷ h) (older_run setup g.longer.added (told_entry seat given request reply ∷ h) (subst (IsRunOf setup) g.longer.are run)).run in
@@ -178,11 +191,17 @@ module _ (setup : Setup) (seat : ℕ) (role : Role) (kind : role.kind ≡ seats.
         let so = calls_so s given request h is whole.0 ready turn knows (within (calls_fresh s given request turn)) in
         let on = goes_on given next request reply h of_kind whole.1 absorbs so in
         runs_low next (told_entry seat given request reply ∷ h) (b - 1) more (still_role s given next (Call request) request (Told reply) turn absorbs ∙ is)
-        (told_knows setup seat s given request reply h (subst (λ (r : Role). IsBuiltKind r.kind) (sym is) (subst IsBuiltKind (sym kind) tt)) ready turn whole knows next absorbs) (low (told_entry seat given request reply ∷ h) next.under on) (λ fresh. on)
+        (told_knows setup seat s given request reply h (built s is) ready turn whole knows next absorbs) (low (told_entry seat given request reply ∷ h) next.under on) (λ fresh. on)
 
-pub passed_schedulers_write_little : PassedSchedulersWriteLittle
-passed_schedulers_write_little setup lets seat old after_ h past b left idle kind run passes rests runs =
+-- from where nothing is under way
+pub writes_from :
+    (setup : Setup) (lets : Lets) (seat : ℕ) (old after : ActorState) (h past : List Entry) (b left : ℕ) (idle : Bool) → old.role.kind ≡ seats.Scheduler → IsRunOf setup past → HoldsMountsAlone lets → (old.memory.stale ≡ false → old.under ≡ None)
+    → Runs lets seat after past left idle (begun old) h b → (world setup past).store.version ≤ (world setup h).store.version + pods_writes (world setup h)
+writes_from setup lets seat old after_ h past b left idle kind run holds rests runs =
     let costs = costs_bounded (world setup h).store.rows in
     let bound = (world setup h).store.version + pods_writes (world setup h) in
-    runs_low setup seat old.role kind run.imports bound lets passes after_ past left idle run (woken old) h b runs refl (nothing_behind setup seat old h) (omega arith)
+    runs_low setup seat old.role kind run.imports bound lets holds after_ past left idle run (begun old) h b runs refl (begun_behind setup seat old h) (omega arith)
     (λ fresh. subst (IsWithin setup seat old.role kind run.imports bound h) (sym (rests fresh)) (Rests (omega (arith, costs))))
+
+pub passed_schedulers_write_little : PassedSchedulersWriteLittle
+passed_schedulers_write_little setup lets seat old after h past b left idle kind run holds rests runs = writes_from setup lets seat (woken old) after h past b left idle kind run holds rests runs

@@ -12,7 +12,7 @@ use Rattle.binder_model.specs.World.{World, world}
 use Rattle.settle_measure.specs.Measure.{total}
 use Rattle.worker_core.specs.Absorbs.{woken}
 use Rattle.worker_core.specs.States.{ActorState}
-use Rattle.worker_threads.specs.Rounds.{Lets, Runs}
+use Rattle.drain_rounds.specs.Rounds.{Lets, Runs}
 
 -- a pod that no node runs is bound to one, or for each of its claims a volume or a node is written
 abbrev pub pod_writes : Object → ℕ

@@ -1,7 +1,6 @@
 -- What the moves of a script leave standing.
-use Rattle.std.proofs.Common.{◌≡◌, ◌≢◌, ◌⊎◌, ℕ, ◌<◌, ◌≤◌, ◌+◌, ◌-◌, zero, suc, List, [], ◌∷◌, ◌++◌, length, set, Bool, true, false, true≢false, Option, Some, None, inl, inr, refl, sym, ◌∙◌, ap, subst, arith, if◌then◌else◌}
-use Rattle.std.specs.Prelude.{◌==◌, ◌&&◌, bytes_eq, nat_lt, slice_get}
-use Rattle.std.proofs.lemmas.Bool.{ltb-true}
+use Rattle.std.proofs.Common.{◌≡◌, ◌≢◌, ◌⊎◌, ℕ, ◌<◌, ◌≤◌, ◌+◌, ◌-◌, zero, suc, List, [], ◌∷◌, ◌++◌, length, set, Bool, true, false, Option, Some, None, inl, inr, refl, sym, ◌∙◌, ap, subst, arith, if◌then◌else◌}
+use Rattle.std.specs.Prelude.{◌==◌, bytes_eq, slice_get}
 use Rattle.std.proofs.lemmas.Bool.Decides.{Decides-eqb}
 use Rattle.std.proofs.lemmas.Slice.Eq.{bytes_eq-Decides}
 use Rattle.std.proofs.lemmas.Option.{slice_get_within}
@@ -12,10 +11,10 @@ use Rattle.call_types.specs.declared.reply.Reply.{Reply}
 use Rattle.binder_model.specs.Told.{own}
 use Rattle.model_laws.proofs.Evidence.{own_other}
 use Rattle.model_laws.proofs.Lists.{none_some, one}
-use Rattle.worker_threads.specs.declared.drainers.Drainer.{Drainer}
-use Rattle.worker_threads.specs.Drainers.{AreAtRest, AreStanding, StandsWhole, roles_of, seats_for, seats_from, seats_of}
-use Rattle.worker_threads.specs.Longer.{IsOneOf}
-use Rattle.worker_threads.specs.Rounds.{Drains, all_pass}
+use Rattle.drain_rounds.specs.declared.drainers.Drainer.{Drainer}
+use Rattle.drain_rounds.specs.Drainers.{AreAtRest, AreStanding, StandsWhole, roles_of, seats_for, seats_from, seats_of}
+use Rattle.drain_rounds.specs.Longer.{IsOneOf}
+use Rattle.drain_rounds.specs.Rounds.{Drains, all_pass}
 use Rattle.script_text.specs.declared.script.Script.{Script}
 use Rattle.actor_turns.specs.declared.part.Part.{Part}
 use Rattle.actor_turns.specs.declared.player.Player.{Player}
@@ -39,10 +38,10 @@ use Rattle.script_runs.specs.Steps.Standing.{HasMoved, IsBudget, Leads, StageSta
 use Rattle.script_runs.proofs.Casting.{in_order, names_differ, names_in}
 use Rattle.actor_turns.proofs.Lived.{all_needed, lives_on}
 use Rattle.actor_turns.proofs.Lives.{seat_within}
-use Rattle.worker_threads.proofs.Resting.{drains_rest}
+use Rattle.drain_rounds.proofs.Resting.{drains_rest}
 use Rattle.script_runs.proofs.Staying.{IsGrown, calls_grow, stays_noted}
 use Rattle.script_runs.proofs.Orders.{get_set_other, get_set_same, life_between, one_owner, other_name, part_at_place, parts_set}
-use Rattle.worker_threads.proofs.RoundFacts.{same_or_not}
+use Rattle.drain_rounds.proofs.RoundFacts.{same_or_not}
 
 -- ---- the parts of a script
 
@@ -137,7 +136,6 @@ module _ (script : Script) (option : Option ℕ) (user : ℕ) (request : Request
       seats = subst (λ ds. seats_of ds ≡ drain_seats script) (sym drainers) stands.seats;
       roles = subst (λ ds. roles_of ds ≡ drain_roles script) (sym drainers) stands.roles;
       rests = λ given is unspent. subst AreAtRest (sym drainers) (stands.rests given is (omega (arith, drained, unspent)));
-      unspent = λ all. subst AreAtRest (sym drainers) (stands.unspent all);
       drained = drained ∙ stands.drained;
       budget = budget ∙ stands.budget;
       few = let a = stands.few in omega (arith, a, drained, budget);
@@ -227,7 +225,6 @@ module _ (script : Script) (option : Option ℕ) (old new : Stage) (place : ℕ)
     seats = subst (λ ds. seats_of ds ≡ drain_seats script) (sym played.drainers) stands.seats;
     roles = subst (λ ds. roles_of ds ≡ drain_roles script) (sym played.drainers) stands.roles;
     rests = λ given is unspent. let d = played.drained in subst AreAtRest (sym played.drainers) (stands.rests given is (omega (arith, d, unspent)));
-    unspent = λ all. subst AreAtRest (sym played.drainers) (stands.unspent all);
     drained = played.drained ∙ stands.drained;
     budget = played.budget ∙ stands.budget;
     few = let a = stands.few in let d = played.drained in let b = played.budget in omega (arith, a, d, b);
@@ -379,7 +376,7 @@ given_budget None given budget is most = none_some is
 
 pub drain_moved : (script : Script) (option : Option ℕ) (old new : Stage) (made : ℕ) → drain_seat script ≡ seat_of_drains script → HasDrained script option old new made → HasMoved script option (IsDrain all_pass script option) old new
 drain_moved script option old new made last d p stands = record {
-  after = record p { past = new.world.past; drained = p.drained + made; budget = new.budget; unspent = p.unspent && nat_lt (p.drained + made) new.budget };
+  after = record p { past = new.world.past; drained = p.drained + made; budget = new.budget };
   move = record {
     past = new.world.past;
     made = made;
@@ -391,7 +388,6 @@ drain_moved script option old new made last d p stands = record {
     roles = stands.roles;
     stand = subst (AreStanding old.drainers) stands.past stands.drainers;
     rests = λ given is unspent. let e = stands.drained in stands.rests given is (omega (arith, e, unspent));
-    unspent = stands.unspent;
     few = let f = d.few in let r = d.room in let e = stands.drained in omega (arith, f, r, e);
     rounds = rounds;
     is = refl;
@@ -412,7 +408,6 @@ drain_moved script option old new made last d p stands = record {
     seats = d.seats ∙ stands.seats;
     roles = d.roles ∙ stands.roles;
     rests = rests;
-    unspent = unspent;
     drained = d.drained ∙ ap (λ n. n + made) stands.drained;
     budget = refl;
     few = let f = d.few in let r = d.room in let e = d.drained in omega (arith, f, r, e);
@@ -435,18 +430,6 @@ drain_moved script option old new made last d p stands = record {
         let all = given_budget option given new.budget is d.most in
         let made_is = d.drained in
         drains_rest all_pass old.world.setup new.drainers new.world.past (new.budget - old.drained - made) old.drainers old.world.past (new.budget - old.drained) d.rounds (omega (arith, all, made_is, unspent)) (stands.rests given is (omega (arith, made_is, unspent)))
-
-    both : (a b : Bool) → (a && b) ≡ true → (a ≡ true) × (b ≡ true)
-    both true b e = (refl, e)
-    both false b e = absurd (true≢false (sym e))
-
-    -- it has left calls, and so has each before it
-    unspent : (p.unspent && nat_lt (p.drained + made) new.budget) ≡ true → AreAtRest new.drainers
-    unspent all =
-        let parts = both p.unspent (nat_lt (p.drained + made) new.budget) all in
-        let left = ltb-true (p.drained + made) new.budget parts.1 in
-        let e = stands.drained in
-        drains_rest all_pass old.world.setup new.drainers new.world.past (new.budget - old.drained - made) old.drainers old.world.past (new.budget - old.drained) d.rounds (omega (arith, left, e)) (stands.unspent parts.0)
 
     below : (place : ℕ) (x : Player) → slice_get old.players.items place ≡ Some x → (s : ℕ) → IsLife x.part s → IsOneOf (drain_seats script) s → ⊥
     below place x there s life own =

@@ -1,6 +1,6 @@
 -- Whose calls the history of a replayed script has. The newest entry of a history stands first.
 -- A choice of this project.
-use Rattle.std.specs.Prelude.{ℕ, ◌≡◌, ◌≤◌, ◌<◌, ◌⊎◌, ◌+◌, ◌-◌, Bool, true, ◌&&◌, nat_lt, List, [], ◌∷◌, ◌++◌, Option, Some, bytes_eq, if◌then◌else◌}
+use Rattle.std.specs.Prelude.{ℕ, ◌≡◌, ◌≤◌, ◌<◌, ◌⊎◌, ◌+◌, ◌-◌, true, List, [], ◌∷◌, ◌++◌, Option, Some, bytes_eq, if◌then◌else◌}
 use Rattle.call_types.specs.declared.entry.Entry.{Entry}
 use Rattle.call_types.specs.declared.request.Request.{Request}
 use Rattle.call_types.specs.declared.request.SeatKind.TheVariants as seats
@@ -14,9 +14,9 @@ use Rattle.worker_core.specs.declared.role.Role.{Role}
 use Rattle.world_core.specs.declared.drained.Drained.{Drained}
 use Rattle.world_core.specs.declared.drained.Drained.TheVariants.{Settled, Spent}
 use Rattle.binder_model.specs.Due.{IsFirstDue, IsSettled}
-use Rattle.worker_threads.specs.declared.drainers.Drainer.{Drainer}
-use Rattle.worker_threads.specs.Drainers.{AreAtRest, AreStanding, roles_of, seats_for, seats_of}
-use Rattle.worker_threads.specs.Rounds.{Drains, Lets, all_pass}
+use Rattle.drain_rounds.specs.declared.drainers.Drainer.{Drainer}
+use Rattle.drain_rounds.specs.Drainers.{AreAtRest, AreStanding, roles_of, seats_for, seats_of}
+use Rattle.drain_rounds.specs.Rounds.{Drains, Lets, all_pass}
 use Rattle.script_text.specs.declared.script.Line.{Line}
 use Rattle.script_text.specs.declared.script.Line.TheVariants.{Call, Lose, Restart, Turn, Drain}
 use Rattle.script_text.specs.declared.script.Script.{Script}
@@ -35,11 +35,9 @@ pub record Progress : Type 0 where
   -- the calls of all drains so far, and how many they may make
   pub drained : ℕ
   pub budget : ℕ
-  -- whether each drain so far has left calls of what all might make then
-  pub unspent : Bool
 
 abbrev pub first_progress : Option ℕ → Progress
-first_progress option = record { past = []; made = λ name. 0; idle = λ seat. []; drained = 0; budget = first_budget option; unspent = true }
+first_progress option = record { past = []; made = λ name. 0; idle = λ seat. []; drained = 0; budget = first_budget option }
 
 -- ---- a user's line
 
@@ -83,8 +81,8 @@ IsTurnLine lets held role part calls before after = MakesAll lets held role part
 
 -- the budget is raised; then come rounds of the drain's actors while something is due and calls are left, and nothing else. Their
 -- seats, from the first one on, and their roles are those of new ones (`AreNew`), and never change; at first each stands for the
--- entries of its seat, and they are at rest as long as a budget that was given is not spent, or each drain before has left calls. What it
--- has made are calls: one that is held back leaves no entry. `DrainAtComesTo` says what follows
+-- entries of its seat, and as long as a budget that was given is not spent, they are at rest. What it has made are calls: one that is
+-- held back leaves no entry. `DrainAtComesTo` says what follows
 pub record IsDrainAt (lets : Lets) (script : Script) (first : ℕ) (option : Option ℕ) (before after : Progress) : Type 0 where
   pub past : List Entry
   pub made : ℕ
@@ -96,10 +94,9 @@ pub record IsDrainAt (lets : Lets) (script : Script) (first : ℕ) (option : Opt
   pub roles : roles_of drainers ≡ drain_roles script
   pub stand : AreStanding drainers before.past
   pub rests : (given : ℕ) → option ≡ Some given → before.drained < given → AreAtRest drainers
-  pub unspent : before.unspent ≡ true → AreAtRest drainers
   pub few : before.drained + made ≤ budget
   pub rounds : Drains lets script.setup ran past (budget - (before.drained + made)) drainers before.past (budget - before.drained)
-  pub is : after ≡ record before { past = past; drained = before.drained + made; budget = budget; unspent = before.unspent && nat_lt (before.drained + made) budget }
+  pub is : after ≡ record before { past = past; drained = before.drained + made; budget = budget }
 
 -- a drain of a replay: its seats come after those of the lives of all actors
 abbrev pub IsDrain : Lets → Script → Option ℕ → Progress → Progress → Type 0

@@ -7,7 +7,7 @@ use Rattle.call_types.specs.declared.request.Request.TheVariants as requests
 use Rattle.call_types.specs.declared.request.SeatKind.{SeatKind}
 use Rattle.binder_model.specs.Told.{own}
 use Rattle.attention_law.specs.Diligence.{Call}
-use Rattle.worker_threads.specs.Rounds.{all_pass}
+use Rattle.drain_rounds.specs.Rounds.{all_pass}
 use Rattle.script_lines.specs.declared.actors.Actor.{Actor}
 use Rattle.actor_turns.specs.declared.part.Part.{Part}
 use Rattle.actor_turns.specs.Calls.{AreCalls, MoreCalls, NoCalls}

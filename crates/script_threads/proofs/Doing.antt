@@ -1,6 +1,5 @@
 -- What users and actors have done stays so where other seats make calls; and the drain that comes after it.
 use Rattle.std.proofs.Common.{◌≡◌, ℕ, ◌+◌, ◌-◌, ◌<◌, ◌≤◌, true, List, [], ◌∷◌, Option, Some, inl, inr, refl, sym, ◌∙◌, ap, subst, subst₂, arith}
-use Rattle.std.specs.Prelude.{nat_lt}
 use Rattle.call_types.specs.declared.entry.Entry.{Entry}
 use Rattle.binder_model.specs.Due.{IsFirstDue, IsSettled}
 use Rattle.binder_model.specs.Told.{own}
@@ -10,11 +9,11 @@ use Rattle.attention_law.specs.Resting.{WasToldStale}
 use Rattle.world_core.specs.Kept.{History}
 use Rattle.world_core.specs.declared.drained.Drained.{Drained}
 use Rattle.world_core.specs.declared.drained.Drained.TheVariants.{Settled, Spent}
-use Rattle.worker_threads.specs.declared.drainers.Drainer.{Drainer}
-use Rattle.worker_threads.specs.Drainers.{AreNew, AreStanding, HaveNoEntries, seats_for, seats_of}
-use Rattle.worker_threads.specs.Longer.{IsOneOf}
-use Rattle.worker_threads.specs.Rounds.{Drains, EndsWith, all_pass, made_of}
-use Rattle.worker_threads.proofs.NewFacts.{new_roles_for, new_seats_for}
+use Rattle.drain_rounds.specs.declared.drainers.Drainer.{Drainer}
+use Rattle.drain_rounds.specs.Drainers.{AreNew, AreStanding, HaveNoEntries, seats_for, seats_of}
+use Rattle.drain_rounds.specs.Longer.{IsOneOf}
+use Rattle.drain_rounds.specs.Rounds.{Drains, EndsWith, all_pass, made_of}
+use Rattle.drain_rounds.proofs.NewFacts.{new_roles_for, new_seats_for}
 use Rattle.script_lines.specs.declared.actors.Actor.{Actor}
 use Rattle.script_text.specs.declared.script.Line.{Line}
 use Rattle.script_text.specs.declared.script.Script.{Script}
@@ -26,7 +25,7 @@ use Rattle.shared_work.specs.Lines.{AreOfLines}
 use Rattle.script_runs.specs.Budget.{first_budget, raised}
 use Rattle.script_runs.specs.Parts.{first_actor_seat}
 use Rattle.script_runs.specs.Replays.{EndsAs, Progress}
-use Rattle.worker_threads.proofs.Resting.{new_rest}
+use Rattle.drain_rounds.proofs.Resting.{new_rest}
 use Rattle.script_runs.proofs.Staging.{after_first}
 use Rattle.script_threads.specs.Runs.{IsRun, progress_after}
 use Rattle.script_threads.specs.Started.{EachStarted, after_lives, drain_seat, seat_after, started, started_part}
@@ -104,7 +103,7 @@ pub record HasDrained (script : Script) (first : ℕ) (option : Option ℕ) (bef
 
 module _ (script : Script) (workers calls first : ℕ) (option : Option ℕ) (before after : History) (old ran : List Drainer) (budget : ℕ) (d : Drained) (drained : HasDrained script first option before after old ran budget d) (is : first ≡ drain_seat workers script) where
   abbrev end : Progress
-  end = record (progress_after before.past option) { past = after.past; drained = 0 + made_of d; budget = budget; unspent = nat_lt (0 + made_of d) budget }
+  end = record (progress_after before.past option) { past = after.past; drained = 0 + made_of d; budget = budget }
 
   ends_as : (e : Drained) → made_of e ≡ made_of d → EndsWith after.setup after.past budget e → EndsAs script.setup end e
   ends_as (Settled made) same settled = (omega (arith, same), subst (λ s. IsSettled s (world s after.past)) (drained.kept ∙ drained.setup) settled)
@@ -135,7 +134,6 @@ module _ (script : Script) (workers calls first : ℕ) (option : Option ℕ) (be
       roles = new_roles_for first script.node_names old drained.new;
       stand = drained.stand;
       rests = λ given is unspent. new_rest first script.node_names old drained.new;
-      unspent = λ all. new_rest first script.node_names old drained.new;
       few = let few = drained.few in omega (arith, few);
       rounds = rounds;
       is = refl;

@@ -6,6 +6,7 @@ ghost use Rattle.script_runs.specs.Limits.{IsReadable};
 ghost use Rattle.script_threads.specs.Runs.{IsRun};
 
 use crate::threads::work_all;
+use drain_rounds::drainers::Drainers;
 use fault_io::gate::Gate;
 use kube_types::copies::OutOfMemory;
 use script_runs::budget::raised;
@@ -15,7 +16,6 @@ use std::alloc::Global;
 use std::sync::Wait;
 use std::thread::Threads;
 use worker_threads::drain::drain;
-use worker_threads::drainers::Drainers;
 use world_core::drained::Drained;
 use world_core::kept::KeptWorld;
 

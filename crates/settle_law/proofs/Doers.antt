@@ -26,7 +26,7 @@ use Rattle.binder_model.specs.Due.{IsDue, IsPodDue, by_class_due, claim_guard_du
 use Rattle.binder_model.specs.ObjectKeys.{claim_key, class_key, node_key, volume_key}
 use Rattle.binder_model.specs.World.{World}
 use Rattle.model_laws.proofs.Lists.{none_some, one}
-use Rattle.worker_threads.specs.Drainers.{agent_of, of_kind}
+use Rattle.drain_rounds.specs.Drainers.{agent_of, of_kind}
 use Rattle.settle_law.specs.Rounds.{DueFor, ForAgent, ForBinder, ForBinderOfClaims, ForClaimProtection, ForProvisioner, ForReclaimer, ForScheduler, ForVolumeProtection, doer_of, for_claim, for_volume}
 
 -- what is due, if anything, is for an actor of this kind

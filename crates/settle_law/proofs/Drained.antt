@@ -10,11 +10,11 @@ use Rattle.call_types.specs.declared.request.SeatKind.TheVariants as seats
 use Rattle.call_types.specs.declared.setup.Setup.{Setup}
 use Rattle.binder_model.specs.Promises.{IsRunOf}
 use Rattle.worker_core.specs.declared.role.Role.{Role}
-use Rattle.worker_threads.specs.declared.drainers.Drainer.{Drainer}
-use Rattle.worker_threads.specs.Drainers.{agent_of, of_kind}
-use Rattle.worker_threads.specs.Rounds.{Drains, Goes, IsSpent, Lets, NothingDue, all_pass}
-use Rattle.worker_threads.proofs.DrainFacts.{drains_grow}
-use Rattle.worker_threads.proofs.RoundFacts.{round_part}
+use Rattle.drain_rounds.specs.declared.drainers.Drainer.{Drainer}
+use Rattle.drain_rounds.specs.Drainers.{agent_of, of_kind}
+use Rattle.drain_rounds.specs.Rounds.{Drains, Goes, IsSpent, Lets, NothingDue, all_pass}
+use Rattle.drain_rounds.proofs.DrainFacts.{drains_grow}
+use Rattle.drain_rounds.proofs.RoundFacts.{round_part}
 use Rattle.epoch_law.specs.Silent.{OnlyOvertakenAreSilent}
 use Rattle.epoch_law.proofs.Silent.{rounds_silence_the_overtaken}
 use Rattle.settle_law.specs.Drained.{DrainedRoundsLast, EachRoundLasts, PassedRoundsLast, ServedHaveDoers}
@@ -26,7 +26,7 @@ use Rattle.settle_law.proofs.Rounds.{is_agent, unsettled_rounds_last}
 
 -- nothing on a volume or a claim is an agent's
 
-volumes_not : (action : Due) → is_agent (for_volume action) ≡ false
+pub volumes_not : (action : Due) → is_agent (for_volume action) ≡ false
 volumes_not dues.Reclaim = refl
 volumes_not dues.Guard = refl
 volumes_not dues.Unguard = refl
@@ -44,7 +44,7 @@ volumes_not dues.Prepare = refl
 volumes_not dues.Mount = refl
 volumes_not dues.Finish = refl
 
-claims_not : (action : Due) → is_agent (for_claim action) ≡ false
+pub claims_not : (action : Due) → is_agent (for_claim action) ≡ false
 claims_not dues.Reclaim = refl
 claims_not dues.Guard = refl
 claims_not dues.Unguard = refl

@@ -7,8 +7,8 @@ use Rattle.binder_model.specs.AgentLicence.{last_epoch}
 use Rattle.binder_model.specs.Told.{SomeOf, own}
 use Rattle.model_laws.proofs.Lists.{none_some, one}
 use Rattle.worker_core.specs.Memories.{memory_of}
-use Rattle.worker_threads.specs.declared.drainers.Drainer.{Drainer}
-use Rattle.worker_threads.specs.Drainers.{AreStanding, HaveNoEntries, agent_of, seats_of}
+use Rattle.drain_rounds.specs.declared.drainers.Drainer.{Drainer}
+use Rattle.drain_rounds.specs.Drainers.{AreStanding, HaveNoEntries, agent_of, seats_of}
 use Rattle.alike_law.proofs.Rows.{get_mapped}
 use Rattle.epoch_law.specs.Silent.{OnlyOvertakenAreSilent}
 use Rattle.settle_law.specs.Fresh.{FreshDrainersServe}

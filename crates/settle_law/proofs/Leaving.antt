@@ -9,14 +9,14 @@ use Rattle.worker_core.specs.declared.turn.Next.TheVariants.{Idle}
 use Rattle.worker_core.specs.Absorbs.{woken}
 use Rattle.worker_core.specs.States.{ActorState}
 use Rattle.worker_core.proofs.Turning.{turn_stands}
-use Rattle.worker_threads.specs.declared.drainers.Drainer.{Drainer}
-use Rattle.worker_threads.specs.Drainers.{AreRoles, AreSeats, IsStanding, StandsWhole, seats_of}
-use Rattle.worker_threads.specs.Longer.{HasGrown}
-use Rattle.worker_threads.specs.Rounds.{Asks, Ends, IsHeld, IsIdle, IsRound, IsSpent, Lets, Runs, Turns}
-use Rattle.worker_threads.proofs.Entries.{grown_others}
-use Rattle.worker_threads.proofs.RoundFacts.{round_grows, round_roles, round_seats}
-use Rattle.worker_threads.proofs.Resting.{round_rests}
-use Rattle.worker_threads.proofs.RunFacts.{turned_whole}
+use Rattle.drain_rounds.specs.declared.drainers.Drainer.{Drainer}
+use Rattle.drain_rounds.specs.Drainers.{AreRoles, AreSeats, IsStanding, StandsWhole, seats_of}
+use Rattle.drain_rounds.specs.Longer.{HasGrown}
+use Rattle.drain_rounds.specs.Rounds.{Asks, Ends, IsHeld, IsIdle, IsRound, IsSpent, Lets, Runs, Turns}
+use Rattle.drain_rounds.proofs.Entries.{grown_others}
+use Rattle.drain_rounds.proofs.RoundFacts.{round_grows, round_roles, round_seats}
+use Rattle.drain_rounds.proofs.Resting.{round_rests}
+use Rattle.drain_rounds.proofs.RunFacts.{turned_whole}
 use Rattle.epoch_law.proofs.Silent.{Differ, not_again, others_differ}
 use Rattle.settle_law.specs.Settling.{RoundsLeaveDrainers}
 

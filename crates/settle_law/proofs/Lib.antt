@@ -1,6 +1,10 @@
+pub mod Controllers
 pub mod Doers
 pub mod Drained
 pub mod Fresh
+pub mod Held
+pub mod Leading
 pub mod Leaving
+pub mod Mounts
 pub mod Paying
 pub mod Rounds

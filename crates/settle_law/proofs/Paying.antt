@@ -6,10 +6,10 @@ use Rattle.binder_model.specs.Due.{IsSettled}
 use Rattle.binder_model.specs.Promises.{IsRunOf}
 use Rattle.binder_model.specs.Run.{Run}
 use Rattle.binder_model.specs.World.{world}
-use Rattle.worker_threads.specs.declared.drainers.Drainer.{Drainer}
-use Rattle.worker_threads.specs.Rounds.{Drains, Goes, IsSpent, Lets, NothingDue}
-use Rattle.worker_threads.proofs.DrainFacts.{drains_grow}
-use Rattle.worker_threads.proofs.RoundFacts.{round_part}
+use Rattle.drain_rounds.specs.declared.drainers.Drainer.{Drainer}
+use Rattle.drain_rounds.specs.Rounds.{Drains, Goes, IsSpent, Lets, NothingDue}
+use Rattle.drain_rounds.proofs.DrainFacts.{drains_grow}
+use Rattle.drain_rounds.proofs.RoundFacts.{round_part}
 use Rattle.settle_law.specs.Settling.{MayDrain, PayingDrainsSettle, RoundsPay}
 use Rattle.settle_law.proofs.Leaving.{rounds_leave_drainers}
 

@@ -18,9 +18,9 @@ use Rattle.model_laws.proofs.Lists.{none_some, one}
 use Rattle.worker_core.specs.declared.role.Role.{Role}
 use Rattle.worker_core.specs.Absorbs.{woken}
 use Rattle.worker_core.specs.Roles.{IsBuiltKind}
-use Rattle.worker_threads.specs.declared.drainers.Drainer.{Drainer}
-use Rattle.worker_threads.specs.Drainers.{agent_of, of_kind, roles_for, roles_of}
-use Rattle.worker_threads.specs.Rounds.{Ends, IsRound, Lets, Runs, Turns}
+use Rattle.drain_rounds.specs.declared.drainers.Drainer.{Drainer}
+use Rattle.drain_rounds.specs.Drainers.{agent_of, of_kind, roles_for, roles_of}
+use Rattle.drain_rounds.specs.Rounds.{Ends, IsRound, Lets, Runs, Turns}
 use Rattle.write_law.specs.Lasting.{HasLasting}
 use Rattle.alike_law.proofs.Rows.{get_mapped}
 use Rattle.slot_law.specs.Would.{CallsPass, WouldActOn}

@@ -13,8 +13,8 @@ use Rattle.call_types.specs.declared.setup.Setup.{Setup}
 use Rattle.binder_model.specs.Due.{IsDue}
 use Rattle.binder_model.specs.Promises.{IsRunOf}
 use Rattle.binder_model.specs.World.{world}
-use Rattle.worker_threads.specs.declared.drainers.Drainer.{Drainer}
-use Rattle.worker_threads.specs.Rounds.{Drains, Goes, IsRound, IsSpent, Lets, NothingDue, all_pass}
+use Rattle.drain_rounds.specs.declared.drainers.Drainer.{Drainer}
+use Rattle.drain_rounds.specs.Rounds.{Drains, Goes, IsRound, IsSpent, Lets, NothingDue, all_pass}
 use Rattle.write_law.specs.Lasting.{HasLasting}
 use Rattle.epoch_law.specs.Silent.{OnlyOvertakenAreSilent}
 use Rattle.settle_law.specs.Rounds.{HasCurrent, HasDoer, HasDue, doer_of}

@@ -20,9 +20,9 @@ use Rattle.binder_model.specs.Due.{IsDue, agent_due, claim_guard_due, provision_
 use Rattle.binder_model.specs.Promises.{IsRunOf}
 use Rattle.binder_model.specs.World.{World, world}
 use Rattle.worker_core.specs.declared.role.Role.{Role}
-use Rattle.worker_threads.specs.declared.drainers.Drainer.{Drainer}
-use Rattle.worker_threads.specs.Drainers.{agent_of, of_kind}
-use Rattle.worker_threads.specs.Rounds.{IsRound, Lets}
+use Rattle.drain_rounds.specs.declared.drainers.Drainer.{Drainer}
+use Rattle.drain_rounds.specs.Drainers.{agent_of, of_kind}
+use Rattle.drain_rounds.specs.Rounds.{IsRound, Lets}
 use Rattle.write_law.specs.Lasting.{HasLasting}
 use Rattle.slot_law.specs.Would.{CallsPass}
 use Rattle.epoch_law.specs.Epochs.{IsCurrent}

@@ -8,9 +8,9 @@ use Rattle.call_types.specs.declared.setup.Setup.{Setup}
 use Rattle.binder_model.specs.Due.{IsFirstDue, IsSettled}
 use Rattle.binder_model.specs.Promises.{IsRunOf}
 use Rattle.binder_model.specs.World.{world}
-use Rattle.worker_threads.specs.declared.drainers.Drainer.{Drainer}
-use Rattle.worker_threads.specs.Drainers.{AreAtRest, AreSeats, AreStanding, seats_of}
-use Rattle.worker_threads.specs.Rounds.{Drains, IsRound, Lets}
+use Rattle.drain_rounds.specs.declared.drainers.Drainer.{Drainer}
+use Rattle.drain_rounds.specs.Drainers.{AreAtRest, AreSeats, AreStanding, seats_of}
+use Rattle.drain_rounds.specs.Rounds.{Drains, IsRound, Lets}
 
 -- a drain of these may begin here
 pub record MayDrain (setup : Setup) (past : List Entry) (ds : List Drainer) : Type 0 where

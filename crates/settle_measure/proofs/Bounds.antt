@@ -44,7 +44,7 @@ life_most : (a o b : Bool) → life_left a o b ≤ 3
 life_most true o b = let x = at_most o 1 in omega (arith, x)
 life_most false o b = let x = at_most b 2 in omega (arith, x)
 
-volume_most : (rows : List Object) (d : Devices) (v : VolumeData) → volume_left rows d v ≤ 10
+pub volume_most : (rows : List Object) (d : Devices) (v : VolumeData) → volume_left rows d v ≤ 10
 volume_most rows d v =
     let a = stage_most (is_awaited rows v.claim_ref) (ref_uid v.claim_ref) v.phase in
     let b = life_most (is_deleting v.meta) (is_over (ref_uid v.claim_ref) v.phase) (was_erased (data_id_of v.source) d.stored) in
@@ -73,7 +73,7 @@ completed_most c (Some (Claim o)) = let x = at_most (is_lost c.phase) 1 in omega
 completed_most c (Some (Pod o)) = let x = at_most (is_lost c.phase) 1 in omega (arith, x)
 completed_most c (Some (Volume v)) = let x = away_most c v in let y = at_most (is_lost c.phase) 1 in omega (arith, x, y)
 
-claim_most : (rows : List Object) (d : Devices) (c : ClaimData) → claim_left rows d c ≤ 18
+pub claim_most : (rows : List Object) (d : Devices) (c : ClaimData) → claim_left rows d c ≤ 18
 claim_most rows d c = by (is_completed c) (is_deleting c.meta) (completed_most c (row_at (volume_key c.volume_name) rows)) (open_most rows d c) (guard_most (is_deleting c.meta) (is_protected_claim c))
   where
     by : (a b : Bool) {m n g : ℕ} → m ≤ 6 → n ≤ 14 → g ≤ 2 → cond a m (unless b (2 + n)) + g ≤ 18
@@ -86,7 +86,7 @@ mount_most a true = omega arith
 mount_most true false = omega arith
 mount_most false false = omega arith
 
-pod_most : (d : Devices) (p : PodData) → pod_left d p ≤ 4
+pub pod_most : (d : Devices) (p : PodData) → pod_left d p ≤ 4
 pod_most d p = by (is_scheduled p) (mount_most (is_deleting p.meta) (is_pod_mounted d p))
   where
     by : (b : Bool) {m : ℕ} → m ≤ 3 → cond b m 4 ≤ 4

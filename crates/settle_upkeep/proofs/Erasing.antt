@@ -45,7 +45,7 @@ erased_now id (x ∷ xs) e = by (same_id x.id id) refl (x.there) e (erased_now i
     by false eb true e rest = or_right (not x.there && same_id x.id id) _ (rest e)
     by false eb false e rest = or_right (not x.there && same_id x.id id) _ (rest e)
 
-erased_kept : (id j : DataId) (xs : List Data) → was_erased j xs ≡ true → was_erased j (data_after_erase id xs) ≡ true
+pub erased_kept : (id j : DataId) (xs : List Data) → was_erased j xs ≡ true → was_erased j (data_after_erase id xs) ≡ true
 erased_kept id j [] e = e
 erased_kept id j (x ∷ xs) e = by (same_id x.id id) (not x.there && same_id x.id j) refl e (erased_kept id j xs)
   where
@@ -60,7 +60,7 @@ erased_kept id j (x ∷ xs) e = by (same_id x.id id) (not x.there && same_id x.i
     by false false eh e rest = or_right (not x.there && same_id x.id j) _ (rest e)
 
 -- data of another name stay
-data_kept : (id : DataId) (name other : List ℕ) (xs : List Data) → ((x : Data) → IsIn x xs → x.there ≡ true → same_id x.id id ≡ true → x.name ≡ name) → bytes_eq other name ≡ false
+pub data_kept : (id : DataId) (name other : List ℕ) (xs : List Data) → ((x : Data) → IsIn x xs → x.there ≡ true → same_id x.id id ≡ true → x.name ≡ name) → bytes_eq other name ≡ false
     → list_any (λ y. y.there && bytes_eq y.name other) xs ≡ true → list_any (λ y. y.there && bytes_eq y.name other) (data_after_erase id xs) ≡ true
 data_kept id name other [] named differs e = e
 data_kept id name other (x ∷ xs) named differs e = by (same_id x.id id) (x.there && bytes_eq x.name other) refl refl e (data_kept id name other xs (λ y i. named y (inr i)) differs)
@@ -101,7 +101,7 @@ erasure_is setup d id a e = subst (IsErasure d id) (one _ a e) (erasure_form set
 
 -- how many claims lose their data
 
-abbrev lost_by : List ℕ → Object → ℕ
+abbrev pub lost_by : List ℕ → Object → ℕ
 lost_by name (Claim c) = if is_data_name name c.meta.uid then 1 else 0
 lost_by name o = 0
 
@@ -117,7 +117,7 @@ none_more name (Claim c ∷ os) none = by (is_data_name name c.meta.uid) (none c
     by true f h = absurd (f refl)
     by false f h = omega (arith, h)
 
-one_more : (name : List ℕ) (rows : List Object) → AreRows rows → ((c e : ClaimData) → IsIn (Claim c) rows → IsIn (Claim e) rows → is_data_name name c.meta.uid ≡ true → is_data_name name e.meta.uid ≡ true → key_of (Claim c) ≡ key_of (Claim e))
+pub one_more : (name : List ℕ) (rows : List Object) → AreRows rows → ((c e : ClaimData) → IsIn (Claim c) rows → IsIn (Claim e) rows → is_data_name name c.meta.uid ≡ true → is_data_name name e.meta.uid ≡ true → key_of (Claim c) ≡ key_of (Claim e))
     → total (lost_by name) rows ≤ 1
 one_more name [] order owner = omega arith
 one_more name (Class x ∷ os) order owner = let h = one_more name os order.1 (λ c e i j. owner c e (inr i) (inr j)) in omega (arith, h)
@@ -132,7 +132,7 @@ one_more name (Claim c ∷ os) order owner = by (is_data_name name c.meta.uid) r
 
 -- what a claim may lose
 
-claim_up : (rows : List Object) (d devices_after : Devices) (c : ClaimData) (k : ℕ) → provision_left rows devices_after c c.meta.uid ≤ provision_left rows d c c.meta.uid + k → claim_left rows devices_after c ≤ claim_left rows d c + k
+pub claim_up : (rows : List Object) (d devices_after : Devices) (c : ClaimData) (k : ℕ) → provision_left rows devices_after c c.meta.uid ≤ provision_left rows d c c.meta.uid + k → claim_left rows devices_after c ≤ claim_left rows d c + k
 claim_up rows d devices_after c k up =
     by (is_completed c) (is_deleting c.meta) (is_empty c.volume_name) (completed_left c (row_at (volume_key c.volume_name) rows)) (unless (has_class c) 1) (unless (has_offer rows c) 4)
     (unless (is_held_by c (row_at (volume_key c.volume_name) rows)) 4) (guard_left (is_deleting c.meta) (is_protected_claim c))
@@ -143,7 +143,7 @@ claim_up rows d devices_after c k up =
     by false false true m x y n g = omega (arith, up)
     by false false false m x y n g = omega arith
 
-provision_up : (rows : List Object) (d devices_after : Devices) (c : ClaimData) (name : List ℕ) (u : Option Uid) → ((other : List ℕ) → bytes_eq other name ≡ false → has_data d other ≡ true → has_data devices_after other ≡ true)
+pub provision_up : (rows : List Object) (d devices_after : Devices) (c : ClaimData) (name : List ℕ) (u : Option Uid) → ((other : List ℕ) → bytes_eq other name ≡ false → has_data d other ≡ true → has_data devices_after other ≡ true)
     → provision_left rows devices_after c u ≤ provision_left rows d c u + (if is_data_name name u then 1 else 0)
 provision_up rows d devices_after c name None kept = omega arith
 provision_up rows d devices_after c name (Some uid) kept = by (bytes_eq (data_name uid) name) refl
@@ -157,7 +157,7 @@ provision_up rows d devices_after c name (Some uid) kept = by (bytes_eq (data_na
     by true e = let h = small (has_data devices_after (data_name uid)) in omega (arith, h)
     by false e = let h = unless_less (has_data d (data_name uid)) (has_data devices_after (data_name uid)) 1 (kept (data_name uid) e) in omega (arith, h)
 
-pods_same : (d devices_after : Devices) → devices_after.mounts ≡ d.mounts → (p : PodData) → pod_left devices_after p ≡ pod_left d p
+pub pods_same : (d devices_after : Devices) → devices_after.mounts ≡ d.mounts → (p : PodData) → pod_left devices_after p ≡ pod_left d p
 pods_same d devices_after same p = by p.meta.uid
   where
     by : (u : Option Uid) → (if is_scheduled p then mount_left (is_deleting p.meta) (is_pod_uid_mounted devices_after p.node u) else 4) ≡ (if is_scheduled p then mount_left (is_deleting p.meta) (is_pod_uid_mounted d p.node u) else 4)

@@ -22,7 +22,7 @@ use Rattle.model_laws.proofs.Readings.{found_stands}
 use Rattle.settle_measure.specs.Measure.{faults_left}
 use Rattle.settle_measure.specs.Small.{completed, open_claim, volume_of}
 use Rattle.worker_core.specs.declared.role.Role.{Role}
-use Rattle.worker_threads.specs.Drainers.{agent_of, seats_for}
+use Rattle.drain_rounds.specs.Drainers.{agent_of, seats_for}
 use Rattle.epoch_law.specs.Epochs.{IsCurrent}
 use Rattle.settle_law.proofs.Rounds.{is_agent}
 use Rattle.script_runs.specs.Parts.{drain_roles}

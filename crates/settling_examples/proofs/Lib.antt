@@ -1,4 +1,6 @@
+pub mod Costs
 pub mod Ending
+pub mod Held
 pub mod Lasting
 pub mod Near
 pub mod Objects

@@ -14,11 +14,35 @@ use Rattle.binder_model.specs.World.{world}
 use Rattle.model_laws.proofs.Lists.{none_some}
 use Rattle.settle_measure.specs.Small.{open_claim}
 use Rattle.settling_examples.specs.Ending.{faults_upto}
-use Rattle.settling_examples.specs.Ops.{NoneDueExamples, OpsExamples, with_claim, with_pool}
+use Rattle.settling_examples.specs.Ops.{LeftExamples, NoneDueExamples, OpsExamples, with_claim, with_pool}
 
 pub ops_examples : OpsExamples
 unfolding faults_upto uid_text by_index
-ops_examples = record { alone = refl; beside = refl; has_own = refl; own_ended = refl; ended = refl; deleted = refl; faults = refl }
+ops_examples = record { alone = refl; beside = refl; has_own = refl; own_ended = refl; ended = refl; deleted = refl; faults = refl; node = refl; node_of_own = refl; all = refl }
+
+pub left_examples : LeftExamples
+unfolding uid_text by_index
+left_examples = record {
+  none_there = refl;
+  pending = refl;
+  available = refl;
+  bound = refl;
+  to_go = refl;
+  released = refl;
+  failed = refl;
+  other = refl;
+  no_uid = refl;
+  of_claim = refl;
+  of_new_claim = refl;
+  of_open = refl;
+  of_open_to_go = refl;
+  of_released = refl;
+  of_failed = refl;
+  of_released_to_go = refl;
+  of_class = refl;
+  of_pod = refl;
+  of_node = refl;
+}
 
 abbrev claim_in : ClaimData → Option Object → ClaimData
 claim_in c (Some (Claim d)) = d

@@ -8,5 +8,4 @@ pub round_examples : RoundExamples
 round_examples = record {
   few = λ g rest. ((λ small. omega (arith, g.two, g.none)), rest);
   one_more = λ g short. let most = short.0 (small_worlds_have_short_rounds (world g.setup g.h) (omega (arith, g.two))) in omega (arith, most, g.two, g.none);
-  later = λ g rest. rest;
 }

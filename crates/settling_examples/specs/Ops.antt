@@ -1,21 +1,24 @@
--- What the provisioner and reclaimer may still write, and claims of which nothing is due of provisioning: small cases.
+-- What the provisioner and reclaimer may still write, for an object and for all, and claims of which nothing is due of provisioning: small cases.
 -- A choice of this project.
-use Rattle.std.specs.Prelude.{ℕ, ◌≡◌, false, List, [], ◌∷◌, None, codes}
+use Rattle.std.specs.Prelude.{ℕ, ◌≡◌, false, List, [], ◌∷◌, Option, Some, None, codes}
 use Rattle.kube_types.specs.declared.key.Key.{Key}
 use Rattle.kube_types.specs.declared.parts.VolumePhase.{VolumePhase}
 use Rattle.kube_types.specs.declared.parts.VolumePhase.TheVariants as volumes
+use Rattle.kube_types.specs.declared.objects.Claim.{Claim as ClaimData}
 use Rattle.kube_types.specs.declared.objects.Volume.{Volume as VolumeData}
 use Rattle.kube_types.specs.declared.objects.Object.{Object}
-use Rattle.kube_types.specs.declared.objects.Object.TheVariants.{Claim, Class, Volume}
+use Rattle.kube_types.specs.declared.objects.Object.TheVariants.{Claim, Class, Node, Pod, Volume}
+use Rattle.kube_types.specs.declared.uid.Uid.{Uid}
 use Rattle.kube_types.specs.Bindings.{no_provisioner}
 use Rattle.kube_types.specs.Uids.{uid_of_serial}
 use Rattle.call_types.specs.declared.setup.Setup.{Setup}
 use Rattle.binder_model.specs.ObjectKeys.{claim_key}
 use Rattle.binder_model.specs.Provisioning.{data_name}
-use Rattle.settle_measure.specs.Small.{free, going, open_claim, volume_of}
+use Rattle.settle_measure.specs.Small.{free, going, meta, open_claim, volume_of}
 use Rattle.begun_lasts.specs.Begun.{IsOfNoneDue}
-use Rattle.ops_writes.specs.Ops.{ops_writes}
-use Rattle.settling_examples.specs.Ending.{class_of, faults_upto, setup_with, world_with}
+use Rattle.ops_writes.specs.Ops.{ops_left, ops_writes, to_make}
+use Rattle.settling_examples.specs.Ending.{class_of, faults_upto, pod_on, setup_with, world_with}
+use Rattle.settling_examples.specs.Near.{claim_with}
 
 -- a volume under the name of the one that is made for the claim
 abbrev pub made : VolumePhase → VolumeData
@@ -34,8 +37,50 @@ pub record OpsExamples : Type 0 where
   -- a volume that has ended is deleted once
   pub ended : writes_for (Volume (free volumes.Failed) ∷ []) ≡ 1
   pub deleted : writes_for (Volume (going (free volumes.Failed)) ∷ []) ≡ 0
-  -- and phase Failed may be written once for each planned fault
+  -- phase Failed may be written once for each planned fault
   pub faults : ops_writes (setup_with (faults_upto 3) []) (world_with []) ≡ 3
+  -- and a node that is selected for a claim may be taken back once
+  pub node : writes_for (Claim (claim_with (codes "n")) ∷ []) ≡ 2
+  pub node_of_own : writes_for (Volume (made volumes.Bound) ∷ Claim (claim_with (codes "n")) ∷ []) ≡ 1
+  -- all these, of a claim with a node, a volume that has ended and three planned faults
+  pub all : ops_writes (setup_with (faults_upto 3) []) (world_with (Volume (free volumes.Failed) ∷ Claim (claim_with (codes "n")) ∷ [])) ≡ 6
+
+-- the volume that is to be made for the claim of this UID, where these objects stand
+abbrev pub to_make_for : Option Uid → List Object → ℕ
+to_make_for uid rows = to_make rows uid
+
+-- what ops has still to write for the object, where it stands alone
+abbrev pub left_alone : Object → ℕ
+left_alone o = ops_left (o ∷ []) o
+
+-- the claim, before it has a UID
+abbrev pub without_uid : ClaimData
+without_uid = record open_claim { meta = record open_claim.meta { uid = None } }
+
+pub record LeftExamples : Type 0 where
+  -- for a claim a volume is to be made under its name, until one stands there, whether or not that is to go
+  pub none_there : to_make_for (Some (uid_of_serial 2)) [] ≡ 1
+  pub pending : to_make_for (Some (uid_of_serial 2)) (Volume (made volumes.Pending) ∷ []) ≡ 0
+  pub available : to_make_for (Some (uid_of_serial 2)) (Volume (made volumes.Available) ∷ []) ≡ 0
+  pub bound : to_make_for (Some (uid_of_serial 2)) (Volume (made volumes.Bound) ∷ []) ≡ 0
+  pub to_go : to_make_for (Some (uid_of_serial 2)) (Volume (going (made volumes.Bound)) ∷ []) ≡ 0
+  -- and again once that has ended, or where it is that of another claim; but for no claim that has no UID
+  pub released : to_make_for (Some (uid_of_serial 2)) (Volume (made volumes.Released) ∷ []) ≡ 1
+  pub failed : to_make_for (Some (uid_of_serial 2)) (Volume (made volumes.Failed) ∷ []) ≡ 1
+  pub other : to_make_for (Some (uid_of_serial 3)) (Volume (made volumes.Bound) ∷ []) ≡ 1
+  pub no_uid : to_make_for None [] ≡ 0
+  -- so much is left for a claim; a volume is to be deleted once it has ended, unless it is to go already
+  pub of_claim : left_alone (Claim open_claim) ≡ 1
+  pub of_new_claim : left_alone (Claim without_uid) ≡ 0
+  pub of_open : left_alone (Volume (free volumes.Bound)) ≡ 0
+  pub of_open_to_go : left_alone (Volume (going (free volumes.Bound))) ≡ 0
+  pub of_released : left_alone (Volume (free volumes.Released)) ≡ 1
+  pub of_failed : left_alone (Volume (free volumes.Failed)) ≡ 1
+  pub of_released_to_go : left_alone (Volume (going (free volumes.Released))) ≡ 0
+  -- for other objects nothing
+  pub of_class : left_alone (Class (class_of false (codes "d"))) ≡ 0
+  pub of_pod : left_alone (Pod (pod_on (codes "p") [])) ≡ 0
+  pub of_node : left_alone (Node (record { meta = meta [] (codes "n") 3 []; extra = [] })) ≡ 0
 
 -- the key of the claim
 abbrev pub open_key : Key

@@ -8,10 +8,10 @@ use Rattle.call_types.specs.declared.setup.Setup.{Setup}
 use Rattle.binder_model.specs.Due.{IsFirstDue}
 use Rattle.binder_model.specs.World.{world}
 use Rattle.settle_measure.specs.Measure.{faults_left}
-use Rattle.worker_threads.specs.declared.drainers.Drainer.{Drainer}
-use Rattle.worker_threads.specs.Rounds.{Drains, Goes, IsRound, all_pass}
+use Rattle.drain_rounds.specs.declared.drainers.Drainer.{Drainer}
+use Rattle.drain_rounds.specs.Rounds.{Drains, Goes, IsRound, all_pass}
 use Rattle.short_law.specs.Rounds.{size_of_world}
-use Rattle.short_rounds.specs.ShortRounds.{EachLaterRoundIsShort, EachRoundIsShort}
+use Rattle.short_rounds.specs.ShortRounds.{EachRoundIsShort}
 
 -- a drain with so many calls whose first round makes all of them, in a world of two objects and claims that are named, with no planned fault ahead
 pub record GoesOn (calls : ℕ) : Type 0 where
@@ -35,20 +35,15 @@ pub record GoesOn (calls : ℕ) : Type 0 where
 abbrev pub drain_of : (calls : ℕ) (g : GoesOn calls) → Drains all_pass g.setup g.after g.past g.left g.ds g.h calls
 drain_of calls g = Goes g.first g.due g.some g.between g.middle 0 g.whole g.round g.more
 
--- all its rounds are short; so are those of the rest of it; and so it is said of all but the first
+-- all its rounds are short; and so are those of the rest of it
 abbrev pub AreShort : (calls : ℕ) → GoesOn calls → Type 0
 AreShort calls g = EachRoundIsShort all_pass g.setup g.after g.past g.left g.ds g.h calls (drain_of calls g)
 
 abbrev pub RestIsShort : (calls : ℕ) → GoesOn calls → Type 0
 RestIsShort calls g = EachRoundIsShort all_pass g.setup g.after g.past g.left g.between g.middle 0 g.more
 
-abbrev pub LaterAreShort : (calls : ℕ) → GoesOn calls → Type 0
-LaterAreShort calls g = EachLaterRoundIsShort all_pass g.setup g.after g.past g.left g.ds g.h calls (drain_of calls g)
-
 pub record RoundExamples : Type 0 where
   -- the first round may make 256 calls for each of 18
   pub few : (g : GoesOn 4608) → RestIsShort 4608 g → AreShort 4608 g
   -- but not one more
   pub one_more : (g : GoesOn 4609) → AreShort 4609 g → ⊥
-  -- of the rounds behind it nothing is said by this
-  pub later : (g : GoesOn 4609) → RestIsShort 4609 g → LaterAreShort 4609 g

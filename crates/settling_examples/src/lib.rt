@@ -1,14 +1,17 @@
-//! Computed examples of what lasts, of worlds that are alike or near, and of what a drain that ends is asked for.
+//! Computed examples of what lasts, of worlds that are alike or near, of what a drain that ends is asked for, and of
+//! how many calls and writes objects cost.
 //!
 //! Promises: the cases of each function here, from `lasting_examples` on: it has nothing to do, and its contract has
 //! them. Not said: anything of other cases.
 #![tactic(auto)]
 
+ghost use Rattle.settling_examples.specs.Costs.{CostExamples, LessExamples, SlotExamples, SweepExamples, SweptExamples};
 ghost use Rattle.settling_examples.specs.Ending.{AgentExamples, AllowanceExamples, BudgetExamples, CallExamples, ClassExamples, LineExamples, NamingExamples, NumberExamples, SharingExamples, SizeExamples};
+ghost use Rattle.settling_examples.specs.Held.{HeldExamples};
 ghost use Rattle.settling_examples.specs.Lasting.{AlikeExamples, LastingExamples};
 ghost use Rattle.settling_examples.specs.Near.{NearExamples};
 ghost use Rattle.settling_examples.specs.Objects.{ObjectExamples};
-ghost use Rattle.settling_examples.specs.Ops.{NoneDueExamples, OpsExamples};
+ghost use Rattle.settling_examples.specs.Ops.{LeftExamples, NoneDueExamples, OpsExamples};
 ghost use Rattle.settling_examples.specs.Rounds.{RoundExamples};
 
 /// Writes and calls that last, and some that do not.
@@ -24,6 +27,11 @@ pub fn alike_examples()
 /// Worlds that are near, and some that are not.
 pub fn near_examples()
     ensures { NearExamples }
+{}
+
+/// A gate that holds back the Mounts of one pod, and lets those of another pass.
+pub fn held_examples()
+    ensures { HeldExamples }
 {}
 
 /// Stated budgets, and worlds that are small, and one that is not.
@@ -91,7 +99,37 @@ pub fn ops_examples()
     ensures { OpsExamples }
 {}
 
+/// What they may still write for a claim and for an object.
+pub fn left_examples()
+    ensures { LeftExamples }
+{}
+
 /// Claims of which nothing is due of provisioning, and two keys that are of none such.
 pub fn none_due_examples()
     ensures { NoneDueExamples }
+{}
+
+/// What an object costs an actor of each role.
+pub fn cost_examples()
+    ensures { CostExamples }
+{}
+
+/// What objects cost a slot, and what they cost again.
+pub fn slot_examples()
+    ensures { SlotExamples }
+{}
+
+/// What a sweep costs beyond what the writes before it have left.
+pub fn sweep_examples()
+    ensures { SweepExamples }
+{}
+
+/// What a round costs by what stands, and how often ops may write in it.
+pub fn less_examples()
+    ensures { LessExamples }
+{}
+
+/// Worlds in whose rounds there are sweeps, and some in which there is one less.
+pub fn swept_examples()
+    ensures { SweptExamples }
 {}

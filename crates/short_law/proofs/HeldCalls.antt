@@ -20,12 +20,21 @@ use Rattle.worker_core.specs.Memories.{Memory}
 use Rattle.worker_core.specs.Stands.{AnyIsUnderWay, StandsFor}
 use Rattle.worker_core.specs.States.{ActorState, agent_start, asked, call_under, given_call, read_of_kind, read_request, start_of}
 use Rattle.worker_core.proofs.Machines.{under_calls}
-use Rattle.worker_threads.specs.Rounds.{Lets}
+use Rattle.drain_rounds.specs.Rounds.{Lets}
+use Rattle.slot_law.specs.Gates.{HoldsMountsAlone, is_mount}
 use Rattle.short_law.specs.Slots.{PassesReads, is_own_read}
 use Rattle.cost_law.specs.Tasks.{task_left}
 use Rattle.pass_law.proofs.Given.{GivenSo, GivesRead, GivesStart, GivesTask, given_so}
 use Rattle.cost_law.proofs.Tasks.{under_goes}
 use Rattle.cost_law.specs.Ends.{done_by}
+
+-- no read is a Mount, so where Mounts alone are held back no read is
+read_is_no_mount : (request : Request) → is_own_read request ≡ true → is_mount request ≡ false
+read_is_no_mount (requests.Mount node epoch pod claims) own = absurd (true≢false (sym own))
+read_is_no_mount _ own = refl
+
+pub reads_pass : (lets : Lets) → HoldsMountsAlone lets → PassesReads lets
+reads_pass lets holds h request own = holds h request (read_is_no_mount request own)
 
 -- a call of the start is one that is not held back
 pub start_is_read : (kind : SeatKind) (node : List ℕ) (m : Memory) (request : Request) → start_of kind node m ≡ Some request → is_own_read request ≡ true

@@ -21,11 +21,11 @@ use Rattle.worker_core.specs.Absorbs.{woken}
 use Rattle.worker_core.specs.Roles.{IsBuiltKind}
 use Rattle.worker_core.specs.States.{ActorState}
 use Rattle.worker_core.proofs.Answered.{answer_licensed}
-use Rattle.worker_threads.specs.declared.drainers.Drainer.{Drainer}
-use Rattle.worker_threads.specs.Drainers.{roles_of}
-use Rattle.worker_threads.specs.Rounds.{Asks, Ends, IsHeld, IsIdle, IsRound, IsSpent, Lets, Runs, Turns, told_entry}
-use Rattle.worker_threads.proofs.RoundFacts.{AreBuilt, roles_built, round_grows}
-use Rattle.worker_threads.proofs.RunFacts.{still_role, turn_role}
+use Rattle.drain_rounds.specs.declared.drainers.Drainer.{Drainer}
+use Rattle.drain_rounds.specs.Drainers.{roles_of}
+use Rattle.drain_rounds.specs.Rounds.{Asks, Ends, IsHeld, IsIdle, IsRound, IsSpent, Lets, Runs, Turns, told_entry}
+use Rattle.drain_rounds.proofs.RoundFacts.{AreBuilt, roles_built, round_grows}
+use Rattle.drain_rounds.proofs.RunFacts.{still_role, turn_role}
 use Rattle.slot_law.proofs.Slots.{older}
 use Rattle.cost_law.specs.Costs.{calls_for}
 use Rattle.short_law.specs.Rounds.{RoundsAreShort, all_left, names_in, size_of_world}

@@ -7,9 +7,9 @@ use Rattle.call_types.specs.declared.entry.Entry.{Entry}
 use Rattle.call_types.specs.declared.setup.Setup.{Setup}
 use Rattle.binder_model.specs.World.{IsHistory, World, world}
 use Rattle.settle_measure.specs.Measure.{total}
-use Rattle.worker_threads.specs.declared.drainers.Drainer.{Drainer}
-use Rattle.worker_threads.specs.Drainers.{AreRoles, roles_of}
-use Rattle.worker_threads.specs.Rounds.{IsRound, Lets}
+use Rattle.drain_rounds.specs.declared.drainers.Drainer.{Drainer}
+use Rattle.drain_rounds.specs.Drainers.{AreRoles, roles_of}
+use Rattle.drain_rounds.specs.Rounds.{IsRound, Lets}
 use Rattle.short_law.specs.Slots.{PassesReads, writes_since}
 use Rattle.cost_law.specs.Tasks.{under_left}
 

@@ -10,7 +10,7 @@ use Rattle.settle_measure.specs.Measure.{total}
 use Rattle.worker_core.specs.Absorbs.{woken}
 use Rattle.worker_core.specs.Roles.{IsBuiltKind}
 use Rattle.worker_core.specs.States.{ActorState}
-use Rattle.worker_threads.specs.Rounds.{Lets, Runs}
+use Rattle.drain_rounds.specs.Rounds.{Lets, Runs}
 use Rattle.cost_law.specs.Costs.{calls_for}
 use Rattle.cost_law.specs.Tasks.{under_left}
 

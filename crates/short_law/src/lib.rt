@@ -4,8 +4,8 @@
 //! with what its objects may cost and with its writes (`slots_are_short`, `slot_cost`); and a round no more than one
 //! that grows with the objects, with the claims that the pods name, and with its writes (`rounds_are_short`,
 //! `round_cost`). Up to 512 writes it grows evenly with each of these. Premise: no list or watch of a whole kind and no
-//! call of an agent's start is held back; where none is held back this holds. Not said: how many writes a round does,
-//! so that it ends is said of its calls between two writes alone.
+//! call of an agent's start is held back; where none but a Mount is held back this holds. Not said: how many writes a
+//! round does, so that it ends is said of its calls between two writes alone.
 #![tactic(auto)]
 
 ghost use Rattle.short_law.specs.Rounds.{RoundsAreShort};

@@ -37,7 +37,7 @@ use Rattle.worker_core.specs.declared.role.Role.{Role}
 use Rattle.worker_core.specs.Absorbs.{woken}
 use Rattle.worker_core.specs.Roles.{IsBuiltKind}
 use Rattle.worker_core.specs.States.{ActorState}
-use Rattle.worker_threads.specs.Rounds.{Lets, Runs, told_entry}
+use Rattle.drain_rounds.specs.Rounds.{Lets, Runs, told_entry}
 use Rattle.event_law.proofs.Rows.{without_total}
 use Rattle.done_lasts.proofs.Doing.{write_asked}
 use Rattle.write_count.proofs.Nodes.{IsMoved}
@@ -47,18 +47,18 @@ use Rattle.write_count.proofs.Slots.{ComesTo, Leaves, Wrote, comes_to}
 -- ---- rows
 
 -- so much for each object, by its kind
-abbrev of_kind : (Kind → ℕ) → Object → ℕ
+abbrev pub of_kind : (Kind → ℕ) → Object → ℕ
 of_kind f o = f (kind_of o)
 
-abbrev is_volume : Kind → ℕ
+abbrev pub is_volume : Kind → ℕ
 is_volume kinds.PersistentVolume = 1
 is_volume kind = 0
 
-abbrev is_claim : Kind → ℕ
+abbrev pub is_claim : Kind → ℕ
 is_claim kinds.PersistentVolumeClaim = 1
 is_claim kind = 0
 
-volumes_are : (rows : List Object) → volumes_in rows ≡ total (of_kind is_volume) rows
+pub volumes_are : (rows : List Object) → volumes_in rows ≡ total (of_kind is_volume) rows
 volumes_are [] = refl
 volumes_are (Class x ∷ os) = let rest = volumes_are os in omega (arith, rest)
 volumes_are (Node x ∷ os) = let rest = volumes_are os in omega (arith, rest)
@@ -66,7 +66,7 @@ volumes_are (Volume x ∷ os) = let rest = volumes_are os in omega (arith, rest)
 volumes_are (Claim x ∷ os) = let rest = volumes_are os in omega (arith, rest)
 volumes_are (Pod x ∷ os) = let rest = volumes_are os in omega (arith, rest)
 
-claims_are : (rows : List Object) → claims_in rows ≡ total (of_kind is_claim) rows
+pub claims_are : (rows : List Object) → claims_in rows ≡ total (of_kind is_claim) rows
 claims_are [] = refl
 claims_are (Class x ∷ os) = let rest = claims_are os in omega (arith, rest)
 claims_are (Node x ∷ os) = let rest = claims_are os in omega (arith, rest)
@@ -74,18 +74,23 @@ claims_are (Volume x ∷ os) = let rest = claims_are os in omega (arith, rest)
 claims_are (Claim x ∷ os) = let rest = claims_are os in omega (arith, rest)
 claims_are (Pod x ∷ os) = let rest = claims_are os in omega (arith, rest)
 
--- a row is put in place of one of its kind, or leaves
-over_stays : (f : Kind → ℕ) (old new : List Object) → AreRows old → (o was : Object) → row_at (key_of o) old ≡ Some was → IsMoved old new o → total (of_kind f) new ≤ total (of_kind f) old
-over_stays f old new order o was there (inl put) =
-    let e = ap (total (of_kind f)) put in
-    let h = put_falls (of_kind f) (of_kind f) none_paid o was old order there (λ x i other. omega arith) in
+-- a row is put in place of one that counts no less, or leaves
+pub over_less : (f : Object → ℕ) (old new : List Object) → AreRows old → (o was : Object) → row_at (key_of o) old ≡ Some was → f o ≤ f was → IsMoved old new o → total f new ≤ total f old
+over_less f old new order o was there less (inl put) =
+    let e = ap (total f) put in
+    let h = put_falls f f none_paid o was old order there (λ x i other. omega arith) in
     let z = none_pays old in
-    let same : of_kind f was ≡ of_kind f o = ap (λ (k : Key). f k.kind) (row_at_key (key_of o) was old there) in
-    omega (arith, e, h, z, same)
-over_stays f old new order o was there (inr gone) =
-    let e = ap (total (of_kind f)) gone in
-    let h = without_total (of_kind f) (key_of o) old in
+    omega (arith, e, h, z, less)
+over_less f old new order o was there less (inr gone) =
+    let e = ap (total f) gone in
+    let h = without_total f (key_of o) old in
     omega (arith, e, h)
+
+-- such is one of its kind
+pub over_stays : (f : Kind → ℕ) (old new : List Object) → AreRows old → (o was : Object) → row_at (key_of o) old ≡ Some was → IsMoved old new o → total (of_kind f) new ≤ total (of_kind f) old
+over_stays f old new order o was there moved =
+    let same : of_kind f was ≡ of_kind f o = ap (λ (k : Key). f k.kind) (row_at_key (key_of o) was old there) in
+    over_less (of_kind f) old new order o was there (omega (arith, same)) moved
 
 -- ---- each call
 

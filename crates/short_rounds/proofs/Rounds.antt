@@ -16,14 +16,18 @@ use Rattle.settle_measure.specs.Measure.{claims_in, pods_in, total, volumes_in}
 use Rattle.worker_core.specs.declared.role.Role.{Role}
 use Rattle.worker_core.specs.Absorbs.{woken}
 use Rattle.worker_core.specs.Roles.{IsBuiltKind, kinds_of}
-use Rattle.worker_threads.specs.declared.drainers.Drainer.{Drainer}
-use Rattle.worker_threads.specs.Drainers.{AreAtRest, AreRoles, agent_of, roles_for, roles_of}
-use Rattle.worker_threads.specs.Rounds.{Ends, IsRound, Lets, Runs, Turns}
-use Rattle.worker_threads.proofs.RoundFacts.{AreBuilt, roles_built, round_grows}
-use Rattle.worker_threads.proofs.RunFacts.{run_grows}
+use Rattle.worker_core.specs.States.{ActorState}
+use Rattle.drain_rounds.specs.declared.drainers.Drainer.{Drainer}
+use Rattle.drain_rounds.specs.Drainers.{AreAtRest, AreRoles, agent_of, roles_for, roles_of}
+use Rattle.drain_rounds.specs.Rounds.{Ends, IsRound, Lets, Runs, Turns}
+use Rattle.drain_rounds.proofs.RoundFacts.{AreBuilt, roles_built, round_grows}
+use Rattle.drain_rounds.proofs.RunFacts.{run_grows}
+use Rattle.slot_law.specs.Gates.{HoldsMountsAlone}
+use Rattle.slot_law.specs.Slots.{begun}
 use Rattle.event_law.specs.Ahead.{sum_over}
 use Rattle.event_law.proofs.Sums.{div_less, mul_less}
 use Rattle.short_law.specs.Slots.{writes_since}
+use Rattle.short_law.proofs.HeldCalls.{reads_pass}
 use Rattle.scheduler_slots.proofs.Slots.{passed_schedulers_write_little}
 use Rattle.paid_law.proofs.Slots.{older_run}
 use Rattle.write_count.proofs.Runs.{silent_run}
@@ -44,8 +48,7 @@ use Rattle.slot_costs.proofs.Calls.{sweep_cost, sweep_is}
 use Rattle.slot_costs.proofs.KindCosts.{kinds_cost}
 use Rattle.slot_costs.proofs.Ops.{ended_few, ops_slots_cost_less}
 use Rattle.slot_costs.proofs.RoundCosts.{kept_first, most}
-use Rattle.slot_costs.proofs.Slots.{slots_cost_less}
-use Rattle.sure_slots.specs.Sure.{PassesAll}
+use Rattle.slot_costs.proofs.Slots.{costs_from}
 use Rattle.sure_slots.proofs.Slots.{sure_slots_cost_writes}
 use Rattle.short_rounds.specs.ShortRounds.{RoundsCostLess, agent_sweep_calls, ops_most, sweep_calls}
 use Rattle.short_rounds.proofs.Kept.{scheduler_keeps}
@@ -75,8 +78,32 @@ agent_sweeps first pods few =
     let kinds = agent_kinds first pods few in
     omega (arith, is, pass, kinds)
 
+-- an agent, from where nothing is under way. One that was told that its epoch is stale makes no call
+pub agent_costs_from :
+    (setup : Setup) (lets : Lets) (seat : ℕ) (old after : ActorState) (h past : List Entry) (b left : ℕ) (idle : Bool) (pods : ℕ) → old.role.kind ≡ seats.Agent → IsRunOf setup past → HoldsMountsAlone lets → (old.memory.stale ≡ false → old.under ≡ None)
+    → total pod_size (world setup h).store.rows ≤ pods → Runs lets seat after past left idle (begun old) h b → b ≤ left + (8 * writes_since setup h past + (3 * pods + 62) + agent_sweep_calls pods * (writes_since setup h past / 513))
+agent_costs_from setup lets seat old after h past b left idle pods kind run holds rests few runs = by old.memory.stale refl
+  where
+    by : (stale : Bool) → old.memory.stale ≡ stale → b ≤ left + (8 * writes_since setup h past + (3 * pods + 62) + agent_sweep_calls pods * (writes_since setup h past / 513))
+    by true e = let same = (silent_run setup lets seat after past left idle run (begun old) h b runs e).1 in omega (arith, same)
+    by false e =
+        let rows = rows_stand_in_order setup h in
+        let less = costs_from setup lets seat old after h past b left idle (world setup h).store.rows (subst IsBuiltKind (sym kind) tt) run (reads_pass lets holds) (rests e) rows (kept_first old.role.kind (world setup h).store.rows) runs in
+        let kinds = agent_kinds (world setup h).store.rows pods few in
+        let of_kind : sum_over (most old.role.kind (world setup h).store.rows) (kinds_of old.role.kind) ≡ sum_over (most seats.Agent (world setup h).store.rows) (kinds_of seats.Agent) = ap (λ k. sum_over (most k (world setup h).store.rows) (kinds_of k)) kind in
+        let sweeps = mul-le (sweep_cost (world setup h).store.rows seats.Agent) (writes_since setup h past / 513) (agent_sweep_calls pods) (writes_since setup h past / 513) (agent_sweeps (world setup h).store.rows pods few) (omega arith) in
+        let as_agent = ap (λ k. sweep_cost (world setup h).store.rows k * (writes_since setup h past / 513)) kind in
+        omega (arith, less, kinds, of_kind, sweeps, as_agent)
+
+-- the writes of an agent are among the pods
+pub agents_sweep : (pods n before now : ℕ) → n + now ≤ before → agent_sweep_calls pods * (n / 513) + agent_sweep_calls pods * (now / 513) ≤ agent_sweep_calls pods * (before / 513)
+agents_sweep pods n before now few =
+    let two = swept (agent_sweep_calls pods) n now in
+    let less = mul_less (agent_sweep_calls pods) ((n + now) / 513) (before / 513) (div_less (n + now) before few) in
+    omega (arith, two, less)
+
 -- volumes that have ended are volumes
-ops_sweeps : (rows : List Object) (claims volumes : ℕ) → claims_in rows ≤ claims → volumes_in rows ≤ volumes → ops_sweep_calls rows ≤ sweep_calls claims volumes
+pub ops_sweeps : (rows : List Object) (claims volumes : ℕ) → claims_in rows ≤ claims → volumes_in rows ≤ volumes → ops_sweep_calls rows ≤ sweep_calls claims volumes
 unfolding ops_sweep_calls sweep_calls
 ops_sweeps rows claims volumes few fewer = let ended = ended_few rows in omega (arith, few, fewer, ended)
 
@@ -113,7 +140,7 @@ stand_so roles these = subst StandSo (sym these.are) (refl, (refl, (IsSure refl,
 
 -- ---- the sum
 
-module _ (setup : Setup) (lets : Lets) (past : List Entry) (left : ℕ) (run : IsRunOf setup past) (passes : PassesAll lets) (start : List Entry) where
+module _ (setup : Setup) (lets : Lets) (past : List Entry) (left : ℕ) (run : IsRunOf setup past) (holds : HoldsMountsAlone lets) (start : List Entry) where
   abbrev first : List Object
   first = (world setup start).store.rows
 
@@ -123,11 +150,11 @@ module _ (setup : Setup) (lets : Lets) (past : List Entry) (left : ℕ) (run : I
   abbrev given_at : List Entry → Type 0
   given_at h = AreGiven (world setup start).store.rows (world setup h).store.rows
 
-  middle_run : (ds : List Drainer) (h : List Entry) (b : ℕ) (after : List Drainer) (whole : Bool) → IsRound lets past left ds h b after whole → IsRunOf setup h
+  pub middle_run : (ds : List Drainer) (h : List Entry) (b : ℕ) (after : List Drainer) (whole : Bool) → IsRound lets past left ds h b after whole → IsRunOf setup h
   middle_run ds h b after whole round = let g = round_grows lets past left ds h b after whole round in older_run setup g.longer.added h (subst (IsRunOf setup) g.longer.are run)
 
   -- the writes of a slot, and those after it
-  split : (d ran : Drainer) (ds : List Drainer) (h middle : List Entry) (b rest : ℕ) (idle : Bool) (after : List Drainer) (whole : Bool) → Runs lets d.seat ran.actor middle rest idle (woken d.actor) h b → IsRound lets past left ds middle rest after whole
+  pub split : (d ran : Drainer) (ds : List Drainer) (h middle : List Entry) (b rest : ℕ) (idle : Bool) (after : List Drainer) (whole : Bool) → Runs lets d.seat ran.actor middle rest idle (woken d.actor) h b → IsRound lets past left ds middle rest after whole
       → writes_since setup h past ≡ writes_since setup h middle + writes_since setup middle past
   split d ran ds h middle b rest idle after whole runs more =
       let g = run_grows lets d.seat ran.actor middle rest idle (woken d.actor) h b runs in
@@ -143,30 +170,11 @@ module _ (setup : Setup) (lets : Lets) (past : List Entry) (left : ℕ) (run : I
 
   agent_slot : (d ran : Drainer) (h middle : List Entry) (b rest : ℕ) (idle : Bool) → IsRunOf setup middle → d.actor.role.kind ≡ seats.Agent → (d.actor.memory.stale ≡ false → d.actor.under ≡ None) → Runs lets d.seat ran.actor middle rest idle (woken d.actor) h b → given_at h
       → b ≤ rest + (8 * writes_since setup h middle + (3 * pods + 62) + agent_sweep_calls pods * (writes_since setup h middle / 513))
-  agent_slot d ran h middle b rest idle here kind rests runs given = by d.actor.memory.stale refl
-    where
-      by : (stale : Bool) → d.actor.memory.stale ≡ stale → b ≤ rest + (8 * writes_since setup h middle + (3 * pods + 62) + agent_sweep_calls pods * (writes_since setup h middle / 513))
-      by true e = let same = (silent_run setup lets d.seat ran.actor middle rest idle here (woken d.actor) h b runs e).1 in omega (arith, same)
-      by false e =
-          let rows = rows_stand_in_order setup h in
-          let less = slots_cost_less setup lets d.seat d.actor ran.actor h middle b rest idle (world setup h).store.rows (subst IsBuiltKind (sym kind) tt) here (λ g request own. passes g request) (rests e) rows (kept_first d.actor.role.kind (world setup h).store.rows) runs in
-          let few = pods_at h given in
-          let kinds = agent_kinds (world setup h).store.rows pods few in
-          let of_kind : sum_over (most d.actor.role.kind (world setup h).store.rows) (kinds_of d.actor.role.kind) ≡ sum_over (most seats.Agent (world setup h).store.rows) (kinds_of seats.Agent) = ap (λ k. sum_over (most k (world setup h).store.rows) (kinds_of k)) kind in
-          let sweeps = mul-le (sweep_cost (world setup h).store.rows seats.Agent) (writes_since setup h middle / 513) (agent_sweep_calls pods) (writes_since setup h middle / 513) (agent_sweeps (world setup h).store.rows pods few) (omega arith) in
-          let as_agent = ap (λ k. sweep_cost (world setup h).store.rows k * (writes_since setup h middle / 513)) kind in
-          omega (arith, less, kinds, of_kind, sweeps, as_agent)
-
-  -- the writes of an agent are among the pods
-  agents_sweep : (n before now : ℕ) → n + now ≤ before → agent_sweep_calls pods * (n / 513) + agent_sweep_calls pods * (now / 513) ≤ agent_sweep_calls pods * (before / 513)
-  agents_sweep n before now few =
-      let two = swept (agent_sweep_calls pods) n now in
-      let less = mul_less (agent_sweep_calls pods) ((n + now) / 513) (before / 513) (div_less (n + now) before few) in
-      omega (arith, two, less)
+  agent_slot d ran h middle b rest idle here kind rests runs given = agent_costs_from setup lets d.seat (woken d.actor) ran.actor h middle b rest idle pods kind here holds rests (pods_at h given) runs
 
   sure_slot : (d ran : Drainer) (h middle : List Entry) (b rest : ℕ) (idle : Bool) → IsRunOf setup middle → begins_to_last d.actor.role.kind ≡ true → (d.actor.memory.stale ≡ false → d.actor.under ≡ None) → Runs lets d.seat ran.actor middle rest idle (woken d.actor) h b
       → b ≤ rest + (8 * writes_since setup h middle + 65)
-  sure_slot d ran h middle b rest idle here sure rests runs = sure_slots_cost_writes setup lets d.seat d.actor ran.actor h middle b rest idle sure here passes rests runs
+  sure_slot d ran h middle b rest idle here sure rests runs = sure_slots_cost_writes setup lets d.seat d.actor ran.actor h middle b rest idle sure here holds rests runs
 
   -- ---- the binder, the protection controllers and the agents
 
@@ -194,7 +202,7 @@ module _ (setup : Setup) (lets : Lets) (past : List Entry) (left : ℕ) (run : I
       by here n later (IsAgent kind) =
           let now = agent_slot d ran h middle b rest idle here kind (rests 0 d refl) runs given in
           let few = agents_write_little setup lets d.seat d.actor ran.actor h middle b rest idle kind here runs in
-          let sweeps = agents_sweep (writes_since setup h middle) (pods_in (world setup h).store.rows) (pods_in (world setup middle).store.rows) few in
+          let sweeps = agents_sweep pods (writes_since setup h middle) (pods_in (world setup h).store.rows) (pods_in (world setup middle).store.rows) few in
           let own = ap (role_calls pods) kind in
           omega (arith, n, later, now, sweeps, own)
       by here n later (IsSure sure) =
@@ -214,7 +222,7 @@ module _ (setup : Setup) (lets : Lets) (past : List Entry) (left : ℕ) (run : I
       let here = middle_run ds middle rest after whole more in
       let later = plain_round ds middle rest after whole more so.1.1 built.1 (λ place x at. rests (suc place) x at) (slot_given setup lets d.seat d.actor ran.actor h middle b rest idle (world setup start).store.rows here built.0 (rests 0 d refl) runs given) in
       let n = split d ran ds h middle b rest idle after whole runs more in
-      let now = ops_slots_cost_less setup lets d.seat d.actor ran.actor h middle b rest idle so.1.0 here (λ g request own. passes g request) (rests 0 d refl) runs in
+      let now = ops_slots_cost_less setup lets d.seat d.actor ran.actor h middle b rest idle so.1.0 here (reads_pass lets holds) (rests 0 d refl) runs in
       let falls = ops_writes_fall setup lets d.seat d.actor ran.actor h middle b rest idle so.1.0 here (rests 0 d refl) runs in
       let ended = ended_few (world setup h).store.rows in
       let less = mul-le (ops_sweep_calls (world setup h).store.rows) (writes_since setup h middle / 513) (sweep_calls claims volumes) (writes / 513) (ops_sweeps (world setup h).store.rows claims volumes few fewer)
@@ -234,7 +242,7 @@ module _ (setup : Setup) (lets : Lets) (past : List Entry) (left : ℕ) (run : I
       let here = middle_run ds middle rest after whole more in
       let kind = first_kind (roles_of ds) so in
       let kept = scheduler_keeps setup lets d.seat d.actor ran.actor h middle b rest idle kind here runs in
-      let writes = passed_schedulers_write_little setup lets d.seat d.actor ran.actor h middle b rest idle kind here passes (rests 0 d refl) runs in
+      let writes = passed_schedulers_write_little setup lets d.seat d.actor ran.actor h middle b rest idle kind here holds (rests 0 d refl) runs in
       let nodes = schedulers_select_few setup lets d.seat d.actor ran.actor h middle b rest idle kind here runs in
       let bounded = ops_writes_are_bounded setup (world setup middle) in
       let claims = kept.claims in
@@ -262,11 +270,11 @@ agents_idle pods (node ∷ nodes) =
     let more = one_more (length nodes) (3 * pods + 62) in
     omega (arith, rest, more)
 
-lengths : (ds : List Drainer) → length (roles_of ds) ≡ length ds
+pub lengths : (ds : List Drainer) → length (roles_of ds) ≡ length ds
 lengths [] = refl
 lengths (d ∷ ds) = ap suc (lengths ds)
 
-nodes_many : (nodes : List (List ℕ)) → length (map agent_of nodes) ≡ length nodes
+pub nodes_many : (nodes : List (List ℕ)) → length (map agent_of nodes) ≡ length nodes
 nodes_many [] = refl
 nodes_many (node ∷ nodes) = ap suc (nodes_many nodes)
 
@@ -278,8 +286,8 @@ idle_few pods nodes =
     omega (arith, agents, each, sum)
 
 pub rounds_cost_less : RoundsCostLess
-rounds_cost_less setup lets ds after h past b left whole roles rests run passes round =
-    let all = whole_round setup lets past left run passes h ds h b after whole round (stand_so (roles_of ds) roles) (roles_built (roles_of ds) roles) rests (given_first (world setup h).store.rows) in
+rounds_cost_less setup lets ds after h past b left whole roles rests run holds round =
+    let all = whole_round setup lets past left run holds h ds h b after whole round (stand_so (roles_of ds) roles) (roles_built (roles_of ds) roles) rests (given_first (world setup h).store.rows) in
     let idle = idle_few (total pod_size (world setup h).store.rows) roles.nodes in
     let are = ap (idle_of (total pod_size (world setup h).store.rows)) roles.are in
     let many : length ds ≡ 5 + length roles.nodes = (let a = lengths ds in let c = ap (λ (rs : List Role). length rs) roles.are in let d = nodes_many roles.nodes in omega (arith, a, c, d)) in

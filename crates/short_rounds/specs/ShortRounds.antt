@@ -6,18 +6,15 @@ use Rattle.call_types.specs.declared.setup.Setup.{Setup}
 use Rattle.binder_model.specs.Promises.{IsRunOf}
 use Rattle.binder_model.specs.World.{World, world}
 use Rattle.settle_measure.specs.Measure.{claims_in, faults_left, pods_in, volumes_in}
-use Rattle.worker_threads.specs.declared.drainers.Drainer.{Drainer}
-use Rattle.worker_threads.specs.Drainers.{AreAtRest, AreRoles, roles_of}
-use Rattle.worker_threads.specs.Rounds.{Drains, Goes, IsRound, IsSpent, Lets, NothingDue}
+use Rattle.drain_rounds.specs.declared.drainers.Drainer.{Drainer}
+use Rattle.drain_rounds.specs.Drainers.{AreAtRest, AreRoles, roles_of}
+use Rattle.drain_rounds.specs.Rounds.{Drains, Goes, IsRound, IsSpent, Lets, NothingDue}
+use Rattle.slot_law.specs.Gates.{HoldsMountsAlone}
 use Rattle.short_law.specs.Rounds.{size_of_world}
 use Rattle.short_law.specs.Slots.{writes_since}
 use Rattle.scheduler_writes.specs.Pods.{pods_writes}
-use Rattle.write_count.specs.Counts.{AnnotationsAreInOrder, nodes_in}
+use Rattle.write_count.specs.Counts.{nodes_in}
 use Rattle.write_count.specs.Rounds.{pods_size}
-use Rattle.settle_law.specs.Settling.{MayDrain}
-use Rattle.all_pay.specs.All.{ImportsAllow}
-use Rattle.sure_slots.specs.Sure.{PassesAll}
-use Rattle.drain_budget.specs.Budget.{AreAlwaysInOrder}
 
 -- ---- by the writes of the round
 
@@ -45,10 +42,11 @@ less_calls actors claims volumes pods writes = 8 * writes + (2 * claims + 3 * vo
 abbrev pub swept_calls : Setup → World → ℕ
 swept_calls setup w = sweep_calls (claims_in w.store.rows) (volumes_in w.store.rows) * (ops_most setup w / 513) + agent_sweep_calls (pods_size w) * (pods_in w.store.rows / 513)
 
--- of a round of the actors of a drain that begins with nothing under way and in which no call is held back, in a world of any size
+-- of a round of the actors of a drain that begins with nothing under way and in which Mounts alone may be held back, in a world of any size. A Mount that
+-- is held back counts as a call
 abbrev pub RoundsCostLess : Type 0
 RoundsCostLess =
-    (setup : Setup) (lets : Lets) (ds after : List Drainer) (h past : List Entry) (b left : ℕ) (whole : Bool) → AreRoles (roles_of ds) → AreAtRest ds → IsRunOf setup past → PassesAll lets → IsRound lets past left ds h b after whole
+    (setup : Setup) (lets : Lets) (ds after : List Drainer) (h past : List Entry) (b left : ℕ) (whole : Bool) → AreRoles (roles_of ds) → AreAtRest ds → IsRunOf setup past → HoldsMountsAlone lets → IsRound lets past left ds h b after whole
     → b ≤ left + (less_calls (length ds) (claims_in (world setup h).store.rows) (volumes_in (world setup h).store.rows) (pods_size (world setup h)) (writes_since setup h past) + swept_calls setup (world setup h))
 
 -- ---- by the sizes
@@ -65,12 +63,6 @@ HasShortRounds w = length w.store.rows ≤ 8192
 abbrev pub SmallWorldsHaveShortRounds : Type 0
 SmallWorldsHaveShortRounds = (w : World) → size_of_world w ≤ 512 → HasShortRounds w
 
--- a round of at most 13 actors, those of a drain with at most eight agents, that begins with such a world, whatever the number of planned faults
-abbrev pub RoundsAreShort : Type 0
-RoundsAreShort =
-    (setup : Setup) (lets : Lets) (ds after : List Drainer) (h past : List Entry) (b left : ℕ) (whole : Bool) → ImportsAllow setup → AreRoles (roles_of ds) → AreAtRest ds → IsRunOf setup past → PassesAll lets → IsRound lets past left ds h b after whole
-    → length ds ≤ 13 → AnnotationsAreInOrder (world setup h) → HasShortRounds (world setup h) → b ≤ left + stated_calls setup (world setup h)
-
 -- ---- drains
 
 -- each round of the drain that begins so is short
@@ -79,19 +71,3 @@ EachRoundIsShort lets setup after past left ds h b (NothingDue settled same entr
 EachRoundIsShort lets setup after past left ds h b (IsSpent first due none same entries rest) = ⊤
 EachRoundIsShort lets setup after past left ds h b (Goes first due some between middle rest whole round more) =
     (HasShortRounds (world setup h) → b ≤ rest + stated_calls setup (world setup h)) × EachRoundIsShort lets setup after past left between middle rest more
-
-abbrev pub DrainedRoundsAreShort : Type 0
-DrainedRoundsAreShort =
-    (setup : Setup) (lets : Lets) (ds after : List Drainer) (h past : List Entry) (b left : ℕ) → ImportsAllow setup → MayDrain setup h ds → AreAtRest ds → IsRunOf setup past → PassesAll lets → AreAlwaysInOrder setup past → length ds ≤ 13
-    → (drained : Drains lets setup after past left ds h b) → EachRoundIsShort lets setup after past left ds h b drained
-
--- and whatever the actors have under way as the drain begins, each round behind the first is
-abbrev pub EachLaterRoundIsShort : (lets : Lets) (setup : Setup) (after : List Drainer) (past : List Entry) (left : ℕ) (ds : List Drainer) (h : List Entry) (b : ℕ) → Drains lets setup after past left ds h b → Type 0
-EachLaterRoundIsShort lets setup after past left ds h b (NothingDue settled same entries rest) = ⊤
-EachLaterRoundIsShort lets setup after past left ds h b (IsSpent first due none same entries rest) = ⊤
-EachLaterRoundIsShort lets setup after past left ds h b (Goes first due some between middle rest whole round more) = EachRoundIsShort lets setup after past left between middle rest more
-
-abbrev pub LaterRoundsAreShort : Type 0
-LaterRoundsAreShort =
-    (setup : Setup) (lets : Lets) (ds after : List Drainer) (h past : List Entry) (b left : ℕ) → ImportsAllow setup → MayDrain setup h ds → IsRunOf setup past → PassesAll lets → AreAlwaysInOrder setup past → length ds ≤ 13
-    → (drained : Drains lets setup after past left ds h b) → EachLaterRoundIsShort lets setup after past left ds h b drained

@@ -1,24 +1,31 @@
 -- A slot costs no more than the objects with which it begins, its writes, and what is listed again.
-use Rattle.std.proofs.Common.{◌≡◌, ℕ, ◌+◌, ◌*◌, ◌-◌, ◌≤◌, List, length, refl, arith}
+use Rattle.std.proofs.Common.{◌≡◌, ℕ, ◌+◌, ◌*◌, ◌-◌, ◌≤◌, List, Bool, None, length, refl, arith}
 use Rattle.std.specs.Prelude.{◌/◌}
 use Rattle.std.proofs.lemmas.Nat.{mul-le}
 use Rattle.kube_types.specs.declared.parts.Kind.{Kind}
 use Rattle.kube_types.specs.declared.objects.Object.{Object}
+use Rattle.call_types.specs.declared.entry.Entry.{Entry}
 use Rattle.call_types.specs.declared.request.SeatKind.{SeatKind}
 use Rattle.call_types.specs.declared.request.SeatKind.TheVariants as seats
+use Rattle.call_types.specs.declared.setup.Setup.{Setup}
+use Rattle.binder_model.specs.Promises.{IsRunOf}
 use Rattle.binder_model.specs.World.{world}
 use Rattle.model_laws.proofs.Histories.{rows_stand_in_order}
 use Rattle.settle_measure.specs.Measure.{claims_in}
-use Rattle.worker_core.specs.Roles.{kinds_of}
+use Rattle.worker_core.specs.Absorbs.{woken}
+use Rattle.worker_core.specs.Roles.{IsBuiltKind, kinds_of}
+use Rattle.worker_core.specs.States.{ActorState}
+use Rattle.drain_rounds.specs.Rounds.{Lets, Runs}
+use Rattle.slot_law.specs.Slots.{begun}
 use Rattle.event_law.specs.Ahead.{sum_over}
-use Rattle.short_law.specs.Slots.{writes_since}
+use Rattle.short_law.specs.Slots.{PassesReads, writes_since}
 use Rattle.write_count.proofs.Growth.{made_few, made_keys}
 use Rattle.slot_costs.specs.Costs.{made_calls}
 use Rattle.slot_costs.specs.Slots.{SlotsCostLess, again_calls, objects_calls}
 use Rattle.slot_costs.proofs.Calls.{sweep_cost, sweep_is}
 use Rattle.slot_costs.proofs.KindCosts.{kinds_cost}
 use Rattle.slot_costs.proofs.RoundCosts.{kept_first, most}
-use Rattle.slot_costs.proofs.Slots.{slots_cost_less}
+use Rattle.slot_costs.proofs.Slots.{costs_from}
 
 -- what a pass costs in which each kind is listed again
 abbrev pub pass_calls : SeatKind → ℕ
@@ -53,10 +60,16 @@ again_more kind rows =
     let again = again_is kind rows in
     omega (arith, is, pass, few, again)
 
-pub slots_cost_by_rows : SlotsCostLess
-slots_cost_by_rows setup lets seat old after h past b left idle built run passes rests runs =
+-- of an actor with nothing under way
+pub costs_by_rows :
+    (setup : Setup) (lets : Lets) (seat : ℕ) (old after : ActorState) (h past : List Entry) (b left : ℕ) (idle : Bool) → IsBuiltKind old.role.kind → IsRunOf setup past → PassesReads lets → old.under ≡ None → Runs lets seat after past left idle (begun old) h b
+    → b ≤ left + (8 * writes_since setup h past + (objects_calls old.role.kind (world setup h).store.rows + (again_calls old.role.kind (world setup h).store.rows * (writes_since setup h past / 513) + 62)))
+costs_by_rows setup lets seat old after h past b left idle built run passes rests runs =
     let rows = rows_stand_in_order setup h in
-    let bound = slots_cost_less setup lets seat old after h past b left idle (world setup h).store.rows built run passes rests rows (kept_first old.role.kind (world setup h).store.rows) runs in
+    let bound = costs_from setup lets seat old after h past b left idle (world setup h).store.rows built run passes rests rows (kept_first old.role.kind (world setup h).store.rows) runs in
     let few = kinds_few old.role.kind (world setup h).store.rows in
     let swept = mul-le (sweep_cost (world setup h).store.rows old.role.kind) (writes_since setup h past / 513) (again_calls old.role.kind (world setup h).store.rows) (writes_since setup h past / 513) (again_more old.role.kind (world setup h).store.rows) (omega arith) in
     omega (arith, bound, few, swept)
+
+pub slots_cost_by_rows : SlotsCostLess
+slots_cost_by_rows setup lets seat old after h past b left idle built run passes rests runs = costs_by_rows setup lets seat (woken old) after h past b left idle built run passes rests runs

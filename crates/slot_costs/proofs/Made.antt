@@ -19,7 +19,7 @@ use Rattle.safety_invariant.specs.Writes.{Writes}
 use Rattle.safety_invariant.proofs.Effects.{effect_form}
 use Rattle.worker_core.specs.Roles.{IsBuiltKind}
 use Rattle.worker_core.specs.States.{ActorState}
-use Rattle.worker_threads.specs.Rounds.{told_entry}
+use Rattle.drain_rounds.specs.Rounds.{told_entry}
 use Rattle.slot_law.specs.Slots.{KnowsBehind}
 use Rattle.done_lasts.proofs.Doing.{write_asked}
 use Rattle.write_count.proofs.Runs.{IsCalled}

@@ -43,7 +43,7 @@ use Rattle.std.proofs.lemmas.Option.{slice_get_within}
 use Rattle.call_types.specs.declared.reply.Events.{Events as EventsData}
 use Rattle.model_laws.proofs.Watched.{logs}
 use Rattle.worker_core.specs.Absorbs.{is_none_of, told_to}
-use Rattle.worker_threads.specs.Rounds.{told_entry}
+use Rattle.drain_rounds.specs.Rounds.{told_entry}
 use Rattle.event_law.proofs.Calls.{Stays, Wrote, gone_from, listed_from, unread_from, watched_from, world_moves}
 use Rattle.event_law.proofs.Events.{none_pending, told_so}
 use Rattle.pass_law.proofs.Told.{all_added_cost, ended_cost, told_after}

@@ -27,11 +27,11 @@ use Rattle.worker_core.proofs.Answered.{gives_asked}
 use Rattle.worker_core.proofs.Turning.{turn_stands}
 use Rattle.attention_law.specs.Queues.{taken_keys, under_keys}
 use Rattle.attention_law.proofs.Turned.{answer_role}
-use Rattle.worker_threads.specs.Rounds.{Asks, IsHeld, IsIdle, IsReady, IsSpent, Lets, Runs, told_entry}
-use Rattle.worker_threads.proofs.RunFacts.{still_role, turn_role}
-use Rattle.slot_law.specs.Slots.{KnowsBehind}
+use Rattle.drain_rounds.specs.Rounds.{Asks, IsHeld, IsIdle, IsReady, IsSpent, Lets, Runs, told_entry}
+use Rattle.drain_rounds.proofs.RunFacts.{still_role, turn_role}
+use Rattle.slot_law.specs.Slots.{KnowsBehind, begun}
 use Rattle.slot_law.proofs.Knowing.{lost_knows, sees, told_knows, turned_knows}
-use Rattle.slot_law.proofs.Slots.{nothing_behind, run_older}
+use Rattle.slot_law.proofs.Slots.{begun_behind, run_older}
 use Rattle.cost_law.specs.Costs.{calls_for}
 use Rattle.event_law.specs.Counts.{pending}
 use Rattle.cost_law.specs.Tasks.{task_left, under_left}
@@ -357,11 +357,12 @@ module _ (setup : Setup) (lets : Lets) (passes : PassesReads lets) (seat : ℕ) 
 abbrev pub slot_most : List Object → SeatKind → ℕ → ℕ
 slot_most first kind writes = 8 * writes + (sum_over (most kind first) (kinds_of kind) + (sweep_cost first kind * (writes / 513) + 62))
 
-pub slots_cost_less : (setup : Setup) (lets : Lets) (seat : ℕ) (old after : ActorState) (h past : List Entry) (b left : ℕ) (idle : Bool) (first : List Object) → IsBuiltKind old.role.kind → IsRunOf setup past → PassesReads lets → old.under ≡ None → AreRows first
-    → AreKept old.role.kind first (world setup h).store.rows → Runs lets seat after past left idle (woken old) h b → b ≤ left + slot_most first old.role.kind (writes_since setup h past)
-slots_cost_less setup lets seat old after h past b left idle first built run passes rests order so runs =
-    let bound = first_pass setup lets passes seat after past left idle run first order (world setup h).store.version (total (calls_for old.role.kind) (world setup h).store.rows + 3 * writes_since setup h past) (first_low setup h) (woken old) h b runs built rests refl begun_point (λ place kind from lt. absurd (omega (arith, lt)))
-    (nothing_behind setup seat old h) so in
+-- of an actor with nothing under way
+pub costs_from : (setup : Setup) (lets : Lets) (seat : ℕ) (old after : ActorState) (h past : List Entry) (b left : ℕ) (idle : Bool) (first : List Object) → IsBuiltKind old.role.kind → IsRunOf setup past → PassesReads lets → old.under ≡ None → AreRows first
+    → AreKept old.role.kind first (world setup h).store.rows → Runs lets seat after past left idle (begun old) h b → b ≤ left + slot_most first old.role.kind (writes_since setup h past)
+costs_from setup lets seat old after h past b left idle first built run passes rests order so runs =
+    let bound = first_pass setup lets passes seat after past left idle run first order (world setup h).store.version (total (calls_for old.role.kind) (world setup h).store.rows + 3 * writes_since setup h past) (first_low setup h) (begun old) h b runs built rests refl begun_point (λ place kind from lt. absurd (omega (arith, lt)))
+    (begun_behind setup seat old h) so in
     let start = start_few old.role old.memory in
     let waits = of_each old.role.kind (λ k. wait_cost (world setup h).store.version (from_of seat h k)) 10 (λ k. wait_few (world setup h).store.version (from_of seat h k)) in
     let events = of_each old.role.kind (λ k. 9 * pending k (world setup h).store.version (world setup h).log) 0 (λ k. none_yet k) in
@@ -369,7 +370,7 @@ slots_cost_less setup lets seat old after h past b left idle first built run pas
     omega (arith, bound, start, waits, events, none)
   where
     up : (world setup h).store.version ≤ (world setup past).store.version
-    up = later setup lets seat after past left idle (woken old) h b runs
+    up = later setup lets seat after past left idle (begun old) h b runs
 
     none_yet : (k : Kind) → 9 * pending k (world setup h).store.version (world setup h).log ≤ 0
     none_yet k = let n = none_pending k (world setup h).store.version (world setup h).store.version (world setup h).log (omega arith) (logs setup h 0) in omega (arith, n)
@@ -380,3 +381,7 @@ slots_cost_less setup lets seat old after h past b left idle first built run pas
       light = λ y i lt. absurd (let top = at_most 0 (world setup h).store.version (world setup h).log y (logs setup h 0) i in omega (arith, top, lt));
       heavy = omega (arith, up);
     }
+
+pub slots_cost_less : (setup : Setup) (lets : Lets) (seat : ℕ) (old after : ActorState) (h past : List Entry) (b left : ℕ) (idle : Bool) (first : List Object) → IsBuiltKind old.role.kind → IsRunOf setup past → PassesReads lets → old.under ≡ None → AreRows first
+    → AreKept old.role.kind first (world setup h).store.rows → Runs lets seat after past left idle (woken old) h b → b ≤ left + slot_most first old.role.kind (writes_since setup h past)
+slots_cost_less setup lets seat old after h past b left idle first built run passes rests order so runs = costs_from setup lets seat (woken old) after h past b left idle first built run passes rests order so runs

@@ -20,7 +20,7 @@ use Rattle.worker_core.specs.Roles.{IsBuiltKind, kind_in_order, kinds_of}
 use Rattle.worker_core.specs.States.{ActorState}
 use Rattle.worker_core.specs.Turns.{passing, unlisted}
 use Rattle.worker_core.proofs.Answered.{passed}
-use Rattle.worker_threads.specs.Rounds.{IsReady}
+use Rattle.drain_rounds.specs.Rounds.{IsReady}
 use Rattle.slot_law.proofs.Knowing.{watches_from}
 use Rattle.event_law.specs.Ahead.{from_of, sum_over}
 use Rattle.event_law.specs.Counts.{pending}

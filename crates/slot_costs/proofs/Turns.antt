@@ -28,7 +28,7 @@ use Rattle.worker_core.specs.Tasks.{GivesNone}
 use Rattle.worker_core.specs.Turns.{AfterKeys, Begins, Decides, Drops, IsTurn, Nothing, TurnBy, dropped, passing, unlisted}
 use Rattle.attention_law.specs.Queues.{taken_keys, under_keys}
 use Rattle.attention_law.proofs.Queues.{begun_taken}
-use Rattle.worker_threads.specs.Rounds.{IsReady}
+use Rattle.drain_rounds.specs.Rounds.{IsReady}
 use Rattle.slot_law.specs.Slots.{SeesStore}
 use Rattle.cost_law.specs.Costs.{work_cost}
 use Rattle.cost_law.specs.Tasks.{under_left}

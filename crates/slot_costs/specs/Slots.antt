@@ -14,7 +14,7 @@ use Rattle.settle_measure.specs.Measure.{claims_in, total}
 use Rattle.worker_core.specs.Absorbs.{woken}
 use Rattle.worker_core.specs.Roles.{IsBuiltKind, kinds_of}
 use Rattle.worker_core.specs.States.{ActorState}
-use Rattle.worker_threads.specs.Rounds.{Lets, Runs}
+use Rattle.drain_rounds.specs.Rounds.{Lets, Runs}
 use Rattle.short_law.specs.Slots.{PassesReads, writes_since}
 use Rattle.slot_costs.specs.Costs.{made_calls, own_calls}
 

@@ -36,8 +36,8 @@ use Rattle.worker_core.proofs.Answered.{answer_licensed, gives_asked, passed}
 use Rattle.worker_core.proofs.ByKind.{placed, watch_licensed}
 use Rattle.worker_core.proofs.Quiet.{alike}
 use Rattle.attention_law.proofs.Turned.{Kept, PassAfter, Renewed, answer_role, turn_pass}
-use Rattle.worker_threads.specs.Rounds.{IsReady, told_entry}
-use Rattle.worker_threads.proofs.RunFacts.{turn_role}
+use Rattle.drain_rounds.specs.Rounds.{IsReady, told_entry}
+use Rattle.drain_rounds.proofs.RunFacts.{turn_role}
 use Rattle.told_law.specs.Exact.{WatchesFrom}
 use Rattle.told_law.specs.Knowing.{KnowsKind}
 use Rattle.told_law.proofs.Knowing.{watches_make_known}

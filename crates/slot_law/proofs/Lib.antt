@@ -1,3 +1,4 @@
+pub mod Held
 pub mod Knowing
 pub mod Slots
 pub mod Would

@@ -40,12 +40,12 @@ use Rattle.worker_core.proofs.KeysKept.{answers_keep_keys}
 use Rattle.attention_law.specs.Queues.{under_keys}
 use Rattle.attention_law.proofs.Queues.{cached_self, row_any}
 use Rattle.attention_law.proofs.Turned.{answer_role, calls_fresh, idle_rests}
-use Rattle.worker_threads.specs.Rounds.{Asks, IsHeld, IsIdle, IsReady, IsSpent, Lets, Runs, told_entry}
-use Rattle.worker_threads.proofs.RunFacts.{run_grows, still_role, turn_memory, turn_role}
+use Rattle.drain_rounds.specs.Rounds.{Asks, IsHeld, IsIdle, IsReady, IsSpent, Lets, Runs, told_entry}
+use Rattle.drain_rounds.proofs.RunFacts.{run_grows, still_role, turn_memory, turn_role}
 use Rattle.write_law.specs.Lasting.{HasLasting, Lasts, LastsBetween}
 use Rattle.alike_law.specs.Alike.{AreAlike}
 use Rattle.alike_law.proofs.Calls.{LastsOrAlike, calls_last_or_leave_alike, then_alike}
-use Rattle.slot_law.specs.Slots.{ActsOn, CachedKeysWait, IsDecisionPoint, KnowsBehind, Now, OthersStayAwake, PassedSeeTheStore, SlotsLast, Then, WillLast, own_entry}
+use Rattle.slot_law.specs.Slots.{ActsOn, CachedKeysWait, IsDecisionPoint, KnowsBehind, Now, OthersStayAwake, PassedSeeTheStore, SlotsLast, Then, WillLast, begun, own_entry}
 use Rattle.slot_law.proofs.Knowing.{lost_knows, sees, told_knows, turned_knows}
 
 -- a history without its newest entries is one
@@ -73,6 +73,9 @@ module _ (setup : Setup) (lets : Lets) (seat : ℕ) (after : ActorState) (past :
 -- nothing is behind a pass that begins
 pub nothing_behind : (setup : Setup) (seat : ℕ) (s : ActorState) (h : List Entry) → KnowsBehind setup seat (woken s).role (woken s).pass h
 nothing_behind setup seat s h place kind lt at = absurd (omega (arith, lt))
+
+pub begun_behind : (setup : Setup) (seat : ℕ) (s : ActorState) (h : List Entry) → KnowsBehind setup seat (begun s).role (begun s).pass h
+begun_behind setup seat s h place kind lt at = absurd (omega (arith, lt))
 
 pub passed_see_the_store : PassedSeeTheStore
 passed_see_the_store setup lets seat old after h past b left idle built history run ready over =

@@ -5,7 +5,7 @@ use Rattle.call_types.specs.declared.request.SeatKind.{SeatKind}
 use Rattle.call_types.specs.declared.setup.Setup.{Setup}
 use Rattle.binder_model.specs.World.{world}
 use Rattle.worker_core.specs.declared.task.Under.{Under}
-use Rattle.worker_threads.specs.Rounds.{Lets}
+use Rattle.drain_rounds.specs.Rounds.{Lets}
 use Rattle.alike_law.specs.Alike.{AreAlike}
 use Rattle.slot_law.specs.Slots.{Now, Then, WillLast}
 use Rattle.slot_law.specs.Would.{AtOnce, Here, Later, Leads, On, WouldActWhereCallsPass, WouldLast}

@@ -23,11 +23,15 @@ use Rattle.worker_core.specs.Roles.{IsBuiltKind, kind_in_order}
 use Rattle.worker_core.specs.States.{ActorState, waits}
 use Rattle.worker_core.specs.Tasks.{GivesCall, GivesNone, under_after}
 use Rattle.worker_core.specs.Turns.{passing}
-use Rattle.worker_threads.specs.Drainers.{StandsWhole}
-use Rattle.worker_threads.specs.Rounds.{IsReady, Lets, Runs}
+use Rattle.drain_rounds.specs.Drainers.{StandsWhole}
+use Rattle.drain_rounds.specs.Rounds.{IsReady, Lets, Runs}
 use Rattle.told_law.specs.Knowing.{KnowsKind}
 use Rattle.write_law.specs.Lasting.{HasLasting, Lasts}
 use Rattle.alike_law.specs.Alike.{AreAlike}
+
+-- the actor with its pass before it, as a slot begins and as it goes on once what was under way has ended
+abbrev pub begun : ActorState → ActorState
+begun s = record s { pass = record { behind = 0; event = false } }
 
 -- of each kind that the actor follows the rows of its caches are the store's
 abbrev pub SeesStore : Setup → ActorState → List Entry → Type 0

@@ -12,7 +12,7 @@ use Rattle.worker_core.specs.declared.task.First.{First}
 use Rattle.worker_core.specs.declared.task.Under.{Under}
 use Rattle.worker_core.specs.States.{ActorState}
 use Rattle.worker_core.specs.Tasks.{GivesCall, GivesNone, under_after}
-use Rattle.worker_threads.specs.Rounds.{Lets}
+use Rattle.drain_rounds.specs.Rounds.{Lets}
 use Rattle.write_law.specs.Lasting.{Lasts}
 use Rattle.alike_law.specs.Alike.{AreAlike}
 use Rattle.slot_law.specs.Slots.{ActsOn, IsDecisionPoint, own_entry}

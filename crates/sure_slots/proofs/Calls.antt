@@ -25,7 +25,7 @@ use Rattle.worker_core.specs.States.{ActorState, call_under, given_call, start_o
 use Rattle.worker_core.specs.Tasks.{under_after}
 use Rattle.worker_core.specs.Turns.{passing}
 use Rattle.attention_law.proofs.Turned.{answer_role}
-use Rattle.worker_threads.specs.Rounds.{Lets, told_entry}
+use Rattle.drain_rounds.specs.Rounds.{all_pass, told_entry}
 use Rattle.write_law.specs.Lasting.{Lasts}
 use Rattle.slot_law.specs.Slots.{Now, Then, WillLast, own_entry}
 use Rattle.cost_law.specs.Tasks.{task_left, under_left}
@@ -57,7 +57,7 @@ no_start seats.VolumeProtect node m request sure e = none_some e
 
 -- ---- a call
 
-module _ (setup : Setup) (lets : Lets) (seat base high : ℕ) (x : ActorState) (request : Request) (reply : Reply) (h : List Entry) (given : IsCallGiven setup seat x request reply h) (sure : begins_to_last x.role.kind ≡ true) (may : Licensed x.role.kind (own seat h) request)
+module _ (setup : Setup) (seat base high : ℕ) (x : ActorState) (request : Request) (reply : Reply) (h : List Entry) (given : IsCallGiven setup seat x request reply h) (sure : begins_to_last x.role.kind ≡ true) (may : Licensed x.role.kind (own seat h) request)
     (begins : base_of setup ≤ base) (reached : KindsHaveReached base seat x.role.kind h) (short : (world setup (told_entry seat x request reply ∷ h)).store.version ≤ high) where
   moves : Stays (world setup h) (world setup (told_entry seat x request reply ∷ h)) request reply ⊎ Wrote (world setup h) (world setup (told_entry seat x request reply ∷ h)) reply
   moves = world_moves setup (told_entry seat x request reply) h given.history.1
@@ -100,8 +100,8 @@ module _ (setup : Setup) (lets : Lets) (seat base high : ℕ) (x : ActorState) (
 
     -- what is known of a task behind its write
     record GoesOn : Type 0 where
-      owing : Owing setup lets seat next (told_entry seat x request reply ∷ h)
-      light : owed setup lets seat next (told_entry seat x request reply ∷ h) owing
+      owing : Owing setup seat next (told_entry seat x request reply ∷ h)
+      light : owed setup seat next (told_entry seat x request reply ∷ h) owing
           ≤ key_calls x.role.kind + under_left (under_after t.under reply)
 
     goes_on : GoesOn
@@ -113,7 +113,7 @@ module _ (setup : Setup) (lets : Lets) (seat base high : ℕ) (x : ActorState) (
 
     -- its write, or a call behind it
     writes : (most : ℕ) → task_left t.under.task ≤ most → Wrote (world setup h) (world setup (told_entry seat x request reply ∷ h)) reply
-        → IsLess setup lets seat high next (told_entry seat x request reply ∷ h) 1
+        → IsLess setup seat high next (told_entry seat x request reply ∷ h) 1
         (8 * (high - (world setup h).store.version) + (length (kinds_of x.role.kind) * ((world setup h).store.version - read) + (pass_left x.role.kind x.pass + most)))
     writes most left wrote =
         let pays = wrote_pays wrote in
@@ -124,7 +124,7 @@ module _ (setup : Setup) (lets : Lets) (seat base high : ℕ) (x : ActorState) (
 
     -- one that has written already
     later : (u : Under) → x.under ≡ Some u → Stays (world setup h) (world setup (told_entry seat x request reply ∷ h)) request reply
-        → IsLess setup lets seat high next (told_entry seat x request reply ∷ h) 1
+        → IsLess setup seat high next (told_entry seat x request reply ∷ h) 1
         (8 * (high - (world setup h).store.version) + (length (kinds_of x.role.kind) * ((world setup h).store.version - read) + (pass_left x.role.kind x.pass + (key_calls x.role.kind + task_left u.task))))
     later u there stays =
         let same = stays_same stays in
@@ -135,9 +135,9 @@ module _ (setup : Setup) (lets : Lets) (seat base high : ℕ) (x : ActorState) (
         record { stage = stage; owing = goes_on.owing; less = omega (arith, same, none, goes, on, of_it) }
 
     -- one that is still to write
-    earlier : (u n : Under) → x.under ≡ Some u → under_after u (reply_to (effect setup (world setup h) x.role.kind u.call)) ≡ Some n → WillLast setup lets seat x.role.kind (own_entry setup seat x.role.kind h u.call ∷ h) n
+    earlier : (u n : Under) → x.under ≡ Some u → under_after u (reply_to (effect setup (world setup h) x.role.kind u.call)) ≡ Some n → WillLast setup all_pass seat x.role.kind (own_entry setup seat x.role.kind h u.call ∷ h) n
         → Stays (world setup h) (world setup (told_entry seat x request reply ∷ h)) request reply
-        → IsLess setup lets seat high next (told_entry seat x request reply ∷ h) 1
+        → IsLess setup seat high next (told_entry seat x request reply ∷ h) 1
         (8 * (high - (world setup h).store.version) + (length (kinds_of x.role.kind) * ((world setup h).store.version - read) + (pass_left x.role.kind x.pass + task_left u.task)))
     earlier u n there follows more stays =
         let same = stays_same stays in
@@ -151,11 +151,11 @@ module _ (setup : Setup) (lets : Lets) (seat base high : ℕ) (x : ActorState) (
         ap (λ a. record { seat = seat; kind = x.role.kind; request = u.call; reply = a; told = true }) (sym answered) ∙ ap (λ r. record { seat = seat; kind = x.role.kind; request = r; reply = reply; told = true }) asked in
         let left = ap under_left after in
         let was : task_left t.under.task ≡ task_left u.task = ap (λ (v : Under). task_left v.task) of_it in
-        record { stage = stage; owing = WillWrite n after (subst (λ e. WillLast setup lets seat x.role.kind (e ∷ h) n) entry more); less = omega (arith, same, none, goes, left, was) }
+        record { stage = stage; owing = WillWrite n after (subst (λ e. WillLast setup all_pass seat x.role.kind (e ∷ h) n) entry more); less = omega (arith, same, none, goes, left, was) }
 
     -- what lasts is written
-    lasting_writes_it : (u : Under) → x.under ≡ Some u → WillLast setup lets seat x.role.kind h u → Stays (world setup h) (world setup (told_entry seat x request reply ∷ h)) request reply
-        → IsLess setup lets seat high next (told_entry seat x request reply ∷ h) 1
+    lasting_writes_it : (u : Under) → x.under ≡ Some u → WillLast setup all_pass seat x.role.kind h u → Stays (world setup h) (world setup (told_entry seat x request reply ∷ h)) request reply
+        → IsLess setup seat high next (told_entry seat x request reply ∷ h) 1
         (8 * (high - (world setup h).store.version) + (length (kinds_of x.role.kind) * ((world setup h).store.version - read) + (pass_left x.role.kind x.pass + task_left u.task)))
     lasting_writes_it u there (Now passes lasts) stays =
         let rises = lasting_rises setup (world setup h) x.role.kind (own seat h) request sure may (subst (λ r. Lasts setup (world setup h) x.role.kind r) (asks_it u there) lasts) in
@@ -166,11 +166,11 @@ module _ (setup : Setup) (lets : Lets) (seat base high : ℕ) (x : ActorState) (
     of_it : (u : Under) → x.under ≡ Some u → task_left t.under.task ≤ task_left u.task
     of_it u there = let same : task_left t.under.task ≡ task_left u.task = ap under_left (sym t.there ∙ there) in omega (arith, same)
 
-    task_pays : (owing : Owing setup lets seat x h) → IsLess setup lets seat high (told_to x caches request reply) (told_entry seat x request reply ∷ h) 1 (sure_left setup lets seat high x h (AtKeys read over kinds low few) owing)
-    task_pays owing = subst (λ y. IsLess setup lets seat high y (told_entry seat x request reply ∷ h) 1 (sure_left setup lets seat high x h (AtKeys read over kinds low few) owing)) (sym is) (by owing moves)
+    task_pays : (owing : Owing setup seat x h) → IsLess setup seat high (told_to x caches request reply) (told_entry seat x request reply ∷ h) 1 (sure_left setup seat high x h (AtKeys read over kinds low few) owing)
+    task_pays owing = subst (λ y. IsLess setup seat high y (told_entry seat x request reply ∷ h) 1 (sure_left setup seat high x h (AtKeys read over kinds low few) owing)) (sym is) (by owing moves)
       where
-        by : (o : Owing setup lets seat x h) → Stays (world setup h) (world setup (told_entry seat x request reply ∷ h)) request reply ⊎ Wrote (world setup h) (world setup (told_entry seat x request reply ∷ h)) reply
-            → IsLess setup lets seat high next (told_entry seat x request reply ∷ h) 1 (sure_left setup lets seat high x h (AtKeys read over kinds low few) o)
+        by : (o : Owing setup seat x h) → Stays (world setup h) (world setup (told_entry seat x request reply ∷ h)) request reply ⊎ Wrote (world setup h) (world setup (told_entry seat x request reply ∷ h)) reply
+            → IsLess setup seat high next (told_entry seat x request reply ∷ h) 1 (sure_left setup seat high x h (AtKeys read over kinds low few) o)
         by (IsFree none) m = none_some (sym none ∙ t.there)
         by (WillWrite u there lasts) (inl stays) = lasting_writes_it u there lasts stays
         by (WillWrite u there lasts) (inr wrote) = writes (task_left u.task) (of_it u there) wrote
@@ -192,12 +192,12 @@ module _ (setup : Setup) (lets : Lets) (seat base high : ℕ) (x : ActorState) (
     version : (world setup (told_entry seat x request reply ∷ h)).store.version ≡ (world setup h).store.version
     version = (reads_stay setup seat x request reply h (own_read x request none given.ask)).0
 
-    free : (owing : Owing setup lets seat x h) → owed setup lets seat x h owing ≡ key_calls x.role.kind
+    free : (owing : Owing setup seat x h) → owed setup seat x h owing ≡ key_calls x.role.kind
     free (IsFree none_) = refl
     free (WillWrite u there lasts) = none_some (sym none ∙ there)
     free (HasWritten u there) = none_some (sym none ∙ there)
 
-    pass_pays : (caches : AllKnown) (kind : Kind) → x.given ≡ Some (givens.Read kind) → (owing : Owing setup lets seat x h) → IsLess setup lets seat high (told_to x caches request reply) (told_entry seat x request reply ∷ h) 1 (sure_left setup lets seat high x h (InPass none behind) owing)
+    pass_pays : (caches : AllKnown) (kind : Kind) → x.given ≡ Some (givens.Read kind) → (owing : Owing setup seat x h) → IsLess setup seat high (told_to x caches request reply) (told_entry seat x request reply ∷ h) 1 (sure_left setup seat high x h (InPass none behind) owing)
     pass_pays caches kind eg owing =
         let fewer = read_falls setup seat base x request reply h given begins reached caches kind eg in
         let same = version in
@@ -219,16 +219,16 @@ module _ (setup : Setup) (lets : Lets) (seat base high : ℕ) (x : ActorState) (
         still : ReachedBehind setup seat (world setup (told_entry seat x request reply ∷ h)).store.version (told_to x caches request reply).role (told_to x caches request reply).pass (told_entry seat x request reply ∷ h)
         still place kind from lt there is = let reaches = behind_on setup seat (world setup h).store.version x request reply h given (omega arith) behind caches place kind from lt there is in let same = version in omega (arith, reaches, same)
 
-  pub calls_pay : (caches : AllKnown) (stage : Stage setup seat x h) (owing : Owing setup lets seat x h) → IsLess setup lets seat high (told_to x caches request reply) (told_entry seat x request reply ∷ h) 1 (sure_left setup lets seat high x h stage owing)
+  pub calls_pay : (caches : AllKnown) (stage : Stage setup seat x h) (owing : Owing setup seat x h) → IsLess setup seat high (told_to x caches request reply) (told_entry seat x request reply ∷ h) 1 (sure_left setup seat high x h stage owing)
   calls_pay caches (InPass none behind) owing = by (given_so x request given.ask)
     where
-      by : GivenSo x → IsLess setup lets seat high (told_to x caches request reply) (told_entry seat x request reply ∷ h) 1 (sure_left setup lets seat high x h (InPass none behind) owing)
+      by : GivenSo x → IsLess setup seat high (told_to x caches request reply) (told_entry seat x request reply ∷ h) 1 (sure_left setup seat high x h (InPass none behind) owing)
       by (GivesTask e) = none_some (sym none ∙ (task_called setup seat x request reply h given e).there)
       by (GivesStart e) = absurd (no_start x.role.kind x.role.node x.memory request sure (ap (given_call x) (sym e) ∙ given.ask))
       by (GivesRead kind e) = pass_pays none behind caches kind e owing
   calls_pay caches (AtKeys read over kinds low few) owing = by (given_so x request given.ask)
     where
-      by : GivenSo x → IsLess setup lets seat high (told_to x caches request reply) (told_entry seat x request reply ∷ h) 1 (sure_left setup lets seat high x h (AtKeys read over kinds low few) owing)
+      by : GivenSo x → IsLess setup seat high (told_to x caches request reply) (told_entry seat x request reply ∷ h) 1 (sure_left setup seat high x h (AtKeys read over kinds low few) owing)
       by (GivesTask e) = task_pays caches e (task_called setup seat x request reply h given e) read over kinds low few owing
       by (GivesStart e) = absurd (no_start x.role.kind x.role.node x.memory request sure (ap (given_call x) (sym e) ∙ given.ask))
       by (GivesRead kind e) = absurd (none_read read over kinds kind e)

@@ -9,7 +9,7 @@ use Rattle.binder_model.specs.World.{World, world}
 use Rattle.worker_core.specs.declared.task.Under.{Under}
 use Rattle.worker_core.specs.Roles.{kinds_of}
 use Rattle.worker_core.specs.States.{ActorState}
-use Rattle.worker_threads.specs.Rounds.{Lets}
+use Rattle.drain_rounds.specs.Rounds.{all_pass}
 use Rattle.slot_law.specs.Slots.{WillLast}
 use Rattle.cost_law.specs.Tasks.{task_left}
 use Rattle.event_law.specs.Ahead.{from_of, sum_over}
@@ -40,25 +40,25 @@ kinds_owed setup seat s h (AtKeys read over kinds low few) = length (kinds_of s.
 -- ---- what is under way
 
 -- nothing; a task that comes to a call that lasts; or one that has written, of which nothing is known
-pub data Owing (setup : Setup) (lets : Lets) (seat : ℕ) (s : ActorState) (h : List Entry) : Type 0 where
-  IsFree : s.under ≡ None → Owing setup lets seat s h
-  WillWrite : (u : Under) → s.under ≡ Some u → WillLast setup lets seat s.role.kind h u → Owing setup lets seat s h
-  HasWritten : (u : Under) → s.under ≡ Some u → Owing setup lets seat s h
+pub data Owing (setup : Setup) (seat : ℕ) (s : ActorState) (h : List Entry) : Type 0 where
+  IsFree : s.under ≡ None → Owing setup seat s h
+  WillWrite : (u : Under) → s.under ≡ Some u → WillLast setup all_pass seat s.role.kind h u → Owing setup seat s h
+  HasWritten : (u : Under) → s.under ≡ Some u → Owing setup seat s h
 
 -- before its write a task spends what its decision may cost, and the write brings it back
-abbrev pub owed : (setup : Setup) (lets : Lets) (seat : ℕ) (s : ActorState) (h : List Entry) → Owing setup lets seat s h → ℕ
-owed setup lets seat s h (IsFree none) = key_calls s.role.kind
-owed setup lets seat s h (WillWrite u there lasts) = task_left u.task
-owed setup lets seat s h (HasWritten u there) = key_calls s.role.kind + task_left u.task
+abbrev pub owed : (setup : Setup) (seat : ℕ) (s : ActorState) (h : List Entry) → Owing setup seat s h → ℕ
+owed setup seat s h (IsFree none) = key_calls s.role.kind
+owed setup seat s h (WillWrite u there lasts) = task_left u.task
+owed setup seat s h (HasWritten u there) = key_calls s.role.kind + task_left u.task
 
 -- ---- all of it
 
 -- with the writes that are still ahead, and the pass
-abbrev pub sure_left : (setup : Setup) (lets : Lets) (seat high : ℕ) (s : ActorState) (h : List Entry) → Stage setup seat s h → Owing setup lets seat s h → ℕ
-sure_left setup lets seat high s h stage owing = 8 * (high - (world setup h).store.version) + (kinds_owed setup seat s h stage + (pass_left s.role.kind s.pass + owed setup lets seat s h owing))
+abbrev pub sure_left : (setup : Setup) (seat high : ℕ) (s : ActorState) (h : List Entry) → Stage setup seat s h → Owing setup seat s h → ℕ
+sure_left setup seat high s h stage owing = 8 * (high - (world setup h).store.version) + (kinds_owed setup seat s h stage + (pass_left s.role.kind s.pass + owed setup seat s h owing))
 
 -- so much less than a number
-pub record IsLess (setup : Setup) (lets : Lets) (seat high : ℕ) (s : ActorState) (h : List Entry) (fewer most_left : ℕ) : Type 0 where
+pub record IsLess (setup : Setup) (seat high : ℕ) (s : ActorState) (h : List Entry) (fewer most_left : ℕ) : Type 0 where
   pub stage : Stage setup seat s h
-  pub owing : Owing setup lets seat s h
-  pub less : sure_left setup lets seat high s h stage owing + fewer ≤ most_left
+  pub owing : Owing setup seat s h
+  pub less : sure_left setup seat high s h stage owing + fewer ≤ most_left

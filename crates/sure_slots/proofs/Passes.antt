@@ -25,7 +25,7 @@ use Rattle.worker_core.specs.Absorbs.{given_told, is_passing, learned, pass_afte
 use Rattle.worker_core.specs.Roles.{IsBuiltKind, kinds_of}
 use Rattle.worker_core.specs.States.{ActorState}
 use Rattle.worker_core.specs.Turns.{passing, unlisted}
-use Rattle.worker_threads.specs.Rounds.{IsReady, told_entry}
+use Rattle.drain_rounds.specs.Rounds.{IsReady, told_entry}
 use Rattle.event_law.specs.Ahead.{from_of, sum_over}
 use Rattle.event_law.specs.Counts.{pending}
 use Rattle.event_law.specs.Telling.{told}

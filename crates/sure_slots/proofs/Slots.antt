@@ -20,14 +20,16 @@ use Rattle.worker_core.specs.declared.turn.Outcome.TheVariants.{Told}
 use Rattle.worker_core.specs.Absorbs.{woken}
 use Rattle.worker_core.specs.Roles.{kinds_of}
 use Rattle.worker_core.specs.States.{ActorState}
-use Rattle.worker_core.specs.Turns.{passing, unlisted}
+use Rattle.worker_core.specs.Turns.{IsTurn, passing, unlisted}
 use Rattle.worker_core.proofs.Answered.{answer_licensed, gives_asked}
 use Rattle.attention_law.proofs.Turned.{answer_role}
-use Rattle.worker_threads.specs.Rounds.{Asks, IsHeld, IsIdle, IsReady, IsSpent, Lets, Runs, told_entry}
-use Rattle.worker_threads.proofs.RunFacts.{still_role, turn_role}
-use Rattle.slot_law.specs.Slots.{KnowsBehind}
+use Rattle.drain_rounds.specs.Rounds.{Asks, IsHeld, IsIdle, IsReady, IsSpent, Lets, Runs, told_entry}
+use Rattle.drain_rounds.proofs.RunFacts.{still_role, turn_role}
+use Rattle.slot_law.specs.Gates.{HoldsMountsAlone}
+use Rattle.slot_law.specs.Slots.{KnowsBehind, begun}
+use Rattle.slot_law.proofs.Held.{others_pass}
 use Rattle.slot_law.proofs.Knowing.{sees, told_knows}
-use Rattle.slot_law.proofs.Slots.{nothing_behind, run_older}
+use Rattle.slot_law.proofs.Slots.{begun_behind, run_older}
 use Rattle.cost_law.specs.Tasks.{under_left}
 use Rattle.event_law.specs.Ahead.{from_of}
 use Rattle.event_law.specs.Counts.{pending}
@@ -46,7 +48,7 @@ use Rattle.pass_law.proofs.Reaching.{IsBefore, IsPast, ReachedBehind, TurnOf, be
 use Rattle.short_law.proofs.HeldCalls.{own_read}
 use Rattle.slot_costs.proofs.RoundCosts.{key_calls}
 use Rattle.slot_costs.proofs.Stages.{all_read, nothing_told}
-use Rattle.sure_slots.specs.Sure.{PassesAll, SureSlotsCostWrites}
+use Rattle.sure_slots.specs.Sure.{SureSlotsCostWrites}
 use Rattle.sure_slots.proofs.Calls.{calls_pay}
 use Rattle.sure_slots.proofs.Passes.{none_since}
 use Rattle.sure_slots.proofs.Lasting.{sure_built}
@@ -65,22 +67,23 @@ key_few seats.Agent = omega arith
 
 -- ---- a slot
 
-module _ (setup : Setup) (lets : Lets) (passes : PassesAll lets) (seat : ℕ) (after : ActorState) (past : List Entry) (left : ℕ) (idle : Bool) (run : IsRunOf setup past) (base : ℕ) (begins : base_of setup ≤ base) where
-  -- nothing is held back
-  not_held : {X : Type 0} (h : List Entry) (request : Request) → lets h request ≡ false → X
-  not_held h request held = absurd (true≢false (sym (passes h request) ∙ held))
+module _ (setup : Setup) (lets : Lets) (holds : HoldsMountsAlone lets) (seat : ℕ) (after : ActorState) (past : List Entry) (left : ℕ) (idle : Bool) (run : IsRunOf setup past) (base : ℕ) (begins : base_of setup ≤ base) where
+  -- no call of such an actor is held back
+  not_held : {X : Type 0} (s given : ActorState) (request : Request) (h : List Entry) → begins_to_last s.role.kind ≡ true → IsReady seat s h → IsTurn s given (Call request) → lets h request ≡ false → X
+  not_held s given request h sure ready turn held =
+      absurd (true≢false (sym (others_pass lets seat s given request h holds (sure_built s.role.kind sure) (λ agent. true≢false (sym sure ∙ ap begins_to_last agent)) ready turn) ∙ held))
 
   -- ---- past the first pass
 
-  second_pass : (s : ActorState) (h : List Entry) (b : ℕ) → Runs lets seat after past left idle s h b → begins_to_last s.role.kind ≡ true → base ≤ (world setup h).store.version → KindsHaveReached base seat s.role.kind h → KnowsBehind setup seat s.role s.pass h → (stage : Stage setup seat s h) (owing : Owing setup lets seat s h)
-      → b ≤ left + sure_left setup lets seat (world setup past).store.version s h stage owing
+  second_pass : (s : ActorState) (h : List Entry) (b : ℕ) → Runs lets seat after past left idle s h b → begins_to_last s.role.kind ≡ true → base ≤ (world setup h).store.version → KindsHaveReached base seat s.role.kind h → KnowsBehind setup seat s.role s.pass h → (stage : Stage setup seat s h) (owing : Owing setup seat s h)
+      → b ≤ left + sure_left setup seat (world setup past).store.version s h stage owing
   second_pass s h b (IsSpent none state entries rest busy) sure begun reached knows stage owing = omega (arith, none)
   second_pass s h b (IsIdle some ready turn entries rest calm) sure begun reached knows stage owing = omega (arith, rest)
-  second_pass s h b (IsHeld given next request some ready turn held absorbs more) sure begun reached knows stage owing = not_held h request held
+  second_pass s h b (IsHeld given next request some ready turn held absorbs more) sure begun reached knows stage owing = not_held s given request h sure ready turn held
   second_pass s h b (Asks given next request reply some ready turn lets_it absorbs more) sure begun reached knows stage owing =
-      let kept = turn_costs setup lets seat (world setup past).store.version s given request h run.imports passes sure ready whole.0 turn (λ over. sees setup seat s h whole.0 ready.stands.told knows over) stage owing in
-      let told = calls_pay setup lets seat base (world setup past).store.version given request reply h g given_sure may begins given_reached short next.caches kept.stage kept.owing in
-      let less = subst (λ y. IsLess setup lets seat (world setup past).store.version y (told_entry seat given request reply ∷ h) 1 (sure_left setup lets seat (world setup past).store.version given h kept.stage kept.owing)) (sym absorbs) told in
+      let kept = turn_costs setup seat (world setup past).store.version s given request h run.imports sure ready whole.0 turn (λ over. sees setup seat s h whole.0 ready.stands.told knows over) stage owing in
+      let told = calls_pay setup seat base (world setup past).store.version given request reply h g given_sure may begins given_reached short next.caches kept.stage kept.owing in
+      let less = subst (λ y. IsLess setup seat (world setup past).store.version y (told_entry seat given request reply ∷ h) 1 (sure_left setup seat (world setup past).store.version given h kept.stage kept.owing)) (sym absorbs) told in
       let ih = second_pass next (told_entry seat given request reply ∷ h) (b - 1) more next_sure next_begun next_reached (told_knows setup seat s given request reply h (sure_built s.role.kind sure) ready turn whole knows next absorbs) less.stage less.owing in
       let now = kept.less in
       let then_ = less.less in
@@ -131,7 +134,7 @@ module _ (setup : Setup) (lets : Lets) (passes : PassesAll lets) (seat : ℕ) (a
 
   -- past the pass the first cost covers what is still to come
   covered : (s : ActorState) (h : List Entry) → IsReady seat s h → begins_to_last s.role.kind ≡ true → IsHistory setup h → (world setup h).store.version ≡ base → ReachedBehind setup seat base s.role s.pass h → s.under ≡ None → unlisted s ≡ None → passing s ≡ None
-      → IsLess setup lets seat (world setup past).store.version s h 0 (cost_first s h + after_cost s.role.kind)
+      → IsLess setup seat (world setup past).store.version s h 0 (cost_first s h + after_cost s.role.kind)
   covered s h ready sure history version behind none listed over =
       let told = nothing_told setup seat s h ready (sure_built s.role.kind sure) history reached listed over in
       let since = none_since (length (kinds_of s.role.kind)) (world setup h).store.version in
@@ -155,7 +158,7 @@ module _ (setup : Setup) (lets : Lets) (passes : PassesAll lets) (seat : ℕ) (a
       → b ≤ left + (cost_first s h + after_cost s.role.kind)
   first_pass s h b (IsSpent none state entries rest busy) sure rests version behind knows = omega (arith, none)
   first_pass s h b (IsIdle some ready turn entries rest calm) sure rests version behind knows = omega (arith, rest)
-  first_pass s h b (IsHeld given next request some ready turn held absorbs more) sure rests version behind knows = not_held h request held
+  first_pass s h b (IsHeld given next request some ready turn held absorbs more) sure rests version behind knows = not_held s given request h sure ready turn held
   first_pass s h b (Asks given next request reply some ready turn lets_it absorbs more) sure rests version behind knows = by (turn_of s given request turn) (λ nb nr nv nh nk. first_pass next (told_entry seat given request reply ∷ h) (b - 1) more nb nr nv nh nk)
     where
       whole : IsHistory setup (told_entry seat given request reply ∷ h)
@@ -203,19 +206,25 @@ module _ (setup : Setup) (lets : Lets) (passes : PassesAll lets) (seat : ℕ) (a
 
 -- ---- the slot
 
-pub sure_slots_cost_writes : SureSlotsCostWrites
-sure_slots_cost_writes setup lets seat old after h past b left idle sure run passes rests runs = by old.memory.stale refl
+-- from where nothing is under way
+pub sure_from :
+    (setup : Setup) (lets : Lets) (seat : ℕ) (old after : ActorState) (h past : List Entry) (b left : ℕ) (idle : Bool) → begins_to_last old.role.kind ≡ true → IsRunOf setup past → HoldsMountsAlone lets → (old.memory.stale ≡ false → old.under ≡ None)
+    → Runs lets seat after past left idle (begun old) h b → b ≤ left + (8 * writes_since setup h past + 65)
+sure_from setup lets seat old after h past b left idle sure run holds rests runs = by old.memory.stale refl
   where
     none_yet : (k : Kind) → 9 * pending k (world setup h).store.version (world setup h).log ≤ 0
     none_yet k = let n = none_pending k (world setup h).store.version (world setup h).store.version (world setup h).log (omega arith) (logs setup h 0) in omega (arith, n)
 
     by : (stale : Bool) → old.memory.stale ≡ stale → b ≤ left + (8 * writes_since setup h past + 65)
-    by true e = let same = (silent_run setup lets seat after past left idle run (woken old) h b runs e).1 in omega (arith, same)
+    by true e = let same = (silent_run setup lets seat after past left idle run (begun old) h b runs e).1 in omega (arith, same)
     by false e =
-        let bound = first_pass setup lets passes seat after past left idle run (world setup h).store.version (first_low setup h) (woken old) h b runs sure (rests e) refl (λ place kind from lt. absurd (omega (arith, lt))) (nothing_behind setup seat old h) in
+        let bound = first_pass setup lets holds seat after past left idle run (world setup h).store.version (first_low setup h) (begun old) h b runs sure (rests e) refl (λ place kind from lt. absurd (omega (arith, lt))) (begun_behind setup seat old h) in
         let start = start_few old.role old.memory in
         let waits = of_each old.role.kind (λ k. wait_cost (world setup h).store.version (from_of seat h k)) 10 (λ k. wait_few (world setup h).store.version (from_of seat h k)) in
         let events = of_each old.role.kind (λ k. 9 * pending k (world setup h).store.version (world setup h).log) 0 (λ k. none_yet k) in
         let none : under_left old.under ≡ 0 = ap under_left (rests e) in
         let few = key_few old.role.kind in
         omega (arith, bound, start, waits, events, none, few)
+
+pub sure_slots_cost_writes : SureSlotsCostWrites
+sure_slots_cost_writes setup lets seat old after h past b left idle sure run holds rests runs = sure_from setup lets seat (woken old) after h past b left idle sure run holds rests runs

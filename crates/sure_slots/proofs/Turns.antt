@@ -16,7 +16,7 @@ use Rattle.worker_core.specs.declared.turn.Next.TheVariants.{Call}
 use Rattle.worker_core.specs.Roles.{kinds_of}
 use Rattle.worker_core.specs.States.{ActorState, call_in, start_call}
 use Rattle.worker_core.specs.Turns.{AfterKeys, Decides, IsTurn, TurnBy, passing, unlisted}
-use Rattle.worker_threads.specs.Rounds.{IsReady, Lets}
+use Rattle.drain_rounds.specs.Rounds.{IsReady, all_pass}
 use Rattle.slot_law.specs.Slots.{IsDecisionPoint, SeesStore, WillLast}
 use Rattle.slot_law.proofs.Slots.{decides_gives}
 use Rattle.begun_lasts.specs.Begun.{begins_to_last}
@@ -24,21 +24,20 @@ use Rattle.begun_lasts.proofs.Passing.{begun_is_lasting}
 use Rattle.slot_costs.proofs.Begun.{begun_on_own}
 use Rattle.slot_costs.proofs.Calls.{AtKeys, InPass, Stage, pass_left}
 use Rattle.slot_costs.proofs.RoundCosts.{key_calls, own_light}
-use Rattle.sure_slots.specs.Sure.{PassesAll}
 use Rattle.sure_slots.proofs.Passes.{IsAtKeys, keys_of, pass_begins}
 use Rattle.sure_slots.proofs.Lasting.{no_agent, sure_built}
 use Rattle.sure_slots.proofs.Left.{HasWritten, IsFree, IsLess, Owing, WillWrite, kinds_owed, owed, sure_left}
 
 -- a turn that gives a call costs nothing: it begins a task, or a pass
-pub turn_costs : (setup : Setup) (lets : Lets) (seat high : ℕ) (s given : ActorState) (request : Request) (h : List Entry) → ImportsPass setup.imports → PassesAll lets → begins_to_last s.role.kind ≡ true → IsReady seat s h → IsHistory setup h
-    → IsTurn s given (Call request) → (passing s ≡ None → SeesStore setup s h) → (stage : Stage setup seat s h) (owing : Owing setup lets seat s h) → IsLess setup lets seat high given h 0 (sure_left setup lets seat high s h stage owing)
-turn_costs setup lets seat high s given request h imports passes sure ready history turn exact stage owing = by s.memory.stale s.under (start_call s.role s.memory) (unlisted s) (passing s) refl refl refl turn
+pub turn_costs : (setup : Setup) (seat high : ℕ) (s given : ActorState) (request : Request) (h : List Entry) → ImportsPass setup.imports → begins_to_last s.role.kind ≡ true → IsReady seat s h → IsHistory setup h
+    → IsTurn s given (Call request) → (passing s ≡ None → SeesStore setup s h) → (stage : Stage setup seat s h) (owing : Owing setup seat s h) → IsLess setup seat high given h 0 (sure_left setup seat high s h stage owing)
+turn_costs setup seat high s given request h imports sure ready history turn exact stage owing = by s.memory.stale s.under (start_call s.role s.memory) (unlisted s) (passing s) refl refl refl turn
   where
-    same : (x : ActorState) → given ≡ x → IsLess setup lets seat high x h 0 (sure_left setup lets seat high s h stage owing) → IsLess setup lets seat high given h 0 (sure_left setup lets seat high s h stage owing)
-    same x e less = subst (λ y. IsLess setup lets seat high y h 0 (sure_left setup lets seat high s h stage owing)) (sym e) less
+    same : (x : ActorState) → given ≡ x → IsLess setup seat high x h 0 (sure_left setup seat high s h stage owing) → IsLess setup seat high given h 0 (sure_left setup seat high s h stage owing)
+    same x e less = subst (λ y. IsLess setup seat high y h 0 (sure_left setup seat high s h stage owing)) (sym e) less
 
     -- what is given changes nothing
-    still : (g : Option Given) (x : Stage setup seat s h) (o : Owing setup lets seat s h) → IsLess setup lets seat high (record s { given = g }) h 0 (sure_left setup lets seat high s h x o)
+    still : (g : Option Given) (x : Stage setup seat s h) (o : Owing setup seat s h) → IsLess setup seat high (record s { given = g }) h 0 (sure_left setup seat high s h x o)
     still g (InPass none behind) (IsFree free) = record { stage = InPass none behind; owing = IsFree free; less = omega arith }
     still g (InPass none behind) (WillWrite u there lasts) = record { stage = InPass none behind; owing = WillWrite u there lasts; less = omega arith }
     still g (InPass none behind) (HasWritten u there) = record { stage = InPass none behind; owing = HasWritten u there; less = omega arith }
@@ -46,7 +45,7 @@ turn_costs setup lets seat high s given request h imports passes sure ready hist
     still g (AtKeys read over kinds low few) (WillWrite u there lasts) = record { stage = AtKeys read over kinds low few; owing = WillWrite u there lasts; less = omega arith }
     still g (AtKeys read over kinds low few) (HasWritten u there) = record { stage = AtKeys read over kinds low few; owing = HasWritten u there; less = omega arith }
 
-    free : s.under ≡ None → (o : Owing setup lets seat s h) → owed setup lets seat s h o ≡ key_calls s.role.kind
+    free : s.under ≡ None → (o : Owing setup seat s h) → owed setup seat s h o ≡ key_calls s.role.kind
     free none (IsFree free_) = refl
     free none (WillWrite u there lasts) = none_some (sym none ∙ there)
     free none (HasWritten u there) = none_some (sym none ∙ there)
@@ -55,10 +54,10 @@ turn_costs setup lets seat high s given request h imports passes sure ready hist
     point over = record { role_is = refl; history = history; alike = record { rows = refl; stored = refl; mounts = refl }; ready = ready; sees = exact over }
 
     keys : (w : Work) (under : Option Under) → s.under ≡ None → IsAtKeys setup seat s h (kinds_owed setup seat s h stage) → Decides s.role s.memory (all_objects s.caches) w under s.work → passing s ≡ None → AfterKeys s given (Call request) w under
-        → IsLess setup lets seat high given h 0 (sure_left setup lets seat high s h stage owing)
+        → IsLess setup seat high given h 0 (sure_left setup seat high s h stage owing)
     keys w (Some u) eu at d over b =
         let gives = decides_gives s.role s.memory (all_objects s.caches) w (Some u) u s.work d refl in
-        let lasts : WillLast setup lets seat s.role.kind h u = begun_is_lasting setup lets seat s.role h s h u imports sure (λ x g f v n p e begun leads alike. passes f n.call) (point over) gives in
+        let lasts : WillLast setup all_pass seat s.role.kind h u = begun_is_lasting setup all_pass seat s.role h s h u imports sure (λ x g f v n p e begun leads alike. refl) (point over) gives in
         let begun = begun_on_own s.role.kind s.role.node s.memory (all_objects s.caches) u.key u.task gives.decided in
         let light = begun.light in
         let few = own_light s.role.kind (no_agent s.role.kind sure) begun.object in
@@ -72,7 +71,7 @@ turn_costs setup lets seat high s given request h imports passes sure ready hist
         same (record s { work = w; pass = record { behind = 0; event = false }; given = Some (givens.Read b.kind) }) b.state (record { stage = InPass eu (λ place kind from lt. absurd (omega (arith, lt))); owing = IsFree eu; less = omega (arith, brought, begins, was) })
     keys w None eu at d over (inr b) = none_some (sym (ap call_in b.idle))
 
-    by : (stale : Bool) (u : Option Under) (start : Option Request) (l p : Option Kind) → s.under ≡ u → unlisted s ≡ l → passing s ≡ p → TurnBy s given (Call request) stale u start l p → IsLess setup lets seat high given h 0 (sure_left setup lets seat high s h stage owing)
+    by : (stale : Bool) (u : Option Under) (start : Option Request) (l p : Option Kind) → s.under ≡ u → unlisted s ≡ l → passing s ≡ p → TurnBy s given (Call request) stale u start l p → IsLess setup seat high given h 0 (sure_left setup seat high s h stage owing)
     by true u start l p eu el ep t = none_some (sym (ap call_in t.idle))
     by false (Some u) start l p eu el ep t = same (record s { given = Some givens.Task }) t.state (still (Some givens.Task) stage owing)
     by false None (Some r) l p eu el ep t = same (record s { given = Some givens.Start }) t.state (still (Some givens.Start) stage owing)

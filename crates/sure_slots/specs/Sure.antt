@@ -2,22 +2,18 @@
 -- A choice of this project.
 use Rattle.std.specs.Prelude.{ℕ, ◌≡◌, ◌≤◌, ◌+◌, ◌*◌, Bool, true, false, List, None}
 use Rattle.call_types.specs.declared.entry.Entry.{Entry}
-use Rattle.call_types.specs.declared.request.Request.{Request}
 use Rattle.call_types.specs.declared.setup.Setup.{Setup}
 use Rattle.binder_model.specs.Promises.{IsRunOf}
 use Rattle.worker_core.specs.Absorbs.{woken}
 use Rattle.worker_core.specs.States.{ActorState}
-use Rattle.worker_threads.specs.Rounds.{Lets, Runs}
+use Rattle.drain_rounds.specs.Rounds.{Lets, Runs}
+use Rattle.slot_law.specs.Gates.{HoldsMountsAlone}
 use Rattle.short_law.specs.Slots.{writes_since}
 use Rattle.begun_lasts.specs.Begun.{begins_to_last}
 
--- no request is held back
-abbrev pub PassesAll : Lets → Type 0
-PassesAll lets = (h : List Entry) (request : Request) → lets h request ≡ true
-
 -- eight calls for each write: what comes before it in its task, the write, and the pass that tells it; and the first pass, and what the slot's end cuts
--- off. Premise: it begins with nothing under way
+-- off. Premise: it begins with nothing under way. Such an actor asks for no Mount, so no call of it is held back
 abbrev pub SureSlotsCostWrites : Type 0
 SureSlotsCostWrites =
-    (setup : Setup) (lets : Lets) (seat : ℕ) (old after : ActorState) (h past : List Entry) (b left : ℕ) (idle : Bool) → begins_to_last old.role.kind ≡ true → IsRunOf setup past → PassesAll lets → (old.memory.stale ≡ false → old.under ≡ None)
+    (setup : Setup) (lets : Lets) (seat : ℕ) (old after : ActorState) (h past : List Entry) (b left : ℕ) (idle : Bool) → begins_to_last old.role.kind ≡ true → IsRunOf setup past → HoldsMountsAlone lets → (old.memory.stale ≡ false → old.under ≡ None)
     → Runs lets seat after past left idle (woken old) h b → b ≤ left + (8 * writes_since setup h past + 65)

@@ -10,7 +10,7 @@ use Rattle.call_types.specs.declared.request.SeatKind.TheVariants as seats
 use Rattle.binder_model.specs.Told.{own}
 use Rattle.attention_law.specs.Diligence.{Call, IsDiligent, entries}
 use Rattle.worker_core.specs.declared.role.Role.{Role}
-use Rattle.worker_threads.specs.Rounds.{all_pass}
+use Rattle.drain_rounds.specs.Rounds.{all_pass}
 use Rattle.script_text.specs.declared.script.Line.{Line}
 use Rattle.script_lines.specs.declared.actors.Actor.{Actor}
 use Rattle.actor_turns.specs.declared.part.Part.{Part}

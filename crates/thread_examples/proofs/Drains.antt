@@ -9,16 +9,16 @@ use Rattle.binder_model.specs.Due.{IsSettled}
 use Rattle.binder_model.specs.Told.{own}
 use Rattle.binder_model.specs.World.{effect, on_devices, world, world_after}
 use Rattle.world_core.specs.declared.drained.Drained.{Drained}
-use Rattle.worker_threads.specs.Drainers.{seats_for}
-use Rattle.worker_threads.specs.Longer.{AreToldOf, IsOneOf}
-use Rattle.worker_threads.proofs.Entries.{grown_others}
-use Rattle.worker_threads.specs.Rounds.{NothingDue, all_pass}
-use Rattle.worker_threads.proofs.NewFacts.{new_roles_for, new_seats_for, new_stand}
+use Rattle.drain_rounds.specs.Drainers.{seats_for}
+use Rattle.drain_rounds.specs.Longer.{AreToldOf, IsOneOf}
+use Rattle.drain_rounds.proofs.Entries.{grown_others}
+use Rattle.drain_rounds.specs.Rounds.{NothingDue, all_pass}
+use Rattle.drain_rounds.proofs.NewFacts.{new_roles_for, new_seats_for, new_stand}
 use Rattle.script_runs.specs.Budget.{raised}
 use Rattle.script_runs.specs.Drains.{DrainAtComesTo}
 use Rattle.script_runs.specs.Examples.{scheduler_1}
 use Rattle.script_runs.proofs.Draining.{drains_at_come_to}
-use Rattle.worker_threads.proofs.Resting.{new_rest}
+use Rattle.drain_rounds.proofs.Resting.{new_rest}
 use Rattle.script_runs.proofs.Staging.{after_first}
 use Rattle.script_threads.specs.Runs.{progress_after}
 use Rattle.thread_examples.specs.Runs.{IsSmallRun, RunExamples, both, with_scheduler}
@@ -107,7 +107,6 @@ run_cases = record {
       roles = new_roles_for 11 one_node (drainers 11 (codes "n1")) (drainers_new 11 (codes "n1"));
       stand = new_stand 11 one_node (drainers 11 (codes "n1")) (drainers_new 11 (codes "n1")) both (refl, (refl, (refl, (refl, (refl, (refl, tt))))));
       rests = λ given is unspent. new_rest 11 one_node (drainers 11 (codes "n1")) (drainers_new 11 (codes "n1"));
-      unspent = λ all. new_rest 11 one_node (drainers 11 (codes "n1")) (drainers_new 11 (codes "n1"));
       few = omega arith;
       rounds = NothingDue nothing_due refl refl refl;
       is = refl;

@@ -46,7 +46,7 @@ use Rattle.worker_core.specs.Absorbs.{woken}
 use Rattle.worker_core.specs.Roles.{IsBuiltKind}
 use Rattle.worker_core.specs.States.{ActorState}
 use Rattle.worker_core.specs.Tasks.{GivesCall, IsFirstOf, IsPodFirst, task_call, task_moved, under_after}
-use Rattle.worker_threads.specs.Rounds.{Runs, all_pass}
+use Rattle.drain_rounds.specs.Rounds.{Runs, all_pass}
 use Rattle.slot_law.specs.Slots.{ActsOn, IsDecisionPoint, own_entry}
 use Rattle.slot_law.proofs.Slots.{others_stay_awake}
 use Rattle.slot_law.proofs.Would.{would_act_where_calls_pass}

@@ -13,10 +13,10 @@ use Rattle.binder_model.specs.Reading.{follows}
 use Rattle.binder_model.specs.World.{world}
 use Rattle.worker_core.specs.declared.role.Role.{Role}
 use Rattle.worker_core.specs.Roles.{IsBuiltKind}
-use Rattle.worker_threads.specs.declared.drainers.Drainer.{Drainer}
-use Rattle.worker_threads.specs.Drainers.{agent_of, of_kind, roles_of}
-use Rattle.worker_threads.specs.Rounds.{IsRound, all_pass}
-use Rattle.worker_threads.proofs.RoundFacts.{AreBuilt}
+use Rattle.drain_rounds.specs.declared.drainers.Drainer.{Drainer}
+use Rattle.drain_rounds.specs.Drainers.{agent_of, of_kind, roles_of}
+use Rattle.drain_rounds.specs.Rounds.{IsRound, all_pass}
+use Rattle.drain_rounds.proofs.RoundFacts.{AreBuilt}
 use Rattle.write_law.specs.Lasting.{HasLasting}
 use Rattle.slot_law.specs.Would.{WouldActOn}
 use Rattle.bind_law.proofs.Claims.{claims_act}

@@ -21,8 +21,8 @@ use Rattle.worker_core.specs.Roles.{IsBuiltKind}
 use Rattle.worker_core.specs.States.{ActorState}
 use Rattle.worker_core.specs.Turns.{passing}
 use Rattle.worker_core.proofs.Turning.{turn_stands}
-use Rattle.worker_threads.specs.Rounds.{Asks, IsHeld, IsIdle, IsReady, IsSpent, Lets, Runs, told_entry}
-use Rattle.worker_threads.proofs.RunFacts.{turn_memory, turn_role, turned_whole}
+use Rattle.drain_rounds.specs.Rounds.{Asks, IsHeld, IsIdle, IsReady, IsSpent, Lets, Runs, told_entry}
+use Rattle.drain_rounds.proofs.RunFacts.{turn_memory, turn_role, turned_whole}
 use Rattle.slot_law.specs.Slots.{SeesStore}
 use Rattle.slot_law.proofs.Slots.{passed_see_the_store}
 use Rattle.tries_law.proofs.Standing.{MakeNone, StandsIn, makes, round_stood, slot_stood}
@@ -31,11 +31,11 @@ use Rattle.tries_law.specs.Quiet.{RoundsCache, decides_kind}
 use Rattle.alike_law.proofs.Rows.{get_mapped}
 use Rattle.paid_law.proofs.Slots.{older_run}
 use Rattle.slot_law.proofs.Slots.{others_stay_awake}
-use Rattle.worker_threads.proofs.RunFacts.{run_role}
-use Rattle.worker_threads.proofs.RoundFacts.{round_grows, round_roles}
-use Rattle.worker_threads.specs.Rounds.{all_pass}
-use Rattle.worker_threads.specs.Drainers.{StandsWhole, agent_of, of_kind}
-use Rattle.worker_threads.specs.declared.drainers.Drainer.{Drainer}
+use Rattle.drain_rounds.proofs.RunFacts.{run_role}
+use Rattle.drain_rounds.proofs.RoundFacts.{round_grows, round_roles}
+use Rattle.drain_rounds.specs.Rounds.{all_pass}
+use Rattle.drain_rounds.specs.Drainers.{StandsWhole, agent_of, of_kind}
+use Rattle.drain_rounds.specs.declared.drainers.Drainer.{Drainer}
 use Rattle.worker_core.specs.Roles.{kind_in_order}
 use Rattle.worker_core.specs.declared.role.Role.{Role}
 use Rattle.model_laws.proofs.Lists.{none_some, one}

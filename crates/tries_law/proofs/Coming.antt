@@ -24,8 +24,8 @@ use Rattle.worker_core.specs.Roles.{IsBuiltKind}
 use Rattle.worker_core.specs.States.{ActorState, call_in, read_of_kind, start_call}
 use Rattle.worker_core.specs.Tasks.{under_after}
 use Rattle.worker_core.specs.Turns.{AfterKeys, Decides, IsTurn, TurnBy, passing, unlisted}
-use Rattle.worker_threads.specs.Rounds.{Asks, IsHeld, IsIdle, IsReady, IsSpent, Runs, all_pass, told_entry}
-use Rattle.worker_threads.proofs.RunFacts.{still_role, turn_role}
+use Rattle.drain_rounds.specs.Rounds.{Asks, IsHeld, IsIdle, IsReady, IsSpent, Runs, all_pass, told_entry}
+use Rattle.drain_rounds.proofs.RunFacts.{still_role, turn_role}
 use Rattle.write_law.specs.Lasting.{Lasts}
 use Rattle.slot_law.specs.Slots.{IsDecisionPoint, KnowsBehind, own_entry}
 use Rattle.slot_law.specs.Would.{Here, Leads, On}

@@ -17,7 +17,7 @@ use Rattle.binder_model.specs.World.{World}
 use Rattle.model_laws.proofs.Lists.{IsIn, none_some, one}
 use Rattle.settle_measure.specs.Tries.{IsOn, ServesNot, Tries, in_turn, is_after}
 use Rattle.worker_core.specs.declared.role.Role.{Role}
-use Rattle.worker_threads.specs.Drainers.{agent_of, of_kind, roles_for}
+use Rattle.drain_rounds.specs.Drainers.{agent_of, of_kind, roles_for}
 use Rattle.settle_law.proofs.Rounds.{is_agent}
 use Rattle.std.proofs.lemmas.Bool.Decides.{nat_tests}
 

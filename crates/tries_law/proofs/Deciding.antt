@@ -27,8 +27,8 @@ use Rattle.worker_core.specs.Tasks.{under_after}
 use Rattle.worker_core.specs.Turns.{passing}
 use Rattle.worker_core.proofs.KeysKept.{answers_keep_keys}
 use Rattle.attention_law.proofs.Turned.{answer_role, calls_fresh, idle_rests}
-use Rattle.worker_threads.specs.Rounds.{Asks, IsHeld, IsIdle, IsReady, IsSpent, Lets, Runs, told_entry}
-use Rattle.worker_threads.proofs.RunFacts.{run_grows, turn_memory, turn_role}
+use Rattle.drain_rounds.specs.Rounds.{Asks, IsHeld, IsIdle, IsReady, IsSpent, Lets, Runs, told_entry}
+use Rattle.drain_rounds.proofs.RunFacts.{run_grows, turn_memory, turn_role}
 use Rattle.slot_law.specs.Slots.{ActsOn, IsDecisionPoint, KnowsBehind, Now, Then, WillLast, own_entry}
 use Rattle.slot_law.specs.Would.{Here, Leads, On}
 use Rattle.slot_law.proofs.Knowing.{lost_knows, sees, told_knows, turned_knows}

@@ -22,9 +22,9 @@ use Rattle.settle_measure.specs.Measure.{work_left}
 use Rattle.worker_core.specs.declared.role.Role.{Role}
 use Rattle.worker_core.specs.Absorbs.{woken}
 use Rattle.worker_core.specs.Roles.{IsBuiltKind}
-use Rattle.worker_threads.specs.declared.drainers.Drainer.{Drainer}
-use Rattle.worker_threads.specs.Rounds.{all_pass}
-use Rattle.worker_threads.proofs.RunFacts.{run_grows}
+use Rattle.drain_rounds.specs.declared.drainers.Drainer.{Drainer}
+use Rattle.drain_rounds.specs.Rounds.{all_pass}
+use Rattle.drain_rounds.proofs.RunFacts.{run_grows}
 use Rattle.write_law.specs.Lasting.{Lasts, content_of}
 use Rattle.alike_law.proofs.Calls.{LastsOrAlike, calls_last_or_leave_alike}
 use Rattle.alike_law.proofs.Equal.{Known, object_known}

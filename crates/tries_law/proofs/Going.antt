@@ -47,10 +47,10 @@ use Rattle.worker_core.specs.Memories.{Memory}
 use Rattle.worker_core.proofs.ByKind.{tries_are_told}
 use Rattle.worker_core.specs.Absorbs.{woken}
 use Rattle.worker_core.specs.Roles.{IsBuiltKind}
-use Rattle.worker_threads.specs.declared.drainers.Drainer.{Drainer}
-use Rattle.worker_threads.specs.Drainers.{seats_of}
-use Rattle.worker_threads.specs.Rounds.{all_pass}
-use Rattle.worker_threads.proofs.RoundFacts.{round_seats}
+use Rattle.drain_rounds.specs.declared.drainers.Drainer.{Drainer}
+use Rattle.drain_rounds.specs.Drainers.{seats_of}
+use Rattle.drain_rounds.specs.Rounds.{all_pass}
+use Rattle.drain_rounds.proofs.RoundFacts.{round_seats}
 use Rattle.due_law.proofs.Known.{rows_known}
 use Rattle.slot_law.proofs.Slots.{others_stay_awake}
 use Rattle.pass_law.specs.Passes.{KindsHaveReached}

@@ -50,7 +50,7 @@ use Rattle.worker_core.specs.Absorbs.{woken}
 use Rattle.worker_core.specs.Roles.{IsBuiltKind}
 use Rattle.worker_core.specs.States.{ActorState}
 use Rattle.worker_core.specs.Tasks.{GivesCall, IsFirstOf, ops_first, task_call, task_moved, under_after}
-use Rattle.worker_threads.specs.Rounds.{Runs, all_pass}
+use Rattle.drain_rounds.specs.Rounds.{Runs, all_pass}
 use Rattle.settle_measure.specs.Measure.{work_left}
 use Rattle.write_law.specs.Lasting.{Lasts}
 use Rattle.slot_law.specs.Slots.{ActsOn, IsDecisionPoint, own_entry}

@@ -10,8 +10,8 @@ use Rattle.settle_measure.specs.Measure.{work_left}
 use Rattle.worker_core.specs.declared.turn.Next.TheVariants.{Call}
 use Rattle.worker_core.specs.declared.turn.Outcome.TheVariants.{Lost, Told}
 use Rattle.worker_core.specs.States.{ActorState}
-use Rattle.worker_threads.specs.Rounds.{Asks, IsHeld, IsIdle, IsSpent, Lets, Runs, told_entry}
-use Rattle.worker_threads.proofs.RunFacts.{still_role, turn_role}
+use Rattle.drain_rounds.specs.Rounds.{Asks, IsHeld, IsIdle, IsSpent, Lets, Runs, told_entry}
+use Rattle.drain_rounds.proofs.RunFacts.{still_role, turn_role}
 use Rattle.paid_law.specs.Pays.{HavePaid, worth}
 use Rattle.write_law.specs.Lasting.{Lasts}
 use Rattle.paid_law.proofs.Entries.{paid_is_less}

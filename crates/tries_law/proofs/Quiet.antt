@@ -26,11 +26,11 @@ use Rattle.model_laws.proofs.Lists.{none_some, one}
 use Rattle.worker_core.specs.declared.role.Role.{Role}
 use Rattle.worker_core.specs.Absorbs.{woken}
 use Rattle.worker_core.specs.Roles.{IsBuiltKind}
-use Rattle.worker_threads.specs.declared.drainers.Drainer.{Drainer}
-use Rattle.worker_threads.specs.Drainers.{agent_of, of_kind, roles_of}
-use Rattle.worker_threads.specs.Rounds.{Ends, IsRound, Lets, Turns, all_pass}
-use Rattle.worker_threads.proofs.RoundFacts.{AreBuilt, round_grows}
-use Rattle.worker_threads.proofs.RunFacts.{run_grows}
+use Rattle.drain_rounds.specs.declared.drainers.Drainer.{Drainer}
+use Rattle.drain_rounds.specs.Drainers.{agent_of, of_kind, roles_of}
+use Rattle.drain_rounds.specs.Rounds.{Ends, IsRound, Lets, Turns, all_pass}
+use Rattle.drain_rounds.proofs.RoundFacts.{AreBuilt, round_grows}
+use Rattle.drain_rounds.proofs.RunFacts.{run_grows}
 use Rattle.settle_measure.specs.Measure.{work_left}
 use Rattle.write_law.specs.Lasting.{HasLasting, content_of}
 use Rattle.alike_law.specs.Alike.{AreAlike}
@@ -62,7 +62,7 @@ use Rattle.tries_law.proofs.Points.{near_behind}
 use Rattle.epoch_law.specs.Awake.{IsAwake}
 use Rattle.node_law.specs.Nodes.{WasGiven}
 use Rattle.binder_model.specs.Told.{own}
-use Rattle.worker_threads.specs.Drainers.{IsStanding}
+use Rattle.drain_rounds.specs.Drainers.{IsStanding}
 use Rattle.slot_law.proofs.Slots.{memory_awake}
 use Rattle.std.specs.Prelude.{map}
 use Rattle.std.proofs.Common.{if◌then◌else◌}

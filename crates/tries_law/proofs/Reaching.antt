@@ -49,8 +49,8 @@ use Rattle.worker_core.specs.States.{ActorState}
 use Rattle.worker_core.specs.Turns.{IsTurn}
 use Rattle.worker_core.proofs.Answered.{passed}
 use Rattle.attention_law.proofs.Turned.{Kept, PassAfter, Renewed, answer_role, idle_rests, turn_pass}
-use Rattle.worker_threads.specs.Rounds.{all_pass, Asks, IsHeld, IsIdle, IsReady, IsSpent, Runs, told_entry}
-use Rattle.worker_threads.proofs.RunFacts.{still_role, turn_memory, turn_role}
+use Rattle.drain_rounds.specs.Rounds.{all_pass, Asks, IsHeld, IsIdle, IsReady, IsSpent, Runs, told_entry}
+use Rattle.drain_rounds.proofs.RunFacts.{still_role, turn_memory, turn_role}
 use Rattle.slot_law.proofs.Slots.{run_older}
 use Rattle.pass_law.proofs.Given.{FindsGone, GivenSo, GivesRead, GivesStart, GivesTask, IsTold, Lists, Reads, given_so, read_called, start_called, task_called}
 use Rattle.event_law.specs.Telling.{told}

@@ -39,8 +39,8 @@ use Rattle.worker_core.specs.declared.task.Under.{Under}
 use Rattle.worker_core.specs.Absorbs.{woken}
 use Rattle.worker_core.specs.States.{ActorState, waits as waits_in}
 use Rattle.worker_core.specs.Tasks.{GivesCall}
-use Rattle.worker_threads.specs.Rounds.{Runs, all_pass}
-use Rattle.worker_threads.proofs.RunFacts.{run_grows}
+use Rattle.drain_rounds.specs.Rounds.{Runs, all_pass}
+use Rattle.drain_rounds.proofs.RunFacts.{run_grows}
 use Rattle.write_law.specs.Lasting.{content_of}
 use Rattle.write_law.proofs.Pods.{claims_once}
 use Rattle.due_law.proofs.Deciding.{stored}

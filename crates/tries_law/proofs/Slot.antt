@@ -27,13 +27,13 @@ use Rattle.pod_scheduler.specs.Tries.{node_selected_for, tries_of}
 use Rattle.worker_core.specs.declared.role.Role.{Role}
 use Rattle.worker_core.specs.Absorbs.{woken}
 use Rattle.worker_core.specs.Roles.{IsBuiltKind}
-use Rattle.worker_threads.specs.declared.drainers.Drainer.{Drainer}
-use Rattle.worker_threads.specs.Drainers.{AreRoles, StandsWhole, of_kind, roles_of, seats_of}
-use Rattle.worker_threads.specs.Longer.{AreToldOf, GrowsWithin, HasGrown}
-use Rattle.worker_threads.specs.Rounds.{Ends, IsRound, Runs, Turns, all_pass}
-use Rattle.worker_threads.proofs.Entries.{grown_others}
-use Rattle.worker_threads.proofs.RoundFacts.{round_grows}
-use Rattle.worker_threads.proofs.RunFacts.{run_grows, run_role}
+use Rattle.drain_rounds.specs.declared.drainers.Drainer.{Drainer}
+use Rattle.drain_rounds.specs.Drainers.{AreRoles, StandsWhole, of_kind, roles_of, seats_of}
+use Rattle.drain_rounds.specs.Longer.{AreToldOf, GrowsWithin, HasGrown}
+use Rattle.drain_rounds.specs.Rounds.{Ends, IsRound, Runs, Turns, all_pass}
+use Rattle.drain_rounds.proofs.Entries.{grown_others}
+use Rattle.drain_rounds.proofs.RoundFacts.{round_grows}
+use Rattle.drain_rounds.proofs.RunFacts.{run_grows, run_role}
 use Rattle.write_law.specs.Lasting.{content_of}
 use Rattle.slot_law.specs.Slots.{SeesStore}
 use Rattle.slot_law.proofs.Slots.{others_stay_awake}

@@ -30,10 +30,10 @@ use Rattle.worker_core.specs.declared.role.Role.{Role}
 use Rattle.worker_core.specs.Absorbs.{woken}
 use Rattle.worker_core.specs.Roles.{IsBuiltKind}
 use Rattle.worker_core.specs.States.{ActorState}
-use Rattle.worker_threads.specs.declared.drainers.Drainer.{Drainer}
-use Rattle.worker_threads.specs.Drainers.{roles_of}
-use Rattle.worker_threads.specs.Rounds.{Ends, IsRound, Lets, Runs, Turns, told_entry}
-use Rattle.worker_threads.proofs.RoundFacts.{round_grows}
+use Rattle.drain_rounds.specs.declared.drainers.Drainer.{Drainer}
+use Rattle.drain_rounds.specs.Drainers.{roles_of}
+use Rattle.drain_rounds.specs.Rounds.{Ends, IsRound, Lets, Runs, Turns, told_entry}
+use Rattle.drain_rounds.proofs.RoundFacts.{round_grows}
 use Rattle.done_lasts.proofs.Doing.{write_asked}
 use Rattle.paid_law.proofs.Slots.{older_run}
 use Rattle.write_count.proofs.Nodes.{IsMoved}

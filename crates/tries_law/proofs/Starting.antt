@@ -20,8 +20,8 @@ use Rattle.binder_model.specs.World.{world}
 use Rattle.model_laws.proofs.Lists.{one}
 use Rattle.settle_measure.specs.Measure.{work_left}
 use Rattle.worker_core.specs.Absorbs.{woken}
-use Rattle.worker_threads.specs.declared.drainers.Drainer.{Drainer}
-use Rattle.worker_threads.specs.Rounds.{all_pass}
+use Rattle.drain_rounds.specs.declared.drainers.Drainer.{Drainer}
+use Rattle.drain_rounds.specs.Rounds.{all_pass}
 use Rattle.write_law.specs.Lasting.{content_of}
 use Rattle.slot_law.specs.Slots.{own_entry}
 use Rattle.paid_law.specs.Pays.{HavePaid}

@@ -41,7 +41,7 @@ use Rattle.worker_core.specs.Absorbs.{woken}
 use Rattle.worker_core.specs.Roles.{IsBuiltKind}
 use Rattle.worker_core.specs.States.{ActorState}
 use Rattle.worker_core.specs.Tasks.{task_call, task_moved, under_after}
-use Rattle.worker_threads.specs.Rounds.{Runs, all_pass}
+use Rattle.drain_rounds.specs.Rounds.{Runs, all_pass}
 use Rattle.settle_measure.specs.Measure.{work_left}
 use Rattle.write_law.specs.Lasting.{Lasts, content_of}
 use Rattle.alike_law.proofs.Calls.{LastsOrAlike, calls_last_or_leave_alike}

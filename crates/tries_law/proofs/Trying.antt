@@ -24,10 +24,10 @@ use Rattle.settle_check.proofs.Placed.{none_in_a_namespace}
 use Rattle.settle_measure.specs.Measure.{work_left}
 use Rattle.settle_measure.specs.Tries.{TriesLeft, in_turn}
 use Rattle.settle_measure.proofs.Trying.{tries_are_few}
-use Rattle.worker_threads.specs.declared.drainers.Drainer.{Drainer}
-use Rattle.worker_threads.specs.Drainers.{agent_of, roles_for, roles_of}
-use Rattle.worker_threads.specs.Rounds.{IsRound, all_pass}
-use Rattle.worker_threads.proofs.RoundFacts.{round_grows, round_seats, same_length}
+use Rattle.drain_rounds.specs.declared.drainers.Drainer.{Drainer}
+use Rattle.drain_rounds.specs.Drainers.{agent_of, roles_for, roles_of}
+use Rattle.drain_rounds.specs.Rounds.{IsRound, all_pass}
+use Rattle.drain_rounds.proofs.RoundFacts.{round_grows, round_seats, same_length}
 use Rattle.alike_law.proofs.Rows.{get_mapped, plain_node}
 use Rattle.write_law.specs.Lasting.{content_of}
 use Rattle.near_law.proofs.Trying.{nodes_rest}

@@ -31,8 +31,8 @@ use Rattle.pod_scheduler.specs.Decisions.{last_refused}
 use Rattle.settle_check.proofs.Placed.{none_in_a_namespace}
 use Rattle.settle_measure.specs.Measure.{work_left}
 use Rattle.worker_core.specs.declared.role.Role.{Role}
-use Rattle.worker_threads.specs.declared.drainers.Drainer.{Drainer}
-use Rattle.worker_threads.specs.Rounds.{all_pass}
+use Rattle.drain_rounds.specs.declared.drainers.Drainer.{Drainer}
+use Rattle.drain_rounds.specs.Rounds.{all_pass}
 use Rattle.write_law.specs.Lasting.{content_of}
 use Rattle.alike_law.proofs.Rows.{plain_node}
 use Rattle.schedule_law.proofs.Turning.{first_serving}

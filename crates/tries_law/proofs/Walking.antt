@@ -29,8 +29,8 @@ use Rattle.worker_core.specs.Turns.{AfterKeys, Decides, IsTurn, TurnBy, passing,
 use Rattle.worker_core.proofs.KeysKept.{answers_keep_keys}
 use Rattle.attention_law.proofs.Turned.{calls_fresh, idle_rests}
 use Rattle.binder_model.specs.Reading.{follows}
-use Rattle.worker_threads.specs.Rounds.{Asks, IsHeld, IsIdle, IsReady, IsSpent, Runs, all_pass, told_entry}
-use Rattle.worker_threads.proofs.RunFacts.{run_grows, turn_memory, turn_role, still_role}
+use Rattle.drain_rounds.specs.Rounds.{Asks, IsHeld, IsIdle, IsReady, IsSpent, Runs, all_pass, told_entry}
+use Rattle.drain_rounds.proofs.RunFacts.{run_grows, turn_memory, turn_role, still_role}
 use Rattle.slot_law.specs.Slots.{IsDecisionPoint, KnowsBehind, own_entry}
 use Rattle.slot_law.proofs.Knowing.{sees, told_knows}
 use Rattle.slot_law.proofs.Slots.{ByCall, ByNone, Called, NotCalled, Stopped, StopsBy, asks_under, decides_gives, decides_stops, none_told, older, run_older, stops_by, told_under}

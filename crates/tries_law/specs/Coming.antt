@@ -23,7 +23,7 @@ use Rattle.worker_core.specs.Absorbs.{woken}
 use Rattle.worker_core.specs.Roles.{IsBuiltKind}
 use Rattle.worker_core.specs.States.{ActorState}
 use Rattle.worker_core.specs.Tasks.{GivesCall}
-use Rattle.worker_threads.specs.Rounds.{Runs, all_pass}
+use Rattle.drain_rounds.specs.Rounds.{Runs, all_pass}
 use Rattle.write_law.specs.Lasting.{Lasts}
 use Rattle.slot_law.specs.Slots.{IsDecisionPoint, own_entry}
 use Rattle.slot_law.specs.Would.{Leads}

@@ -17,7 +17,7 @@ use Rattle.worker_core.specs.Absorbs.{woken}
 use Rattle.worker_core.specs.Roles.{IsBuiltKind}
 use Rattle.worker_core.specs.States.{ActorState}
 use Rattle.worker_core.specs.Tasks.{GivesCall}
-use Rattle.worker_threads.specs.Rounds.{Lets, Runs}
+use Rattle.drain_rounds.specs.Rounds.{Lets, Runs}
 use Rattle.write_law.specs.Lasting.{Lasts}
 use Rattle.slot_law.specs.Slots.{ActsOn, IsDecisionPoint, own_entry}
 use Rattle.slot_law.specs.Would.{Leads}

@@ -11,7 +11,7 @@ use Rattle.call_types.specs.declared.entry.Entry.{Entry}
 use Rattle.call_types.specs.declared.setup.Setup.{Setup}
 use Rattle.binder_model.specs.Due.{IsDue}
 use Rattle.binder_model.specs.World.{world}
-use Rattle.worker_threads.specs.declared.drainers.Drainer.{Drainer}
+use Rattle.drain_rounds.specs.declared.drainers.Drainer.{Drainer}
 use Rattle.tries_law.specs.Quiet.{AreCached, IsQuietRound, OnlyPrepares}
 use Rattle.tries_law.specs.Waiting.{WasTried}
 

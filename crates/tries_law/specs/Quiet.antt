@@ -20,8 +20,8 @@ use Rattle.binder_model.specs.Promises.{IsRunOf}
 use Rattle.binder_model.specs.World.{World, world}
 use Rattle.informer_cache.specs.All.{all_objects}
 use Rattle.settle_measure.specs.Measure.{work_left}
-use Rattle.worker_threads.specs.declared.drainers.Drainer.{Drainer}
-use Rattle.worker_threads.specs.Rounds.{IsRound, all_pass}
+use Rattle.drain_rounds.specs.declared.drainers.Drainer.{Drainer}
+use Rattle.drain_rounds.specs.Rounds.{IsRound, all_pass}
 use Rattle.all_pay.specs.All.{ImportsAllow}
 use Rattle.drain_budget.specs.Budget.{AreAlwaysInOrder}
 use Rattle.drain_budget.specs.Rounds.{MaySettle}

@@ -12,9 +12,9 @@ use Rattle.call_types.specs.declared.entry.Entry.{Entry}
 use Rattle.call_types.specs.declared.setup.Setup.{Setup}
 use Rattle.binder_model.specs.Promises.{IsRunOf}
 use Rattle.binder_model.specs.World.{World, world}
-use Rattle.worker_threads.specs.declared.drainers.Drainer.{Drainer}
-use Rattle.worker_threads.specs.Drainers.{AreRoles, roles_of}
-use Rattle.worker_threads.specs.Rounds.{IsRound, Lets}
+use Rattle.drain_rounds.specs.declared.drainers.Drainer.{Drainer}
+use Rattle.drain_rounds.specs.Drainers.{AreRoles, roles_of}
+use Rattle.drain_rounds.specs.Rounds.{IsRound, Lets}
 use Rattle.drain_budget.specs.Measured.{SharesWell}
 
 -- the pod waited there too, with the same claims

@@ -16,10 +16,10 @@ use Rattle.binder_model.specs.World.{world}
 use Rattle.settle_measure.specs.Measure.{work_left}
 use Rattle.worker_core.specs.Absorbs.{woken}
 use Rattle.worker_core.specs.States.{ActorState}
-use Rattle.worker_threads.specs.Rounds.{Runs, all_pass}
+use Rattle.drain_rounds.specs.Rounds.{Runs, all_pass}
 use Rattle.paid_law.specs.Pays.{HavePaid}
 use Rattle.drain_budget.specs.Budget.{AreAlwaysInOrder}
-use Rattle.worker_threads.specs.declared.drainers.Drainer.{Drainer}
+use Rattle.drain_rounds.specs.declared.drainers.Drainer.{Drainer}
 use Rattle.write_law.specs.Lasting.{content_of}
 use Rattle.tries_law.specs.Coming.{IsCallOf}
 use Rattle.tries_law.specs.Deciding.{IsWithin}

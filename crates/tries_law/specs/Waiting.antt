@@ -25,8 +25,8 @@ use Rattle.worker_core.specs.declared.task.Under.{Under}
 use Rattle.worker_core.specs.Absorbs.{woken}
 use Rattle.worker_core.specs.States.{ActorState}
 use Rattle.worker_core.specs.Tasks.{GivesCall}
-use Rattle.worker_threads.specs.declared.drainers.Drainer.{Drainer}
-use Rattle.worker_threads.specs.Rounds.{IsRound, Runs, all_pass}
+use Rattle.drain_rounds.specs.declared.drainers.Drainer.{Drainer}
+use Rattle.drain_rounds.specs.Rounds.{IsRound, Runs, all_pass}
 use Rattle.slot_law.specs.Slots.{IsDecisionPoint}
 use Rattle.schedule_law.specs.Firsts.{IsFirstServing}
 use Rattle.drain_budget.specs.Measured.{SharesWell}

@@ -13,8 +13,8 @@ use Rattle.informer_cache.specs.All.{all_objects}
 use Rattle.worker_core.specs.Absorbs.{woken}
 use Rattle.worker_core.specs.Roles.{IsBuiltKind}
 use Rattle.worker_core.specs.States.{ActorState}
-use Rattle.worker_threads.specs.Rounds.{Asks, IsHeld, IsIdle, IsReady, IsSpent, Lets, Runs}
-use Rattle.worker_threads.proofs.RunFacts.{run_grows}
+use Rattle.drain_rounds.specs.Rounds.{Asks, IsHeld, IsIdle, IsReady, IsSpent, Lets, Runs}
+use Rattle.drain_rounds.proofs.RunFacts.{run_grows}
 use Rattle.write_law.specs.Lasting.{HasLasting}
 use Rattle.alike_law.specs.Alike.{AreAlike}
 use Rattle.slot_law.proofs.Slots.{last, nothing_behind, older}

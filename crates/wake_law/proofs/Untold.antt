@@ -53,8 +53,8 @@ use Rattle.attention_law.specs.Queues.{taken_keys, under_keys}
 use Rattle.attention_law.proofs.Kept.{turns_queues}
 use Rattle.attention_law.proofs.Queues.{all_self}
 use Rattle.attention_law.proofs.Turned.{Kept, PassAfter, Renewed, answer_role, calls_fresh, idle_rests, turn_pass}
-use Rattle.worker_threads.specs.Rounds.{Asks, IsHeld, IsIdle, IsReady, IsSpent, Lets, Runs, told_entry}
-use Rattle.worker_threads.proofs.RunFacts.{run_grows, still_role, turn_memory, turn_role}
+use Rattle.drain_rounds.specs.Rounds.{Asks, IsHeld, IsIdle, IsReady, IsSpent, Lets, Runs, told_entry}
+use Rattle.drain_rounds.proofs.RunFacts.{run_grows, still_role, turn_memory, turn_role}
 use Rattle.write_law.specs.Lasting.{HasLasting, LastsBetween, content_of}
 use Rattle.alike_law.specs.Alike.{AreAlike}
 use Rattle.alike_law.proofs.Calls.{LastsOrAlike, calls_last_or_leave_alike, then_alike}

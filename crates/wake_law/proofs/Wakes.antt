@@ -31,8 +31,8 @@ use Rattle.worker_core.proofs.KeyMoves.{is_key}
 use Rattle.attention_law.specs.Queues.{OneTaken, key_in, taken_keys, under_keys}
 use Rattle.attention_law.proofs.Queues.{row_any}
 use Rattle.attention_law.proofs.Turned.{calls_fresh}
-use Rattle.worker_threads.specs.Rounds.{Asks, IsHeld, IsIdle, IsReady, IsSpent, Lets, Runs, told_entry}
-use Rattle.worker_threads.proofs.RunFacts.{run_grows, still_role, turn_memory}
+use Rattle.drain_rounds.specs.Rounds.{Asks, IsHeld, IsIdle, IsReady, IsSpent, Lets, Runs, told_entry}
+use Rattle.drain_rounds.proofs.RunFacts.{run_grows, still_role, turn_memory}
 use Rattle.write_law.specs.Lasting.{HasLasting, LastsBetween}
 use Rattle.alike_law.specs.Alike.{AreAlike}
 use Rattle.alike_law.proofs.Calls.{LastsOrAlike, calls_last_or_leave_alike, then_alike}

@@ -13,8 +13,8 @@ use Rattle.sync_queue.specs.Work.{Work, mark_of}
 use Rattle.worker_core.specs.Absorbs.{woken}
 use Rattle.worker_core.specs.Roles.{IsBuiltKind}
 use Rattle.worker_core.specs.States.{ActorState, waits}
-use Rattle.worker_threads.specs.Drainers.{StandsWhole}
-use Rattle.worker_threads.specs.Rounds.{Lets, Runs}
+use Rattle.drain_rounds.specs.Drainers.{StandsWhole}
+use Rattle.drain_rounds.specs.Rounds.{Lets, Runs}
 use Rattle.write_law.specs.Lasting.{HasLasting}
 use Rattle.alike_law.specs.Alike.{AreAlike}
 use Rattle.slot_law.specs.Slots.{ActsOn}

@@ -1,4 +1,1 @@
-pub mod Calling
-pub mod Drainers
-pub mod Longer
-pub mod Rounds
+pub mod Settling

@@ -5,12 +5,13 @@ ghost use Rattle.binder_model.specs.Told.{own};
 ghost use Rattle.binder_model.specs.Due.{IsSettled};
 ghost use Rattle.settle_check.specs.WorldOf.{world_of};
 ghost use Rattle.size_calls.specs.Calls.{AreByActors};
-ghost use Rattle.worker_threads.specs.Drainers.{AreStanding, roles_of, seats_of};
-ghost use Rattle.worker_threads.specs.Longer.{HasGrown, IsLonger, IsOneOf, users_of};
-ghost use Rattle.worker_threads.specs.Rounds.{Drains, EndsHere, EndsWith, all_pass, made_of};
+ghost use Rattle.drain_rounds.specs.Drainers.{AreStanding, roles_of, seats_of};
+ghost use Rattle.drain_rounds.specs.Longer.{HasGrown, IsLonger, IsOneOf, users_of};
+ghost use Rattle.drain_rounds.specs.Rounds.{Drains, EndsHere, EndsWith, all_pass, made_of};
+ghost use Rattle.worker_threads.specs.Settling.{DrainSettles, RoundsOfDrainAreShort, RoundsOfDrainLast};
 
-use crate::drainers::Drainers;
 use crate::round::round;
+use drain_rounds::drainers::Drainers;
 use kube_types::copies::OutOfMemory;
 use kube_types::key::key_of;
 use settle_check::first_due;
@@ -33,6 +34,9 @@ pub fn drain(
     ensures entries { IfOk result (λ d. IsLonger (seats_of drainers.old) (made_of d) world.old.past world.new.past) }
     ensures others { (seat : ℕ) → (IsOneOf (seats_of drainers.old) seat → ⊥) → own seat world.new.past ≡ own seat world.old.past }
     ensures few { IfOk result (λ d. made_of d ≤ budget) }
+    ensures lasting { IfOk result (λ d. RoundsOfDrainLast world.old.setup drainers.new world.new.past (budget - made_of d) drainers.old world.old.past budget) }
+    ensures short { IfOk result (λ d. RoundsOfDrainAreShort world.old.setup drainers.new world.new.past (budget - made_of d) drainers.old world.old.past budget) }
+    ensures settles { IfOk result (λ d. DrainSettles world.old.setup drainers.old world.old.past world.new.past budget d) }
     ensures none { OnOk result (IsSettled world.old.setup (world_of world.old) → world.new.past ≡ world.old.past) }
     ensures err { OnErr result (HasGrown (seats_of drainers.old) world.old.past world.new.past) }
     ensures users { users_of world.new.past ≡ users_of world.old.past }
@@ -43,7 +47,7 @@ pub fn drain(
 {
     let mut left = budget;
     'rounds: loop {
-        match ended(drainers.alloc, world.world(), budget, left)? {
+        match ended(drainers.allocator(), world.world(), budget, left)? {
             Some(drained) => return Ok(drained),
             None => {
                 let rounded = round(world, drainers, left)?;

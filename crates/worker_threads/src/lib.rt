@@ -1,19 +1,21 @@
-//! Actors that are run on one world, one after the other.
+//! Rounds of actors on one world, while something is due.
 //!
-//! Promises: `round::round` wakes each drainer in its turn and runs it until it is idle, exactly as `specs/Rounds`
-//! says: the scheduler, ops, the binder, claim protection, volume protection, then an agent of each node. At each
-//! step the drainer stands for what its seat was told, so each decision rests on that alone. Each key stands once in
-//! its queue, and what is taken there is what it has under way (`StandsWhole`).
+//! Promises: `round::round` wakes each drainer in its turn and runs it until it is idle, exactly as `Rounds` of `drain_rounds`
+//! says: the scheduler, ops, the binder, claim protection, volume protection, then an agent of each node.
 //! `drain::drain` makes such rounds while something is due and calls are left; a settled world gets no call. The
 //! history is the earlier one and then as many entries as were made, all of the drainers' seats and told, none of
 //! them a user's, so it stays a run. No other seat's entries change, seats and roles stay, and each drainer stands
-//! again. A drain ends Settled exactly where nothing is due, else Spent exactly where the budget is. `specs/Rounds`
-//! leaves open which requests reach the world; here all do (`all_pass`). Not said: that any budget is enough to
-//! settle a world, nor that what only a stale agent could do is done: an agent whose node was taken by another
-//! answers Idle from then on.
+//! again. A drain ends Settled exactly where nothing is due, else Spent exactly where the budget is. Which requests reach
+//! the world is left open for a round; in a drain all do (`all_pass`).
+//!
+//! What this does about what is due (`specs/Settling`): a whole round that begins with something due, for an actor that
+//! is no stale agent and of whom no Mount is held back for it, has an entry that lasts (`lasting`). A round makes at most 256
+//! calls for each object, for each claim that a pod names, for each planned fault that is ahead, and for 16 more, whatever its
+//! actors have under way, where Mounts alone are held back and at most 8,192 objects stand (`short`); so does each round of a
+//! drain. A drain with the stated budget ends settled (`settles`), where no agent of it is stale, claims are shared well and the
+//! world is small. Not said: that what only a stale agent could do is done: an agent whose node was taken by another answers
+//! Idle from then on.
 #![tactic(auto)]
 
 pub mod drain;
-pub mod drainers;
 pub mod round;
-mod run;

@@ -1,16 +1,15 @@
 //! One round of a drain.
 
-ghost use Rattle.std.specs.Prelude.{◌≡◌, ◌≢◌, ◌≤◌, ◌<◌, ◌-◌, ℕ, [], ◌∷◌, IfOk, OnOk, OnErr, false, true};
-ghost use Rattle.call_types.specs.declared.request.SeatKind.TheVariants.{Agent};
+ghost use Rattle.std.specs.Prelude.{◌≡◌, ◌≤◌, ◌<◌, ◌-◌, ℕ, IfOk, OnOk, OnErr, false, true};
 ghost use Rattle.binder_model.specs.Told.{own};
-ghost use Rattle.worker_core.specs.Absorbs.{woken};
 ghost use Rattle.size_calls.specs.Calls.{AreByActors};
-ghost use Rattle.worker_threads.specs.Drainers.{AreIdle, AreSeats, AreStanding, IsIdleNow, IsStanding, roles_of, seats_of};
-ghost use Rattle.worker_threads.specs.Longer.{GrowsWithin, HasGrown, IsLonger, IsOneOf, users_of};
-ghost use Rattle.worker_threads.specs.Rounds.{IsRound, OrdersNone, Runs, ServesSeats, all_pass};
+ghost use Rattle.drain_rounds.specs.Drainers.{AreAtRest, AreIdle, AreStanding, roles_of, seats_of};
+ghost use Rattle.drain_rounds.specs.Longer.{GrowsWithin, HasGrown, IsLonger, IsOneOf, users_of};
+ghost use Rattle.drain_rounds.specs.Rounds.{IsRound, OrdersNone, ServesSeats, all_pass};
+ghost use Rattle.worker_threads.specs.Settling.{RoundIsShort, RoundLasts};
 
-use crate::drainers::{Drainer, Drainers};
-use crate::run::{Ran, run};
+use drain_rounds::drainers::Drainers;
+use drain_rounds::turns::turns;
 use kube_types::copies::OutOfMemory;
 use seat_calls::answers::Answers;
 
@@ -42,6 +41,9 @@ pub fn round<W: Answers>(
     ensures some { IfOk result (λ r. 0 < budget → 0 < r.made) }
     ensures idle { IfOk result (λ r. r.whole ≡ true → AreIdle drainers.new (W.past desk.new)) }
     ensures part { IfOk result (λ r. r.whole ≡ false → r.made ≡ budget) }
+    ensures rests { IfOk result (λ r. r.whole ≡ true → AreAtRest drainers.new) }
+    ensures lasting { IfOk result (λ r. r.whole ≡ true → RoundLasts (W.setup desk.old) (W.lets desk.old) drainers.old (W.past desk.old) (W.past desk.new)) }
+    ensures short { IfOk result (λ r. RoundIsShort (W.setup desk.old) (W.lets desk.old) drainers.old (W.past desk.old) (W.past desk.new) r.made) }
     ensures err { OnErr result (HasGrown (seats_of drainers.old) (W.past desk.old) (W.past desk.new)) }
     ensures users { users_of (W.past desk.new) ≡ users_of (W.past desk.old) }
     ensures actors { AreByActors (W.past desk.old) → AreByActors (W.past desk.new) }
@@ -53,69 +55,9 @@ pub fn round<W: Answers>(
     ensures seats { seats_of drainers.new ≡ seats_of drainers.old }
     ensures roles { OnOk result (roles_of drainers.new ≡ roles_of drainers.old) }
 {
-    let ran = turns(desk, &mut drainers.list, budget)?;
+    let ran = turns(desk, drainers, budget)?;
     Ok(Rounded {
         made: budget - ran.left,
         whole: ran.idle,
     })
-}
-
-/// The turns of all drainers.
-fn turns<W: Answers>(
-    desk: &mut W,
-    drainers: &mut Vec<Drainer>,
-    budget: u64,
-) -> Result<Ran, OutOfMemory>
-    requires serves { ServesSeats (W.serves desk.old) (seats_of drainers.old.items) }
-    requires free { OrdersNone (W.orders desk.old) }
-    requires seats { AreSeats (seats_of drainers.old.items) }
-    requires stands { AreStanding drainers.old.items (W.past desk.old) }
-    ensures round { IfOk result (λ ran. IsRound (W.lets desk.old) (W.past desk.new) ran.left drainers.old.items (W.past desk.old) budget drainers.new.items ran.idle) }
-    ensures stands { OnOk result (AreStanding drainers.new.items (W.past desk.new)) }
-    ensures idle { IfOk result (λ ran. ran.idle ≡ true → AreIdle drainers.new.items (W.past desk.new)) }
-    ensures some { IfOk result (λ ran. 0 < budget → ran.left < budget) }
-    ensures grown { HasGrown (seats_of drainers.old.items) (W.past desk.old) (W.past desk.new) }
-    ensures users { users_of (W.past desk.new) ≡ users_of (W.past desk.old) }
-    ensures actors { AreByActors (W.past desk.old) → AreByActors (W.past desk.new) }
-    ensures lets { W.lets desk.new ≡ W.lets desk.old }
-    ensures setup { W.setup desk.new ≡ W.setup desk.old }
-    ensures lent { W.lent desk.new ≡ W.lent desk.old }
-    ensures serves { OnOk result ((seat : ℕ) → W.serves desk.old seat → W.serves desk.new seat) }
-    ensures orders { OnOk result (OrdersNone (W.orders desk.new)) }
-    ensures seats { seats_of drainers.new.items ≡ seats_of drainers.old.items }
-    ensures roles { OnOk result (roles_of drainers.new.items ≡ roles_of drainers.old.items) }
-{
-    let mut left = budget;
-    let mut whole = true;
-    for place in 0..drainers.len() {
-        let ran = turn(desk, &mut drainers[place], left)?;
-        left = ran.left;
-        whole = whole && ran.idle;
-    }
-    Ok(Ran { left, idle: whole })
-}
-
-/// One drainer's turn: it is woken, and runs until it is idle. An agent whose epoch is stale is idle at once.
-fn turn<W: Answers>(desk: &mut W, drainer: &mut Drainer, budget: u64) -> Result<Ran, OutOfMemory>
-    requires serves { W.serves desk.old drainer.old.seat }
-    requires free { OrdersNone (W.orders desk.old) }
-    requires stands { IsStanding drainer.old (W.past desk.old) }
-    ensures runs { IfOk result (λ ran. Runs (W.lets desk.old) drainer.old.seat drainer.new.actor (W.past desk.new) ran.left ran.idle (woken drainer.old.actor) (W.past desk.old) budget) }
-    ensures stands { OnOk result (IsStanding drainer.new (W.past desk.new)) }
-    ensures idle { IfOk result (λ ran. ran.idle ≡ true → IsIdleNow drainer.new (W.past desk.new)) }
-    ensures some { IfOk result (λ ran. drainer.old.actor.role.kind ≢ Agent → 0 < budget → ran.left < budget) }
-    ensures role { OnOk result (drainer.new.actor.role ≡ drainer.old.actor.role) }
-    ensures grown { HasGrown (drainer.old.seat ∷ []) (W.past desk.old) (W.past desk.new) }
-    ensures users { users_of (W.past desk.new) ≡ users_of (W.past desk.old) }
-    ensures actors { AreByActors (W.past desk.old) → AreByActors (W.past desk.new) }
-    ensures lets { W.lets desk.new ≡ W.lets desk.old }
-    ensures setup { W.setup desk.new ≡ W.setup desk.old }
-    ensures lent { W.lent desk.new ≡ W.lent desk.old }
-    ensures serves { OnOk result ((seat : ℕ) → W.serves desk.old seat → W.serves desk.new seat) }
-    ensures orders { OnOk result (OrdersNone (W.orders desk.new)) }
-    ensures seat { drainer.new.seat ≡ drainer.old.seat }
-{
-    let kind = drainer.actor.kind();
-    drainer.actor.wake()?;
-    run(desk, drainer.seat, kind, &mut drainer.actor, budget)
 }

@@ -193,6 +193,14 @@ module _ (f : Object → ℕ) (n : ℕ) where
           still w o other (ByNothing none) = ByNothing none
       by (ByNothing none) rest = let more = rest old spare before (λ o i. each o (inr i)) in omega (arith, none, more)
 
+-- a pod in place of another names no more claims
+pub of_pod : (p : PodData) (was : Object) → kind_index (kind_of was) ≡ kind_index kinds.Pod → length p.claims ≤ names_in was → 1 + length p.claims ≤ pod_size was
+of_pod p (Pod q) kind few = omega (arith, few)
+of_pod p (Class x) kind few = absurd (omega (arith, kind))
+of_pod p (Node x) kind few = absurd (omega (arith, kind))
+of_pod p (Volume x) kind few = absurd (omega (arith, kind))
+of_pod p (Claim x) kind few = absurd (omega (arith, kind))
+
 module _ (first rows : List Object) (before : AreRows first) (order : AreRows rows) (given : AreGiven first rows) where
   pub given_few : total (λ o. 1 + names_in o) rows ≤ total (λ o. 1 + names_in o) first + claims_in first
   given_few =
@@ -208,13 +216,6 @@ module _ (first rows : List Object) (before : AreRows first) (order : AreRows ro
   pub pods_few : total pod_size rows ≤ total pod_size first
   pods_few = let few = covered pod_size 0 rows first [] order before (λ o i. by o (given (key_of o) o (stands rows order o i))) in omega (arith, few)
     where
-      of_pod : (p : PodData) (was : Object) → kind_index (kind_of was) ≡ kind_index kinds.Pod → length p.claims ≤ names_in was → 1 + length p.claims ≤ pod_size was
-      of_pod p (Pod q) kind few = omega (arith, few)
-      of_pod p (Class x) kind few = absurd (omega (arith, kind))
-      of_pod p (Node x) kind few = absurd (omega (arith, kind))
-      of_pod p (Volume x) kind few = absurd (omega (arith, kind))
-      of_pod p (Claim x) kind few = absurd (omega (arith, kind))
-
       by : (o : Object) → IsGiven first (key_of o) o → IsCovered pod_size 0 first [] o
       by (Pod p) (IsOld was there few uid) = ByOld was there (of_pod p was (ap (λ (k : Key). kind_index k.kind) (row_at_key (key_of (Pod p)) was first there)) few)
       by (Pod p) (IsMade i none) = let k = made_kind (key_of (Pod p)) first i in absurd (omega (arith, k))

@@ -55,8 +55,8 @@ use Rattle.worker_core.specs.Roles.{IsBuiltKind}
 use Rattle.worker_core.specs.Stands.{GivenStands}
 use Rattle.worker_core.specs.States.{ActorState, call_in, call_under, given_call, read_of_kind, read_request, start_call, start_of}
 use Rattle.worker_core.specs.Turns.{AfterKeys, IsTurn, TurnBy, passing, unlisted}
-use Rattle.worker_threads.specs.Rounds.{Asks, IsHeld, IsIdle, IsSpent, Lets, Runs, told_entry}
-use Rattle.worker_threads.proofs.RunFacts.{still_role, turn_role}
+use Rattle.drain_rounds.specs.Rounds.{Asks, IsHeld, IsIdle, IsSpent, Lets, Runs, told_entry}
+use Rattle.drain_rounds.proofs.RunFacts.{still_role, turn_role}
 use Rattle.slot_law.specs.Slots.{KnowsBehind}
 use Rattle.slot_law.proofs.Knowing.{lost_knows, sees, told_knows, turned_knows}
 use Rattle.slot_law.proofs.Slots.{nothing_behind}
@@ -115,6 +115,9 @@ creates seats.ClaimProtect mine x built may = absurd may.1
 creates seats.VolumeProtect mine x built may = absurd may.1
 creates seats.Agent mine x built may = absurd may.1
 
+pub volume_created : (kind : SeatKind) (mine : List Entry) (x : Object) → IsBuiltKind kind → Licensed kind mine (requests.Create x) → kind_of x ≡ kinds.PersistentVolume
+volume_created kind mine x built may = ap kind_of (creates kind mine x built may).is
+
 no_names : (o : Object) → is_pod (kind_of o) ≡ false → names_in o ≡ 0
 no_names (Class x) e = refl
 no_names (Node x) e = refl
@@ -163,7 +166,7 @@ module _ (w : World) (mine : List Entry) (kind : SeatKind) (built : IsBuiltKind 
   over : (key : Key) (old o : Object) → row_at key w.store.rows ≡ Some old → key_of o ≡ key_of old → names_in o ≤ names_in old → (meta_of o).uid ≡ (meta_of old).uid → Comes w.store.rows o
   over key old o there keyed names uid = IsOver old (same_place key old o there keyed) names uid
 
-  comes : (r : Request) (o : Object) → Licensed kind mine r → Writes w kind r o → (is_create r ≡ true → kind ≡ seats.Ops → KnowsClaims) → Comes w.store.rows o
+  pub comes : (r : Request) (o : Object) → Licensed kind mine r → Writes w kind r o → (is_create r ≡ true → kind ≡ seats.Ops → KnowsClaims) → Comes w.store.rows o
   unfolding at_version with_meta
   comes (requests.Create x) o may i knows =
       let c = creates kind mine x built may in

@@ -11,11 +11,11 @@ use Rattle.model_laws.proofs.Growing.{runs_are_histories}
 use Rattle.worker_core.specs.declared.role.Role.{Role}
 use Rattle.worker_core.specs.Absorbs.{woken}
 use Rattle.worker_core.specs.States.{ActorState}
-use Rattle.worker_threads.specs.declared.drainers.Drainer.{Drainer}
-use Rattle.worker_threads.specs.Drainers.{AreRoles, agent_of, roles_of}
-use Rattle.worker_threads.specs.Rounds.{Ends, IsRound, Lets, Runs, Turns}
-use Rattle.worker_threads.proofs.RoundFacts.{round_grows}
-use Rattle.worker_threads.proofs.RunFacts.{run_grows}
+use Rattle.drain_rounds.specs.declared.drainers.Drainer.{Drainer}
+use Rattle.drain_rounds.specs.Drainers.{AreRoles, agent_of, roles_of}
+use Rattle.drain_rounds.specs.Rounds.{Ends, IsRound, Lets, Runs, Turns}
+use Rattle.drain_rounds.proofs.RoundFacts.{round_grows}
+use Rattle.drain_rounds.proofs.RunFacts.{run_grows}
 use Rattle.short_law.specs.Slots.{writes_since}
 use Rattle.scheduler_writes.specs.Pods.{pods_writes}
 use Rattle.scheduler_writes.proofs.Pods.{schedulers_write_little}

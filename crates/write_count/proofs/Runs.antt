@@ -30,8 +30,8 @@ use Rattle.worker_core.specs.Tasks.{GivesCall}
 use Rattle.worker_core.specs.Turns.{AfterKeys, Begins, Decides, Drops, IsTurn, Nothing, TurnBy, passing, unlisted}
 use Rattle.worker_core.proofs.Answered.{answer_licensed, gives_asked}
 use Rattle.worker_core.proofs.Turning.{turn_stands}
-use Rattle.worker_threads.specs.Rounds.{Asks, IsHeld, IsIdle, IsReady, IsSpent, Lets, Runs, told_entry}
-use Rattle.worker_threads.proofs.RunFacts.{run_grows, still_role, turn_role}
+use Rattle.drain_rounds.specs.Rounds.{Asks, IsHeld, IsIdle, IsReady, IsSpent, Lets, Runs, told_entry}
+use Rattle.drain_rounds.proofs.RunFacts.{run_grows, still_role, turn_role}
 use Rattle.paid_law.specs.Pays.{AllPay, HavePaid, Pays}
 use Rattle.paid_law.proofs.Slots.{older_run}
 

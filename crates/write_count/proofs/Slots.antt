@@ -37,8 +37,8 @@ use Rattle.worker_core.specs.States.{ActorState, call_under, given_call, read_of
 use Rattle.worker_core.specs.Tasks.{under_after}
 use Rattle.worker_core.proofs.Machines.{KeepsUnder, keeps_under}
 use Rattle.worker_core.proofs.Owning.{stood}
-use Rattle.worker_threads.specs.Rounds.{Lets, Runs, told_entry}
-use Rattle.worker_threads.proofs.RunFacts.{run_grows}
+use Rattle.drain_rounds.specs.Rounds.{Lets, Runs, told_entry}
+use Rattle.drain_rounds.proofs.RunFacts.{run_grows}
 use Rattle.informer_cache.specs.declared.cache.Ask.{Ask}
 use Rattle.informer_cache.specs.declared.cache.Ask.TheVariants as asks
 use Rattle.informer_cache.specs.All.{cache_of}
@@ -50,12 +50,13 @@ use Rattle.done_lasts.proofs.Doing.{other_writes_last, write_asked}
 use Rattle.short_law.specs.Slots.{writes_since}
 use Rattle.paid_law.specs.Pays.{DecisionsPay, Pays, worth}
 use Rattle.paid_law.proofs.Entries.{one_paid, paid_is_less}
-use Rattle.paid_law.proofs.Slots.{older_run, slots_pay}
+use Rattle.paid_law.proofs.Slots.{older_run, pays_from}
 use Rattle.write_count.specs.Counts.{OpsWriteLittle, OthersSelectNone, OthersWriteLittle, SchedulersSelectFew, nodes_in, nodes_on, to_write}
 use Rattle.write_count.proofs.Failing.{erase_failed, fails_go, none_begins, phase_written, under_fails}
 use Rattle.write_count.proofs.Keeping.{other_nodes}
 use Rattle.write_count.proofs.Nodes.{IsMoved, ops_nodes, scheduled_nodes, taken_back}
 use Rattle.write_count.proofs.Runs.{IsCalled, run_low, run_moves, silent_run}
+use Rattle.slot_law.specs.Slots.{begun}
 
 -- ---- what a call comes to
 
@@ -225,15 +226,15 @@ module _ (setup : Setup) (seat : ℕ) (x : ActorState) (request : Request) (repl
 pub counted : (setup : Setup) (newer h past : List Entry) → past ≡ newer ++ h → writes_since setup h past + (world setup h).store.version ≡ (world setup past).store.version
 counted setup newer h past are = let low = subst (λ es. (world setup h).store.version ≤ (world setup es).store.version) (sym are) (rises setup newer h) in omega (arith, low)
 
-module _ (setup : Setup) (lets : Lets) (seat : ℕ) (old after_ : ActorState) (h past : List Entry) (b left : ℕ) (idle : Bool) (run : IsRunOf setup past) (runs : Runs lets seat after_ past left idle (woken old) h b) where
+module _ (setup : Setup) (lets : Lets) (seat : ℕ) (old after_ : ActorState) (h past : List Entry) (b left : ℕ) (idle : Bool) (run : IsRunOf setup past) (runs : Runs lets seat after_ past left idle (begun old) h b) where
   done : writes_since setup h past + (world setup h).store.version ≡ (world setup past).store.version
-  done = let g = run_grows lets seat after_ past left idle (woken old) h b runs in counted setup g.longer.added h past g.longer.are
+  done = let g = run_grows lets seat after_ past left idle (begun old) h b runs in counted setup g.longer.added h past g.longer.are
 
   pub other_slot : IsBuiltKind old.role.kind → old.role.kind ≢ seats.Scheduler → old.role.kind ≢ seats.Ops → (old.memory.stale ≡ false → old.under ≡ None) → DecisionsPay setup seat old.role
       → writes_since setup h past + work_left setup (world setup past) ≤ work_left setup (world setup h)
   other_slot built scheduler ops rests decides =
-      let paid = slots_pay setup lets seat old after_ h past b left idle built run runs rests decides in
-      let low = run_low setup lets seat after_ past left idle run old.role built (λ w. w.store.version + work_left setup w) (λ u. 0) refl (λ memory rows u gives. refl) calls (woken old) h b runs refl paid in
+      let paid = pays_from setup lets seat old after_ h past b left idle built run runs rests decides in
+      let low = run_low setup lets seat after_ past left idle run old.role built (λ w. w.store.version + work_left setup w) (λ u. 0) refl (λ memory rows u gives. refl) calls (begun old) h b runs refl paid in
       let n = done in
       omega (arith, low, n)
     where
@@ -261,23 +262,23 @@ module _ (setup : Setup) (lets : Lets) (seat : ℕ) (old after_ : ActorState) (h
 
       by : (stale : Bool) → old.memory.stale ≡ stale → writes_since setup h past + to_write setup (world setup past) ≤ to_write setup (world setup h)
       by true stale =
-          let same = (silent_run setup lets seat after_ past left idle run (woken old) h b runs stale).0 in
+          let same = (silent_run setup lets seat after_ past left idle run (begun old) h b runs stale).0 in
           let version = ap (λ es. (world setup es).store.version) same in
           let work = ap (λ es. work_left setup (world setup es)) same in
           let nodes = ap (λ es. nodes_in (world setup es)) same in
           omega (arith, version, work, nodes)
       by false fresh =
-          let paid = slots_pay setup lets seat old after_ h past b left idle built run runs rests decides in
-          let low = run_low setup lets seat after_ past left idle run old.role built (λ w. w.store.version + work_left setup w + nodes_in w) under_fails refl (λ memory rows u gives. none_begins old.role memory rows u kind gives) calls (woken old) h b runs refl paid in
+          let paid = pays_from setup lets seat old after_ h past b left idle built run runs rests decides in
+          let low = run_low setup lets seat after_ past left idle run old.role built (λ w. w.store.version + work_left setup w + nodes_in w) under_fails refl (λ memory rows u gives. none_begins old.role memory rows u kind gives) calls (begun old) h b runs refl paid in
           let none : under_fails old.under ≡ 0 = ap under_fails (rests fresh) in
           let n = done in
           omega (arith, low, none, n)
 
 pub others_write_little : OthersWriteLittle
-others_write_little setup lets seat old after_ h past b left idle built scheduler ops run rests decides runs = other_slot setup lets seat old after_ h past b left idle run runs built scheduler ops rests decides
+others_write_little setup lets seat old after_ h past b left idle built scheduler ops run rests decides runs = other_slot setup lets seat (woken old) after_ h past b left idle run runs built scheduler ops rests decides
 
 pub ops_write_little : OpsWriteLittle
-ops_write_little setup lets seat old after_ h past b left idle kind run rests decides runs = ops_slot setup lets seat old after_ h past b left idle run runs kind rests decides
+ops_write_little setup lets seat old after_ h past b left idle kind run rests decides runs = ops_slot setup lets seat (woken old) after_ h past b left idle run runs kind rests decides
 
 -- ---- the nodes that are selected
 

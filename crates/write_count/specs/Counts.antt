@@ -19,9 +19,9 @@ use Rattle.settle_measure.specs.Measure.{claims_in, total, work_left}
 use Rattle.worker_core.specs.Absorbs.{woken}
 use Rattle.worker_core.specs.Roles.{IsBuiltKind}
 use Rattle.worker_core.specs.States.{ActorState}
-use Rattle.worker_threads.specs.declared.drainers.Drainer.{Drainer}
-use Rattle.worker_threads.specs.Drainers.{AreRoles, roles_of}
-use Rattle.worker_threads.specs.Rounds.{IsRound, Lets, Runs}
+use Rattle.drain_rounds.specs.declared.drainers.Drainer.{Drainer}
+use Rattle.drain_rounds.specs.Drainers.{AreRoles, roles_of}
+use Rattle.drain_rounds.specs.Rounds.{IsRound, Lets, Runs}
 use Rattle.short_law.specs.Slots.{writes_since}
 use Rattle.scheduler_writes.specs.Pods.{pods_writes}
 use Rattle.paid_law.specs.Pays.{DecisionsPay, IsPayer}

@@ -9,9 +9,9 @@ use Rattle.call_types.specs.declared.setup.Setup.{Setup}
 use Rattle.binder_model.specs.Promises.{IsRunOf}
 use Rattle.binder_model.specs.World.{World, world}
 use Rattle.settle_measure.specs.Measure.{claims_in, faults_left, total}
-use Rattle.worker_threads.specs.declared.drainers.Drainer.{Drainer}
-use Rattle.worker_threads.specs.Drainers.{AreAtRest, AreRoles, roles_of}
-use Rattle.worker_threads.specs.Rounds.{IsRound, Lets}
+use Rattle.drain_rounds.specs.declared.drainers.Drainer.{Drainer}
+use Rattle.drain_rounds.specs.Drainers.{AreAtRest, AreRoles, roles_of}
+use Rattle.drain_rounds.specs.Rounds.{IsRound, Lets}
 use Rattle.short_law.specs.Rounds.{size_of_world}
 use Rattle.short_law.specs.Slots.{PassesReads, writes_since}
 use Rattle.scheduler_writes.specs.Pods.{pods_writes}

@@ -34,10 +34,10 @@ use Rattle.model_laws.specs.Worked.{volume}
 use Rattle.model_examples.proofs.Tellings.{IsIn, differ, found_in, one}
 use Rattle.world_core.specs.declared.drained.Drained.{Drained}
 use Rattle.world_core.specs.declared.drained.Drained.TheVariants.{Spent}
-use Rattle.worker_threads.specs.declared.drainers.Drainer.{Drainer}
-use Rattle.worker_threads.specs.Drainers.{AreNew, roles_for, roles_of, seats_of}
-use Rattle.worker_threads.specs.Rounds.{all_pass}
-use Rattle.worker_threads.proofs.NewFacts.{new_roles_for, new_seats_for}
+use Rattle.drain_rounds.specs.declared.drainers.Drainer.{Drainer}
+use Rattle.drain_rounds.specs.Drainers.{AreNew, roles_for, roles_of, seats_of}
+use Rattle.drain_rounds.specs.Rounds.{all_pass}
+use Rattle.drain_rounds.proofs.NewFacts.{new_roles_for, new_seats_for}
 use Rattle.script_text.specs.declared.script.Line.{Line}
 use Rattle.script_text.specs.declared.script.Line.TheVariants as lines
 use Rattle.script_text.specs.declared.script.Script.{Script}
@@ -175,7 +175,7 @@ round_cases = record {
   nor_at_the_seat_of_the_scheduler = λ r. absurd (true≢false (sym (ap is_scheduler (first_kind 1 (lists_made 7 seats.VolumeProtect ∷ made) (Spent 1 key dues.Available) r two 0 (lists_made 7 seats.VolumeProtect) refl refl))));
   but_the_scheduler_lists_them = record {
     lines_done = record (first_progress (Some 1)) { past = made };
-    end = record (first_progress (Some 1)) { past = lists_made 7 seats.Scheduler ∷ made; drained = 1; unspent = false };
+    end = record (first_progress (Some 1)) { past = lists_made 7 seats.Scheduler ∷ made; drained = 1 };
     moves = MoreMoves (lines.Call 1 (requests.Create (Volume (volume (codes "a") 5)))) [] _ refl (record { reply = replies.Done (Volume made_a); is = refl }) (NoMoves refl refl);
     last = one_call_drain made_script made (lists_made 7 seats.Scheduler).reply (refl, (refl, (refl, (refl, (refl, tt))))) (key, dues.Available) (key, dues.Available) (due_first made rows_made) (due_first (lists_made 7 seats.Scheduler ∷ made) rows_listed);
     history = refl;

@@ -113,7 +113,7 @@ lists_before r =
 pub assign_cases : AssignExamples
 assign_cases = record {
   due_until_it_has_a_node =
-      record { lines_done = first_progress (Some 0); end = record (first_progress (Some 0)) { unspent = false }; moves = NoMoves refl refl; last = spent_drain pod_script (key_p, dues.Assign) assign_due; history = refl; ends = (refl, refl, assign_due) };
+      record { lines_done = first_progress (Some 0); end = first_progress (Some 0); moves = NoMoves refl refl; last = spent_drain pod_script (key_p, dues.Assign) assign_due; history = refl; ends = (refl, refl, assign_due) };
   then_it_is_to_be_mounted = (refl, refl, mount_due);
   not_before_anything_was_listed = lists_before;
   not_assigned_twice = λ r. no_assign_due (subst (λ h. IsFirstDue setup (world setup h) (Some (key_p, dues.Assign))) (sym r.history) r.ends.2);

@@ -1,6 +1,6 @@
 -- The examples of drains compute.
 use Rattle.std.proofs.Common.{◌≡◌, ◌≢◌, ℕ, ◌+◌, List, [], ◌∷◌, ◌++◌, Bool, true, false, true≢false, Option, Some, None, ◌⊎◌, inl, inr, refl, sym, ◌∙◌, ap, subst, arith}
-use Rattle.std.specs.Prelude.{is_none, nat_lt}
+use Rattle.std.specs.Prelude.{is_none}
 use Rattle.std.specs.declared.cmp.Ordering.{Ordering}
 use Rattle.std.specs.declared.cmp.Ordering.TheVariants.{Less}
 use Rattle.kube_types.specs.declared.key.Key.{Key}
@@ -27,12 +27,12 @@ use Rattle.binder_model.specs.World.{effect, on_devices, world, world_after}
 use Rattle.model_examples.specs.DueActions.{pending_a}
 use Rattle.model_examples.specs.Samples.{key_a}
 use Rattle.model_examples.proofs.Tellings.{IsIn, differ, found_in, one}
-use Rattle.worker_threads.specs.Drainers.{HaveNoEntries, seats_of}
-use Rattle.worker_threads.specs.Rounds.{IsSpent, NothingDue, all_pass}
+use Rattle.drain_rounds.specs.Drainers.{HaveNoEntries, seats_of}
+use Rattle.drain_rounds.specs.Rounds.{IsSpent, NothingDue, all_pass}
 use Rattle.script_text.specs.declared.script.Script.{Script}
 use Rattle.script_runs.specs.Drains.{DrainComesTo}
 use Rattle.script_runs.specs.Parts.{drain_seat}
-use Rattle.script_runs.specs.Replays.{IsDrain, NoMoves, Progress, first_progress}
+use Rattle.script_runs.specs.Replays.{IsDrain, NoMoves, first_progress}
 use Rattle.script_runs.proofs.Draining.{drains_come_to}
 use Rattle.run_examples.specs.Replay.Calls.{reads}
 use Rattle.run_examples.specs.Replay.Drains.{DrainExamples, Drains, SpentExamples, begins_with, node_script, volume_script}
@@ -95,29 +95,29 @@ module _ (script : Script) (five : drain_seat script ≡ 5) (e : Entry) (d : Dra
 
   its_seat : e.seat ≡ 7
   its_seat =
-      let first = first_call script (Some 1) (first_progress (Some 1)) (record (first_progress (Some 1)) { past = e ∷ []; drained = 1; unspent = false }) d (λ (none : e ∷ [] ≡ []). absurd (cc)) refl in
+      let first = first_call script (Some 1) (first_progress (Some 1)) (record (first_progress (Some 1)) { past = e ∷ []; drained = 1 }) d (λ (none : e ∷ [] ≡ []). absurd (cc)) refl in
       ap (λ (x : Entry). x.seat) (sym (its_call first.later first.entry first.are)) ∙ first.of_seat ∙ ap (λ n. n + 2) five
 
   its_kind : e.kind ≡ seats.Scheduler
   its_kind =
-      let first = first_call script (Some 1) (first_progress (Some 1)) (record (first_progress (Some 1)) { past = e ∷ []; drained = 1; unspent = false }) d (λ (none : e ∷ [] ≡ []). absurd (cc)) refl in
+      let first = first_call script (Some 1) (first_progress (Some 1)) (record (first_progress (Some 1)) { past = e ∷ []; drained = 1 }) d (λ (none : e ∷ [] ≡ []). absurd (cc)) refl in
       ap (λ (x : Entry). x.kind) (sym (its_call first.later first.entry first.are)) ∙ first.of_kind
 
   its_answer : e.told ≡ true
   its_answer =
-      let first = first_call script (Some 1) (first_progress (Some 1)) (record (first_progress (Some 1)) { past = e ∷ []; drained = 1; unspent = false }) d (λ (none : e ∷ [] ≡ []). absurd (cc)) refl in
+      let first = first_call script (Some 1) (first_progress (Some 1)) (record (first_progress (Some 1)) { past = e ∷ []; drained = 1 }) d (λ (none : e ∷ [] ≡ []). absurd (cc)) refl in
       ap (λ (x : Entry). x.told) (sym (its_call first.later first.entry first.are)) ∙ first.was_told
 
   its_request : e.request ≡ requests.List kinds.PersistentVolume None
   its_request =
-      let first = first_call script (Some 1) (first_progress (Some 1)) (record (first_progress (Some 1)) { past = e ∷ []; drained = 1; unspent = false }) d (λ (none : e ∷ [] ≡ []). absurd (cc)) refl in
+      let first = first_call script (Some 1) (first_progress (Some 1)) (record (first_progress (Some 1)) { past = e ∷ []; drained = 1 }) d (λ (none : e ∷ [] ≡ []). absurd (cc)) refl in
       ap (λ (x : Entry). x.request) (sym (its_call first.later first.entry first.are)) ∙ first.asks
 
 not_at : (script : Script) (seat : ℕ) (told : Bool) → drain_seat script ≡ 5 → seat ≢ 7 → Drains script 1 1 (reads seat told ∷ []) → ⊥
 not_at script seat told five other d = other (its_seat script five (reads seat told) d)
 
-what_came : (script : Script) (budget made : ℕ) (past : List Entry) → Drains script budget made past → DrainComesTo script (first_progress (Some budget)) (record (first_progress (Some budget)) { past = past; drained = made; unspent = nat_lt made budget })
-what_came script budget made past d = drains_come_to all_pass script (Some budget) (first_progress (Some budget)) (record (first_progress (Some budget)) { past = past; drained = made; unspent = nat_lt made budget }) d
+what_came : (script : Script) (budget made : ℕ) (past : List Entry) → Drains script budget made past → DrainComesTo script (first_progress (Some budget)) (record (first_progress (Some budget)) { past = past; drained = made })
+what_came script budget made past d = drains_come_to all_pass script (Some budget) (first_progress (Some budget)) (record (first_progress (Some budget)) { past = past; drained = made }) d
 
 -- tests that tell requests apart
 
@@ -155,7 +155,6 @@ no_need = record {
   roles = drainers_roles empty_script;
   stand = drainers_stand empty_script [] (refl, (refl, (refl, (refl, (refl, tt)))));
   rests = λ given is unspent. drainers_rest empty_script;
-  unspent = λ all. drainers_rest empty_script;
   few = omega arith;
   rounds = NothingDue nothing_due refl refl refl;
   is = refl;
@@ -170,10 +169,6 @@ drain_cases = record {
   not_the_agent_of_a_node = not_at node_script 10 true refl (λ (e : 10 ≡ 7). absurd (omega (arith, e)));
   not_a_seat_after_them = not_at volume_script 10 true refl (λ (e : 10 ≡ 7). absurd (omega (arith, e)));
   not_a_user = not_at volume_script 4 true refl (λ (e : 4 ≡ 7). absurd (omega (arith, e)));
-  not_unspent = λ d.
-      let made : 1 ≡ 0 + d.made = ap (λ (p : Progress). p.drained) d.is in
-      let budget : 1 ≡ d.budget = ap (λ (p : Progress). p.budget) d.is in
-      absurd (true≢false (ap (λ (p : Progress). p.unspent) d.is ∙ (λ i. nat_lt (sym made i) (sym budget i))));
   not_a_user_at_its_seat = λ d. absurd (true≢false (sym (ap is_scheduler (its_kind volume_script refl (record (begins_with 7) { kind = seats.User }) d))));
   not_another_kind_at_its_seat = λ d. absurd (true≢false (sym (ap is_scheduler (its_kind volume_script refl (record (begins_with 7) { kind = seats.VolumeProtect }) d))));
   not_by_a_read_of_one_object = λ d. absurd (true≢false (sym (ap is_list (its_request volume_script refl (record (begins_with 7) { request = requests.Get key_a }) d))));
@@ -188,7 +183,7 @@ drain_cases = record {
 -- ---- how it ends
 
 -- with no budget no call is made
-pub spent_drain : (script : Script) (first : Key × Due) → IsFirstDue script.setup (world script.setup []) (Some first) → IsDrain all_pass script (Some 0) (first_progress (Some 0)) (record (first_progress (Some 0)) { unspent = false })
+pub spent_drain : (script : Script) (first : Key × Due) → IsFirstDue script.setup (world script.setup []) (Some first) → IsDrain all_pass script (Some 0) (first_progress (Some 0)) (first_progress (Some 0))
 spent_drain script first due = record {
   past = [];
   made = 0;
@@ -200,7 +195,6 @@ spent_drain script first due = record {
   roles = drainers_roles script;
   stand = drainers_stand script [] (none_at (seats_of (drainers_of script)));
   rests = λ given is unspent. drainers_rest script;
-  unspent = λ all. drainers_rest script;
   few = omega arith;
   rounds = IsSpent first due refl refl refl refl;
   is = refl;
@@ -212,7 +206,7 @@ spent_drain script first due = record {
 
 pub spent_cases : SpentExamples
 spent_cases = record {
-  the_first_that_is_due = record { lines_done = first_progress (Some 0); end = record (first_progress (Some 0)) { unspent = false }; moves = NoMoves refl refl; last = spent_drain volume_script (key_a, dues.Available) first_due; history = refl; ends = (refl, refl, first_due) };
+  the_first_that_is_due = record { lines_done = first_progress (Some 0); end = first_progress (Some 0); moves = NoMoves refl refl; last = spent_drain volume_script (key_a, dues.Available) first_due; history = refl; ends = (refl, refl, first_due) };
   not_another_action = λ r. not_bound (subst (λ h. IsFirstDue volume_script.setup (world volume_script.setup h) (Some (key_a, dues.Bound))) (sym r.history) r.ends.2);
   not_settled = λ r. unsettled (subst (λ h. IsSettled volume_script.setup (world volume_script.setup h)) (sym r.history) r.ends.1);
 }

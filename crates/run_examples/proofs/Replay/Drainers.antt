@@ -13,12 +13,12 @@ use Rattle.worker_core.specs.Stands.{IsNew, StandsFor}
 use Rattle.worker_core.specs.States.{ActorState}
 use Rattle.worker_core.proofs.Begins.{begins}
 use Rattle.attention_law.proofs.Kept.{new_queues, wakes_queues}
-use Rattle.worker_threads.specs.declared.drainers.Drainer.{Drainer}
-use Rattle.worker_threads.specs.Drainers.{AreAtRest, AreNew, AreNewAgents, AreStanding, HaveNoEntries, IsNewAt, StandsWhole, agent_of, of_kind, roles_of, seats_of}
-use Rattle.worker_threads.proofs.NewFacts.{new_roles_for, new_seats_for, new_stand}
+use Rattle.drain_rounds.specs.declared.drainers.Drainer.{Drainer}
+use Rattle.drain_rounds.specs.Drainers.{AreAtRest, AreNew, AreNewAgents, AreStanding, HaveNoEntries, IsNewAt, StandsWhole, agent_of, of_kind, roles_of, seats_of}
+use Rattle.drain_rounds.proofs.NewFacts.{new_roles_for, new_seats_for, new_stand}
 use Rattle.script_text.specs.declared.script.Script.{Script}
 use Rattle.script_runs.specs.Parts.{drain_roles, drain_seat, drain_seats}
-use Rattle.worker_threads.proofs.Resting.{new_rest}
+use Rattle.drain_rounds.proofs.Resting.{new_rest}
 use Rattle.run_examples.specs.Replay.Runs.{begun_as, knows_nothing, no_caches}
 
 -- ---- caches that know nothing

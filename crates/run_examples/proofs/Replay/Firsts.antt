@@ -28,12 +28,12 @@ use Rattle.worker_core.specs.Stands.{AnyIsUnderWay, Begun, IsUnderWay, StandsFor
 use Rattle.worker_core.specs.States.{ActorState, call_in, read_of_kind, read_request, start_call}
 use Rattle.worker_core.specs.Turns.{IsTurn, TurnBy, first_unlisted, is_listed, passing, unlisted}
 use Rattle.worker_core.proofs.ByKind.{built_fresh}
-use Rattle.worker_threads.specs.declared.drainers.Drainer.{Drainer}
-use Rattle.worker_threads.specs.Drainers.{of_kind, roles_of, seats_of}
-use Rattle.worker_threads.specs.Rounds.{Asks, Drains, Ends, Goes, IsHeld, IsIdle, IsReady, IsRound, IsSpent, NothingDue, Runs, Turns, all_pass, told_entry}
-use Rattle.worker_threads.proofs.DrainFacts.{drains_longer}
-use Rattle.worker_threads.proofs.RoundFacts.{round_longer}
-use Rattle.worker_threads.proofs.RunFacts.{run_longer, still_role, turn_role}
+use Rattle.drain_rounds.specs.declared.drainers.Drainer.{Drainer}
+use Rattle.drain_rounds.specs.Drainers.{of_kind, roles_of, seats_of}
+use Rattle.drain_rounds.specs.Rounds.{Asks, Drains, Ends, Goes, IsHeld, IsIdle, IsReady, IsRound, IsSpent, NothingDue, Runs, Turns, all_pass, told_entry}
+use Rattle.drain_rounds.proofs.DrainFacts.{drains_longer}
+use Rattle.drain_rounds.proofs.RoundFacts.{round_longer}
+use Rattle.drain_rounds.proofs.RunFacts.{run_longer, still_role, turn_role}
 use Rattle.script_text.specs.declared.script.Line.{Line}
 use Rattle.script_text.specs.declared.script.Script.{Script}
 use Rattle.script_runs.specs.Parts.{drain_seat, drain_seats}

@@ -13,8 +13,8 @@ use Rattle.binder_model.specs.World.{effect, on_devices, world, world_after}
 use Rattle.world_core.specs.declared.drained.Drained.{Drained}
 use Rattle.world_core.specs.declared.drained.Drained.TheVariants.{Settled, Spent}
 use Rattle.binder_model.specs.Due.{IsSettled}
-use Rattle.worker_threads.specs.Drainers.{HaveNoEntries, seats_of}
-use Rattle.worker_threads.specs.Rounds.{NothingDue, all_pass}
+use Rattle.drain_rounds.specs.Drainers.{HaveNoEntries, seats_of}
+use Rattle.drain_rounds.specs.Rounds.{NothingDue, all_pass}
 use Rattle.script_text.specs.declared.script.Line.{Line}
 use Rattle.script_text.specs.declared.script.Line.TheVariants as lines
 use Rattle.script_text.specs.declared.script.Script.{Script}
@@ -51,7 +51,6 @@ settled_replay script past made moves budget settled none = record {
     roles = drainers_roles script;
     stand = drainers_stand script past none;
     rests = λ given is unspent. drainers_rest script;
-    unspent = λ all. drainers_rest script;
     few = omega arith;
     rounds = NothingDue settled refl refl refl;
     is = refl;

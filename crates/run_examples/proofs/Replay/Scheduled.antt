@@ -14,9 +14,9 @@ use Rattle.worker_core.specs.declared.turn.Outcome.TheVariants as outcomes
 use Rattle.worker_core.specs.Absorbs.{absorbed, woken}
 use Rattle.worker_core.specs.States.{ActorState}
 use Rattle.worker_core.specs.Turns.{IsTurn}
-use Rattle.worker_threads.specs.declared.drainers.Drainer.{Drainer}
-use Rattle.worker_threads.specs.Drainers.{HaveNoEntries, StandsWhole, of_kind, seats_of}
-use Rattle.worker_threads.specs.Rounds.{Asks, Ends, Goes, IsReady, IsRound, IsSpent, Runs, Turns, all_pass}
+use Rattle.drain_rounds.specs.declared.drainers.Drainer.{Drainer}
+use Rattle.drain_rounds.specs.Drainers.{HaveNoEntries, StandsWhole, of_kind, seats_of}
+use Rattle.drain_rounds.specs.Rounds.{Asks, Ends, Goes, IsReady, IsRound, IsSpent, Runs, Turns, all_pass}
 use Rattle.script_text.specs.declared.script.Script.{Script}
 use Rattle.script_runs.specs.Parts.{drain_seat}
 use Rattle.script_runs.specs.Replays.{IsDrain, first_progress}
@@ -67,7 +67,7 @@ module _ (script : Script) (h : List Entry) (reply : Reply) (none : HaveNoEntrie
   round : IsRound all_pass (call_at (drain_seat script + 2) reply ∷ h) 0 (drainers_of script) h 1 (ran ∷ map woke others) false
   round = Turns (at_seat (of_kind seats.Scheduler) (drain_seat script + 2)) ran (call_at (drain_seat script + 2) reply ∷ h) 0 false refl runs (spent_round (call_at (drain_seat script + 2) reply ∷ h) others)
 
-  pub one_call_drain : IsDrain all_pass script (Some 1) (record (first_progress (Some 1)) { past = h }) (record (first_progress (Some 1)) { past = call_at (drain_seat script + 2) reply ∷ h; drained = 1; unspent = false })
+  pub one_call_drain : IsDrain all_pass script (Some 1) (record (first_progress (Some 1)) { past = h }) (record (first_progress (Some 1)) { past = call_at (drain_seat script + 2) reply ∷ h; drained = 1 })
   one_call_drain = record {
     past = call_at (drain_seat script + 2) reply ∷ h;
     made = 1;
@@ -79,7 +79,6 @@ module _ (script : Script) (h : List Entry) (reply : Reply) (none : HaveNoEntrie
     roles = drainers_roles script;
     stand = drainers_stand script h none;
     rests = λ given is unspent. drainers_rest script;
-    unspent = λ all. drainers_rest script;
     few = omega arith;
     rounds = Goes first due (omega arith) (ran ∷ map woke others) (call_at (drain_seat script + 2) reply ∷ h) 0 false round (IsSpent second still refl refl refl refl);
     is = refl;

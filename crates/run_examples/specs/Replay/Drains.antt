@@ -1,5 +1,5 @@
 -- Drains, and how they end: cases that hold, and cases beside them that do not. A choice of this project.
-use Rattle.std.specs.Prelude.{ℕ, ◌≡◌, true, false, nat_lt, List, [], ◌∷◌, Some, None, codes}
+use Rattle.std.specs.Prelude.{ℕ, ◌≡◌, true, false, List, [], ◌∷◌, Some, None, codes}
 use Rattle.kube_types.specs.declared.names.Due.TheVariants as dues
 use Rattle.kube_types.specs.declared.parts.Kind.TheVariants as kinds
 use Rattle.kube_types.specs.declared.parts.VolumePhase.TheVariants as phases
@@ -17,9 +17,9 @@ use Rattle.call_types.specs.declared.request.SeatKind.TheVariants as seats
 use Rattle.binder_model.specs.ObjectKeys.{volume_key}
 use Rattle.model_laws.specs.Worked.{volume, volume_at}
 use Rattle.world_core.specs.declared.drained.Drained.TheVariants.{Settled, Spent}
-use Rattle.worker_threads.specs.declared.drainers.Drainer.{Drainer}
-use Rattle.worker_threads.specs.Drainers.{AreNew, roles_of, seats_of}
-use Rattle.worker_threads.specs.Rounds.{all_pass}
+use Rattle.drain_rounds.specs.declared.drainers.Drainer.{Drainer}
+use Rattle.drain_rounds.specs.Drainers.{AreNew, roles_of, seats_of}
+use Rattle.drain_rounds.specs.Rounds.{all_pass}
 use Rattle.script_text.specs.declared.script.Line.TheVariants as lines
 use Rattle.script_text.specs.declared.script.Script.{Script}
 use Rattle.model_examples.specs.DueActions.{pending_a}
@@ -42,7 +42,7 @@ node_script = record volume_script { node_names = codes "n1" ∷ [] }
 
 -- with a budget of so many calls a first drain makes so many, which are these entries
 abbrev pub Drains : Script → ℕ → ℕ → List Entry → Type 0
-Drains script budget made past = IsDrain all_pass script (Some budget) (first_progress (Some budget)) (record (first_progress (Some budget)) { past = past; drained = made; unspent = nat_lt made budget })
+Drains script budget made past = IsDrain all_pass script (Some budget) (first_progress (Some budget)) (record (first_progress (Some budget)) { past = past; drained = made })
 
 -- the list with which the scheduler of a drain begins, at this seat
 abbrev pub begins_with : ℕ → Entry
@@ -57,8 +57,6 @@ pub record DrainExamples : Type 0 where
   pub not_the_agent_of_a_node : Drains node_script 1 1 (reads 10 true ∷ []) → ⊥
   pub not_a_seat_after_them : Drains volume_script 1 1 (reads 10 true ∷ []) → ⊥
   pub not_a_user : Drains volume_script 1 1 (reads 4 true ∷ []) → ⊥
-  -- one that has spent its budget is not said to have left calls
-  pub not_unspent : IsDrain all_pass volume_script (Some 1) (first_progress (Some 1)) (record (first_progress (Some 1)) { past = begins_with 7 ∷ []; drained = 1 }) → ⊥
   pub not_a_user_at_its_seat : Drains volume_script 1 1 (record (begins_with 7) { kind = seats.User } ∷ []) → ⊥
   pub not_another_kind_at_its_seat : Drains volume_script 1 1 (record (begins_with 7) { kind = seats.VolumeProtect } ∷ []) → ⊥
   pub not_by_a_read_of_one_object : Drains volume_script 1 1 (record (begins_with 7) { request = requests.Get key_a } ∷ []) → ⊥
@@ -133,7 +131,7 @@ volume_deleted = ops_asks (requests.Delete key_a ended_a.meta.uid) (replies.Done
 
 -- all drains have made so many calls, as many as they may, and these are the entries
 abbrev pub drained : ℕ → List Entry → Progress
-drained calls past = record (first_progress (Some calls)) { past = past; drained = calls; unspent = false }
+drained calls past = record (first_progress (Some calls)) { past = past; drained = calls }
 
 pub record ReclaimExamples : Type 0 where
   pub due_until_it_is_deleted : EndsAs ended_script.setup (drained 2 data_erased) (Spent 2 key_a dues.Reclaim)

@@ -1,12 +1,14 @@
 use Rattle.std.proofs.Common.{◌∙◌, ◌-◌, refl, subst, arith, List, Option, Some, None, ℕ}
 use Rattle.call_types.specs.declared.setup.Setup.{Setup}
+use Rattle.binder_model.specs.Promises.{IsRunOf}
 use Rattle.world_core.specs.Kept.{History}
 use Rattle.world_core.specs.declared.drained.Drained.{Drained}
-use Rattle.worker_threads.specs.Drainers.{seats_of}
-use Rattle.worker_threads.specs.Longer.{HasGrown, IsLonger, IsOneOf}
-use Rattle.worker_threads.specs.Rounds.{EndsHere, Goes, made_of}
-use Rattle.worker_threads.proofs.Entries.{grown_others, grown_then, on_err}
-use Rattle.worker_threads.proofs.DrainFacts.{drained_all, drained_longer, drains_none, ends_few}
+use Rattle.drain_rounds.specs.Drainers.{AreSeats, seats_of}
+use Rattle.drain_rounds.specs.Longer.{HasGrown, IsLonger, IsOneOf}
+use Rattle.drain_rounds.specs.Rounds.{EndsHere, Goes, made_of}
+use Rattle.drain_rounds.proofs.Entries.{grown_others, grown_then, on_err}
+use Rattle.drain_rounds.proofs.DrainFacts.{drained_all, drained_longer, drains_none, ends_few}
+use Rattle.worker_threads.proofs.Settling.{drain_lasts, drain_settles, drain_short}
 use Rattle.worker_threads.proofs.drain.drain.Goals as goal
 
 pub returns-in_err-drained-clause-others : goal.returns-in_err-drained-clause-others
@@ -33,6 +35,27 @@ returns-in-Some-clause-entries c =
 
 pub returns-in-Some-clause-none : goal.returns-in-Some-clause-none
 returns-in-Some-clause-none c = λ nothing. drains_none _ _ _ _ _ _ _ _ (returns-in-Some-clause-rounds c) nothing
+
+pub returns-in-Some-clause-lasting : goal.returns-in-Some-clause-lasting
+returns-in-Some-clause-lasting c =
+    let i = c.rounds.invariant in
+    let run = subst (λ (s : Setup). IsRunOf s c.rounds.world.past) i.setup c.world.ensures.of in
+    drain_lasts _ _ _ _ _ _ _ (subst AreSeats i.seats c.allocator.ensures) c.requires.stands run
+
+pub returns-in-Some-clause-short : goal.returns-in-Some-clause-short
+returns-in-Some-clause-short c =
+    let i = c.rounds.invariant in
+    let run = subst (λ (s : Setup). IsRunOf s c.rounds.world.past) i.setup c.world.ensures.of in
+    drain_short _ _ _ _ _ _ _ (subst AreSeats i.seats c.allocator.ensures) c.requires.stands run
+
+pub returns-in-Some-clause-settles : goal.returns-in-Some-clause-settles
+returns-in-Some-clause-settles c =
+    let i = c.rounds.invariant in
+    let run = subst (λ (s : Setup). IsRunOf s c.rounds.world.past) i.setup c.world.ensures.of in
+    let here = subst (λ (o : Option Drained). EndsHere c.world.result.now.setup c.world.result.now.past c.args.budget c.rounds.left o) c.in-Some.is c.in_ok-drained.ensures in
+    let there = subst (λ (w : History). EndsHere w.setup w.past c.args.budget c.rounds.left (Some c.in-Some.drained)) c.world.ensures.value here in
+    let ends = subst (λ (s : Setup). EndsHere s c.rounds.world.past c.args.budget c.rounds.left (Some c.in-Some.drained)) i.setup there in
+    drain_settles _ _ _ _ _ _ _ (subst AreSeats i.seats c.allocator.ensures) c.requires.stands run c.in-Some.drained ends.0 (returns-in-Some-clause-rounds c)
 
 pub returns-in_err-rounded-in-None-clause-others : goal.returns-in_err-rounded-in-None-clause-others
 returns-in_err-rounded-in-None-clause-others c = λ seat other.

@@ -1,0 +1,6 @@
+pub mod Entries
+pub mod RunFacts
+pub mod RoundFacts
+pub mod DrainFacts
+pub mod NewFacts
+pub mod Resting

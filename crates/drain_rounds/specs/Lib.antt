@@ -1,0 +1,4 @@
+pub mod Calling
+pub mod Drainers
+pub mod Longer
+pub mod Rounds

@@ -1,0 +1,5 @@
+pub mod Devices
+pub mod Rising
+pub mod Scheduling
+pub mod Volumes
+pub mod Writes

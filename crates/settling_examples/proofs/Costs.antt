@@ -1,0 +1,90 @@
+-- What an object, a slot and a round cost at most in calls, computed.
+use Rattle.std.proofs.Common.{refl}
+use Rattle.slot_costs.specs.Slots.{again_calls, ops_sweep_calls}
+use Rattle.short_rounds.specs.ShortRounds.{agent_sweep_calls, sweep_calls}
+use Rattle.settling_examples.specs.Ending.{copies, faults_upto}
+use Rattle.settling_examples.specs.Costs.{CostExamples, LessExamples, SlotExamples, SweepExamples, SweptExamples}
+
+pub cost_examples : CostExamples
+cost_examples = record {
+  pending = refl;
+  available = refl;
+  bound = refl;
+  released = refl;
+  failed = refl;
+  made = refl;
+  claim = refl;
+  pod = refl;
+  one_claim = refl;
+  two_claims = refl;
+  placed = refl;
+  class = refl;
+  node = refl;
+}
+
+pub slot_examples : SlotExamples
+unfolding again_calls copies
+slot_examples = record {
+  nothing = refl;
+  four = refl;
+  two_claims = refl;
+  agent_none = refl;
+  agent_some = refl;
+  binder_none = refl;
+  binder_some = refl;
+  ops_none = refl;
+  ops_some = refl;
+}
+
+pub sweep_examples : SweepExamples
+unfolding agent_sweep_calls copies ops_sweep_calls sweep_calls
+sweep_examples = record {
+  none_ended = refl;
+  two_ended = refl;
+  rows_few_claims = refl;
+  rows_claims = refl;
+  rows_few_ended = refl;
+  rows_ended = refl;
+  rows_open = refl;
+  by_few_claims = refl;
+  by_claims = refl;
+  by_few_volumes = refl;
+  by_volumes = refl;
+  by_both = refl;
+  by_few_pods = refl;
+  by_pods = refl;
+}
+
+pub less_examples : LessExamples
+unfolding faults_upto
+less_examples = record {
+  write = refl;
+  claim = refl;
+  volume = refl;
+  actor = refl;
+  actor_with_pod = refl;
+  no_actor = refl;
+  all = refl;
+  most_nothing = refl;
+  most_claim = refl;
+  most_selected = refl;
+  most_volume = refl;
+  most_pod = refl;
+  most_placed = refl;
+  most_faults = refl;
+}
+
+pub swept_examples : SweptExamples
+unfolding agent_sweep_calls copies faults_upto sweep_calls
+swept_examples = record {
+  three_times = refl;
+  four_times = refl;
+  few_faults = refl;
+  more_faults = refl;
+  few_volumes = refl;
+  more_volumes = refl;
+  few_pods = refl;
+  more_pods = refl;
+  twice = refl;
+  both = refl;
+}

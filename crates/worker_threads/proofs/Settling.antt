@@ -1,0 +1,63 @@
+-- What the laws of settling say of a round and of a drain that were made.
+use Rattle.std.proofs.Common.{◌-◌, ◌⊎◌, ℕ, List, Bool, true, inl, inr, subst, arith}
+use Rattle.call_types.specs.declared.entry.Entry.{Entry}
+use Rattle.call_types.specs.declared.setup.Setup.{Setup}
+use Rattle.binder_model.specs.Due.{IsSettled}
+use Rattle.binder_model.specs.Promises.{IsRunOf}
+use Rattle.binder_model.specs.World.{world}
+use Rattle.world_core.specs.declared.drained.Drained.{Drained}
+use Rattle.world_core.specs.declared.drained.Drained.TheVariants.{Settled, Spent}
+use Rattle.settle_check.proofs.Settled.{not_settled}
+use Rattle.drain_rounds.specs.declared.drainers.Drainer.{Drainer}
+use Rattle.drain_rounds.specs.Drainers.{AreSeats, AreStanding, seats_of}
+use Rattle.drain_rounds.specs.Rounds.{Drains, EndsWith, IsRound, Lets, all_pass}
+use Rattle.drain_rounds.proofs.DrainFacts.{drains_grow}
+use Rattle.drain_rounds.proofs.RoundFacts.{round_grows}
+use Rattle.drain_budget.specs.Measured.{SharesWell}
+use Rattle.drain_budget.specs.Selections.{NoneProvisionsLate}
+use Rattle.slot_law.proofs.Held.{all_holds}
+use Rattle.paid_law.proofs.Slots.{older_run}
+use Rattle.settle_law.specs.Settling.{MayDrain}
+use Rattle.settle_law.proofs.Drained.{drained_rounds_last}
+use Rattle.settle_law.proofs.Held.{held_rounds_last}
+use Rattle.drain_budget.proofs.Selections.{static_drains_settle}
+use Rattle.tries_law.proofs.Trying.{shared_drains_settle}
+use Rattle.every_round.proofs.Drains.{every_drained_round_is_short}
+use Rattle.every_round.proofs.Sum.{every_round_is_short}
+use Rattle.worker_threads.specs.Settling.{DrainSettles, IsSettledBy, RoundIsShort, RoundLasts, RoundsOfDrainAreShort, RoundsOfDrainLast}
+
+-- ---- a round
+
+module _ (setup : Setup) (lets : Lets) (ds after : List Drainer) (h past : List Entry) (b left : ℕ) (seats : AreSeats (seats_of ds)) (stand : AreStanding ds h) where
+  may_begin : (whole : Bool) → IsRound lets past left ds h b after whole → IsRunOf setup past → MayDrain setup h ds
+  may_begin whole round run = let g = round_grows lets past left ds h b after whole round in record { run = older_run setup g.longer.added h (subst (IsRunOf setup) g.longer.are run); seats = seats; stand = stand }
+
+  pub round_lasts : IsRound lets past left ds h b after true → RoundLasts setup lets ds h past
+  round_lasts round only run alone x passes = held_rounds_last setup lets ds after h past b left (may_begin true round run) only run round alone x passes
+
+  pub round_short : (whole : Bool) → IsRound lets past left ds h b after whole → RoundIsShort setup lets ds h past (b - left)
+  round_short whole round allow run alone few order small = let most = every_round_is_short setup lets ds after h past b left whole allow stand.roles run alone round few order small in omega (arith, most)
+
+-- ---- a drain
+
+module _ (setup : Setup) (ds after : List Drainer) (h past : List Entry) (b left : ℕ) (seats : AreSeats (seats_of ds)) (stand : AreStanding ds h) (run : IsRunOf setup past) where
+  may_drain : Drains all_pass setup after past left ds h b → MayDrain setup h ds
+  may_drain drained = let g = drains_grow all_pass setup after past left ds h b drained in record { run = older_run setup g.longer.added h (subst (IsRunOf setup) g.longer.are run); seats = seats; stand = stand }
+
+  pub drain_lasts : RoundsOfDrainLast setup after past left ds h b
+  drain_lasts only drained = drained_rounds_last setup ds after h past b left (may_drain drained) only run drained
+
+  pub drain_short : RoundsOfDrainAreShort setup after past left ds h b
+  drain_short allow order few drained = every_drained_round_is_short setup all_pass ds after h past b left allow (may_drain drained) run all_holds order few drained
+
+  -- where nothing is due at the end, the drain has not ended with its budget spent
+  by_settled : (budget : ℕ) (d : Drained) → EndsWith setup past budget d → IsSettled setup (world setup past) → IsSettledBy d
+  by_settled budget (Settled made) ends settled = tt
+  by_settled budget (Spent made key due) ends settled = absurd (not_settled setup (world setup past) (key, due) ends.1 settled)
+
+  pub drain_settles : (d : Drained) → EndsWith setup past b d → Drains all_pass setup after past left ds h b → DrainSettles setup ds h past b d
+  drain_settles d ends drained allow order may shared has = by shared
+    where
+      by : SharesWell (world setup h) ⊎ NoneProvisionsLate setup past → IsSettledBy d
+      by (inl well) = by_settled b d ends (shared_drains_settle setup ds after h past b left allow may well has run order drained)
+      by (inr none) = by_settled b d ends (static_drains_settle setup ds after h past b left allow may has run order none drained)
